@@ -1,0 +1,7 @@
+mod Checks
+mod Numbers
+mod Writing
+mod Zero
+mod Cuts
+mod Reading
+mod Eights

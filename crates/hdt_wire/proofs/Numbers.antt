@@ -1,0 +1,65 @@
+-- Numbers in base 128: what a loop over the bytes keeps.
+use Rattle.std.proofs.Common.{◌≡◌, ℕ, ◌+◌, ◌*◌, ◌%◌, ◌^◌, ◌<◌, ◌≤◌, Bool, List, [], ◌∷◌, ◌++◌, length, get_or, take, leb, lit<, sym, arith, inl, inr}
+use Rattle.std.specs.Prelude.{not}
+use Rattle.std.specs.List.{prefix_len, position_or_len}
+use Rattle.std.proofs.Math.Nat.{pow-suc, pow-le-pow_right, mul-le-mul}
+use Rattle.std.proofs.lemmas.Bool.{cases_lt, leb-true}
+use Rattle.std.proofs.lemmas.List.Sums.{prefix_len_stops, prefix_len-le-length}
+use Rattle.std.proofs.lemmas.List.{take_more, length-take}
+use Rattle.hdt_wire.specs.RowLaws.{not-false}
+use Rattle.hdt_wire.specs.VByte.{number_of}
+
+-- ---- the value of the digits so far
+
+pub number_of_push : (xs : List ℕ) (b : ℕ) → number_of (xs ++ b ∷ []) ≡ number_of xs + b % 128 * 128 ^ length xs
+number_of_push [] b = omega arith
+number_of_push (x ∷ xs) b =
+    let e : number_of (xs ++ b ∷ []) ≡ number_of xs + b % 128 * 128 ^ length xs = number_of_push xs b in
+    rw (e, pow-suc) (omega arith)
+
+pub number_of_below : (xs : List ℕ) → number_of xs < 128 ^ length xs
+number_of_below [] = omega arith
+number_of_below (x ∷ xs) = omega (arith, number_of_below xs, pow-suc 128 (length xs))
+
+-- what a loop keeps over the digits before place i
+pub record Counts (seen : List ℕ) (i value scale : ℕ) : Type 0 where
+  pub is_number : value ≡ number_of (take i seen)
+  pub is_scale : scale ≡ 128 ^ i
+  pub low : (k : ℕ) → k < i → get_or seen k 0 < 128
+
+pub scale_fits : (i : ℕ) → i < 10 → 128 ^ i ≤ 2 ^ 63
+scale_fits i lt =
+    let le : i ≤ 9 = omega arith in
+    pow-le-pow_right (lit< tt) le
+
+-- no byte has its top bit set
+pub no_last : (seen : List ℕ) → ((k : ℕ) → k < length seen → get_or seen k 0 < 128) → position_or_len (λ b. leb 128 b) seen ≡ length seen
+no_last seen low =
+    let p : ℕ → Bool = λ b. not (leb 128 b) in
+    elim (cases_lt (prefix_len p seen) (length seen)) [
+      | inl before ↦
+          let big = leb-true 128 _ (not-false _ (prefix_len_stops p seen 0 before)) in
+          absurd (omega (arith, big, low (prefix_len p seen) before))
+      | inr le ↦ omega (arith, le, prefix_len-le-length p seen)
+    ]
+
+-- one more digit
+pub number_of_more : (seen : List ℕ) (i value scale : ℕ) → Counts seen i value scale → i < length seen → value + get_or seen i 0 % 128 * scale ≡ number_of (take (i + 1) seen)
+number_of_more seen i value scale h lt =
+    let len : length (take i seen) ≡ i = omega (arith, length-take i seen) in
+    let e : number_of (take (i + 1) seen) ≡ number_of (take i seen) + get_or seen i 0 % 128 * 128 ^ length (take i seen) = rw (take_more seen i 0 lt) (number_of_push (take i seen) (get_or seen i 0)) in
+    let f : number_of (take (i + 1) seen) ≡ number_of (take i seen) + get_or seen i 0 % 128 * 128 ^ i = rw len at e in
+    rw (h.is_number, h.is_scale) (sym f)
+
+-- the sums of the loop fit
+pub Counts-fit : (seen : List ℕ) (i value scale : ℕ) → Counts seen i value scale → i < length seen → length seen ≤ 10 → (value < scale) × (scale ≤ 2 ^ 63)
+Counts-fit seen i value scale h lt short =
+    let len : length (take i seen) ≡ i = omega (arith, length-take i seen) in
+    let below : number_of (take i seen) < 128 ^ i = rw len at (number_of_below (take i seen)) in
+    (rw (h.is_number, h.is_scale) below, rw h.is_scale (scale_fits i (omega arith)))
+
+pub digit_fits : (b value scale : ℕ) → value < scale → scale ≤ 2 ^ 63 → value + b % 128 * scale < 2 ^ 71
+digit_fits b value scale lt le =
+    let small : b % 128 ≤ 128 = omega arith in
+    let m : b % 128 * scale ≤ 128 * 2 ^ 63 = mul-le-mul small le in
+    omega (arith, m)

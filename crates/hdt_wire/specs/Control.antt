@@ -1,0 +1,82 @@
+-- Control blocks (rdfhdt.org, "HDT binary format", Control Information): the cookie, the kind, a format text, a
+-- property text, and the 16-bit check code of all that.
+use Rattle.std.specs.Prelude.{◌≡◌, ◌≢◌, ℕ, ◌+◌, ◌==◌, List, [], ◌∷◌, ◌++◌, All, codes, length, take, slice_range, Result, Ok}
+use Rattle.std.specs.Str.{bytes_eq}
+use Rattle.byteorder.specs.Endian.{little_number, little_bytes}
+use Rattle.hdt_wire.specs.declared.fault.Fault.{Fault}
+use Rattle.hdt_wire.specs.declared.fault.Reason.TheVariants.{NotHdt, WrongKind, Check16, WrongFormat}
+use Rattle.hdt_wire.specs.declared.control.Kind.{Kind}
+use Rattle.hdt_wire.specs.declared.control.Kind.TheVariants.{Global, Header, Dictionary, Triples}
+use Rattle.hdt_wire.specs.declared.control.Control.{Control}
+use Rattle.hdt_wire.specs.Check.{code16}
+use Rattle.hdt_wire.specs.Rows.{◌>>=◌, demand, bytes_at, text_at, Stands}
+
+abbrev pub cookie : List ℕ
+cookie = codes "$HDT"
+
+abbrev pub kind_code : Kind → ℕ
+kind_code Global = 1
+kind_code Header = 2
+kind_code Dictionary = 3
+kind_code Triples = 4
+
+abbrev pub format_text : Kind → List ℕ
+format_text Global = codes "<http://purl.org/HDT/hdt#HDTv1>"
+format_text Header = codes "ntriples"
+format_text Dictionary = codes "<http://purl.org/HDT/hdt#dictionaryFour>"
+format_text Triples = codes "<http://purl.org/HDT/hdt#triplesBitmap>"
+
+-- a property text that a block can hold has no zero byte
+abbrev pub HasNoZero : List ℕ → Type 0
+HasNoZero properties = All (λ b. b ≢ 0) properties
+
+-- a block without its check code; each text ends with a zero byte
+abbrev pub before_code : Kind → List ℕ → List ℕ
+before_code kind properties = cookie ++ kind_code kind ∷ (format_text kind ++ 0 ∷ (properties ++ 0 ∷ []))
+
+-- the bytes of a block: the code stands last, its low byte first
+abbrev pub control : Kind → List ℕ → List ℕ
+control kind properties = before_code kind properties ++ little_bytes 2 (code16 (before_code kind properties))
+
+-- new begins with old
+abbrev pub Keeps : List ℕ → List ℕ → Type 0
+Keeps old new = take (length old) new ≡ old
+
+-- ---- reading
+
+-- what a block says: its texts, the place of the property text, and the place after the block
+pub record Block : Type 0 where
+  pub format : List ℕ
+  pub properties : List ℕ
+  pub properties_at : ℕ
+  pub end : ℕ
+
+-- a `Control`, without where it lies in memory
+unfoldable pub block_of : Control → Block
+block_of c = record { format = c.format.now; properties = c.properties.now; properties_at = c.properties_at; end = c.end }
+
+-- the block that this property text makes at a place
+abbrev pub block_at : Kind → List ℕ → ℕ → ℕ → Block
+block_at kind properties at end =
+    record { format = format_text kind; properties = properties; properties_at = at + 6 + length (format_text kind); end = end }
+
+-- a block of the kind stands at the place
+pub record IsBlock (kind : Kind) (block : Block) (bytes : List ℕ) (at : ℕ) : Type 0 where
+  pub spelled : Stands bytes at (control kind block.properties) block.end
+  pub no_zero : HasNoZero block.properties
+  pub format : block.format ≡ format_text kind
+  pub properties_at : block.properties_at ≡ at + 6 + length (format_text kind)
+
+-- the rows of a block, from top to bottom: the block, or the fault that stands
+unfoldable pub control_at : Kind → List ℕ → ℕ → Result Block Fault
+control_at kind bytes at = do
+  mark ← bytes_at 4 bytes at
+  _ ← demand (bytes_eq mark.0 cookie) at NotHdt
+  code ← bytes_at 1 bytes mark.1
+  _ ← demand (bytes_eq code.0 (kind_code kind ∷ [])) mark.1 WrongKind
+  format ← text_at bytes code.1
+  properties ← text_at bytes format.1
+  check ← bytes_at 2 bytes properties.1
+  _ ← demand (little_number 2 check.0 == code16 (slice_range bytes at properties.1)) properties.1 Check16
+  _ ← demand (bytes_eq format.0 (format_text kind)) code.1 WrongFormat
+  Ok (record { format = format.0; properties = properties.0; properties_at = format.1; end = check.1 })

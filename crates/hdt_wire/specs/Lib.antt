@@ -1,0 +1,10 @@
+pub mod Fault
+pub mod Rows
+pub mod RowLaws
+pub mod VByte
+pub mod VByteLaws
+pub mod Check
+pub mod Control
+pub mod ControlLaws
+pub mod Property
+pub mod Counted

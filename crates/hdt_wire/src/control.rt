@@ -1,0 +1,173 @@
+//! Control blocks: the cookie, a kind, a format text, a property text and a check code.
+ghost use Rattle.std.specs.Prelude.{◌≡◌, ℕ, List, ◌+◌, ◌++◌, length, Ok, IfOk, OnOk, OnErr};
+ghost use Rattle.hdt_wire.specs.Rows.{Reads, IsBytes, Stands};
+ghost use Rattle.hdt_wire.specs.Control.{block_of, block_at, control, control_at, kind_code, format_text, IsBlock, HasNoZero, Keeps};
+
+use crate::check::check16;
+use crate::fault::{Fault, Reason};
+use crate::rows::{bytes_at, demand, text_at};
+use byteorder::{ByteOrder, LittleEndian};
+use std::alloc::AllocError;
+
+/// What a control block stands before.
+#[derive(Clone, Copy, Debug, PartialEq, Eq)]
+pub enum Kind {
+    /// The whole file.
+    Global,
+    /// The header.
+    Header,
+    /// The dictionary.
+    Dictionary,
+    /// The triples.
+    Triples,
+}
+
+impl Kind {
+    /// The byte that stands for the kind.
+    fn code(self) -> u8
+        ensures { result ≡ kind_code self }
+    {
+        match self {
+            Kind::Global => 1,
+            Kind::Header => 2,
+            Kind::Dictionary => 3,
+            Kind::Triples => 4,
+        }
+    }
+
+    /// The one format text that belongs to the kind.
+    fn format(self) -> &'static [u8]
+        ensures { result.now ≡ format_text self }
+    {
+        match self {
+            Kind::Global => b"<http://purl.org/HDT/hdt#HDTv1>",
+            Kind::Header => b"ntriples",
+            Kind::Dictionary => b"<http://purl.org/HDT/hdt#dictionaryFour>",
+            Kind::Triples => b"<http://purl.org/HDT/hdt#triplesBitmap>",
+        }
+    }
+}
+
+/// A control block that was read: its texts are lent from the input.
+#[derive(Clone, Copy)]
+pub struct Control<'a> {
+    format: &'a [u8],
+    properties: &'a [u8],
+    properties_at: usize,
+    end: usize,
+}
+
+#[tactic(auto, unfolding(crate::specs::Control::block_of))]
+impl<'a> Control<'a> {
+    ghost use Rattle.std.specs.Prelude.{◌≡◌};
+    ghost use Rattle.hdt_wire.specs.Control.{block_of};
+
+    /// The format text, without its zero byte.
+    pub fn format(&self) -> &'a [u8]
+        ensures { result.now ≡ (block_of self.now).format }
+    {
+        self.format
+    }
+
+    /// The property text, without its zero byte.
+    pub fn properties(&self) -> &'a [u8]
+        ensures { result.now ≡ (block_of self.now).properties }
+    {
+        self.properties
+    }
+
+    /// The place of the property text, in bytes from the start of the input.
+    pub fn properties_at(&self) -> usize
+        ensures { result ≡ (block_of self.now).properties_at }
+    {
+        self.properties_at
+    }
+
+    /// The place after the block, in bytes from the start of the input.
+    pub fn end(&self) -> usize
+        ensures { result ≡ (block_of self.now).end }
+    {
+        self.end
+    }
+}
+
+/// Reads by rows.
+#[tactic(auto, unfolding(crate::specs::Control::control_at, crate::specs::Control::block_of))]
+fn read_rows<'a>(bytes: &'a [u8], at: usize, kind: Kind) -> Result<Control<'a>, Fault>
+    ensures exact { Reads block_of result (control_at kind bytes.now at) }
+{
+    let (mark, code_at) = bytes_at(bytes, at, 4)?;
+    demand(mark == b"$HDT".as_slice(), at, Reason::NotHdt)?;
+    let (code, format_at) = bytes_at(bytes, code_at, 1)?;
+    demand(code == [kind.code()].as_slice(), code_at, Reason::WrongKind)?;
+    let (format, properties_at) = text_at(bytes, format_at)?;
+    let (properties, check_at) = text_at(bytes, properties_at)?;
+    let (check, end) = bytes_at(bytes, check_at, 2)?;
+    let found = check16(&bytes[at..check_at]);
+    demand(
+        LittleEndian::read_u16(check) == found,
+        check_at,
+        Reason::Check16,
+    )?;
+    demand(format == kind.format(), format_at, Reason::WrongFormat)?;
+    Ok(Control {
+        format,
+        properties,
+        properties_at,
+        end,
+    })
+}
+
+/// Reads the control block of a kind at a place, in bytes from 0. Bytes may follow it.
+///
+/// Faults, in the order of the block's rows: `Truncated`, `NotHdt`, `WrongKind`, `Check16`, `WrongFormat`.
+pub fn read_control<'a>(bytes: &'a [u8], at: usize, kind: Kind) -> Result<Control<'a>, Fault>
+    // What is read stands there, spelled so.
+    ensures found { IfOk result (λ c. IsBlock kind (block_of c) bytes.now at) }
+    // What is spelled so and stands there is read.
+    ensures only { (properties : List ℕ) (end : ℕ) → HasNoZero properties → Stands bytes.now at (control kind properties) end
+        → Reads block_of result (Ok (block_at kind properties at end)) }
+    // Otherwise it is the one fault that stands.
+    ensures exact { Reads block_of result (control_at kind bytes.now at) }
+{
+    read_rows(bytes, at, kind)
+}
+
+/// Appends a block; an `Err` may leave a beginning of it behind.
+fn append_block(kind: Kind, properties: &[u8], out: &mut Vec<u8>) -> Result<(), AllocError>
+    ensures ok { OnOk result (out.new.items ≡ out.old.items ++ control kind properties.now) }
+    ensures err { OnErr result (Keeps out.old.items out.new.items) }
+{
+    let start = out.len();
+    out.extend_from_slice(b"$HDT")?;
+    out.push(kind.code())?;
+    out.extend_from_slice(kind.format())?;
+    out.push(0)?;
+    out.extend_from_slice(properties)?;
+    out.push(0)?;
+    let mut code = [0u8; 2];
+    LittleEndian::write_u16(&mut code, check16(&out[start..]));
+    out.extend_from_slice(&code)
+}
+
+/// Appends the control block of a kind with a property text that has no zero byte. Where memory is refused, `out`
+/// is as it was.
+pub fn put_control(kind: Kind, properties: &[u8], out: &mut Vec<u8>) -> Result<(), AllocError>
+    requires { HasNoZero properties.now }
+    ensures ok { OnOk result (out.new.items ≡ out.old.items ++ control kind properties.now) }
+    ensures err { OnErr result (out.new.items ≡ out.old.items) }
+{
+    let start = out.len();
+    let written = append_block(kind, properties, out);
+    if written.is_err() {
+        out.truncate(start);
+    }
+    written
+}
+
+/// A block that was written is read again, whatever stands before and after it.
+pub fn block_is_read_again()
+    ensures { (kind : Kind) (before after properties : List ℕ) → IsBytes properties → HasNoZero properties
+        → control_at kind (before ++ control kind properties ++ after) (length before)
+        ≡ Ok (block_at kind properties (length before) (length before + length (control kind properties))) }
+{}

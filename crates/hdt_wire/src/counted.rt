@@ -1,0 +1,85 @@
+//! Readers and writers whose failures are counted, by a number that only contracts see.
+ghost use Rattle.std.specs.Prelude.{◌≡◌, ◌+◌, [], OnOk, OnErr, IfOk};
+ghost use Rattle.std.specs.Io.{ReadsAtMost, WritesAtMost};
+ghost use Rattle.std.specs.Io.KnownBytes.{ReadConsumes, WriteAppends};
+
+use crate::tally::Tally;
+use std::io::{Read, Write};
+
+/// A read or a write failed.
+#[derive(Clone, Copy, Debug, PartialEq, Eq)]
+pub struct Failed;
+
+/// A reader or a writer with the count of its failures: each `Err`, `Interrupted` too, and each write that takes
+/// nothing of a slice that is not empty. The count takes no bytes; contracts alone see it.
+#[derive(Drop)]
+pub struct Counted<T> {
+    inner: T,
+    failures: Tally,
+}
+
+#[tactic(auto, unfolding(crate::specs::Counted::inner, crate::specs::Counted::failures))]
+impl<T> Counted<T> {
+    ghost use Rattle.hdt_wire.specs.Counted.{inner, failures};
+
+    /// A reader or a writer that has not failed yet.
+    pub fn new(value: T) -> Counted<T>
+        ensures inner { inner result ≡ value }
+        ensures failures { failures result ≡ 0 }
+    {
+        Counted {
+            inner: value,
+            failures: Tally::new(),
+        }
+    }
+
+    /// The reader or writer itself.
+    pub fn into_inner(self) -> T
+        ensures { result ≡ inner self }
+    {
+        let Counted { inner, failures: _ } = self;
+        inner
+    }
+
+    /// Counts a failure.
+    fn fail(&mut self) -> Failed
+        ensures counted { failures self.new ≡ failures self.old + 1 }
+        ensures inner { inner self.new ≡ inner self.old }
+    {
+        self.failures.tick();
+        Failed
+    }
+
+    /// Reads by one call of the reader: how many bytes it gave, 0 at its end or for an empty buffer. `Failed` where
+    /// it answers any error; nothing is tried again.
+    pub fn read(&mut self, buf: &mut [u8]) -> Result<usize, Failed>
+    where
+        T: Read,
+        ensures bound { ReadsAtMost result buf.new }
+        ensures bytes { ReadConsumes (T.remaining (inner self.old)) (T.remaining (inner self.new)) result buf.new }
+        ensures ok { OnOk result (failures self.new ≡ failures self.old) }
+        ensures failed { OnErr result (failures self.new ≡ failures self.old + 1) }
+    {
+        match self.inner.read(buf) {
+            Ok(n) => Ok(n),
+            Err(_) => Err(self.fail()),
+        }
+    }
+
+    /// Writes by one call of the writer: how many bytes it took. `Failed` where it answers any error, or takes
+    /// nothing of a slice that is not empty; nothing is tried again.
+    pub fn write(&mut self, buf: &[u8]) -> Result<usize, Failed>
+    where
+        T: Write,
+        ensures bound { WritesAtMost result buf.now }
+        ensures bytes { WriteAppends (T.contents (inner self.old)) (T.contents (inner self.new)) result buf.now }
+        ensures some { IfOk result (λ n. n ≡ 0 → buf.now ≡ []) }
+        ensures ok { OnOk result (failures self.new ≡ failures self.old) }
+        ensures failed { OnErr result (failures self.new ≡ failures self.old + 1) }
+    {
+        match self.inner.write(buf) {
+            Ok(n) if n > 0 || buf.is_empty() => Ok(n),
+            _ => Err(self.fail()),
+        }
+    }
+}

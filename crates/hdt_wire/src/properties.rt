@@ -1,0 +1,55 @@
+//! Properties: a text of pieces `key=value`, cut at each `;`.
+ghost use Rattle.std.specs.Prelude.{◌≡◌, ◌≤◌, length};
+ghost use Rattle.std.specs.Option.{option_copied};
+ghost use Rattle.std.specs.List.{position_or_len};
+ghost use Rattle.hdt_wire.specs.Property.{is, value_of, later, property_value};
+
+use memchr::memchr;
+
+/// The index of the first such byte; without one, the length.
+fn index_of(byte: u8, bytes: &[u8]) -> usize
+    ensures index { result ≡ position_or_len (is byte) bytes.now }
+    ensures within { result ≤ length bytes.now }
+{
+    match memchr(byte, bytes) {
+        Some(at) => at,
+        None => bytes.len(),
+    }
+}
+
+/// The value of a piece that has the key.
+fn value_in<'a>(piece: &'a [u8], key: &[u8]) -> Option<&'a [u8]>
+    ensures { option_copied result ≡ value_of key.now piece.now }
+{
+    let sign = index_of(b'=', piece);
+    if sign < piece.len() && &piece[..sign] == key {
+        Some(&piece[sign + 1..])
+    } else {
+        None
+    }
+}
+
+/// What counts after one more piece.
+fn later<'a>(found: Option<&'a [u8]>, value: Option<&'a [u8]>) -> Option<&'a [u8]>
+    ensures { option_copied result ≡ later (option_copied found.entry) (option_copied value.entry) }
+{
+    value.or(found)
+}
+
+/// The value of the last piece with the key, in the property text of a control block. The text is cut at each `;`;
+/// a piece has the key before its first `=` and the value after it, and one without `=` is ignored.
+pub fn property<'a>(text: &'a [u8], key: &[u8]) -> Option<&'a [u8]>
+    ensures { option_copied result ≡ property_value text.now key.now }
+{
+    let mut found = None;
+    let mut rest = text;
+    'pieces: loop {
+        let cut = index_of(b';', rest);
+        let (piece, after) = rest.split_at(cut);
+        found = later(found, value_in(piece, key));
+        match after {
+            [] => return found,
+            [_, next @ ..] => rest = next,
+        }
+    }
+}

@@ -1,0 +1,56 @@
+//! Reading by rows: what the parts of a file share. A reader's body has one line for each row of its part.
+ghost use Rattle.std.specs.Prelude.{◌≡◌, ◌+◌, ◌<◌, ◌≤◌, length, IfOk};
+ghost use Rattle.hdt_wire.specs.Rows.{Reads, demand, bytes_at, zero_in, text_at};
+
+use crate::fault::{Fault, Reason};
+use memchr::memchr;
+
+/// A row: the condition holds, or the fault of this reason stands at the place, in bytes from 0.
+pub fn demand(holds: bool, place: usize, reason: Reason) -> Result<(), Fault>
+    ensures exact { result ≡ demand holds place reason }
+{
+    if holds {
+        Ok(())
+    } else {
+        Err(Fault {
+            place: place as u64,
+            reason,
+        })
+    }
+}
+
+/// The `count` bytes from a place, and the place after them; with fewer left, `Truncated` at the place.
+#[tactic(auto, unfolding(crate::specs::Rows::bytes_at))]
+pub fn bytes_at(bytes: &[u8], at: usize, count: usize) -> Result<(&[u8], usize), Fault>
+    ensures exact { Reads (λ x. (x.0.now, x.1)) result (bytes_at count bytes.now at) }
+    ensures len { IfOk result (λ x. length x.0.now ≡ count) }
+    ensures end { IfOk result (λ x. (x.1 ≡ at + count) × (x.1 ≤ length bytes.now)) }
+{
+    let there = at <= bytes.len() && count <= bytes.len() - at;
+    demand(there, at, Reason::Truncated)?;
+    Ok((&bytes[at..at + count], at + count))
+}
+
+/// How many bytes stand before the first zero byte; without one, all.
+pub fn zero_in(bytes: &[u8]) -> usize
+    ensures len { result ≡ zero_in bytes.now }
+    ensures within { result ≤ length bytes.now }
+{
+    match memchr(0, bytes) {
+        Some(len) => len,
+        None => bytes.len(),
+    }
+}
+
+/// The text from a place up to its zero byte, and the place after that byte; without a zero byte, `Truncated` at
+/// the place.
+#[tactic(auto, unfolding(crate::specs::Rows::text_at))]
+pub fn text_at(bytes: &[u8], at: usize) -> Result<(&[u8], usize), Fault>
+    ensures exact { Reads (λ x. (x.0.now, x.1)) result (text_at bytes.now at) }
+    ensures end { IfOk result (λ x. (at < x.1) × (x.1 ≤ length bytes.now)) }
+{
+    let rest = if at <= bytes.len() { &bytes[at..] } else { &[] };
+    let len = zero_in(rest);
+    demand(len < rest.len(), at, Reason::Truncated)?;
+    Ok((&rest[..len], at + len + 1))
+}
