@@ -1,0 +1,15 @@
+pub mod Little
+pub mod LittleLaws
+pub mod Sequence
+pub mod Numbers
+pub mod NumbersLaws
+pub mod Bits
+pub mod BitsLaws
+pub mod SequenceLaws
+pub mod NumbersReading
+pub mod BitsReading
+pub mod Width
+pub mod WidthLaws
+pub mod PackingLaws
+pub mod Marks
+pub mod MarksLaws

@@ -1,0 +1,77 @@
+-- Laws of counts of marks: how they grow from place to place.
+use Rattle.std.proofs.Common.{◌≡◌, ℕ, zero, suc, ◌+◌, ◌-◌, ◌<◌, ◌≤◌, Bool, true, false, cond, List, [], ◌∷◌, length, get_or, take, slice_get, Some, refl, ap, sym, ◌∙◌, arith, le_of_suc-le-suc}
+use Rattle.std.specs.List.{count_by}
+use Rattle.std.proofs.Math.Nat.{lt_of_not-le}
+use Rattle.std.proofs.lemmas.List.{length-take, take_all}
+use Rattle.std.proofs.lemmas.List.Sums.{count_by-le-length, count_by_more_yes, count_by_more_no, sum_by-cons}
+use Rattle.std.proofs.lemmas.Option.{get_or_from_slice_get, slice_get_within, slice_get-get_or}
+use Rattle.hdt_seq.specs.Marks.{marks_before}
+
+-- ---- steps
+
+pub none_before : (bits : List Bool) → marks_before bits 0 ≡ 0
+unfolding marks_before
+none_before bits = refl
+
+-- one more after a mark
+pub marks_marked : (bits : List Bool) (i : ℕ) → slice_get bits i ≡ Some true → marks_before bits (i + 1) ≡ marks_before bits i + 1
+unfolding marks_before
+marks_marked bits i is = count_by_more_yes (λ b. b) bits i false (slice_get_within bits i true is) (get_or_from_slice_get bits i true false is)
+
+-- and no more after a bit that is none
+pub marks_unmarked : (bits : List Bool) (i : ℕ) → slice_get bits i ≡ Some false → marks_before bits (i + 1) ≡ marks_before bits i
+unfolding marks_before
+marks_unmarked bits i is = count_by_more_no (λ b. b) bits i false (slice_get_within bits i false is) (get_or_from_slice_get bits i false false is)
+
+by_value : (bits : List Bool) (i : ℕ) → i < length bits → marks_before bits (i + 1) ≡ marks_before bits i + 1 → (b : Bool) → get_or bits i false ≡ b → slice_get bits i ≡ Some true
+unfolding marks_before
+by_value bits i h up true e = slice_get-get_or bits i false h ∙ ap Some e
+by_value bits i h up false e = absurd (omega (arith, up, count_by_more_no (λ b. b) bits i false h e))
+
+-- where the count goes up there is a mark
+pub mark_from_counts : (bits : List Bool) (i : ℕ) → i < length bits → marks_before bits (i + 1) ≡ marks_before bits i + 1 → slice_get bits i ≡ Some true
+mark_from_counts bits i h up = by_value bits i h up (get_or bits i false) refl
+
+-- ---- order
+
+marks_cons : (b : Bool) (bits : List Bool) (i : ℕ) → marks_before (b ∷ bits) (suc i) ≡ cond b 1 0 + marks_before bits i
+unfolding marks_before
+marks_cons b bits i = sum_by-cons (λ x. cond x 1 0) b (take i bits)
+
+nil_marks : (i : ℕ) → marks_before [] i ≡ 0
+unfolding marks_before
+nil_marks zero = refl
+nil_marks (suc i) = refl
+
+pub marks_mono : (bits : List Bool) (i j : ℕ) → i ≤ j → marks_before bits i ≤ marks_before bits j
+marks_mono [] i j h = omega (arith, nil_marks i, nil_marks j)
+marks_mono (b ∷ bits) zero j h = omega (arith, none_before (b ∷ bits))
+marks_mono (b ∷ bits) (suc i) zero h = absurd (omega (arith, h))
+marks_mono (b ∷ bits) (suc i) (suc j) h = omega (arith, marks_cons b bits i, marks_cons b bits j, marks_mono bits i j (le_of_suc-le-suc h))
+
+-- no more marks than places
+pub marks_le : (bits : List Bool) (i : ℕ) → marks_before bits i ≤ i
+unfolding marks_before
+marks_le bits i = omega (arith, count_by-le-length (λ b. b) (take i bits), length-take i bits)
+
+-- past the last bit there are no more
+pub marks_past : (bits : List Bool) (i j : ℕ) → length bits ≤ i → length bits ≤ j → marks_before bits i ≡ marks_before bits j
+unfolding marks_before
+marks_past bits i j h k = ap (count_by (λ b. b)) (take_all i bits h ∙ sym (take_all j bits k))
+
+-- all marks stand before the end
+pub marks_all : (bits : List Bool) (i : ℕ) → marks_before bits i ≤ marks_before bits (length bits)
+marks_all bits i = omega (arith, marks_mono bits i (length bits + i) (omega arith), marks_past bits (length bits + i) (length bits) (omega arith) (omega arith))
+
+-- fewer before, so it comes before
+pub sooner : (bits : List Bool) (i j : ℕ) → marks_before bits i < marks_before bits j → i < j
+sooner bits i j h = lt_of_not-le (λ le. omega (arith, h, marks_mono bits j i le))
+
+pub sooner_than_end : (bits : List Bool) (i j : ℕ) → marks_before bits i < marks_before bits j → i < length bits
+sooner_than_end bits i j h = lt_of_not-le (λ le. omega (arith, h, sooner bits i j h, marks_past bits i j le (omega (arith, le, sooner bits i j h))))
+
+-- where the last bit is a mark, more come at or after each place
+pub marks_before_last : (bits : List Bool) (i : ℕ) → slice_get bits (length bits - 1) ≡ Some true → i < length bits → marks_before bits i < marks_before bits (length bits)
+marks_before_last bits i last h =
+    let end : length bits - 1 + 1 ≡ length bits = omega (arith, h) in
+    omega (arith, marks_mono bits i (length bits - 1) (omega (arith, h)), marks_marked bits (length bits - 1) last, ap (marks_before bits) end)

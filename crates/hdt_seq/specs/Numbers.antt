@@ -1,0 +1,61 @@
+-- Number sequences (rdfhdt.org, "HDT binary format", Log sequence): the type byte 1, a width of 0 to 64 bits, the
+-- count of entries, and the entries packed in that width. Bits after the last entry may be anything.
+use Rattle.std.specs.Prelude.{◌≡◌, ◌≤◌, ◌<◌, ◌==◌, ℕ, ◌+◌, ◌*◌, ◌^◌, List, ◌∷◌, length, nat_le, Result, Ok}
+use Rattle.hdt_wire.specs.declared.fault.Fault.{Fault}
+use Rattle.hdt_wire.specs.declared.fault.Reason.TheVariants.{SequenceKind, Width}
+use Rattle.hdt_wire.specs.Rows.{◌>>=◌, demand}
+use Rattle.hdt_wire.specs.VByte.{VByte, vbyte, vbyte_at}
+use Rattle.hdt_seq.specs.declared.numbers.Numbers.{Numbers}
+use Rattle.hdt_seq.specs.Little.{bytes_for, entries, packed}
+use Rattle.hdt_seq.specs.Width.{width_of}
+use Rattle.hdt_seq.specs.Sequence.{Places, Sequence, framed, byte_at, code8_at, packed_at}
+
+-- the text spells the numbers as a sequence: in some width, over some packed bytes whose entries they are
+pub record IsNumbers (text : List ℕ) (xs : List ℕ) : Type 0 where
+  pub width : ℕ
+  pub count : List ℕ
+  pub packed : List ℕ
+  pub narrow : width ≤ 64
+  pub counted : length xs < 2 ^ 64
+  pub counts : VByte count (length xs)
+  pub size : length packed ≡ bytes_for (width * length xs)
+  pub holds : entries packed width (length xs) ≡ xs
+  pub whole : text ≡ framed (1 ∷ width ∷ count) packed
+
+-- the numbers that a sequence stands for
+unfoldable pub numbers_of : Numbers → List ℕ
+numbers_of s = entries s.packed.now s.width s.count
+
+-- where it lies
+unfoldable pub numbers_places : Numbers → Places
+numbers_places s = record { count = s.count_at; packed = s.packed_at; width = s.width }
+
+-- the numbers that were read, and the place after them
+abbrev pub numbers_and_end : Numbers × ℕ → List ℕ × ℕ
+numbers_and_end r = (numbers_of r.0, r.1)
+
+-- all that was read
+abbrev pub numbers_read : Numbers × ℕ → Sequence ℕ
+numbers_read r = record { items = numbers_of r.0; places = numbers_places r.0; end = r.1 }
+
+-- the places of a sequence of n entries that begins at a place
+abbrev pub numbers_places_from : ℕ → ℕ → ℕ → Places
+numbers_places_from at width n = record { count = at + 2; packed = at + 3 + length (vbyte n); width = width }
+
+-- the rows of a number sequence, from top to bottom: the sequence, or the fault that stands
+unfoldable pub numbers_at : List ℕ → ℕ → Result (Sequence ℕ) Fault
+numbers_at bytes at = do
+  kind ← byte_at bytes at
+  _ ← demand (kind.0 == 1) at SequenceKind
+  width ← byte_at bytes kind.1
+  _ ← demand (nat_le width.0 64) kind.1 Width
+  count ← vbyte_at bytes width.1
+  start ← code8_at bytes at count.1
+  packed ← packed_at (width.0 * count.0) bytes start
+  Ok (record { items = entries packed.0 width.0 count.0; places = record { count = width.1; packed = start; width = width.0 }; end = packed.1 })
+
+-- ---- writing
+
+-- the canonical spelling: the width of the greatest entry, and all bits after the last entry 0
+unfoldable pub numbers_spelling : List ℕ → List ℕ
+numbers_spelling xs = framed (1 ∷ width_of xs ∷ vbyte (length xs)) (packed (width_of xs) xs)

@@ -1,0 +1,97 @@
+//! Bit sequences: bits packed eight in a byte.
+ghost use Rattle.std.specs.Prelude.{◌≡◌, ◌+◌, ◌*◌, ◌^◌, ◌<◌, ◌≤◌, ℕ, length};
+
+use crate::rows::{byte_at, code8_at, packed_at};
+use crate::window::bit_of;
+use hdt_wire::{Fault, Reason, demand, read_vbyte};
+
+/// A bit sequence that was read: its packed bytes are lent from the input.
+#[derive(Clone, Copy)]
+pub struct Bits<'a> {
+    packed: &'a [u8],
+    count: u64,
+    count_at: usize,
+    packed_at: usize,
+    ghost counted: { count < 2 ^ 64 },
+    ghost room: { count ≤ 8 * length packed.now },
+    ghost inside: { packed_at + length packed.now < 2 ^ 64 },
+}
+
+impl<'a> Bits<'a> {
+    ghost use Rattle.std.specs.Prelude.{Bool, List, Ok, Some, IfOk, slice_get};
+    ghost use Rattle.hdt_wire.specs.Rows.{Reads, SpelledAt};
+    ghost use Rattle.hdt_seq.specs.Sequence.{place_of_entry};
+    ghost use Rattle.hdt_seq.specs.Bits.{IsBits, bits_of, bits_places, bits_places_from, bits_and_end, bits_read, bits_at};
+
+    /// Reads by rows.
+    #[tactic(auto, unfolding(crate::specs::Bits::bits_at, crate::specs::Bits::bits_of, crate::specs::Bits::bits_places))]
+    fn read_rows(bytes: &'a [u8], at: usize) -> Result<(Bits<'a>, usize), Fault>
+        ensures exact { Reads bits_read result (bits_at bytes.now at) }
+    {
+        let (kind, count_at) = byte_at(bytes, at)?;
+        demand(kind == 1, at, Reason::BitsKind)?;
+        let (count, code_at) = read_vbyte(bytes, count_at)?;
+        let start = code8_at(bytes, at, code_at)?;
+        demand(count > 0, count_at, Reason::NoTriples)?;
+        let (packed, end) = packed_at(bytes, start, u128::from(count))?;
+        let bits = Bits {
+            packed,
+            count,
+            count_at,
+            packed_at: start,
+        };
+        Ok((bits, end))
+    }
+
+    /// Reads the sequence at a place, in bytes from 0, and answers it with the place after it. Bytes may follow it.
+    ///
+    /// Faults, in the order of the rows: `BitsKind`, those of the count, `Check8`, `NoTriples` where there is no bit,
+    /// `Check32`, and `Truncated` where a part is cut off, at its place.
+    pub fn read(bytes: &'a [u8], at: usize) -> Result<(Bits<'a>, usize), Fault>
+        // What is read stands there, spelled so.
+        ensures found { IfOk result (λ r. SpelledAt IsBits bytes.now at (bits_of r.0) r.1) }
+        // It lies where the format says.
+        ensures places { IfOk result (λ r. bits_places r.0 ≡ bits_places_from at (length (bits_of r.0))) }
+        // What is spelled so and stands there is read.
+        ensures only { (xs : List Bool) (end : ℕ) → SpelledAt IsBits bytes.now at xs end → Reads bits_and_end result (Ok (xs, end)) }
+        // Otherwise it is the one fault that stands.
+        ensures exact { Reads bits_read result (bits_at bytes.now at) }
+        ensures end { IfOk result (λ r. (at < r.1) × (r.1 ≤ length bytes.now)) }
+    {
+        Bits::read_rows(bytes, at)
+    }
+
+    /// How many bits there are: at least 1, below 2^64.
+    #[tactic(auto, using(crate::specs::BitsLaws::bits_len))]
+    pub fn len(&self) -> u64
+        ensures { result ≡ length (bits_of self.now) }
+    {
+        self.count
+    }
+
+    /// Whether bit i, counted from 0, is 1; the caller shows that there is one.
+    #[tactic(auto, using(crate::specs::BitsLaws::bit_within, crate::specs::BitsLaws::bits_get))]
+    pub fn get(&self, i: u64) -> bool
+        requires { i < length (bits_of self.now) }
+        ensures { slice_get (bits_of self.now) i ≡ Some result }
+    {
+        bit_of(self.packed, i)
+    }
+
+    /// The place of the count, in bytes from the start of the input.
+    #[tactic(auto, unfolding(crate::specs::Bits::bits_places))]
+    pub fn count_place(&self) -> u64
+        ensures { result ≡ (bits_places self.now).count }
+    {
+        self.count_at as u64
+    }
+
+    /// The place of the byte that holds bit i, in bytes from the start of the input.
+    #[tactic(auto, using(crate::specs::BitsLaws::bit_within), unfolding(crate::specs::Bits::bits_places))]
+    pub fn entry_place(&self, i: u64) -> u64
+        requires { i < length (bits_of self.now) }
+        ensures { result ≡ place_of_entry (bits_places self.now) i }
+    {
+        self.packed_at as u64 + i / 8
+    }
+}

@@ -1,0 +1,34 @@
+//! Number sequences and bit sequences of an HDT file (HDT format version 1), and the steps that searches count.
+//!
+//! The layer's promise: what is read at a place is a spelling of exactly these numbers or bits, whatever follows, any
+//! width and any padding allowed; else the one fault that stands there is answered. What is written is the one
+//! canonical spelling, which is read again.
+//!
+//! ```text
+//! let (marks, next) = Bits::read(bytes, at)?;
+//! let (numbers, end) = Numbers::read(bytes, next)?;
+//! let first = numbers.get(0);
+//! ```
+//!
+//! Both types borrow the input and are `Copy`. Contracts see them as lists, by `numbers_of` and `bits_of` of specs/,
+//! and where they lie by `numbers_places` and `bits_places`. Laws on these lists, and on counts of marks, stand in
+//! specs/: `NumbersLaws`, `BitsLaws`, `MarksLaws`.
+#![tactic(auto)]
+
+mod bits;
+mod numbers;
+mod packing;
+mod rows;
+mod steps;
+mod width;
+mod window;
+mod writing;
+
+pub use bits::Bits;
+pub use numbers::Numbers;
+pub use steps::Steps;
+pub use width::width_of;
+pub use writing::{bits_are_read_again, numbers_are_read_again, put_bits, put_numbers};
+
+#[cfg(test)]
+mod tests;

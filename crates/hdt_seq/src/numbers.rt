@@ -1,0 +1,104 @@
+//! Number sequences: entries packed in a width of 0 to 64 bits.
+ghost use Rattle.std.specs.Prelude.{◌≡◌, ◌+◌, ◌*◌, ◌^◌, ◌<◌, ◌≤◌, ℕ, length};
+
+use crate::rows::{byte_at, code8_at, packed_at};
+use crate::window::entry_of;
+use hdt_wire::{Fault, Reason, demand, read_vbyte};
+
+/// A number sequence that was read: its packed bytes are lent from the input.
+#[derive(Clone, Copy)]
+pub struct Numbers<'a> {
+    packed: &'a [u8],
+    width: u8,
+    count: u64,
+    count_at: usize,
+    packed_at: usize,
+    ghost narrow: { width ≤ 64 },
+    ghost counted: { count < 2 ^ 64 },
+    ghost room: { width * count ≤ 8 * length packed.now },
+    ghost inside: { packed_at + length packed.now < 2 ^ 64 },
+}
+
+impl<'a> Numbers<'a> {
+    ghost use Rattle.std.specs.Prelude.{List, Ok, IfOk, slice_index};
+    ghost use Rattle.hdt_wire.specs.Rows.{Reads, SpelledAt};
+    ghost use Rattle.hdt_seq.specs.Sequence.{place_of_entry};
+    ghost use Rattle.hdt_seq.specs.Numbers.{IsNumbers, numbers_of, numbers_places, numbers_places_from, numbers_and_end, numbers_read, numbers_at};
+
+    /// Reads by rows.
+    #[tactic(auto, unfolding(crate::specs::Numbers::numbers_at, crate::specs::Numbers::numbers_of, crate::specs::Numbers::numbers_places))]
+    fn read_rows(bytes: &'a [u8], at: usize) -> Result<(Numbers<'a>, usize), Fault>
+        ensures exact { Reads numbers_read result (numbers_at bytes.now at) }
+    {
+        let (kind, width_at) = byte_at(bytes, at)?;
+        demand(kind == 1, at, Reason::SequenceKind)?;
+        let (width, count_at) = byte_at(bytes, width_at)?;
+        demand(width <= 64, width_at, Reason::Width)?;
+        let (count, code_at) = read_vbyte(bytes, count_at)?;
+        let start = code8_at(bytes, at, code_at)?;
+        let bits = u128::from(width) * u128::from(count);
+        let (packed, end) = packed_at(bytes, start, bits)?;
+        let numbers = Numbers {
+            packed,
+            width,
+            count,
+            count_at,
+            packed_at: start,
+        };
+        Ok((numbers, end))
+    }
+
+    /// Reads the sequence at a place, in bytes from 0, and answers it with the place after it. Bytes may follow it.
+    ///
+    /// Faults, in the order of the rows: `SequenceKind`, `Width`, those of the count, `Check8`, `Check32`, and
+    /// `Truncated` where a part is cut off, at its place.
+    pub fn read(bytes: &'a [u8], at: usize) -> Result<(Numbers<'a>, usize), Fault>
+        // What is read stands there, spelled so.
+        ensures found { IfOk result (λ r. SpelledAt IsNumbers bytes.now at (numbers_of r.0) r.1) }
+        // It lies where the format says.
+        ensures places { IfOk result (λ r. numbers_places r.0 ≡ numbers_places_from at (slice_index bytes.now (at + 1)) (length (numbers_of r.0))) }
+        // What is spelled so and stands there is read.
+        ensures only { (xs : List ℕ) (end : ℕ) → SpelledAt IsNumbers bytes.now at xs end → Reads numbers_and_end result (Ok (xs, end)) }
+        // Otherwise it is the one fault that stands.
+        ensures exact { Reads numbers_read result (numbers_at bytes.now at) }
+        ensures end { IfOk result (λ r. (at < r.1) × (r.1 ≤ length bytes.now)) }
+    {
+        Numbers::read_rows(bytes, at)
+    }
+
+    /// How many entries there are: below 2^64.
+    #[tactic(auto, using(crate::specs::NumbersLaws::numbers_len))]
+    pub fn len(&self) -> u64
+        ensures { result ≡ length (numbers_of self.now) }
+    {
+        self.count
+    }
+
+    /// Entry i, counted from 0; the caller shows that there is one.
+    #[tactic(auto, using(crate::specs::NumbersLaws::number_within, crate::specs::NumbersLaws::numbers_get))]
+    pub fn get(&self, i: u64) -> u64
+        requires { i < length (numbers_of self.now) }
+        ensures { result ≡ slice_index (numbers_of self.now) i }
+    {
+        entry_of(self.packed, self.width, i)
+    }
+
+    /// The place of the count, in bytes from the start of the input.
+    #[tactic(auto, unfolding(crate::specs::Numbers::numbers_places))]
+    pub fn count_place(&self) -> u64
+        ensures { result ≡ (numbers_places self.now).count }
+    {
+        self.count_at as u64
+    }
+
+    /// The place of entry i, in bytes from the start of the input: the byte that holds its first bit. An entry of no
+    /// bits lies where the packed bytes begin.
+    #[tactic(auto, using(crate::specs::NumbersLaws::number_within), unfolding(crate::specs::Numbers::numbers_places))]
+    pub fn entry_place(&self, i: u64) -> u64
+        requires { i < length (numbers_of self.now) }
+        ensures { result ≡ place_of_entry (numbers_places self.now) i }
+    {
+        let bits = u128::from(self.width) * u128::from(i);
+        self.packed_at as u64 + (bits / 8) as u64
+    }
+}

@@ -1,0 +1,98 @@
+//! Packing entries and bits into bytes, one after another.
+ghost use Rattle.std.specs.Prelude.{◌≡◌, ◌<◌, ◌≤◌, ◌+◌, ◌*◌, ◌/◌, ◌%◌, ◌^◌, ◌++◌, ◌∷◌, [], ℕ, length, drop, OnOk, OnErr, slice_index};
+ghost use Rattle.byteorder.specs.Endian.{little_bytes};
+ghost use Rattle.hdt_wire.specs.Check.{code8, code32};
+ghost use Rattle.hdt_wire.specs.Control.{Keeps};
+ghost use Rattle.hdt_seq.specs.Little.{packed, packed_bits};
+
+use byteorder::{ByteOrder, LittleEndian};
+use hdt_wire::{check8, check32};
+use std::alloc::AllocError;
+
+/// The bits that fill no eight bytes yet: the lowest of the word.
+#[derive(Drop)]
+struct Rest {
+    word: u128,
+    filled: u8,
+}
+
+/// Appends the lowest bytes of a word, least first. Where memory is refused, `out` is as it was.
+fn append_bytes(word: u128, count: u8, out: &mut Vec<u8>) -> Result<(), AllocError>
+    requires { count ≤ 16 }
+    ensures ok { OnOk result (out.new.items ≡ out.old.items ++ little_bytes count word) }
+    ensures err { OnErr result (out.new.items ≡ out.old.items) }
+{
+    if count == 0 {
+        return Ok(());
+    }
+    let mut bytes = [0u8; 16];
+    LittleEndian::write_u128(&mut bytes, word);
+    out.extend_from_slice(&bytes[..count as usize])
+}
+
+/// Puts one more entry behind the rest, and appends the first eight bytes where they are full.
+fn append_entry(rest: &mut Rest, entry: u64, width: u8, out: &mut Vec<u8>) -> Result<(), AllocError>
+    requires narrow { width ≤ 64 }
+    requires filled { rest.old.filled < 64 }
+    requires small { rest.old.word < 2 ^ rest.old.filled }
+    ensures word { OnOk result (rest.new.word ≡ (rest.old.word + entry * 2 ^ rest.old.filled) / 2 ^ (8 * (8 * ((rest.old.filled + width) / 64)))) }
+    ensures rest { OnOk result (rest.new.filled ≡ (rest.old.filled + width) % 64) }
+    ensures ok { OnOk result (out.new.items ≡ out.old.items ++ little_bytes (8 * ((rest.old.filled + width) / 64)) (rest.old.word + entry * 2 ^ rest.old.filled)) }
+    ensures err { OnErr result (out.new.items ≡ out.old.items) }
+{
+    let word = rest.word + (u128::from(entry) << rest.filled);
+    let filled = rest.filled + width;
+    let full = 8 * (filled / 64);
+    append_bytes(word, full, out)?;
+    rest.word = word >> (8 * full);
+    rest.filled = filled % 64;
+    Ok(())
+}
+
+/// Appends the bytes that hold the entries, each in the width. An `Err` may leave a beginning behind.
+pub fn append_entries(xs: &[u64], width: u8, out: &mut Vec<u8>) -> Result<(), AllocError>
+    requires narrow { width ≤ 64 }
+    requires fits { (i : ℕ) → slice_index xs.now i < 2 ^ width }
+    ensures ok { OnOk result (out.new.items ≡ out.old.items ++ packed width xs.now) }
+    ensures err { OnErr result (Keeps out.old.items out.new.items) }
+{
+    let mut rest = Rest { word: 0, filled: 0 };
+    for x in xs {
+        append_entry(&mut rest, *x, width, out)?;
+    }
+    append_bytes(rest.word, rest.filled.div_ceil(8), out)
+}
+
+/// Appends the bytes that hold the bits. An `Err` may leave a beginning behind.
+pub fn append_bits(bits: &[bool], out: &mut Vec<u8>) -> Result<(), AllocError>
+    ensures ok { OnOk result (out.new.items ≡ out.old.items ++ packed_bits bits.now) }
+    ensures err { OnErr result (Keeps out.old.items out.new.items) }
+{
+    let mut rest = Rest { word: 0, filled: 0 };
+    for bit in bits {
+        append_entry(&mut rest, u64::from(*bit), 1, out)?;
+    }
+    append_bytes(rest.word, rest.filled.div_ceil(8), out)
+}
+
+/// Appends the 8-bit code of the bytes from a start on. Where memory is refused, `out` is as it was.
+pub fn append_code8(start: usize, out: &mut Vec<u8>) -> Result<(), AllocError>
+    requires { start ≤ length out.old.items }
+    ensures ok { OnOk result (out.new.items ≡ out.old.items ++ code8 (drop start out.old.items) ∷ []) }
+    ensures err { OnErr result (out.new.items ≡ out.old.items) }
+{
+    let code = check8(&out[start..]);
+    out.push(code)?;
+    Ok(())
+}
+
+/// Appends the 32-bit code of the bytes from a start on. Where memory is refused, `out` is as it was.
+pub fn append_code32(start: usize, out: &mut Vec<u8>) -> Result<(), AllocError>
+    requires { start ≤ length out.old.items }
+    ensures ok { OnOk result (out.new.items ≡ out.old.items ++ little_bytes 4 (code32 (drop start out.old.items))) }
+    ensures err { OnErr result (out.new.items ≡ out.old.items) }
+{
+    let mut code = [0u8; 4];
+    LittleEndian::write_u32(&mut code, check32(&out[start..]));
+    out.extend_from_slice(&code)
+}

@@ -1,0 +1,59 @@
+//! The rows that both sequences share.
+ghost use Rattle.std.specs.Prelude.{◌≡◌, ◌+◌, ◌<◌, ◌≤◌, length, IfOk};
+ghost use Rattle.hdt_wire.specs.Rows.{Reads, bytes_at};
+ghost use Rattle.hdt_seq.specs.Little.{bytes_for};
+ghost use Rattle.hdt_seq.specs.Sequence.{byte_at, code8_at, packed_at};
+
+use byteorder::{ByteOrder, LittleEndian};
+use hdt_wire::{Fault, Reason, bytes_at, check8, check32, demand};
+
+/// The byte at a place, and the place after it.
+#[tactic(auto, unfolding(crate::specs::Sequence::byte_at))]
+pub fn byte_at(bytes: &[u8], at: usize) -> Result<(u8, usize), Fault>
+    ensures exact { result ≡ byte_at bytes.now at }
+    ensures end { IfOk result (λ x. (at < x.1) × (x.1 ≤ length bytes.now)) }
+{
+    let (one, end) = bytes_at(bytes, at, 1)?;
+    Ok((one[0], end))
+}
+
+/// The 8-bit code of the bytes from a start on stands at a place; answered is the place after it.
+#[tactic(auto, unfolding(crate::specs::Sequence::code8_at))]
+pub fn code8_at(bytes: &[u8], start: usize, at: usize) -> Result<usize, Fault>
+    requires order { start ≤ at }
+    requires within { at ≤ length bytes.now }
+    ensures exact { result ≡ code8_at bytes.now start at }
+    ensures end { IfOk result (λ x. (at < x) × (x ≤ length bytes.now)) }
+{
+    let (code, end) = byte_at(bytes, at)?;
+    demand(code == check8(&bytes[start..at]), at, Reason::Check8)?;
+    Ok(end)
+}
+
+/// As many bytes from a place as a count says that may be past every length.
+#[tactic(auto, using(crate::proofs::Reading::too_many))]
+fn many_bytes_at(bytes: &[u8], at: usize, count: u128) -> Result<(&[u8], usize), Fault>
+    ensures exact { Reads (λ x. (x.0.now, x.1)) result (bytes_at count bytes.now at) }
+    ensures len { IfOk result (λ x. length x.0.now ≡ count) }
+    ensures end { IfOk result (λ x. (x.1 ≡ at + count) × (x.1 ≤ length bytes.now)) }
+{
+    demand(count <= bytes.len() as u128, at, Reason::Truncated)?;
+    bytes_at(bytes, at, count as usize)
+}
+
+/// The bytes from a place that hold so many bits, with their 32-bit code, and the place after it.
+#[tactic(auto, unfolding(crate::specs::Sequence::packed_at))]
+pub fn packed_at(bytes: &[u8], at: usize, bits: u128) -> Result<(&[u8], usize), Fault>
+    ensures exact { Reads (λ x. (x.0.now, x.1)) result (packed_at bits bytes.now at) }
+    ensures len { IfOk result (λ x. length x.0.now ≡ bytes_for bits) }
+    ensures end { IfOk result (λ x. (at + length x.0.now < x.1) × (x.1 ≤ length bytes.now)) }
+{
+    let (packed, code_at) = many_bytes_at(bytes, at, bits.div_ceil(8))?;
+    let (code, end) = bytes_at(bytes, code_at, 4)?;
+    demand(
+        LittleEndian::read_u32(code) == check32(packed),
+        code_at,
+        Reason::Check32,
+    )?;
+    Ok((packed, end))
+}

@@ -1,0 +1,93 @@
+//! Writing sequences, in their canonical spelling.
+ghost use Rattle.std.specs.Prelude.{◌≡◌, ◌+◌, ◌^◌, ◌<◌, ◌++◌, ℕ, Bool, List, Ok, OnOk, OnErr, length};
+ghost use Rattle.hdt_wire.specs.Rows.{IsBytes};
+ghost use Rattle.hdt_wire.specs.Control.{Keeps};
+ghost use Rattle.hdt_seq.specs.Width.{width_of};
+ghost use Rattle.hdt_seq.specs.PackingLaws.{EachFits};
+ghost use Rattle.hdt_seq.specs.Numbers.{IsNumbers, numbers_at, numbers_places_from, numbers_spelling};
+ghost use Rattle.hdt_seq.specs.Bits.{IsBits, bits_at, bits_places_from, bits_spelling};
+
+use crate::packing::{append_bits, append_code8, append_code32, append_entries};
+use crate::width::width_of;
+use hdt_wire::put_vbyte;
+use std::alloc::AllocError;
+
+/// Appends a number sequence; an `Err` may leave a beginning of it behind.
+#[tactic(auto, unfolding(crate::specs::Numbers::numbers_spelling))]
+fn append_number_sequence(xs: &[u64], out: &mut Vec<u8>) -> Result<(), AllocError>
+    ensures ok { OnOk result (out.new.items ≡ out.old.items ++ numbers_spelling xs.now) }
+    ensures err { OnErr result (Keeps out.old.items out.new.items) }
+{
+    let start = out.len();
+    let width = width_of(xs);
+    out.extend_from_slice(&[1, width])?;
+    put_vbyte(xs.len() as u64, out)?;
+    append_code8(start, out)?;
+    let packed = out.len();
+    append_entries(xs, width, out)?;
+    append_code32(packed, out)
+}
+
+/// Appends the canonical sequence of these entries: as wide as [`width_of`] says, the bits after the last entry 0.
+/// Where memory is refused, `out` is as it was.
+pub fn put_numbers(xs: &[u64], out: &mut Vec<u8>) -> Result<(), AllocError>
+    ensures ok { OnOk result (out.new.items ≡ out.old.items ++ numbers_spelling xs.now) }
+    ensures err { OnErr result (out.new.items ≡ out.old.items) }
+{
+    let start = out.len();
+    let written = append_number_sequence(xs, out);
+    if written.is_err() {
+        out.truncate(start);
+    }
+    written
+}
+
+/// Laws of the spellings of number sequences: that of `put_numbers` spells its entries, and is read again whatever
+/// stands before and after it; a spelling spells one list, and begins no other spelling.
+pub fn numbers_are_read_again()
+    ensures spelled { (xs : List ℕ) → length xs < 2 ^ 64 → EachFits 64 xs → IsNumbers (numbers_spelling xs) xs }
+    ensures again { (before after xs : List ℕ) → length xs < 2 ^ 64 → EachFits 64 xs
+        → numbers_at (before ++ numbers_spelling xs ++ after) (length before)
+        ≡ Ok (record { items = xs; places = numbers_places_from (length before) (width_of xs) (length xs); end = length before + length (numbers_spelling xs) }) }
+    ensures begins_no_other { (a b x y xs ys : List ℕ) → IsBytes (a ++ x) → IsNumbers a xs → IsNumbers b ys → a ++ x ≡ b ++ y → (a ≡ b) × (xs ≡ ys) }
+{}
+
+/// Appends a bit sequence; an `Err` may leave a beginning of it behind.
+#[tactic(auto, unfolding(crate::specs::Bits::bits_spelling))]
+fn append_bit_sequence(bits: &[bool], out: &mut Vec<u8>) -> Result<(), AllocError>
+    ensures ok { OnOk result (out.new.items ≡ out.old.items ++ bits_spelling bits.now) }
+    ensures err { OnErr result (Keeps out.old.items out.new.items) }
+{
+    let start = out.len();
+    out.push(1)?;
+    put_vbyte(bits.len() as u64, out)?;
+    append_code8(start, out)?;
+    let packed = out.len();
+    append_bits(bits, out)?;
+    append_code32(packed, out)
+}
+
+/// Appends the canonical sequence of these bits, of which there is at least one: the bits after the last one are 0.
+/// Where memory is refused, `out` is as it was.
+pub fn put_bits(bits: &[bool], out: &mut Vec<u8>) -> Result<(), AllocError>
+    requires { 0 < length bits.now }
+    ensures ok { OnOk result (out.new.items ≡ out.old.items ++ bits_spelling bits.now) }
+    ensures err { OnErr result (out.new.items ≡ out.old.items) }
+{
+    let start = out.len();
+    let written = append_bit_sequence(bits, out);
+    if written.is_err() {
+        out.truncate(start);
+    }
+    written
+}
+
+/// Laws of the spellings of bit sequences: that of `put_bits` spells its bits, and is read again whatever stands
+/// before and after it; a spelling spells one list, and begins no other spelling.
+pub fn bits_are_read_again()
+    ensures spelled { (xs : List Bool) → 0 < length xs → length xs < 2 ^ 64 → IsBits (bits_spelling xs) xs }
+    ensures again { (before after : List ℕ) (xs : List Bool) → 0 < length xs → length xs < 2 ^ 64
+        → bits_at (before ++ bits_spelling xs ++ after) (length before)
+        ≡ Ok (record { items = xs; places = bits_places_from (length before) (length xs); end = length before + length (bits_spelling xs) }) }
+    ensures begins_no_other { (a b x y : List ℕ) (xs ys : List Bool) → IsBytes (a ++ x) → IsBits a xs → IsBits b ys → a ++ x ≡ b ++ y → (a ≡ b) × (xs ≡ ys) }
+{}
