@@ -1,0 +1,12 @@
+pub mod Reasons
+pub mod Chars
+pub mod Labels
+pub mod Tags
+pub mod Terms
+pub mod Strings
+pub mod Spelling
+pub mod Writing
+pub mod Reading
+pub mod Faults
+pub mod Stands
+pub mod Table

@@ -1,0 +1,78 @@
+//! Literals.
+ghost use Rattle.std.specs.Prelude.{◌≡◌, length};
+ghost use Rattle.hdt_terms.specs.Reading.{Gives, after_blanks, datatype_of, datatype_at, suffix_at, literal_at};
+
+use crate::chars::is_blank;
+use crate::fault::{LineReason, ReadError, refuse};
+use crate::iri::read_iri;
+use crate::pieces::{Token, inside};
+use crate::tag::read_tag;
+use crate::term::{Suffix, Term};
+use crate::text::Text;
+use std::alloc::Global;
+
+/// The datatype of a literal without suffix.
+const XSD_STRING: &[u8] = b"http://www.w3.org/2001/XMLSchema#string";
+
+/// What follows the tabs and spaces.
+pub fn after_blanks(bytes: &[u8]) -> &[u8]
+    ensures { result.now ≡ after_blanks bytes.now }
+{
+    let mut rest = bytes;
+    'blanks: while let Some((first, tail)) = rest.split_first() {
+        if !is_blank(*first) {
+            break;
+        }
+        rest = tail;
+    }
+    rest
+}
+
+/// The suffix for this datatype: none for XMLSchema's string.
+fn datatype_of(iri: Vec<u8>) -> Suffix
+    ensures { result ≡ datatype_of iri.items }
+{
+    if iri.as_slice() == XSD_STRING {
+        Suffix::Plain
+    } else {
+        Suffix::Datatype(Text::new(iri))
+    }
+}
+
+/// The datatype that begins here with `^^`, and the bytes after it.
+#[tactic(auto, unfolding(crate::specs::Reading::datatype_at))]
+fn read_datatype(alloc: Global, bytes: &[u8]) -> Result<(Suffix, &[u8]), ReadError>
+    ensures { Gives (λ x. (x.0, x.1.now)) result (datatype_at bytes.now) }
+{
+    let [b'^', b'^', rest @ ..] = bytes else {
+        return refuse(LineReason::Syntax, bytes.len());
+    };
+    let (iri, rest) = read_iri(alloc, after_blanks(rest))?;
+    Ok((datatype_of(iri), rest))
+}
+
+/// What stands behind the closing quote, and the bytes after it.
+#[tactic(auto, unfolding(crate::specs::Reading::suffix_at))]
+fn read_suffix(alloc: Global, bytes: &[u8]) -> Result<(Suffix, &[u8]), ReadError>
+    ensures { Gives (λ x. (x.0, x.1.now)) result (suffix_at bytes.now) }
+{
+    let token = after_blanks(bytes);
+    match token {
+        [b'@', ..] => read_tag(alloc, token),
+        [b'^', ..] => read_datatype(alloc, token),
+        _ => Ok((Suffix::Plain, bytes)),
+    }
+}
+
+/// The literal that begins here, and the bytes after it.
+#[tactic(auto, unfolding(crate::specs::Reading::literal_at))]
+pub fn read_literal(alloc: Global, bytes: &[u8]) -> Result<(Term, &[u8]), ReadError>
+    ensures { Gives (λ x. (x.0, x.1.now)) result (literal_at bytes.now) }
+{
+    let [b'"', rest @ ..] = bytes else {
+        return refuse(LineReason::Syntax, bytes.len());
+    };
+    let (text, rest) = inside(alloc, Token::Quoted, rest)?;
+    let (suffix, rest) = read_suffix(alloc, rest)?;
+    Ok((Term::Literal(Text::new(text), suffix), rest))
+}

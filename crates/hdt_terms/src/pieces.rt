@@ -1,0 +1,177 @@
+//! The inside of an IRI or a string, its escapes resolved.
+ghost use Rattle.std.specs.Prelude.{◌≡◌, ◌≤◌, ◌+◌, ◌^◌, ◌<◌, ◌∷◌, length, IfSome, IfOk};
+ghost use Rattle.std.specs.Prelude.{ℕ, true, slice_index};
+ghost use Rattle.hdt_terms.specs.Chars.{echar};
+ghost use Rattle.hdt_terms.specs.Spelling.{is_raw};
+ghost use Rattle.hdt_terms.specs.Reading.{Gives, escaped, uchar, echar_at, iri_item, string_item, item, skip_of, inside};
+
+use crate::chars::{hex_value, is_iri_char, is_string_char};
+use crate::fault::{LineReason, ReadError, refuse};
+use std::alloc::Global;
+
+/// A token that has an inside of pieces: production IRIREF or STRING_LITERAL_QUOTE.
+#[derive(Clone, Copy, Debug, PartialEq, Eq)]
+pub enum Token {
+    Iri,
+    Quoted,
+}
+
+/// What stands next inside a token: its end, a byte as it is, or an escape with the bytes behind its backslash.
+#[derive(Clone, Copy, Debug, PartialEq, Eq)]
+pub enum Item {
+    End,
+    Byte(u8),
+    Char(char, usize),
+}
+
+/// The character that stands behind a backslash as \u or \U, and how many bytes spell it there.
+#[tactic(auto, unfolding(crate::specs::Reading::uchar))]
+fn uchar(rest: &[u8]) -> Option<(char, usize)>
+    ensures value { result ≡ uchar rest.now }
+    ensures within { IfSome result (λ x. x.1 ≤ length rest.now) }
+{
+    match rest {
+        [b'u', digits @ ..] => escaped(4, digits),
+        [b'U', digits @ ..] => escaped(8, digits),
+        _ => None,
+    }
+}
+
+/// The character that so many digits write, and one more than their number.
+fn escaped(len: usize, digits: &[u8]) -> Option<(char, usize)>
+    requires { len ≤ 8 }
+    ensures value { result ≡ escaped len digits.now }
+    ensures within { IfSome result (λ x. x.1 ≤ length digits.now + 1) }
+{
+    if digits.len() < len {
+        return None;
+    }
+    let c = char::from_u32(hex_value(&digits[..len])?)?;
+    Some((c, len + 1))
+}
+
+/// What a backslash and a letter stand for.
+fn echar(letter: u8) -> Option<char>
+    ensures { result ≡ echar letter }
+{
+    match letter {
+        b't' => Some('\t'),
+        b'b' => Some('\u{8}'),
+        b'n' => Some('\n'),
+        b'r' => Some('\r'),
+        b'f' => Some('\u{C}'),
+        b'"' => Some('"'),
+        b'\'' => Some('\''),
+        b'\\' => Some('\\'),
+        _ => None,
+    }
+}
+
+/// The character for what stands behind a backslash, and that it takes one byte there.
+fn echar_at(rest: &[u8]) -> Option<(char, usize)>
+    ensures value { result ≡ echar_at rest.now }
+    ensures within { IfSome result (λ x. x.1 ≤ length rest.now) }
+{
+    let (letter, _) = rest.split_first()?;
+    Some((echar(*letter)?, 1))
+}
+
+/// What begins with this byte inside an IRI.
+#[tactic(auto, unfolding(crate::specs::Reading::iri_item))]
+fn iri_item(first: u8, rest: &[u8]) -> Result<Item, ReadError>
+    requires { length rest.now < 2 ^ 63 }
+    ensures value { Gives (λ x. x) result (iri_item first rest.now) }
+    ensures within { IfOk result (λ x. skip_of x ≤ length rest.now) }
+{
+    let left = rest.len() + 1;
+    match first {
+        b'>' => Ok(Item::End),
+        b'\\' => match uchar(rest) {
+            None => refuse(LineReason::BadEscape, left),
+            Some(('\0', _)) => refuse(LineReason::ZeroCharacter, left),
+            Some((c, len)) if is_iri_char(c) => Ok(Item::Char(c, len)),
+            Some(_) => refuse(LineReason::IriCharacter, left),
+        },
+        c if is_iri_char(char::from(c)) => Ok(Item::Byte(c)),
+        _ => refuse(LineReason::Syntax, left),
+    }
+}
+
+/// What begins with this byte inside a string.
+#[tactic(auto, unfolding(crate::specs::Reading::string_item))]
+fn string_item(first: u8, rest: &[u8]) -> Result<Item, ReadError>
+    requires { length rest.now < 2 ^ 63 }
+    ensures value { Gives (λ x. x) result (string_item first rest.now) }
+    ensures within { IfOk result (λ x. skip_of x ≤ length rest.now) }
+{
+    let left = rest.len() + 1;
+    match first {
+        b'"' => Ok(Item::End),
+        b'\\' => match echar_at(rest).or(uchar(rest)) {
+            None => refuse(LineReason::BadEscape, left),
+            Some(('\0', _)) => refuse(LineReason::ZeroCharacter, left),
+            Some((c, len)) => Ok(Item::Char(c, len)),
+        },
+        0 => refuse(LineReason::ZeroCharacter, left),
+        c if is_string_char(char::from(c)) => Ok(Item::Byte(c)),
+        _ => refuse(LineReason::Syntax, left),
+    }
+}
+
+/// What begins with this byte inside the token.
+fn next_item(token: Token, first: u8, rest: &[u8]) -> Result<Item, ReadError>
+    requires { length rest.now < 2 ^ 63 }
+    ensures value { Gives (λ x. x) result (item token first rest.now) }
+    ensures within { IfOk result (λ x. skip_of x ≤ length rest.now) }
+{
+    match token {
+        Token::Iri => iri_item(first, rest),
+        Token::Quoted => string_item(first, rest),
+    }
+}
+
+/// Whether a byte stands in a token as it is.
+fn is_raw(token: Token, byte: u8) -> bool
+    ensures { result ≡ is_raw token byte }
+{
+    match token {
+        Token::Iri => is_iri_char(char::from(byte)),
+        Token::Quoted => byte != 0 && is_string_char(char::from(byte)),
+    }
+}
+
+/// How many bytes at the front stand in a token as they are.
+fn plain_len(token: Token, bytes: &[u8]) -> usize
+    ensures within { result ≤ length bytes.now }
+    ensures plain { (k : ℕ) → k < result → is_raw token (slice_index bytes.now k) ≡ true }
+{
+    bytes
+        .iter()
+        .position(|byte| !is_raw(token, *byte))
+        .unwrap_or(bytes.len())
+}
+
+/// What stands inside a token, its escapes resolved, and the bytes after its end.
+pub fn inside(alloc: Global, token: Token, bytes: &[u8]) -> Result<(Vec<u8>, &[u8]), ReadError>
+    ensures { Gives (λ x. (x.0.items, x.1.now)) result (inside token 0 bytes.now) }
+{
+    let mut value = Vec::new(alloc);
+    let mut rest = bytes;
+    'items: while let Some((first, tail)) = rest.split_first() {
+        match next_item(token, *first, tail)? {
+            Item::End => return Ok((value, tail)),
+            Item::Byte(b) => {
+                value.push(b)?;
+                let (plain, after) = tail.split_at(plain_len(token, tail));
+                value.extend_from_slice(plain)?;
+                rest = after;
+            }
+            Item::Char(c, len) => {
+                let mut buffer = [0; 4];
+                value.extend_from_slice(c.encode_utf8(&mut buffer).as_bytes())?;
+                rest = tail.split_at(len).1;
+            }
+        }
+    }
+    refuse(LineReason::Syntax, 0)
+}
