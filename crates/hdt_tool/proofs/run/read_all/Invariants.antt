@@ -1,0 +1,11 @@
+use Rattle.std.proofs.Common.{◌≡◌, ◌≤◌, vec_len}
+use Rattle.std.specs.Io.KnownBytes.{Consumes}
+use Rattle.hdt_wire.specs.Counted.{inner, failures}
+use Rattle.hdt_tool.proofs.run.read_all.Given as goal
+
+abbrev pub invariant-reads : goal.invariant-reads
+invariant-reads g l = record {
+  read : Consumes (g.R.Read.remaining (inner l.fn.input)) (g.R.Read.remaining (inner l.input)) l.bytes.items;
+  counted : l.counter ≤ vec_len l.bytes;
+  well : failures l.input ≡ failures l.fn.input;
+}

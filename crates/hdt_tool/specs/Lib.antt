@@ -1,0 +1,5 @@
+pub mod HeadText
+pub mod Answer
+pub mod Lines
+pub mod Table
+pub mod Asked

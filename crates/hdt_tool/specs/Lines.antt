@@ -1,0 +1,31 @@
+-- The status that the program ends with, and the line that it prints to the standard error.
+use Rattle.std.specs.Prelude.{ℕ, List, ◌++◌, codes, string_bytes}
+use Rattle.std.specs.Fmt.{decimal}
+use Rattle.hdt_wire.specs.Fault.{reason_number, reason_name}
+use Rattle.hdt_tool.specs.declared.fault.ToolFault.{ToolFault}
+use Rattle.hdt_tool.specs.declared.fault.ToolFault.TheVariants as tool
+use Rattle.hdt_tool.specs.declared.fault.UsageFault.{UsageFault}
+use Rattle.hdt_tool.specs.declared.fault.UsageFault.TheVariants as usage
+
+abbrev pub fault_status : ToolFault → ℕ
+fault_status (tool.File fault) = 1
+fault_status tool.Read = 3
+fault_status (tool.Write n) = 3
+fault_status tool.OutOfMemory = 4
+
+abbrev pub fault_line : ToolFault → List ℕ
+fault_line (tool.File fault) = codes "hdt: fault " ++ decimal (reason_number fault.reason) ++ codes " " ++ reason_name fault.reason ++ codes " at " ++ decimal fault.place
+fault_line tool.Read = codes "hdt: reading failed"
+fault_line (tool.Write n) = codes "hdt: writing failed"
+fault_line tool.OutOfMemory = codes "hdt: out of memory"
+
+-- help was asked for, so its text is no failure
+abbrev pub usage_status : UsageFault → ℕ
+usage_status (usage.Usage text) = 2
+usage_status (usage.Help text) = 0
+usage_status usage.OutOfMemory = 4
+
+abbrev pub usage_line : UsageFault → List ℕ
+usage_line (usage.Usage text) = string_bytes text
+usage_line (usage.Help text) = string_bytes text
+usage_line usage.OutOfMemory = codes "hdt: out of memory"

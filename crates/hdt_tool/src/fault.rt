@@ -1,0 +1,90 @@
+//! What can go wrong: with a command line, and with a command.
+ghost use Rattle.std.specs.Prelude.{◌≡◌};
+ghost use Rattle.hdt_tool.specs.declared.fault.UsageFault.TheVariants.{OutOfMemory as usage_memory};
+ghost use Rattle.hdt_tool.specs.declared.fault.ToolFault.TheVariants.{OutOfMemory, File};
+
+use hdt_wire::Fault;
+use std::alloc::{AllocError, AllocFailed, Global};
+use thiserror::Error;
+
+/// Why a command line gives no request.
+#[derive(Debug, Drop)]
+pub enum UsageFault {
+    /// The words are wrong; the text says how, without a line feed at its end.
+    Usage(String),
+    /// Help was asked for; the text is the help, without a line feed at its end.
+    Help(String),
+    /// Memory was refused.
+    OutOfMemory,
+}
+
+impl UsageFault {
+    ghost use Rattle.hdt_tool.specs.Asked.{SaysUsage};
+
+    /// The fault of a command line with this text.
+    pub fn text(alloc: Global, text: &str) -> UsageFault
+        ensures { SaysUsage text.now result }
+    {
+        match String::from_str(alloc, text) {
+            Ok(text) => UsageFault::Usage(text),
+            Err(_) => UsageFault::OutOfMemory,
+        }
+    }
+}
+
+impl<T: Drop> From<AllocFailed<T>> for UsageFault {
+    ghost from_gives = { λ _ e. e ≡ usage_memory };
+
+    fn from(_error: AllocFailed<T>) -> UsageFault {
+        UsageFault::OutOfMemory
+    }
+}
+
+impl From<AllocError> for UsageFault {
+    ghost from_gives = { λ _ e. e ≡ usage_memory };
+
+    fn from(_error: AllocError) -> UsageFault {
+        UsageFault::OutOfMemory
+    }
+}
+
+/// Why a command stopped. The program prints the lines of [`crate::lines::fault_line`], never the texts here.
+#[derive(Clone, Copy, Debug, PartialEq, Eq, Error)]
+pub enum ToolFault {
+    /// The input has a fault.
+    #[error("the file has a fault: {0}")]
+    File(Fault),
+    /// The reader failed, or the file could not be opened.
+    #[error("reading failed")]
+    Read,
+    /// The writer failed after it had taken so many bytes.
+    #[error("writing failed after {0} bytes")]
+    Write(u64),
+    /// Memory was refused.
+    #[error("out of memory")]
+    OutOfMemory,
+}
+
+impl From<Fault> for ToolFault {
+    ghost from_gives = { λ fault e. e ≡ File fault };
+
+    fn from(fault: Fault) -> ToolFault {
+        ToolFault::File(fault)
+    }
+}
+
+impl<T: Drop> From<AllocFailed<T>> for ToolFault {
+    ghost from_gives = { λ _ e. e ≡ OutOfMemory };
+
+    fn from(_error: AllocFailed<T>) -> ToolFault {
+        ToolFault::OutOfMemory
+    }
+}
+
+impl From<AllocError> for ToolFault {
+    ghost from_gives = { λ _ e. e ≡ OutOfMemory };
+
+    fn from(_error: AllocError) -> ToolFault {
+        ToolFault::OutOfMemory
+    }
+}
