@@ -112,13 +112,18 @@ fn head_of(
 }
 
 /// What `hdt head` answers on the bytes, and the sink after it.
-fn head_of_bytes(alloc: Global, bytes: &[u8]) -> Result<(Result<(), ToolFault>, Sink), Fail> {
+fn head_on(alloc: Global, bytes: &[u8], sink: Sink) -> Result<(Result<(), ToolFault>, Sink), Fail> {
     let source = Source {
         bytes,
         step: usize::MAX,
         fails: false,
     };
-    head_of(alloc, source, Sink::new(usize::MAX, usize::MAX))
+    head_of(alloc, source, sink)
+}
+
+/// The same with a sink that takes all.
+fn head_of_bytes(alloc: Global, bytes: &[u8]) -> Result<(Result<(), ToolFault>, Sink), Fail> {
+    head_on(alloc, bytes, Sink::new(usize::MAX, usize::MAX))
 }
 
 /// The parts, one after another.
@@ -199,21 +204,18 @@ fn a_failing_reader_is_told_and_nothing_is_written(rt: HostRuntime) -> Result<()
 fn a_failing_writer_is_told_with_what_it_took(rt: HostRuntime) -> Result<(), Fail> {
     let file = joined(rt.alloc(), &[BLOCKS, BODY])?;
     let text = joined(rt.alloc(), &[LINES, BODY])?;
-    for (step, calls, taken) in [
-        (1, 0, 0),
-        (1, 1, 1),
-        (1, 100, 100),
-        (1, 250, 250),
-        (7, 35, 245),
-        (250, 1, 250),
-        (0, 9, 0),
-    ] {
-        let source = Source {
-            bytes: &file,
-            step: usize::MAX,
-            fails: false,
-        };
-        let (answer, sink) = head_of(rt.alloc(), source, Sink::new(step, calls))?;
+    for calls in 0..text.len() {
+        let (answer, sink) = head_on(rt.alloc(), &file, Sink::new(1, calls))?;
+        assert_eq!(rt;
+            answer,
+            Err(ToolFault::Write(calls as u64)),
+            "{calls} calls of 1"
+        );
+        assert_eq!(rt; sink.len, calls);
+        assert!(rt; text.starts_with(sink.text()), "{calls} calls of 1");
+    }
+    for (step, calls, taken) in [(7, 35, 245), (250, 1, 250), (0, 9, 0)] {
+        let (answer, sink) = head_on(rt.alloc(), &file, Sink::new(step, calls))?;
         assert_eq!(rt;
             answer,
             Err(ToolFault::Write(taken)),
