@@ -1,2 +1,5 @@
 mod Digits
 mod Reading
+mod Texts
+mod Documents
+mod Spelled

@@ -1,19 +1,42 @@
-//! An HDT file (HDT format version 1), from its first byte on. So far its head: the global block, the header block
-//! and the header body.
+//! An HDT file (HDT format version 1), from its first byte on: the head (the global block, the header block and the
+//! header body), the dictionary, the triples, and nothing after them.
 //!
 //! The layer's promise: what is read is what the bytes spell, and only that is read; else the one fault that stands
 //! in the file is answered, with its place.
 //!
 //! ```text
-//! let head = read_head(bytes)?;
+//! let (head, dictionary, end) = read_dictionary(alloc, bytes)?;
 //! let base = property(head.global().properties(), b"BaseURI");
 //! let triples_about_the_file = head.body();
+//! let subjects = dictionary.count(Role::Subject);
+//!
+//! let graph = open(alloc, bytes)?;
+//! for (subject, predicate, object) in graph.find([Some(b"http://a/"), None, None], &mut Steps::new()) {
+//!     // each triple of that subject, in order
+//! }
 //! ```
 #![tactic(auto)]
 
 mod decimal;
+mod dictionary;
+mod fault;
+mod graph;
 mod head;
+mod search;
+#[cfg(test)]
+mod search_tests;
+mod spelling;
+mod tables;
 #[cfg(test)]
 mod tests;
+mod text;
+mod text_laws;
+#[cfg(test)]
+mod text_tests;
 
+pub use dictionary::{fronts_are_exact, read_dictionary};
+pub use fault::{DumpFault, OpenFault};
+pub use graph::{Graph, layouts_are_graphs, one_layout, open, verify};
 pub use head::{Head, one_head, read_head};
+pub use text::{graph_text, write_graph};
+pub use text_laws::{one_text, text_is_a_document};

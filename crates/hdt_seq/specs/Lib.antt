@@ -13,3 +13,5 @@ pub mod WidthLaws
 pub mod PackingLaws
 pub mod Marks
 pub mod MarksLaws
+pub mod ExactSequences
+pub mod ExactSequencesLaws

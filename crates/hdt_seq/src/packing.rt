@@ -3,7 +3,7 @@ ghost use Rattle.std.specs.Prelude.{◌≡◌, ◌<◌, ◌≤◌, ◌+◌, ◌*
 ghost use Rattle.byteorder.specs.Endian.{little_bytes};
 ghost use Rattle.hdt_wire.specs.Check.{code8, code32};
 ghost use Rattle.hdt_wire.specs.Control.{Keeps};
-ghost use Rattle.hdt_seq.specs.Little.{packed, packed_bits};
+ghost use Rattle.hdt_seq.specs.Little.{bit_number, packed, packed_bits};
 
 use byteorder::{ByteOrder, LittleEndian};
 use hdt_wire::{check8, check32};
@@ -63,6 +63,23 @@ pub fn append_entries(xs: &[u64], width: u8, out: &mut Vec<u8>) -> Result<(), Al
     append_bytes(rest.word, rest.filled.div_ceil(8), out)
 }
 
+/// Puts one more bit behind the rest, and appends the first eight bytes where they are full.
+fn append_bit(rest: &mut Rest, bit: bool, out: &mut Vec<u8>) -> Result<(), AllocError>
+    requires filled { rest.old.filled < 64 }
+    requires small { rest.old.word < 2 ^ rest.old.filled }
+    ensures word { OnOk result (rest.new.word ≡ (rest.old.word + bit_number bit * 2 ^ rest.old.filled) / 2 ^ (8 * (8 * ((rest.old.filled + 1) / 64)))) }
+    ensures rest { OnOk result (rest.new.filled ≡ (rest.old.filled + 1) % 64) }
+    ensures ok { OnOk result (out.new.items ≡ out.old.items ++ little_bytes (8 * ((rest.old.filled + 1) / 64)) (rest.old.word + bit_number bit * 2 ^ rest.old.filled)) }
+    ensures err { OnErr result (out.new.items ≡ out.old.items) }
+{
+    if rest.filled == 63 {
+        return append_entry(rest, u64::from(bit), 1, out);
+    }
+    rest.word += u128::from(bit) << rest.filled;
+    rest.filled += 1;
+    Ok(())
+}
+
 /// Appends the bytes that hold the bits. An `Err` may leave a beginning behind.
 pub fn append_bits(bits: &[bool], out: &mut Vec<u8>) -> Result<(), AllocError>
     ensures ok { OnOk result (out.new.items ≡ out.old.items ++ packed_bits bits.now) }
@@ -70,7 +87,7 @@ pub fn append_bits(bits: &[bool], out: &mut Vec<u8>) -> Result<(), AllocError>
 {
     let mut rest = Rest { word: 0, filled: 0 };
     for bit in bits {
-        append_entry(&mut rest, u64::from(*bit), 1, out)?;
+        append_bit(&mut rest, *bit, out)?;
     }
     append_bytes(rest.word, rest.filled.div_ceil(8), out)
 }

@@ -1,5 +1,5 @@
 use super::*;
-use hdt_wire::{Fault, Reason, check8, check32, put_vbyte};
+use hdt_wire::{Fault, Reason, check8, check32, put_vbyte, vbyte_len};
 use std::process::Abort;
 use std::test::Fail;
 
@@ -70,7 +70,7 @@ fn between(bytes: &[u8], start: usize, end: usize) -> &[u8] {
     bytes.get(start..end).unwrap_or(bytes)
 }
 
-/// Reads numbers, of which there are less than 128, behind what stands before, and compares them and their places.
+/// Reads numbers behind what stands before, and compares them and their places.
 fn compare_numbers(
     rt: &impl Abort,
     bytes: &[u8],
@@ -80,6 +80,8 @@ fn compare_numbers(
 ) -> Result<(), Fail> {
     let (numbers, stop) = Numbers::read(bytes, BEFORE.len()).ok().ok_or("refused")?;
     let count = entries.len() as u64;
+    // The type and the width take a byte each, and so does the code behind the count.
+    let start = vbyte_len(count).wrapping_add(BEFORE.len() + 3) as u64;
     assert_eq!(rt; stop, end, "end of width {width}");
     assert_eq!(rt; numbers.len(), count, "length of width {width}");
     assert_eq!(rt; numbers.count_place(), 5, "count of width {width}");
@@ -89,7 +91,7 @@ fn compare_numbers(
         assert_eq!(rt; Some(numbers.get(i)), entry, "entry {i} of width {width}");
         assert_eq!(rt;
             numbers.entry_place(i),
-            7 + bits / 8,
+            start.wrapping_add(bits / 8),
             "place {i} of width {width}"
         );
     }
@@ -203,10 +205,10 @@ fn sequence(rt: &HostRuntime, width: u8, entries: &[u64]) -> Result<Vec<u8>, Fai
 }
 
 /// Entries of a width: the greatest one, then ones whose digits are mixed.
-fn mixed(rt: &HostRuntime, width: u8) -> Result<Vec<u64>, Fail> {
+fn mixed(rt: &HostRuntime, width: u8, count: u32) -> Result<Vec<u64>, Fail> {
     let mut entries = Vec::new(rt.alloc());
     let mut digits = u64::MAX;
-    for _ in 0..41_u32 {
+    for _ in 0..count {
         entries.push(
             digits
                 .checked_shr(64_u32.wrapping_sub(u32::from(width)))
@@ -222,7 +224,7 @@ fn mixed(rt: &HostRuntime, width: u8) -> Result<Vec<u64>, Fail> {
 #[test]
 fn reads_every_kind_of_width(rt: HostRuntime) -> Result<(), Fail> {
     for width in [0, 1, 7, 8, 33, 63, 64] {
-        let entries = mixed(&rt, width)?;
+        let entries = mixed(&rt, width, 41)?;
         let bytes = sequence(&rt, width, &entries)?;
         compare_numbers(&rt, &bytes, u64::from(width), &entries, bytes.len())?;
         let mut written = BEFORE.to_vec(rt.alloc())?;
@@ -235,7 +237,7 @@ fn reads_every_kind_of_width(rt: HostRuntime) -> Result<(), Fail> {
 
 #[test]
 fn reads_bits_over_many_bytes(rt: HostRuntime) -> Result<(), Fail> {
-    let entries = mixed(&rt, 1)?;
+    let entries = mixed(&rt, 1, 41)?;
     let packed = pack(&rt, 1, &entries)?;
     let mut bytes = [0x01, 0x80 + 41].to_vec(rt.alloc())?;
     bytes.push(check8(&bytes))?;
@@ -250,6 +252,46 @@ fn reads_bits_over_many_bytes(rt: HostRuntime) -> Result<(), Fail> {
             "bit {i}"
         );
         assert_eq!(rt; bits.entry_place(i), 3 + i / 8, "place {i}");
+    }
+    Ok(())
+}
+
+#[test]
+fn writes_and_reads_many_numbers(rt: HostRuntime) -> Result<(), Fail> {
+    for width in [1, 23, 64] {
+        let entries = mixed(&rt, width, 100_000)?;
+        let mut written = BEFORE.to_vec(rt.alloc())?;
+        put_numbers(&entries, &mut written)?;
+        // As many bits as whole bytes hold, so that no bit is left over.
+        let packed = sequence(&rt, width, &entries)?;
+        assert!(rt; written == packed, "width {width}");
+        compare_numbers(&rt, &written, u64::from(width), &entries, written.len())?;
+    }
+    Ok(())
+}
+
+#[test]
+fn writes_and_reads_a_million_bits(rt: HostRuntime) -> Result<(), Fail> {
+    let entries = mixed(&rt, 1, 1_000_000)?;
+    let mut marks = Vec::new(rt.alloc());
+    for entry in &entries {
+        marks.push(*entry == 1)?;
+    }
+    let mut written = Vec::new(rt.alloc());
+    assert!(rt; !marks.is_empty());
+    put_bits(&marks, &mut written)?;
+    // A type byte, three bytes of the count, its code, the marks, and their code.
+    assert_eq!(rt; written.len(), 1 + 3 + 1 + 125_000 + 4);
+    let packed = pack(&rt, 1, &entries)?;
+    assert!(rt; between(&written, 5, 125_005) == packed.as_slice());
+    let (bits, _) = Bits::read(&written, 0).ok().ok_or("refused")?;
+    assert_eq!(rt; bits.len(), 1_000_000);
+    for i in 0..bits.len() {
+        assert_eq!(rt;
+            Some(bits.get(i)),
+            marks.get(i as usize).copied(),
+            "bit {i}"
+        );
     }
     Ok(())
 }

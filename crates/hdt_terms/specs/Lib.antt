@@ -5,8 +5,15 @@ pub mod Tags
 pub mod Terms
 pub mod Strings
 pub mod Spelling
+pub mod Lanes
 pub mod Writing
 pub mod Reading
+pub mod Appending
 pub mod Faults
 pub mod Stands
 pub mod Table
+pub mod LineReading
+pub mod Lines
+pub mod Filling
+pub mod Taking
+pub mod Documents

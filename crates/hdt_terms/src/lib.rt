@@ -11,16 +11,33 @@
 //! put_term(&term, &mut line)?; // the same here, since nothing in it is escaped
 //! ```
 //!
-//! In reading order: `term` and `text`, the types; `fault`, what is wrong with a text; `chars`, the classes of
-//! characters; the tokens, `pieces` (the inside of IRIs and strings), `iri`, `label`, `tag` and `literal`; `parse`, one
-//! term; `strings`, dictionary strings; `put`, writing; `laws`, what holds of all terms.
+//! [`parse_string`] reads a text as [`parse_term`] does and appends its dictionary string, with no term made.
+//!
+//! [`Lines`] gives the triples of a document, line by line, over any reader in any pieces: [`Lines::next_triple`] as terms,
+//! which is simple, and [`Lines::next_strings`] as dictionary strings in buffers that are handed in, which is fast.
+//! [`read_document`] gives all triples, and says of whole inputs what `Lines` says of each call: they are the document's,
+//! or the fault is the one that stands in it.
+//!
+//! In reading order: `term`, `text` and `triple`, the types; `fault`, what is wrong with a text; `chars`, the classes of
+//! characters; `lanes`, runs of bytes 16 at a time, and `encoding`, UTF-8; the tokens, `pieces` (the inside of IRIs and
+//! strings), `iri`, `label`, `tag` and `literal`; `dictionary`, tokens as dictionary strings; `parse`, one term; `line`, one
+//! line; `buffer`, `filling` and `lines`, a reader's lines; `document`, all of them; `strings`, dictionary strings; `put`, writing;
+//! `laws`, what holds of all terms and lines.
 #![tactic(auto)]
 
+mod buffer;
 mod chars;
+mod dictionary;
+mod document;
+mod encoding;
 mod fault;
+mod filling;
 mod iri;
 mod label;
+mod lanes;
 mod laws;
+mod line;
+mod lines;
 mod literal;
 mod parse;
 mod pieces;
@@ -29,18 +46,24 @@ mod strings;
 mod tag;
 mod term;
 mod text;
+mod triple;
 
-pub use fault::{LineReason, StringFault, TermFault};
+pub use document::read_document;
+pub use fault::{LineFault, LineReason, StringFault, TermFault};
 pub use iri::is_iri;
 pub use laws::{
-    longest_label, longest_tag, one_spelled, one_string, strings_are_texts, table_of_faults,
-    term_or_fault,
+    line_or_fault, longest_label, longest_tag, one_spelled, one_string, run_of_lines,
+    strings_are_texts, table_of_faults, term_or_fault, written_within_a_line,
 };
-pub use parse::parse_term;
+pub use lines::Lines;
+pub use parse::{parse_string, parse_term};
 pub use put::put_term;
 pub use strings::{string_term, term_string};
 pub use term::{Suffix, Term};
 pub use text::Text;
+pub use triple::Triple;
 
+#[cfg(test)]
+mod line_tests;
 #[cfg(test)]
 mod tests;

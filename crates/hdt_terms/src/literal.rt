@@ -1,11 +1,13 @@
 //! Literals.
-ghost use Rattle.std.specs.Prelude.{◌≡◌, length};
+ghost use Rattle.std.specs.Prelude.{◌≡◌, length, IsUtf8};
+ghost use Rattle.std.specs.Str.{bytes_eq};
+ghost use Rattle.hdt_terms.specs.Terms.{xsd_string};
 ghost use Rattle.hdt_terms.specs.Reading.{Gives, after_blanks, datatype_of, datatype_at, suffix_at, literal_at};
 
 use crate::chars::is_blank;
 use crate::fault::{LineReason, ReadError, refuse};
 use crate::iri::read_iri;
-use crate::pieces::{Token, inside};
+use crate::pieces::{Token, read_inside};
 use crate::tag::read_tag;
 use crate::term::{Suffix, Term};
 use crate::text::Text;
@@ -16,7 +18,8 @@ const XSD_STRING: &[u8] = b"http://www.w3.org/2001/XMLSchema#string";
 
 /// What follows the tabs and spaces.
 pub fn after_blanks(bytes: &[u8]) -> &[u8]
-    ensures { result.now ≡ after_blanks bytes.now }
+    ensures value { result.now ≡ after_blanks bytes.now }
+    ensures utf8 { IsUtf8 bytes.now → IsUtf8 result.now }
 {
     let mut rest = bytes;
     'blanks: while let Some((first, tail)) = rest.split_first() {
@@ -28,11 +31,18 @@ pub fn after_blanks(bytes: &[u8]) -> &[u8]
     rest
 }
 
+/// Whether the IRI is XMLSchema's string.
+pub fn is_xsd_string(iri: &[u8]) -> bool
+    ensures { result ≡ bytes_eq iri.now xsd_string }
+{
+    iri == XSD_STRING
+}
+
 /// The suffix for this datatype: none for XMLSchema's string.
 fn datatype_of(iri: Vec<u8>) -> Suffix
     ensures { result ≡ datatype_of iri.items }
 {
-    if iri.as_slice() == XSD_STRING {
+    if is_xsd_string(&iri) {
         Suffix::Plain
     } else {
         Suffix::Datatype(Text::new(iri))
@@ -72,7 +82,7 @@ pub fn read_literal(alloc: Global, bytes: &[u8]) -> Result<(Term, &[u8]), ReadEr
     let [b'"', rest @ ..] = bytes else {
         return refuse(LineReason::Syntax, bytes.len());
     };
-    let (text, rest) = inside(alloc, Token::Quoted, rest)?;
+    let (text, rest) = read_inside(alloc, Token::Quoted, rest)?;
     let (suffix, rest) = read_suffix(alloc, rest)?;
     Ok((Term::Literal(Text::new(text), suffix), rest))
 }

@@ -1,12 +1,16 @@
 //! Reading one term.
-ghost use Rattle.std.specs.Prelude.{◌≡◌, ◌⊎◌, Ok, IfOk, IfErr, OnOk, IsUtf8};
+ghost use Rattle.std.specs.Prelude.{◌≡◌, ◌⊎◌, Ok, IfOk, IfErr, OnOk, OnErr, IsUtf8};
 ghost use Rattle.hdt_terms.specs.declared.term.Term.{Term};
-ghost use Rattle.hdt_terms.specs.Faults.{Answers, out_of_memory, term_in};
+ghost use Rattle.hdt_terms.specs.Faults.{Answers, Puts, out_of_memory, term_in};
 ghost use Rattle.hdt_terms.specs.Reading.{Gives, term_at};
 ghost use Rattle.hdt_terms.specs.Spelling.{Spelled};
 ghost use Rattle.hdt_terms.specs.Table.{FaultIn};
 ghost use Rattle.hdt_terms.specs.Terms.{IsGrammarTerm};
+ghost use Rattle.hdt_terms.specs.Appending.{SpellsString};
+ghost use Rattle.hdt_terms.specs.Writing.{Extends};
 
+use crate::dictionary::append_term;
+use crate::encoding::check_utf8;
 use crate::fault::{LineReason, ReadError, TermFault, fault_of, refuse};
 use crate::iri::read_iri;
 use crate::label::read_blank;
@@ -17,7 +21,7 @@ use std::alloc::Global;
 
 /// The term that begins here, and the bytes after it.
 #[tactic(auto, unfolding(crate::specs::Reading::term_at))]
-fn read_term(alloc: Global, bytes: &[u8]) -> Result<(Term, &[u8]), ReadError>
+pub fn read_term(alloc: Global, bytes: &[u8]) -> Result<(Term, &[u8]), ReadError>
     requires { IsUtf8 bytes.now }
     ensures { Gives (λ x. (x.0, x.1.now)) result (term_at bytes.now) }
 {
@@ -43,12 +47,7 @@ fn read_whole(alloc: Global, text: &[u8]) -> Result<Term, TermFault>
     ensures reads { Answers result (term_in text.now) }
     ensures utf8 { OnOk result (IsUtf8 text.now) }
 {
-    if let Err(error) = simdutf8::compat::from_utf8(text) {
-        return Err(TermFault {
-            column: error.valid_up_to() as u64 + 1,
-            reason: LineReason::NotUtf8,
-        });
-    }
+    check_utf8(text)?;
     match read_term(alloc, text) {
         Ok((term, [])) => Ok(term),
         Ok((_, rest)) => Err(TermFault {
@@ -78,4 +77,48 @@ pub fn parse_term(alloc: Global, text: &[u8]) -> Result<Term, TermFault>
     ensures exact { Answers result (term_in text.now) }
 {
     read_whole(alloc, text)
+}
+
+/// Appends the string of the term that the text spells, or answers the fault that stands in the text; after a fault
+/// `out` may have grown.
+#[tactic(auto, unfolding(crate::specs::Faults::term_in, crate::specs::Faults::checked))]
+fn append_whole(text: &[u8], out: &mut Vec<u8>) -> Result<(), TermFault>
+    ensures reads { Puts text.now out.old.items out.new.items result }
+    ensures utf8 { OnOk result (IsUtf8 text.now) }
+    ensures kept { Extends out.old.items out.new.items }
+{
+    check_utf8(text)?;
+    match append_term(text, out) {
+        Ok([]) => Ok(()),
+        Ok(rest) => Err(TermFault {
+            column: text.len().saturating_sub(rest.len()) as u64 + 1,
+            reason: LineReason::Syntax,
+        }),
+        Err(error) => Err(fault_of(text.len(), error)),
+    }
+}
+
+/// Appends the dictionary string of the term that the text spells, with no term made on the way: what [`parse_term`] and
+/// then [`crate::term_string`] give.
+///
+/// # Errors
+///
+/// As [`parse_term`], and then `out` is as it was.
+pub fn parse_string(text: &[u8], out: &mut Vec<u8>) -> Result<(), TermFault>
+    // What is appended is the string of a term of the grammar that the text spells.
+    ensures found { OnOk result (SpellsString text.now out.old.items out.new.items) }
+    // A fault is the one of the table of faults, unless memory ran out.
+    ensures fault { IfErr result (λ fault. (fault ≡ out_of_memory) ⊎ FaultIn text.now fault) }
+    // The string of the term that the text spells, or the fault that stands in it.
+    ensures exact { Puts text.now out.old.items out.new.items result }
+    ensures err { OnErr result (out.new.items ≡ out.old.items) }
+{
+    let len = out.len();
+    match append_whole(text, out) {
+        Ok(()) => Ok(()),
+        Err(fault) => {
+            out.truncate(len);
+            Err(fault)
+        }
+    }
 }

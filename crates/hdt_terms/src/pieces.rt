@@ -1,13 +1,17 @@
 //! The inside of an IRI or a string, its escapes resolved.
-ghost use Rattle.std.specs.Prelude.{◌≡◌, ◌≤◌, ◌+◌, ◌^◌, ◌<◌, ◌∷◌, length, IfSome, IfOk};
+ghost use Rattle.std.specs.Prelude.{◌≡◌, ◌≤◌, ◌+◌, ◌^◌, ◌<◌, ◌∷◌, length, false, ◌++◌, encode_utf8, IfSome, IfOk, IfErr, OnOk, OnErr};
 ghost use Rattle.std.specs.Prelude.{ℕ, true, slice_index};
 ghost use Rattle.hdt_terms.specs.Chars.{echar};
 ghost use Rattle.hdt_terms.specs.Spelling.{is_raw};
-ghost use Rattle.hdt_terms.specs.Reading.{Gives, escaped, uchar, echar_at, iri_item, string_item, item, skip_of, inside};
+ghost use Rattle.hdt_terms.specs.Reading.{Gives, escaped, uchar, echar_at, iri_item, string_item, item, skip_of, inside, with_front};
+ghost use Rattle.hdt_terms.specs.Appending.{Appends, itself};
+ghost use Rattle.hdt_terms.specs.Writing.{Extends};
+ghost use Rattle.hdt_terms.specs.declared.fault.ReadError.TheVariants.{Memory};
 
 use crate::chars::{hex_value, is_iri_char, is_string_char};
 use crate::fault::{LineReason, ReadError, refuse};
-use std::alloc::Global;
+use crate::lanes::{Class, run_len};
+use std::alloc::{AllocError, Global};
 
 /// A token that has an inside of pieces: production IRIREF or STRING_LITERAL_QUOTE.
 #[derive(Clone, Copy, Debug, PartialEq, Eq)]
@@ -131,7 +135,7 @@ fn next_item(token: Token, first: u8, rest: &[u8]) -> Result<Item, ReadError>
 }
 
 /// Whether a byte stands in a token as it is.
-fn is_raw(token: Token, byte: u8) -> bool
+pub fn is_raw(token: Token, byte: u8) -> bool
     ensures { result ≡ is_raw token byte }
 {
     match token {
@@ -141,37 +145,65 @@ fn is_raw(token: Token, byte: u8) -> bool
 }
 
 /// How many bytes at the front stand in a token as they are.
-fn plain_len(token: Token, bytes: &[u8]) -> usize
+pub fn plain_len(token: Token, bytes: &[u8]) -> usize
     ensures within { result ≤ length bytes.now }
     ensures plain { (k : ℕ) → k < result → is_raw token (slice_index bytes.now k) ≡ true }
+    // The next byte does not.
+    ensures longest { result < length bytes.now → is_raw token (slice_index bytes.now result) ≡ false }
 {
-    bytes
-        .iter()
-        .position(|byte| !is_raw(token, *byte))
-        .unwrap_or(bytes.len())
+    run_len(Class::Inside(token), bytes)
 }
 
-/// What stands inside a token, its escapes resolved, and the bytes after its end.
-pub fn inside(alloc: Global, token: Token, bytes: &[u8]) -> Result<(Vec<u8>, &[u8]), ReadError>
-    ensures { Gives (λ x. (x.0.items, x.1.now)) result (inside token 0 bytes.now) }
+/// Appends the bytes at the front that stand in the token as they are, and answers what follows them: what the inside
+/// reads behind `out` stays the same.
+#[inline(always)]
+fn append_plain<'a>(token: Token, bytes: &'a [u8], out: &mut Vec<u8>) -> Result<&'a [u8], ReadError>
+    ensures goes_on { IfOk result (λ rest. with_front out.new.items (inside token 0 rest.now) ≡ with_front out.old.items (inside token 0 bytes.now)) }
+    ensures within { IfOk result (λ rest. length rest.now ≤ length bytes.now) }
+    ensures kept { Extends out.old.items out.new.items }
+    ensures memory { IfErr result (λ e. e ≡ Memory) }
 {
-    let mut value = Vec::new(alloc);
-    let mut rest = bytes;
+    let (plain, rest) = bytes.split_at(plain_len(token, bytes));
+    out.extend_from_slice(plain)?;
+    Ok(rest)
+}
+
+/// Appends the UTF-8 of the character.
+fn append_char(c: char, out: &mut Vec<u8>) -> Result<(), AllocError>
+    ensures ok { OnOk result (out.new.items ≡ out.old.items ++ encode_utf8 c) }
+    ensures err { OnErr result (out.new.items ≡ out.old.items) }
+{
+    let mut buffer = [0; 4];
+    out.extend_from_slice(c.encode_utf8(&mut buffer).as_bytes())
+}
+
+/// Appends what stands inside a token, its escapes resolved, and answers the bytes after its end.
+pub fn inside<'a>(token: Token, bytes: &'a [u8], out: &mut Vec<u8>) -> Result<&'a [u8], ReadError>
+    ensures reads { Appends itself out.old.items out.new.items (λ rest. rest.now) result (inside token 0 bytes.now) }
+    ensures kept { Extends out.old.items out.new.items }
+{
+    let mut rest = append_plain(token, bytes, out)?;
     'items: while let Some((first, tail)) = rest.split_first() {
         match next_item(token, *first, tail)? {
-            Item::End => return Ok((value, tail)),
+            Item::End => return Ok(tail),
             Item::Byte(b) => {
-                value.push(b)?;
-                let (plain, after) = tail.split_at(plain_len(token, tail));
-                value.extend_from_slice(plain)?;
-                rest = after;
+                out.push(b)?;
+                rest = append_plain(token, tail, out)?;
             }
             Item::Char(c, len) => {
-                let mut buffer = [0; 4];
-                value.extend_from_slice(c.encode_utf8(&mut buffer).as_bytes())?;
-                rest = tail.split_at(len).1;
+                append_char(c, out)?;
+                rest = append_plain(token, tail.split_at(len).1, out)?;
             }
         }
     }
     refuse(LineReason::Syntax, 0)
+}
+
+/// What stands inside a token, its escapes resolved, and the bytes after its end.
+pub fn read_inside(alloc: Global, token: Token, bytes: &[u8]) -> Result<(Vec<u8>, &[u8]), ReadError>
+    ensures { Gives (λ x. (x.0.items, x.1.now)) result (inside token 0 bytes.now) }
+{
+    let mut value = Vec::new(alloc);
+    let rest = inside(token, bytes, &mut value)?;
+    Ok((value, rest))
 }

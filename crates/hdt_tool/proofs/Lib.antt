@@ -1,2 +1,7 @@
-mod Writes
 mod Refused
+mod Stated
+mod Listing
+mod Told
+mod Triples
+pub mod Statuses
+mod Grown

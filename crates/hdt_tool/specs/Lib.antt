@@ -1,5 +1,11 @@
+pub mod Escaping
 pub mod HeadText
+pub mod StringsText
+pub mod TriplesText
+pub mod Verdict
 pub mod Answer
+pub mod Faults
 pub mod Lines
 pub mod Table
 pub mod Asked
+pub mod Status

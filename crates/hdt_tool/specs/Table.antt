@@ -1,18 +1,86 @@
--- The command line of `hdt`, as `clap` sees it: one level of commands, each with its words.
-use Rattle.std.specs.Prelude.{true, codes}
+-- The command line of `hdt`, as `clap` sees it: one level of commands, each with its words and flags.
+use Rattle.std.specs.Prelude.{◌≡◌, List, [], ◌∷◌, Some, true, codes, map}
+use Rattle.std.specs.Borrow.{Bor}
 use Rattle.clap.specs.Words.{App, Rule, Text, new_app, new_rule, with_rule, with_subcommand}
+use Rattle.clap.specs.declared.builder.action.ArgAction.TheVariants.{SetTrue}
+use Rattle.clap.specs.declared.builder.value_parser.ValueParser.TheVariants as parser
+use Rattle.hdt_dict.specs.declared.role.Role.{Role}
+use Rattle.hdt_dict.specs.declared.role.Role.TheVariants.{Subject, Predicate, Object}
 
 -- a word that has to be given
 abbrev pub word_named : Text → Rule
 word_named id = record (new_rule id) { required = true }
 
+-- `--name`, with no value
+abbrev pub flag_named : Text → Rule
+flag_named id = record (new_rule id) { long = Some id; action = Some SetTrue }
+
+-- the words for the roles
+abbrev pub role_name : Role → Text
+role_name Subject = codes "subject"
+role_name Predicate = codes "predicate"
+role_name Object = codes "object"
+
+-- a list of words that is lent to `clap`
+abbrev pub Names : Type 0
+Names = Bor (List (Bor Text))
+
+-- the words for the roles, lent
+abbrev pub AreRoles : Names → Type 0
+AreRoles names = map (λ name. name.now) names.now ≡ role_name Subject ∷ role_name Predicate ∷ role_name Object ∷ []
+
+-- ROLE: one of the words for the roles
+abbrev pub role_word : Names → Rule
+role_word names = record (word_named (codes "ROLE")) { parser = Some (parser.Names names) }
+
+-- N: a number below 2^64
+abbrev pub number_word : Rule
+number_word = record (word_named (codes "N")) { parser = Some (parser.Unsigned 0 18446744073709551615) }
+
+-- a command on a file
+abbrev pub file_command : Text → App
+file_command name = with_rule (new_app name) (word_named (codes "FILE"))
+
 -- `head FILE`
 abbrev pub head_command : App
-head_command = with_rule (new_app (codes "head")) (word_named (codes "FILE"))
+head_command = file_command (codes "head")
+
+-- `verify FILE`
+abbrev pub verify_command : App
+verify_command = file_command (codes "verify")
+
+-- `strings FILE ROLE`
+abbrev pub strings_command : Names → App
+strings_command names = with_rule (file_command (codes "strings")) (role_word names)
+
+-- `string FILE ROLE N`
+abbrev pub string_command : Names → App
+string_command names = with_rule (with_rule (file_command (codes "string")) (role_word names)) number_word
+
+-- `number FILE ROLE TERM`, with `--raw`
+abbrev pub number_command : Names → App
+number_command names =
+    with_rule (with_rule (with_rule (file_command (codes "number")) (role_word names)) (word_named (codes "TERM"))) (flag_named (codes "raw"))
+
+-- `find FILE S P O`, with `--raw` and `--numbers`
+abbrev pub find_command : App
+find_command =
+    with_rule (with_rule (with_rule (with_rule (with_rule (file_command (codes "find")) (word_named (codes "S"))) (word_named (codes "P")))
+    (word_named (codes "O"))) (flag_named (codes "raw"))) (flag_named (codes "numbers"))
+
+-- `dump FILE`
+abbrev pub dump_command : App
+dump_command = file_command (codes "dump")
 
 -- a command has to be named
 abbrev pub empty_table : App
 empty_table = let app = new_app (codes "hdt") in record app { top = record app.top { subcommand_required = true } }
 
-abbrev pub table : App
-table = with_subcommand empty_table head_command.top
+-- the commands on a whole file, and on the strings of a role
+abbrev pub first_commands : Names → App
+first_commands names =
+    with_subcommand (with_subcommand (with_subcommand (with_subcommand empty_table head_command.top) verify_command.top) (strings_command names).top)
+    (string_command names).top
+
+abbrev pub table : Names → App
+table names = with_subcommand (with_subcommand (with_subcommand (first_commands names) (number_command names).top) find_command.top) dump_command.top

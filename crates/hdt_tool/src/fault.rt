@@ -3,9 +3,41 @@ ghost use Rattle.std.specs.Prelude.{◌≡◌};
 ghost use Rattle.hdt_tool.specs.declared.fault.UsageFault.TheVariants.{OutOfMemory as usage_memory};
 ghost use Rattle.hdt_tool.specs.declared.fault.ToolFault.TheVariants.{OutOfMemory, File};
 
+use hdt_dict::Role;
+use hdt_file::{DumpFault, OpenFault};
+use hdt_terms::TermFault;
 use hdt_wire::Fault;
 use std::alloc::{AllocError, AllocFailed, Global};
 use thiserror::Error;
+
+/// A word of a command line that is an N-Triples term.
+#[derive(Clone, Copy, Debug, PartialEq, Eq)]
+pub enum Word {
+    /// The TERM of `number`.
+    Term,
+    /// The S of `find`.
+    Subject,
+    /// The P of `find`.
+    Predicate,
+    /// The O of `find`.
+    Object,
+}
+
+impl Word {
+    ghost use Rattle.hdt_tool.specs.Lines.{word_name};
+
+    /// The word's name in the help.
+    pub fn name(self) -> &'static str
+        ensures { result.now ≡ word_name self }
+    {
+        match self {
+            Word::Term => "TERM",
+            Word::Subject => "S",
+            Word::Predicate => "P",
+            Word::Object => "O",
+        }
+    }
+}
 
 /// Why a command line gives no request.
 #[derive(Debug, Drop)]
@@ -14,6 +46,13 @@ pub enum UsageFault {
     Usage(String),
     /// Help was asked for; the text is the help, without a line feed at its end.
     Help(String),
+    /// A word is no N-Triples term.
+    Word {
+        /// Which word.
+        word: Word,
+        /// What is wrong with it, and in which column of it; never want of memory.
+        fault: TermFault,
+    },
     /// Memory was refused.
     OutOfMemory,
 }
@@ -54,6 +93,15 @@ pub enum ToolFault {
     /// The input has a fault.
     #[error("the file has a fault: {0}")]
     File(Fault),
+    /// The role has no such string.
+    #[error("no such term")]
+    NoSuchTerm,
+    /// The role has no string with such a number.
+    #[error("no such number")]
+    NoSuchNumber,
+    /// The string of this role with this number, from 1, is no term of the role, so the triple has no N-Triples line.
+    #[error("a string that is not a term: {0:?} {1}")]
+    NotATerm(Role, u64),
     /// The reader failed, or the file could not be opened.
     #[error("reading failed")]
     Read,
@@ -70,6 +118,33 @@ impl From<Fault> for ToolFault {
 
     fn from(fault: Fault) -> ToolFault {
         ToolFault::File(fault)
+    }
+}
+
+impl From<OpenFault> for ToolFault {
+    ghost use Rattle.hdt_tool.specs.Faults.{tool_fault_of};
+
+    ghost from_gives = { λ fault e. e ≡ tool_fault_of fault };
+
+    fn from(fault: OpenFault) -> ToolFault {
+        match fault {
+            OpenFault::Fault(fault) => ToolFault::File(fault),
+            OpenFault::OutOfMemory => ToolFault::OutOfMemory,
+        }
+    }
+}
+
+impl From<DumpFault> for ToolFault {
+    ghost use Rattle.hdt_tool.specs.Faults.{dump_fault_of};
+
+    ghost from_gives = { λ fault e. e ≡ dump_fault_of fault };
+
+    fn from(fault: DumpFault) -> ToolFault {
+        match fault {
+            DumpFault::NotATerm(role, number) => ToolFault::NotATerm(role, number),
+            DumpFault::Write(count) => ToolFault::Write(count),
+            DumpFault::OutOfMemory => ToolFault::OutOfMemory,
+        }
     }
 }
 

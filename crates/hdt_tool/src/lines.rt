@@ -1,9 +1,12 @@
 //! The statuses of the program, and the lines that it prints to the standard error.
 ghost use Rattle.std.specs.Prelude.{◌≡◌, ◌++◌, IfOk, string_bytes};
 ghost use Rattle.std.specs.Fmt.{decimal};
-ghost use Rattle.hdt_tool.specs.Lines.{fault_status, fault_line, usage_status, usage_line};
+ghost use Rattle.hdt_tool.specs.Lines.{fault_status, fault_line, usage_status, usage_line, word_line};
+ghost use Rattle.hdt_tool.specs.Table.{role_name};
 
-use crate::fault::{ToolFault, UsageFault};
+use crate::fault::{ToolFault, UsageFault, Word};
+use hdt_dict::Role;
+use hdt_terms::TermFault;
 use hdt_wire::Fault;
 use std::alloc::{AllocError, Global};
 
@@ -17,6 +20,36 @@ fn file_line(alloc: Global, fault: Fault) -> Result<String, AllocError>
     format!(in alloc; "hdt: fault {number} {name} at {place}")
 }
 
+/// The word for a role.
+fn role_name(role: Role) -> &'static str
+    ensures { result.now ≡ role_name role }
+{
+    match role {
+        Role::Subject => "subject",
+        Role::Predicate => "predicate",
+        Role::Object => "object",
+    }
+}
+
+/// The line of a string that is no term.
+fn string_line(alloc: Global, role: Role, number: u64) -> Result<String, AllocError>
+    ensures { IfOk result (λ line. string_bytes line ≡ fault_line (ToolFault.NotATerm role number)) }
+{
+    let role = role_name(role);
+    format!(in alloc; "hdt: {role} {number} is not a term")
+}
+
+/// The line of a word that is no term.
+fn word_line(alloc: Global, word: Word, fault: TermFault) -> Result<String, AllocError>
+    ensures { IfOk result (λ line. string_bytes line ≡ word_line word fault) }
+{
+    let word = word.name();
+    let column = fault.column;
+    let number = fault.reason.number();
+    let name = fault.reason.name();
+    format!(in alloc; "hdt: {word} column {column}: {number} {name}")
+}
+
 /// The status of a fault of a command, and its line, without a line feed.
 pub fn fault_line(alloc: Global, fault: &ToolFault) -> Result<(u8, String), AllocError>
     ensures status { IfOk result (λ said. said.0 ≡ fault_status fault.now) }
@@ -24,6 +57,9 @@ pub fn fault_line(alloc: Global, fault: &ToolFault) -> Result<(u8, String), Allo
 {
     match fault {
         ToolFault::File(fault) => Ok((1, file_line(alloc, *fault)?)),
+        ToolFault::NoSuchTerm => Ok((1, String::from_str(alloc, "hdt: no such term")?)),
+        ToolFault::NoSuchNumber => Ok((1, String::from_str(alloc, "hdt: no such number")?)),
+        ToolFault::NotATerm(role, number) => Ok((1, string_line(alloc, *role, *number)?)),
         ToolFault::Read => Ok((3, String::from_str(alloc, "hdt: reading failed")?)),
         ToolFault::Write(_) => Ok((3, String::from_str(alloc, "hdt: writing failed")?)),
         ToolFault::OutOfMemory => Ok((4, String::from_str(alloc, "hdt: out of memory")?)),
@@ -38,6 +74,7 @@ pub fn usage_line(alloc: Global, fault: &UsageFault) -> Result<(u8, String), All
     match fault {
         UsageFault::Usage(text) => Ok((2, text.clone()?)),
         UsageFault::Help(text) => Ok((0, text.clone()?)),
+        UsageFault::Word { word, fault } => Ok((2, word_line(alloc, *word, *fault)?)),
         UsageFault::OutOfMemory => Ok((4, String::from_str(alloc, "hdt: out of memory")?)),
     }
 }

@@ -10,16 +10,34 @@
 //! | 4 | out of memory |
 #![tactic(auto)]
 
-ghost use Rattle.std.specs.Prelude.{◌≡◌, ◌⊎◌, IfErr, MatchResult};
+ghost use Rattle.std.specs.Prelude.{◌≡◌, ◌≢◌, ◌⊎◌, ◌+◌, ℕ, Ok, Err, IfOk, IfErr, OnOk, MatchResult, map, string_bytes};
+ghost use Rattle.std.specs.IoError.{error_kind};
+ghost use Rattle.std.specs.Vec.Iter.{into_iter_items};
+ghost use Rattle.hdt_wire.specs.Counted.{inner, failures};
+ghost use Rattle.hdt_tool.specs.Answer.{Faults, Performs, Reports, Stops};
+ghost use Rattle.hdt_tool.specs.Asked.{IsRefused, SaysUsage, Wants};
+ghost use Rattle.hdt_tool.specs.Lines.{fault_status};
+ghost use Rattle.hdt_tool.specs.Status.{Ends, IsCommandStatus, IsRefusalStatus};
 
+mod answer;
+mod commands;
+mod entries;
+mod escaping;
 mod fault;
+#[cfg(test)]
+mod find_tests;
 mod lines;
 mod printed_head;
+mod printed_strings;
+mod printed_triples;
+mod printed_verdict;
 mod request;
 mod run;
 #[cfg(test)]
 mod tests;
 mod words;
+#[cfg(test)]
+mod words_tests;
 
 use crate::fault::{ToolFault, UsageFault};
 use crate::lines::{fault_line, usage_line};
@@ -28,9 +46,10 @@ use crate::run::run;
 use crate::words::parse_words;
 use hdt_wire::Counted;
 use std::alloc::{AllocError, Global};
+use std::env::{self, Args};
 use std::fs::File;
+use std::io::{self, ErrorKind, Read, Write};
 use std::process::ExitCode;
-use std::{env, io};
 
 const NOT_UTF8: &str = "error: an argument is not UTF-8
 
@@ -54,67 +73,188 @@ fn report(rt: &HostRuntime, line: Result<(u8, String), AllocError>) -> u8
     }
 }
 
-/// Prints the help that was asked for to the standard output.
-fn give_help(rt: &HostRuntime, text: &str) -> u8
-    ensures { (result ≡ 0) ⊎ (result ≡ 3) }
+/// The status of a printing to the standard output; where it failed, the standard error tells.
+fn printed(rt: &HostRuntime, outcome: io::Result<()>) -> u8
+    ensures { MatchResult outcome (λ _. result ≡ 0) (λ _. result ≡ 3) }
 {
-    match rt.println(text) {
+    match outcome {
         Ok(()) => 0,
         Err(_) => complain(rt, 3, "hdt: writing failed"),
     }
 }
 
-/// The words of the command line.
-fn words_of(rt: &HostRuntime, alloc: Global) -> io::Result<Vec<String>> {
-    Ok(env::args(rt)?.collect(alloc)?)
-}
-
-/// What the command line asks for.
-fn request_of(rt: &HostRuntime) -> Result<Request, UsageFault> {
-    let alloc = rt.alloc();
-    let words = match words_of(rt, alloc) {
-        Ok(words) => words,
-        Err(error) if error.kind() == io::ErrorKind::OutOfMemory => {
-            return Err(UsageFault::OutOfMemory);
-        }
-        Err(_) => return Err(UsageFault::text(alloc, NOT_UTF8)),
-    };
-    let words: Vec<&str> = words.iter().map(|word| word.as_str()).collect(alloc)?;
-    parse_words(alloc, words.as_slice())
-}
-
-/// The file of a request.
-fn open(rt: &HostRuntime, path: &str) -> Result<File, ToolFault>
-    ensures { IfErr result (λ e. (e ≡ ToolFault.Read) ⊎ (e ≡ ToolFault.OutOfMemory)) }
+/// The status of a command that was done; a fault is told by its line.
+fn done(rt: &HostRuntime, outcome: Result<(), ToolFault>) -> u8
+    ensures { MatchResult outcome (λ _. result ≡ 0) (λ fault. (result ≡ fault_status fault) ⊎ (result ≡ 4)) }
 {
-    match File::open(rt, path) {
-        Ok(file) => Ok(file),
-        Err(error) if error.kind() == io::ErrorKind::OutOfMemory => Err(ToolFault::OutOfMemory),
-        Err(_) => Err(ToolFault::Read),
+    match outcome {
+        Ok(()) => 0,
+        Err(fault) => report(rt, fault_line(rt.alloc(), &fault)),
     }
 }
 
-/// Does what a request asks for, from its file to the standard output.
-fn perform(rt: &HostRuntime, request: &Request) -> Result<(), ToolFault> {
-    let alloc = rt.alloc();
-    let mut input = Counted::new(open(rt, request.file.as_str())?);
-    let mut out = Counted::new(io::writer(rt));
+/// The fault of words that could not be had.
+fn words_fault(alloc: Global, error: &io::Error) -> UsageFault
+    ensures memory { error_kind error.now ≡ ErrorKind.OutOfMemory → result ≡ UsageFault.OutOfMemory }
+    ensures other { error_kind error.now ≢ ErrorKind.OutOfMemory → SaysUsage NOT_UTF8.now result }
+{
+    if error.kind() == ErrorKind::OutOfMemory {
+        return UsageFault::OutOfMemory;
+    }
+    UsageFault::text(alloc, NOT_UTF8)
+}
+
+/// The words, lent.
+fn lent<'a>(alloc: Global, words: &'a [String]) -> Result<Vec<&'a str>, AllocError>
+    ensures { IfOk result (λ texts. map (λ text. text.now) texts.items ≡ map string_bytes words.now) }
+{
+    let mut texts = Vec::new(alloc);
+    'words: for word in words {
+        texts.push(word.as_str())?;
+    }
+    Ok(texts)
+}
+
+/// What the words of the command line ask for.
+fn request_of(alloc: Global, words: &[String]) -> Result<Request, UsageFault>
+    ensures ok { IfOk result (Wants (map string_bytes words.now)) }
+    ensures refused { IfErr result (IsRefused (map string_bytes words.now)) }
+{
+    let texts = lent(alloc, words)?;
+    parse_words(alloc, texts.as_slice())
+}
+
+/// The words that were given, each. (`collect` would pass over a refused reservation.)
+fn all_words(alloc: Global, args: Args) -> io::Result<Vec<String>>
+    ensures ok { IfOk result (λ words. words.items ≡ into_iter_items args) }
+    ensures memory { IfErr result (λ error. error_kind error ≡ ErrorKind.OutOfMemory) }
+{
+    let mut words = Vec::new(alloc);
+    'words: for word in args {
+        words.push(word)?;
+    }
+    Ok(words)
+}
+
+/// The words of the command line, where they could be had.
+fn words_of(alloc: Global, given: io::Result<Args>) -> io::Result<Vec<String>>
+    ensures ok { IfOk result (λ words. MatchResult given (λ args. words.items ≡ into_iter_items args) (λ _. ⊥)) }
+    ensures memory { IfErr result (λ error. IfOk given (λ _. error_kind error ≡ ErrorKind.OutOfMemory)) }
+    ensures refused { IfErr given (λ error. result ≡ Err error) }
+{
+    all_words(alloc, given?)
+}
+
+/// What the words of the command line ask for, where they could be had.
+fn asked(alloc: Global, words: io::Result<Vec<String>>) -> Result<Request, UsageFault>
+    ensures ok { IfOk result (λ request. MatchResult words (λ words. Wants (map string_bytes words.items) request) (λ _. ⊥)) }
+    ensures refused { IfErr result (λ fault. IfOk words (λ words. IsRefused (map string_bytes words.items) fault)) }
+    ensures memory { IfErr words (λ error. error_kind error ≡ ErrorKind.OutOfMemory → result ≡ Err UsageFault.OutOfMemory) }
+    ensures other { IfErr words (λ error. error_kind error ≢ ErrorKind.OutOfMemory → IfErr result (SaysUsage NOT_UTF8.now)) }
+{
+    match words {
+        Ok(words) => request_of(alloc, words.as_slice()),
+        Err(error) => Err(words_fault(alloc, &error)),
+    }
+}
+
+/// The fault of a file that could not be opened.
+fn open_fault(error: &io::Error) -> ToolFault
+    ensures memory { error_kind error.now ≡ ErrorKind.OutOfMemory → result ≡ ToolFault.OutOfMemory }
+    ensures other { error_kind error.now ≢ ErrorKind.OutOfMemory → result ≡ ToolFault.Read }
+{
+    if error.kind() == ErrorKind::OutOfMemory {
+        return ToolFault::OutOfMemory;
+    }
+    ToolFault::Read
+}
+
+/// Does what a request asks for, from its file, as it was opened, to a writer.
+fn perform<R: Read + Drop, W: Write>(
+    alloc: Global,
+    request: &Request,
+    file: io::Result<R>,
+    out: &mut Counted<W>,
+) -> Result<(), ToolFault>
+    // All the input was read, and the writer has gained the command's text of it.
+    ensures ok { OnOk result (MatchResult file (λ input. Performs request.now.action (R.remaining input)
+        (W.contents (inner out.old)) (W.contents (inner out.new))) (λ _. ⊥)) }
+    // A fault of the file is the one that stands in the input, a look-up without an answer has none in it, and a string that is
+    // no term is the first of what is to be printed.
+    ensures told { IfErr result (λ e. IfOk file (λ input. Reports request.now.action (R.remaining input) e)) }
+    // A file that could not be opened is told as its error's kind says.
+    ensures memory { IfErr file (λ e. error_kind e ≡ ErrorKind.OutOfMemory → result ≡ Err ToolFault.OutOfMemory) }
+    ensures unopened { IfErr file (λ e. error_kind e ≢ ErrorKind.OutOfMemory → result ≡ Err ToolFault.Read) }
+    // The writer failed in this call, and has gained exactly the first n bytes of the text.
+    ensures write { IfErr result (λ e. (n : ℕ) → e ≡ ToolFault.Write n → (failures out.new ≡ failures out.old + 1)
+        × MatchResult file (λ input. Stops request.now.action (R.remaining input)
+        (W.contents (inner out.old)) (W.contents (inner out.new)) n) (λ _. ⊥)) }
+    // At Ok it has not failed, and at any other fault, also of a file that could not be opened, nothing was written.
+    ensures writer_well { OnOk result (failures out.new ≡ failures out.old) }
+    ensures unwritten { IfErr result (λ e. ((n : ℕ) → e ≢ ToolFault.Write n) → out.new ≡ out.old) }
+{
+    let mut input = match file {
+        Ok(input) => Counted::new(input),
+        Err(error) => return Err(open_fault(&error)),
+    };
     let mut made = Vec::new(alloc);
-    run(alloc, request, &mut input, &mut out, &mut made)
+    run(alloc, request, &mut input, out, &mut made)
 }
 
-fn status_of(rt: &HostRuntime) -> u8 {
-    let alloc = rt.alloc();
-    match request_of(rt) {
-        Ok(request) => match perform(rt, &request) {
-            Ok(()) => 0,
-            Err(fault) => report(rt, fault_line(alloc, &fault)),
-        },
-        Err(UsageFault::Help(text)) => give_help(rt, text.as_str()),
-        Err(fault) => report(rt, usage_line(alloc, &fault)),
+/// Does what a request asks for, and tells how it ended.
+fn performed<R: Read + Drop, W: Write>(
+    rt: &HostRuntime,
+    request: &Request,
+    file: io::Result<R>,
+    out: &mut Counted<W>,
+) -> u8
+    ensures statuses { IsCommandStatus result }
+    // 0: all the input was read, and the writer has gained the command's text of it, without a failure.
+    ensures done { result ≡ 0 → MatchResult file (λ input. Performs request.now.action (R.remaining input)
+        (W.contents (inner out.old)) (W.contents (inner out.new))) (λ _. ⊥) }
+    ensures well { result ≡ 0 → failures out.new ≡ failures out.old }
+    // 1: the input has a fault, no answer to the look-up, or a string that is no term.
+    ensures fault { result ≡ 1 → MatchResult file (λ input. Faults request.now.action (R.remaining input)) (λ _. ⊥) }
+    ensures unwritten { result ≡ 1 → out.new ≡ out.old }
+    // 3 and 4: nothing was written, or the writer failed.
+    ensures stopped { result ≢ 0 → (out.new ≡ out.old) ⊎ (failures out.new ≡ failures out.old + 1) }
+{
+    done(rt, perform(rt.alloc(), request, file, out))
+}
+
+/// Tells why the words ask for nothing: help on the standard output, a fault on the standard error.
+fn refuse(rt: &HostRuntime, fault: UsageFault) -> u8
+    ensures { IsRefusalStatus fault result }
+{
+    match fault {
+        UsageFault::Help(text) => printed(rt, rt.println(text.as_str())),
+        fault => report(rt, usage_line(rt.alloc(), &fault)),
     }
+}
+
+/// Does what was asked for, or tells why nothing was.
+fn answered(rt: &HostRuntime, asked: Result<Request, UsageFault>) -> u8
+    ensures { MatchResult asked (λ _. IsCommandStatus result) (λ fault. IsRefusalStatus fault result) }
+{
+    match asked {
+        Ok(request) => {
+            let file = File::open(rt, request.file.as_str());
+            let mut out = Counted::new(io::writer(rt));
+            performed(rt, &request, file, &mut out)
+        }
+        Err(fault) => refuse(rt, fault),
+    }
+}
+
+/// Does what the words ask for, and tells how it ended.
+fn status_of(rt: &HostRuntime, words: io::Result<Vec<String>>) -> u8
+    ensures given { IfOk words (λ words. Ends (map string_bytes words.items) result) }
+    ensures memory { IfErr words (λ error. error_kind error ≡ ErrorKind.OutOfMemory → result ≡ 4) }
+    ensures other { IfErr words (λ error. error_kind error ≢ ErrorKind.OutOfMemory → (result ≡ 2) ⊎ (result ≡ 4)) }
+{
+    answered(rt, asked(rt.alloc(), words))
 }
 
 fn main(rt: HostRuntime) -> ExitCode {
-    ExitCode::from(status_of(&rt))
+    ExitCode::from(status_of(&rt, words_of(rt.alloc(), env::args(&rt))))
 }

@@ -2,33 +2,12 @@
 ghost use Rattle.std.specs.Prelude.{◌≡◌, ◌++◌, OnOk, IfOk, string_bytes};
 ghost use Rattle.hdt_wire.specs.Control.{block_of};
 ghost use Rattle.hdt_file.specs.Head.{parts_of};
-ghost use Rattle.hdt_tool.specs.HeadText.{escaped_byte, escaped, line, block_lines, length_line, head_text};
+ghost use Rattle.hdt_tool.specs.HeadText.{line, block_lines, length_line, head_text};
 
+use crate::escaping::put_escaped;
 use hdt_file::Head;
 use hdt_wire::Control;
 use std::alloc::{AllocError, Global};
-
-/// Appends what a byte of a text prints as.
-fn put_escaped_byte(byte: u8, out: &mut Vec<u8>) -> Result<(), AllocError>
-    ensures { OnOk result (out.new.items ≡ out.old.items ++ escaped_byte byte) }
-{
-    match byte {
-        b'\\' => out.extend_from_slice(b"\\\\"),
-        b'\n' => out.extend_from_slice(b"\\n"),
-        b'\r' => out.extend_from_slice(b"\\r"),
-        _ => Ok(out.push(byte)?),
-    }
-}
-
-/// Appends a text with its backslashes, line feeds and carriage returns escaped.
-fn put_escaped(text: &[u8], out: &mut Vec<u8>) -> Result<(), AllocError>
-    ensures { OnOk result (out.new.items ≡ out.old.items ++ escaped text.now) }
-{
-    'bytes: for &byte in text {
-        put_escaped_byte(byte, out)?;
-    }
-    Ok(())
-}
 
 /// Appends a line: a label, a space and a text.
 fn put_line(label: &str, text: &[u8], out: &mut Vec<u8>) -> Result<(), AllocError>

@@ -1,10 +1,27 @@
 //! What a command line asks for.
 
+use hdt_dict::Role;
+
 /// A command.
 #[derive(Debug, Drop)]
 pub enum Action {
     /// Prints the head of a file.
     Head,
+    /// Verifies a file.
+    Verify,
+    /// Prints all strings of a role with their numbers.
+    Strings(Role),
+    /// Prints the string of a role that has this number, from 1.
+    Nth(Role, u64),
+    /// Prints the number of this dictionary string in a role.
+    Number(Role, Vec<u8>),
+    /// Prints the triples that have these dictionary strings.
+    Find {
+        /// The strings of subject, predicate and object; any where there is none.
+        given: [Option<Vec<u8>>; 3],
+        /// Whether the triples' numbers are printed, in place of N-Triples.
+        numbers: bool,
+    },
 }
 
 /// A command and the files that it works on.

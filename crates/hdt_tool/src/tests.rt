@@ -1,21 +1,20 @@
-use crate::fault::{ToolFault, UsageFault};
-use crate::lines::{fault_line, usage_line};
+use crate::fault::ToolFault;
 use crate::request::{Action, Request};
 use crate::run::run;
-use crate::words::parse_words;
+use hdt_dict::Role;
 use hdt_wire::{Counted, Fault, Reason, check16};
 use std::alloc::{AllocError, Global};
 use std::io::{self, Read, Write};
 use std::test::Fail;
 
 /// The blocks of the sample file V1, its header body, and what follows.
-const BLOCKS: &[u8] =
+pub(crate) const BLOCKS: &[u8] =
     b"$HDT\x01<http://purl.org/HDT/hdt#HDTv1>\x00\x00\x76\x35$HDT\x02ntriples\x00length=150;\x00\x0E\x4D";
 
-const BODY: &[u8] =
+pub(crate) const BODY: &[u8] =
     b"<http://a/> <http://www.w3.org/1999/02/22-rdf-syntax-ns#type> <http://purl.org/HDT/hdt#Dataset> .\n<http://a/> <http://rdfs.org/ns/void#triples> \"1\" .\n";
 
-const REST: &[u8] =
+pub(crate) const REST: &[u8] =
     b"$HDT\x03<http://purl.org/HDT/hdt#dictionaryFour>\x00mapping=1;\x00\x82\xB8\x02\x81\x8A\x90\x81\x01\x04\x82\xB8\xA0\xF7\xE66\xF0http://a/\x00\xF4\x81z\xD4\x02\x80\x80\x90h\x01\x01\x81\xF0\x00QS}R\x00\x00\x00\x00\x02\x81\x8A\x90\x81\x01\x04\x82\xB8\xA0\xF7\xE66\xF0http://a/\x00\xF4\x81z\xD4\x02\x80\x80\x90h\x01\x01\x81\xF0\x00QS}R\x00\x00\x00\x00$HDT\x04<http://purl.org/HDT/hdt#triplesBitmap>\x00order=1;\x00Y\xE9\x01\x81\x9B\x01R\xD0\x16\xA0\x01\x81\x9B\x01R\xD0\x16\xA0\x01\x01\x81\xF0\x01R\xD0\x16\xA0\x01\x01\x81\xF0\x01R\xD0\x16\xA0";
 
 /// The lines that `hdt head` prints of V1, before the header body.
@@ -26,10 +25,10 @@ const GLOBAL_FORMAT: &[u8] = b"<http://purl.org/HDT/hdt#HDTv1>";
 
 /// Gives its bytes, at most `step` a call, and then ends; where it fails, it does so once, and ends at the next call.
 #[derive(Drop)]
-struct Source<'a> {
-    bytes: &'a [u8],
-    step: usize,
-    fails: bool,
+pub(crate) struct Source<'a> {
+    pub(crate) bytes: &'a [u8],
+    pub(crate) step: usize,
+    pub(crate) fails: bool,
 }
 
 impl<'a> Read for Source<'a> {
@@ -46,17 +45,41 @@ impl<'a> Read for Source<'a> {
     }
 }
 
+/// Gives its bytes, at most `step` a call, and then ends, once: it counts the calls behind its end, and fails at each.
+#[derive(Drop)]
+struct Ending<'a> {
+    bytes: &'a [u8],
+    step: usize,
+    ended: bool,
+    late: usize,
+}
+
+impl<'a> Read for Ending<'a> {
+    fn read(&mut self, buf: &mut [u8]) -> io::Result<usize> {
+        if self.ended {
+            self.late = self.late.saturating_add(1);
+            return Err(io::Error::from(io::ErrorKind::BrokenPipe));
+        }
+        let count = self.bytes.len().min(self.step).min(buf.len());
+        let (given, rest) = self.bytes.split_at(count);
+        buf[..count].copy_from_slice(given);
+        self.bytes = rest;
+        self.ended = count == 0;
+        Ok(count)
+    }
+}
+
 /// Takes at most `step` bytes a call, and fails after so many calls.
 #[derive(Drop)]
-struct Sink {
+pub(crate) struct Sink {
     taken: [u8; 512],
-    len: usize,
+    pub(crate) len: usize,
     step: usize,
     calls: usize,
 }
 
 impl Sink {
-    fn new(step: usize, calls: usize) -> Sink {
+    pub(crate) fn new(step: usize, calls: usize) -> Sink {
         Sink {
             taken: [0; 512],
             len: 0,
@@ -65,7 +88,7 @@ impl Sink {
         }
     }
 
-    fn text(&self) -> &[u8] {
+    pub(crate) fn text(&self) -> &[u8] {
         self.taken.get(..self.len).unwrap_or(&[])
     }
 }
@@ -87,14 +110,35 @@ impl Write for Sink {
     }
 }
 
-/// What `hdt head` answers on a source, and the sink after it. Want of memory is an `Err`.
-fn head_of(
+/// Compares what it takes with the bytes that are wanted.
+#[derive(Drop)]
+struct Compared<'a> {
+    wanted: &'a [u8],
+    same: bool,
+}
+
+impl<'a> Write for Compared<'a> {
+    fn write(&mut self, buf: &[u8]) -> io::Result<usize> {
+        let (front, rest) = self.wanted.split_at(buf.len().min(self.wanted.len()));
+        self.same = self.same && front == buf;
+        self.wanted = rest;
+        Ok(buf.len())
+    }
+
+    fn flush(&mut self) -> io::Result<()> {
+        Ok(())
+    }
+}
+
+/// What a command answers on a source, and the sink after it. Want of memory is an `Err`.
+pub(crate) fn command_on(
     alloc: Global,
+    action: Action,
     source: Source<'_>,
     sink: Sink,
 ) -> Result<(Result<(), ToolFault>, Sink), Fail> {
     let request = Request {
-        action: Action::Head,
+        action,
         file: String::new(alloc),
         out: None,
     };
@@ -106,9 +150,18 @@ fn head_of(
         return Err(Fail::from(AllocError));
     }
     if !made.is_empty() {
-        return Err(Fail::from("the head was built"));
+        return Err(Fail::from("something was built"));
     }
     Ok((answer, out.into_inner()))
+}
+
+/// What `hdt head` answers on a source, and the sink after it.
+fn head_of(
+    alloc: Global,
+    source: Source<'_>,
+    sink: Sink,
+) -> Result<(Result<(), ToolFault>, Sink), Fail> {
+    command_on(alloc, Action::Head, source, sink)
 }
 
 /// What `hdt head` answers on the bytes, and the sink after it.
@@ -127,7 +180,7 @@ fn head_of_bytes(alloc: Global, bytes: &[u8]) -> Result<(Result<(), ToolFault>, 
 }
 
 /// The parts, one after another.
-fn joined(alloc: Global, parts: &[&[u8]]) -> Result<Vec<u8>, AllocError> {
+pub(crate) fn joined(alloc: Global, parts: &[&[u8]]) -> Result<Vec<u8>, AllocError> {
     let mut all = Vec::new(alloc);
     for part in parts {
         all.extend_from_slice(part)?;
@@ -183,6 +236,40 @@ fn reads_and_writes_in_any_pieces(rt: HostRuntime) -> Result<(), Fail> {
 }
 
 #[test]
+fn prints_a_large_head(rt: HostRuntime) -> Result<(), Fail> {
+    let alloc = rt.alloc();
+    let body = vec![in alloc; b'y'; 1 << 20]?;
+    let padding = vec![in alloc; b'x'; 100_000]?;
+    let properties = joined(alloc, &[&padding, b"=\\;length=1048576"])?;
+    let global = block(alloc, 1, GLOBAL_FORMAT, b"")?;
+    let header = block(alloc, 2, b"ntriples", &properties)?;
+    let file = joined(alloc, &[&global, &header, &body, REST])?;
+    let lines: &[u8] =
+        b"global <http://purl.org/HDT/hdt#HDTv1>\nproperties \nheader ntriples\nproperties ";
+    let rest: &[u8] = b"=\\\\;length=1048576\nlength 1048576\n";
+    let text = joined(alloc, &[lines, &padding, rest, &body])?;
+    let request = Request {
+        action: Action::Head,
+        file: String::new(alloc),
+        out: None,
+    };
+    let mut input = Counted::new(Source {
+        bytes: &file,
+        step: 7_000,
+        fails: false,
+    });
+    let mut out = Counted::new(Compared {
+        wanted: &text,
+        same: true,
+    });
+    let mut made = Vec::new(alloc);
+    run(alloc, &request, &mut input, &mut out, &mut made)?;
+    let compared = out.into_inner();
+    assert!(rt; compared.same && compared.wanted.is_empty());
+    Ok(())
+}
+
+#[test]
 fn a_failing_reader_is_told_and_nothing_is_written(rt: HostRuntime) -> Result<(), Fail> {
     let file = joined(rt.alloc(), &[BLOCKS, BODY])?;
     for given in 0..=file.len() {
@@ -196,6 +283,75 @@ fn a_failing_reader_is_told_and_nothing_is_written(rt: HostRuntime) -> Result<()
             assert_eq!(rt; answer, Err(ToolFault::Read), "after {given} bytes");
             assert!(rt; sink.text().is_empty(), "after {given} bytes");
         }
+    }
+    Ok(())
+}
+
+/// What `hdt head` answers on a reader that is not to be asked behind its end, and the sink after it. What was made
+/// before is to be kept.
+fn head_of_ending(
+    alloc: Global,
+    bytes: &[u8],
+    step: usize,
+    sink: Sink,
+) -> Result<(Result<(), ToolFault>, Sink), Fail> {
+    let request = Request {
+        action: Action::Head,
+        file: String::new(alloc),
+        out: None,
+    };
+    let mut input = Counted::new(Ending {
+        bytes,
+        step,
+        ended: false,
+        late: 0,
+    });
+    let mut out = Counted::new(sink);
+    let mut made = b"x".to_vec(alloc)?;
+    let answer = run(alloc, &request, &mut input, &mut out, &mut made);
+    if answer == Err(ToolFault::OutOfMemory) {
+        return Err(Fail::from(AllocError));
+    }
+    let source = input.into_inner();
+    if !source.ended || source.late > 0 || made.as_slice() != b"x".as_slice() {
+        return Err(Fail::from("not asked to the end, or behind it, or not kept"));
+    }
+    Ok((answer, out.into_inner()))
+}
+
+#[test]
+fn a_reader_is_not_asked_behind_its_end(rt: HostRuntime) -> Result<(), Fail> {
+    let alloc = rt.alloc();
+    let mut file = joined(alloc, &[BLOCKS, BODY])?;
+    let text = joined(alloc, &[LINES, BODY])?;
+    // Lengths below, at and above that of the engine's buffer.
+    for len in [file.len(), 65_535, 65_536, 65_537] {
+        file.resize(len, b'x')?;
+        for step in [7, 200, 65_536, usize::MAX] {
+            let all = Sink::new(usize::MAX, usize::MAX);
+            let (answer, sink) = head_of_ending(alloc, &file, step, all)?;
+            assert_eq!(rt; answer, Ok(()), "{len} bytes in pieces of {step}");
+            assert!(rt;
+                sink.text() == text.as_slice(),
+                "{len} bytes in pieces of {step}"
+            );
+            let (answer, sink) = head_of_ending(alloc, &file, step, Sink::new(7, 35))?;
+            assert_eq!(rt;
+                answer,
+                Err(ToolFault::Write(245)),
+                "{len} bytes in pieces of {step}"
+            );
+            assert!(rt;
+                text.starts_with(sink.text()),
+                "{len} bytes in pieces of {step}"
+            );
+        }
+    }
+    for len in [0, 3] {
+        let all = Sink::new(usize::MAX, usize::MAX);
+        let (answer, sink) = head_of_ending(alloc, front(&file, len), 1, all)?;
+        assert_eq!(rt; answer, file_fault(0, Reason::Truncated), "{len} bytes");
+        assert!(rt; sink.text().is_empty(), "{len} bytes");
     }
     Ok(())
 }
@@ -367,126 +523,70 @@ fn properties_are_printed_on_one_line(rt: HostRuntime) -> Result<(), Fail> {
     Ok(())
 }
 
-/// What a command line asks for, as a text: a command and its file, or the kind of fault with its text.
-fn asked(alloc: Global, words: &[&str]) -> Result<String, Fail> {
-    match parse_words(alloc, words) {
-        Ok(
-            Request {
-                action: Action::Head,
-                file,
-                out: None,
-            },
-        ) => Ok(format!(in alloc; "head of {file}")?),
-        Ok(
-            Request {
-                action: _,
-                file: _,
-                out: _,
-            },
-        ) => Ok(String::from_str(alloc, "another request")?),
-        Err(UsageFault::Usage(text)) => Ok(format!(in alloc; "usage {text}")?),
-        Err(UsageFault::Help(text)) => Ok(format!(in alloc; "help {text}")?),
-        Err(UsageFault::OutOfMemory) => Err(Fail::from(AllocError)),
-    }
-}
-
-#[test]
-fn command_lines_are_read(rt: HostRuntime) -> Result<(), Fail> {
-    let table: [(&[&str], &str); 7] = [
-        (&["hdt", "head", "a.hdt"], "head of a.hdt"),
-        (&["other", "head", "-"], "head of -"),
-        (&["hdt", "head", "--", "--help"], "head of --help"),
-        (
-            &["hdt", "head"],
-            "usage error: the following required arguments were not provided:\n  <FILE>\n\nUsage: hdt head <FILE>\n\nFor more information, try '--help'.",
-        ),
-        (
-            &["hdt", "verify", "a.hdt"],
-            "usage error: unrecognized subcommand 'verify'\n\nUsage: hdt <COMMAND>\n\nFor more information, try '--help'.",
-        ),
-        (
-            &["hdt", "head", "a.hdt", "b.hdt"],
-            "usage error: unexpected argument 'b.hdt' found\n\nUsage: hdt head <FILE>\n\nFor more information, try '--help'.",
-        ),
-        (
-            &["hdt"],
-            "usage error: 'hdt' requires a subcommand but one was not provided\n  [subcommands: head, help]\n\nUsage: hdt <COMMAND>\n\nFor more information, try '--help'.",
-        ),
-    ];
-    for (words, want) in table {
-        let got = asked(rt.alloc(), words)?;
-        assert_eq!(rt; got.as_str(), want);
-    }
-    Ok(())
-}
-
-#[test]
-fn help_is_given(rt: HostRuntime) -> Result<(), Fail> {
-    let table: [(&[&str], &str); 4] = [
-        (&["hdt", "--help"], "help Reads RDF HDT files"),
-        (&["hdt", "help"], "help Reads RDF HDT files"),
-        (
-            &["hdt", "head", "--help"],
-            "help Print the head of an HDT file.\n\n",
-        ),
-        (&["hdt", "head", "-h"], "help Print a file's head"),
-    ];
-    for (words, begin) in table {
-        let got = asked(rt.alloc(), words)?;
-        assert!(rt; got.as_str().starts_with(begin), "{got}");
-        assert!(rt; got.as_str().contains("\n\nUsage: hdt "), "{got}");
-        assert!(rt; !got.as_str().ends_with("\n"), "{got}");
-    }
-    Ok(())
-}
-
-#[test]
-fn faults_are_told_in_a_line(rt: HostRuntime) -> Result<(), Fail> {
-    let truncated = Fault {
-        place: 68,
-        reason: Reason::Truncated,
+/// What a command answers on the sample file V1, and the sink after it.
+fn on_sample(alloc: Global, action: Action) -> Result<(Result<(), ToolFault>, Sink), Fail> {
+    let file = joined(alloc, &[BLOCKS, BODY, REST])?;
+    let source = Source {
+        bytes: &file,
+        step: usize::MAX,
+        fails: false,
     };
-    let trailing = Fault {
-        place: u64::MAX,
-        reason: Reason::TrailingBytes,
-    };
-    for (fault, status, line) in [
-        (
-            ToolFault::File(truncated),
-            1,
-            "hdt: fault 1 Truncated at 68",
-        ),
-        (
-            ToolFault::File(trailing),
-            1,
-            "hdt: fault 33 TrailingBytes at 18446744073709551615",
-        ),
-        (ToolFault::Read, 3, "hdt: reading failed"),
-        (ToolFault::Write(7), 3, "hdt: writing failed"),
-        (ToolFault::OutOfMemory, 4, "hdt: out of memory"),
-    ] {
-        let (told_status, told) = fault_line(rt.alloc(), &fault)?;
-        assert_eq!(rt; told_status, status, "{line}");
-        assert_eq!(rt; told.as_str(), line);
-    }
+    command_on(alloc, action, source, Sink::new(usize::MAX, usize::MAX))
+}
+
+#[test]
+fn the_sample_is_accepted(rt: HostRuntime) -> Result<(), Fail> {
+    let (answer, sink) = on_sample(rt.alloc(), Action::Verify)?;
+    assert_eq!(rt; answer, Ok(()));
+    assert!(rt; sink.text() == b"ok 1 1 0 1 0\n".as_slice());
     Ok(())
 }
 
 #[test]
-fn usage_is_told_in_its_own_text(rt: HostRuntime) -> Result<(), Fail> {
+fn what_was_made_before_is_kept(rt: HostRuntime) -> Result<(), Fail> {
     let alloc = rt.alloc();
-    for (fault, status, line) in [
-        (
-            UsageFault::Usage(String::from_str(alloc, "no\nway")?),
-            2,
-            "no\nway",
-        ),
-        (UsageFault::Help(String::from_str(alloc, "so")?), 0, "so"),
-        (UsageFault::OutOfMemory, 4, "hdt: out of memory"),
-    ] {
-        let (told_status, told) = usage_line(alloc, &fault)?;
-        assert_eq!(rt; told_status, status, "{line}");
-        assert_eq!(rt; told.as_str(), line);
+    let file = joined(alloc, &[BLOCKS, BODY, REST])?;
+    let request = Request {
+        action: Action::Head,
+        file: String::new(alloc),
+        out: None,
+    };
+    let mut input = Counted::new(Source {
+        bytes: &file,
+        step: usize::MAX,
+        fails: false,
+    });
+    let mut out = Counted::new(Sink::new(usize::MAX, usize::MAX));
+    let mut made = b"x".to_vec(alloc)?;
+    run(alloc, &request, &mut input, &mut out, &mut made)?;
+    assert!(rt; made.as_slice() == b"x".as_slice());
+    Ok(())
+}
+
+#[test]
+fn strings_are_listed_and_looked_up(rt: HostRuntime) -> Result<(), Fail> {
+    let alloc = rt.alloc();
+    for role in [Role::Subject, Role::Predicate, Role::Object] {
+        let (answer, sink) = on_sample(alloc, Action::Strings(role))?;
+        assert_eq!(rt; answer, Ok(()), "{role:?}");
+        assert!(rt; sink.text() == b"1\thttp://a/\n".as_slice(), "{role:?}");
+        let (answer, sink) = on_sample(alloc, Action::Nth(role, 1))?;
+        assert_eq!(rt; answer, Ok(()), "{role:?}");
+        assert!(rt; sink.text() == b"http://a/\n".as_slice(), "{role:?}");
+        for number in [0, 2, u64::MAX] {
+            let (answer, sink) = on_sample(alloc, Action::Nth(role, number))?;
+            assert_eq!(rt; answer, Err(ToolFault::NoSuchNumber), "{role:?} {number}");
+            assert!(rt; sink.text().is_empty(), "{role:?} {number}");
+        }
+        let there = b"http://a/".to_vec(alloc)?;
+        let (answer, sink) = on_sample(alloc, Action::Number(role, there))?;
+        assert_eq!(rt; answer, Ok(()), "{role:?}");
+        assert!(rt; sink.text() == b"1\n".as_slice(), "{role:?}");
+        for string in [b"u:z".as_slice(), b"", b"http://a", b"http://a/b"] {
+            let (answer, sink) = on_sample(alloc, Action::Number(role, string.to_vec(alloc)?))?;
+            assert_eq!(rt; answer, Err(ToolFault::NoSuchTerm), "{role:?} {string:?}");
+            assert!(rt; sink.text().is_empty(), "{role:?} {string:?}");
+        }
     }
     Ok(())
 }

@@ -5,3 +5,4 @@ mod Zero
 mod Cuts
 mod Reading
 mod Eights
+mod Writes

@@ -8,3 +8,8 @@ pub mod Control
 pub mod ControlLaws
 pub mod Property
 pub mod Counted
+pub mod Exact
+pub mod ExactItems
+pub mod ExactLaws
+pub mod ExactReading
+pub mod ExactLeaves

@@ -1,14 +1,28 @@
 //! Readers and writers whose failures are counted, by a number that only contracts see.
-ghost use Rattle.std.specs.Prelude.{◌≡◌, ◌+◌, [], OnOk, OnErr, IfOk};
+ghost use Rattle.std.specs.Prelude.{◌≡◌, ◌+◌, ◌<◌, [], OnOk, OnErr, IfOk, IfErr, length, take};
 ghost use Rattle.std.specs.Io.{ReadsAtMost, WritesAtMost};
-ghost use Rattle.std.specs.Io.KnownBytes.{ReadConsumes, WriteAppends};
+ghost use Rattle.std.specs.Io.KnownBytes.{Appends, ReadConsumes, WriteAppends};
 
 use crate::tally::Tally;
+use std::error::Error;
+use std::fmt;
 use std::io::{Read, Write};
 
 /// A read or a write failed.
 #[derive(Clone, Copy, Debug, PartialEq, Eq)]
 pub struct Failed;
+
+impl fmt::Display for Failed {
+    ghost use Rattle.std.specs.Prelude.{Some, codes};
+
+    ghost output = { λ _. Some (codes "a read or a write failed") };
+
+    fn fmt<W: fmt::Write>(&self, f: &mut fmt::Formatter<W>) -> fmt::Result {
+        write!(f, "a read or a write failed")
+    }
+}
+
+impl Error for Failed {}
 
 /// A reader or a writer with the count of its failures: each `Err`, `Interrupted` too, and each write that takes
 /// nothing of a slice that is not empty. The count takes no bytes; contracts alone see it.
@@ -81,5 +95,26 @@ impl<T> Counted<T> {
             Ok(n) if n > 0 || buf.is_empty() => Ok(n),
             _ => Err(self.fail()),
         }
+    }
+
+    /// Writes all of a text, by as many calls of the writer as it wants, and none behind its last byte. Where a write
+    /// failed, the answer is how many bytes went out before it: fewer than all.
+    pub fn write_all(&mut self, text: &[u8]) -> Result<(), u64>
+    where
+        T: Write,
+        ensures ok { OnOk result (Appends (T.contents (inner self.old)) (T.contents (inner self.new)) text.now) }
+        ensures part { IfErr result (λ n. (n < length text.now)
+            × Appends (T.contents (inner self.old)) (T.contents (inner self.new)) (take n text.now)) }
+        ensures well { OnOk result (failures self.new ≡ failures self.old) }
+        ensures failed { OnErr result (failures self.new ≡ failures self.old + 1) }
+    {
+        let mut at = 0;
+        'writes: while at < text.len() {
+            match self.write(&text[at..]) {
+                Ok(count) => at += count,
+                Err(Failed) => return Err(at as u64),
+            }
+        }
+        Ok(())
     }
 }

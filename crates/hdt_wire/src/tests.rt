@@ -222,86 +222,209 @@ fn finds_the_last_property(rt: HostRuntime) {
     }
 }
 
+/// Every reason, in the order of its number.
+static REASONS: [Reason; 33] = [
+    Reason::Truncated,
+    Reason::OverlongNumber,
+    Reason::NumberTooLarge,
+    Reason::NotHdt,
+    Reason::WrongKind,
+    Reason::Check16,
+    Reason::WrongFormat,
+    Reason::HeaderLength,
+    Reason::TripleOrder,
+    Reason::Check8,
+    Reason::Check32,
+    Reason::SequenceKind,
+    Reason::Width,
+    Reason::BitsKind,
+    Reason::SectionKind,
+    Reason::BlockSize,
+    Reason::BlockCount,
+    Reason::BlockPlace,
+    Reason::PrefixTooLong,
+    Reason::PackedLength,
+    Reason::NotUtf8,
+    Reason::StringsNotAscending,
+    Reason::SectionsOverlap,
+    Reason::NoTriples,
+    Reason::LengthsDiffer,
+    Reason::LastMark,
+    Reason::MarkCount,
+    Reason::SubjectRange,
+    Reason::PredicateRange,
+    Reason::ObjectRange,
+    Reason::PredicatesNotAscending,
+    Reason::ObjectsNotAscending,
+    Reason::TrailingBytes,
+];
+
+/// Prints each reason's number and name on a line: tests/run compares them with the table of docs/FORMAT.md.
 #[test]
-fn numbers_and_names_reasons(rt: HostRuntime) -> Result<(), Fail> {
-    let table = [
-        (Reason::Truncated, 1, "Truncated"),
-        (Reason::Check16, 6, "Check16"),
-        (Reason::HeaderLength, 8, "HeaderLength"),
-        (Reason::BlockCount, 17, "BlockCount"),
-        (Reason::NoTriples, 24, "NoTriples"),
-        (Reason::TrailingBytes, 33, "TrailingBytes"),
-    ];
-    for (reason, number, name) in table {
-        assert_eq!(rt; reason.number(), number, "{name}");
-        assert!(rt; reason.name() == name, "{name}");
+fn prints_reasons(rt: HostRuntime) -> Result<(), Fail> {
+    for reason in &REASONS {
+        let number = reason.number();
+        let name = reason.name();
+        println!(rt; "reason {number} {name}")?;
     }
+    Ok(())
+}
+
+#[test]
+fn faults_and_failures_print(rt: HostRuntime) -> Result<(), Fail> {
     let fault = Fault {
         place: 68,
         reason: Reason::Truncated,
     };
     assert!(rt; fault.to_string(rt.alloc())?.as_str() == "Truncated at 68");
+    assert!(rt; Failed.to_string(rt.alloc())?.as_str() == "a read or a write failed");
     Ok(())
 }
 
-/// Answers each call by the next of its answers: bytes moved, or a failure. It counts its calls.
+/// A mebibyte, which hides no limit of a table, a page or a 16-bit count.
+const LARGE: usize = 1 << 20;
+
+#[test]
+fn appends_to_what_is_large(rt: HostRuntime) -> Result<(), Fail> {
+    let mut bytes = vec![in rt.alloc(); b'x'; LARGE]?;
+    put_vbyte(128, &mut bytes)?;
+    assert!(rt; bytes.len() == LARGE + 2 && bytes.ends_with(&[0x00, 0x81]));
+    for v in 0..100_000_u64 {
+        put_vbyte(v, &mut bytes)?;
+    }
+    // 128 numbers of one byte, 16,256 of two, the rest of three.
+    assert_eq!(rt; bytes.len(), LARGE + 2 + 128 + 2 * 16_256 + 3 * 83_616);
+    Ok(())
+}
+
+#[test]
+fn a_property_text_may_be_large(rt: HostRuntime) -> Result<(), Fail> {
+    let text = vec![in rt.alloc(); b'x'; LARGE]?;
+    let mut bytes = Vec::new(rt.alloc());
+    assert!(rt; !text.contains(&0));
+    put_control(Kind::Header, &text, &mut bytes)?;
+    // The cookie, the kind, `ntriples` and a zero byte, the text and a zero byte, and the code.
+    assert_eq!(rt; bytes.len(), 4 + 1 + 9 + LARGE + 1 + 2);
+    let read = read_control(&bytes, 0, Kind::Header).ok().ok_or("refused")?;
+    assert!(rt; read.properties() == text.as_slice());
+    assert_eq!(rt; read.end(), bytes.len());
+    Ok(())
+}
+
+/// Answers each call by the next of its answers: bytes moved, or a failure. It counts its calls of each kind.
 #[derive(Drop)]
 struct Planned {
-    answers: [Option<usize>; 3],
-    calls: usize,
+    answers: [Option<usize>; 5],
+    reads: usize,
+    writes: usize,
+    flushes: usize,
 }
 
 impl Planned {
-    fn answer(&mut self, room: usize) -> io::Result<usize>
+    /// Moves 2 bytes, fails, moves 0, fails, and is at its end.
+    fn new() -> Planned {
+        Planned {
+            answers: [Some(2), None, Some(0), None, Some(0)],
+            reads: 0,
+            writes: 0,
+            flushes: 0,
+        }
+    }
+
+    fn answer(&self, room: usize) -> io::Result<usize>
         ensures { IfOk result (λ n. n ≤ room) }
     {
-        let planned = self.answers.get(self.calls).copied().flatten();
-        self.calls = self.calls.saturating_add(1);
-        match planned {
+        let calls = self.reads.saturating_add(self.writes);
+        match self.answers.get(calls.saturating_sub(1)).copied().flatten() {
             Some(n) => Ok(n.min(room)),
             None => Err(io::Error::from(io::ErrorKind::Interrupted)),
         }
+    }
+
+    fn calls(&self) -> [usize; 3] {
+        [self.reads, self.writes, self.flushes]
     }
 }
 
 impl Read for Planned {
     fn read(&mut self, buf: &mut [u8]) -> io::Result<usize> {
+        self.reads = self.reads.saturating_add(1);
         self.answer(buf.len())
     }
 }
 
 impl Write for Planned {
     fn write(&mut self, buf: &[u8]) -> io::Result<usize> {
+        self.writes = self.writes.saturating_add(1);
         self.answer(buf.len())
     }
 
     fn flush(&mut self) -> io::Result<()> {
+        self.flushes = self.flushes.saturating_add(1);
         Ok(())
     }
 }
 
-const PLAN: Planned = Planned {
-    answers: [Some(2), None, Some(0)],
-    calls: 0,
-};
-
 #[test]
 fn reads_by_one_call_each(rt: HostRuntime) {
-    let mut input = Counted::new(PLAN);
-    let mut buf = [0u8; 3];
-    assert_eq!(rt; input.read(&mut buf), Ok(2));
-    assert_eq!(rt; input.read(&mut buf), Err(Failed));
-    assert_eq!(rt; input.read(&mut buf), Ok(0));
-    assert_eq!(rt; input.into_inner().calls, 3);
+    // After so many calls, the last answer, with a buffer of three bytes.
+    for (calls, last) in [
+        (1, Ok(2)),
+        (2, Err(Failed)),
+        (3, Ok(0)),
+        (4, Err(Failed)),
+        (5, Ok(0)),
+    ] {
+        let mut input = Counted::new(Planned::new());
+        let mut buf = [0u8; 3];
+        let mut seen = Ok(usize::MAX);
+        for _ in 0..calls {
+            seen = input.read(&mut buf);
+        }
+        assert_eq!(rt; seen, last, "call {calls}");
+        assert_eq!(rt; input.into_inner().calls(), [calls, 0, 0]);
+    }
 }
 
 #[test]
 fn writes_by_one_call_each(rt: HostRuntime) {
-    let mut out = Counted::new(PLAN);
-    assert_eq!(rt; out.write(b"abc"), Ok(2));
-    assert_eq!(rt; out.write(b"abc"), Err(Failed));
-    assert_eq!(rt; out.write(b"abc"), Err(Failed), "nothing taken");
-    assert_eq!(rt; out.into_inner().calls, 3);
+    // After so many calls, the last answer, with a slice of three bytes: one that takes nothing is a failure.
+    for (calls, last) in [
+        (1, Ok(2)),
+        (2, Err(Failed)),
+        (3, Err(Failed)),
+        (4, Err(Failed)),
+        (5, Err(Failed)),
+    ] {
+        let mut out = Counted::new(Planned::new());
+        let mut seen = Ok(usize::MAX);
+        for _ in 0..calls {
+            seen = out.write(b"abc");
+        }
+        assert_eq!(rt; seen, last, "call {calls}");
+        assert_eq!(rt; out.into_inner().calls(), [0, calls, 0]);
+    }
+}
+
+#[test]
+fn nothing_asked_is_no_failure(rt: HostRuntime) {
+    let mut input = Counted::new(Planned::new());
+    assert_eq!(rt; input.read(&mut []), Ok(0));
+    assert_eq!(rt; input.into_inner().calls(), [1, 0, 0]);
+    let mut out = Counted::new(Planned::new());
+    assert_eq!(rt; out.write(&[]), Ok(0));
+    assert_eq!(rt; out.write(&[]), Err(Failed), "the writer failed");
+    assert_eq!(rt; out.into_inner().calls(), [0, 2, 0]);
+}
+
+#[test]
+fn large_buffers_are_handed_on(rt: HostRuntime) -> Result<(), Fail> {
+    let mut buffer = vec![in rt.alloc(); b'x'; 4 * LARGE]?;
+    let mut input = Counted::new(Planned::new());
+    assert_eq!(rt; input.read(&mut buffer), Ok(2));
+    let mut out = Counted::new(Planned::new());
+    assert_eq!(rt; out.write(&buffer), Ok(2));
+    Ok(())
 }
 
 #[test]

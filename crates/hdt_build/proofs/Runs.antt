@@ -1,0 +1,117 @@
+-- A run over the lines of an input, which takes the strings of its triples.
+use Rattle.std.proofs.Common.{◌≡◌, ℕ, ◌<◌, ◌≤◌, Bool, true, false, List, [], ◌∷◌, ◌++◌, length, map, eqb, not, Option, ◌⊎◌, inl, inr, refl, sym, ap, subst, ◌∙◌, arith}
+use Rattle.std.specs.List.{All}
+use Rattle.std.proofs.lemmas.Bool.{eqb-false}
+use Rattle.std.proofs.lemmas.List.{length-append, map_push}
+use Rattle.std.proofs.lemmas.List.Elements.{All-push}
+use Rattle.std.proofs.lemmas.List.Sums.{AllPass-from_list_all}
+use Rattle.hdt_wire.specs.RowLaws.{not-true}
+use Rattle.hdt_dict.specs.Texts.{IsText}
+use Rattle.hdt_terms.specs.declared.fault.LineFault.{LineFault}
+use Rattle.hdt_terms.specs.declared.triple.Triple.{Triple}
+use Rattle.hdt_build.specs.declared.fault.BuildFault.{BuildFault}
+use Rattle.hdt_terms.specs.Documents.{IsDocument, Ran, FaultInDocument}
+use Rattle.hdt_terms.specs.LineReading.{AreStrings}
+use Rattle.hdt_terms.specs.Lines.{SpelledTriple}
+use Rattle.hdt_terms.specs.Taking.{State, TakesTriple, start, left}
+use Rattle.hdt_terms.specs.Terms as terms
+use Rattle.hdt_terms.specs.Terms.{str}
+use Rattle.hdt_build.specs.Graph.{StringTriple, subjects_of, predicates_of, objects_of}
+use Rattle.hdt_build.specs.Reading.{most, strings_of, IsGraphIn, AreTexts, IsFaultOf, Tells}
+
+pub either : (b : Bool) → (b ≡ true) ⊎ (b ≡ false)
+either true = inl refl
+either false = inr refl
+
+-- the triples so far, as strings
+pub record Run (s : State) (input mid : Option (List ℕ)) (graph : List StringTriple) : Type 0 where
+  pub triples : List Triple
+  pub strings : graph ≡ map strings_of triples
+  pub going : s.ended ≡ false → Ran most s input mid triples
+  pub ended : s.ended ≡ true → IsDocument most input triples
+
+same_strings : (a b c d e f : List ℕ) → a ≡ b → c ≡ d → e ≡ f → let l : StringTriple = (a, c, e) in let r : StringTriple = (b, d, f) in l ≡ r
+same_strings a b c d e f p q r = cc
+
+strings_more : (graph : List StringTriple) (triples : List Triple) (triple : Triple) (s p o : List ℕ) → graph ≡ map strings_of triples → AreStrings triple s p o
+    → graph ++ (s, p, o) ∷ [] ≡ map strings_of (triples ++ triple ∷ [])
+strings_more graph triples triple s p o is t =
+    let one : let l : StringTriple = (s, p, o) in l ≡ strings_of triple = same_strings _ _ _ _ _ _ t.s_is t.p_is t.o_is in
+    (λ i. is i ++ one i ∷ []) ∙ sym (map_push strings_of triples triple)
+
+-- one more triple
+pub run_on : (s new : State) (input mid after : Option (List ℕ)) (graph : List StringTriple) (triple : Triple) (a b c : List ℕ) → Run s input mid graph → s.ended ≡ false → AreStrings triple a b c
+    → ((triples : List Triple) → Ran most s input mid triples → new.ended ≡ false → Ran most new input after (triples ++ triple ∷ []))
+    → ((triples : List Triple) → Ran most s input mid triples → new.ended ≡ true → IsDocument most input (triples ++ triple ∷ []))
+    → Run new input after (graph ++ (a, b, c) ∷ [])
+run_on s new input mid after graph triple a b c r still are on last = record {
+  triples = r.triples ++ triple ∷ [];
+  strings = strings_more graph r.triples triple a b c r.strings are;
+  going = λ e. on r.triples (r.going still) e;
+  ended = λ e. last r.triples (r.going still) e;
+}
+
+-- ---- texts
+
+text_of : (x : List ℕ) → terms.IsText x → IsText x
+text_of x h = record {
+  utf8 = h.utf8;
+  no_zero = λ k d lt. eqb-false _ _ (not-true _ (AllPass-from_list_all (λ (c : ℕ). not (eqb c 0)) x h.no_zero k d lt));
+}
+
+pub texts_more : (graph : List StringTriple) (triple : Triple) (s p o : List ℕ) → AreTexts graph → AreStrings triple s p o
+    → terms.IsText (str triple.s) → terms.IsText (str triple.p) → terms.IsText (str triple.o) → AreTexts (graph ++ (s, p, o) ∷ [])
+texts_more graph triple s p o h are a b c = record {
+  subjects_are = subst (All IsText) (sym (map_push (λ (t : StringTriple). t.0) graph (s, p, o))) (All-push IsText (subjects_of graph) s h.subjects_are (subst IsText (sym are.s_is) (text_of (str triple.s) a)));
+  predicates_are = subst (All IsText) (sym (map_push (λ (t : StringTriple). t.1) graph (s, p, o))) (All-push IsText (predicates_of graph) p h.predicates_are (subst IsText (sym are.p_is) (text_of (str triple.p) b)));
+  objects_are = subst (All IsText) (sym (map_push (λ (t : StringTriple). t.2) graph (s, p, o))) (All-push IsText (objects_of graph) o h.objects_are (subst IsText (sym are.o_is) (text_of (str triple.o) c)));
+}
+
+-- no triples have no strings
+pub no_texts : AreTexts []
+no_texts = record {
+  subjects_are = λ k d lt. absurd (omega arith);
+  predicates_are = λ k d lt. absurd (omega arith);
+  objects_are = λ k d lt. absurd (omega arith);
+}
+
+-- the line of a triple that was taken
+pub line_of : (x y : Option (List ℕ)) (old new : State) (triple : Triple) → TakesTriple old new x y triple → (text : List ℕ) × SpelledTriple text triple
+line_of x y old new triple t = (t.4.0, t.4.1.1)
+
+-- ---- each line with a triple has a byte
+
+behind : (a b : List ℕ) → 0 < length b → 0 < length (a ++ b)
+behind a b lt = omega (arith, length-append a b)
+
+triple_some : (text : List ℕ) (triple : Triple) → SpelledTriple text triple → 0 < length text
+triple_some text triple h =
+    subst (λ (l : List ℕ). 0 < length l) (sym h.whole)
+    (behind h.before_s _ (behind h.s _ (behind h.before_p _ (behind h.p _ (behind h.before_o _ (behind h.o _ (behind h.before_stop (46 ∷ h.behind) (omega arith))))))))
+
+pub triple_size : (x y : Option (List ℕ)) (old new : State) (triple : Triple) → TakesTriple old new x y triple → (old.taken < new.taken) × (new.taken ≤ old.limit) × (new.limit ≡ old.limit)
+triple_size x y old new triple t =
+    let some : 0 < length t.1 = elim t.4.3 [ inl w ↦ omega (arith, ap length w.2, length-append t.4.0 (w.0 ∷ [])) | inr w ↦ subst (λ l. 0 < length l) (sym w.0) (triple_some t.4.0 triple t.4.1.1) ] in
+    (omega (arith, t.2.taken, length-append t.0 t.1), omega (arith, t.2.within, t.2.limit), t.2.limit)
+
+-- ---- the ends of a run
+
+pub run_begins : (s : State) (input : Option (List ℕ)) (graph : List StringTriple) → s ≡ start most → graph ≡ [] → Ran most (start most) input (left (start most) input) [] → Run s input (left s input) graph
+run_begins s input graph e none h = record {
+  triples = [];
+  strings = none;
+  going = λ _. subst (λ (t : State). Ran most t input (left t input) []) (sym e) h;
+  ended = λ end. absurd (let f : s.ended ≡ false = ap (λ (t : State). t.ended) e in cc);
+}
+
+pub told_of : (before after : Option (List ℕ)) (fault : LineFault) (told : BuildFault) → IsFaultOf fault told → FaultInDocument fault most before after → Tells before after told
+told_of before after fault told (inl e) h = subst (Tells before after) (sym e.1) tt
+told_of before after fault told (inr e) h = subst (Tells before after) (sym e.1) (h, e.0)
+
+empty_map : (triples : List Triple) → map strings_of triples ≡ [] → triples ≡ []
+empty_map [] e = refl
+empty_map (t ∷ ts) e = absurd cc
+
+-- a graph without triples is that of a document without triples
+pub no_triples : (input : Option (List ℕ)) (graph : List StringTriple) → IsGraphIn input graph → graph ≡ [] → IsDocument most input []
+no_triples input graph h none = subst (IsDocument most input) (empty_map h.triples (sym h.strings ∙ none)) h.document

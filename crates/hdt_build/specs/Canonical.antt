@@ -1,0 +1,28 @@
+-- The canonical file of a graph: of all layouts that hold it, the one that is written.
+use Rattle.std.specs.Prelude.{◌≡◌, ℕ, ◌<◌, List, [], ◌++◌, length}
+use Rattle.hdt_wire.specs.declared.control.Kind.TheVariants as kinds
+use Rattle.hdt_wire.specs.Control.{control}
+use Rattle.hdt_dict.specs.Split.{FourLists}
+use Rattle.hdt_dict.specs.Writing.{AreSections, canonical_dictionary}
+use Rattle.hdt_triples.specs.Counting.{Triple}
+use Rattle.hdt_triples.specs.Writing.{canonical_triples}
+use Rattle.hdt_build.specs.Graph.{StringTriple, IsForm}
+use Rattle.hdt_build.specs.Header.{length_property}
+
+-- the head of a file: the global block without properties, the header block with the length of the header body, the body
+unfoldable pub canonical_head : List ℕ → List ℕ
+canonical_head header = control kinds.Global [] ++ (control kinds.Header (length_property (length header)) ++ header)
+
+-- the bytes of a header body, a dictionary in blocks of b and number triples: the head, the dictionary, the triples
+unfoldable pub canonical_file : List ℕ → ℕ → FourLists → List Triple → List ℕ
+canonical_file header b d ts = canonical_head header ++ (canonical_dictionary b d ++ canonical_triples ts)
+
+-- The bytes are the canonical file of a header body, a set of string triples, of which there is one at least, and a block
+-- size. The set is given as a list, in any order and with repeats.
+pub record IsCanonical (header : List ℕ) (graph : List StringTriple) (b : ℕ) (bytes : List ℕ) : Type 0 where
+  pub dictionary : FourLists
+  pub triples : List Triple
+  pub some : 0 < length graph
+  pub form : IsForm graph dictionary triples
+  pub sections : AreSections dictionary
+  pub bytes_are : bytes ≡ canonical_file header b dictionary triples

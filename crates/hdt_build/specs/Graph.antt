@@ -1,0 +1,81 @@
+-- A graph as string triples, and its dictionary and number triples (HDT submission, dictionary and triples).
+use Rattle.std.specs.Prelude.{ℕ, List, [], map, length, slice_index_or, ◌++◌, ◌&&◌, Bool, nat_eq}
+use Rattle.std.specs.declared.cmp.Ordering.{Ordering}
+use Rattle.std.specs.Ordering.{nat_cmp, ordering_then}
+use Rattle.std.specs.List.{All}
+use Rattle.std.specs.List.Sorted.{IsStrictlySortedBy}
+use Rattle.hdt_dict.specs.Split.{FourLists, IsSplit}
+use Rattle.hdt_dict.specs.Strings.{SameMembers}
+use Rattle.hdt_triples.specs.Counting.{Triple, Counts}
+use Rattle.hdt_triples.specs.Order.{IsInRange}
+use Rattle.hdt_build.specs.Numbers.{term_at}
+
+-- the strings of a subject, a predicate and an object
+abbrev pub StringTriple : Type 0
+StringTriple = List ℕ × List ℕ × List ℕ
+
+abbrev pub subjects_of : List StringTriple → List (List ℕ)
+subjects_of g = map (λ t. t.0) g
+
+abbrev pub predicates_of : List StringTriple → List (List ℕ)
+predicates_of g = map (λ t. t.1) g
+
+abbrev pub objects_of : List StringTriple → List (List ℕ)
+objects_of g = map (λ t. t.2) g
+
+-- ---- the strings of a role in the order of their numbers, which count from 1
+
+abbrev pub subject_terms : FourLists → List (List ℕ)
+subject_terms d = d.shared ++ d.subjects
+
+abbrev pub predicate_terms : FourLists → List (List ℕ)
+predicate_terms d = d.predicates
+
+abbrev pub object_terms : FourLists → List (List ℕ)
+object_terms d = d.shared ++ d.objects
+
+-- how many there are
+abbrev pub counts_of : FourLists → Counts
+counts_of d = record { subjects = length (subject_terms d); predicates = length (predicate_terms d); objects = length (object_terms d) }
+
+-- ---- number triples
+
+-- by subject, then predicate, then object number
+abbrev pub triple_cmp : Triple → Triple → Ordering
+triple_cmp x y = ordering_then (ordering_then (nat_cmp x.0 y.0) (nat_cmp x.1 y.1)) (nat_cmp x.2 y.2)
+
+abbrev pub triple_eq : Triple → Triple → Bool
+triple_eq x y = (nat_eq x.0 y.0 && nat_eq x.1 y.1) && nat_eq x.2 y.2
+
+-- each triple is less than those after it
+abbrev pub AscendingTriples : List Triple → Type 0
+AscendingTriples = IsStrictlySortedBy triple_cmp
+
+-- each number of a triple is from 1 to the count of its role
+abbrev pub InRange : FourLists → Triple → Type 0
+InRange d t = IsInRange (counts_of d) t
+
+-- the string triple of a number triple
+abbrev pub string_triple : FourLists → Triple → StringTriple
+string_triple d t = (term_at (subject_terms d) t.0, term_at (predicate_terms d) t.1, term_at (object_terms d) t.2)
+
+-- the graph that number triples stand for
+abbrev pub denoted : FourLists → List Triple → List StringTriple
+denoted d ts = map (string_triple d) ts
+
+-- The dictionary and the number triples of a graph: the sections hold exactly the strings that it uses in their roles,
+-- and the triples, in ascending order, stand for exactly its triples.
+pub record IsForm (g : List StringTriple) (d : FourLists) (ts : List Triple) : Type 0 where
+  pub sections : IsSplit (subjects_of g) (predicates_of g) (objects_of g) d
+  pub ascending : AscendingTriples ts
+  pub in_range : All (InRange d) ts
+  pub denotes : SameMembers (denoted d ts) g
+
+-- ---- triples as places in three lists of strings
+
+abbrev pub triple_at : (ss ps os : List (List ℕ)) → Triple → StringTriple
+triple_at ss ps os t = (slice_index_or ss t.0 [], slice_index_or ps t.1 [], slice_index_or os t.2 [])
+
+-- their string triples
+abbrev pub triples_of : (ss ps os : List (List ℕ)) → List Triple → List StringTriple
+triples_of ss ps os ids = map (triple_at ss ps os) ids

@@ -1,0 +1,38 @@
+-- What a canonical file is, to those who read it.
+use Rattle.std.specs.Prelude.{◌≡◌, ◌≢◌, ℕ, ◌<◌, List, map, length, slice_index_or}
+use Rattle.hdt_dict.specs.Split.{FourLists}
+use Rattle.hdt_dict.specs.Strings.{SameMembers}
+use Rattle.hdt_dict.specs.declared.role.Role.TheVariants.{Subject, Predicate, Object}
+use Rattle.hdt_file.specs.File.{GraphParts, IsLayout}
+use Rattle.hdt_file.specs.Views.{strings_in}
+use Rattle.hdt_triples.specs.Counting.{Triple}
+use Rattle.hdt_build.specs.Graph.{StringTriple}
+use Rattle.hdt_build.specs.Numbers.{term_at}
+
+-- the string triple of a number triple of a file
+abbrev pub named : GraphParts → Triple → StringTriple
+named g t = (term_at (strings_in g Subject) t.0, term_at (strings_in g Predicate) t.1, term_at (strings_in g Object) t.2)
+
+-- the graph that a file denotes: each of its triples with its numbers replaced by their strings
+abbrev pub denoted_by : GraphParts → List StringTriple
+denoted_by g = map (named g) g.triples
+
+-- no member stands at two places
+abbrev pub AreOnce : List StringTriple → Type 0
+AreOnce ts = (i j : ℕ) (x : StringTriple) → i < j → j < length ts → slice_index_or ts i x ≢ slice_index_or ts j x
+
+-- the file as its users see it
+abbrev pub parts_of : List ℕ → FourLists → List Triple → GraphParts
+parts_of header d ts = record {
+  header = header;
+  dictionary = record { shared = d.shared; subjects = d.subjects; predicates = d.predicates; objects = d.objects };
+  triples = ts;
+}
+
+-- The bytes are a layout with this header body, and what they denote lists exactly the graph's triples, each once.
+pub record IsLayoutOf (header : List ℕ) (graph : List StringTriple) (bytes : List ℕ) : Type 0 where
+  pub parts : GraphParts
+  pub layout : IsLayout bytes parts
+  pub header_is : parts.header ≡ header
+  pub exactly : SameMembers (denoted_by parts) graph
+  pub once : AreOnce (denoted_by parts)

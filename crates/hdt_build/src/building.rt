@@ -1,0 +1,149 @@
+//! From N-Triples to a file.
+ghost use Rattle.std.specs.Prelude.{◌≡◌, ◌≢◌, ◌<◌, ◌+◌, ◌↔◌, [], ℕ, length, take, IfOk, IfErr, OnOk, IsErrOf};
+ghost use Rattle.std.specs.Io.KnownBytes.{Appends};
+ghost use Rattle.hdt_wire.specs.Counted.{inner, failures};
+ghost use Rattle.hdt_dict.specs.Split.{lent_lists_of};
+ghost use Rattle.hdt_build.specs.Built.{report_of, IsBuilt, Builds, Writes, Begins};
+ghost use Rattle.hdt_build.specs.Documents.{graph_of, IsSound};
+ghost use Rattle.hdt_build.specs.Options.{AreRight};
+ghost use Rattle.hdt_build.specs.Reading.{AreTexts, Tells, ReadFailed};
+
+use crate::document::Document;
+use crate::fault::BuildFault;
+use crate::file::canonical_file;
+use crate::form::Form;
+use crate::header::header_body;
+use crate::options::{Options, are_right};
+use crate::reading::read_graph;
+use crate::report::Report;
+use hdt_wire::Counted;
+use std::alloc::{AllocError, Global};
+use std::io::{Read, Write};
+
+/// The numbers of a file with these sections and triples.
+#[tactic(auto, unfolding(crate::specs::Built::report_of, hdt_dict::specs::Split::lent_lists_of))]
+fn report_of(form: &Form<'_>, bytes: &[u8]) -> Report
+    ensures { result ≡ report_of (lent_lists_of form.now.parts) form.now.triples.items bytes.now }
+{
+    Report {
+        triples: form.triples.len() as u64,
+        shared: form.parts.shared.len() as u64,
+        subjects: form.parts.subjects.len() as u64,
+        predicates: form.parts.predicates.len() as u64,
+        objects: form.parts.objects.len() as u64,
+        bytes: bytes.len() as u64,
+    }
+}
+
+/// The canonical file of a document's graph under the options, and its numbers.
+fn built(
+    alloc: Global,
+    document: Document,
+    options: &Options,
+) -> Result<(Vec<u8>, Report), AllocError>
+    requires sound { IsSound document }
+    requires texts { AreTexts (graph_of document) }
+    requires some { 0 < length (graph_of document) }
+    requires right { AreRight options.now }
+    ensures { IfOk result (λ made. IsBuilt options.now (graph_of document) made.0.items made.1) }
+{
+    let (lists, ids) = document.into_lists();
+    let form = lists.form(alloc, ids)?;
+    let header = header_body(alloc, options.base.as_slice(), form.triples.len() as u64)?;
+    let bytes = canonical_file(alloc, header.as_slice(), &form, options.block_size)?;
+    let report = report_of(&form, bytes.as_slice());
+    Ok((bytes, report))
+}
+
+/// The same of what the reader gives, under options that are right.
+fn read_and_build<R: Read>(
+    alloc: Global,
+    input: &mut Counted<R>,
+    options: &Options,
+) -> Result<(Vec<u8>, Report), BuildFault>
+    requires { AreRight options.now }
+    ensures found { IfOk result (λ made. Builds options.now (R.remaining (inner input.old)) made.0.items made.1) }
+    ensures told { IfErr result (Tells (R.remaining (inner input.old)) (R.remaining (inner input.new))) }
+    ensures read { IfErr result (λ e. ReadFailed e → failures input.new ≡ failures input.old + 1) }
+    ensures count { OnOk result (failures input.new ≡ failures input.old) }
+{
+    let document = read_graph(alloc, input)?;
+    if document.is_empty() {
+        return Err(BuildFault::NoTriples);
+    }
+    Ok(built(alloc, document, options)?)
+}
+
+/// Builds the canonical file of the graph of an N-Triples document, in memory: the bytes, and their numbers. The input
+/// may have 2^63 - 1 bytes. The order of its lines, repeats and comments make no difference.
+///
+/// Time is that of reading the lines once and of sorting the strings and the triples, whatever the strings are. Memory is
+/// that of each distinct string of a role once and some 80 bytes for each, 24 bytes a line for its triple and 24 for its
+/// numbers, and the file.
+///
+/// ```text
+/// let (bytes, report) = build_bytes(alloc, &mut input, &options)?;
+/// ```
+///
+/// # Errors
+///
+/// [`BuildFault::BadOptions`], before anything is read; then those of the lines and [`BuildFault::NoTriples`];
+/// [`BuildFault::OutOfMemory`] only where memory was refused. Never [`BuildFault::Write`].
+pub fn build_bytes<R: Read>(
+    alloc: Global,
+    input: &mut Counted<R>,
+    options: &Options,
+) -> Result<(Vec<u8>, Report), BuildFault>
+    // The input is a document, and this is the canonical file of its graph under the options, with its numbers.
+    ensures found { IfOk result (λ made. Builds options.now (R.remaining (inner input.old)) made.0.items made.1) }
+    // Bad options are told exactly where they are so, and then nothing was read.
+    ensures bad { IsErrOf result BuildFault.BadOptions ↔ (AreRight options.now → ⊥) }
+    ensures unread { IsErrOf result BuildFault.BadOptions → input.new ≡ input.old }
+    // Any other fault is one that stands in the input.
+    ensures told { IfErr result (λ e. e ≢ BuildFault.BadOptions → Tells (R.remaining (inner input.old)) (R.remaining (inner input.new)) e) }
+    // The reader failed in this call where the fault says so, and not at Ok.
+    ensures read { IfErr result (λ e. ReadFailed e → failures input.new ≡ failures input.old + 1) }
+    ensures count { OnOk result (failures input.new ≡ failures input.old) }
+{
+    if !are_right(options) {
+        return Err(BuildFault::BadOptions);
+    }
+    read_and_build(alloc, input, options)
+}
+
+/// Builds the canonical file of the graph of an N-Triples document, and then writes it: the bytes of [`build_bytes`]. No
+/// byte is written before the file is whole.
+///
+/// # Errors
+///
+/// Those of [`build_bytes`], with nothing written; [`BuildFault::Write`] where the writer failed, with the count of the
+/// bytes that it took.
+pub fn build<R: Read, W: Write>(
+    alloc: Global,
+    input: &mut Counted<R>,
+    out: &mut Counted<W>,
+    options: &Options,
+) -> Result<Report, BuildFault>
+    // The input is a document, and the writer has gained the canonical file of its graph under the options.
+    ensures written { IfOk result (Writes options.now (R.remaining (inner input.old)) (W.contents (inner out.old)) (W.contents (inner out.new))) }
+    // Bad options are told exactly where they are so, and then nothing was read.
+    ensures bad { IsErrOf result BuildFault.BadOptions ↔ (AreRight options.now → ⊥) }
+    ensures unread { IsErrOf result BuildFault.BadOptions → input.new ≡ input.old }
+    // Any other fault than that of writing is one that stands in the input.
+    ensures told { IfErr result (λ e. e ≢ BuildFault.BadOptions → ((n : ℕ) → e ≢ BuildFault.Write n) → Tells (R.remaining (inner input.old)) (R.remaining (inner input.new)) e) }
+    // The reader failed in this call where the fault says so, and not at Ok.
+    ensures read { IfErr result (λ e. ReadFailed e → failures input.new ≡ failures input.old + 1) }
+    ensures count { OnOk result (failures input.new ≡ failures input.old) }
+    // The writer failed in this call, and has gained exactly the first n bytes.
+    ensures write { IfErr result (λ e. (n : ℕ) → e ≡ BuildFault.Write n → (failures out.new ≡ failures out.old + 1)
+        × Begins options.now (R.remaining (inner input.old)) (W.contents (inner out.old)) (W.contents (inner out.new)) n) }
+    // At Ok it has not failed, and at any other fault nothing was written.
+    ensures well { OnOk result (failures out.new ≡ failures out.old) }
+    ensures unwritten { IfErr result (λ e. ((n : ℕ) → e ≢ BuildFault.Write n) → out.new ≡ out.old) }
+{
+    let (bytes, report) = build_bytes(alloc, input, options)?;
+    match out.write_all(bytes.as_slice()) {
+        Ok(()) => Ok(report),
+        Err(count) => Err(BuildFault::Write(count)),
+    }
+}

@@ -1,0 +1,95 @@
+//! The triples of a document, over strings that are kept once.
+ghost use Rattle.std.specs.Prelude.{◌≡◌, ◌<◌, ◌++◌, ◌∷◌, [], length, slice_index_or, IfOk, OnOk, IsTrue, ◌↔◌};
+ghost use Rattle.std.specs.List.{All};
+ghost use Rattle.hdt_build.specs.Documents.{graph_of, IsSound};
+ghost use Rattle.hdt_build.specs.Texts.{with_text};
+
+use crate::interner::Interner;
+use crate::lists::Lists;
+use std::alloc::{AllocError, Global};
+
+/// The triples of a document, as places in three lists of strings.
+#[derive(Drop)]
+pub struct Document {
+    subjects: Interner,
+    predicates: Interner,
+    objects: Interner,
+    ids: Vec<(usize, usize, usize)>,
+}
+
+/// A place of a subject in the list, at whose end it is put where none is known. Where the triple before has the same
+/// subject, it isn't looked up.
+fn subject_place(
+    alloc: Global,
+    list: &mut Interner,
+    ids: &[(usize, usize, usize)],
+    subject: &[u8],
+) -> Result<usize, AllocError>
+    requires { All (λ t. t.0 < length list.old) ids.now }
+    ensures within { IfOk result (λ i. i < length list.new) }
+    ensures is { IfOk result (λ i. slice_index_or list.new i [] ≡ subject.now) }
+    ensures list { IfOk result (λ i. list.new ≡ with_text list.old subject.now i) }
+{
+    if let Some((before, _, _)) = ids.last() {
+        if list.list().get(*before) == subject {
+            return Ok(*before);
+        }
+    }
+    list.place_of(alloc, subject)
+}
+
+impl Document {
+    /// The document without triples.
+    pub fn new(alloc: Global) -> Result<Document, AllocError>
+        ensures graph { IfOk result (λ made. graph_of made ≡ []) }
+        ensures sound { IfOk result IsSound }
+    {
+        Ok(Document {
+            subjects: Interner::new(alloc)?,
+            predicates: Interner::new(alloc)?,
+            objects: Interner::new(alloc)?,
+            ids: Vec::new(alloc),
+        })
+    }
+
+    /// Puts a triple at the end. Where memory is refused, the document is of no more use.
+    pub fn add(&mut self, alloc: Global, s: &[u8], p: &[u8], o: &[u8]) -> Result<(), AllocError>
+        requires { IsSound self.old }
+        ensures graph { OnOk result (graph_of self.new ≡ graph_of self.old ++ (s.now, p.now, o.now) ∷ []) }
+        ensures sound { OnOk result (IsSound self.new) }
+    {
+        let i = subject_place(alloc, &mut self.subjects, self.ids.as_slice(), s)?;
+        let j = self.predicates.place_of(alloc, p)?;
+        let k = self.objects.place_of(alloc, o)?;
+        self.ids.push((i, j, k))?;
+        Ok(())
+    }
+
+    /// Whether there is no triple.
+    pub fn is_empty(&self) -> bool
+        ensures { IsTrue result ↔ (graph_of self.now ≡ []) }
+    {
+        self.ids.is_empty()
+    }
+
+    /// The strings, without what finds their places, and the triples.
+    pub fn into_lists(self) -> (Lists, Vec<(usize, usize, usize)>)
+        ensures subjects { result.0.subjects ≡ self.subjects }
+        ensures predicates { result.0.predicates ≡ self.predicates }
+        ensures objects { result.0.objects ≡ self.objects }
+        ensures ids { result.1.items ≡ self.ids.items }
+    {
+        let Document {
+            subjects,
+            predicates,
+            objects,
+            ids,
+        } = self;
+        let lists = Lists {
+            subjects: subjects.into_list(),
+            predicates: predicates.into_list(),
+            objects: objects.into_list(),
+        };
+        (lists, ids)
+    }
+}

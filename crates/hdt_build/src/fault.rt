@@ -1,0 +1,44 @@
+//! Why nothing was built.
+ghost use Rattle.std.specs.Prelude.{◌≡◌};
+ghost use Rattle.hdt_build.specs.declared.fault.BuildFault.TheVariants as faults;
+
+use hdt_terms::LineFault;
+use std::alloc::{AllocError, AllocFailed};
+use thiserror::Error;
+
+/// Why nothing was built, or not all of it was written.
+#[derive(Clone, Copy, Debug, PartialEq, Eq, Error)]
+pub enum BuildFault {
+    /// The input has this fault, or the reader failed; nothing was written. The reason is never want of memory.
+    #[error("the input has a fault: {0}")]
+    Line(LineFault),
+    /// The input is a document without triples; nothing was written. A file needs one triple at least.
+    #[error("the input has no triples")]
+    NoTriples,
+    /// The block size or the base is not one that can be taken; nothing was read or written.
+    #[error("the options are not ones that can be taken")]
+    BadOptions,
+    /// Memory was refused; nothing was written. With more memory the call may be made again, over the input from its
+    /// start.
+    #[error("out of memory")]
+    OutOfMemory,
+    /// The writer failed after it had taken so many bytes, which are the first ones of the file.
+    #[error("writing failed after {0} bytes")]
+    Write(u64),
+}
+
+impl From<AllocError> for BuildFault {
+    ghost from_gives = { λ _ e. e ≡ faults.OutOfMemory };
+
+    fn from(_error: AllocError) -> BuildFault {
+        BuildFault::OutOfMemory
+    }
+}
+
+impl<T: Drop> From<AllocFailed<T>> for BuildFault {
+    ghost from_gives = { λ _ e. e ≡ faults.OutOfMemory };
+
+    fn from(_error: AllocFailed<T>) -> BuildFault {
+        BuildFault::OutOfMemory
+    }
+}

@@ -1,0 +1,44 @@
+//! The bytes of a file, in its canonical form.
+ghost use Rattle.std.specs.Prelude.{◌≡◌, ◌≤◌, ◌++◌, IfOk, OnOk};
+ghost use Rattle.hdt_dict.specs.Split.{lent_lists_of};
+ghost use Rattle.hdt_dict.specs.Writing.{AreSections};
+ghost use Rattle.hdt_triples.specs.Order.{AreWritable};
+ghost use Rattle.hdt_build.specs.Canonical.{canonical_head, canonical_file};
+
+use crate::form::Form;
+use crate::header::length_property;
+use hdt_dict::put_lent_dictionary;
+use hdt_triples::put_triples;
+use hdt_wire::{Kind, put_control};
+use std::alloc::{AllocError, Global};
+
+/// Appends the head of a file with this header body: the global block, the header block and the body.
+#[tactic(auto, using(std::proofs::Common::append_assoc, crate::proofs::Heads::length_no_zero), unfolding(crate::specs::Canonical::canonical_head))]
+fn put_head(alloc: Global, header: &[u8], out: &mut Vec<u8>) -> Result<(), AllocError>
+    ensures { OnOk result (out.new.items ≡ out.old.items ++ canonical_head header.now) }
+{
+    let properties = length_property(alloc, header.len() as u64)?;
+    put_control(Kind::Global, b"", out)?;
+    put_control(Kind::Header, properties.as_slice(), out)?;
+    out.extend_from_slice(header)
+}
+
+/// The canonical file of a header body, the four sections and the number triples of a graph, and a block size.
+#[tactic(auto, using(std::proofs::Common::append_assoc), unfolding(crate::specs::Canonical::canonical_file))]
+pub fn canonical_file(
+    alloc: Global,
+    header: &[u8],
+    form: &Form<'_>,
+    block_size: u32,
+) -> Result<Vec<u8>, AllocError>
+    requires sections { AreSections (lent_lists_of form.now.parts) }
+    requires triples { AreWritable form.now.triples.items }
+    requires block { 1 ≤ block_size }
+    ensures { IfOk result (λ bytes. bytes.items ≡ canonical_file header.now block_size (lent_lists_of form.now.parts) form.now.triples.items) }
+{
+    let mut bytes = Vec::new(alloc);
+    put_head(alloc, header, &mut bytes)?;
+    put_lent_dictionary(alloc, &form.parts, block_size, &mut bytes)?;
+    put_triples(alloc, form.triples.as_slice(), &mut bytes)?;
+    Ok(bytes)
+}

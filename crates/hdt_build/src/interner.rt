@@ -1,0 +1,156 @@
+//! Strings kept once, as far as a cache of their places remembers them.
+ghost use Rattle.std.specs.Prelude.{◌≡◌, ◌<◌, ◌≤◌, ◌++◌, ◌∷◌, [], ℕ, List, ◌+◌, IfSome, length, slice_index_or, vec_len, IfOk, OnOk, OnErr};
+ghost use Rattle.hdt_build.specs.Texts.{with_text};
+
+use hdt_dict::Arena;
+use std::alloc::{AllocError, Global};
+use std::hash::{FoldHasher, Hasher};
+use std::marker::Model;
+
+/// How many slots a string may stand in, from its hash's on.
+const PROBES: usize = 8;
+
+/// How many slots there are at first.
+const FIRST: usize = 1024;
+
+/// A list of strings with a cache of their places. A look-up goes over a few slots and no more. Where strings have one
+/// hash, which anyone can bring about, the cache loses some of them; a string that it has lost is listed again, and the
+/// sorting drops it. So no choice of strings makes a look-up slow.
+#[derive(Drop)]
+pub struct Interner {
+    list: Arena,
+    /// The upper half of a string's hash, and its place + 1; 0 is a free slot.
+    slots: Vec<u64>,
+}
+
+impl Model for Interner {
+    ghost Value = { List (List ℕ) };
+
+    ghost view = { λ s. s.list };
+
+    ghost invariant = { λ s. 8 ≤ vec_len s.slots };
+}
+
+/// The hash of a text. Nothing is promised of it.
+fn hash(text: &[u8]) -> u64 {
+    let mut hasher = FoldHasher::default();
+    hasher.write(text);
+    hasher.finish()
+}
+
+/// The first slot of those for a hash.
+fn first_slot(slots: &[u64], hash: u64) -> usize
+    requires { 8 ≤ length slots.now }
+    ensures { result + 8 ≤ length slots.now }
+{
+    let room = slots.len() - PROBES;
+    ((hash >> 32) as u128 * (room + 1) as u128 >> 32) as usize
+}
+
+/// The place at which the list has the text, where the cache knows it.
+fn find(list: &Arena, slots: &[u64], text: &[u8], hash: u64) -> Option<usize>
+    ensures { IfSome result (λ i. (i < length list.now) × (slice_index_or list.now i [] ≡ text.now)) }
+{
+    for entry in slots {
+        if *entry >> 32 == hash >> 32 {
+            let at = ((*entry & 0xFFFF_FFFF) as usize).wrapping_sub(1);
+            if at < list.len() && list.get(at) == text {
+                return Some(at);
+            }
+        }
+    }
+    None
+}
+
+/// Puts an entry into the first free slot of those for its hash, or else over the last one.
+fn put(slots: &mut [u64], entry: u64)
+    requires { 8 ≤ length slots.old }
+{
+    let from = first_slot(slots, entry);
+    for at in from..from + PROBES - 1 {
+        if slots[at] == 0 {
+            slots[at] = entry;
+            return;
+        }
+    }
+    slots[from + PROBES - 1] = entry;
+}
+
+/// Keeps the place of a string, where it is small enough for an entry.
+fn remember(slots: &mut [u64], hash: u64, at: usize)
+    requires { 8 ≤ length slots.old }
+{
+    if at < 0xFFFF_FFFF {
+        put(slots, (hash & 0xFFFF_FFFF_0000_0000) | (at as u64 + 1));
+    }
+}
+
+/// The slots for twice as many strings; an entry is lost where those for its hash are full.
+fn doubled(alloc: Global, slots: &[u64]) -> Result<Vec<u64>, AllocError>
+    requires { 8 ≤ length slots.now }
+    ensures { IfOk result (λ made. 8 ≤ vec_len made) }
+{
+    let mut made = Vec::from_elem(alloc, 0, slots.len().saturating_mul(2))?;
+    for entry in slots {
+        if *entry != 0 {
+            put(made.as_mut_slice(), *entry);
+        }
+    }
+    Ok(made)
+}
+
+impl Interner {
+    pub fn new(alloc: Global) -> Result<Interner, AllocError>
+        ensures { IfOk result (λ made. made ≡ []) }
+    {
+        Ok(Interner {
+            list: Arena::new(alloc)?,
+            slots: Vec::from_elem(alloc, 0, FIRST)?,
+        })
+    }
+
+    /// The strings, each at its place.
+    pub fn list(&self) -> &Arena
+        ensures { result.now ≡ self.now }
+    {
+        &self.list
+    }
+
+    /// The strings alone, without what finds their places.
+    pub fn into_list(self) -> Arena
+        ensures { result ≡ self }
+    {
+        let Interner { list, slots: _ } = self;
+        list
+    }
+
+    /// A place of a string in the list, at whose end it is put where the cache doesn't know one.
+    pub fn place_of(&mut self, alloc: Global, text: &[u8]) -> Result<usize, AllocError>
+        ensures within { IfOk result (λ i. i < length self.new) }
+        ensures is { IfOk result (λ i. slice_index_or self.new i [] ≡ text.now) }
+        ensures list { IfOk result (λ i. self.new ≡ with_text self.old text.now i) }
+        ensures err { OnErr result (self.new ≡ self.old) }
+    {
+        let hash = hash(text);
+        let from = first_slot(self.slots.as_slice(), hash);
+        match find(&self.list, &self.slots[from..from + PROBES], text, hash) {
+            Some(at) => Ok(at),
+            None => self.add(alloc, text, hash),
+        }
+    }
+
+    /// Puts a string at the end, whether or not it is in the list.
+    fn add(&mut self, alloc: Global, text: &[u8], hash: u64) -> Result<usize, AllocError>
+        ensures at { IfOk result (λ i. i ≡ length self.old) }
+        ensures ok { OnOk result (self.new ≡ self.old ++ text.now ∷ []) }
+        ensures err { OnErr result (self.new ≡ self.old) }
+    {
+        let at = self.list.len();
+        if at >= self.slots.len() / 2 {
+            self.slots = doubled(alloc, self.slots.as_slice())?;
+        }
+        self.list.push(text)?;
+        remember(self.slots.as_mut_slice(), hash, at);
+        Ok(at)
+    }
+}

@@ -1,0 +1,57 @@
+//! Laws of canonical files: functions with nothing in them, whose clauses other crates cite.
+ghost use Rattle.std.specs.Prelude.{◌≡◌, ◌≤◌, ◌<◌, ◌^◌, ◌⊎◌, ℕ, List, [], Option, Some, length};
+ghost use Rattle.hdt_dict.specs.Strings.{SameMembers};
+ghost use Rattle.hdt_terms.specs.declared.triple.Triple.{Triple};
+ghost use Rattle.hdt_terms.specs.Lines.{Document};
+ghost use Rattle.hdt_build.specs.Built.{IsBuilt, Builds};
+ghost use Rattle.hdt_build.specs.Canonical.{IsCanonical};
+ghost use Rattle.hdt_build.specs.Graph.{StringTriple};
+ghost use Rattle.hdt_build.specs.Header.{header_body};
+ghost use Rattle.hdt_build.specs.Layouts.{IsLayoutOf};
+ghost use Rattle.hdt_build.specs.Options.{AreRight};
+ghost use Rattle.hdt_build.specs.Reading.{most, Tells, ReadFailed};
+ghost use Rattle.hdt_build.specs.declared.fault.BuildFault.{BuildFault};
+ghost use Rattle.hdt_build.specs.declared.options.Options.{Options};
+ghost use Rattle.hdt_build.specs.declared.report.Report.{Report};
+
+use hdt_terms::line_or_fault;
+
+/// A canonical file is a layout, so `open` of hdt_file accepts it, with its header body; the graph that it denotes lists
+/// exactly the triples that it was made of, each once. So it is with what is built.
+pub fn canonical_files_are_layouts()
+    ensures canonical { (header : List ℕ) (graph : List StringTriple) (b : ℕ) (bytes : List ℕ) (file : IsCanonical header graph b bytes)
+        → 1 ≤ b → b < 2 ^ 64 → length bytes < 2 ^ 64 → length file.triples < 2 ^ 64 → IsLayoutOf header graph bytes }
+    ensures built { (options : Options) (graph : List StringTriple) (bytes : List ℕ) (report : Report) → AreRight options → IsBuilt options graph bytes report
+        → length bytes < 2 ^ 64 → report.triples < 2 ^ 64 → IsLayoutOf (header_body options.base.items report.triples) graph bytes }
+{}
+
+/// Of one header body, one set of triples and one block size there is one canonical file.
+pub fn one_canonical_file()
+    ensures { (header : List ℕ) (g h : List StringTriple) (b : ℕ) (x y : List ℕ) → SameMembers g h
+        → IsCanonical header g b x → IsCanonical header h b y → x ≡ y }
+{}
+
+/// Equal graphs under equal options give equal files, and equal reports.
+pub fn equal_graphs_equal_files()
+    ensures file { (options : Options) (g h : List StringTriple) (x y : List ℕ) (r s : Report) → SameMembers g h
+        → IsBuilt options g x r → IsBuilt options h y s → x ≡ y }
+    ensures report { (options : Options) (g h : List StringTriple) (x y : List ℕ) (r s : Report) → SameMembers g h
+        → IsBuilt options g x r → IsBuilt options h y s → r ≡ s }
+{}
+
+/// An input is one document at most.
+pub fn one_document()
+    ensures { (bytes : List ℕ) (ts us : List Triple) → Document bytes ts → Document bytes us → ts ≡ us }
+{
+    line_or_fault();
+}
+
+/// Of a document without triples nothing is built, and it is told that it has none, unless the reader fails or memory runs
+/// out: so that is told exactly of such a document.
+pub fn no_triples_are_told()
+    ensures unbuilt { (options : Options) (bytes made : List ℕ) (report : Report) → Builds options (Some bytes) made report → Document bytes [] → ⊥ }
+    ensures told { (bytes : List ℕ) (after : Option (List ℕ)) (e : BuildFault) → Tells (Some bytes) after e → Document bytes [] → length bytes ≤ most
+        → (e ≡ BuildFault.NoTriples) ⊎ ((e ≡ BuildFault.OutOfMemory) ⊎ ReadFailed e) }
+{
+    line_or_fault();
+}

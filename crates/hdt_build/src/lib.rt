@@ -1,0 +1,45 @@
+//! The builder of HDT files (HDT format version 1): N-Triples in, the canonical file of their graph out.
+//!
+//! The layer's promise: what is built is the canonical file of the document's graph, byte for byte, whatever the order of
+//! its lines and however often they repeat. `open` of hdt_file accepts it, and the graph that it denotes lists exactly the
+//! document's triples, each once.
+//!
+//! ```text
+//! let options = Options { block_size: 16, base: Vec::from_slice(alloc, b"http://example.org/dataset")? };
+//! let (bytes, report) = build_bytes(alloc, &mut Counted::new(input), &options)?;
+//! let graph = open(alloc, &bytes)?; // report.triples triples
+//! ```
+//!
+//! In reading order: `options`, `report` and `fault`, what is asked for and what is answered; `interner`, strings
+//! kept once, and where they stand; `document`, triples as places of strings, and `lists`, the strings alone;
+//! `reading`, the lines of an input; `placed` and `split`, the strings in order and the four sections; `numbers`, `triples`
+//! and `form`, triples as numbers; `header` and `file`, the bytes; `building`, all of it; `laws`.
+#![tactic(auto)]
+
+mod building;
+mod document;
+mod fault;
+mod file;
+mod form;
+mod header;
+mod interner;
+mod laws;
+mod lists;
+mod numbers;
+mod options;
+mod placed;
+mod reading;
+mod report;
+mod split;
+#[cfg(test)]
+mod tests;
+mod triples;
+
+pub use building::{build, build_bytes};
+pub use fault::BuildFault;
+pub use laws::{
+    canonical_files_are_layouts, equal_graphs_equal_files, no_triples_are_told, one_canonical_file,
+    one_document,
+};
+pub use options::Options;
+pub use report::Report;

@@ -1,0 +1,53 @@
+//! The graph of an N-Triples document.
+ghost use Rattle.std.specs.Prelude.{◌≡◌, ◌+◌, ◌≢◌, Ok, IfOk, IfErr, OnOk, Some};
+ghost use Rattle.hdt_wire.specs.Counted.{inner, failures};
+ghost use Rattle.hdt_terms.specs.declared.fault.LineReason.TheVariants as reasons;
+ghost use Rattle.hdt_build.specs.Documents.{graph_of, IsSound};
+ghost use Rattle.hdt_build.specs.Reading.{IsGraphIn, AreTexts, Tells, IsFaultOf, ReadFailed};
+
+use crate::document::Document;
+use crate::fault::BuildFault;
+use hdt_terms::{LineFault, LineReason, Lines, one_spelled, run_of_lines, strings_are_texts};
+use hdt_wire::Counted;
+use std::alloc::Global;
+use std::io::Read;
+
+/// How many bytes an input can have.
+const MOST: u64 = 9_223_372_036_854_775_807;
+
+/// The fault of a document, as a builder tells it.
+fn fault_of(fault: LineFault) -> BuildFault
+    ensures { IsFaultOf fault result }
+{
+    match fault.reason {
+        LineReason::OutOfMemory => BuildFault::OutOfMemory,
+        _ => BuildFault::Line(fault),
+    }
+}
+
+/// The triples of the document that the reader gives.
+pub fn read_graph<R: Read>(alloc: Global, input: &mut Counted<R>) -> Result<Document, BuildFault>
+    ensures found { IfOk result (λ document. IsGraphIn (R.remaining (inner input.old)) (graph_of document)) }
+    ensures sound { IfOk result IsSound }
+    ensures texts { IfOk result (λ document. AreTexts (graph_of document)) }
+    ensures told { IfErr result (Tells (R.remaining (inner input.old)) (R.remaining (inner input.new))) }
+    ensures read { IfErr result (λ e. ReadFailed e → failures input.new ≡ failures input.old + 1) }
+    ensures some { IfErr result (λ e. e ≢ BuildFault.NoTriples) }
+    ensures count { OnOk result (failures input.new ≡ failures input.old) }
+{
+    run_of_lines();
+    strings_are_texts();
+    one_spelled();
+    let mut lines = Lines::new(alloc, MOST)?;
+    let mut document = Document::new(alloc)?;
+    let mut s = Vec::new(alloc);
+    let mut p = Vec::new(alloc);
+    let mut o = Vec::new(alloc);
+    'triples: loop {
+        match lines.next_strings(input, &mut s, &mut p, &mut o) {
+            Ok(true) => document.add(alloc, s.as_slice(), p.as_slice(), o.as_slice())?,
+            Ok(false) => return Ok(document),
+            Err(fault) => return Err(fault_of(fault)),
+        }
+    }
+}

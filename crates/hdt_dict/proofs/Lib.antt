@@ -1,0 +1,8 @@
+pub mod Texts
+pub mod Splitting
+pub mod Overlaps
+pub mod Rows
+pub mod Numbering
+pub mod Dictionaries
+pub mod Steps
+mod ArenaLaws

@@ -1,0 +1,147 @@
+-- Numbers of strings, and strings of numbers.
+use Rattle.std.proofs.Common.{◌≡◌, ℕ, zero, suc, ◌+◌, ◌≤◌, ◌++◌, ◌||◌, Bool, true, false, cond, List, [], ◌∷◌, length, Option, Some, None, refl, sym, ap, ◌∙◌, arith, ◌↔◌}
+use Rattle.std.specs.Prelude.{option_map, slice_get}
+use Rattle.std.specs.Str.{bytes_eq}
+use Rattle.std.specs.List.{Contains}
+use Rattle.std.specs.Ordering.{is_lt}
+use Rattle.std.proofs.lemmas.Cmp.{nat_list_cmp_total, tied_itself}
+use Rattle.std.proofs.lemmas.Slice.Eq.{bytes_eq-Decides}
+use Rattle.std.proofs.lemmas.Option.{slice_get_within}
+use Rattle.hdt_front.specs.StringRows.{precedes}
+use Rattle.hdt_front.specs.Numbering.{place}
+use Rattle.hdt_front.specs.Walking.{Placed, After, Ascends, strings}
+use Rattle.hdt_dict.specs.Overlap.{is_in}
+use Rattle.hdt_dict.specs.Dictionary.{AreApart}
+use Rattle.hdt_dict.proofs.Rows.{has-is_in, is_in-append}
+use Rattle.hdt_dict.specs.StringsLaws.{has-Contains}
+use Rattle.hdt_dict.specs.Numbered.{numbered}
+use Rattle.hdt_dict.proofs.Overlaps.{not_ahead}
+
+-- ---- equal strings
+
+same : (y x : List ℕ) → bytes_eq y x ≡ true → y ≡ x
+same y x h = (bytes_eq-Decides y x).0 h
+
+itself : (x : List ℕ) → bytes_eq x x ≡ true
+itself x = (bytes_eq-Decides x x).1 refl
+
+not_itself : (x : List ℕ) → precedes x x ≡ false
+not_itself x = ap is_lt (tied_itself nat_list_cmp_total x)
+
+false_is : (b : Bool) → (b ≡ true → ⊥) → b ≡ false
+false_is true h = absurd (h refl)
+false_is false h = refl
+
+both_no : (b : Bool) → b ≡ true → b ≡ false → ⊥
+both_no true h k = cc
+both_no false h k = cc
+
+-- ---- lists without repeats
+
+abbrev pub Distinct : List (List ℕ) → Type 0
+Distinct [] = Unit {0}
+Distinct (x ∷ xs) = (is_in xs x ≡ false) × Distinct xs
+
+distinct_after : (s : List ℕ) (ps : List Placed) → After s ps → Distinct (s ∷ strings ps)
+distinct_after s [] a = (refl, tt)
+distinct_after s (p ∷ ps) a = (not_ahead s s (p ∷ ps) a (not_itself s), distinct_after p.string ps a.1)
+
+pub distinct_ascending : (ps : List Placed) → Ascends ps → Distinct (strings ps)
+distinct_ascending [] a = tt
+distinct_ascending (p ∷ ps) a = distinct_after p.string ps a
+
+contains : (xs : List (List ℕ)) (x : List ℕ) → is_in xs x ≡ true → Contains xs x
+contains xs x h = has-Contains xs x (has-is_in xs x ∙ h)
+
+is_not : (xs : List (List ℕ)) (x : List ℕ) → (Contains xs x → ⊥) → is_in xs x ≡ false
+is_not xs x none = false_is (is_in xs x) (λ h. none (contains xs x h))
+
+pub distinct-append : (xs ys : List (List ℕ)) → Distinct xs → Distinct ys → AreApart xs ys → Distinct (xs ++ ys)
+distinct-append [] ys dx dy n = dy
+distinct-append (x ∷ xs) ys dx dy n =
+    let other : is_in ys x ≡ false = is_not ys x (λ there. n x (0, omega arith, refl) there) in (
+      is_in-append xs ys x ∙ ap (λ b. b || is_in ys x) dx.0 ∙ other,
+      distinct-append xs ys dx.1 dy (λ z a b. n z (suc a.0, omega (arith, a.1), a.2) b),
+    )
+
+-- ---- numbers of two lists, one after the other
+
+abbrev pub in_two : Option ℕ → ℕ → Option ℕ → Option ℕ
+in_two (Some n) k r = Some n
+in_two None k r = option_map (λ m. k + m) r
+
+moved_on : (r : Option ℕ) → r ≡ option_map (λ m. 0 + m) r
+moved_on None = refl
+moved_on (Some m) = let e : m ≡ 0 + m = omega arith in ap Some e
+
+one_more : (o : Option ℕ) (k : ℕ) (r : Option ℕ) → option_map (λ n. n + 1) (in_two o k r) ≡ in_two (option_map (λ n. n + 1) o) (suc k) r
+one_more (Some n) k r = refl
+one_more None k None = refl
+one_more None k (Some m) = let e : k + m + 1 ≡ suc k + m = omega arith in ap Some e
+
+append_by : (b : Bool) (o : Option ℕ) (k : ℕ) (r : Option ℕ) → cond b (Some 1) (option_map (λ n. n + 1) (in_two o k r)) ≡ in_two (cond b (Some 1) (option_map (λ n. n + 1) o)) (suc k) r
+append_by true o k r = refl
+append_by false o k r = one_more o k r
+
+pub place-append : (xs ys : List (List ℕ)) (x : List ℕ) → place (xs ++ ys) x ≡ in_two (place xs x) (length xs) (place ys x)
+unfolding place
+place-append [] ys x = moved_on (place ys x)
+place-append (y ∷ xs) ys x =
+    ap (λ r. cond (bytes_eq y x) (Some 1) (option_map (λ n. n + 1) r)) (place-append xs ys x)
+    ∙ append_by (bytes_eq y x) (place xs x) (length xs) (place ys x)
+
+-- ---- a number is that of its string
+
+some_is : (x y : List ℕ) → (let r : Option (List ℕ) = Some x in r) ≡ Some y → x ≡ y
+some_is x y e = cc
+
+number_is : (m n : ℕ) → (let r : Option ℕ = Some m in r) ≡ Some n → m ≡ n
+number_is m n e = cc
+
+string_by : (b : Bool) (y x : List ℕ) (ys : List (List ℕ)) (r : Option ℕ) (n : ℕ) → bytes_eq y x ≡ b → ((m : ℕ) → r ≡ Some m → numbered ys m ≡ Some x)
+    → cond b (Some 1) (option_map (λ n. n + 1) r) ≡ Some n → numbered (y ∷ ys) n ≡ Some x
+string_by true y x ys r n e rest is = ap (numbered (y ∷ ys)) (sym (number_is 1 n is)) ∙ ap Some (same y x e)
+string_by false y x ys None n e rest is = absurd (cc)
+string_by false y x ys (Some zero) n e rest is = let no_string = rest 0 refl in absurd (cc)
+string_by false y x ys (Some (suc m)) n e rest is =
+    let k : n ≡ suc (suc m) = omega (arith, number_is (suc m + 1) n is) in
+    ap (numbered (y ∷ ys)) k ∙ rest (suc m) refl
+
+pub string_of_number : (xs : List (List ℕ)) (x : List ℕ) (n : ℕ) → place xs x ≡ Some n → numbered xs n ≡ Some x
+unfolding place
+string_of_number [] x n e = absurd (cc)
+string_of_number (y ∷ ys) x n e = string_by (bytes_eq y x) y x ys (place ys x) n refl (λ m h. string_of_number ys x m h) e
+
+member : (xs : List (List ℕ)) (x : List ℕ) (i : ℕ) → slice_get xs i ≡ Some x → is_in xs x ≡ true
+member [] x i e = absurd (cc)
+member (y ∷ ys) x zero e = ap (λ b. b || is_in ys x) (ap (λ z. bytes_eq z x) (some_is y x e) ∙ itself x)
+member (y ∷ ys) x (suc i) e = second_true (bytes_eq y x) (is_in ys x) (member ys x i e)
+  where
+    second_true : (a b : Bool) → b ≡ true → (a || b) ≡ true
+    second_true true b h = refl
+    second_true false b h = h
+
+number_at : (xs : List (List ℕ)) (x : List ℕ) (i : ℕ) → Distinct xs → slice_get xs i ≡ Some x → place xs x ≡ Some (i + 1)
+unfolding place
+number_at [] x i d e = absurd (cc)
+number_at (y ∷ ys) x zero d e =
+    ap (λ b. cond b (Some 1) (option_map (λ n. n + 1) (place ys x))) (ap (λ z. bytes_eq z x) (some_is y x e) ∙ itself x)
+number_at (y ∷ ys) x (suc i) d e =
+    let other : bytes_eq y x ≡ false = false_is (bytes_eq y x) (λ h. both_no (is_in ys x) (member ys x i e) (ap (is_in ys) (sym (same y x h)) ∙ d.0)) in
+    let up : i + 1 + 1 ≡ suc i + 1 = omega arith in
+    ap (λ b. cond b (Some 1) (option_map (λ n. n + 1) (place ys x))) other ∙ ap (option_map (λ n. n + 1)) (number_at ys x i d.1 e) ∙ ap Some up
+
+pub number_of_string : (xs : List (List ℕ)) (x : List ℕ) (n : ℕ) → Distinct xs → numbered xs n ≡ Some x → place xs x ≡ Some n
+number_of_string xs x zero d e = absurd (cc)
+number_of_string xs x (suc i) d e = let up : i + 1 ≡ suc i = omega arith in number_at xs x i d e ∙ ap Some up
+
+pub inverse : (xs : List (List ℕ)) (x : List ℕ) (r : Option ℕ) (n : ℕ) → Distinct xs → r ≡ place xs x → (r ≡ Some n ↔ numbered xs n ≡ Some x)
+inverse xs x r n d e = (λ h. string_of_number xs x n (sym e ∙ h), λ h. e ∙ number_of_string xs x n d h)
+
+numbered_within : (xs : List (List ℕ)) (x : List ℕ) (n : ℕ) → numbered xs n ≡ Some x → n ≤ length xs
+numbered_within xs x zero e = omega arith
+numbered_within xs x (suc i) e = omega (arith, slice_get_within xs i x e)
+
+-- a number is at most the length
+pub place_within : (xs : List (List ℕ)) (x : List ℕ) (n : ℕ) → place xs x ≡ Some n → n ≤ length xs
+place_within xs x n e = numbered_within xs x n (string_of_number xs x n e)

@@ -1,0 +1,185 @@
+-- The first string that stands in another list, by the order of both.
+use Rattle.std.proofs.Common.{◌≡◌, ◌≢◌, ℕ, ◌<◌, ◌||◌, Bool, true, false, cond, List, [], ◌∷◌, length, drop, Option, Some, None, refl, sym, ap, ◌∙◌, subst, arith, Ordering}
+use Rattle.std.specs.Prelude.{Result, Ok, Err, IfOk}
+use Rattle.std.specs.declared.alloc.AllocError.{AllocError}
+use Rattle.std.specs.Str.{bytes_eq}
+use Rattle.std.specs.declared.cmp.Ordering.TheVariants.{Less, Equal, Greater}
+use Rattle.std.specs.Ordering.{nat_cmp, is_lt, is_eq}
+use Rattle.std.specs.Cmp.Lexicographic.{slice_cmp}
+use Rattle.std.proofs.lemmas.Cmp.{nat_list_cmp_total, alike_right}
+use Rattle.std.proofs.lemmas.Map.Text.{is_eq-slice_cmp}
+use Rattle.hdt_front.specs.StringRows.{precedes}
+use Rattle.hdt_front.specs.Walking.{Placed, After, Ascends, first_order, first_string, next_place}
+use Rattle.hdt_dict.specs.Overlap.{is_among, first_place, not_less, is_first}
+
+abbrev order : List ℕ → List ℕ → Ordering
+order x y = slice_cmp nat_cmp x y
+
+-- ---- the order of two strings
+
+less_is : (o : Ordering) → is_lt o ≡ true → o ≡ Less
+less_is Less e = refl
+less_is Equal e = absurd (cc)
+less_is Greater e = absurd (cc)
+
+not_eq : (o : Ordering) → is_lt o ≡ true → is_eq o ≡ false
+not_eq Less e = refl
+not_eq Equal e = absurd (cc)
+not_eq Greater e = absurd (cc)
+
+apart : (y x : List ℕ) → precedes y x ≡ true → bytes_eq y x ≡ false
+apart y x h = sym (is_eq-slice_cmp y x) ∙ not_eq (order y x) h
+
+trans : (x y z : List ℕ) → precedes x y ≡ true → precedes y z ≡ true → precedes x z ≡ true
+trans x y z h k = ap is_lt (nat_list_cmp_total.trans x y z (less_is (order x y) h) (less_is (order y z) k))
+
+-- a string that isn't after s isn't one that is
+not_after : (s p x : List ℕ) (o : Ordering) → order p x ≡ o → precedes s p ≡ true → precedes s x ≡ false → (bytes_eq p x ≡ false) × (precedes p x ≡ false)
+not_after s p x Less e h k = let both : true ≡ false = sym (trans s p x h (ap is_lt e)) ∙ k in absurd (cc)
+not_after s p x Equal e h k =
+    let same : precedes s x ≡ true = ap is_lt (sym (alike_right nat_list_cmp_total p x s e)) ∙ h in
+    let both : true ≡ false = sym same ∙ k in absurd (cc)
+not_after s p x Greater e h k = (sym (is_eq-slice_cmp p x) ∙ ap is_eq e, ap is_lt e)
+
+pub not_ahead : (s x : List ℕ) (ps : List Placed) → After s ps → precedes s x ≡ false → is_among ps x ≡ false
+not_ahead s x [] a h = refl
+not_ahead s x (p ∷ ps) a h =
+    let n = not_after s p.string x (order p.string x) refl a.0 h in
+    ap (λ b. b || is_among ps x) n.0 ∙ not_ahead p.string x ps a.1 n.1
+
+pub ascends_tail : (s : List ℕ) (ps : List Placed) → After s ps → Ascends ps
+ascends_tail s [] a = tt
+ascends_tail s (p ∷ ps) a = a.1
+
+-- ---- the strings that are passed
+
+or_false : (b c : Bool) → c ≡ false → b ≡ (b || c)
+or_false true c e = refl
+or_false false c e = sym e
+
+first_is_by : (b : Bool) (x : List ℕ) (p : Placed) (ps : List Placed) → precedes p.string x ≡ b → After p.string ps → (is_first x (not_less x ps) ≡ is_among ps x)
+    → is_first x (cond b (not_less x ps) (p ∷ ps)) ≡ is_among (p ∷ ps) x
+first_is_by true x p ps e a rest = rest ∙ sym (ap (λ b. b || is_among ps x) (apart p.string x e))
+first_is_by false x p ps e a rest = is_eq-slice_cmp p.string x ∙ or_false (bytes_eq p.string x) (is_among ps x) (not_ahead p.string x ps a e)
+
+-- the string comes next where it is one of the list
+pub first_is : (x : List ℕ) (ps : List Placed) → Ascends ps → is_first x (not_less x ps) ≡ is_among ps x
+first_is x [] a = refl
+first_is x (p ∷ ps) a = first_is_by (precedes p.string x) x p ps refl a (first_is x ps (ascends_tail p.string ps a))
+
+among_left_by : (b : Bool) (x z : List ℕ) (p : Placed) (ps : List Placed) → precedes p.string x ≡ b → precedes x z ≡ true → is_among (not_less x ps) z ≡ is_among ps z
+    → is_among (cond b (not_less x ps) (p ∷ ps)) z ≡ is_among (p ∷ ps) z
+among_left_by true x z p ps e h rest = rest ∙ sym (ap (λ b. b || is_among ps z) (apart p.string z (trans p.string x z e h)))
+among_left_by false x z p ps e h rest = refl
+
+-- of the strings after it none is passed
+pub among_left : (x z : List ℕ) (ps : List Placed) → precedes x z ≡ true → is_among (not_less x ps) z ≡ is_among ps z
+among_left x z [] h = refl
+among_left x z (p ∷ ps) h = among_left_by (precedes p.string x) x z p ps refl h (among_left x z ps h)
+
+ascends_left_by : (b : Bool) (x : List ℕ) (p : Placed) (ps : List Placed) → After p.string ps → Ascends (not_less x ps) → Ascends (cond b (not_less x ps) (p ∷ ps))
+ascends_left_by true x p ps a rest = rest
+ascends_left_by false x p ps a rest = a
+
+pub ascends_left : (x : List ℕ) (ps : List Placed) → Ascends ps → Ascends (not_less x ps)
+ascends_left x [] a = tt
+ascends_left x (p ∷ ps) a = ascends_left_by (precedes p.string x) x p ps a (ascends_left x ps (ascends_tail p.string ps a))
+
+-- ---- one turn of `reaches`
+
+pub passes : (x : List ℕ) (v : List Placed) → first_order v x ≡ Less → not_less x (drop 1 v) ≡ not_less x v
+passes x [] e = absurd (cc)
+passes x (p ∷ ps) e = sym (ap (λ o. cond (is_lt o) (not_less x ps) (p ∷ ps)) e)
+
+pub fewer : (x : List ℕ) (v : List Placed) → first_order v x ≡ Less → length (drop 1 v) < length v
+fewer x [] e = absurd (cc)
+fewer x (p ∷ ps) e = omega arith
+
+not_lt : (o : Ordering) → o ≢ Less → is_lt o ≡ false
+not_lt Less ne = absurd (ne refl)
+not_lt Equal ne = refl
+not_lt Greater ne = refl
+
+pub stops : (x : List ℕ) (v : List Placed) → first_order v x ≢ Less → v ≡ not_less x v
+stops x [] ne = refl
+stops x (p ∷ ps) ne = sym (ap (λ b. cond b (not_less x ps) (p ∷ ps)) (not_lt (first_order (p ∷ ps) x) ne))
+
+-- ---- one turn over a list, for any test
+
+same_first : (s : List ℕ) (ps : List Placed) (f g : List ℕ → Bool) → After s ps → ((z : List ℕ) → precedes s z ≡ true → f z ≡ g z) → first_place f ps ≡ first_place g ps
+same_first s [] f g a same = refl
+same_first s (p ∷ ps) f g a same =
+    ap (λ b. cond b (Some p.place) (first_place f ps)) (same p.string a.0)
+    ∙ ap (λ r. cond (g p.string) (Some p.place) r) (same_first p.string ps f g a.1 (λ z h. same z (trans s p.string z a.0 h)))
+
+string_of : (p : Placed) (ps : List Placed) (x : List ℕ) → first_string (p ∷ ps) ≡ Some x → p.string ≡ x
+string_of p ps x e = cc
+
+-- a string that doesn't pass the test, and a test that answers the same of the strings after it
+pub turns : (v : List Placed) (x : List ℕ) (f g : List ℕ → Bool) → first_string v ≡ Some x → Ascends v → f x ≡ false → ((z : List ℕ) → precedes x z ≡ true → g z ≡ f z)
+    → first_place g (drop 1 v) ≡ first_place f v
+turns [] x f g e a fails same = absurd (cc)
+turns (p ∷ ps) x f g e a fails same =
+    let is = string_of p ps x e in
+    same_first p.string ps g f a (λ z h. same z (ap (λ y. precedes y z) (sym is) ∙ h))
+    ∙ sym (ap (λ b. cond b (Some p.place) (first_place f ps)) (ap f is ∙ fails))
+
+pub meets : (v : List Placed) (x : List ℕ) (f : List ℕ → Bool) → first_string v ≡ Some x → f x ≡ true → next_place v ≡ first_place f v
+meets [] x f e holds = absurd (cc)
+meets (p ∷ ps) x f e holds = sym (ap (λ b. cond b (Some p.place) (first_place f ps)) (ap f (string_of p ps x e) ∙ holds))
+
+pub meets_none : (v : List Placed) (f : List ℕ → Bool) → first_string v ≡ None → first_place f v ≡ None
+meets_none [] f e = refl
+meets_none (p ∷ ps) f e = absurd (cc)
+
+pub ascends_drop : (v : List Placed) → Ascends v → Ascends (drop 1 v)
+ascends_drop [] a = tt
+ascends_drop (p ∷ ps) a = ascends_tail p.string ps a
+
+pub fewer_some : (v : List Placed) (x : List ℕ) → first_string v ≡ Some x → length (drop 1 v) < length v
+fewer_some [] x e = absurd (cc)
+fewer_some (p ∷ ps) x e = omega arith
+
+-- ---- what `reaches` answers, and what it leaves
+
+pub reached : (x : List ℕ) (v w : List Placed) (b : Bool) → Ascends v → b ≡ is_first x w → w ≡ not_less x v → b ≡ is_among v x
+reached x v w b a found left = found ∙ ap (is_first x) left ∙ first_is x v a
+
+pub ascends_after : (x : List ℕ) (v w : List Placed) → Ascends v → w ≡ not_less x v → Ascends w
+ascends_after x v w a left = subst Ascends (sym left) (ascends_left x v a)
+
+pub among_after : (x : List ℕ) (v w : List Placed) → w ≡ not_less x v → (z : List ℕ) → precedes x z ≡ true → is_among w z ≡ is_among v z
+among_after x v w left z h = ap (λ (l : List Placed). is_among l z) left ∙ among_left x z v h
+
+pub ascends_passed : (v w : List Placed) → Ascends v → w ≡ drop 1 v → Ascends w
+ascends_passed v w a left = subst Ascends (sym left) (ascends_drop v a)
+
+pub turned : (v w : List Placed) (x : List ℕ) (f g : List ℕ → Bool) → first_string v ≡ Some x → Ascends v → w ≡ drop 1 v → f x ≡ false → ((z : List ℕ) → precedes x z ≡ true → g z ≡ f z)
+    → first_place g w ≡ first_place f v
+turned v w x f g e a left fails same = ap (first_place g) left ∙ turns v x f g e a fails same
+
+-- ---- two tests
+
+pub or_left : (a b : Bool) → a ≡ true → (a || b) ≡ true
+or_left a b e = ap (λ a. a || b) e
+
+pub or_right : (a b : Bool) → b ≡ true → (a || b) ≡ true
+or_right true b e = refl
+or_right false b e = e
+
+pub or_none : (a b : Bool) → a ≡ false → b ≡ false → (a || b) ≡ false
+or_none a b e f = ap (λ a. a || b) e ∙ f
+
+pub or_both : (a b c d : Bool) → a ≡ c → b ≡ d → (a || b) ≡ (c || d)
+or_both a b c d e f = ap (λ a. a || b) e ∙ ap (λ b. c || b) f
+
+-- ---- the cursors stand before their sections
+
+pub answered : (r : Result (Option ℕ) AllocError) (list one two list' one' two' : List Placed)
+    → IfOk r (λ r. r ≡ first_place (λ x. is_among one x || is_among two x) list) → list ≡ list' → one ≡ one' → two ≡ two'
+    → IfOk r (λ r. r ≡ first_place (λ x. is_among one' x || is_among two' x) list')
+answered (Ok r) list one two list' one' two' h e f g =
+    h ∙ ap (λ v. first_place (λ x. is_among v x || is_among two x) list) f
+    ∙ ap (λ w. first_place (λ x. is_among one' x || is_among w x) list) g
+    ∙ ap (first_place (λ x. is_among one' x || is_among two' x)) e
+answered (Err r) list one two list' one' two' h e f g = tt

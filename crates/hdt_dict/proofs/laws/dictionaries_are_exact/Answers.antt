@@ -1,0 +1,5 @@
+use Rattle.hdt_dict.specs.DictionaryLaws.{dictionary_exact}
+use Rattle.hdt_dict.proofs.laws.dictionaries_are_exact.Goals as goal
+
+pub returns : goal.returns
+returns c = dictionary_exact

@@ -1,0 +1,5 @@
+use Rattle.hdt_dict.specs.WritingLaws.{dictionary_stands}
+use Rattle.hdt_dict.proofs.laws.dictionary_is_read_again.Goals as goal
+
+pub returns : goal.returns
+returns c = dictionary_stands

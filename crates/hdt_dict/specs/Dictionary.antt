@@ -1,0 +1,73 @@
+-- The dictionary (HDT submission, dictionary; rdfhdt.org, "HDT binary format", Four Sections): a control block, then
+-- the sections of shared strings, subjects, predicates and objects. No string stands in two of shared, subjects and
+-- objects.
+use Rattle.std.specs.Prelude.{ℕ, zero, suc, not, List, [], ◌++◌, length, slice_index_or, Result, Ok}
+use Rattle.std.specs.List.{Contains}
+use Rattle.hdt_wire.specs.declared.fault.Fault.{Fault}
+use Rattle.hdt_wire.specs.declared.fault.Reason.TheVariants.{SectionsOverlap}
+use Rattle.hdt_wire.specs.declared.control.Kind.TheVariants as kinds
+use Rattle.hdt_wire.specs.Rows.{◌>>=◌, demand}
+use Rattle.hdt_wire.specs.Control.{Block, IsBlock, control_at}
+use Rattle.hdt_wire.specs.ExactItems.{rows_from}
+use Rattle.hdt_front.specs.Section.{SectionParts, IsSection, string_place, section_at}
+use Rattle.hdt_dict.specs.Strings.{has}
+use Rattle.hdt_dict.specs.declared.role.Role.{Role}
+use Rattle.hdt_dict.specs.declared.role.Role.TheVariants.{Subject, Predicate, Object}
+
+-- what a dictionary says: its four sections, with their places
+pub record DictionaryParts : Type 0 where
+  pub shared : SectionParts
+  pub subjects : SectionParts
+  pub predicates : SectionParts
+  pub objects : SectionParts
+
+-- the strings of a role in the order of their numbers, which count from 1
+abbrev pub terms : DictionaryParts → Role → List (List ℕ)
+terms d Subject = d.shared.strings ++ d.subjects.strings
+terms d Predicate = d.predicates.strings
+terms d Object = d.shared.strings ++ d.objects.strings
+
+-- the sections by their numbers in the file, which count from 0
+abbrev pub section_number : DictionaryParts → ℕ → SectionParts
+section_number d zero = d.shared
+section_number d (suc zero) = d.subjects
+section_number d (suc (suc zero)) = d.predicates
+section_number d (suc (suc (suc i))) = d.objects
+
+-- no string stands in both
+abbrev pub AreApart : List (List ℕ) → List (List ℕ) → Type 0
+AreApart xs ys = (x : List ℕ) → Contains xs x → Contains ys x → ⊥
+
+-- the dictionary stands at the place: a control block with some properties, and the sections, one after another
+pub record IsDictionary (d : DictionaryParts) (bytes : List ℕ) (at : ℕ) : Type 0 where
+  pub control : Block
+  pub block : IsBlock kinds.Dictionary control bytes at
+  pub shared : IsSection d.shared bytes control.end
+  pub subjects : IsSection d.subjects bytes d.shared.end
+  pub predicates : IsSection d.predicates bytes d.subjects.end
+  pub objects : IsSection d.objects bytes d.predicates.end
+  pub shared_subjects : AreApart d.shared.strings d.subjects.strings
+  pub shared_objects : AreApart d.shared.strings d.objects.strings
+  pub subjects_objects : AreApart d.subjects.strings d.objects.strings
+
+-- ---- the rows
+
+-- string i of a section isn't among the others
+unfoldable pub apart_row : List (List ℕ) → SectionParts → ℕ → Result (Unit {0}) Fault
+apart_row others s i = demand (not (has others (slice_index_or s.strings i []))) (string_place s i) SectionsOverlap
+
+-- none of its strings is
+abbrev pub apart_at : List (List ℕ) → SectionParts → Result (Unit {0}) Fault
+apart_at others s = rows_from (apart_row others s) 0 (length s.strings)
+
+-- the rows of a dictionary, from top to bottom: the dictionary, or the fault that stands
+unfoldable pub dictionary_at : List ℕ → ℕ → Result DictionaryParts Fault
+dictionary_at bytes at = do
+  control ← control_at kinds.Dictionary bytes at
+  shared ← section_at bytes control.end
+  subjects ← section_at bytes shared.end
+  predicates ← section_at bytes subjects.end
+  objects ← section_at bytes predicates.end
+  _ ← apart_at shared.strings subjects
+  _ ← apart_at (shared.strings ++ subjects.strings) objects
+  Ok (record { shared = shared; subjects = subjects; predicates = predicates; objects = objects })

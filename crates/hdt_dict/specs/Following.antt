@@ -1,0 +1,8 @@
+-- The strings of the section that a walk over a role goes on with.
+use Rattle.std.specs.Prelude.{ℕ, List, [], Option, Some, None}
+use Rattle.hdt_front.specs.declared.section.Section.{Section}
+use Rattle.hdt_front.specs.Strings.{strings_of}
+
+abbrev pub following : Option Section → List (List ℕ)
+following None = []
+following (Some section) = strings_of section

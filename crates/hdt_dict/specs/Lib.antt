@@ -1,0 +1,17 @@
+pub mod Dictionary
+pub mod DictionaryLaws
+pub mod Numbered
+pub mod Views
+pub mod Overlap
+pub mod Walking
+pub mod Following
+pub mod Strings
+pub mod StringsLaws
+pub mod MembersLaws
+pub mod MergeLaws
+pub mod Split
+pub mod Texts
+pub mod SplitLaws
+pub mod Writing
+pub mod WritingLaws
+pub mod Arena

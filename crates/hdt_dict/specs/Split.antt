@@ -1,0 +1,36 @@
+-- The strings of three roles, parted into the four sections of a dictionary (HDT submission, dictionary): what is both
+-- subject and object is kept once, in the shared section.
+use Rattle.std.specs.Prelude.{ℕ, List, ◌↔◌}
+use Rattle.std.specs.List.{Contains}
+use Rattle.hdt_front.specs.Canonical.{lent_texts, texts}
+use Rattle.hdt_dict.specs.Strings.{IsAscending}
+use Rattle.hdt_dict.specs.declared.parts.Parts.{Parts}
+use Rattle.hdt_dict.specs.declared.parts.LentParts.{LentParts}
+
+-- the strings of four sections
+pub record FourLists : Type 0 where
+  pub shared : List (List ℕ)
+  pub subjects : List (List ℕ)
+  pub predicates : List (List ℕ)
+  pub objects : List (List ℕ)
+
+-- the strings of `Parts`
+unfoldable pub lists_of : Parts → FourLists
+lists_of p = record { shared = texts p.shared.items; subjects = texts p.subjects.items; predicates = texts p.predicates.items; objects = texts p.objects.items }
+
+-- the strings of `LentParts`
+unfoldable pub lent_lists_of : LentParts → FourLists
+lent_lists_of p = record { shared = lent_texts p.shared.items; subjects = lent_texts p.subjects.items; predicates = lent_texts p.predicates.items; objects = lent_texts p.objects.items }
+
+-- the four lists are the sections of the subjects ss, the predicates ps and the objects os: each ascends; a string is shared exactly
+-- where it is a subject and an object, in subjects exactly where it is a subject alone, in objects exactly where it is
+-- an object alone
+pub record IsSplit (ss ps os : List (List ℕ)) (d : FourLists) : Type 0 where
+  pub shared_ascend : IsAscending d.shared
+  pub subjects_ascend : IsAscending d.subjects
+  pub predicates_ascend : IsAscending d.predicates
+  pub objects_ascend : IsAscending d.objects
+  pub shared : (x : List ℕ) → Contains d.shared x ↔ (Contains ss x × Contains os x)
+  pub subjects : (x : List ℕ) → Contains d.subjects x ↔ (Contains ss x × ¬ (Contains os x))
+  pub predicates : (x : List ℕ) → Contains d.predicates x ↔ Contains ps x
+  pub objects : (x : List ℕ) → Contains d.objects x ↔ (Contains os x × ¬ (Contains ss x))

@@ -1,0 +1,53 @@
+-- Laws of lists of strings: a string by its place, a `dedup` and a sort seen through a function of the elements.
+use Rattle.std.proofs.Common.{◌≡◌, ℕ, ◌+◌, ◌<◌, Bool, true, false, cond, List, [], ◌∷◌, length, get_or, map, refl, ap, arith}
+use Rattle.std.proofs.Common.{inl, inr, ◌⊎◌}
+use Rattle.std.specs.List.{Contains}
+use Rattle.std.specs.Cmp.Lexicographic.{nat_list_eq_equiv}
+use Rattle.std.proofs.lemmas.Map.Views.{Contains-from_any, list_any-from_Contains}
+use Rattle.std.proofs.lemmas.Slice.Eq.{bytes_eq-Decides}
+use Rattle.std.specs.declared.cmp.Ordering.{Ordering}
+use Rattle.std.specs.List.{dedup, dedup_from}
+use Rattle.std.specs.List.Sorted.{IsSorted}
+use Rattle.std.proofs.lemmas.List.{get_or-map, length-map}
+use Rattle.hdt_front.specs.Canonical.{lent_texts}
+use Rattle.hdt_dict.specs.Strings.{has, Lent}
+
+module _ {X Y : Type 0} (f : X → Y) (E : Y → Y → Bool) where
+  map-dedup_from : (k : X) (xs : List X) → map f (dedup_from (λ a b. E (f a) (f b)) k xs) ≡ dedup_from E (f k) (map f xs)
+  map-dedup_from k [] = refl
+  map-dedup_from k (x ∷ xs) =
+      by (E (f x) (f k)) _ _ _ _ (map-dedup_from k xs) (ap (λ l. f k ∷ l) (map-dedup_from x xs))
+    where
+      by : (b : Bool) (p q : List X) (r s : List Y) → map f p ≡ r → map f q ≡ s → map f (cond b p q) ≡ cond b r s
+      by true p q r s e h = e
+      by false p q r s e h = h
+
+  pub map-dedup : (xs : List X) → map f (dedup (λ a b. E (f a) (f b)) xs) ≡ dedup E (map f xs)
+  map-dedup [] = refl
+  map-dedup (x ∷ xs) = map-dedup_from x xs
+
+pub sorted_map : {X Y : Type 0} (f : X → Y) (R : Y → Y → Ordering) (xs : List X) → IsSorted (λ a b. R (f a) (f b)) xs → IsSorted R (map f xs)
+sorted_map f R [] h = λ k d low high. absurd (omega arith)
+sorted_map f R (x ∷ xs) h = λ k d low high.
+    let long : k + 1 < length (x ∷ xs) = omega (arith, length-map (x ∷ xs) f) in
+    let short : k < length (x ∷ xs) = omega arith in
+    rw (get_or-map f (x ∷ xs) (k + 1) x d long, get_or-map f (x ∷ xs) k x d short) (h k x low long)
+
+-- the string at a place, as an index reads it
+pub string_at : (vs : List Lent) (i : ℕ) (v : Lent) (d : List ℕ) → i < length vs → get_or (lent_texts vs) i d ≡ (get_or vs i v).now
+string_at vs i v d below = get_or-map (λ (w : Lent). w.now) vs i v d below
+
+-- a list has a string where it is a member
+pub has-Contains : (ys : List (List ℕ)) (x : List ℕ) → has ys x ≡ true → Contains ys x
+has-Contains ys x h = Contains-from_any (λ a b. (bytes_eq-Decides a b).0) x ys h
+
+pub Contains-has : (ys : List (List ℕ)) (x : List ℕ) → Contains ys x → has ys x ≡ true
+Contains-has ys x h = list_any-from_Contains nat_list_eq_equiv x ys h
+
+-- a string is a member of a list or not
+pub member_cases : (ys : List (List ℕ)) (x : List ℕ) → Contains ys x ⊎ (Contains ys x → ⊥)
+member_cases ys x = by (has ys x) refl
+  where
+    by : (b : Bool) → has ys x ≡ b → Contains ys x ⊎ (Contains ys x → ⊥)
+    by true e = inl (has-Contains ys x e)
+    by false e = inr (λ there. let f = Contains-has ys x there in cc)

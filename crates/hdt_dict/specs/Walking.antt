@@ -1,0 +1,22 @@
+-- The strings of a role, given one after another.
+use Rattle.std.specs.Prelude.{ℕ, ◌+◌, List, [], ◌∷◌, Option, Some, None}
+
+-- how far a walk has come: how many strings were given, which is the number of the last one; the last one; and
+-- those still to come
+pub record Progress : Type 0 where
+  pub given : ℕ
+  pub last : List ℕ
+  pub ahead : List (List ℕ)
+
+-- one string further; at the end nothing moves
+abbrev pub stepped_by : Progress → List (List ℕ) → Progress
+stepped_by w [] = w
+stepped_by w (x ∷ xs) = record { given = w.given + 1; last = x; ahead = xs }
+
+abbrev pub stepped : Progress → Progress
+stepped w = stepped_by w w.ahead
+
+-- the number of the next string
+abbrev pub next_number : Progress → List (List ℕ) → Option ℕ
+next_number w [] = None
+next_number w (x ∷ xs) = Some (w.given + 1)

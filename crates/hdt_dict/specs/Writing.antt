@@ -1,0 +1,38 @@
+-- Writing a dictionary in its canonical form.
+use Rattle.std.specs.Prelude.{ℕ, ◌+◌, List, ◌++◌, codes, length}
+use Rattle.hdt_wire.specs.declared.control.Kind.TheVariants as kinds
+use Rattle.hdt_wire.specs.Control.{control}
+use Rattle.hdt_front.specs.Section.{AreStrings}
+use Rattle.hdt_front.specs.Canonical.{canonical, canonical_parts}
+use Rattle.hdt_dict.specs.Dictionary.{DictionaryParts, AreApart}
+use Rattle.hdt_dict.specs.Split.{FourLists}
+
+-- four lists that a dictionary can hold: each as a section can hold it, and no string in two of shared, subjects and
+-- objects
+pub record AreSections (d : FourLists) : Type 0 where
+  pub shared : AreStrings d.shared
+  pub subjects : AreStrings d.subjects
+  pub predicates : AreStrings d.predicates
+  pub objects : AreStrings d.objects
+  pub shared_subjects : AreApart d.shared d.subjects
+  pub shared_objects : AreApart d.shared d.objects
+  pub subjects_objects : AreApart d.subjects d.objects
+
+-- the property text that is written: object numbers go on from the shared section
+abbrev pub mapping : List ℕ
+mapping = codes "mapping=1;"
+
+-- the canonical bytes of a dictionary in blocks of b: a control block and four canonical sections
+unfoldable pub canonical_dictionary : ℕ → FourLists → List ℕ
+canonical_dictionary b d = control kinds.Dictionary mapping ++ (canonical b d.shared ++ (canonical b d.subjects ++ (canonical b d.predicates ++ canonical b d.objects)))
+
+-- what they say where they stand
+unfoldable pub canonical_dictionary_parts : ℕ → FourLists → ℕ → DictionaryParts
+canonical_dictionary_parts b d at =
+    let a : ℕ = at + length (control kinds.Dictionary mapping) in
+    record {
+      shared = canonical_parts b d.shared a;
+      subjects = canonical_parts b d.subjects (a + length (canonical b d.shared));
+      predicates = canonical_parts b d.predicates (a + length (canonical b d.shared) + length (canonical b d.subjects));
+      objects = canonical_parts b d.objects (a + length (canonical b d.shared) + length (canonical b d.subjects) + length (canonical b d.predicates));
+    }

@@ -1,0 +1,91 @@
+//! An arena: byte strings, kept one after another in one vector.
+ghost use Rattle.std.specs.Prelude.{◌≡◌, ◌<◌, ◌≤◌, ◌++◌, ◌∷◌, [], ℕ, List, map, length, slice_index_or, IfOk, OnOk, OnErr};
+ghost use Rattle.std.specs.List.{slice_range};
+ghost use Rattle.hdt_dict.specs.Arena.{texts, AreStarts};
+
+use std::alloc::{AllocError, Global};
+use std::marker::Model;
+
+/// A list of byte strings, which stand one after another in one vector. Contracts see it as the list of them.
+///
+/// ```text
+/// let mut arena = Arena::new(alloc)?;
+/// arena.push(b"u:a")?;
+/// let first = arena.get(0); // b"u:a"
+/// ```
+#[derive(Drop)]
+pub struct Arena {
+    bytes: Vec<u8>,
+    /// Where each string begins, and where the last one ends.
+    starts: Vec<usize>,
+}
+
+/// The bytes from one place up to another.
+fn part(bytes: &[u8], from: usize, end: usize) -> &[u8]
+    requires ascend { from ≤ end }
+    requires within { end ≤ length bytes.now }
+    ensures { result.now ≡ slice_range bytes.now from end }
+{
+    &bytes[from..end]
+}
+
+impl Model for Arena {
+    ghost Value = { List (List ℕ) };
+
+    ghost view = { λ s. texts s.bytes.items s.starts.items };
+
+    ghost invariant = { λ s. AreStarts s.bytes.items s.starts.items };
+}
+
+impl Arena {
+    /// An arena without strings. It takes the memory of one place.
+    pub fn new(alloc: Global) -> Result<Arena, AllocError>
+        ensures { IfOk result (λ made. made ≡ []) }
+    {
+        let mut starts = Vec::new(alloc);
+        starts.push(0)?;
+        Ok(Arena {
+            bytes: Vec::new(alloc),
+            starts,
+        })
+    }
+
+    /// How many strings there are.
+    pub fn len(&self) -> usize
+        ensures { result ≡ length self.now }
+    {
+        self.starts.len() - 1
+    }
+
+    /// The string at a place, from 0.
+    pub fn get(&self, at: usize) -> &[u8]
+        requires { at < length self.now }
+        ensures { result.now ≡ slice_index_or self.now at [] }
+    {
+        let from = self.starts[at];
+        let end = self.starts[at + 1];
+        part(self.bytes.as_slice(), from, end)
+    }
+
+    /// Puts a string at the end. Where memory is refused, the arena is as it was.
+    pub fn push(&mut self, text: &[u8]) -> Result<(), AllocError>
+        ensures ok { OnOk result (self.new ≡ self.old ++ text.now ∷ []) }
+        ensures err { OnErr result (self.new ≡ self.old) }
+    {
+        self.starts.reserve(1)?;
+        self.bytes.extend_from_slice(text)?;
+        self.starts.push(self.bytes.len())?;
+        Ok(())
+    }
+
+    /// All strings, each lent where it stands.
+    pub fn slices(&self, alloc: Global) -> Result<Vec<&[u8]>, AllocError>
+        ensures { IfOk result (λ made. map (λ x. x.now) made.items ≡ self.now) }
+    {
+        let mut made = Vec::with_capacity(alloc, self.len())?;
+        for at in 0..self.len() {
+            made.push(self.get(at))?;
+        }
+        Ok(made)
+    }
+}

@@ -1,0 +1,191 @@
+//! A dictionary that was read: four sections, and the numbers of their strings by role.
+ghost use Rattle.std.specs.Prelude.{◌≡◌, ◌<◌, ◌≤◌, ◌+◌, ◌-◌, ◌^◌, ◌↔◌, ◌++◌, ◌∷◌, [], ℕ, length, Ok, Some, None, IsOk, OnErr, IfOk};
+ghost use Rattle.hdt_wire.specs.Rows.{Gives};
+ghost use Rattle.hdt_front.specs.Faults.{fault_of};
+ghost use Rattle.hdt_front.specs.Numbering.{place};
+ghost use Rattle.hdt_front.specs.Strings.{strings_of, section_of};
+ghost use Rattle.hdt_front.specs.Section.{string_place};
+ghost use Rattle.hdt_dict.specs.Dictionary.{DictionaryParts, IsDictionary, terms, section_number, apart_at, dictionary_at};
+ghost use Rattle.hdt_dict.specs.Numbered.{numbered, Appends};
+ghost use Rattle.hdt_dict.specs.declared.role.Role.{Role};
+
+use crate::apart::{check_objects, check_subjects};
+use crate::role::Role;
+use crate::two::{number_in_two, string_in_one, string_in_two};
+use hdt_front::{ReadFault, Section};
+use hdt_seq::Steps;
+use hdt_wire::{Kind, read_control};
+use std::alloc::{AllocError, Global};
+
+/// A dictionary that was read: it borrows the input, in which its strings are searched as they lie, and owns nothing.
+///
+/// ```text
+/// let (dictionary, end) = Dictionary::read(alloc, bytes, at)?;
+/// let number = dictionary.number_of(Role::Predicate, b"http://a/", &mut steps);
+/// let found = dictionary.string_of(Role::Object, 7, &mut text, &mut steps)?;
+/// ```
+#[derive(Clone, Copy)]
+pub struct Dictionary<'a> {
+    pub(crate) shared: Section<'a>,
+    pub(crate) subjects: Section<'a>,
+    pub(crate) predicates: Section<'a>,
+    pub(crate) objects: Section<'a>,
+    ghost subjects_fit: { length (strings_of shared) + length (strings_of subjects) < 2 ^ 64 },
+    ghost objects_fit: { length (strings_of shared) + length (strings_of objects) < 2 ^ 64 },
+    ghost subjects_apart: { apart_at (strings_of shared) (section_of subjects) ≡ Ok tt },
+    ghost objects_apart: { apart_at (strings_of shared ++ strings_of subjects) (section_of objects) ≡ Ok tt },
+}
+
+impl<'a> Dictionary<'a> {
+    ghost use Rattle.hdt_dict.specs.Views.{dictionary_of, role_looks, role_block};
+
+    /// Reads by rows.
+    #[tactic(auto, unfolding(crate::specs::Dictionary::dictionary_at, crate::specs::Views::dictionary_of, hdt_front::specs::Strings::section_of, hdt_wire::specs::Control::block_of))]
+    fn read_rows(
+        alloc: Global,
+        bytes: &'a [u8],
+        at: usize,
+    ) -> Result<(Dictionary<'a>, usize), ReadFault>
+        ensures exact { Gives fault_of (λ r. dictionary_of r.0) result (dictionary_at bytes.now at) }
+        ensures next { IfOk result (λ r. r.1 ≡ (dictionary_of r.0).objects.end) }
+        ensures few { IfOk result (λ r. (role : Role) → length (terms (dictionary_of r.0) role) ≤ length bytes.now) }
+        ensures end { IfOk result (λ r. (at < r.1) × (r.1 ≤ length bytes.now)) }
+    {
+        let control = read_control(bytes, at, Kind::Dictionary)?;
+        let (shared, subjects_at) = Section::read(alloc, bytes, control.end())?;
+        let (subjects, predicates_at) = Section::read(alloc, bytes, subjects_at)?;
+        let (predicates, objects_at) = Section::read(alloc, bytes, predicates_at)?;
+        let (objects, end) = Section::read(alloc, bytes, objects_at)?;
+        check_subjects(alloc, &shared, &subjects)?;
+        check_objects(alloc, &shared, &subjects, &objects)?;
+        let dictionary = Dictionary {
+            shared,
+            subjects,
+            predicates,
+            objects,
+        };
+        Ok((dictionary, end))
+    }
+
+    /// Reads the dictionary at a place, in bytes from 0, and answers it with the place after it. Bytes may follow it.
+    ///
+    /// It costs time in proportion to the dictionary's bytes: each string is unfolded once to check its section, and
+    /// once more to look for strings that stand in two sections. Two strings are kept at a time, or three.
+    ///
+    /// Faults, in the order of the rows: those of the control block, those of the sections shared, subjects, predicates
+    /// and objects, then `SectionsOverlap` at the first string of subjects that is in shared, or else at the first
+    /// string of objects that is in shared or in subjects.
+    pub fn read(
+        alloc: Global,
+        bytes: &'a [u8],
+        at: usize,
+    ) -> Result<(Dictionary<'a>, usize), ReadFault>
+        // What is read stands there.
+        ensures found { IfOk result (λ r. IsDictionary (dictionary_of r.0) bytes.now at) }
+        // What stands there is read, unless memory ran out.
+        ensures only { (d : DictionaryParts) → IsDictionary d bytes.now at → Gives fault_of (λ r. dictionary_of r.0) result (Ok d) }
+        // Otherwise it is the one fault that stands.
+        ensures exact { Gives fault_of (λ r. dictionary_of r.0) result (dictionary_at bytes.now at) }
+        ensures next { IfOk result (λ r. r.1 ≡ (dictionary_of r.0).objects.end) }
+        // A role has at most as many strings as the input has bytes.
+        ensures few { IfOk result (λ r. (role : Role) → length (terms (dictionary_of r.0) role) ≤ length bytes.now) }
+        ensures end { IfOk result (λ r. (at < r.1) × (r.1 ≤ length bytes.now)) }
+    {
+        Dictionary::read_rows(alloc, bytes, at)
+    }
+
+    /// How many strings each section has: shared, subjects, predicates, objects.
+    #[tactic(auto, unfolding(crate::specs::Views::dictionary_of, hdt_front::specs::Strings::section_of))]
+    pub fn section_lens(&self) -> [u64; 4]
+        ensures { result ≡ length (dictionary_of self.now).shared.strings ∷ length (dictionary_of self.now).subjects.strings ∷ length (dictionary_of self.now).predicates.strings ∷ length (dictionary_of self.now).objects.strings ∷ [] }
+    {
+        [
+            self.shared.len(),
+            self.subjects.len(),
+            self.predicates.len(),
+            self.objects.len(),
+        ]
+    }
+
+    /// How many strings a role has.
+    #[tactic(auto, unfolding(crate::specs::Views::dictionary_of, hdt_front::specs::Strings::section_of))]
+    pub fn count(&self, role: Role) -> u64
+        ensures { result ≡ length (terms (dictionary_of self.now) role) }
+    {
+        match role {
+            Role::Subject => self.shared.len() + self.subjects.len(),
+            Role::Predicate => self.predicates.len(),
+            Role::Object => self.shared.len() + self.objects.len(),
+        }
+    }
+
+    /// Looks for a string in the sections of a role.
+    #[tactic(auto, unfolding(crate::specs::Views::dictionary_of, crate::specs::Views::role_looks, hdt_front::specs::Strings::section_of))]
+    fn place_in(&self, role: Role, x: &[u8], steps: &mut Steps) -> Option<u64>
+        ensures place { result ≡ place (terms (dictionary_of self.now) role) x.now }
+        ensures cost { steps.new ≤ steps.old + role_looks self.now role }
+        ensures more { steps.old ≤ steps.new }
+    {
+        match role {
+            Role::Subject => number_in_two(&self.shared, &self.subjects, x, steps),
+            Role::Predicate => self.predicates.place_of(x, steps),
+            Role::Object => number_in_two(&self.shared, &self.objects, x, steps),
+        }
+    }
+
+    /// The number of a string in a role, from 1; None where the role has no such string.
+    ///
+    /// Each section of the role is searched by halving its blocks, and then through one block. It takes no memory.
+    pub fn number_of(&self, role: Role, x: &[u8], steps: &mut Steps) -> Option<u64>
+        // It is n exactly where the string is number n.
+        ensures exact { (n : ℕ) → (result ≡ Some n) ↔ (numbered (terms (dictionary_of self.now) role) n ≡ Some x.now) }
+        ensures place { result ≡ place (terms (dictionary_of self.now) role) x.now }
+        ensures cost { steps.new ≤ steps.old + role_looks self.now role }
+        ensures more { steps.old ≤ steps.new }
+    {
+        self.place_in(role, x, steps)
+    }
+
+    /// Appends string n of a role, numbers from 1: true; or false where there is none, with `out` unchanged. Where
+    /// memory is refused, `out` is as it was.
+    ///
+    /// It unfolds the string from the head of its block.
+    #[tactic(auto, unfolding(crate::specs::Views::dictionary_of, crate::specs::Views::role_block, hdt_front::specs::Strings::section_of))]
+    pub fn string_of(
+        &self,
+        role: Role,
+        n: u64,
+        out: &mut Vec<u8>,
+        steps: &mut Steps,
+    ) -> Result<bool, AllocError>
+        ensures ok { IfOk result (λ b. Appends (numbered (terms (dictionary_of self.now) role) n) b out.old.items out.new.items) }
+        ensures err { OnErr result (out.new.items ≡ out.old.items) }
+        ensures cost { steps.new ≤ steps.old + role_block self.now role }
+        ensures absent { numbered (terms (dictionary_of self.now) role) n ≡ None → IsOk result }
+        ensures more { steps.old ≤ steps.new }
+    {
+        match role {
+            Role::Subject => string_in_two(&self.shared, &self.subjects, n, out, steps),
+            Role::Predicate => string_in_one(&self.predicates, n, out, steps),
+            Role::Object => string_in_two(&self.shared, &self.objects, n, out, steps),
+        }
+    }
+
+    /// The place of string n of a section, in bytes from the start of the input: the place that faults name. Sections
+    /// count from 0 in their order in the file (shared, subjects, predicates, objects), strings from 1; the caller
+    /// shows that both are there. It goes through one block at most, and takes no memory.
+    #[tactic(auto, unfolding(crate::specs::Views::dictionary_of, hdt_front::specs::Strings::section_of))]
+    pub fn string_start(&self, section: usize, n: u64) -> u64
+        requires section { section < 4 }
+        requires from_one { 1 ≤ n }
+        requires within { n ≤ length (section_number (dictionary_of self.now) section).strings }
+        ensures { result ≡ string_place (section_number (dictionary_of self.now) section) (n - 1) }
+    {
+        match section {
+            0 => self.shared.string_start(n),
+            1 => self.subjects.string_start(n),
+            2 => self.predicates.string_start(n),
+            _ => self.objects.string_start(n),
+        }
+    }
+}

@@ -1,0 +1,31 @@
+//! Laws of dictionaries.
+ghost use Rattle.std.specs.Prelude.{◌≡◌, ◌⊎◌, ◌≤◌, ◌<◌, ◌^◌, ℕ, List, All, length};
+ghost use Rattle.hdt_wire.specs.Rows.{IsBytes, Stands};
+ghost use Rattle.hdt_wire.specs.Exact.{Exactly, OneValue, OneFault};
+ghost use Rattle.hdt_dict.specs.Dictionary.{DictionaryParts, IsDictionary, dictionary_at};
+ghost use Rattle.hdt_dict.specs.Split.{FourLists, IsSplit};
+ghost use Rattle.hdt_dict.specs.Texts.{IsText};
+ghost use Rattle.hdt_dict.specs.Writing.{AreSections, canonical_dictionary, canonical_dictionary_parts};
+
+/// The rows of a dictionary answer exactly what stands at the place.
+pub fn dictionaries_are_exact()
+    ensures { (bytes : List ℕ) (at : ℕ) → IsBytes bytes → Exactly (dictionary_at bytes at) (λ d. IsDictionary d bytes at) }
+{}
+
+/// At a place stands one dictionary and no fault, or one fault and no dictionary.
+pub fn one_dictionary()
+    ensures one { (bytes : List ℕ) (at : ℕ) (d e : DictionaryParts) → IsBytes bytes → IsDictionary d bytes at → IsDictionary e bytes at → d ≡ e }
+    ensures or_fault { (bytes : List ℕ) (at : ℕ) → IsBytes bytes → OneValue (dictionary_at bytes at) (λ d. IsDictionary d bytes at) ⊎ OneFault (dictionary_at bytes at) (λ d. IsDictionary d bytes at) }
+{}
+
+/// The bytes that are written for a dictionary are that dictionary where they stand, whatever stands around them.
+pub fn dictionary_is_read_again()
+    ensures { (b : ℕ) (d : FourLists) (bytes : List ℕ) (at end : ℕ) → 1 ≤ b → b < 2 ^ 64 → AreSections d → length bytes < 2 ^ 64
+        → Stands bytes at (canonical_dictionary b d) end → IsDictionary (canonical_dictionary_parts b d at) bytes at }
+{}
+
+/// The sections of strings that are UTF-8 without zero bytes are what a dictionary can hold.
+pub fn split_makes_sections()
+    ensures { (subjects predicates objects : List (List ℕ)) (d : FourLists) → IsSplit subjects predicates objects d
+        → All IsText subjects → All IsText predicates → All IsText objects → AreSections d }
+{}

@@ -1,0 +1,48 @@
+//! The dictionary of an HDT file (HDT format version 1): four sections of front-coded strings, which number the
+//! strings of each role.
+//!
+//! The layer's promise: numbers and strings of a role are inverse, no string stands in two of shared, subjects and
+//! objects, and a role has at most as many strings as the input has bytes.
+//!
+//! ```text
+//! let (dictionary, end) = Dictionary::read(alloc, bytes, at)?;
+//! let number = dictionary.number_of(Role::Subject, b"http://a/", &mut steps);
+//! let mut objects = dictionary.strings(alloc, Role::Object);
+//! while let Some(number) = objects.next()? {
+//!     // the object of this number is objects.last()
+//! }
+//! ```
+//!
+//! A dictionary is read by [`Dictionary::read`], and written by [`split`] and [`put_dictionary`]. Contracts see it as
+//! its four sections with their places, by `dictionary_of` of specs/, and a role as the list of its strings, `terms`. An
+//! [`Arena`] keeps many strings in one vector.
+#![tactic(auto)]
+
+mod apart;
+mod arena;
+mod dictionary;
+mod laws;
+mod merge;
+mod overlap;
+mod parts;
+mod role;
+mod sorted;
+mod two;
+mod walk;
+mod writing;
+
+pub use arena::Arena;
+pub use dictionary::Dictionary;
+pub use laws::{
+    dictionaries_are_exact, dictionary_is_read_again, one_dictionary, split_makes_sections,
+};
+pub use parts::{LentParts, Parts, split, split_lent};
+pub use role::Role;
+pub use sorted::ascending_strings;
+pub use walk::Strings;
+pub use writing::{put_dictionary, put_lent_dictionary};
+
+#[cfg(test)]
+mod arena_tests;
+#[cfg(test)]
+mod tests;

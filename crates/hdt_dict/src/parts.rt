@@ -1,0 +1,113 @@
+//! The strings of three roles, parted into the four sections of a dictionary.
+ghost use Rattle.std.specs.Prelude.{◌≡◌, IfOk};
+ghost use Rattle.hdt_front.specs.Canonical.{lent_texts, texts};
+ghost use Rattle.hdt_dict.specs.Split.{IsSplit, lists_of, lent_lists_of};
+
+use crate::merge::parted;
+use crate::sorted::ascending_strings;
+use std::alloc::{AllocError, Global};
+
+/// The strings of a dictionary's four sections.
+#[derive(Drop)]
+pub struct Parts {
+    /// The strings that are both subjects and objects.
+    pub shared: Vec<Vec<u8>>,
+    /// The subjects that are no objects.
+    pub subjects: Vec<Vec<u8>>,
+    /// The predicates.
+    pub predicates: Vec<Vec<u8>>,
+    /// The objects that are no subjects.
+    pub objects: Vec<Vec<u8>>,
+}
+
+/// The same, with strings that are kept elsewhere.
+#[derive(Drop)]
+pub struct LentParts<'a> {
+    /// The strings that are both subjects and objects.
+    pub shared: Vec<&'a [u8]>,
+    /// The subjects that are no objects.
+    pub subjects: Vec<&'a [u8]>,
+    /// The predicates.
+    pub predicates: Vec<&'a [u8]>,
+    /// The objects that are no subjects.
+    pub objects: Vec<&'a [u8]>,
+}
+
+/// Parts the strings of three roles, in any order and with repeats, into the four sections. No string is copied.
+///
+/// It costs a sort of each list and a walk along both of subjects and objects.
+#[tactic(auto, unfolding(crate::specs::Split::lent_lists_of))]
+pub fn split_lent<'a>(
+    alloc: Global,
+    subjects: &[&'a [u8]],
+    predicates: &[&'a [u8]],
+    objects: &[&'a [u8]],
+) -> Result<LentParts<'a>, AllocError>
+    ensures { IfOk result (λ parts. IsSplit (lent_texts subjects.now) (lent_texts predicates.now) (lent_texts objects.now) (lent_lists_of parts)) }
+{
+    let all_subjects = ascending_strings(alloc, subjects)?;
+    let all_objects = ascending_strings(alloc, objects)?;
+    let predicates = ascending_strings(alloc, predicates)?;
+    let (shared, subjects) = parted(alloc, all_subjects.as_slice(), all_objects.as_slice())?;
+    let (_, objects) = parted(alloc, all_objects.as_slice(), shared.as_slice())?;
+    Ok(LentParts {
+        shared,
+        subjects,
+        predicates,
+        objects,
+    })
+}
+
+/// The strings of vectors, lent.
+pub(crate) fn lend<'a>(alloc: Global, list: &'a [Vec<u8>]) -> Result<Vec<&'a [u8]>, AllocError>
+    ensures { IfOk result (λ made. lent_texts made.items ≡ texts list.now) }
+{
+    let mut made = Vec::with_capacity(alloc, list.len())?;
+    for text in list {
+        made.push(text.as_slice())?;
+    }
+    Ok(made)
+}
+
+/// Lent strings, copied into vectors.
+fn copied(alloc: Global, list: &[&[u8]]) -> Result<Vec<Vec<u8>>, AllocError>
+    ensures { IfOk result (λ made. texts made.items ≡ lent_texts list.now) }
+{
+    let mut made = Vec::with_capacity(alloc, list.len())?;
+    for text in list {
+        made.push(Vec::from_slice(alloc, *text)?)?;
+    }
+    Ok(made)
+}
+
+/// Parts the strings of three roles, in any order and with repeats, into the four sections of a dictionary.
+///
+/// ```text
+/// let parts = split(alloc, &subjects, &predicates, &objects)?;
+/// put_dictionary(alloc, &parts, 16, &mut out)?;
+/// ```
+#[tactic(auto, unfolding(crate::specs::Split::lent_lists_of, crate::specs::Split::lists_of))]
+pub fn split(
+    alloc: Global,
+    subjects: &[Vec<u8>],
+    predicates: &[Vec<u8>],
+    objects: &[Vec<u8>],
+) -> Result<Parts, AllocError>
+    ensures { IfOk result (λ parts. IsSplit (texts subjects.now) (texts predicates.now) (texts objects.now) (lists_of parts)) }
+{
+    let subjects = lend(alloc, subjects)?;
+    let predicates = lend(alloc, predicates)?;
+    let objects = lend(alloc, objects)?;
+    let lent = split_lent(
+        alloc,
+        subjects.as_slice(),
+        predicates.as_slice(),
+        objects.as_slice(),
+    )?;
+    Ok(Parts {
+        shared: copied(alloc, lent.shared.as_slice())?,
+        subjects: copied(alloc, lent.subjects.as_slice())?,
+        predicates: copied(alloc, lent.predicates.as_slice())?,
+        objects: copied(alloc, lent.objects.as_slice())?,
+    })
+}

@@ -1,0 +1,12 @@
+//! The roles that a string can have in a triple.
+
+/// What a string is in a triple.
+#[derive(Clone, Copy, Debug, PartialEq, Eq)]
+pub enum Role {
+    /// The first string of a triple. Numbers go through the shared strings, then the other subjects.
+    Subject,
+    /// The second string of a triple. Numbers go through the predicates.
+    Predicate,
+    /// The third string of a triple. Numbers go through the shared strings, then the other objects.
+    Object,
+}

@@ -1,0 +1,70 @@
+//! The strings of two sections, one after the other.
+ghost use Rattle.std.specs.Prelude.{◌≡◌, ◌<◌, ◌≤◌, ◌+◌, ◌^◌, ◌++◌, length, max, None, IsOk, OnErr, IfOk};
+ghost use Rattle.hdt_front.specs.Strings.{strings_of, looks, block_size};
+ghost use Rattle.hdt_front.specs.Numbering.{place};
+ghost use Rattle.hdt_dict.specs.Numbered.{numbered, Appends};
+
+use hdt_front::Section;
+use hdt_seq::Steps;
+use std::alloc::AllocError;
+
+/// The number of a string in two sections, one after the other.
+pub(crate) fn number_in_two(
+    first: &Section<'_>,
+    second: &Section<'_>,
+    x: &[u8],
+    steps: &mut Steps,
+) -> Option<u64>
+    requires { length (strings_of first.now) + length (strings_of second.now) < 2 ^ 64 }
+    ensures place { result ≡ place (strings_of first.now ++ strings_of second.now) x.now }
+    ensures cost { steps.new ≤ steps.old + (looks first.now + looks second.now) }
+    ensures more { steps.old ≤ steps.new }
+{
+    match first.place_of(x, steps) {
+        Some(n) => Some(n),
+        None => match second.place_of(x, steps) {
+            Some(n) => Some(first.len() + n),
+            None => None,
+        },
+    }
+}
+
+/// Appends string n of a section, if there is one.
+pub(crate) fn string_in_one(
+    section: &Section<'_>,
+    n: u64,
+    out: &mut Vec<u8>,
+    steps: &mut Steps,
+) -> Result<bool, AllocError>
+    ensures ok { IfOk result (λ b. Appends (numbered (strings_of section.now) n) b out.old.items out.new.items) }
+    ensures err { OnErr result (out.new.items ≡ out.old.items) }
+    ensures cost { steps.new ≤ steps.old + block_size section.now }
+    ensures absent { numbered (strings_of section.now) n ≡ None → IsOk result }
+    ensures more { steps.old ≤ steps.new }
+{
+    if n == 0 || n > section.len() {
+        return Ok(false);
+    }
+    section.string(n, out, steps)?;
+    Ok(true)
+}
+
+/// Appends string n of two sections, one after the other, if there is one.
+pub(crate) fn string_in_two(
+    first: &Section<'_>,
+    second: &Section<'_>,
+    n: u64,
+    out: &mut Vec<u8>,
+    steps: &mut Steps,
+) -> Result<bool, AllocError>
+    ensures ok { IfOk result (λ b. Appends (numbered (strings_of first.now ++ strings_of second.now) n) b out.old.items out.new.items) }
+    ensures err { OnErr result (out.new.items ≡ out.old.items) }
+    ensures cost { steps.new ≤ steps.old + max (block_size first.now) (block_size second.now) }
+    ensures absent { numbered (strings_of first.now ++ strings_of second.now) n ≡ None → IsOk result }
+    ensures more { steps.old ≤ steps.new }
+{
+    if n <= first.len() {
+        return string_in_one(first, n, out, steps);
+    }
+    string_in_one(second, n - first.len(), out, steps)
+}

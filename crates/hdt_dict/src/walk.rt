@@ -1,0 +1,106 @@
+//! The strings of a role, given one after another.
+ghost use Rattle.std.specs.Prelude.{◌≡◌, [], OnOk, OnErr, IfOk};
+ghost use Rattle.hdt_dict.specs.Dictionary.{terms};
+ghost use Rattle.hdt_dict.specs.Views.{dictionary_of};
+ghost use Rattle.hdt_dict.specs.Walking.{stepped, next_number};
+
+use crate::dictionary::Dictionary;
+use crate::role::Role;
+use hdt_front::{Section, Walk};
+use std::alloc::{AllocError, Global};
+use std::marker::Model;
+
+/// The strings of a role that are still to come, in the order of their numbers, each unfolded once from the one before.
+///
+/// ```text
+/// let mut strings = dictionary.strings(alloc, Role::Subject);
+/// while let Some(number) = strings.next()? {
+///     // string number `number` is strings.last()
+/// }
+/// ```
+#[derive(Drop)]
+pub struct Strings<'a> {
+    alloc: Global,
+    walk: Walk<'a>,
+    then: Option<Section<'a>>,
+    given: u64,
+}
+
+impl<'a> Model for Strings<'a> {
+    ghost use Rattle.std.specs.Prelude.{◌<◌, ◌+◌, ◌^◌, ◌++◌, length};
+    ghost use Rattle.hdt_front.specs.Walking.{strings};
+    ghost use Rattle.hdt_dict.specs.Walking.{Progress};
+    ghost use Rattle.hdt_dict.specs.Following.{following};
+
+    ghost Value = { Progress };
+
+    ghost view = { λ w. record { given = w.given; last = w.walk.last; ahead = strings w.walk.ahead ++ following w.then } };
+
+    ghost invariant = { λ w. w.given + length (strings w.walk.ahead ++ following w.then) < 2 ^ 64 };
+}
+
+impl<'a> Strings<'a> {
+    ghost use Rattle.std.specs.Prelude.{◌<◌, ◌^◌, ◌++◌, length};
+    ghost use Rattle.hdt_front.specs.Strings.{strings_of};
+    ghost use Rattle.hdt_dict.specs.Following.{following};
+
+    /// A walk before the first string of a section, which goes on with another one.
+    #[tactic(auto, using(crate::proofs::Steps::starts))]
+    fn over(alloc: Global, first: &Section<'a>, then: Option<Section<'a>>) -> Strings<'a>
+        requires { length (strings_of first.now ++ following then) < 2 ^ 64 }
+        ensures { result ≡ record { given = 0; last = []; ahead = strings_of first.now ++ following then.entry } }
+    {
+        Strings {
+            alloc,
+            walk: Walk::new(alloc, first),
+            then,
+            given: 0,
+        }
+    }
+
+    /// The string that was given last; none yet: empty.
+    pub fn last(&self) -> &[u8]
+        ensures { result.now ≡ self.now.last }
+    {
+        self.walk.last()
+    }
+
+    /// Unfolds the next string, and answers its number; at the end None. Where memory is refused, nothing moves.
+    pub fn next(&mut self) -> Result<Option<u64>, AllocError>
+        ensures number { IfOk result (λ r. r ≡ next_number self.old self.old.ahead) }
+        ensures ok { OnOk result (self.new ≡ stepped self.old) }
+        ensures err { OnErr result (self.new ≡ self.old) }
+    {
+        if self.walk.next()?.is_some() {
+            self.given += 1;
+            return Ok(Some(self.given));
+        }
+        match self.then {
+            None => Ok(None),
+            Some(section) => {
+                let mut walk = Walk::new(self.alloc, &section);
+                if walk.next()?.is_none() {
+                    return Ok(None);
+                }
+                self.walk = walk;
+                self.then = None;
+                self.given += 1;
+                Ok(Some(self.given))
+            }
+        }
+    }
+}
+
+impl<'a> Dictionary<'a> {
+    /// The strings of a role, to be given one after another in the order of their numbers. It takes no memory yet.
+    #[tactic(auto, unfolding(crate::specs::Views::dictionary_of, hdt_front::specs::Strings::section_of))]
+    pub fn strings(&self, alloc: Global, role: Role) -> Strings<'a>
+        ensures { result ≡ record { given = 0; last = []; ahead = terms (dictionary_of self.now) role } }
+    {
+        match role {
+            Role::Subject => Strings::over(alloc, &self.shared, Some(self.subjects)),
+            Role::Predicate => Strings::over(alloc, &self.predicates, None),
+            Role::Object => Strings::over(alloc, &self.shared, Some(self.objects)),
+        }
+    }
+}

@@ -1,0 +1,82 @@
+//! Writing a dictionary, in its canonical form.
+ghost use Rattle.std.specs.Prelude.{◌≡◌, ◌≤◌, ◌++◌, length, OnOk, OnErr};
+ghost use Rattle.hdt_wire.specs.Control.{Keeps};
+ghost use Rattle.hdt_dict.specs.Dictionary.{IsDictionary};
+ghost use Rattle.hdt_dict.specs.Split.{FourLists, lists_of, lent_lists_of};
+ghost use Rattle.hdt_dict.specs.Writing.{AreSections, canonical_dictionary, canonical_dictionary_parts};
+
+use crate::parts::{LentParts, Parts, lend};
+use hdt_front::put_lent_section;
+use hdt_wire::{Kind, put_control};
+use std::alloc::{AllocError, Global};
+
+/// Appends a dictionary; an `Err` may leave a beginning of it behind.
+#[tactic(auto, using(crate::specs::WritingLaws::mapping_no_zero), unfolding(crate::specs::Writing::canonical_dictionary, crate::specs::Split::lent_lists_of))]
+fn append_dictionary(
+    alloc: Global,
+    parts: &LentParts<'_>,
+    block_size: u32,
+    out: &mut Vec<u8>,
+) -> Result<(), AllocError>
+    requires sections { AreSections (lent_lists_of parts.now) }
+    requires block { 1 ≤ block_size }
+    ensures ok { OnOk result (out.new.items ≡ out.old.items ++ canonical_dictionary block_size (lent_lists_of parts.now)) }
+    ensures err { OnErr result (Keeps out.old.items out.new.items) }
+{
+    put_control(Kind::Dictionary, b"mapping=1;", out)?;
+    put_lent_section(alloc, parts.shared.as_slice(), block_size, out)?;
+    put_lent_section(alloc, parts.subjects.as_slice(), block_size, out)?;
+    put_lent_section(alloc, parts.predicates.as_slice(), block_size, out)?;
+    put_lent_section(alloc, parts.objects.as_slice(), block_size, out)?;
+    Ok(())
+}
+
+/// Appends the canonical dictionary of lent strings, as [`put_dictionary`] does.
+pub fn put_lent_dictionary(
+    alloc: Global,
+    parts: &LentParts<'_>,
+    block_size: u32,
+    out: &mut Vec<u8>,
+) -> Result<(), AllocError>
+    requires sections { AreSections (lent_lists_of parts.now) }
+    requires block { 1 ≤ block_size }
+    ensures ok { OnOk result (out.new.items ≡ out.old.items ++ canonical_dictionary block_size (lent_lists_of parts.now)) }
+    ensures dictionary { OnOk result (IsDictionary (canonical_dictionary_parts block_size (lent_lists_of parts.now) (length out.old.items)) out.new.items (length out.old.items)) }
+    ensures err { OnErr result (out.new.items ≡ out.old.items) }
+{
+    let start = out.len();
+    let written = append_dictionary(alloc, parts, block_size, out);
+    if written.is_err() {
+        out.truncate(start);
+    }
+    written
+}
+
+/// Appends the canonical dictionary of four sections: the control block with the property `mapping=1;`, and the
+/// sections shared, subjects, predicates and objects, each in blocks of so many strings with the longest common
+/// prefixes. Where memory is refused, `out` is as it was.
+///
+/// The caller shows that each list strictly ascends and holds UTF-8 strings without zero bytes, and that no string
+/// stands in two of shared, subjects and objects: what `split` gives of such strings.
+#[tactic(auto, unfolding(crate::specs::Split::lent_lists_of, crate::specs::Split::lists_of))]
+pub fn put_dictionary(
+    alloc: Global,
+    parts: &Parts,
+    block_size: u32,
+    out: &mut Vec<u8>,
+) -> Result<(), AllocError>
+    requires sections { AreSections (lists_of parts.now) }
+    requires block { 1 ≤ block_size }
+    ensures ok { OnOk result (out.new.items ≡ out.old.items ++ canonical_dictionary block_size (lists_of parts.now)) }
+    // What was written stands there, and is read again.
+    ensures dictionary { OnOk result (IsDictionary (canonical_dictionary_parts block_size (lists_of parts.now) (length out.old.items)) out.new.items (length out.old.items)) }
+    ensures err { OnErr result (out.new.items ≡ out.old.items) }
+{
+    let lent = LentParts {
+        shared: lend(alloc, parts.shared.as_slice())?,
+        subjects: lend(alloc, parts.subjects.as_slice())?,
+        predicates: lend(alloc, parts.predicates.as_slice())?,
+        objects: lend(alloc, parts.objects.as_slice())?,
+    };
+    put_lent_dictionary(alloc, &lent, block_size, out)
+}

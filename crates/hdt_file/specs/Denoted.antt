@@ -1,0 +1,29 @@
+-- The graph that a file denotes: triples of strings.
+use Rattle.std.specs.Prelude.{ℕ, List, [], map}
+use Rattle.std.specs.Option.{unwrap_or}
+use Rattle.hdt_dict.specs.Numbered.{numbered}
+use Rattle.hdt_dict.specs.declared.role.Role.{Role}
+use Rattle.hdt_dict.specs.declared.role.Role.TheVariants.{Subject, Predicate, Object}
+use Rattle.hdt_triples.specs.Counting.{Triple}
+use Rattle.hdt_file.specs.File.{GraphParts}
+use Rattle.hdt_file.specs.Views.{strings_in}
+
+abbrev pub StringTriple : Type 0
+StringTriple = List ℕ × List ℕ × List ℕ
+
+-- the part of a triple that has the role
+abbrev pub part : {A : Type 0} → Role → A × A × A → A
+part Subject t = t.0
+part Predicate t = t.1
+part Object t = t.2
+
+-- the string of a role with the number n, from 1; empty for any other number, which no triple of a layout has
+abbrev pub string_of : GraphParts → Role → ℕ → List ℕ
+string_of g role n = unwrap_or (numbered (strings_in g role) n) []
+
+-- each number replaced by its string
+abbrev pub strings_of : GraphParts → Triple → StringTriple
+strings_of g t = (string_of g Subject t.0, string_of g Predicate t.1, string_of g Object t.2)
+
+abbrev pub denoted : GraphParts → List Triple → List StringTriple
+denoted g ts = map (strings_of g) ts

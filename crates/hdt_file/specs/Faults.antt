@@ -1,0 +1,17 @@
+-- Why a file could not be opened.
+use Rattle.std.specs.Prelude.{Option, Some, None}
+use Rattle.hdt_wire.specs.declared.fault.Fault.{Fault}
+use Rattle.hdt_front.specs.declared.fault.ReadFault.{ReadFault}
+use Rattle.hdt_front.specs.declared.fault.ReadFault.TheVariants as reads
+use Rattle.hdt_file.specs.declared.fault.OpenFault.{OpenFault}
+use Rattle.hdt_file.specs.declared.fault.OpenFault.TheVariants as opens
+
+-- the fault that an error is, where it is one; want of memory is none
+abbrev pub fault_of : OpenFault → Option Fault
+fault_of opens.OutOfMemory = None
+fault_of (opens.Fault f) = Some f
+
+-- the same error, of a part that was read
+abbrev pub of_part : ReadFault → OpenFault
+of_part reads.OutOfMemory = opens.OutOfMemory
+of_part (reads.Fault f) = opens.Fault f

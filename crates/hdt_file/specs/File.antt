@@ -1,0 +1,70 @@
+-- A whole file (HDT submission; rdfhdt.org, "HDT binary format"): the head, the dictionary and the triples, one after
+-- another, and nothing after them.
+use Rattle.std.specs.Prelude.{◌≡◌, ℕ, ◌==◌, List, length, Result, Ok}
+use Rattle.hdt_wire.specs.declared.fault.Fault.{Fault}
+use Rattle.hdt_wire.specs.declared.fault.Reason.TheVariants.{TrailingBytes}
+use Rattle.hdt_wire.specs.Rows.{◌>>=◌, demand}
+use Rattle.hdt_dict.specs.Dictionary.{DictionaryParts, IsDictionary, terms}
+use Rattle.hdt_dict.specs.declared.role.Role.TheVariants.{Subject, Predicate, Object}
+use Rattle.hdt_triples.specs.Counting.{Counts, Triple, triples_of}
+use Rattle.hdt_triples.specs.Triples.{TripleParts, bitmap_of, IsTriples, triples_at}
+use Rattle.hdt_file.specs.Head.{HeadParts, IsHead}
+use Rattle.hdt_file.specs.Dictionary.{dictionary_after_head}
+
+-- what a file says
+pub record FileParts : Type 0 where
+  pub head : HeadParts
+  pub dictionary : DictionaryParts
+  pub triples : TripleParts
+
+-- how many strings each role has: the numbers of a role go from 1 to that
+abbrev pub counts_in : DictionaryParts → Counts
+counts_in d = record { subjects = length (terms d Subject); predicates = length (terms d Predicate); objects = length (terms d Object) }
+
+-- the bytes, all of them, are the file
+pub record IsFile (file : FileParts) (bytes : List ℕ) : Type 0 where
+  pub head : IsHead file.head bytes
+  pub dictionary : IsDictionary file.dictionary bytes file.head.end
+  pub triples : IsTriples (counts_in file.dictionary) file.triples bytes file.dictionary.objects.end
+  pub end : file.triples.zs.end ≡ length bytes
+
+-- the rows of a file, from top to bottom: the file, or the fault that stands
+unfoldable pub file_at_start : List ℕ → Result FileParts Fault
+file_at_start bytes = do
+  front ← dictionary_after_head bytes
+  triples ← triples_at (counts_in front.dictionary) bytes front.dictionary.objects.end
+  _ ← demand (triples.zs.end == length bytes) triples.zs.end TrailingBytes
+  Ok (record { head = front.head; dictionary = front.dictionary; triples = triples })
+
+-- ---- what a file is of
+
+-- four lists of strings
+pub record Sections : Type 0 where
+  pub shared : List (List ℕ)
+  pub subjects : List (List ℕ)
+  pub predicates : List (List ℕ)
+  pub objects : List (List ℕ)
+
+-- a file as its users see it: the header body, the sections of the dictionary, the triples as numbers
+pub record GraphParts : Type 0 where
+  pub header : List ℕ
+  pub dictionary : Sections
+  pub triples : List Triple
+
+abbrev pub sections_of : DictionaryParts → Sections
+sections_of d = record { shared = d.shared.strings; subjects = d.subjects.strings; predicates = d.predicates.strings; objects = d.objects.strings }
+
+abbrev pub graph_of : FileParts → GraphParts
+graph_of file = record { header = file.head.body; dictionary = sections_of file.dictionary; triples = triples_of (bitmap_of file.triples) }
+
+-- the bytes are a layout of the graph
+pub record IsLayout (bytes : List ℕ) (graph : GraphParts) : Type 0 where
+  pub file : FileParts
+  pub is : IsFile file bytes
+  pub of : graph_of file ≡ graph
+
+-- the graph of the bytes, or the fault that stands in them: the first row that fails
+unfoldable pub graph_in : List ℕ → Result GraphParts Fault
+graph_in bytes = do
+  file ← file_at_start bytes
+  Ok (graph_of file)

@@ -1,0 +1,24 @@
+-- What a layout is of: sections of strings, no string in two of shared, subjects and objects, and at least one triple,
+-- each in range, in ascending order.
+use Rattle.std.specs.Prelude.{ℕ, ◌<◌, ◌++◌, length}
+use Rattle.hdt_front.specs.Section.{AreStrings}
+use Rattle.hdt_dict.specs.Dictionary.{AreApart}
+use Rattle.hdt_triples.specs.Counting.{Counts}
+use Rattle.hdt_triples.specs.Order.{AreAscending, AreInRange}
+use Rattle.hdt_file.specs.File.{Sections, GraphParts}
+
+-- how many strings each role has
+abbrev pub counts_of : Sections → Counts
+counts_of d = record { subjects = length (d.shared ++ d.subjects); predicates = length d.predicates; objects = length (d.shared ++ d.objects) }
+
+pub record IsGraph (g : GraphParts) : Type 0 where
+  pub shared : AreStrings g.dictionary.shared
+  pub subjects : AreStrings g.dictionary.subjects
+  pub predicates : AreStrings g.dictionary.predicates
+  pub objects : AreStrings g.dictionary.objects
+  pub shared_subjects : AreApart g.dictionary.shared g.dictionary.subjects
+  pub shared_objects : AreApart g.dictionary.shared g.dictionary.objects
+  pub subjects_objects : AreApart g.dictionary.subjects g.dictionary.objects
+  pub some : 0 < length g.triples
+  pub range : AreInRange (counts_of g.dictionary) g.triples
+  pub ascend : AreAscending g.triples

@@ -1,0 +1,28 @@
+-- A layout is of a graph: ascending, disjoint sections, and an ascending triple list in range.
+use Rattle.std.proofs.Common.{ℕ, List, length, subst, arith}
+use Rattle.hdt_triples.specs.CountingLaws.{length-triples}
+use Rattle.hdt_triples.specs.OrderLaws.{triples_ascend, triples_in_range}
+use Rattle.hdt_triples.specs.Triples.{bitmap_of}
+use Rattle.hdt_file.specs.File.{FileParts, IsFile, counts_in, GraphParts, graph_of, IsLayout}
+use Rattle.hdt_file.specs.Graph.{IsGraph}
+
+file_graph : (bytes : List ℕ) (file : FileParts) → IsFile file bytes → IsGraph (graph_of file)
+file_graph bytes file h =
+    let d = h.dictionary in
+    let t = h.triples in
+    let f = bitmap_of file.triples in
+    record {
+      shared = d.shared.strings;
+      subjects = d.subjects.strings;
+      predicates = d.predicates.strings;
+      objects = d.objects.strings;
+      shared_subjects = d.shared_subjects;
+      shared_objects = d.shared_objects;
+      subjects_objects = d.subjects_objects;
+      some = omega (arith, length-triples f, t.fit.marked.triples, t.mz.spelled.spelled.some);
+      range = triples_in_range (counts_in file.dictionary) f t.fit;
+      ascend = triples_ascend (counts_in file.dictionary) f t.fit;
+    }
+
+pub layout_graph : (bytes : List ℕ) (g : GraphParts) → IsLayout bytes g → IsGraph g
+layout_graph bytes g h = subst IsGraph h.of (file_graph bytes h.file h.is)

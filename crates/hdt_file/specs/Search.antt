@@ -1,0 +1,37 @@
+-- Searching a graph: patterns of strings, and the patterns of numbers that they stand for.
+use Rattle.std.specs.Prelude.{◌≡◌, ℕ, ◌+◌, List, Option, Some, None, ⊤, slice_index_or}
+use Rattle.hdt_dict.specs.Numbered.{numbered}
+use Rattle.hdt_dict.specs.Strings.{Lent}
+use Rattle.hdt_dict.specs.Views.{role_looks}
+use Rattle.hdt_dict.specs.declared.role.Role.{Role}
+use Rattle.hdt_dict.specs.declared.role.Role.TheVariants.{Subject, Predicate, Object}
+use Rattle.hdt_triples.specs.declared.pattern.Pattern.{Pattern}
+use Rattle.hdt_file.specs.File.{GraphParts}
+use Rattle.hdt_file.specs.Views.{strings_in}
+use Rattle.hdt_file.specs.declared.graph.Graph.{Graph}
+
+-- a part of a pattern: any where no string is given, else the number of the string in the role's list
+abbrev pub IsPart : List (List ℕ) → Option Lent → Option ℕ → Type 0
+IsPart strings None None = ⊤
+IsPart strings None (Some n) = ⊥
+IsPart strings (Some x) None = ⊥
+IsPart strings (Some x) (Some n) = numbered strings n ≡ Some x.now
+
+-- what is given for part i of three: 0 the subject, 1 the predicate, 2 the object
+abbrev pub part_given : List (Option Lent) → ℕ → Option Lent
+part_given given i = slice_index_or given i None
+
+-- the pattern has the numbers of the strings that are given, each in its role
+pub record IsPattern (g : GraphParts) (given : List (Option Lent)) (p : Pattern) : Type 0 where
+  pub subject : IsPart (strings_in g Subject) (part_given given 0) p.s
+  pub predicate : IsPart (strings_in g Predicate) (part_given given 1) p.p
+  pub object : IsPart (strings_in g Object) (part_given given 2) p.o
+
+-- the most looks for a part
+abbrev pub part_looks : Graph → Role → Option Lent → ℕ
+part_looks g role None = 0
+part_looks g role (Some x) = role_looks g.dictionary role
+
+-- and for all three
+abbrev pub given_looks : Graph → List (Option Lent) → ℕ
+given_looks g given = part_looks g Subject (part_given given 0) + part_looks g Predicate (part_given given 1) + part_looks g Object (part_given given 2)

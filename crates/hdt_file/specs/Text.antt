@@ -1,0 +1,82 @@
+-- The N-Triples text of string triples (W3C RDF 1.1 N-Triples, section 7), and the first string that is no term of its
+-- role.
+use Rattle.std.specs.Prelude.{◌≡◌, ℕ, ◌⊎◌, ⊤, List, [], ◌∷◌, ◌++◌}
+use Rattle.std.specs.List.{flat_map}
+use Rattle.hdt_terms.specs.declared.term.Term.{Term}
+use Rattle.hdt_terms.specs.Lines.{IsSubject, IsPredicate}
+use Rattle.hdt_terms.specs.Terms.{str, IsDictionaryTerm}
+use Rattle.hdt_terms.specs.Writing.{written}
+use Rattle.hdt_dict.specs.declared.role.Role.{Role}
+use Rattle.hdt_dict.specs.declared.role.Role.TheVariants.{Subject, Predicate, Object}
+use Rattle.hdt_triples.specs.Counting.{Triple}
+use Rattle.hdt_file.specs.File.{GraphParts}
+use Rattle.hdt_file.specs.Denoted.{StringTriple, part, strings_of}
+
+abbrev pub TermTriple : Type 0
+TermTriple = Term × Term × Term
+
+-- an IRI or a blank node is a subject, an IRI a predicate, any term an object
+abbrev pub FitsRole : Role → Term → Type 0
+FitsRole Subject term = IsSubject term
+FitsRole Predicate term = IsPredicate term
+FitsRole Object term = ⊤
+
+-- the dictionary term that the string is, of a kind that fits the role
+pub record IsTermOf (role : Role) (string : List ℕ) (term : Term) : Type 0 where
+  pub dictionary : IsDictionaryTerm term
+  pub is : str term ≡ string
+  pub fits : FitsRole role term
+
+abbrev pub AreTermsOf : StringTriple → TermTriple → Type 0
+AreTermsOf strings terms = (role : Role) → IsTermOf role (part role strings) (part role terms)
+
+-- one for one
+abbrev pub Pairwise : {X Y : Type 0} → (X → Y → Type 0) → List X → List Y → Type 0
+Pairwise P [] [] = ⊤
+Pairwise P [] (y ∷ ys) = ⊥
+Pairwise P (x ∷ xs) [] = ⊥
+Pairwise P (x ∷ xs) (y ∷ ys) = P x y × Pairwise P xs ys
+
+-- subject and predicate, each with a space behind it
+abbrev pub line_front : Term → Term → List ℕ
+line_front s p = written s ++ 32 ∷ (written p ++ 32 ∷ [])
+
+-- subject, predicate, object, each with a space behind it, a full stop and a line feed
+abbrev pub line : TermTriple → List ℕ
+line t = written t.0 ++ 32 ∷ (written t.1 ++ 32 ∷ (written t.2 ++ 32 ∷ 46 ∷ 10 ∷ []))
+
+-- the text has one line for each triple, in order; each string is a term of its role
+pub record IsTextOf (triples : List StringTriple) (text : List ℕ) : Type 0 where
+  pub terms : List TermTriple
+  pub each : Pairwise AreTermsOf triples terms
+  pub whole : text ≡ flat_map line terms
+
+-- ---- strings that are no terms
+
+abbrev pub HasTerm : Role → List ℕ → Type 0
+HasTerm role string = (term : Term) × IsTermOf role string term
+
+abbrev pub HasNoTerm : Role → List ℕ → Type 0
+HasNoTerm role string = (term : Term) → IsTermOf role string term → ⊥
+
+-- subject, predicate, object
+abbrev pub IsBefore : Role → Role → Type 0
+IsBefore Subject Subject = ⊥
+IsBefore Subject Predicate = ⊤
+IsBefore Subject Object = ⊤
+IsBefore Predicate Subject = ⊥
+IsBefore Predicate Predicate = ⊥
+IsBefore Predicate Object = ⊤
+IsBefore Object role = ⊥
+
+-- the first string of the triple that is no term of its role has this role
+pub record IsFirstOf (strings : StringTriple) (role : Role) : Type 0 where
+  pub none : HasNoTerm role (part role strings)
+  pub earlier : (other : Role) → IsBefore other role → HasTerm other (part other strings)
+
+-- the first such string of the first such triple has this role and number
+abbrev pub IsFirstIn : GraphParts → List Triple → Role → ℕ → Type 0
+IsFirstIn g [] role number = ⊥
+IsFirstIn g (t ∷ ts) role number =
+    (IsFirstOf (strings_of g t) role × (number ≡ part role t))
+    ⊎ (((other : Role) → HasTerm other (part other (strings_of g t))) × IsFirstIn g ts role number)

@@ -1,0 +1,76 @@
+-- What the calls that write the text of a graph answer.
+use Rattle.std.specs.Prelude.{◌≡◌, ℕ, ◌<◌, ◌++◌, ⊤, List, [], length, take, Option, None, Some}
+use Rattle.std.specs.Io.KnownBytes.{Appends}
+use Rattle.hdt_terms.specs.declared.term.Term.{Term}
+use Rattle.hdt_terms.specs.Writing.{written}
+use Rattle.hdt_dict.specs.declared.role.Role.{Role}
+use Rattle.hdt_dict.specs.declared.role.Role.TheVariants.{Subject, Predicate}
+use Rattle.hdt_triples.specs.Counting.{Triple}
+use Rattle.hdt_triples.specs.Patterns.{matches}
+use Rattle.hdt_triples.specs.declared.pattern.Pattern.{Pattern}
+use Rattle.hdt_file.specs.File.{GraphParts}
+use Rattle.hdt_file.specs.Denoted.{part, string_of, strings_of, denoted}
+use Rattle.hdt_file.specs.Text.{TermTriple, IsTermOf, AreTermsOf, HasNoTerm, IsFirstOf, IsFirstIn, IsTextOf, line, line_front}
+use Rattle.hdt_file.specs.declared.fault.DumpFault.{DumpFault}
+use Rattle.hdt_file.specs.declared.fault.DumpFault.TheVariants.{NotATerm, Write, OutOfMemory}
+
+-- the triples of a graph that are asked for: none, or the matches of a pattern
+abbrev pub chosen : GraphParts → Option Pattern → List Triple
+chosen g None = []
+chosen g (Some p) = matches p g.triples
+
+-- the text has grown by the term that the string is in its role
+pub record AppendsTerm (role : Role) (string old new : List ℕ) : Type 0 where
+  pub term : Term
+  pub is : IsTermOf role string term
+  pub grown : new ≡ old ++ written term
+
+-- the string is no term of the role, and its role and number are told
+abbrev pub TellsString : Role → ℕ → List ℕ → DumpFault → Type 0
+TellsString role n string (NotATerm other m) = (other ≡ role) × (m ≡ n) × HasNoTerm role string
+TellsString role n string (Write k) = ⊥
+TellsString role n string OutOfMemory = ⊤
+
+-- the front of a line: the terms of a subject and a predicate, or nothing is kept
+pub record IsFront (g : GraphParts) (s p : ℕ) (text : List ℕ) : Type 0 where
+  pub subject : Term
+  pub predicate : Term
+  pub subject_is : IsTermOf Subject (string_of g Subject s) subject
+  pub predicate_is : IsTermOf Predicate (string_of g Predicate p) predicate
+  pub whole : text ≡ line_front subject predicate
+
+abbrev pub KeepsFront : GraphParts → Option (ℕ × ℕ) → List ℕ → Type 0
+KeepsFront g None text = ⊤
+KeepsFront g (Some pair) text = IsFront g pair.0 pair.1 text
+
+-- the text has grown by the line of a triple
+pub record AppendsLine (g : GraphParts) (t : Triple) (old new : List ℕ) : Type 0 where
+  pub terms : TermTriple
+  pub are : AreTermsOf (strings_of g t) terms
+  pub grown : new ≡ old ++ line terms
+
+-- the first string of the triple that is no term of its role is told
+abbrev pub TellsFirstOf : GraphParts → Triple → DumpFault → Type 0
+TellsFirstOf g t (NotATerm role n) = IsFirstOf (strings_of g t) role × (n ≡ part role t)
+TellsFirstOf g t (Write k) = ⊥
+TellsFirstOf g t OutOfMemory = ⊤
+
+-- the first such string of the first such triple is told
+abbrev pub TellsFirstIn : GraphParts → List Triple → DumpFault → Type 0
+TellsFirstIn g ts (NotATerm role n) = IsFirstIn g ts role n
+TellsFirstIn g ts (Write k) = ⊥
+TellsFirstIn g ts OutOfMemory = ⊤
+
+-- the writer has gained the text of the triples, as long as this
+pub record WritesText (g : GraphParts) (ts : List Triple) (before after : Option (List ℕ)) (n : ℕ) : Type 0 where
+  pub text : List ℕ
+  pub is : IsTextOf (denoted g ts) text
+  pub written : Appends before after text
+  pub size : n ≡ length text
+
+-- the writer has gained exactly the first n bytes of the text of the triples
+pub record WritesPart (g : GraphParts) (ts : List Triple) (before after : Option (List ℕ)) (n : ℕ) : Type 0 where
+  pub text : List ℕ
+  pub is : IsTextOf (denoted g ts) text
+  pub within : n < length text
+  pub written : Appends before after (take n text)

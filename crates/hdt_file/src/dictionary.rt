@@ -1,0 +1,61 @@
+//! The front of a file: its head, and the dictionary after it.
+ghost use Rattle.std.specs.Prelude.{◌≡◌, ◌≤◌, ℕ, List, ◌<◌, ◌^◌, length, Ok, IfOk};
+ghost use Rattle.hdt_wire.specs.Rows.{Gives, IsBytes};
+ghost use Rattle.hdt_wire.specs.Exact.{Exactly};
+ghost use Rattle.hdt_dict.specs.declared.role.Role.{Role};
+ghost use Rattle.hdt_dict.specs.Dictionary.{terms};
+ghost use Rattle.hdt_dict.specs.Views.{dictionary_of};
+ghost use Rattle.hdt_file.specs.Faults.{fault_of};
+ghost use Rattle.hdt_file.specs.Dictionary.{HeadAndDictionary, IsHeadAndDictionary, described, dictionary_after_head};
+
+use crate::fault::OpenFault;
+use crate::head::{Head, read_head};
+use hdt_dict::Dictionary;
+use std::alloc::Global;
+
+/// Reads by rows.
+#[tactic(auto, unfolding(crate::specs::Dictionary::dictionary_after_head))]
+fn read_rows<'a>(
+    alloc: Global,
+    bytes: &'a [u8],
+) -> Result<(Head<'a>, Dictionary<'a>, usize), OpenFault>
+    ensures exact { Gives fault_of described result (dictionary_after_head bytes.now) }
+    ensures next { IfOk result (λ r. r.2 ≡ (dictionary_of r.1).objects.end) }
+    ensures few { IfOk result (λ r. (role : Role) → length (terms (dictionary_of r.1) role) ≤ length bytes.now) }
+{
+    let head = read_head(bytes)?;
+    let (dictionary, end) = Dictionary::read(alloc, bytes, head.end())?;
+    Ok((head, dictionary, end))
+}
+
+/// Reads the head at the front of a file and the dictionary after it, and answers them with the place after the
+/// dictionary. What follows isn't looked at.
+///
+/// It costs time in proportion to the bytes up to that place. Faults, in the order of the rows: those of `read_head`,
+/// then those of `Dictionary::read` at the head's end.
+///
+/// ```text
+/// let (head, dictionary, end) = read_dictionary(alloc, bytes)?;
+/// let subjects = dictionary.count(Role::Subject);
+/// ```
+pub fn read_dictionary<'a>(
+    alloc: Global,
+    bytes: &'a [u8],
+) -> Result<(Head<'a>, Dictionary<'a>, usize), OpenFault>
+    // What is read stands at the front.
+    ensures found { IfOk result (λ r. IsHeadAndDictionary (described r) bytes.now) }
+    // What stands there is read, unless memory ran out.
+    ensures only { (front : HeadAndDictionary) → IsHeadAndDictionary front bytes.now → Gives fault_of described result (Ok front) }
+    // Otherwise it is the one fault that stands.
+    ensures exact { Gives fault_of described result (dictionary_after_head bytes.now) }
+    ensures next { IfOk result (λ r. r.2 ≡ (dictionary_of r.1).objects.end) }
+    // A role has at most as many strings as the input has bytes.
+    ensures few { IfOk result (λ r. (role : Role) → length (terms (dictionary_of r.1) role) ≤ length bytes.now) }
+{
+    read_rows(alloc, bytes)
+}
+
+/// The rows of the front of a file answer exactly what stands there.
+pub fn fronts_are_exact()
+    ensures { (bytes : List ℕ) → IsBytes bytes → length bytes < 2 ^ 64 → Exactly (dictionary_after_head bytes) (λ front. IsHeadAndDictionary front bytes) }
+{}

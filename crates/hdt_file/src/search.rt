@@ -1,0 +1,71 @@
+//! Searching a graph, by numbers and by strings.
+ghost use Rattle.std.specs.Prelude.{◌≡◌, ◌↔◌, ◌≤◌, ◌<◌, ◌+◌, ◌*◌, ◌^◌, ℕ, List, [], Option, Some, length};
+ghost use Rattle.hdt_triples.specs.Left.{left_of, limit_of};
+ghost use Rattle.hdt_triples.specs.Patterns.{matches};
+ghost use Rattle.hdt_file.specs.Search.{IsPart, IsPattern, given_looks, part_looks};
+ghost use Rattle.hdt_file.specs.Views.{graph_seen, strings_in};
+
+use crate::graph::Graph;
+use hdt_dict::Role;
+use hdt_seq::Steps;
+use hdt_triples::{Matches, Pattern};
+
+#[tactic(auto, unfolding(crate::specs::Views::graph_seen))]
+impl<'a> Graph<'a> {
+    /// The triples that agree with each number that the pattern gives: exactly those, once each, in the order of the
+    /// file's triples. It takes no memory.
+    pub fn search(&self, pattern: Pattern) -> Matches<'a>
+        ensures items { left_of result ≡ matches pattern (graph_seen self.now).triples }
+        ensures fits { length (left_of result) < 2 ^ 64 }
+        ensures few { limit_of result ≤ 4 * length (graph_seen self.now).triples }
+    {
+        self.triples.find(pattern)
+    }
+
+    /// The number of a string in a role, or any where none is given; None where the role has no such string.
+    fn part(&self, role: Role, given: Option<&[u8]>, steps: &mut Steps) -> Option<Option<u64>>
+        ensures exact { (n : Option ℕ) → (result ≡ Some n) ↔ IsPart (strings_in (graph_seen self.now) role) given.entry n }
+        ensures cost { steps.new ≤ steps.old + part_looks self.now role given.entry }
+        ensures more { steps.old ≤ steps.new }
+    {
+        match given {
+            None => Some(None),
+            Some(x) => Some(Some(self.number_of(role, x, steps)?)),
+        }
+    }
+
+    /// The pattern of the numbers of strings: subject, predicate, object, each in its role; None where one of them isn't
+    /// a string of its role. Each is looked up once, and it takes no memory.
+    pub fn pattern(&self, given: [Option<&[u8]>; 3], steps: &mut Steps) -> Option<Pattern>
+        // It is p exactly where p has the numbers of the strings that are given.
+        ensures exact { (p : Pattern) → (result ≡ Some p) ↔ IsPattern (graph_seen self.now) given.entry p }
+        ensures cost { steps.new ≤ steps.old + given_looks self.now given.entry }
+        ensures more { steps.old ≤ steps.new }
+    {
+        let [s, p, o] = given;
+        Some(Pattern {
+            s: self.part(Role::Subject, s, steps)?,
+            p: self.part(Role::Predicate, p, steps)?,
+            o: self.part(Role::Object, o, steps)?,
+        })
+    }
+
+    /// The triples that have each string that is given in its role, as [`Graph::search`] gives them; none where a string
+    /// isn't in its role. It takes no memory.
+    #[tactic(auto, unfolding(crate::specs::Views::graph_seen, hdt_triples::specs::Left::left_of, hdt_triples::specs::Left::limit_of))]
+    pub fn find(&self, given: [Option<&[u8]>; 3], steps: &mut Steps) -> Matches<'a>
+        // The matches of the pattern of the strings.
+        ensures items { (p : Pattern) → IsPattern (graph_seen self.now) given.entry p → left_of result ≡ matches p (graph_seen self.now).triples }
+        // Where a string isn't in its role there are none.
+        ensures none { ((p : Pattern) → IsPattern (graph_seen self.now) given.entry p → ⊥) → left_of result ≡ [] }
+        ensures fits { length (left_of result) < 2 ^ 64 }
+        ensures cost { steps.new ≤ steps.old + given_looks self.now given.entry }
+        ensures few { limit_of result ≤ 4 * length (graph_seen self.now).triples }
+        ensures more { steps.old ≤ steps.new }
+    {
+        match self.pattern(given, steps) {
+            Some(pattern) => self.search(pattern),
+            None => Matches::Empty,
+        }
+    }
+}

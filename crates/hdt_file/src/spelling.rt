@@ -1,0 +1,131 @@
+//! The strings of a graph as terms of N-Triples.
+ghost use Rattle.std.specs.Prelude.{◌≡◌, ◌↔◌, ◌++◌, ◌∷◌, [], Some, IfOk, IfErr, OnOk, IsErrOf, IsTrue};
+ghost use Rattle.hdt_terms.specs.Writing.{written};
+ghost use Rattle.hdt_terms.specs.declared.fault.StringFault.TheVariants as StringFaultOf;
+ghost use Rattle.hdt_file.specs.Denoted.{string_of};
+ghost use Rattle.hdt_file.specs.Text.{FitsRole, HasNoTerm, IsTermOf};
+ghost use Rattle.hdt_file.specs.TextWriting.{AppendsLine, AppendsTerm, KeepsFront, TellsFirstOf, TellsString};
+ghost use Rattle.hdt_file.specs.Views.{graph_seen};
+
+use crate::fault::DumpFault;
+use crate::graph::Graph;
+use hdt_dict::Role;
+use hdt_seq::Steps;
+use hdt_terms::{StringFault, Term, put_term, string_term};
+use std::alloc::Global;
+
+/// Whether a term of its kind can have the role: an IRI or a blank node as subject, an IRI as predicate, any as object.
+fn fits(role: Role, term: &Term) -> bool
+    ensures { IsTrue result ↔ FitsRole role term.now }
+{
+    match (role, term) {
+        (Role::Subject, Term::Literal(_, _)) => false,
+        (Role::Subject, _) => true,
+        (Role::Predicate, Term::Iri(_)) => true,
+        (Role::Predicate, _) => false,
+        (Role::Object, _) => true,
+    }
+}
+
+/// The term that the string is in the role.
+pub fn role_term(alloc: Global, role: Role, string: &[u8]) -> Result<Term, StringFault>
+    ensures found { IfOk result (λ term. IsTermOf role string.now term) }
+    ensures none { IsErrOf result StringFaultOf.NotATerm → HasNoTerm role string.now }
+{
+    let term = string_term(alloc, string)?;
+    if !fits(role, &term) {
+        return Err(StringFault::NotATerm);
+    }
+    Ok(term)
+}
+
+/// Spells the triples of a graph, one line after another: a string that was unfolded, and the front of the last line,
+/// which serves the lines after it that have the same subject and predicate.
+#[derive(Drop)]
+pub struct Speller {
+    string: Vec<u8>,
+    pair: Option<(u64, u64)>,
+    front: Vec<u8>,
+}
+
+impl Speller {
+    /// A speller that has spelled nothing.
+    pub fn new(alloc: Global) -> Speller
+        ensures { result.pair ≡ None }
+    {
+        Speller {
+            string: Vec::new(alloc),
+            pair: None,
+            front: Vec::new(alloc),
+        }
+    }
+}
+
+/// Appends the term that string n of a role is. `string` is a buffer for the string.
+fn append_term(
+    graph: &Graph<'_>,
+    role: Role,
+    n: u64,
+    string: &mut Vec<u8>,
+    out: &mut Vec<u8>,
+) -> Result<(), DumpFault>
+    ensures ok { OnOk result (AppendsTerm role (string_of (graph_seen graph.now) role n) out.old.items out.new.items) }
+    ensures err { IfErr result (TellsString role n (string_of (graph_seen graph.now) role n)) }
+{
+    string.clear();
+    graph.string_of(role, n, string, &mut Steps::new())?;
+    match role_term(*out.allocator(), role, string) {
+        Ok(term) => Ok(put_term(&term, out)?),
+        Err(StringFault::NotATerm) => Err(DumpFault::NotATerm(role, n)),
+        Err(StringFault::OutOfMemory) => Err(DumpFault::OutOfMemory),
+    }
+}
+
+/// Spells the front of a triple's line, where the line before has another.
+fn spell_front(
+    graph: &Graph<'_>,
+    triple: (u64, u64, u64),
+    speller: &mut Speller,
+) -> Result<(), DumpFault>
+    requires { KeepsFront (graph_seen graph.now) speller.old.pair speller.old.front.items }
+    ensures ok { OnOk result (KeepsFront (graph_seen graph.now) (Some (triple.0, triple.1)) speller.new.front.items) }
+    ensures pair { OnOk result (speller.new.pair ≡ Some (triple.0, triple.1)) }
+    ensures err { IfErr result (TellsFirstOf (graph_seen graph.now) triple) }
+{
+    let (subject, predicate, _) = triple;
+    if speller.pair == Some((subject, predicate)) {
+        return Ok(());
+    }
+    let Speller {
+        string,
+        pair,
+        front,
+    } = speller;
+    *pair = None;
+    front.clear();
+    append_term(graph, Role::Subject, subject, string, front)?;
+    front.push(b' ')?;
+    append_term(graph, Role::Predicate, predicate, string, front)?;
+    front.push(b' ')?;
+    *pair = Some((subject, predicate));
+    Ok(())
+}
+
+/// Appends the line of a triple.
+pub fn append_line(
+    graph: &Graph<'_>,
+    triple: (u64, u64, u64),
+    speller: &mut Speller,
+    out: &mut Vec<u8>,
+) -> Result<(), DumpFault>
+    requires { KeepsFront (graph_seen graph.now) speller.old.pair speller.old.front.items }
+    ensures kept { OnOk result (KeepsFront (graph_seen graph.now) speller.new.pair speller.new.front.items) }
+    ensures ok { OnOk result (AppendsLine (graph_seen graph.now) triple out.old.items out.new.items) }
+    ensures err { IfErr result (TellsFirstOf (graph_seen graph.now) triple) }
+{
+    spell_front(graph, triple, speller)?;
+    out.extend_from_slice(&speller.front)?;
+    append_term(graph, Role::Object, triple.2, &mut speller.string, out)?;
+    out.extend_from_slice(b" .\n")?;
+    Ok(())
+}

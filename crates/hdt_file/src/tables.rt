@@ -1,0 +1,99 @@
+//! All strings of a graph as terms, each spelled once: what a dump takes its lines from.
+ghost use Rattle.std.specs.Prelude.{◌≡◌, ℕ, List, IfOk, IfErr, OnOk, OnErr};
+ghost use Rattle.hdt_file.specs.File.{GraphParts};
+ghost use Rattle.hdt_file.specs.Spellings.{AreSpellings, AreTables, IsSpelling, spelling_in};
+ghost use Rattle.hdt_file.specs.TextWriting.{AppendsLine, AppendsTerm, TellsFirstOf, TellsString};
+ghost use Rattle.hdt_file.specs.Views.{graph_seen, strings_in};
+
+use crate::fault::DumpFault;
+use crate::graph::Graph;
+use crate::spelling::role_term;
+use hdt_dict::{Arena, Role};
+use hdt_terms::{StringFault, put_term};
+use std::alloc::{AllocError, Global};
+
+/// The N-Triples spellings of the strings of each role, in the order of their numbers; that of a string that is no term
+/// of its role is empty.
+#[derive(Drop)]
+pub struct Tables {
+    subjects: Arena,
+    predicates: Arena,
+    objects: Arena,
+}
+
+/// Makes the spelling of a string in `out`, of which nothing else is left.
+fn spell(alloc: Global, role: Role, string: &[u8], out: &mut Vec<u8>) -> Result<(), AllocError>
+    ensures { OnOk result (IsSpelling role string.now out.new.items) }
+{
+    out.clear();
+    match role_term(alloc, role, string) {
+        Ok(term) => put_term(&term, out),
+        Err(StringFault::NotATerm) => Ok(()),
+        Err(StringFault::OutOfMemory) => Err(AllocError),
+    }
+}
+
+/// The spellings of all strings of a role, each of which is unfolded once.
+fn spellings_of(alloc: Global, graph: &Graph<'_>, role: Role) -> Result<Arena, AllocError>
+    ensures { IfOk result (λ arena. AreSpellings role (strings_in (graph_seen graph.now) role) arena) }
+{
+    let mut arena = Arena::new(alloc)?;
+    let mut spelling = Vec::new(alloc);
+    let mut strings = graph.strings(alloc, role);
+    'strings: while let Some(_) = strings.next()? {
+        spell(alloc, role, strings.last(), &mut spelling)?;
+        arena.push(&spelling)?;
+    }
+    Ok(arena)
+}
+
+/// The spellings of all strings of a graph.
+pub fn tables_of(alloc: Global, graph: &Graph<'_>) -> Result<Tables, AllocError>
+    ensures { IfOk result (AreTables (graph_seen graph.now)) }
+{
+    Ok(Tables {
+        subjects: spellings_of(alloc, graph, Role::Subject)?,
+        predicates: spellings_of(alloc, graph, Role::Predicate)?,
+        objects: spellings_of(alloc, graph, Role::Object)?,
+    })
+}
+
+/// The spelling of string n, from 1, or nothing.
+fn spelling_in(spellings: &Arena, n: u64) -> &[u8]
+    ensures { result.now ≡ spelling_in spellings.now n }
+{
+    if n == 0 || n > spellings.len() as u64 {
+        return &[];
+    }
+    spellings.get((n - 1) as usize)
+}
+
+/// Appends a spelling; nothing is that of a string that is no term.
+fn append_spelling(role: Role, n: u64, spelling: &[u8], out: &mut Vec<u8>) -> Result<(), DumpFault>
+    ensures ok { OnOk result ((string : List ℕ) → IsSpelling role string spelling.now → AppendsTerm role string out.old.items out.new.items) }
+    ensures err { IfErr result (λ e. (string : List ℕ) → IsSpelling role string spelling.now → TellsString role n string e) }
+{
+    if spelling.is_empty() {
+        return Err(DumpFault::NotATerm(role, n));
+    }
+    Ok(out.extend_from_slice(spelling)?)
+}
+
+/// Appends the line of a triple.
+pub fn append_line_of(
+    tables: &Tables,
+    triple: (u64, u64, u64),
+    out: &mut Vec<u8>,
+) -> Result<(), DumpFault>
+    ensures ok { OnOk result ((g : GraphParts) → AreTables g tables.now → AppendsLine g triple out.old.items out.new.items) }
+    ensures err { IfErr result (λ e. (g : GraphParts) → AreTables g tables.now → TellsFirstOf g triple e) }
+{
+    let (s, p, o) = triple;
+    append_spelling(Role::Subject, s, spelling_in(&tables.subjects, s), out)?;
+    out.push(b' ')?;
+    append_spelling(Role::Predicate, p, spelling_in(&tables.predicates, p), out)?;
+    out.push(b' ')?;
+    append_spelling(Role::Object, o, spelling_in(&tables.objects, o), out)?;
+    out.extend_from_slice(b" .\n")?;
+    Ok(())
+}

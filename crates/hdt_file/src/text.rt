@@ -1,0 +1,111 @@
+//! The N-Triples text of a graph.
+ghost use Rattle.std.specs.Prelude.{◌≡◌, ◌≢◌, ◌+◌, ◌⊎◌, ℕ, List, Option, OnOk, IfOk, IfErr, Some, IsOk};
+ghost use Rattle.hdt_wire.specs.Counted.{inner, failures};
+ghost use Rattle.hdt_dict.specs.declared.role.Role.{Role};
+ghost use Rattle.hdt_triples.specs.Counting.{Triple};
+ghost use Rattle.hdt_file.specs.Denoted.{StringTriple, denoted};
+ghost use Rattle.hdt_file.specs.File.{GraphParts};
+ghost use Rattle.hdt_file.specs.Text.{IsFirstIn, IsTextOf};
+ghost use Rattle.hdt_file.specs.TextWriting.{TellsFirstIn, WritesPart, WritesText, chosen};
+ghost use Rattle.hdt_file.specs.Views.{graph_seen};
+
+use crate::fault::DumpFault;
+use crate::graph::Graph;
+use crate::spelling::{Speller, append_line};
+use crate::tables::{append_line_of, tables_of};
+use hdt_triples::Pattern;
+use hdt_wire::Counted;
+use std::alloc::Global;
+use std::io::Write;
+
+/// The text of the matches of a pattern, each string of which is looked up: for few matches.
+fn matches_text(alloc: Global, graph: &Graph<'_>, pattern: Pattern) -> Result<Vec<u8>, DumpFault>
+    ensures ok { IfOk result (λ text. IsTextOf (denoted (graph_seen graph.now) (chosen (graph_seen graph.now) (Some pattern))) text.items) }
+    ensures err { IfErr result (TellsFirstIn (graph_seen graph.now) (chosen (graph_seen graph.now) (Some pattern))) }
+{
+    let mut speller = Speller::new(alloc);
+    let mut text = Vec::new(alloc);
+    let mut matches = graph.search(pattern);
+    'triples: while let Some(triple) = matches.next() {
+        append_line(graph, triple, &mut speller, &mut text)?;
+    }
+    Ok(text)
+}
+
+/// The same by tables in which all strings of the graph were spelled once: for many matches.
+fn tabled_text(alloc: Global, graph: &Graph<'_>, pattern: Pattern) -> Result<Vec<u8>, DumpFault>
+    ensures ok { IfOk result (λ text. IsTextOf (denoted (graph_seen graph.now) (chosen (graph_seen graph.now) (Some pattern))) text.items) }
+    ensures err { IfErr result (TellsFirstIn (graph_seen graph.now) (chosen (graph_seen graph.now) (Some pattern))) }
+{
+    let tables = tables_of(alloc, graph)?;
+    let mut text = Vec::new(alloc);
+    let mut matches = graph.search(pattern);
+    'triples: while let Some(triple) = matches.next() {
+        append_line_of(&tables, triple, &mut text)?;
+    }
+    Ok(text)
+}
+
+/// The N-Triples text of the matches of a pattern, or of nothing: a line a triple, in order.
+///
+/// Where something is given, each match costs the unfolding of one block of objects, and the front of its line where it
+/// is not that of the match before. Where nothing is given, each string of the graph is spelled once, and a line costs
+/// the copying of its bytes.
+///
+/// # Errors
+///
+/// [`DumpFault::NotATerm`] tells the first string of the first match that is no term of its role, in the order subject,
+/// predicate, object; [`DumpFault::OutOfMemory`] comes only where memory was refused.
+pub fn graph_text(
+    alloc: Global,
+    graph: &Graph<'_>,
+    pattern: Option<Pattern>,
+) -> Result<Vec<u8>, DumpFault>
+    ensures ok { IfOk result (λ text. IsTextOf (denoted (graph_seen graph.now) (chosen (graph_seen graph.now) pattern)) text.items) }
+    ensures err { IfErr result (TellsFirstIn (graph_seen graph.now) (chosen (graph_seen graph.now) pattern)) }
+{
+    match pattern {
+        Some(pattern) if pattern.s.is_none() && pattern.p.is_none() && pattern.o.is_none() => {
+            tabled_text(alloc, graph, pattern)
+        }
+        Some(pattern) => matches_text(alloc, graph, pattern),
+        None => Ok(Vec::new(alloc)),
+    }
+}
+
+/// Writes the N-Triples text of the matches of a pattern, or of nothing, as [`graph_text`] gives it: it is made whole in
+/// memory before its first byte is written. The answer is its length in bytes.
+///
+/// # Errors
+///
+/// Those of [`graph_text`], with nothing written; [`DumpFault::Write`] tells how many bytes went out before the writer
+/// failed.
+///
+/// ```text
+/// let mut out = Counted::new(file);
+/// let pattern = graph.pattern([None, Some(b"u:p"), None], &mut Steps::new());
+/// let bytes = write_graph(alloc, &graph, pattern, &mut out)?;
+/// ```
+pub fn write_graph<W: Write>(
+    alloc: Global,
+    graph: &Graph<'_>,
+    pattern: Option<Pattern>,
+    out: &mut Counted<W>,
+) -> Result<u64, DumpFault>
+    // The writer has gained the text, as long as is answered, and has not failed.
+    ensures ok { IfOk result (WritesText (graph_seen graph.now) (chosen (graph_seen graph.now) pattern) (W.contents (inner out.old)) (W.contents (inner out.new))) }
+    ensures well { IsOk result → failures out.new ≡ failures out.old }
+    // The first string of the first triple that is no term of its role, in the order subject, predicate, object.
+    ensures first { IfErr result (λ e. (role : Role) (n : ℕ) → e ≡ DumpFault.NotATerm role n → IsFirstIn (graph_seen graph.now) (chosen (graph_seen graph.now) pattern) role n) }
+    // The writer failed in this call, and has gained exactly the first n bytes of the text.
+    ensures write { IfErr result (λ e. (n : ℕ) → e ≡ DumpFault.Write n → (failures out.new ≡ failures out.old + 1)
+        × WritesPart (graph_seen graph.now) (chosen (graph_seen graph.now) pattern) (W.contents (inner out.old)) (W.contents (inner out.new)) n) }
+    // At any other fault nothing was written.
+    ensures unwritten { IfErr result (λ e. ((n : ℕ) → e ≢ DumpFault.Write n) → out.new ≡ out.old) }
+{
+    let text = graph_text(alloc, graph, pattern)?;
+    match out.write_all(&text) {
+        Ok(()) => Ok(text.len() as u64),
+        Err(count) => Err(DumpFault::Write(count)),
+    }
+}

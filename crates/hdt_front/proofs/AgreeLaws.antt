@@ -1,0 +1,96 @@
+-- How the order of strings goes by the front that is kept.
+use Rattle.std.proofs.Common.{◌≡◌, ℕ, ◌+◌, ◌<◌, ◌≤◌, zero, suc, List, [], ◌∷◌, ◌++◌, length, take, drop, refl, sym, ap, arith, Bool, true, false, nat_eq, cond, get_or}
+use Rattle.std.proofs.Common.{Ordering, nat_lt}
+use Rattle.std.specs.declared.cmp.Ordering.TheVariants.{Less, Equal, Greater}
+use Rattle.std.specs.Ordering.{nat_cmp, ordering_then}
+use Rattle.std.specs.Cmp.Lexicographic.{slice_cmp}
+use Rattle.std.specs.List.{common_prefix_len}
+use Rattle.std.proofs.lemmas.Bool.Decides.{nat_tests}
+
+abbrev pub order : List ℕ → List ℕ → Ordering
+order x y = slice_cmp nat_cmp x y
+
+abbrev pub agreed : List ℕ → List ℕ → ℕ
+agreed x y = common_prefix_len nat_eq x y
+
+abbrev both : Bool → Bool → Ordering → Ordering
+both lt eq o = ordering_then (cond lt Less (cond eq Equal Greater)) o
+
+apart : (b c : ℕ) → nat_lt b c ≡ true → nat_eq b c ≡ true → ⊥
+apart b c lt eq = grind (arith, nat_tests)
+
+kept_step : (lt eq : Bool) → (lt ≡ true → eq ≡ true → ⊥) → (o p : Ordering) (n m k : ℕ) → (o ≡ Less → n < k → (p ≡ Less) × (m ≡ n))
+    → both lt eq o ≡ Less → cond eq (1 + n) 0 < suc k → (both lt eq p ≡ Less) × (cond eq (1 + m) 0 ≡ cond eq (1 + n) 0)
+kept_step true true not_both o p n m k rest less more = absurd (not_both refl refl)
+kept_step true false not_both o p n m k rest less more = (refl, refl)
+kept_step false true not_both o p n m k rest less more = let r = rest less (omega (arith, more)) in (r.0, ap (λ x. 1 + x) r.1)
+kept_step false false not_both o p n m k rest less more = absurd (cc)
+
+rest_step : (lt eq : Bool) → (lt ≡ true → eq ≡ true → ⊥) → (o p : Ordering) (n m i k : ℕ) → (k ≤ n → (p ≡ o) × (m ≡ k + i))
+    → suc k ≤ cond eq (1 + n) 0 → (both lt eq p ≡ o) × (cond eq (1 + m) 0 ≡ suc k + i)
+rest_step true true not_both o p n m i k rest fits = absurd (not_both refl refl)
+rest_step lt false not_both o p n m i k rest fits = absurd (omega (arith, fits))
+rest_step false true not_both o p n m i k rest fits = let r = rest (omega (arith, fits)) in (r.0, omega (arith, r.1))
+
+-- a next string that keeps more of the last one than that agrees with the sought one is less than it too
+pub kept_less : (k : ℕ) (last sought text : List ℕ) → order last sought ≡ Less → k ≤ length last → agreed last sought < k
+    → (order (take k last ++ text) sought ≡ Less) × (agreed (take k last ++ text) sought ≡ agreed last sought)
+kept_less zero last sought text less fits more = absurd (omega (arith, more))
+kept_less (suc k) [] sought text less fits more = absurd (omega (arith, fits))
+kept_less (suc k) (b ∷ last) [] text less fits more = absurd (cc)
+kept_less (suc k) (b ∷ last) (c ∷ sought) text less fits more =
+    kept_step (nat_lt b c) (nat_eq b c) (apart b c) (order last sought) (order (take k last ++ text) sought) (agreed last sought) (agreed (take k last ++ text) sought) k
+    (λ h i. kept_less k last sought text h (omega (arith, fits)) i) less more
+
+-- where it keeps no more than agrees, what is stored is compared with the rest of the sought one
+pub rest_decides : (k : ℕ) (last sought text : List ℕ) → k ≤ agreed last sought
+    → (order (take k last ++ text) sought ≡ order text (drop k sought)) × (agreed (take k last ++ text) sought ≡ k + agreed text (drop k sought))
+rest_decides zero last sought text fits = (refl, omega arith)
+rest_decides (suc k) [] sought text fits = absurd (omega (arith, fits))
+rest_decides (suc k) (b ∷ last) [] text fits = absurd (omega (arith, fits))
+rest_decides (suc k) (b ∷ last) (c ∷ sought) text fits =
+    rest_step (nat_lt b c) (nat_eq b c) (apart b c) (order text (drop k sought)) (order (take k last ++ text) sought) (agreed last sought) (agreed (take k last ++ text) sought) (agreed text (drop k sought)) k
+    (λ h. rest_decides k last sought text h) fits
+
+bytes_step : (lt eq : Bool) → (lt ≡ true → eq ≡ true → ⊥) → (x y : ℕ) (a b : List ℕ) (n k : ℕ) (o : Ordering) → nat_cmp x y ≡ cond lt Less (cond eq Equal Greater)
+    → ((j : ℕ) → j ≡ n → j < length a → j < length b → o ≡ nat_cmp (get_or a j 0) (get_or b j 0))
+    → k ≡ cond eq (1 + n) 0 → k < suc (length a) → k < suc (length b) → both lt eq o ≡ nat_cmp (get_or (x ∷ a) k 0) (get_or (y ∷ b) k 0)
+bytes_step true true not_both x y a b n k o is rest e la lb = absurd (not_both refl refl)
+bytes_step true false not_both x y a b n zero o is rest e la lb = sym is
+bytes_step false false not_both x y a b n zero o is rest e la lb = sym is
+bytes_step true false not_both x y a b n (suc k) o is rest e la lb = absurd (omega (arith, e))
+bytes_step false false not_both x y a b n (suc k) o is rest e la lb = absurd (omega (arith, e))
+bytes_step false true not_both x y a b n zero o is rest e la lb = absurd (omega (arith, e))
+bytes_step false true not_both x y a b n (suc k) o is rest e la lb = rest k (omega (arith, e)) (omega (arith, la)) (omega (arith, lb))
+
+-- where neither ends behind the bytes that agree, the bytes there are compared
+pub bytes_decide : (a b : List ℕ) (k : ℕ) → k ≡ agreed a b → k < length a → k < length b → order a b ≡ nat_cmp (get_or a k 0) (get_or b k 0)
+bytes_decide [] b k e la lb = absurd (omega (arith, la))
+bytes_decide (x ∷ a) [] k e la lb = absurd (omega (arith, lb))
+bytes_decide (x ∷ a) (y ∷ b) k e la lb =
+    bytes_step (nat_lt x y) (nat_eq x y) (apart x y) x y a b (agreed a b) k (order a b) refl (λ j h i l. bytes_decide a b j h i l) e la lb
+
+lengths_step : (lt eq : Bool) → (lt ≡ true → eq ≡ true → ⊥) → (n k l m : ℕ) (o : Ordering) → ((j : ℕ) → j ≡ n → (j < l → m ≤ j) → o ≡ nat_cmp l m)
+    → k ≡ cond eq (1 + n) 0 → (k < suc l → suc m ≤ k) → both lt eq o ≡ nat_cmp l m
+lengths_step true true not_both n k l m o rest e ends = absurd (not_both refl refl)
+lengths_step true false not_both n k l m o rest e ends = absurd (omega (arith, e, ends (omega (arith, e))))
+lengths_step false false not_both n k l m o rest e ends = absurd (omega (arith, e, ends (omega (arith, e))))
+lengths_step false true not_both n zero l m o rest e ends = absurd (omega (arith, e))
+lengths_step false true not_both n (suc k) l m o rest e ends = rest k (omega (arith, e)) (λ h. omega (arith, ends (omega (arith, h))))
+
+further_cmp : (l m : ℕ) → nat_cmp l m ≡ nat_cmp (suc l) (suc m)
+further_cmp l m = grind (arith, nat_tests)
+
+none_less : (m : ℕ) → nat_cmp 0 (suc m) ≡ Less
+none_less m = grind (arith, nat_tests)
+
+some_greater : (l : ℕ) → nat_cmp (suc l) 0 ≡ Greater
+some_greater l = grind (arith, nat_tests)
+
+-- where one ends there, the lengths are compared
+pub lengths_decide : (a b : List ℕ) (k : ℕ) → k ≡ agreed a b → (k < length a → length b ≤ k) → order a b ≡ nat_cmp (length a) (length b)
+lengths_decide [] [] k e ends = refl
+lengths_decide [] (y ∷ b) k e ends = sym (none_less (length b))
+lengths_decide (x ∷ a) [] k e ends = sym (some_greater (length a))
+lengths_decide (x ∷ a) (y ∷ b) k e ends =
+    rw (← further_cmp (length a) (length b)) (lengths_step (nat_lt x y) (nat_eq x y) (apart x y) (agreed a b) k (length a) (length b) (order a b) (λ j h i. lengths_decide a b j h i) e ends)

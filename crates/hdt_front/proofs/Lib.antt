@@ -1,0 +1,13 @@
+pub mod Order
+pub mod Rows
+pub mod Halving
+pub mod AgreeLaws
+pub mod Ascent
+pub mod Lies
+pub mod Strings
+pub mod Folds
+pub mod Words
+pub mod Utf8
+pub mod Inside
+pub mod Following
+pub mod Inverse

@@ -1,0 +1,14 @@
+use Rattle.std.proofs.Common.{◌≡◌, ◌≤◌, ◌+◌, ◌-◌, length, drop, nat_eq}
+use Rattle.std.specs.List.{common_prefix_len}
+use Rattle.hdt_front.proofs.common.common_words.Given as goal
+
+abbrev pub invariant-loop-len : goal.invariant-loop-len
+invariant-loop-len l = record {
+  in_least : l.len ≤ l.least;
+  in_a : l.least ≤ length l.a;
+  in_b : l.least ≤ length l.b;
+  so_far : l.len + common_prefix_len nat_eq (drop l.len l.a) (drop l.len l.b) ≡ common_prefix_len nat_eq l.a l.b;
+}
+
+abbrev pub decreases-loop-len : goal.decreases-loop-len
+decreases-loop-len l = l.least - l.len

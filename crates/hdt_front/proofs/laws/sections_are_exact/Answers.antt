@@ -1,0 +1,5 @@
+use Rattle.hdt_front.specs.SectionLaws.{section_exact}
+use Rattle.hdt_front.proofs.laws.sections_are_exact.Goals as goal
+
+pub returns : goal.returns
+returns c = section_exact

@@ -1,0 +1,58 @@
+-- The canonical bytes of a section: what is written. Each string keeps as much of the one before it as both have, and
+-- the starts are the places of the heads, and the end.
+use Rattle.std.specs.Prelude.{ℕ, ◌+◌, Bool, List, [], ◌∷◌, ◌++◌, length, map, drop, cond, nat_eq}
+use Rattle.std.specs.List.{concat, common_prefix_len}
+use Rattle.std.specs.Borrow.{Bor}
+use Rattle.std.specs.declared.vec.Vec.{Vec}
+use Rattle.hdt_wire.specs.VByte.{vbyte}
+use Rattle.hdt_seq.specs.Numbers.{numbers_spelling}
+use Rattle.hdt_front.specs.Unfolding.{is_head}
+use Rattle.hdt_front.specs.Section.{SectionParts}
+use Rattle.hdt_front.specs.SectionWriting.{section_head, section_spelling}
+
+-- the bytes of each string
+abbrev pub texts : {Z : Type 0} → List (Vec ℕ Z) → List (List ℕ)
+texts strings = map (λ s. s.items) strings
+
+-- the bytes of each lent string
+abbrev pub lent_texts : List (Bor (List ℕ)) → List (List ℕ)
+lent_texts strings = map (λ s. s.now) strings
+
+-- the piece of a string: the string at the head of a block; else how much of the string before it keeps, the longest
+-- that both have, and what is behind that; then a zero byte
+unfoldable pub piece_of : Bool → List ℕ → List ℕ → List ℕ
+piece_of head before string =
+    let same = common_prefix_len nat_eq before string in
+    cond head (string ++ 0 ∷ []) (vbyte same ++ (drop same string ++ 0 ∷ []))
+
+-- the pieces of strings, the first of them number i, after the string before
+unfoldable pub pieces_from : ℕ → ℕ → List ℕ → List (List ℕ) → List (List ℕ)
+pieces_from b i before [] = []
+pieces_from b i before (string ∷ strings) = piece_of (is_head b i) before string ∷ pieces_from b (i + 1) string strings
+
+-- the starts of pieces, the first of them number i at a place
+unfoldable pub starts_from : ℕ → ℕ → ℕ → List (List ℕ) → List ℕ
+starts_from b i at [] = at ∷ []
+starts_from b i at (piece ∷ pieces) = cond (is_head b i) (at ∷ []) [] ++ starts_from b (i + 1) (at + length piece) pieces
+
+-- the packed bytes of strings in blocks of b
+abbrev pub packed_of : ℕ → List (List ℕ) → List ℕ
+packed_of b strings = concat (pieces_from b 0 [] strings)
+
+-- the starts of their blocks
+abbrev pub starts_of : ℕ → List (List ℕ) → List ℕ
+starts_of b strings = starts_from b 0 0 (pieces_from b 0 [] strings)
+
+-- the canonical bytes of a section
+unfoldable pub canonical : ℕ → List (List ℕ) → List ℕ
+canonical b strings = section_spelling (length strings) b (starts_of b strings) (packed_of b strings)
+
+-- what they say where they stand
+unfoldable pub canonical_parts : ℕ → List (List ℕ) → ℕ → SectionParts
+canonical_parts b strings at = record {
+  strings = strings;
+  block_size = b;
+  packed = packed_of b strings;
+  packed_place = at + length (section_head (length strings) (length (packed_of b strings)) b) + 1 + length (numbers_spelling (starts_of b strings));
+  end = at + length (canonical b strings);
+}

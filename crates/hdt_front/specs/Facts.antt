@@ -1,0 +1,25 @@
+-- What stands where the rows of strings hold, string by string.
+use Rattle.std.specs.Prelude.{◌≡◌, ℕ, zero, suc, ◌-◌, ◌/◌, ◌<◌, ◌≤◌, ◌==◌, ◌||◌, true, false, List, [], length, get_or, Ok}
+use Rattle.std.specs.Str.{is_utf8}
+use Rattle.hdt_wire.specs.Rows.{zero_in}
+use Rattle.hdt_wire.specs.VByte.{vbyte_at}
+use Rattle.hdt_front.specs.Unfolding.{is_head, kept, text_from, string_of_piece, after_piece, read_or}
+use Rattle.hdt_front.specs.StringRows.{Packing, precedes}
+
+-- where piece i begins
+unfoldable pub rest_at : ℕ → ℕ → List ℕ → List ℕ
+rest_at b zero bytes = bytes
+rest_at b (suc i) bytes = after_piece (is_head b i) (rest_at b i bytes)
+
+-- the string before string i
+unfoldable pub before_at : ℕ → ℕ → List ℕ → List ℕ
+before_at b zero bytes = []
+before_at b (suc i) bytes = string_of_piece (is_head b i) (before_at b i bytes) (rest_at b i bytes)
+
+pub record RowHolds (p : Packing) (i : ℕ) (before rest : List ℕ) : Type 0 where
+  pub start : is_head p.block i ≡ true → get_or p.starts (i / p.block) 0 ≡ p.size - length rest
+  pub number : is_head p.block i ≡ false → vbyte_at rest 0 ≡ Ok (read_or (0, 0) (vbyte_at rest 0))
+  pub fits : kept (is_head p.block i) rest ≤ length before
+  pub ends : zero_in (text_from (is_head p.block i) rest) < length (text_from (is_head p.block i) rest)
+  pub utf8 : is_utf8 (string_of_piece (is_head p.block i) before rest) ≡ true
+  pub ascends : (i == 0 || precedes before (string_of_piece (is_head p.block i) before rest)) ≡ true

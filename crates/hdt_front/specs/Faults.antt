@@ -1,0 +1,10 @@
+-- Why a section could not be read.
+use Rattle.std.specs.Prelude.{Option, Some, None}
+use Rattle.hdt_wire.specs.declared.fault.Fault.{Fault}
+use Rattle.hdt_front.specs.declared.fault.ReadFault.{ReadFault}
+use Rattle.hdt_front.specs.declared.fault.ReadFault.TheVariants as faults
+
+-- the fault that an error is, where it is one; want of memory is none
+abbrev pub fault_of : ReadFault → Option Fault
+fault_of faults.OutOfMemory = None
+fault_of (faults.Fault f) = Some f

@@ -1,0 +1,33 @@
+-- A section that was read, as its contracts see it.
+use Rattle.std.specs.Prelude.{ℕ, List, [], ◌-◌, ◌+◌, ◌/◌}
+use Rattle.std.specs.Prelude.{nat_eq, cond}
+use Rattle.hdt_front.specs.Halving.{digits}
+use Rattle.hdt_front.specs.Unfolding.{unfolded}
+use Rattle.hdt_front.specs.Section.{SectionParts}
+use Rattle.hdt_front.specs.declared.section.Section.{Section}
+
+-- the strings of a section
+unfoldable pub strings_of : Section → List (List ℕ)
+strings_of s = unfolded s.packed.block s.packed.count 0 [] s.packed.bytes.now
+
+-- the section with all that it says
+unfoldable pub section_of : Section → SectionParts
+section_of s = record {
+  strings = strings_of s;
+  block_size = s.packed.block;
+  packed = s.packed.bytes.now;
+  packed_place = s.packed.base;
+  end = s.end;
+}
+
+-- how many strings a block has, but for the last one
+abbrev pub block_size : Section → ℕ
+block_size s = s.packed.block
+
+-- how many blocks the strings take; without strings none
+unfoldable pub blocks_of : Section → ℕ
+blocks_of s = (s.packed.count + (s.packed.block - 1)) / s.packed.block
+
+-- the most looks at pieces that a search takes: none without strings
+unfoldable pub looks : Section → ℕ
+looks s = cond (nat_eq s.packed.count 0) 0 (digits (blocks_of s) + (s.packed.block - 1))

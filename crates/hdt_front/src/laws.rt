@@ -1,0 +1,63 @@
+//! Laws of sections.
+ghost use Rattle.std.specs.Prelude.{◌≡◌, ◌⊎◌, ◌+◌, ◌<◌, ◌≤◌, ◌^◌, ◌-◌, ◌*◌, ◌++◌, [], ℕ, List, length, take, get_or, Ok, Some};
+ghost use Rattle.std.specs.List.{concat};
+ghost use Rattle.hdt_wire.specs.Rows.{IsBytes, Stands};
+ghost use Rattle.hdt_wire.specs.Exact.{Exactly, OneValue, OneFault};
+ghost use Rattle.hdt_seq.specs.Numbers.{numbers_spelling};
+ghost use Rattle.hdt_front.specs.declared.section.Section.{Section as SectionIs};
+ghost use Rattle.hdt_front.specs.Numbering.{place};
+ghost use Rattle.hdt_front.specs.Strings.{strings_of, blocks_of, block_size};
+ghost use Rattle.hdt_front.specs.Canonical.{canonical, canonical_parts};
+ghost use Rattle.hdt_front.specs.Section.{SectionParts, AreStrings, IsSection, section_at, string_place};
+ghost use Rattle.hdt_front.specs.SectionWriting.{CanStand, section_head, section_spelling};
+
+/// The rows of a section answer exactly what stands at the place.
+pub fn sections_are_exact()
+    ensures { (bytes : List ℕ) (at : ℕ) → IsBytes bytes → Exactly (section_at bytes at) (λ s. IsSection s bytes at) }
+{}
+
+/// At a place stands one section and no fault, or one fault and no section.
+pub fn one_section()
+    ensures one { (bytes : List ℕ) (at : ℕ) (s t : SectionParts) → IsBytes bytes → IsSection s bytes at → IsSection t bytes at → s ≡ t }
+    ensures or_fault { (bytes : List ℕ) (at : ℕ) → IsBytes bytes → OneValue (section_at bytes at) (λ s. IsSection s bytes at) ⊎ OneFault (section_at bytes at) (λ s. IsSection s bytes at) }
+{}
+
+/// A string's place is where its piece begins.
+pub fn string_places()
+    ensures { (s : SectionParts) (bytes : List ℕ) (at : ℕ) (h : IsSection s bytes at) (i : ℕ) → i < length s.strings
+        → string_place s i ≡ s.packed_place + length (concat (take i h.folded.pieces)) }
+{}
+
+/// What is written for strings is a section where it stands, whatever stands around it: the canonical bytes, and those
+/// of any other folding of the strings.
+pub fn section_is_read_again()
+    ensures canonical { (b : ℕ) (strings : List (List ℕ)) (bytes : List ℕ) (at end : ℕ) → 1 ≤ b → b < 2 ^ 64 → AreStrings strings → length bytes < 2 ^ 64
+        → Stands bytes at (canonical b strings) end → IsSection (canonical_parts b strings at) bytes at }
+    ensures again { (b : ℕ) (strings : List (List ℕ)) (before after : List ℕ) → 1 ≤ b → b < 2 ^ 64 → AreStrings strings
+        → IsBytes (before ++ canonical b strings ++ after) → length (before ++ canonical b strings ++ after) < 2 ^ 64
+        → section_at (before ++ canonical b strings ++ after) (length before) ≡ Ok (canonical_parts b strings (length before)) }
+    ensures folded { (strings : List (List ℕ)) (b : ℕ) (starts packed bytes : List ℕ) (at end : ℕ) → CanStand strings b starts packed
+        → Stands bytes at (section_spelling (length strings) b starts packed) end
+        → IsSection (record {
+          strings = strings;
+          block_size = b;
+          packed = packed;
+          packed_place = at + length (section_head (length strings) (length packed) b) + 1 + length (numbers_spelling starts);
+          end = end;
+        }) bytes at }
+{}
+
+/// Looking up by string and by number are inverse: where a string has a number, it is the string of that number, and
+/// the string of each number has it.
+pub fn look_ups_are_inverse()
+    ensures found { (s : SectionIs) (x : List ℕ) (n : ℕ) → place (strings_of s) x ≡ Some n → (1 ≤ n) × (n ≤ length (strings_of s)) × (get_or (strings_of s) (n - 1) [] ≡ x) }
+    ensures only { (s : SectionIs) (n : ℕ) → 1 ≤ n → n ≤ length (strings_of s) → place (strings_of s) (get_or (strings_of s) (n - 1) []) ≡ Some n }
+{}
+
+/// The blocks of a section are the least number whose product with the block size is at least the number of strings;
+/// without strings there are none.
+pub fn blocks_are_least()
+    ensures enough { (s : SectionIs) → length (strings_of s) ≤ blocks_of s * block_size s }
+    ensures least { (s : SectionIs) (k : ℕ) → length (strings_of s) ≤ k * block_size s → blocks_of s ≤ k }
+    ensures none { (s : SectionIs) → length (strings_of s) ≡ 0 → blocks_of s ≡ 0 }
+{}

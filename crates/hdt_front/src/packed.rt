@@ -1,0 +1,161 @@
+//! The strings of a section, checked one after another.
+ghost use Rattle.std.specs.Prelude.{◌≡◌, ◌≤◌, ◌<◌, ◌+◌, ◌-◌, ◌/◌, ◌%◌, ◌^◌, true, length, [], IfOk, ℕ, List, Ok, get_or};
+ghost use Rattle.std.specs.Str.{is_utf8};
+ghost use Rattle.hdt_wire.specs.Rows.{Reads, Gives};
+ghost use Rattle.hdt_seq.specs.Numbers.{numbers_of};
+ghost use Rattle.hdt_front.specs.StringRows.{place_at, opened_at, unfolded_rows, string_row, strings_at};
+
+use crate::fault::ReadFault;
+use crate::piece::read_front;
+use crate::unfold::{ascends, unfold_tested};
+use hdt_seq::Numbers;
+use hdt_wire::{Fault, Reason, demand, zero_in};
+use std::alloc::Global;
+
+/// How strings lie folded in the input: their packed bytes, the starts of their blocks, how many strings there are, how
+/// many a block has, and the place of the packed bytes.
+#[derive(Clone, Copy)]
+pub(crate) struct Packed<'a> {
+    pub(crate) bytes: &'a [u8],
+    pub(crate) starts: Numbers<'a>,
+    pub(crate) count: u64,
+    pub(crate) block: u64,
+    pub(crate) base: usize,
+    ghost counted: { count < 2 ^ 64 },
+    ghost sized: { block < 2 ^ 64 },
+    ghost some: { 0 < count → 1 ≤ block },
+    ghost many: { 0 < count → length (numbers_of starts) ≡ (count + (block - 1)) / block + 1 },
+    ghost fits: { base + length bytes.now < 2 ^ 64 },
+}
+
+/// The rows of a string at a place: it is UTF-8, and after the one before it.
+fn demand_string(valid: bool, later: bool, place: usize) -> Result<(), Fault>
+    ensures { result ≡ unfolded_rows valid later place }
+{
+    demand(valid, place, Reason::NotUtf8)?;
+    demand(later, place, Reason::StringsNotAscending)
+}
+
+impl<'a> Packed<'a> {
+    ghost use Rattle.hdt_front.specs.Packed.{packing_of};
+    ghost use Rattle.hdt_front.specs.Faults.{fault_of};
+
+    /// The place of what is left.
+    pub(crate) fn place(&self, rest: &[u8]) -> usize
+        requires { length rest.now ≤ length self.now.bytes.now }
+        ensures { result ≡ place_at (packing_of self.now) rest.now }
+    {
+        self.base + (self.bytes.len() - rest.len())
+    }
+
+    /// How much of the string before string i keeps, and the bytes from its text on; it is the head of its block where
+    /// its number inside the block is 0.
+    #[tactic(auto, unfolding(crate::specs::StringRows::opened_at))]
+    fn opened<'b>(&self, i: u64, inside: u64, rest: &'b [u8]) -> Result<(u64, &'b [u8]), Fault>
+        requires here { i < self.now.count }
+        requires inside { inside ≡ i % self.now.block }
+        requires left { length rest.now ≤ length self.now.bytes.now }
+        ensures exact { Reads (λ x. (x.0, x.1.now)) result (opened_at (packing_of self.now) i rest.now) }
+        ensures left { IfOk result (λ x. length x.1.now ≤ length rest.now) }
+    {
+        if inside == 0 {
+            let entry = i / self.block;
+            let at = (self.bytes.len() - rest.len()) as u64;
+            demand(
+                self.starts.get(entry) == at,
+                self.starts.entry_place(entry) as usize,
+                Reason::BlockPlace,
+            )?;
+            return Ok((0, rest));
+        }
+        match read_front(rest) {
+            Ok((kept, end)) => Ok((kept, &rest[end..])),
+            Err(fault) => Err(Fault {
+                place: self.place(rest) as u64,
+                reason: if fault.reason == Reason::Truncated {
+                    Reason::PackedLength
+                } else {
+                    fault.reason
+                },
+            }),
+        }
+    }
+
+    /// The number inside its block of the next string.
+    #[tactic(auto, using(crate::proofs::Inside::next_block, crate::proofs::Inside::next_same))]
+    fn next_inside(&self, inside: u64) -> u64
+        requires { inside < self.now.block }
+        ensures { (i : ℕ) → inside ≡ i % self.now.block → result ≡ (i + 1) % self.now.block }
+    {
+        if inside + 1 == self.block {
+            0
+        } else {
+            inside + 1
+        }
+    }
+
+    /// Checks string i, which takes the place of the string before; what is left after it.
+    #[tactic(auto, unfolding(crate::specs::StringRows::string_row))]
+    fn check_string<'b>(
+        &self,
+        i: u64,
+        inside: u64,
+        before: &mut Vec<u8>,
+        rest: &'b [u8],
+    ) -> Result<&'b [u8], ReadFault>
+        requires here { i < self.now.count }
+        requires inside { inside ≡ i % self.now.block }
+        requires left { length rest.now ≤ length self.now.bytes.now }
+        requires utf8 { is_utf8 before.old.items ≡ true }
+        ensures utf8 { IfOk result (λ after. is_utf8 before.new.items ≡ true) }
+        ensures exact { Gives fault_of (λ after. (before.new.items, after.now)) result (string_row (packing_of self.now) i before.old.items rest.now) }
+        ensures left { IfOk result (λ after. length after.now ≤ length rest.now) }
+    {
+        let (kept, text) = self.opened(i, inside, rest)?;
+        let place = self.place(rest);
+        demand(kept <= before.len() as u64, place, Reason::PrefixTooLong)?;
+        let kept = kept as usize;
+        let end = zero_in(text);
+        demand(end < text.len(), self.place(text), Reason::PackedLength)?;
+        let later = ascends(i == 0, before, kept, &text[..end]);
+        let valid = unfold_tested(before, kept, &text[..end])?;
+        demand_string(valid, later, place)?;
+        Ok(&text[end + 1..])
+    }
+
+    /// Checks all strings.
+    pub(crate) fn check(&self, alloc: Global) -> Result<(), ReadFault>
+        ensures { Gives fault_of (λ x. x) result (strings_at (packing_of self.now) self.now.count 0 [] self.now.bytes.now) }
+    {
+        let mut before = Vec::new(alloc);
+        let mut rest = self.bytes;
+        let mut inside = 0;
+        for i in 0..self.count {
+            rest = self.check_string(i, inside, &mut before, rest)?;
+            inside = self.next_inside(inside);
+        }
+        match self.ended(rest) {
+            Ok(()) => Ok(()),
+            Err(fault) => Err(ReadFault::Fault(fault)),
+        }
+    }
+
+    /// Nothing is left, and the last start is the end.
+    #[tactic(auto, unfolding(crate::specs::StringRows::strings_at))]
+    fn ended(&self, rest: &[u8]) -> Result<(), Fault>
+        requires { length rest.now ≤ length self.now.bytes.now }
+        ensures { result ≡ strings_at (packing_of self.now) 0 self.now.count [] rest.now }
+    {
+        demand(rest.is_empty(), self.place(rest), Reason::PackedLength)?;
+        if self.count == 0 {
+            return Ok(());
+        }
+        let last = self.starts.len() - 1;
+        let size = self.bytes.len() as u64;
+        demand(
+            self.starts.get(last) == size,
+            self.starts.entry_place(last) as usize,
+            Reason::BlockPlace,
+        )
+    }
+}

@@ -1,0 +1,44 @@
+//! The piece of a string: a number where it isn't the head of a block, a text, and a zero byte.
+ghost use Rattle.std.specs.Prelude.{◌≡◌, ◌≤◌, ◌<◌, length, IfOk};
+ghost use Rattle.hdt_wire.specs.Rows.{zero_in};
+ghost use Rattle.hdt_wire.specs.VByte.{vbyte_at};
+ghost use Rattle.hdt_front.specs.Unfolding.{read_or, text_from, kept, text_of, after_piece};
+
+use hdt_wire::{Fault, read_vbyte, zero_in};
+
+/// The number at the front, and where it ends, as `read_vbyte`; that of one byte at once.
+#[tactic(auto, using(crate::proofs::Inside::one_byte))]
+pub(crate) fn read_front(rest: &[u8]) -> Result<(u64, usize), Fault>
+    ensures exact { result ≡ vbyte_at rest.now 0 }
+    ensures end { IfOk result (λ x. x.1 ≤ length rest.now) }
+{
+    if !rest.is_empty() && rest[0] >= 128 {
+        return Ok((u64::from(rest[0] - 128), 1));
+    }
+    read_vbyte(rest, 0)
+}
+
+/// The number at the front, and where it ends; zeros where none is there.
+pub(crate) fn read_or_zero(rest: &[u8]) -> (u64, usize)
+    ensures is { result ≡ read_or (0, 0) (vbyte_at rest.now 0) }
+    ensures within { result.1 ≤ length rest.now }
+{
+    match read_front(rest) {
+        Ok(read) => read,
+        Err(_) => (0, 0),
+    }
+}
+
+/// The piece of a string: how much it keeps, its text, and what is left after it.
+#[tactic(auto, unfolding(crate::specs::Unfolding::kept, crate::specs::Unfolding::text_of, crate::specs::Unfolding::text_from, crate::specs::Unfolding::after_piece))]
+pub(crate) fn piece_of(head: bool, rest: &[u8]) -> (u64, &[u8], &[u8])
+    requires { zero_in (text_from head rest.now) < length (text_from head rest.now) }
+    ensures kept { result.0 ≡ kept head rest.now }
+    ensures text { result.1.now ≡ text_of head rest.now }
+    ensures rest { result.2.now ≡ after_piece head rest.now }
+{
+    let (kept, end) = if head { (0, 0) } else { read_or_zero(rest) };
+    let from = rest.split_at(end).1;
+    let len = zero_in(from);
+    (kept, from.split_at(len).0, from.split_at(len + 1).1)
+}

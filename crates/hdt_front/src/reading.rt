@@ -1,0 +1,125 @@
+//! A section, read by its rows.
+ghost use Rattle.std.specs.Prelude.{◌≡◌, ◌≤◌, ◌<◌, ◌+◌, ◌||◌, ◌==◌, not, ℕ, [], length, slice_index, IfOk, Ok, Err};
+ghost use Rattle.hdt_wire.specs.declared.fault.Reason.TheVariants.{BlockPlace as BlockPlaceOf};
+ghost use Rattle.hdt_wire.specs.declared.fault.Fault.{Fault as FaultIs};
+ghost use Rattle.hdt_wire.specs.Rows.{demand as demand_is, Gives, Reads};
+ghost use Rattle.hdt_front.specs.declared.fault.ReadFault.TheVariants.{Fault as FaultOf};
+ghost use Rattle.hdt_front.specs.PackedReading.{parts_read};
+ghost use Rattle.hdt_seq.specs.Numbers.{numbers_of, numbers_places};
+ghost use Rattle.hdt_seq.specs.Sequence.{place_of_entry};
+ghost use Rattle.hdt_front.specs.Section.{SectionParts, IsSection, packed_parts_at, section_at, starts_counted};
+
+use crate::fault::ReadFault;
+use crate::packed::Packed;
+use crate::section::Section;
+use hdt_seq::{Numbers, byte_at, code8_at, packed_at};
+use hdt_wire::{Fault, Reason, demand, read_vbyte};
+use std::alloc::Global;
+
+/// Whether there are as many starts as blocks and one; without strings none or one.
+fn starts_counted(count: u64, block: u64, starts: u64) -> bool
+    requires { 0 < count → 0 < block }
+    ensures { result ≡ starts_counted count block starts }
+{
+    if count == 0 {
+        return starts <= 1;
+    }
+    let blocks = (u128::from(count) + u128::from(block - 1)) / u128::from(block);
+    u128::from(starts) == blocks + 1
+}
+
+/// Without strings the one start, if it is there, is 0.
+fn starts_at_zero(count: u64, starts: &Numbers<'_>) -> Result<(), Fault>
+    ensures { result ≡ demand_is (not (count == 0) || slice_index (numbers_of starts.now) 0 == 0) (place_of_entry (numbers_places starts.now) 0) BlockPlaceOf }
+{
+    if count == 0 && starts.len() > 0 {
+        return demand(
+            starts.get(0) == 0,
+            starts.entry_place(0) as usize,
+            Reason::BlockPlace,
+        );
+    }
+    Ok(())
+}
+
+/// The rows above those of the strings: they take no memory.
+#[tactic(auto, unfolding(crate::specs::Section::packed_parts_at, crate::specs::PackedReading::parts_read))]
+fn read_packed<'a>(bytes: &'a [u8], at: usize) -> Result<(Packed<'a>, usize), Fault>
+    ensures exact { Reads parts_read result (packed_parts_at bytes.now at) }
+    ensures end { IfOk result (λ r. (at + length r.0.bytes.now < r.1) × (r.1 ≤ length bytes.now)) }
+{
+    let (kind, count_at) = byte_at(bytes, at)?;
+    demand(kind == 2, at, Reason::SectionKind)?;
+    let (count, size_at) = read_vbyte(bytes, count_at)?;
+    let (size, block_at) = read_vbyte(bytes, size_at)?;
+    let (block, code_at) = read_vbyte(bytes, block_at)?;
+    let start = code8_at(bytes, at, code_at)?;
+    demand(count == 0 || 0 < block, block_at, Reason::BlockSize)?;
+    demand(!(count == 0) || size == 0, size_at, Reason::PackedLength)?;
+    let (starts, base) = Numbers::read(bytes, start)?;
+    demand(
+        starts_counted(count, block, starts.len()),
+        starts.count_place() as usize,
+        Reason::BlockCount,
+    )?;
+    starts_at_zero(count, &starts)?;
+    let (packed, end) = packed_at(bytes, base, 8 * u128::from(size))?;
+    let packed = Packed {
+        bytes: packed,
+        starts,
+        count,
+        block,
+        base,
+    };
+    Ok((packed, end))
+}
+
+impl<'a> Section<'a> {
+    ghost use Rattle.hdt_front.specs.Strings.{strings_of, section_of};
+    ghost use Rattle.hdt_front.specs.Faults.{fault_of};
+
+    /// Reads by rows.
+    #[tactic(auto, unfolding(crate::specs::Section::section_at, crate::specs::PackedReading::parts_read, crate::specs::Strings::section_of, crate::specs::Strings::strings_of))]
+    fn read_rows(
+        alloc: Global,
+        bytes: &'a [u8],
+        at: usize,
+    ) -> Result<(Section<'a>, usize), ReadFault>
+        ensures exact { Gives fault_of (λ r. section_of r.0) result (section_at bytes.now at) }
+        ensures without_memory { (f : FaultIs) → packed_parts_at bytes.now at ≡ Err f → result ≡ Err (FaultOf f) }
+        ensures next { IfOk result (λ r. r.1 ≡ (section_of r.0).end) }
+        ensures end { IfOk result (λ r. (at + length r.0.packed.bytes.now < r.1) × (r.1 ≤ length bytes.now)) }
+    {
+        let (packed, end) = read_packed(bytes, at)?;
+        packed.check(alloc)?;
+        Ok((Section { packed, end }, end))
+    }
+
+    /// Reads the section at a place, in bytes from 0, and answers it with the place after it. Bytes may follow it.
+    ///
+    /// It goes once over the bytes and unfolds each string once, over the one before; `alloc` keeps one string at a time,
+    /// and nothing once it has answered. Memory is asked for only after the code over the packed bytes was found right.
+    ///
+    /// Faults, in the order of the rows: `SectionKind`, those of the three numbers, `Check8`, `BlockSize`,
+    /// `PackedLength`, those of the starts, `BlockCount`, `BlockPlace`, `Truncated`, `Check32`; then string by string
+    /// `BlockPlace`, those of the kept length, `PrefixTooLong`, `PackedLength`, `NotUtf8`, `StringsNotAscending`.
+    pub fn read(
+        alloc: Global,
+        bytes: &'a [u8],
+        at: usize,
+    ) -> Result<(Section<'a>, usize), ReadFault>
+        // What is read stands there.
+        ensures found { IfOk result (λ r. IsSection (section_of r.0) bytes.now at) }
+        // What stands there is read, unless memory ran out.
+        ensures only { (s : SectionParts) → IsSection s bytes.now at → Gives fault_of (λ r. section_of r.0) result (Ok s) }
+        // Otherwise it is the one fault that stands.
+        ensures exact { Gives fault_of (λ r. section_of r.0) result (section_at bytes.now at) }
+        // A fault that stands above the strings, the code of the packed bytes among them, is answered without memory.
+        ensures without_memory { (f : FaultIs) → packed_parts_at bytes.now at ≡ Err f → result ≡ Err (FaultOf f) }
+        ensures next { IfOk result (λ r. r.1 ≡ (section_of r.0).end) }
+        // Each string takes a byte.
+        ensures end { IfOk result (λ r. (at + length (strings_of r.0) < r.1) × (r.1 ≤ length bytes.now)) }
+    {
+        Section::read_rows(alloc, bytes, at)
+    }
+}

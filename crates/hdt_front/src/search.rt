@@ -1,0 +1,159 @@
+//! The search for a string, in the folded bytes as they lie.
+ghost use Rattle.std.specs.Prelude.{◌≡◌, ◌≤◌, ◌<◌, ◌+◌, ◌-◌, ◌*◌, ◌++◌, length, take, drop, get_or, [], List, ℕ, false, MatchOption};
+ghost use Rattle.hdt_wire.specs.Rows.{zero_in};
+ghost use Rattle.hdt_wire.specs.VByte.{vbyte_at};
+ghost use Rattle.hdt_front.specs.Unfolding.{read_or, text_from, kept, text_of, after_piece};
+ghost use Rattle.hdt_front.specs.Facts.{rest_at};
+ghost use Rattle.hdt_front.specs.declared.landed.Lie.TheVariants.{Less as LessOf};
+ghost use Rattle.hdt_front.specs.Searching.{order, agreed, IsLess, LiesSo, Lands};
+
+use crate::common::compared;
+use crate::landed::{Landed, Lie};
+use crate::piece::piece_of;
+use crate::section::Section;
+use hdt_seq::Steps;
+use std::cmp::Ordering;
+
+/// What a kept length says alone: where more is kept of the string before than agrees, a string lies as that one does.
+fn lie_by_kept(kept: u64, same: usize) -> Option<Lie>
+    ensures { MatchOption result (kept ≤ same) (λ l. (same < kept) × (l ≡ LessOf same)) }
+{
+    if kept > same as u64 {
+        return Some(Lie::Less(same));
+    }
+    None
+}
+
+/// How a string that keeps bytes of the one before it lies to the sought one, where the one before is less and agrees so far.
+fn lie(kept: u64, text: &[u8], same: usize, x: &[u8]) -> Lie
+    requires { same ≤ length x.now }
+    ensures { (last : List ℕ) → kept ≤ length last → IsLess last x.now same → LiesSo (take kept last ++ text.now) x.now result }
+{
+    if let Some(lie) = lie_by_kept(kept, same) {
+        return lie;
+    }
+    let kept = kept as usize;
+    let (order, agreed) = compared(text, x.split_at(kept).1);
+    match order {
+        Ordering::Equal => Lie::Same,
+        Ordering::Greater => Lie::Greater,
+        Ordering::Less => Lie::Less(kept + agreed),
+    }
+}
+
+impl<'a> Section<'a> {
+    ghost use Rattle.hdt_front.specs.Strings.{strings_of, blocks_of, looks};
+    ghost use Rattle.hdt_front.specs.Numbering.{place};
+    ghost use Rattle.hdt_front.specs.Halving.{digits};
+
+    /// A look at the head of a block: how it lies to the sought string, how far they agree, and what is left after it.
+    fn look_at_head(&self, block: u64, x: &[u8], steps: &mut Steps) -> (Ordering, usize, &'a [u8])
+        requires { block < blocks_of self.now }
+        ensures order { result.0 ≡ order (get_or (strings_of self.now) (block * self.now.packed.block) []) x.now }
+        ensures same { result.1 ≡ agreed (get_or (strings_of self.now) (block * self.now.packed.block) []) x.now }
+        ensures rest { result.2.now ≡ rest_at self.now.packed.block (block * self.now.packed.block + 1) self.now.packed.bytes.now }
+        ensures cost { steps.new ≡ steps.old + 1 }
+    {
+        steps.tick();
+        let (string, rest) = self.opened_head(block);
+        let (order, same) = compared(string, x);
+        (order, same, rest)
+    }
+
+    /// The last block whose head isn't greater than the sought string, by halving.
+    #[tactic(auto, using(crate::proofs::Halving::digits_less))]
+    fn block_of(&self, x: &[u8], steps: &mut Steps) -> Landed<'a>
+        requires { 0 < blocks_of self.now }
+        ensures lands { Lands (strings_of self.now) self.now.packed.block (blocks_of self.now) self.now.packed.bytes.now x.now result }
+        ensures cost { steps.new ≤ steps.old + digits (blocks_of self.now) }
+        ensures more { steps.old ≤ steps.new }
+    {
+        let mut low = 0;
+        let mut high = self.blocks();
+        let mut same = 0;
+        let mut rest = self.packed.bytes;
+        while low < high {
+            let middle = low + (high - low) / 2;
+            let (order, agreed, after) = self.look_at_head(middle, x, steps);
+            match order {
+                Ordering::Equal => return Landed::Head(middle),
+                Ordering::Less => {
+                    low = middle + 1;
+                    same = agreed;
+                    rest = after;
+                }
+                Ordering::Greater => high = middle,
+            }
+        }
+        if low == 0 {
+            Landed::Before
+        } else {
+            Landed::Inside(low - 1, same, rest)
+        }
+    }
+
+    /// A look at a piece that isn't a head: how much it keeps, its text, and what is left after it.
+    fn look_at_piece(rest: &'a [u8], steps: &mut Steps) -> (u64, &'a [u8], &'a [u8])
+        requires { zero_in (text_from false rest.now) < length (text_from false rest.now) }
+        ensures kept { result.0 ≡ kept false rest.now }
+        ensures text { result.1.now ≡ text_of false rest.now }
+        ensures rest { result.2.now ≡ after_piece false rest.now }
+        ensures cost { steps.new ≡ steps.old + 1 }
+    {
+        steps.tick();
+        piece_of(false, rest)
+    }
+
+    /// Looks for a string behind the head of a block.
+    fn within(
+        &self,
+        block: u64,
+        same: usize,
+        rest: &'a [u8],
+        x: &[u8],
+        steps: &mut Steps,
+    ) -> Option<u64>
+        requires lands { Lands (strings_of self.now) self.now.packed.block (blocks_of self.now) self.now.packed.bytes.now x.now (Landed.Inside block same rest) }
+        ensures place { result ≡ place (strings_of self.now) x.now }
+        ensures cost { steps.new ≤ steps.old + (self.now.packed.block - 1) }
+        ensures more { steps.old ≤ steps.new }
+    {
+        let first = block * self.packed.block;
+        let left = self.packed.count - first;
+        let many = left.min(self.packed.block);
+        let mut same = same;
+        let mut rest = rest;
+        for i in 1..many {
+            let (kept, text, after) = Section::look_at_piece(rest, steps);
+            match lie(kept, text, same, x) {
+                Lie::Same => return Some(first + i + 1),
+                Lie::Greater => return None,
+                Lie::Less(agreed) => {
+                    same = agreed;
+                    rest = after;
+                }
+            }
+        }
+        None
+    }
+
+    /// The number of a string, from 1, or None where it isn't in the section.
+    ///
+    /// It halves the blocks by their heads, and then goes through one block, comparing what is stored with what the
+    /// sought string has there: at most as many looks as the number of blocks has binary digits, and one less than the
+    /// block size; none in an empty section.
+    pub fn place_of(&self, x: &[u8], steps: &mut Steps) -> Option<u64>
+        ensures place { result ≡ place (strings_of self.now) x.now }
+        ensures cost { steps.new ≤ steps.old + looks self.now }
+        ensures more { steps.old ≤ steps.new }
+    {
+        if self.blocks() == 0 {
+            return None;
+        }
+        match self.block_of(x, steps) {
+            Landed::Before => None,
+            Landed::Head(block) => Some(block * self.packed.block + 1),
+            Landed::Inside(block, same, rest) => self.within(block, same, rest, x, steps),
+        }
+    }
+}

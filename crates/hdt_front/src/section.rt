@@ -1,0 +1,80 @@
+//! A section that was read: how many strings it has, in how many blocks, and where they lie.
+ghost use Rattle.std.specs.Prelude.{◌≡◌, ◌≤◌, ◌<◌, ◌+◌, ◌-◌, ◌*◌, length, drop, get_or, [], Ok};
+ghost use Rattle.hdt_front.specs.StringRows.{strings_at};
+ghost use Rattle.hdt_front.specs.Packed.{packing_of};
+ghost use Rattle.hdt_seq.specs.Numbers.{numbers_of};
+
+use crate::packed::Packed;
+use hdt_wire::zero_in;
+
+/// A section that was read: its strings lie folded in the input, and are searched there. It keeps nothing but slices
+/// of the input and a few numbers, so it is copied for nothing.
+///
+/// Strings are numbered from 1, blocks from 0.
+///
+/// ```text
+/// let (section, next) = Section::read(alloc, bytes, at)?;
+/// let mut text = Vec::new(alloc);
+/// section.string(1, &mut text, &mut Steps::new())?;
+/// ```
+#[derive(Clone, Copy)]
+pub struct Section<'a> {
+    pub(crate) packed: Packed<'a>,
+    pub(crate) end: usize,
+    ghost read: { strings_at (packing_of packed) packed.count 0 [] packed.bytes.now ≡ Ok tt },
+}
+
+impl<'a> Section<'a> {
+    ghost use Rattle.hdt_front.specs.Strings.{strings_of, blocks_of, block_size};
+    ghost use Rattle.hdt_front.specs.Facts.{rest_at};
+
+    /// How many strings there are: at most as many as packed bytes.
+    pub fn len(&self) -> u64
+        ensures is { result ≡ length (strings_of self.now) }
+        ensures few { result ≤ length self.now.packed.bytes.now }
+    {
+        self.packed.count
+    }
+
+    /// How many blocks the strings take: the least number whose product with the block size is at least the length;
+    /// without strings none, whatever the block size is.
+    #[tactic(auto, unfolding(crate::specs::Strings::blocks_of))]
+    pub fn blocks(&self) -> u64
+        ensures { result ≡ blocks_of self.now }
+    {
+        let packed = self.packed;
+        if packed.count == 0 {
+            return 0;
+        }
+        packed.count.div_ceil(packed.block)
+    }
+
+    /// The bytes from the head of a block on.
+    pub(crate) fn from_head(&self, block: u64) -> &'a [u8]
+        requires { block < blocks_of self.now }
+        ensures { result.now ≡ drop (get_or (numbers_of self.now.packed.starts) block 0) self.now.packed.bytes.now }
+    {
+        let start = self.packed.starts.get(block) as usize;
+        self.packed.bytes.split_at(start).1
+    }
+
+    /// The first string of a block, and what is left after its piece.
+    #[tactic(auto, unfolding(crate::specs::Strings::strings_of, crate::specs::Strings::blocks_of))]
+    pub(crate) fn opened_head(&self, block: u64) -> (&'a [u8], &'a [u8])
+        requires { block < blocks_of self.now }
+        ensures string { result.0.now ≡ get_or (strings_of self.now) (block * self.now.packed.block) [] }
+        ensures rest { result.1.now ≡ rest_at self.now.packed.block (block * self.now.packed.block + 1) self.now.packed.bytes.now }
+    {
+        let piece = self.from_head(block);
+        let end = zero_in(piece);
+        (&piece[..end], piece.split_at(end + 1).1)
+    }
+
+    /// The first string of a block, blocks counted from 0, lent from the input; the caller shows that there is one.
+    pub fn head(&self, block: u64) -> &'a [u8]
+        requires { block < blocks_of self.now }
+        ensures { result.now ≡ get_or (strings_of self.now) (block * block_size self.now) [] }
+    {
+        self.opened_head(block).0
+    }
+}

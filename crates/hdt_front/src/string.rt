@@ -1,0 +1,73 @@
+//! One string of a section, unfolded from the head of its block.
+ghost use Rattle.std.specs.Prelude.{◌≡◌, ◌≤◌, ◌<◌, ◌+◌, ◌-◌, ◌++◌, List, [], length, get_or, OnOk, OnErr};
+ghost use Rattle.hdt_wire.specs.Control.{Keeps};
+ghost use Rattle.hdt_front.specs.Strings.{strings_of, block_size};
+
+use crate::piece::piece_of;
+use crate::section::Section;
+use hdt_seq::Steps;
+use std::alloc::AllocError;
+
+/// Appends string i, counted from 0; an `Err` may leave a beginning of it behind.
+#[tactic(auto, unfolding(crate::specs::Strings::strings_of))]
+fn append_string(
+    section: &Section<'_>,
+    i: u64,
+    out: &mut Vec<u8>,
+    steps: &mut Steps,
+) -> Result<(), AllocError>
+    requires { i < length (strings_of section.now) }
+    ensures ok { OnOk result (out.new.items ≡ out.old.items ++ get_or (strings_of section.now) i []) }
+    ensures err { OnErr result (Keeps out.old.items out.new.items) }
+    ensures cost { steps.new ≤ steps.old + block_size section.now }
+    ensures more { steps.old ≤ steps.new }
+{
+    let start = out.len();
+    let mut rest = section.from_head(i / section.packed.block);
+    for k in 0..i % section.packed.block + 1 {
+        steps.tick();
+        let (kept, text, after) = piece_of(k == 0, rest);
+        out.truncate(start + kept as usize);
+        out.extend_from_slice(text)?;
+        rest = after;
+    }
+    Ok(())
+}
+
+impl<'a> Section<'a> {
+    ghost use Rattle.hdt_front.specs.Strings.{section_of};
+    ghost use Rattle.hdt_front.specs.Section.{string_place};
+
+    /// Appends string n, counted from 1; the caller shows that there is one. It unfolds one block at most, in as many
+    /// looks as the block size at most. Where memory is refused, `out` is as it was.
+    pub fn string(&self, n: u64, out: &mut Vec<u8>, steps: &mut Steps) -> Result<(), AllocError>
+        requires from_one { 1 ≤ n }
+        requires within { n ≤ length (strings_of self.now) }
+        ensures ok { OnOk result (out.new.items ≡ out.old.items ++ get_or (strings_of self.now) (n - 1) []) }
+        ensures err { OnErr result (out.new.items ≡ out.old.items) }
+        ensures cost { steps.new ≤ steps.old + block_size self.now }
+        ensures more { steps.old ≤ steps.new }
+    {
+        let start = out.len();
+        let appended = append_string(self, n - 1, out, steps);
+        if appended.is_err() {
+            out.truncate(start);
+        }
+        appended
+    }
+
+    /// The place of string n, counted from 1, in bytes from the start of the input: where its piece begins, which is
+    /// the place that faults name. The caller shows that there is one. It goes through one block at most.
+    pub fn string_start(&self, n: u64) -> u64
+        requires from_one { 1 ≤ n }
+        requires within { n ≤ length (strings_of self.now) }
+        ensures { result ≡ string_place (section_of self.now) (n - 1) }
+    {
+        let i = n - 1;
+        let mut rest = self.from_head(i / self.packed.block);
+        for k in 0..i % self.packed.block {
+            rest = piece_of(k == 0, rest).2;
+        }
+        self.packed.place(rest) as u64
+    }
+}

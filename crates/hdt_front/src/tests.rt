@@ -1,0 +1,725 @@
+use super::*;
+use crate::writing::lent;
+use hdt_seq::{Numbers, Steps};
+use hdt_wire::{Fault, Reason, read_vbyte};
+use std::alloc::{AllocError, Global};
+use std::process::Abort;
+use std::test::Fail;
+
+/// Sections in their canonical form: the size of their blocks, their strings and their bytes.
+static SECTIONS: [(&str, u32, &[&[u8]], &[u8]); 9] = [
+    (
+        "empty",
+        16,
+        &[],
+        b"\x02\x80\x80\x90h\x01\x01\x81\xF0\x00QS}R\x00\x00\x00\x00",
+    ),
+    (
+        "row 7",
+        2,
+        &[b"http://a/", b"http://a/b", b"http://b"],
+        b"\x02\x83\x96\x82\x82\x01\x05\x83\xAA\xA0Y6o\xBE\x5Chttp://a/\x00\x89b\x00http://b\x00\xC6\xB5\xF8=",
+    ),
+    (
+        "the sample file",
+        16,
+        &[b"http://a/"],
+        b"\x02\x81\x8A\x90\x81\x01\x04\x82\xB8\xA0\xF7\xE66\xF0http://a/\x00\xF4\x81z\xD4",
+    ),
+    (
+        "shared of three lines",
+        16,
+        &[b"u:a", b"u:b"],
+        b"\x02\x82\x87\x90\xD5\x01\x03\x82\xD38/BG\xE8u:a\x00\x82b\x00\x89\xE3a$",
+    ),
+    (
+        "predicates of three lines",
+        16,
+        &[b"u:p", b"u:q"],
+        b"\x02\x82\x87\x90\xD5\x01\x03\x82\xD38/BG\xE8u:p\x00\x82q\x00\xEE\xB4p\x98",
+    ),
+    (
+        "objects of three lines",
+        16,
+        &[b"\x22x\x22"],
+        b"\x02\x81\x84\x90W\x01\x03\x82\xD3 \x8F\xDD\xC0r\x22x\x22\x00\xA3\x979\x16",
+    ),
+    (
+        "seventeen strings",
+        16,
+        &[
+            b"s00", b"s01", b"s02", b"s03", b"s04", b"s05", b"s06", b"s07", b"s08", b"s09", b"s10",
+            b"s11", b"s12", b"s13", b"s14", b"s15", b"s16",
+        ],
+        b"\x02\x91\xB6\x90&\x01\x06\x83\x95\x80l\x03\xAF\xA0\x11\xABs00\x00\x821\x00\x822\x00\x823\x00\x824\x00\x825\x00\x826\x00\x827\x00\x828\x00\x829\x00\x8110\x00\x821\x00\x822\x00\x823\x00\x824\x00\x825\x00s16\x00\xB1\xF3\xF8\x94",
+    ),
+    (
+        "blocks of one",
+        1,
+        &[b"", b"a", b"ab"],
+        b"\x02\x83\x86\x81\xDC\x01\x03\x84\xC1\xC8\x0CGG\xE2%\x00a\x00ab\x00\x840{g",
+    ),
+    (
+        "one block",
+        65535,
+        &[b"aab", b"aac", b"ab"],
+        b"\x02\x83\x8A\x7F\x7F\x83\x0F\x01\x04\x82\xB8\xA0\xF7\xE66\xF0aab\x00\x82c\x00\x81b\x00\xC6\xF0ak",
+    ),
+];
+
+/// Sections in other forms: their strings and their bytes.
+static FORMS: [(&str, &[&[u8]], &[u8]); 15] = [
+    (
+        "one start of no bits",
+        &[],
+        b"\x02\x80\x80\x90h\x01\x00\x81\xE5\x00\x00\x00\x00\x00\x00\x00\x00",
+    ),
+    (
+        "no start",
+        &[],
+        b"\x02\x80\x80\x90h\x01\x01\x80\xF7\x00\x00\x00\x00\x00\x00\x00\x00",
+    ),
+    (
+        "blocks of none",
+        &[],
+        b"\x02\x80\x80\x80\x18\x01\x01\x81\xF0\x00QS}R\x00\x00\x00\x00",
+    ),
+    (
+        "keeps 0",
+        &[b"ab", b"abc"],
+        b"\x02\x82\x88\x90\x16\x01\x04\x82\xB8\x80)h\x8B\xD0ab\x00\x80abc\x00\x86,\xAFW",
+    ),
+    (
+        "keeps 1",
+        &[b"ab", b"abc"],
+        b"\x02\x82\x87\x90\xD5\x01\x03\x82\xD38/BG\xE8ab\x00\x81bc\x00\x1F\xE8}\x96",
+    ),
+    (
+        "keeps 2",
+        &[b"ab", b"abc"],
+        b"\x02\x82\x86\x90\xC0\x01\x03\x82\xD30\xE0\x1A\x9Ebab\x00\x82c\x00\x85\xF2\x02\x1F",
+    ),
+    (
+        "a cut character",
+        &[b"\xC3\xA9", b"\xC3\xAA"],
+        b"\x02\x82\x86\x90\xC0\x01\x03\x82\xD30\xE0\x1A\x9Eb\xC3\xA9\x00\x81\xAA\x00\xCBP\x99\xE9",
+    ),
+    (
+        "less kept than agrees",
+        &[b"aab", b"aac", b"ab"],
+        b"\x02\x83\x8A\x90W\x01\x04\x82\xB8\xA0\xF7\xE66\xF0aab\x00\x82c\x00\x81b\x00\xC6\xF0ak",
+    ),
+    (
+        "nothing kept",
+        &[
+            b"s00", b"s01", b"s02", b"s03", b"s04", b"s05", b"s06", b"s07", b"s08", b"s09", b"s10",
+            b"s11", b"s12", b"s13", b"s14", b"s15", b"s16",
+        ],
+        b"\x02\x91\xD3\x90\x92\x01\x07\x83\x80\x80\xE7\x14\xF3\x92\xB5=s00\x00\x80s01\x00\x80s02\x00\x80s03\x00\x80s04\x00\x80s05\x00\x80s06\x00\x80s07\x00\x80s08\x00\x80s09\x00\x80s10\x00\x80s11\x00\x80s12\x00\x80s13\x00\x80s14\x00\x80s15\x00s16\x00\xD5+\x94\xB9",
+    ),
+    (
+        "the largest block",
+        &[b"a", b"b", b"c"],
+        b"\x02\x83\x88\x7F\x7F\x7F\x7F\x7F\x7F\x7F\x7F\x7F\x81%\x01\x04\x82\xB8\x80)h\x8B\xD0a\x00\x80b\x00\x80c\x00\xAD,\x9B\xAD",
+    ),
+    (
+        "a character cut after 1",
+        &[
+            b"\xF0\x9F\x98\x80",
+            b"\xF0\x9F\x98\x81",
+            b"\xF0\x9F\x98\x82x",
+        ],
+        b"\x02\x83\x90\x90\x82\x01\x05\x82\xAD\x00\x02%\x07Z\x10\xF0\x9F\x98\x80\x00\x81\x9F\x98\x81\x00\x81\x9F\x98\x82x\x00\xA6.\xFA\xDD",
+    ),
+    (
+        "a character cut after 2",
+        &[
+            b"\xF0\x9F\x98\x80",
+            b"\xF0\x9F\x98\x81",
+            b"\xF0\x9F\x98\x82x",
+        ],
+        b"\x02\x83\x8E\x90\x03\x01\x04\x82\xB8\xE0K\xFBM\xB1\xF0\x9F\x98\x80\x00\x82\x98\x81\x00\x82\x98\x82x\x00%\xEF\xABu",
+    ),
+    (
+        "a character cut after 3",
+        &[
+            b"\xF0\x9F\x98\x80",
+            b"\xF0\x9F\x98\x81",
+            b"\xF0\x9F\x98\x82x",
+        ],
+        b"\x02\x83\x8C\x90)\x01\x04\x82\xB8\xC0\x95u\xF0\x91\xF0\x9F\x98\x80\x00\x83\x81\x00\x83\x82x\x00.y\xAD.",
+    ),
+    (
+        "padding set, wide starts",
+        &[b"ab", b"abc", b"b"],
+        b"\x02\x83\x88\x82\x03\x01\x09\x83V\x00\x0C \xF8\xA0\x05\xD4\xE8ab\x00\x82c\x00b\x00\xE8a\x06\xE2",
+    ),
+    (
+        "starts of 64 bits",
+        &[b"ab", b"abc", b"b"],
+        b"\x02\x83\x88\x82\x03\x01@\x83\xB0\x00\x00\x00\x00\x00\x00\x00\x00\x06\x00\x00\x00\x00\x00\x00\x00\x08\x00\x00\x00\x00\x00\x00\x00\xD2)0\xE1ab\x00\x82c\x00b\x00\xE8a\x06\xE2",
+    ),
+];
+
+/// Bytes that are no section: the place and the reason of the fault.
+static FAULTS: [(&str, &[u8], u64, Reason); 47] = [
+    ("nothing", b"", 0, Reason::Truncated),
+    (
+        "another type",
+        b"\x01\x82\x86\x90\xC0\x01\x03\x82\xD30\xE0\x1A\x9Ebab\x00\x82c\x00\x85\xF2\x02\x1F",
+        0,
+        Reason::SectionKind,
+    ),
+    (
+        "a hash section",
+        b"\x03\x82\x86\x90\xC0\x01\x03\x82\xD30\xE0\x1A\x9Ebab\x00\x82c\x00\x85\xF2\x02\x1F",
+        0,
+        Reason::SectionKind,
+    ),
+    ("no count", b"\x02", 1, Reason::Truncated),
+    ("a long count", b"\x02\x00\x80", 1, Reason::OverlongNumber),
+    (
+        "a long size",
+        b"\x02\x82\x00\x80",
+        2,
+        Reason::OverlongNumber,
+    ),
+    (
+        "too large a block size",
+        b"\x02\x82\x88\x7F\x7F\x7F\x7F\x7F\x7F\x7F\x7F\x7F\x82",
+        3,
+        Reason::NumberTooLarge,
+    ),
+    (
+        "no code of the head",
+        b"\x02\x82\x86\x90",
+        4,
+        Reason::Truncated,
+    ),
+    (
+        "another code of the head",
+        b"\x02\x82\x86\x90\xC1\x01\x03\x82\xD30\xE0\x1A\x9Ebab\x00\x82c\x00\x85\xF2\x02\x1F",
+        4,
+        Reason::Check8,
+    ),
+    (
+        "blocks of none for a string",
+        b"\x02\x81\x84\x80'",
+        3,
+        Reason::BlockSize,
+    ),
+    (
+        "packed bytes without strings",
+        b"\x02\x80\x81\x90}",
+        2,
+        Reason::PackedLength,
+    ),
+    (
+        "starts of another type",
+        b"\x02\x80\x80\x90h\x02\x01\x81M\x00QS}R\x00\x00\x00\x00",
+        5,
+        Reason::SequenceKind,
+    ),
+    (
+        "another code of the starts",
+        b"\x02\x80\x80\x90h\x01\x01\x81\xF0\x00QS}S\x00\x00\x00\x00",
+        10,
+        Reason::Check32,
+    ),
+    (
+        "two starts without strings",
+        b"\x02\x80\x80\x90h\x01\x01\x82\xF9\x00QS}R\x00\x00\x00\x00",
+        7,
+        Reason::BlockCount,
+    ),
+    (
+        "one start for a block",
+        b"\x02\x82\x86\x90\xC0\x01\x01\x81\xF0\x00QS}Rab\x00\x82c\x00\x85\xF2\x02\x1F",
+        7,
+        Reason::BlockCount,
+    ),
+    (
+        "three starts for a block",
+        b"\x02\x82\x86\x90\xC0\x01\x03\x83\xD4\xB0\x01\xAB\x1C\x87\xB8ab\x00\x82c\x00\x85\xF2\x02\x1F",
+        7,
+        Reason::BlockCount,
+    ),
+    (
+        "2^64 starts wanted",
+        b"\x02\x7F\x7F\x7F\x7F\x7F\x7F\x7F\x7F\x7F\x81\x80\x81)\x01\x01\x80\xF7\x00\x00\x00\x00",
+        16,
+        Reason::BlockCount,
+    ),
+    (
+        "a start that is not 0 without strings",
+        b"\x02\x80\x80\x90h\x01\x01\x81\xF0\x01R\xD0\x16\xA0\x00\x00\x00\x00",
+        9,
+        Reason::BlockPlace,
+    ),
+    (
+        "packed bytes cut",
+        b"\x02\x82\x86\x90\xC0\x01\x03\x82\xD30\xE0\x1A\x9Ebab\x00\x82c",
+        14,
+        Reason::Truncated,
+    ),
+    (
+        "no code of the packed bytes",
+        b"\x02\x82\x86\x90\xC0\x01\x03\x82\xD30\xE0\x1A\x9Ebab\x00\x82c\x00\x85\xF2\x02",
+        20,
+        Reason::Truncated,
+    ),
+    (
+        "another code of the packed bytes",
+        b"\x02\x82\x86\x90\xC0\x01\x03\x82\xD30\xE0\x1A\x9Ebab\x00\x82c\x00\x85\xF2\x02\x1E",
+        20,
+        Reason::Check32,
+    ),
+    (
+        "the first block elsewhere",
+        b"\x02\x82\x86\x90\xC0\x01\x03\x82\xD31\xE3\x99\xF5\x90ab\x00\x82c\x00\x85\xF2\x02\x1F",
+        9,
+        Reason::BlockPlace,
+    ),
+    (
+        "the second block elsewhere",
+        b"\x02\x83\x88\x82\x03\x01\x08\x83C\x00\x05\x08\x1E\x02\x95\xB7ab\x00\x82c\x00b\x00\xE8a\x06\xE2",
+        10,
+        Reason::BlockPlace,
+    ),
+    (
+        "the last start elsewhere",
+        b"\x02\x82\x86\x90\xC0\x01\x08\x82D\x00\x05\xCEc\x90\xC4ab\x00\x82c\x00\x85\xF2\x02\x1F",
+        10,
+        Reason::BlockPlace,
+    ),
+    (
+        "a long kept length",
+        b"\x02\x82\x87\x90\xD5\x01\x03\x82\xD38/BG\xE8ab\x00\x00\x80c\x00\x1B\xD5\xF1\xFB",
+        17,
+        Reason::OverlongNumber,
+    ),
+    (
+        "too large a kept length",
+        b"\x02\x82\x8F\x90}\x01\x04\x82\xB8\xF0$<\x13\xA1ab\x00\x7F\x7F\x7F\x7F\x7F\x7F\x7F\x7F\x7F\x82c\x00K\x1C\x13\xC7",
+        17,
+        Reason::NumberTooLarge,
+    ),
+    (
+        "ten digits and no last one",
+        b"\x02\x82\x8D\x90W\x01\x04\x82\xB8\xD0\xFA\xB2\xAE\x81ab\x00\x01\x01\x01\x01\x01\x01\x01\x01\x01\x01\x04qW\xE2",
+        17,
+        Reason::NumberTooLarge,
+    ),
+    (
+        "a kept length that does not end",
+        b"\x02\x82\x85\x90\xFF\x01\x03\x82\xD3(@\x85\x19\xF8ab\x00\x01\x01\xF9\xB5\xB7s",
+        17,
+        Reason::PackedLength,
+    ),
+    (
+        "no kept length",
+        b"\x02\x82\x83\x90\x81\x01\x02\x82\xC6\x0C\x81\x9C>\x1Fab\x00!_\xDDD",
+        17,
+        Reason::PackedLength,
+    ),
+    (
+        "one byte too many kept",
+        b"\x02\x82\x85\x90\xFF\x01\x03\x82\xD3(@\x85\x19\xF8ab\x00\x83\x00\xED\xFCZ]",
+        17,
+        Reason::PrefixTooLong,
+    ),
+    (
+        "a kept length of ten bytes",
+        b"\x02\x82\x8E\x90h\x01\x04\x82\xB8\xE0K\xFBM\xB1ab\x00\x00\x00\x00\x00\x00\x00\x00\x00\x00\x81\x00v^\xC5H",
+        17,
+        Reason::PrefixTooLong,
+    ),
+    (
+        "a first string that does not end",
+        b"\x02\x82\x82\x90\x94\x01\x02\x82\xC6\x08\x9E\x0B\xA4\xD8ab6)\xA2\xE2",
+        14,
+        Reason::PackedLength,
+    ),
+    (
+        "a string that does not end",
+        b"\x02\x82\x85\x90\xFF\x01\x03\x82\xD3(@\x85\x19\xF8ab\x00\x82c\x0C\x04n<",
+        18,
+        Reason::PackedLength,
+    ),
+    (
+        "no packed byte",
+        b"\x02\x81\x80\x90\x03\x01\x01\x82\xF9\x00QS}R\x00\x00\x00\x00",
+        14,
+        Reason::PackedLength,
+    ),
+    (
+        "a byte left",
+        b"\x02\x82\x87\x90\xD5\x01\x03\x82\xD38/BG\xE8ab\x00\x82c\x00\x00\xC7~e\xE5",
+        20,
+        Reason::PackedLength,
+    ),
+    (
+        "a string that is not UTF-8",
+        b"\x02\x81\x82\x90)\x01\x02\x82\xC6\x08\x9E\x0B\xA4\xD8\xC3\x00\xB6\xE3R\xC1",
+        14,
+        Reason::NotUtf8,
+    ),
+    (
+        "a cut character left broken",
+        b"\x02\x82\x85\x90\xFF\x01\x03\x82\xD3(@\x85\x19\xF8\xC3\xA9\x00\x81\x00W\x0FW\x12",
+        17,
+        Reason::NotUtf8,
+    ),
+    (
+        "a cut character with another behind",
+        b"\x02\x82\x87\x90\xD5\x01\x03\x82\xD38/BG\xE8\xC3\xA9\x00\x81\xC3\xA9\x00\xBC\xD2_\xB9",
+        17,
+        Reason::NotUtf8,
+    ),
+    (
+        "a character of four bytes broken after 1",
+        b"\x02\x82\x88\x90\x16\x01\x04\x82\xB8\x80)h\x8B\xD0\xF0\x9F\x98\x80\x00\x81\xC0\x00\x12\xA9\xB0\xE9",
+        19,
+        Reason::NotUtf8,
+    ),
+    (
+        "a character of four bytes broken after 2",
+        b"\x02\x82\x88\x90\x16\x01\x04\x82\xB8\x80)h\x8B\xD0\xF0\x9F\x98\x80\x00\x82\xC0\x00ai\x9E\x03",
+        19,
+        Reason::NotUtf8,
+    ),
+    (
+        "a character of four bytes broken after 3",
+        b"\x02\x82\x88\x90\x16\x01\x04\x82\xB8\x80)h\x8B\xD0\xF0\x9F\x98\x80\x00\x83\xC0\x00\x1F\xFB\xDF\xA6",
+        19,
+        Reason::NotUtf8,
+    ),
+    (
+        "less and not UTF-8",
+        b"\x02\x82\x86\x90\xC0\x01\x03\x82\xD30\xE0\x1A\x9Eb\xC3\xA9\x00\x80\x80\x00\xE1\xD2\x02\x89",
+        17,
+        Reason::NotUtf8,
+    ),
+    (
+        "bytes of a character alone",
+        b"\x02\x82\x85\x90\xFF\x01\x03\x82\xD3(@\x85\x19\xF8a\x00\x81\xA9\x00ia\x02u",
+        16,
+        Reason::NotUtf8,
+    ),
+    (
+        "a string that is less",
+        b"\x02\x82\x85\x90\xFF\x01\x03\x82\xD3(@\x85\x19\xF8b\x00\x80a\x00\xA6\xBC\xB0\x01",
+        16,
+        Reason::StringsNotAscending,
+    ),
+    (
+        "an equal string",
+        b"\x02\x82\x85\x90\xFF\x01\x03\x82\xD3(@\x85\x19\xF8ab\x00\x82\x00\x9Ad\xF8N",
+        17,
+        Reason::StringsNotAscending,
+    ),
+    (
+        "a string that the one before goes on from",
+        b"\x02\x82\x85\x90\xFF\x01\x03\x82\xD3(@\x85\x19\xF8ab\x00\x81\x00\x03\xCC\x1Fz",
+        17,
+        Reason::StringsNotAscending,
+    ),
+    (
+        "a head that is less",
+        b"\x02\x82\x84\x81\x9D\x01\x03\x83\xD4\x10\x01P\x05\xCF<b\x00a\x00[\x9E\xBD\x18",
+        17,
+        Reason::StringsNotAscending,
+    ),
+];
+
+/// Strings that are in few of the sections above.
+static OTHERS: [&[u8]; 14] = [
+    b"",
+    b"a",
+    b"aa",
+    b"aad",
+    b"ab",
+    b"b",
+    b"abcd",
+    b"s",
+    b"s17",
+    b"http://",
+    b"http://a",
+    b"u:z",
+    b"\xF0\x9F\x98",
+    b"a\x00",
+];
+
+/// What stands before a section in these tests.
+static BEFORE: [u8; 3] = [0xFF, 0x02, 0x80];
+
+fn read<'a>(alloc: Global, bytes: &'a [u8], at: usize) -> Result<(Section<'a>, usize), Fail> {
+    match Section::read(alloc, bytes, at) {
+        Ok(read) => Ok(read),
+        Err(ReadFault::OutOfMemory) => Err("OutOfMemory")?,
+        Err(ReadFault::Fault(_)) => Err("refused")?,
+    }
+}
+
+/// The strings of a section, all unfolded into one vector, with the end and the place of each.
+#[derive(Drop)]
+struct Unfolded {
+    bytes: Vec<u8>,
+    ends: Vec<(usize, usize)>,
+}
+
+/// Unfolds a whole section piece by piece, as the format says it.
+fn unfold_all(alloc: Global, bytes: &[u8], at: usize) -> Result<Unfolded, Fail> {
+    let number = |place: usize| read_vbyte(bytes, place).ok().ok_or("no number");
+    let (count, size_at) = number(at.wrapping_add(1))?;
+    let (_, block_at) = number(size_at)?;
+    let (block, code_at) = number(block_at)?;
+    let starts = Numbers::read(bytes, code_at.wrapping_add(1));
+    let (_, mut place) = starts.ok().ok_or("no starts")?;
+    let mut made = Unfolded {
+        bytes: Vec::new(alloc),
+        ends: Vec::new(alloc),
+    };
+    let mut last = Vec::new(alloc);
+    for i in 0..count {
+        let (kept, text_at) = if i.checked_rem(block) == Some(0) {
+            (0, place)
+        } else {
+            number(place)?
+        };
+        let rest = bytes.get(text_at..).ok_or("no text")?;
+        let len = rest.iter().position(|&byte| byte == 0).ok_or("no end")?;
+        last.truncate(kept as usize);
+        last.extend_from_slice(rest.get(..len).ok_or("no text")?)?;
+        made.bytes.extend_from_slice(&last)?;
+        made.ends.push((made.bytes.len(), place))?;
+        place = text_at.wrapping_add(len).wrapping_add(1);
+    }
+    Ok(made)
+}
+
+/// Number, place and bytes of each string of a section, through each call, against the plain unfolding.
+fn compare(
+    rt: &impl Abort,
+    alloc: Global,
+    name: &str,
+    bytes: &[u8],
+    at: usize,
+) -> Result<u64, Fail> {
+    let plain = unfold_all(alloc, bytes, at)?;
+    let (section, _) = read(alloc, bytes, at)?;
+    assert_eq!(rt; section.len(), plain.ends.len() as u64, "length of {name}");
+    let mut steps = Steps::new();
+    let mut walk = Walk::new(alloc, &section);
+    let mut cursor = Cursor::new(alloc, &section)?;
+    let mut out = BEFORE.to_vec(alloc)?;
+    let mut from = 0;
+    for n in 1..=section.len() {
+        let (end, place) = *plain.ends.get((n - 1) as usize).ok_or("no end")?;
+        let string = plain.bytes.get(from..end).ok_or("no string")?;
+        out.truncate(BEFORE.len());
+        section.string(n, &mut out, &mut steps)?;
+        assert!(rt;
+            out.strip_prefix(BEFORE.as_slice()) == Some(string),
+            "string {n} of {name}"
+        );
+        assert_eq!(rt;
+            section.place_of(string, &mut steps),
+            Some(n),
+            "place {n} of {name}"
+        );
+        assert_eq!(rt;
+            section.string_start(n),
+            place as u64,
+            "start {n} of {name}"
+        );
+        assert_eq!(rt; walk.next()?, Some(place), "step {n} of {name}");
+        assert!(rt; walk.last() == string, "walk at {n} of {name}");
+        assert_eq!(rt; cursor.place(), Some(place), "cursor at {n} of {name}");
+        assert!(rt;
+            cursor.string() == Some(string),
+            "cursor's string {n} of {name}"
+        );
+        cursor.pass()?;
+        from = end;
+    }
+    assert_eq!(rt;
+        (walk.next()?, cursor.place()),
+        (None, None),
+        "end of {name}"
+    );
+    Ok(section.blocks())
+}
+
+/// Whether the strings of a section are these.
+fn holds(rt: &impl Abort, name: &str, section: &Section<'_>, strings: &[&[u8]]) {
+    let mut steps = Steps::new();
+    assert_eq!(rt; section.len(), strings.len() as u64, "length of {name}");
+    for (place, string) in strings.iter().enumerate() {
+        let n = (place as u64).wrapping_add(1);
+        assert_eq!(rt;
+            section.place_of(string, &mut steps),
+            Some(n),
+            "{n} of {name}"
+        );
+    }
+    for string in &OTHERS {
+        if !strings.contains(string) {
+            assert_eq!(rt; section.place_of(string, &mut steps), None, "not in {name}");
+        }
+    }
+}
+
+#[test]
+fn writes_and_reads_again(rt: HostRuntime) -> Result<(), Fail> {
+    let alloc = rt.alloc();
+    for (name, size, strings, bytes) in &SECTIONS {
+        let block_size = *size;
+        let mut out = BEFORE.to_vec(alloc)?;
+        assert!(rt; are_strings(strings) && block_size > 0, "strings of {name}");
+        put_lent_section(alloc, strings, block_size, &mut out)?;
+        assert!(rt;
+            out.strip_prefix(BEFORE.as_slice()) == Some(bytes),
+            "{name}"
+        );
+        let end = out.len();
+        out.push(0x55)?;
+        let (section, stop) = read(alloc, &out, BEFORE.len())?;
+        assert_eq!(rt; stop, end, "end of {name}");
+        holds(&rt, name, &section, strings);
+        let blocks = compare(&rt, alloc, name, &out, BEFORE.len())?;
+        assert_eq!(rt;
+            blocks,
+            strings.len().div_ceil(block_size as usize) as u64,
+            "{name}"
+        );
+    }
+    Ok(())
+}
+
+/// Writes owned strings that a section can hold.
+fn put_owned(alloc: Global, strings: &[Vec<u8>], out: &mut Vec<u8>) -> Result<bool, AllocError> {
+    let slices = lent(alloc, strings)?;
+    if !are_strings(&slices) {
+        return Ok(false);
+    }
+    put_section(alloc, strings, 2, out)?;
+    Ok(true)
+}
+
+#[test]
+fn writes_owned_strings(rt: HostRuntime) -> Result<(), Fail> {
+    let alloc = rt.alloc();
+    let (_, _, strings, bytes) = &SECTIONS[1];
+    let mut owned = Vec::new(alloc);
+    for string in *strings {
+        owned.push(string.to_vec(alloc)?)?;
+    }
+    let mut out = BEFORE.to_vec(alloc)?;
+    assert!(rt; put_owned(alloc, &owned, &mut out)?);
+    assert!(rt; out.strip_prefix(BEFORE.as_slice()) == Some(*bytes));
+    owned.push(b"http://a".to_vec(alloc)?)?;
+    assert!(rt; !put_owned(alloc, &owned, &mut out)?);
+    Ok(())
+}
+
+#[test]
+fn reads_other_forms(rt: HostRuntime) -> Result<(), Fail> {
+    for (name, strings, bytes) in &FORMS {
+        let (section, end) = read(rt.alloc(), bytes, 0)?;
+        assert_eq!(rt; end, bytes.len(), "end of {name}");
+        holds(&rt, name, &section, strings);
+        compare(&rt, rt.alloc(), name, bytes, 0)?;
+    }
+    Ok(())
+}
+
+#[test]
+fn refuses(rt: HostRuntime) -> Result<(), Fail> {
+    for (name, bytes, place, reason) in &FAULTS {
+        match Section::read(rt.alloc(), bytes, 0) {
+            Ok(_) => Err("read")?,
+            Err(ReadFault::OutOfMemory) => Err("OutOfMemory")?,
+            Err(ReadFault::Fault(fault)) => {
+                assert_eq!(rt;
+                    fault,
+                    Fault {
+                        place: *place,
+                        reason: *reason
+                    },
+                    "{name}"
+                );
+            }
+        }
+    }
+    Ok(())
+}
+
+/// Hands a value out twice.
+fn twice<T: Copy>(x: T) -> (T, T) {
+    (x, x)
+}
+
+#[test]
+fn is_copied_and_lends_heads(rt: HostRuntime) -> Result<(), Fail> {
+    let (_, _, strings, bytes) = &SECTIONS[6];
+    let (one, other) = twice(read(rt.alloc(), bytes, 0)?.0);
+    assert_eq!(rt; (one.len(), other.blocks()), (17, 2));
+    for block in 0..one.blocks() {
+        let first = strings.get(block.wrapping_mul(16) as usize).copied();
+        assert!(rt; Some(one.head(block)) == first, "head {block}");
+    }
+    Ok(())
+}
+
+/// Three thousand strings, one of them of 100,000 bytes and more, in one vector, and the end of each.
+fn many(alloc: Global) -> Result<(Vec<u8>, Vec<usize>), Fail> {
+    let mut bytes = Vec::new(alloc);
+    let mut ends = Vec::with_capacity(alloc, 3000)?;
+    for i in 0..3000_u32 {
+        let digits = [i / 1000 % 10, i / 100 % 10, i / 10 % 10, i % 10];
+        for digit in digits {
+            bytes.push((digit as u8).wrapping_add(b'0'))?;
+        }
+        if i == 1500 {
+            bytes.resize(bytes.len().wrapping_add(100_000), b'x')?;
+        }
+        ends.push(bytes.len())?;
+    }
+    Ok((bytes, ends))
+}
+
+#[test]
+fn holds_many_strings(rt: HostRuntime) -> Result<(), Fail> {
+    let alloc = rt.alloc();
+    let (bytes, ends) = many(alloc)?;
+    let mut strings = Vec::with_capacity(alloc, ends.len())?;
+    let mut from = 0;
+    for end in &ends {
+        strings.push(bytes.get(from..*end).ok_or("no string")?)?;
+        from = *end;
+    }
+    let mut out = Vec::new(alloc);
+    assert!(rt; are_strings(&strings));
+    put_lent_section(alloc, &strings, 16, &mut out)?;
+    let (section, end) = read(alloc, &out, 0)?;
+    assert_eq!(rt; (end, section.blocks()), (out.len(), 188));
+    holds(&rt, "many", &section, &strings);
+    compare(&rt, alloc, "many", &out, 0)?;
+    Ok(())
+}
+
+#[test]
+fn finds_common_prefixes(rt: HostRuntime) -> Result<(), Fail> {
+    let a = [7_u8; 40];
+    for len in 0..=a.len() {
+        let (front, _) = a.split_at(len);
+        assert_eq!(rt; common_prefix(front, &a), len, "a front of {len}");
+        for place in 0..len {
+            let mut b = front.to_vec(rt.alloc())?;
+            b[place] = 8;
+            assert_eq!(rt; common_prefix(front, &b), place, "{place} of {len}");
+        }
+    }
+    Ok(())
+}

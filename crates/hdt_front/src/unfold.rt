@@ -1,0 +1,102 @@
+//! A string unfolded over the one before it, and what is tested of it.
+ghost use Rattle.std.specs.Prelude.{◌≡◌, ◌≤◌, ◌<◌, ◌++◌, ◌||◌, true, false, length, take, IfOk, OnOk, OnErr};
+ghost use Rattle.std.specs.Str.{is_utf8, IsCharBoundary};
+ghost use Rattle.hdt_front.specs.StringRows.{precedes};
+
+use std::alloc::AllocError;
+
+/// Whether a text is before another one; first bytes that differ decide at once.
+#[tactic(auto, using(crate::proofs::Order::first_decides))]
+fn is_before(a: &[u8], b: &[u8]) -> bool
+    ensures { result ≡ precedes a.now b.now }
+{
+    if !a.is_empty() && !b.is_empty() && a[0] != b[0] {
+        return a[0] < b[0];
+    }
+    a.cmp(b).is_lt()
+}
+
+/// Whether the text that goes on from the first bytes of a string is after that string.
+#[tactic(auto, using(crate::proofs::Order::kept_order))]
+pub(crate) fn ascends(first: bool, before: &[u8], kept: usize, text: &[u8]) -> bool
+    requires { kept ≤ length before.now }
+    ensures { result ≡ (first || precedes before.now (take kept before.now ++ text.now)) }
+{
+    first || is_before(before.split_at(kept).1, text)
+}
+
+/// Whether bytes are UTF-8.
+pub(crate) fn valid(bytes: &[u8]) -> bool
+    ensures { result ≡ is_utf8 bytes.now }
+{
+    if bytes.is_ascii() {
+        return true;
+    }
+    match simdutf8::compat::from_utf8(bytes) {
+        Ok(_) => true,
+        Err(_) => false,
+    }
+}
+
+/// Whether a character of a string begins at a place, or the string ends there.
+#[tactic(auto, using(crate::proofs::Utf8::at_start))]
+fn is_boundary(string: &[u8], at: usize) -> bool
+    requires within { at ≤ length string.now }
+    requires utf8 { is_utf8 string.now ≡ true }
+    ensures yes { result ≡ true → IsCharBoundary string.now at }
+    ensures no { result ≡ false → 0 < at }
+{
+    if at == 0 {
+        return true;
+    }
+    match string.get(at) {
+        Some(byte) => !matches!(*byte, 0x80..=0xBF),
+        None => true,
+    }
+}
+
+/// The last place up to a given one where a character of a string begins or the string ends: at most three bytes
+/// before.
+fn character_start(string: &[u8], place: usize) -> usize
+    requires within { place ≤ length string.now }
+    requires utf8 { is_utf8 string.now ≡ true }
+    ensures before { result ≤ place }
+    ensures boundary { IsCharBoundary string.now result }
+{
+    let mut at = place;
+    while !is_boundary(string, at) {
+        at -= 1;
+    }
+    at
+}
+
+/// Unfolds a string over the one before it, of which so many bytes are kept. Where memory is refused, nothing moves.
+pub(crate) fn unfold(string: &mut Vec<u8>, kept: usize, text: &[u8]) -> Result<(), AllocError>
+    ensures ok { OnOk result (string.new.items ≡ take kept string.old.items ++ text.now) }
+    ensures err { OnErr result (string.new.items ≡ string.old.items) }
+{
+    string.reserve(text.len())?;
+    string.truncate(kept);
+    string.extend_from_slice(text)
+}
+
+/// Unfolds a string over the one before it, and answers whether it is UTF-8. The string before is, so only what
+/// follows the kept bytes is tested, with the beginning of a character that is cut there.
+pub(crate) fn unfold_tested(
+    string: &mut Vec<u8>,
+    kept: usize,
+    text: &[u8],
+) -> Result<bool, AllocError>
+    requires within { kept ≤ length string.old.items }
+    requires utf8 { is_utf8 string.old.items ≡ true }
+    ensures ok { OnOk result (string.new.items ≡ take kept string.old.items ++ text.now) }
+    ensures tested { IfOk result (λ valid. valid ≡ is_utf8 string.new.items) }
+{
+    let start = character_start(string, kept);
+    unfold(string, kept, text)?;
+    if start == kept {
+        Ok(valid(text))
+    } else {
+        Ok(valid(string.split_at(start).1))
+    }
+}

@@ -1,0 +1,65 @@
+-- Lines without a triple, one after another, up to a triple, a fault or the end.
+use Rattle.std.proofs.Common.{◌≡◌, ℕ, true, false, List, [], ◌∷◌, ◌++◌, ◌+◌, take, Option, None, Some, Ok, inl, inr, sym, refl, subst}
+use Rattle.hdt_terms.specs.declared.fault.LineFault.{LineFault}
+use Rattle.hdt_terms.specs.declared.triple.Triple.{Triple}
+use Rattle.hdt_terms.specs.LineReading.{triple_in}
+use Rattle.hdt_terms.specs.Lines.{NoEnd, Line, BareLines}
+use Rattle.hdt_terms.specs.Taking.{State, left, take_line, Takes, OneLine, TakesTriple, TakesRest, Stands, Finds, FaultOfTriple}
+use Rattle.hdt_terms.proofs.Counting.{BareLines-append, Takes-trans}
+use Rattle.hdt_terms.proofs.LineFound.{line_found}
+use Rattle.hdt_terms.proofs.Taken.{Grew-same, LineTaken, line_taken, whole_line, stands_in_triple, stands_behind}
+
+-- one line without a triple
+one_bare : (bytes : List ℕ) (new : State) (after : Option (List ℕ)) → OneLine bytes None new after → new.ended ≡ false → BareLines bytes
+one_bare bytes new after p going =
+    elim p.3 [
+      | inl w ↦ record { lines = None ∷ []; ended = (p.0, w.0, [], w.2, w.1, p.2, p.1, refl); no_triples = refl }
+      | inr w ↦ absurd (cc (w.1, going))
+    ]
+
+module _ (a s new : State) (before mid after : Option (List ℕ)) (front text : List ℕ) (takes : Takes a s before mid front) (bare : BareLines front)
+    (taken : LineTaken s new text mid after) (line : Line text None) where
+  -- the last piece
+  pub rest_taken : new.ended ≡ true → TakesRest a new before after
+  rest_taken end =
+      let p = taken.line None line in
+      elim p.3 [
+        | inl w ↦ absurd (cc (w.3, end))
+        | inr w ↦ (
+          front,
+          taken.bytes,
+          Takes-trans a s new before mid after front taken.bytes takes taken.takes,
+          bare,
+          subst (λ l. Line l None) (sym w.0) p.1,
+          subst NoEnd (sym w.0) p.2,
+          end,
+          w.2,
+          w.3,
+        )
+      ]
+
+  -- one more
+  pub bare_taken : new.ended ≡ false → (bytes : List ℕ) × Takes a new before after bytes × BareLines bytes
+  bare_taken going = (
+    front ++ taken.bytes,
+    Takes-trans a s new before mid after front taken.bytes takes taken.takes,
+    BareLines-append front taken.bytes bare (one_bare taken.bytes new after (taken.line None line) going),
+  )
+
+-- ---- a line that is ready
+
+module _ (a s : State) (before given : Option (List ℕ)) (n : ℕ) (found : Finds (Ok (Some n)) a s before (left s given) given) where
+  pub ready_fault : (fault : LineFault) → (fault.line ≡ s.ends + 1) × FaultOfTriple fault.reason fault.column (take n s.held) → Stands fault a before given
+  ready_fault fault h =
+      let ready = found.3 in
+      stands_behind fault a s before (left s given) given found.0 found.1 found.2 h.0
+      (stands_in_triple fault.reason fault.column s.taken s.limit (left s given) given (take n s.held) ready.utf8 ready.triple ready.front.no_end
+      (whole_line s.held s.held given given n s.taken s.limit (Grew-same s.held given) ready.front found.1.within) h.1)
+
+  pub ready_taken : (new : State) (triple : Triple) → new ≡ take_line s n → triple_in (take n s.held) ≡ Ok triple → TakesTriple a new before (left new given) triple
+  ready_taken new triple is e =
+      let ready = found.3 in
+      let taken : LineTaken s new (take n s.held) (left s given) (left new given) =
+      subst (λ (t : State). LineTaken s t (take n s.held) (left s given) (left t given)) (sym is)
+      (line_taken s s.held n given given (Grew-same s.held given) ready.front found.1.within ready.going) in
+      (found.0, taken.bytes, Takes-trans a s new before (left s given) (left new given) found.0 taken.bytes found.1 taken.takes, found.2, taken.line (Some triple) (line_found (take n s.held) triple ready.utf8 e))

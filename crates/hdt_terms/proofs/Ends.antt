@@ -1,0 +1,49 @@
+-- Line ends of bytes that grow.
+use Rattle.std.proofs.Common.{◌≡◌, ℕ, ◌+◌, ◌-◌, ◌<◌, ◌≤◌, false, List, ◌++◌, length, take, drop, get_or, Option, Some, inl, sym, refl, ap, subst, ◌∙◌, arith, append_assoc}
+use Rattle.std.proofs.lemmas.List.{length-take-le, take_at, take_all, length-drop, get_or-take, get_or-drop}
+use Rattle.std.proofs.lemmas.List.Elements.{All-append, All-from_get_or}
+use Rattle.std.proofs.KnownBytes.{Consumes-trans}
+use Rattle.std.proofs.Math.Seq.{take-add}
+use Rattle.std.proofs.lemmas.Bool.{not-true, not-false}
+use Rattle.hdt_terms.specs.declared.lanes.Class.TheVariants.{Text}
+use Rattle.hdt_terms.specs.Chars.{is_end}
+use Rattle.hdt_terms.specs.Lanes.{PassBetween, passes}
+use Rattle.hdt_terms.specs.Lines.{NoEnd}
+use Rattle.hdt_terms.specs.Filling.{Grew, FoundEnd, LineFront}
+
+pub Grew-trans : (x y z : List ℕ) (a b c : Option (List ℕ)) → Grew x y a b → Grew y z b c → Grew x z a c
+Grew-trans x y z a b c p q = (p.0 ++ q.0, q.1 ∙ ap (λ l. l ++ q.0) p.1 ∙ append_assoc x p.0 q.0, Consumes-trans a b c p.0 q.0 p.2 q.2)
+
+pub NoEnd-front : (old new more : List ℕ) → new ≡ old ++ more → NoEnd old → NoEnd (take (length old) new)
+NoEnd-front old new more grew p = subst NoEnd (sym (ap (take (length old)) grew ∙ take_at old more (length old) refl)) p
+
+-- ---- the first line end, where none stands in a front
+
+module _ (bytes rest : List ℕ) (from n : ℕ) (le : from ≤ length bytes) (none : NoEnd (take from bytes)) (is : rest ≡ drop from bytes) (within : n ≤ length rest)
+    (run : PassBetween (passes Text) rest 0 n) where
+  rest_len : length rest ≡ length bytes - from
+  rest_len = ap length is ∙ length-drop from bytes
+
+  run_no_end : NoEnd (take n rest)
+  run_no_end =
+      All-from_get_or (λ c. is_end c ≡ false) (take n rest) 0
+      (λ i l. let below : i < n = omega (arith, length-take-le n rest within) in
+      rw get_or-take (not-true _ (run i (omega arith) below)))
+
+  front_no_end : NoEnd (take (from + n) bytes)
+  front_no_end =
+      subst NoEnd (ap (λ l. take from bytes ++ take n l) is ∙ sym (take-add from n bytes))
+      (All-append (λ c. is_end c ≡ false) (take from bytes) (take n rest) none run_no_end)
+
+  pub end_found : (n < length rest → passes Text (get_or rest n 0) ≡ false) → from + n < length bytes → FoundEnd bytes (Some (from + n))
+  end_found stop lt = (
+    lt,
+    ap is_end (sym (get_or-drop from bytes n 0) ∙ ap (λ l. get_or l n 0) (sym is)) ∙ not-false _ (stop (omega (arith, rest_len))),
+    front_no_end,
+  )
+
+  pub no_end_found : length bytes ≤ from + n → NoEnd bytes
+  no_end_found le' = subst NoEnd (take_all (from + n) bytes le') front_no_end
+
+pub found_front : (bytes : List ℕ) (n : ℕ) (after : Option (List ℕ)) → FoundEnd bytes (Some n) → LineFront n bytes after
+found_front bytes n after f = record { no_end = f.2; end = inl (f.0, f.1) }

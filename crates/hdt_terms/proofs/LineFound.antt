@@ -1,0 +1,176 @@
+-- What is read of a line is spelled there.
+use Rattle.std.proofs.Common.{◌≡◌, ℕ, true, false, eqb, List, [], ◌∷◌, ◌++◌, Some, Result, Ok, Err, refl, ap, subst, ◌∙◌, inl, inr}
+use Rattle.std.specs.Prelude.{IsUtf8}
+use Rattle.std.specs.Str.Lossy.{utf8_valid_len}
+use Rattle.std.proofs.lemmas.Bool.{eqb-true}
+use Rattle.hdt_terms.specs.declared.fault.LineReason.TheVariants.{Syntax}
+use Rattle.hdt_terms.specs.declared.fault.Stop.{Stop}
+use Rattle.hdt_terms.specs.declared.fault.TermFault.{TermFault}
+use Rattle.hdt_terms.specs.declared.line.Role.{Role}
+use Rattle.hdt_terms.specs.declared.line.Role.TheVariants.{Subject, Predicate, Object}
+use Rattle.hdt_terms.specs.declared.term.Term.{Term}
+use Rattle.hdt_terms.specs.declared.term.Term.TheVariants as terms
+use Rattle.hdt_terms.specs.declared.triple.Triple.{Triple}
+use Rattle.hdt_terms.specs.Faults.{checked}
+use Rattle.hdt_terms.specs.LineReading.{begins, role_here, role_at, is_comment, is_bare, bare_at, closed_here, closed_at, triple_at, triple_in, line_in, located}
+use Rattle.hdt_terms.specs.Lines.{IsComment, IsBare, IsSubject, IsPredicate, SpelledTriple, Line}
+use Rattle.hdt_terms.specs.Reading.{◌>>=◌, stops, after_blanks, term_at}
+use Rattle.hdt_terms.specs.Spelling.{AreBlanks, Spelled}
+use Rattle.hdt_terms.specs.Table.{not_utf8_at}
+use Rattle.hdt_terms.proofs.Cases.{bind_ok, chosen, ok_is}
+use Rattle.hdt_terms.proofs.FaultTable.{not_valid}
+use Rattle.hdt_terms.proofs.LineUtf8.{rest_utf8}
+use Rattle.hdt_terms.proofs.LiteralFound.{passed, term_found}
+use Rattle.hdt_terms.proofs.Tops.{checked_ok}
+use Rattle.hdt_terms.proofs.Utf8.{blanks_utf8}
+
+-- ---- bare lines
+
+comment_found : (text : List ℕ) → is_comment text ≡ true → IsComment text
+comment_found [] e = tt
+comment_found (c ∷ cs) e = eqb-true c 35 e
+
+pub bare_found : (text : List ℕ) → is_bare text ≡ true → IsBare text
+unfolding is_bare
+bare_found text e =
+    let p = passed text in
+    record { before = p.blanks; comment = after_blanks text; blanks = p.are; is_comment = comment_found (after_blanks text) e; whole = p.whole }
+
+-- ---- the term of a role
+
+abbrev pub IsOf : Role → Term → Type 0
+IsOf Subject term = IsSubject term
+IsOf Predicate term = IsPredicate term
+IsOf Object term = Unit {0}
+
+is_of : (role : Role) (term : Term) (text rest cs : List ℕ) (c : ℕ) → Spelled text term → c ∷ cs ≡ text ++ rest → begins role c ≡ true → IsOf role term
+is_of Subject (terms.Iri iri) text rest cs c s e h = tt
+is_of Predicate (terms.Iri iri) text rest cs c s e h = tt
+is_of Object term text rest cs c s e h = tt
+is_of Subject (terms.Blank label) text rest cs c s e h = tt
+is_of Predicate (terms.Blank label) text rest cs c s e h =
+    let w : c ∷ cs ≡ 95 ∷ ((58 ∷ label) ++ rest) = e ∙ ap (λ l. l ++ rest) s.form.whole in
+    let is : c ≡ 95 = cc in
+    let both : begins Predicate 95 ≡ true = subst (λ b. begins Predicate b ≡ true) is h in cc
+is_of Subject (terms.Literal value suffix) text rest cs c s e h =
+    let w : c ∷ cs ≡ 34 ∷ ((s.form.inner ++ 34 ∷ s.form.tail) ++ rest) = e ∙ ap (λ l. l ++ rest) s.form.whole in
+    let is : c ≡ 34 = cc in
+    let both : begins Subject 34 ≡ true = subst (λ b. begins Subject b ≡ true) is h in cc
+is_of Predicate (terms.Literal value suffix) text rest cs c s e h =
+    let w : c ∷ cs ≡ 34 ∷ ((s.form.inner ++ 34 ∷ s.form.tail) ++ rest) = e ∙ ap (λ l. l ++ rest) s.form.whole in
+    let is : c ≡ 34 = cc in
+    let both : begins Predicate 34 ≡ true = subst (λ b. begins Predicate b ≡ true) is h in cc
+
+-- a term of the role was read behind blanks, and the rest follows it
+pub record RoleFound (role : Role) (bytes : List ℕ) (term : Term) (rest : List ℕ) : Type 0 where
+  pub before : List ℕ
+  pub text : List ℕ
+  pub blanks : AreBlanks before
+  pub spelled : Spelled text term
+  pub is_of : IsOf role term
+  pub whole : bytes ≡ before ++ (text ++ rest)
+  pub utf8 : IsUtf8 rest
+
+here_found : (role : Role) (bytes here : List ℕ) (term : Term) (rest before : List ℕ) → IsUtf8 here → AreBlanks before → bytes ≡ before ++ here → role_here role here ≡ Ok (term, rest) → RoleFound role bytes term rest
+unfolding role_here
+here_found role bytes [] term rest before utf8 are whole e = absurd cc
+here_found role bytes (c ∷ cs) term rest before utf8 are whole e =
+    elim (chosen (begins role c) (term_at (c ∷ cs)) (stops Syntax (c ∷ cs)) (Ok (term, rest)) e) [
+      | inl p ↦
+          let f = term_found (c ∷ cs) rest term utf8 p.1 in
+          record {
+            before = before;
+            text = f.text;
+            blanks = are;
+            spelled = f.spelled;
+            is_of = is_of role term f.text rest cs c f.spelled f.whole p.0;
+            whole = whole ∙ ap (λ l. before ++ l) f.whole;
+            utf8 = rest_utf8 (c ∷ cs) rest term utf8 p.1;
+          }
+      | inr p ↦ absurd cc
+    ]
+
+pub role_found : (role : Role) (bytes : List ℕ) (term : Term) (rest : List ℕ) → IsUtf8 bytes → role_at role bytes ≡ Ok (term, rest) → RoleFound role bytes term rest
+unfolding role_at
+role_found role bytes term rest utf8 e =
+    let p = passed bytes in
+    here_found role bytes (after_blanks bytes) term rest p.blanks (blanks_utf8 bytes utf8) p.are p.whole e
+
+-- ---- the end of a triple
+
+pub record ClosedFound (bytes : List ℕ) : Type 0 where
+  pub before : List ℕ
+  pub behind : List ℕ
+  pub blanks : AreBlanks before
+  pub bare : IsBare behind
+  pub whole : bytes ≡ before ++ 46 ∷ behind
+
+closed_here_found : (bytes here before : List ℕ) (done : Unit {0}) → AreBlanks before → bytes ≡ before ++ here → closed_here here ≡ Ok done → ClosedFound bytes
+unfolding is_bare
+closed_here_found bytes [] before done are whole e = absurd cc
+closed_here_found bytes (c ∷ cs) before done are whole e =
+    elim (chosen (eqb c 46) (bare_at (after_blanks cs)) (stops Syntax (c ∷ cs)) (Ok done) e) [
+      | inl p ↦
+          elim (chosen (is_comment (after_blanks cs)) (Ok tt) (stops Syntax (after_blanks cs)) (Ok done) p.1) [
+            | inl q ↦ record { before = before; behind = cs; blanks = are; bare = bare_found cs q.0; whole = whole ∙ ap (λ b. before ++ b ∷ cs) (eqb-true c 46 p.0) }
+            | inr q ↦ absurd cc
+          ]
+      | inr p ↦ absurd cc
+    ]
+
+closed_found : (bytes : List ℕ) (done : Unit {0}) → closed_at bytes ≡ Ok done → ClosedFound bytes
+unfolding closed_at
+closed_found bytes done e = let p = passed bytes in closed_here_found bytes (after_blanks bytes) p.blanks done p.are p.whole e
+
+-- ---- a triple
+
+pub triple_found : (text : List ℕ) (triple : Triple) → IsUtf8 text → triple_at text ≡ Ok triple → SpelledTriple text triple
+unfolding triple_at
+triple_found text triple utf8 e =
+    let s = bind_ok (role_at Subject text) (λ x. role_at Predicate x.1 >>= λ y. role_at Object y.1 >>= λ z. closed_at z.1 >>= λ _. Ok (record { s = x.0; p = y.0; o = z.0 })) triple e in
+    let p = bind_ok (role_at Predicate s.0.1) (λ y. role_at Object y.1 >>= λ z. closed_at z.1 >>= λ _. Ok (record { s = s.0.0; p = y.0; o = z.0 })) triple s.2 in
+    let o = bind_ok (role_at Object p.0.1) (λ z. closed_at z.1 >>= λ _. Ok (record { s = s.0.0; p = p.0.0; o = z.0 })) triple p.2 in
+    let d = bind_ok (closed_at o.0.1) (λ _. Ok (record { s = s.0.0; p = p.0.0; o = o.0.0 })) triple o.2 in
+    let fs = role_found Subject text s.0.0 s.0.1 utf8 s.1 in
+    let fp = role_found Predicate s.0.1 p.0.0 p.0.1 fs.utf8 p.1 in
+    let fo = role_found Object p.0.1 o.0.0 o.0.1 fp.utf8 o.1 in
+    let fd = closed_found o.0.1 d.0 d.1 in
+    let made : SpelledTriple text (record { s = s.0.0; p = p.0.0; o = o.0.0 }) = record {
+      before_s = fs.before;
+      before_p = fp.before;
+      before_o = fo.before;
+      before_stop = fd.before;
+      blanks = (fs.blanks, fp.blanks, fo.blanks, fd.blanks);
+      s = fs.text;
+      p = fp.text;
+      o = fo.text;
+      behind = fd.behind;
+      subject = (fs.spelled, fs.is_of);
+      predicate = (fp.spelled, fp.is_of);
+      object = fo.spelled;
+      bare = fd.bare;
+      whole =
+          fs.whole ∙ ap (λ l. fs.before ++ (fs.text ++ l)) (fp.whole ∙ ap (λ l. fp.before ++ (fp.text ++ l)) (fo.whole ∙ ap (λ l. fo.before ++ (fo.text ++ l)) fd.whole));
+    } in
+    subst (SpelledTriple text) (ok_is _ triple d.2) made
+
+abbrev read : Triple → Result Triple TermFault
+read triple = Ok triple
+
+located_ok : (text : List ℕ) (triple : Triple) (r : Result Triple Stop) → located text r ≡ read triple → r ≡ Ok triple
+located_ok text triple (Ok x) e = cc
+located_ok text triple (Err stop) e = absurd cc
+
+pub line_found : (text : List ℕ) (triple : Triple) → IsUtf8 text → triple_in text ≡ Ok triple → Line text (Some triple)
+unfolding triple_in
+line_found text triple utf8 e = (utf8, triple_found text triple utf8 (located_ok text triple (triple_at text) e))
+
+-- ---- a line that is not UTF-8
+
+pub line_not_utf8 : (text : List ℕ) → ¬ (IsUtf8 text) → line_in text ≡ Err (not_utf8_at (utf8_valid_len text))
+unfolding line_in checked
+line_not_utf8 text none = rw (not_valid text none) refl
+
+pub line_fault : (text : List ℕ) (fault : TermFault) → IsUtf8 text → is_bare text ≡ false → triple_in text ≡ Err fault → line_in text ≡ Err fault
+unfolding line_in
+line_fault text fault utf8 some e = checked_ok text _ utf8 ∙ rw (some, e) refl

@@ -1,0 +1,61 @@
+-- The laws of lines.
+use Rattle.std.proofs.Common.{◌≡◌, true, List, ℕ, Option, None, Some, Result, Ok, Err, refl, sym, ◌∙◌, inl, inr, ◌⊎◌}
+use Rattle.std.specs.Prelude.{IsUtf8}
+use Rattle.hdt_terms.specs.declared.fault.TermFault.{TermFault}
+use Rattle.hdt_terms.specs.declared.triple.Triple.{Triple}
+use Rattle.hdt_terms.specs.LineReading.{is_bare, triple_in, as_line, line_in, LineFaultStands}
+use Rattle.hdt_terms.specs.Lines.{Line}
+use Rattle.hdt_terms.proofs.Cases.{chosen}
+use Rattle.hdt_terms.proofs.LawsLemmas.{checked_utf8}
+use Rattle.hdt_terms.proofs.LineAgain.{line_again}
+use Rattle.hdt_terms.proofs.LineFound.{bare_found, line_found}
+use Rattle.hdt_terms.proofs.Tops.{checked_ok}
+
+abbrev read : Option Triple → Result (Option Triple) TermFault
+read x = Ok x
+
+read_is : (x y : Option Triple) → read x ≡ read y → x ≡ y
+read_is x y e = cc
+
+abbrev refused : TermFault → Result (Option Triple) TermFault
+refused fault = Err fault
+
+refused_is : (f g : TermFault) → refused f ≡ refused g → f ≡ g
+refused_is f g e = cc
+
+read_or_refused : (x : Option Triple) (fault : TermFault) → read x ≡ refused fault → ⊥
+read_or_refused x fault e = cc
+
+as_line_found : (text : List ℕ) (r : Result Triple TermFault) (x : Option Triple) → IsUtf8 text → triple_in text ≡ r → as_line r ≡ read x → Line text x
+as_line_found text (Ok triple) None utf8 h e = absurd cc
+as_line_found text (Ok triple) (Some other) utf8 h e = let is : Ok triple ≡ Ok other = cc in line_found text other utf8 (h ∙ is)
+as_line_found text (Err fault) x utf8 h e = absurd cc
+
+bare_line : (text : List ℕ) (x : Option Triple) → IsUtf8 text → is_bare text ≡ true → read None ≡ read x → Line text x
+bare_line text None utf8 b e = (utf8, bare_found text b)
+bare_line text (Some triple) utf8 b e = absurd cc
+
+pub line_read : (text : List ℕ) (x : Option Triple) → line_in text ≡ Ok x → Line text x
+unfolding line_in
+line_read text x e =
+    let utf8 = checked_utf8 text _ x e in
+    elim (chosen (is_bare text) (read None) (as_line (triple_in text)) (read x) (sym (checked_ok text _ utf8) ∙ e)) [
+      | inl p ↦ bare_line text x utf8 p.0 p.1
+      | inr p ↦ as_line_found text (triple_in text) x utf8 refl p.1
+    ]
+
+pub line_or_fault : (text : List ℕ) → ((x : Option Triple) × Line text x) ⊎ ((fault : TermFault) × LineFaultStands text fault)
+line_or_fault text = case (line_in text) refl
+  where
+    case : (r : Result (Option Triple) TermFault) → line_in text ≡ r → ((x : Option Triple) × Line text x) ⊎ ((fault : TermFault) × LineFaultStands text fault)
+    case (Ok x) e = inl (x, line_read text x e)
+    case (Err fault) e = inr (fault, e)
+
+pub apart : (text : List ℕ) (x : Option Triple) (fault : TermFault) → Line text x → LineFaultStands text fault → ⊥
+apart text x fault line stands = read_or_refused x fault (sym (line_again text x line) ∙ stands)
+
+pub one_line : (text : List ℕ) (x y : Option Triple) → Line text x → Line text y → x ≡ y
+one_line text x y hx hy = read_is x y (sym (line_again text x hx) ∙ line_again text y hy)
+
+pub one_fault : (text : List ℕ) (f g : TermFault) → LineFaultStands text f → LineFaultStands text g → f ≡ g
+one_fault text f g hf hg = refused_is f g (sym hf ∙ hg)

@@ -1,0 +1,30 @@
+-- What is said of the text of a line.
+use Rattle.std.proofs.Common.{◌≡◌, ℕ, ◌+◌, Bool, true, false, List, Ok, Err, sym, ap, ◌∙◌, ◌⊎◌, refl}
+use Rattle.std.specs.Prelude.{IsUtf8}
+use Rattle.std.specs.Str.Lossy.{utf8_valid_len}
+use Rattle.hdt_terms.specs.declared.fault.LineFault.{LineFault}
+use Rattle.hdt_terms.specs.declared.fault.LineReason.TheVariants.{NotUtf8}
+use Rattle.hdt_terms.specs.declared.fault.TermFault.{TermFault}
+use Rattle.hdt_terms.specs.LineReading.{is_bare, triple_in}
+use Rattle.hdt_terms.specs.Faults.{out_of_memory}
+use Rattle.hdt_terms.specs.Table.{not_utf8_at}
+use Rattle.hdt_terms.specs.Taking.{State, Looked, FaultOfTriple}
+use Rattle.hdt_terms.proofs.LineFound.{bare_found, line_not_utf8}
+use Rattle.hdt_terms.proofs.TextReasons.{fault_of_triple}
+
+pub looked : (s : State) (text : List ℕ) (b : Bool) → IsUtf8 text → b ≡ is_bare text → Looked (Ok b) s text
+looked s text true utf8 e = (utf8, bare_found text (sym e))
+looked s text false utf8 e = (utf8, sym e)
+
+pub not_text : (s : State) (text : List ℕ) (f : TermFault) (fault : LineFault) → ¬ (IsUtf8 text) → f ≡ not_utf8_at (utf8_valid_len text)
+    → fault ≡ record { line = s.ends + 1; column = f.column; reason = f.reason } → Looked (Err fault) s text
+not_text s text f fault none is told = (
+  ap (λ (x : LineFault). x.line) told,
+  ap (λ (x : LineFault). x.reason) told ∙ ap (λ (x : TermFault). x.reason) is,
+  line_not_utf8 text none
+      ∙ ap (λ k. Err (record { column = k; reason = NotUtf8 })) (sym (ap (λ (x : LineFault). x.column) told ∙ ap (λ (x : TermFault). x.column) is)),
+)
+
+pub no_triple : (s : State) (text : List ℕ) (f : TermFault) (fault : LineFault) → IsUtf8 text → (f ≡ out_of_memory) ⊎ (triple_in text ≡ Err f)
+    → fault ≡ record { line = s.ends + 1; column = f.column; reason = f.reason } → (fault.line ≡ s.ends + 1) × FaultOfTriple fault.reason fault.column text
+no_triple s text f fault utf8 h told = rw told (refl, fault_of_triple text f utf8 h)

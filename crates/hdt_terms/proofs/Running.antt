@@ -1,0 +1,125 @@
+-- A whole run: what was taken grows line by line, up to the document or the fault.
+use Rattle.std.proofs.Common.{◌≡◌, ℕ, Bool, true, false, List, [], ◌∷◌, ◌++◌, length, ◌+◌, ◌<◌, ◌≤◌, ◌⊎◌, arith, Option, None, Some, inl, inr, sym, refl, ap, subst, ◌∙◌, append_assoc, append-nil, zero-add}
+use Rattle.std.proofs.lemmas.List.Elements.{filter_map-append}
+use Rattle.std.proofs.lemmas.List.{length-append}
+use Rattle.std.proofs.KnownBytes.{Consumes-trans}
+use Rattle.std.specs.Io.KnownBytes.{Consumes, IsAtEnd, prepend_known}
+use Rattle.hdt_terms.specs.declared.fault.LineFault.{LineFault}
+use Rattle.hdt_terms.specs.declared.triple.Triple.{Triple}
+use Rattle.hdt_terms.specs.Documents.{IsDocument, FaultInDocument, Ran}
+use Rattle.hdt_terms.specs.Lines.{NoEnd, Line, SpelledTriple, EndedLines, triples_of, line_ends, ends_in_cr}
+use Rattle.hdt_terms.specs.Taking.{State, start, left, Takes, TakesTriple, TakesRest, Stands, StandsInLine}
+use Rattle.hdt_terms.proofs.Counting.{EndedLines-append, Takes-trans, line_ends-append}
+
+nothing_taken : (all : Option (List ℕ)) → Consumes all (prepend_known [] all) []
+nothing_taken None = tt
+nothing_taken (Some x) = refl
+
+pub ran_begins : (limit : ℕ) (all : Option (List ℕ)) → Ran limit (start limit) all (left (start limit) all) []
+ran_begins limit all = record {
+  front = [];
+  lines = [];
+  ended = refl;
+  takes = record { consumed = nothing_taken all; taken = refl; ends = refl; after_cr = refl; within = omega arith; limit = refl; failed = refl };
+  triples_are = refl;
+}
+
+triples-append : (xs ys : List (Option Triple)) → triples_of (xs ++ ys) ≡ triples_of xs ++ triples_of ys
+triples-append xs ys = filter_map-append (λ x. x) xs ys
+
+-- one more line with a triple, and its end
+pub ran_on : (limit : ℕ) (s new : State) (all mid after : Option (List ℕ)) (triples : List Triple) (triple : Triple) → Ran limit s all mid triples → TakesTriple s new mid after triple → new.ended ≡ false
+    → Ran limit new all after (triples ++ triple ∷ [])
+ran_on limit s new all mid after triples triple r t going =
+    elim t.4.3 [
+      | inl w ↦ record {
+        front = r.front ++ (t.0 ++ t.1);
+        lines = r.lines ++ (t.3.lines ++ Some triple ∷ []);
+        ended =
+            EndedLines-append r.lines (t.3.lines ++ Some triple ∷ []) r.front (t.0 ++ t.1) r.ended
+            (EndedLines-append t.3.lines (Some triple ∷ []) t.0 t.1 t.3.ended (t.4.0, w.0, [], w.2, w.1, t.4.2, t.4.1, refl));
+        takes = Takes-trans (start limit) s new all mid after r.front (t.0 ++ t.1) r.takes t.2;
+        triples_are =
+            ap (λ l. l ++ triple ∷ []) r.triples_are
+            ∙ ap (λ l. triples_of r.lines ++ l) (sym (triples-append t.3.lines (Some triple ∷ []) ∙ ap (λ l. l ++ triple ∷ []) t.3.no_triples))
+            ∙ sym (triples-append r.lines (t.3.lines ++ Some triple ∷ []));
+      }
+      | inr w ↦ absurd (cc (w.1, going))
+    ]
+
+-- the last piece is taken
+finished : (limit : ℕ) (new : State) (all after : Option (List ℕ)) (front last : List ℕ) (lines : List (Option Triple)) (x : Option Triple) (triples : List Triple) → Takes (start limit) new all after (front ++ last)
+    → EndedLines lines front → NoEnd last → Line last x → IsAtEnd after → triples ≡ triples_of (lines ++ x ∷ []) → IsDocument limit all triples
+finished limit new None after front last lines x triples t ended no_end line end are = tt
+finished limit new (Some a) None front last lines x triples t ended no_end line end are = absurd t.consumed
+finished limit new (Some a) (Some y) front last lines x triples t ended no_end line end are =
+    let cut : a ≡ front ++ last = t.consumed ∙ ap (λ l. (front ++ last) ++ l) end ∙ append-nil (front ++ last) in (
+      record { front = front; last = last; lines = lines; last_line = x; cut = cut; ended = ended; no_end = no_end; is_line = line; triples_are = are },
+      omega (arith, ap length cut, t.taken, t.within, t.limit),
+    )
+
+pub document_last : (limit : ℕ) (s new : State) (all mid after : Option (List ℕ)) (triples : List Triple) (triple : Triple) → Ran limit s all mid triples → TakesTriple s new mid after triple → new.ended ≡ true
+    → IsDocument limit all (triples ++ triple ∷ [])
+document_last limit s new all mid after triples triple r t end =
+    elim t.4.3 [
+      | inl w ↦ absurd (cc (w.3, end))
+      | inr w ↦
+          finished limit new all after (r.front ++ t.0) t.1 (r.lines ++ t.3.lines) (Some triple) (triples ++ triple ∷ [])
+          (subst (Takes (start limit) new all after) (sym (append_assoc r.front t.0 t.1)) (Takes-trans (start limit) s new all mid after r.front (t.0 ++ t.1) r.takes t.2))
+          (EndedLines-append r.lines t.3.lines r.front t.0 r.ended t.3.ended) (subst NoEnd (sym w.0) t.4.2) (subst (λ l. Line l (Some triple)) (sym w.0) t.4.1) w.3
+          (ap (λ l. l ++ triple ∷ []) (r.triples_are ∙ sym (append-nil (triples_of r.lines)) ∙ ap (λ l. triples_of r.lines ++ l) (sym t.3.no_triples) ∙ sym (triples-append r.lines t.3.lines))
+          ∙ sym (triples-append (r.lines ++ t.3.lines) (Some triple ∷ [])))
+    ]
+
+pub document_rest : (limit : ℕ) (s new : State) (all mid after : Option (List ℕ)) (triples : List Triple) → Ran limit s all mid triples → TakesRest s new mid after → IsDocument limit all triples
+document_rest limit s new all mid after triples r t =
+    finished limit new all after (r.front ++ t.0) t.1 (r.lines ++ t.3.lines) None triples
+    (subst (Takes (start limit) new all after) (sym (append_assoc r.front t.0 t.1)) (Takes-trans (start limit) s new all mid after r.front (t.0 ++ t.1) r.takes t.2))
+    (EndedLines-append r.lines t.3.lines r.front t.0 r.ended t.3.ended) t.5 t.4 t.8
+    (r.triples_are ∙ sym (append-nil (triples_of r.lines)) ∙ ap (λ l. triples_of r.lines ++ l) (sym t.3.no_triples) ∙ sym (triples-append r.lines t.3.lines)
+    ∙ sym (append-nil (triples_of (r.lines ++ t.3.lines))) ∙ sym (triples-append (r.lines ++ t.3.lines) (None ∷ [])))
+
+-- a fault behind what was taken
+pub fault_behind : (fault : LineFault) (limit : ℕ) (s : State) (all mid given : Option (List ℕ)) (triples : List Triple) → Ran limit s all mid triples → Stands fault s mid given
+    → FaultInDocument fault limit all given
+fault_behind fault limit s all mid given triples r st =
+    let taken : s.taken ≡ length r.front = r.takes.taken ∙ zero-add (length r.front) in
+    record {
+      front = r.front ++ st.front;
+      lines = r.lines ++ st.bare.lines;
+      rest = st.rest;
+      ended = EndedLines-append r.lines st.bare.lines r.front st.front r.ended st.bare.ended;
+      consumed = Consumes-trans all mid st.rest r.front st.front r.takes.consumed st.consumed;
+      line =
+          st.line
+          ∙ ap (λ k. k + 1) (rw (r.takes.ends, r.takes.after_cr) (ap (λ k. k + line_ends (ends_in_cr false r.front) st.front) (zero-add (line_ends false r.front))) ∙ sym (line_ends-append false r.front st.front));
+      fault_is =
+          subst (λ k. StandsInLine fault.reason fault.column k limit st.rest given) (ap (λ k. k + length st.front) taken ∙ sym (length-append r.front st.front))
+          (subst (λ k. StandsInLine fault.reason fault.column (s.taken + length st.front) k st.rest given) r.takes.limit st.fault_is);
+    }
+
+-- ---- of a run
+
+pub either : (b : Bool) → (b ≡ true) ⊎ (b ≡ false)
+either true = inl refl
+either false = inr refl
+
+triple_some : (text : List ℕ) (triple : Triple) → SpelledTriple text triple → 0 < length text
+triple_some text triple h =
+    let tail = 46 ∷ h.behind in
+    omega (
+      arith,
+      ap length h.whole,
+      length-append h.before_s (h.s ++ (h.before_p ++ (h.p ++ (h.before_o ++ (h.o ++ (h.before_stop ++ tail)))))),
+      length-append h.s (h.before_p ++ (h.p ++ (h.before_o ++ (h.o ++ (h.before_stop ++ tail))))),
+      length-append h.before_p (h.p ++ (h.before_o ++ (h.o ++ (h.before_stop ++ tail)))),
+      length-append h.p (h.before_o ++ (h.o ++ (h.before_stop ++ tail))),
+      length-append h.before_o (h.o ++ (h.before_stop ++ tail)),
+      length-append h.o (h.before_stop ++ tail),
+      length-append h.before_stop tail,
+    )
+
+pub triple_size : (x y : Option (List ℕ)) (old new : State) (triple : Triple) → TakesTriple old new x y triple → (old.taken < new.taken) × (new.taken ≤ old.limit) × (new.limit ≡ old.limit)
+triple_size x y old new triple t =
+    let some : 0 < length t.1 = elim t.4.3 [ inl w ↦ omega (arith, ap length w.2, length-append t.4.0 (w.0 ∷ [])) | inr w ↦ subst (λ l. 0 < length l) (sym w.0) (triple_some t.4.0 triple t.4.1.1) ] in
+    (omega (arith, t.2.taken, length-append t.0 t.1), omega (arith, t.2.within, t.2.limit), t.2.limit)

@@ -1,0 +1,22 @@
+use Rattle.std.proofs.Common.{ℕ, refl, arith}
+use Rattle.std.proofs.lemmas.Simd.{zip2_splat, zip2_of_maps, splat_is_map, length-chunk}
+use lib.Lanes.{chunk}
+use Rattle.hdt_terms.specs.declared.pieces.Token.TheVariants.{Iri}
+use Rattle.hdt_terms.specs.declared.lanes.Class.TheVariants.{Inside}
+use Rattle.hdt_terms.specs.Lanes.{passes}
+use Rattle.hdt_terms.proofs.Loads.{run_of}
+use Rattle.hdt_terms.proofs.lanes.iri_run.Goals as goal
+
+pub returns : goal.returns
+returns c =
+    let v = chunk c.args.at 16 c.args.bytes.now in
+    let long = length-chunk c.args.at 16 c.args.bytes.now c.requires in
+    let paired = zip2_splat {Y = ℕ} _ v 16 _ long in
+    run_of (passes (Inside Iri)) c.args.bytes.now c.args.at 16 _ _ c.requires (omega arith) c.type_inv.bytes c.first_set.ensures _
+    (zip2_of_maps _ _ _ v (zip2_of_maps _ _ _ v (zip2_of_maps _ _ _ v (zip2_of_maps _ _ _ v (zip2_of_maps _ _ _ v
+    (zip2_splat _ v 16 _ long)
+    (zip2_of_maps _ _ _ v paired (splat_is_map v 16 _ long)))
+    (zip2_of_maps _ _ _ v paired (splat_is_map v 16 _ long)))
+    (zip2_of_maps _ _ _ v (zip2_splat {Y = ℕ} _ v 16 _ long) (splat_is_map v 16 _ long)))
+    (zip2_splat _ v 16 _ long))
+    (zip2_splat _ v 16 _ long)) refl

@@ -1,0 +1,16 @@
+use Rattle.std.proofs.Common.{ap, subst, ◌∙◌, take}
+use Rattle.std.specs.Prelude.{IsUtf8}
+use Rattle.hdt_terms.specs.LineReading.{is_bare}
+use Rattle.hdt_terms.specs.Taking.{State}
+use Rattle.hdt_terms.proofs.Looking.{looked, not_text}
+use Rattle.hdt_terms.proofs.lines.Lines.look.Goals as goal
+
+pub returns-in-Ok : goal.returns-in-Ok
+returns-in-Ok c =
+    let text_is = ap (take c.args.n) (c.as_slice.ensures ∙ ap (λ (s : State). s.held) c.self.view_is) in
+    looked c.args.self.now (take c.args.n c.args.self.now.held) c.is_bare.result (subst IsUtf8 text_is c.in-Ok.ensures) (c.is_bare.ensures ∙ ap is_bare text_is)
+
+pub returns-in-Err : goal.returns-in-Err
+returns-in-Err c =
+    let found = rw (c.as_slice.ensures, ap (λ (s : State). s.held) c.self.view_is) at c.in-Err.ensures in
+    not_text c.args.self.now (take c.args.n c.args.self.now.held) c.in-Err.field-0 c.fault.result found.0 found.1 c.fault.ensures

@@ -1,0 +1,28 @@
+-- Runs of bytes that pass a test, by places.
+use Rattle.std.specs.Prelude.{◌≡◌, ℕ, ◌+◌, ◌<◌, ◌≤◌, Bool, true, false, not, ◌==◌, if◌then◌else◌, List, slice_index}
+use Rattle.std.specs.Char.{is_ascii}
+use Rattle.std.specs.Int.{w64, trailing_zeros}
+use Rattle.hdt_terms.specs.declared.lanes.Class.{Class}
+use Rattle.hdt_terms.specs.declared.lanes.Class.TheVariants.{Inside, Ascii, Text}
+use Rattle.hdt_terms.specs.Chars.{is_end}
+use Rattle.hdt_terms.specs.Spelling.{is_raw}
+
+-- whether a byte is of the class
+abbrev pub passes : Class → ℕ → Bool
+passes (Inside token) c = is_raw token c
+passes Ascii c = is_ascii c
+passes Text c = not (is_end c)
+
+-- the bytes from at up to end pass the test
+abbrev pub PassBetween : (ℕ → Bool) → List ℕ → ℕ → ℕ → Type 0
+PassBetween test bytes at end = (k : ℕ) → at ≤ k → k < end → test (slice_index bytes k) ≡ true
+
+-- so many of the n bytes from at on do, and the next of the n does not
+pub record IsRun (test : ℕ → Bool) (bytes : List ℕ) (at n run : ℕ) : Type 0 where
+  pub within : run ≤ n
+  pub pass : PassBetween test bytes at (at + run)
+  pub stop : run < n → test (slice_index bytes (at + run)) ≡ false
+
+-- the place of the lowest bit that is set, or n
+abbrev pub first_set : ℕ → ℕ → ℕ
+first_set mask n = if mask == 0 then n else trailing_zeros w64 mask

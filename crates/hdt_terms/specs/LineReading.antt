@@ -1,0 +1,97 @@
+-- Reading a line from left to right, with the first row that fails: the table of faults in docs/NTRIPLES.md.
+use Rattle.std.specs.Prelude.{◌≡◌, ℕ, Bool, true, ◌||◌, ◌⊎◌, List, [], ◌∷◌, length, Option, None, Some, Result, Ok, Err, ◌==◌, if◌then◌else◌}
+use Rattle.hdt_terms.specs.declared.fault.LineReason.TheVariants.{Syntax}
+use Rattle.hdt_terms.specs.declared.fault.Stop.{Stop}
+use Rattle.hdt_terms.specs.declared.fault.ReadError.{ReadError}
+use Rattle.hdt_terms.specs.declared.fault.TermFault.{TermFault}
+use Rattle.hdt_terms.specs.declared.line.Role.{Role}
+use Rattle.hdt_terms.specs.declared.line.Role.TheVariants.{Subject, Predicate, Object}
+use Rattle.hdt_terms.specs.declared.term.Term.{Term}
+use Rattle.hdt_terms.specs.declared.triple.Triple.{Triple}
+use Rattle.hdt_terms.specs.Reading.{◌>>=◌, Fails, stops, after_blanks, term_at}
+use Rattle.hdt_terms.specs.Faults.{fault_at, out_of_memory, checked}
+use Rattle.hdt_terms.specs.Terms.{str}
+
+-- the byte that begins a term of the role: < alone a predicate, < or _ a subject
+abbrev pub begins : Role → ℕ → Bool
+begins Subject c = c == 60 || c == 95
+begins Predicate c = c == 60
+begins Object c = true
+
+-- the term that begins here, where the role may have it
+unfoldable pub role_here : Role → List ℕ → Result (Term × List ℕ) Stop
+role_here role [] = stops Syntax []
+role_here role (c ∷ rest) = if begins role c then term_at (c ∷ rest) else stops Syntax (c ∷ rest)
+
+-- the term of the role behind tabs and spaces
+unfoldable pub role_at : Role → List ℕ → Result (Term × List ℕ) Stop
+role_at role bytes = role_here role (after_blanks bytes)
+
+-- nothing, or a comment
+abbrev pub is_comment : List ℕ → Bool
+is_comment [] = true
+is_comment (c ∷ rest) = c == 35
+
+-- tabs and spaces, and then nothing or a comment
+unfoldable pub is_bare : List ℕ → Bool
+is_bare text = is_comment (after_blanks text)
+
+-- what stands behind the full stop
+abbrev pub bare_at : List ℕ → Result (Unit {0}) Stop
+bare_at rest = if is_comment rest then Ok tt else stops Syntax rest
+
+-- the full stop, and then nothing or a comment
+abbrev pub closed_here : List ℕ → Result (Unit {0}) Stop
+closed_here [] = stops Syntax []
+closed_here (c ∷ rest) = if c == 46 then bare_at (after_blanks rest) else stops Syntax (c ∷ rest)
+
+-- the same behind tabs and spaces
+unfoldable pub closed_at : List ℕ → Result (Unit {0}) Stop
+closed_at bytes = closed_here (after_blanks bytes)
+
+-- the triple of a line
+unfoldable pub triple_at : List ℕ → Result Triple Stop
+triple_at bytes =
+    role_at Subject bytes >>= λ s.
+    role_at Predicate s.1 >>= λ p.
+    role_at Object p.1 >>= λ o.
+    closed_at o.1 >>= λ _. Ok (record { s = s.0; p = p.0; o = o.0 })
+
+-- the column of what stopped the reading of a line
+abbrev pub located : {A : Type 0} → List ℕ → Result A Stop → Result A TermFault
+located text (Ok x) = Ok x
+located text (Err stop) = Err (fault_at (length text) stop.left stop.reason)
+
+-- the triple of a line that is UTF-8 and not bare, or its fault
+unfoldable pub triple_in : List ℕ → Result Triple TermFault
+triple_in text = located text (triple_at text)
+
+abbrev pub as_line : Result Triple TermFault → Result (Option Triple) TermFault
+as_line (Ok triple) = Ok (Some triple)
+as_line (Err fault) = Err fault
+
+-- The line's triple if it has one, or the fault that stands in it.
+unfoldable pub line_in : List ℕ → Result (Option Triple) TermFault
+line_in text = checked text (if is_bare text then Ok None else as_line (triple_in text))
+
+-- The text is no line, and this is its fault.
+abbrev pub LineFaultStands : List ℕ → TermFault → Type 0
+LineFaultStands text fault = line_in text ≡ Err fault
+
+-- ---- the strings of a triple
+
+-- these are the strings of the triple's terms
+pub record AreStrings (triple : Triple) (s p o : List ℕ) : Type 0 where
+  pub s_is : s ≡ str triple.s
+  pub p_is : p ≡ str triple.p
+  pub o_is : o ≡ str triple.o
+
+-- the buffers hold the strings of the triple that reading gives, unless memory ran out
+abbrev pub Fills : {X : Type 0} → List ℕ → List ℕ → List ℕ → Result X ReadError → Result Triple Stop → Type 0
+Fills s p o (Ok x) read = (triple : Triple) × (read ≡ Ok triple) × AreStrings triple s p o
+Fills s p o (Err e) read = Fails e read
+
+-- the same of a whole line
+abbrev pub Holds : {X : Type 0} → List ℕ → List ℕ → List ℕ → Result X TermFault → Result Triple TermFault → Type 0
+Holds s p o (Ok x) read = (triple : Triple) × (read ≡ Ok triple) × AreStrings triple s p o
+Holds s p o (Err fault) read = (fault ≡ out_of_memory) ⊎ (read ≡ Err fault)

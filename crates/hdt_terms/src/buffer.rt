@@ -1,0 +1,151 @@
+//! The bytes that were read and not yet taken: one vector, filled at its end and taken from its front.
+ghost use Rattle.std.specs.Prelude.{◌≡◌, ℕ, ◌+◌, ◌-◌, ◌*◌, ◌<◌, ◌≤◌, List, [], length, drop, take, IfOk, OnOk, OnErr, IsErrOf, vec_len, replicate, ◌++◌};
+ghost use Rattle.std.specs.Io.KnownBytes.{Consumes, Keeps, IsAtEnd};
+ghost use Rattle.hdt_wire.specs.Counted.{inner, failures};
+ghost use Rattle.hdt_terms.specs.Filling.{ReadOnce};
+ghost use Rattle.hdt_terms.specs.declared.fault.LineReason.TheVariants.{Read};
+
+use crate::fault::LineReason;
+use hdt_wire::{Counted, Failed};
+use std::alloc::{AllocError, Global};
+use std::io::Read;
+use std::marker::Model;
+
+/// How many bytes are asked of the reader at once.
+const PIECE: usize = 65536;
+
+/// Bytes that are held: those of one vector from `start` to `end`. Contracts see them alone.
+#[derive(Drop)]
+pub struct Buffer {
+    bytes: Vec<u8>,
+    start: usize,
+    end: usize,
+}
+
+impl Model for Buffer {
+    ghost Value = { List ℕ };
+
+    ghost view = { λ b. take (b.end - b.start) (drop b.start b.bytes.items) };
+
+    ghost invariant = { λ b. (b.start ≤ b.end) × (b.end ≤ vec_len b.bytes) × (0 < vec_len b.bytes) };
+}
+
+/// Moves the bytes from `start` to `end` to the front.
+fn move_front(bytes: &mut Vec<u8>, start: usize, end: usize)
+    requires order { start ≤ end }
+    requires within { end ≤ vec_len bytes.old }
+    ensures len { vec_len bytes.new ≡ vec_len bytes.old }
+    ensures front { take (end - start) bytes.new.items ≡ take (end - start) (drop start bytes.old.items) }
+{
+    bytes.copy_within(start..end, 0);
+}
+
+/// Doubles the vector.
+fn grow(bytes: &mut Vec<u8>) -> Result<(), AllocError>
+    ensures ok { OnOk result (bytes.new.items ≡ bytes.old.items ++ replicate (vec_len bytes.old) 0) }
+    ensures err { OnErr result (bytes.new.items ≡ bytes.old.items) }
+{
+    let len = bytes.len();
+    bytes.resize(2 * len, 0)
+}
+
+/// Brings the bytes from `start` to `end` to the front, with room behind them: where they fill the vector it grows.
+fn make_room(bytes: &mut Vec<u8>, start: usize, end: usize) -> Result<(), AllocError>
+    requires order { start ≤ end }
+    requires within { end ≤ vec_len bytes.old }
+    requires some { 0 < vec_len bytes.old }
+    ensures front { take (end - start) bytes.new.items ≡ take (end - start) (drop start bytes.old.items) }
+    ensures len { vec_len bytes.old ≤ vec_len bytes.new }
+    ensures ok { OnOk result (end - start < vec_len bytes.new) }
+{
+    if start > 0 {
+        move_front(bytes, start, end);
+    } else if end == bytes.len() {
+        grow(bytes)?;
+    }
+    Ok(())
+}
+
+/// Reads at most so many bytes into the vector from a place on.
+fn read_at<R: Read>(
+    bytes: &mut Vec<u8>,
+    at: usize,
+    most: usize,
+    input: &mut Counted<R>,
+) -> Result<usize, Failed>
+    requires within { at ≤ vec_len bytes.old }
+    ensures len { vec_len bytes.new ≡ vec_len bytes.old }
+    ensures front { take at bytes.new.items ≡ take at bytes.old.items }
+    ensures bound { IfOk result (λ n. (at + n ≤ vec_len bytes.new) × (n ≤ most)) }
+    ensures ok { IfOk result (λ n. Consumes (R.remaining (inner input.old)) (R.remaining (inner input.new)) (take n (drop at bytes.new.items))
+        × (n ≡ 0 → at < vec_len bytes.new → 0 < most → IsAtEnd (R.remaining (inner input.new)))) }
+    ensures err { OnErr result (Keeps (R.remaining (inner input.old)) (R.remaining (inner input.new))) }
+    ensures count { OnOk result (failures input.new ≡ failures input.old) }
+    ensures failed { OnErr result (failures input.new ≡ failures input.old + 1) }
+{
+    let to = at + most.min(bytes.len() - at);
+    input.read(&mut bytes[at..to])
+}
+
+impl Buffer {
+    /// Nothing is held.
+    pub fn new(alloc: Global) -> Result<Buffer, AllocError>
+        ensures { IfOk result (λ b. b ≡ []) }
+    {
+        Ok(Buffer {
+            bytes: vec![in alloc; 0u8; PIECE]?,
+            start: 0,
+            end: 0,
+        })
+    }
+
+    /// How many bytes are held.
+    pub fn len(&self) -> usize
+        ensures { result ≡ length self.now }
+    {
+        self.end - self.start
+    }
+
+    /// The bytes that are held.
+    pub fn as_slice(&self) -> &[u8]
+        ensures { result.now ≡ self.now }
+    {
+        &self.bytes[self.start..self.end]
+    }
+
+    /// Lets the first bytes go.
+    pub fn skip(&mut self, n: usize)
+        requires { n ≤ length self.old }
+        ensures { self.new ≡ drop n self.old }
+    {
+        self.start += n;
+    }
+
+    /// One read behind the bytes that are held, of so many bytes at most.
+    pub fn read<R: Read>(
+        &mut self,
+        most: usize,
+        input: &mut Counted<R>,
+    ) -> Result<usize, LineReason>
+        requires { 0 < most }
+        ensures does { ReadOnce result self.old self.new (R.remaining (inner input.old)) (R.remaining (inner input.new)) }
+        ensures most { IfOk result (λ n. n ≤ most) }
+        ensures count { OnOk result (failures input.new ≡ failures input.old) }
+        ensures failed { IsErrOf result Read → failures input.new ≡ failures input.old + 1 }
+    {
+        let made = make_room(&mut self.bytes, self.start, self.end);
+        self.end -= self.start;
+        self.start = 0;
+        match made {
+            Ok(()) => {}
+            Err(AllocError) => return Err(LineReason::OutOfMemory),
+        }
+        match read_at(&mut self.bytes, self.end, most, input) {
+            Ok(n) => {
+                self.end += n;
+                Ok(n)
+            }
+            Err(Failed) => Err(LineReason::Read),
+        }
+    }
+}

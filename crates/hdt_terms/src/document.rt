@@ -1,0 +1,56 @@
+//! All the triples of a document.
+ghost use Rattle.std.specs.Prelude.{◌≡◌, ◌+◌, ◌^◌, ◌<◌, ◌⊎◌, IfOk, IfErr, OnOk};
+ghost use Rattle.hdt_wire.specs.Counted.{inner, failures};
+ghost use Rattle.hdt_terms.specs.Documents.{IsDocument, FaultInDocument};
+ghost use Rattle.hdt_terms.specs.declared.fault.LineReason.TheVariants as reasons;
+
+use crate::fault::{LineFault, LineReason};
+use crate::lines::Lines;
+use crate::triple::Triple;
+use hdt_wire::Counted;
+use std::alloc::{AllocError, Global};
+use std::io::Read;
+
+/// Where memory runs out for what was read.
+const NO_MEMORY: LineFault = LineFault {
+    line: 1,
+    column: 0,
+    reason: LineReason::OutOfMemory,
+};
+
+/// The triples of the document that the reader gives, in their order, whatever its pieces are: those of all its lines
+/// (W3C RDF 1.1 N-Triples, section 2, by the profile of docs/NTRIPLES.md). It may have so many bytes at most.
+///
+/// # Errors
+///
+/// The fault that stands in the document, as [`Lines::next_triple`] answers it.
+pub fn read_document<R: Read>(
+    alloc: Global,
+    limit: u64,
+    input: &mut Counted<R>,
+) -> Result<Vec<Triple>, LineFault>
+    requires { limit < 2 ^ 63 }
+    // The input is a document, and these are its triples.
+    ensures found { IfOk result (λ triples. IsDocument limit (R.remaining (inner input.old)) triples.items) }
+    // Or this fault stands in it, unless memory ran out.
+    ensures fault { IfErr result (λ f. (f.reason ≡ reasons.OutOfMemory) ⊎ FaultInDocument f limit (R.remaining (inner input.old)) (R.remaining (inner input.new))) }
+    // The reader failed at a fault that says so, and else not.
+    ensures read { IfErr result (λ f. f.reason ≡ reasons.Read → failures input.new ≡ failures input.old + 1) }
+    ensures count { OnOk result (failures input.new ≡ failures input.old) }
+{
+    let mut lines = match Lines::new(alloc, limit) {
+        Ok(lines) => lines,
+        Err(AllocError) => return Err(NO_MEMORY),
+    };
+    let mut triples = Vec::new(alloc);
+    'triples: loop {
+        match lines.next_triple(input) {
+            Err(fault) => return Err(fault),
+            Ok(None) => return Ok(triples),
+            Ok(Some(triple)) => match triples.push(triple) {
+                Ok(()) => {}
+                Err(_) => return Err(NO_MEMORY),
+            },
+        }
+    }
+}

@@ -1,0 +1,40 @@
+//! Whether a text is UTF-8.
+ghost use Rattle.std.specs.Prelude.{◌≡◌, ◌≤◌, length, IsTrue, MatchResult};
+ghost use Rattle.std.specs.Str.{IsAscii, IsUtf8};
+ghost use Rattle.std.specs.Str.Lossy.{utf8_valid_len};
+ghost use Rattle.hdt_terms.specs.Table.{not_utf8_at};
+
+use crate::fault::{LineReason, TermFault};
+use crate::lanes::{Class, run_len};
+
+/// Whether each byte is ASCII, as in most texts.
+fn is_ascii(bytes: &[u8]) -> bool
+    ensures { IsTrue result → IsAscii bytes.now }
+{
+    run_len(Class::Ascii, bytes) == bytes.len()
+}
+
+/// The same for a text with other characters, which few have.
+#[inline(never)]
+fn check_beyond_ascii(text: &[u8]) -> Result<(), TermFault>
+    ensures { MatchResult result (λ _. IsUtf8 text.now) (λ fault. ¬ (IsUtf8 text.now) × (fault ≡ not_utf8_at (utf8_valid_len text.now))) }
+{
+    match simdutf8::compat::from_utf8(text) {
+        Ok(_) => Ok(()),
+        Err(error) => Err(TermFault {
+            column: error.valid_up_to() as u64 + 1,
+            reason: LineReason::NotUtf8,
+        }),
+    }
+}
+
+/// Refuses a text that is not UTF-8, at its first byte that is not.
+#[inline(always)]
+pub fn check_utf8(text: &[u8]) -> Result<(), TermFault>
+    ensures { MatchResult result (λ _. IsUtf8 text.now) (λ fault. ¬ (IsUtf8 text.now) × (fault ≡ not_utf8_at (utf8_valid_len text.now))) }
+{
+    if is_ascii(text) {
+        return Ok(());
+    }
+    check_beyond_ascii(text)
+}

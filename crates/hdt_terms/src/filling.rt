@@ -1,0 +1,95 @@
+//! Reading until a line is held.
+ghost use Rattle.std.specs.Prelude.{◌≡◌, ◌+◌, ◌≤◌, take, length, OnOk, IsErrOf};
+ghost use Rattle.hdt_wire.specs.Counted.{inner, failures};
+ghost use Rattle.hdt_terms.specs.Filling.{FoundEnd, ReadMore, Filled};
+ghost use Rattle.hdt_terms.specs.Lines.{NoEnd};
+ghost use Rattle.hdt_terms.specs.declared.fault.LineReason.TheVariants.{Read};
+
+use crate::buffer::Buffer;
+use crate::fault::LineReason;
+use crate::lanes::{Class, run_len};
+use hdt_wire::{Counted, Failed};
+use std::io::Read;
+
+/// The place of the first line end, where none stands before `from`.
+fn line_end(bytes: &[u8], from: usize) -> Option<usize>
+    requires within { from ≤ length bytes.now }
+    requires none { NoEnd (take from bytes.now) }
+    ensures { FoundEnd bytes.now result }
+{
+    let place = from + run_len(Class::Text, &bytes[from..]);
+    if place < bytes.len() {
+        Some(place)
+    } else {
+        None
+    }
+}
+
+/// One read of bytes that may be so many at most: whether there are more. One byte past the most is asked for, to see
+/// whether the input ends there.
+fn read_more<R: Read>(
+    held: &mut Buffer,
+    most: usize,
+    input: &mut Counted<R>,
+) -> Result<bool, LineReason>
+    requires { length held.old ≤ most }
+    ensures does { ReadMore result held.old held.new (R.remaining (inner input.old)) (R.remaining (inner input.new)) most }
+    ensures count { OnOk result (failures input.new ≡ failures input.old) }
+    ensures failed { IsErrOf result Read → failures input.new ≡ failures input.old + 1 }
+{
+    if held.len() == most {
+        let mut past = [0u8; 1];
+        return match input.read(&mut past) {
+            Ok(0) => Ok(false),
+            Ok(_) => Err(LineReason::TooLong),
+            Err(Failed) => Err(LineReason::Read),
+        };
+    }
+    match held.read(most - held.len(), input) {
+        Ok(n) => Ok(n > 0),
+        Err(reason) => Err(reason),
+    }
+}
+
+/// Reads until a line end is held, where none is, or the reader has ended: how many bytes the text of the first line
+/// has.
+fn fill<R: Read>(
+    held: &mut Buffer,
+    most: usize,
+    input: &mut Counted<R>,
+) -> Result<usize, LineReason>
+    requires no_end { NoEnd held.old }
+    requires room { length held.old ≤ most }
+    ensures does { Filled result held.old held.new (R.remaining (inner input.old)) (R.remaining (inner input.new)) most }
+    ensures count { OnOk result (failures input.new ≡ failures input.old) }
+    ensures failed { IsErrOf result Read → failures input.new ≡ failures input.old + 1 }
+{
+    'fill: loop {
+        let searched = held.len();
+        match read_more(held, most, input) {
+            Ok(true) => {}
+            Ok(false) => return Ok(searched),
+            Err(reason) => return Err(reason),
+        }
+        if let Some(place) = line_end(held.as_slice(), searched) {
+            return Ok(place);
+        }
+    }
+}
+
+/// How many bytes the text of the first line has, which is held or read.
+pub fn first_line<R: Read>(
+    held: &mut Buffer,
+    most: usize,
+    input: &mut Counted<R>,
+) -> Result<usize, LineReason>
+    requires room { length held.old ≤ most }
+    ensures does { Filled result held.old held.new (R.remaining (inner input.old)) (R.remaining (inner input.new)) most }
+    ensures count { OnOk result (failures input.new ≡ failures input.old) }
+    ensures failed { IsErrOf result Read → failures input.new ≡ failures input.old + 1 }
+{
+    if let Some(place) = line_end(held.as_slice(), 0) {
+        return Ok(place);
+    }
+    fill(held, most, input)
+}

@@ -1,0 +1,150 @@
+//! How many bytes from the first on are of one class, 16 at a time.
+ghost use Rattle.std.specs.Prelude.{◌≡◌, ◌+◌, ◌<◌, ◌≤◌, false, length, slice_index};
+ghost use Rattle.hdt_terms.specs.declared.pieces.Token.TheVariants.{Iri, Quoted};
+ghost use Rattle.hdt_terms.specs.declared.lanes.Class.TheVariants.{Inside, Ascii, Text};
+ghost use Rattle.hdt_terms.specs.Chars.{is_end};
+ghost use Rattle.hdt_terms.specs.Lanes.{IsRun, PassBetween, first_set, passes};
+
+use crate::chars::is_end;
+use crate::pieces::{Token, is_raw};
+use std::simd::prelude::*;
+
+/// A class of bytes.
+#[derive(Clone, Copy)]
+pub enum Class {
+    /// Those that stand in the token as they are.
+    Inside(Token),
+    /// Those below 128.
+    Ascii,
+    /// Those that end no line.
+    Text,
+}
+
+/// The bytes of one load.
+const LANES: usize = 16;
+
+/// The place of the lowest bit that is set, or the number of lanes.
+#[inline(always)]
+fn first_set(mask: u64) -> usize
+    ensures { result ≡ first_set mask LANES }
+{
+    if mask == 0 {
+        LANES
+    } else {
+        mask.trailing_zeros() as usize
+    }
+}
+
+/// How many bytes from here on an IRI may hold as they are: `<` and `>` differ in one bit, as `\` and `^` do.
+#[inline(always)]
+fn iri_run(bytes: &[u8], at: usize) -> usize
+    requires { at + LANES ≤ length bytes.now }
+    ensures { IsRun (passes (Inside Iri)) bytes.now at LANES result }
+{
+    let v = u8x16::from_slice(&bytes[at..]);
+    let paired = v & u8x16::splat(0xFD);
+    let stops = v.simd_lt(u8x16::splat(b'!'))
+        | paired.simd_eq(u8x16::splat(b'<'))
+        | paired.simd_eq(u8x16::splat(b'\\'))
+        | (v - u8x16::splat(b'{')).simd_lt(u8x16::splat(3))
+        | v.simd_eq(u8x16::splat(b'"'))
+        | v.simd_eq(u8x16::splat(b'`'));
+    first_set(stops.to_bitmask())
+}
+
+/// How many bytes from here on a string may hold as they are.
+#[inline(always)]
+fn string_run(bytes: &[u8], at: usize) -> usize
+    requires { at + LANES ≤ length bytes.now }
+    ensures { IsRun (passes (Inside Quoted)) bytes.now at LANES result }
+{
+    let v = u8x16::from_slice(&bytes[at..]);
+    let stops = v.simd_eq(u8x16::splat(b'"'))
+        | v.simd_eq(u8x16::splat(b'\\'))
+        | v.simd_eq(u8x16::splat(b'\n'))
+        | v.simd_eq(u8x16::splat(b'\r'))
+        | v.simd_eq(u8x16::splat(0));
+    first_set(stops.to_bitmask())
+}
+
+/// How many bytes from here on are ASCII.
+#[inline(always)]
+fn ascii_run(bytes: &[u8], at: usize) -> usize
+    requires { at + LANES ≤ length bytes.now }
+    ensures { IsRun (passes Ascii) bytes.now at LANES result }
+{
+    let stops = u8x16::from_slice(&bytes[at..]).simd_ge(u8x16::splat(0x80));
+    first_set(stops.to_bitmask())
+}
+
+/// How many bytes from here on end no line.
+#[inline(always)]
+fn text_run(bytes: &[u8], at: usize) -> usize
+    requires { at + LANES ≤ length bytes.now }
+    ensures { IsRun (passes Text) bytes.now at LANES result }
+{
+    let v = u8x16::from_slice(&bytes[at..]);
+    let stops = v.simd_eq(u8x16::splat(b'\n')) | v.simd_eq(u8x16::splat(b'\r'));
+    first_set(stops.to_bitmask())
+}
+
+/// How many bytes from here on are of the class.
+#[inline(always)]
+fn load_run(class: Class, bytes: &[u8], at: usize) -> usize
+    requires { at + LANES ≤ length bytes.now }
+    ensures { IsRun (passes class) bytes.now at LANES result }
+{
+    match class {
+        Class::Inside(Token::Iri) => iri_run(bytes, at),
+        Class::Inside(Token::Quoted) => string_run(bytes, at),
+        Class::Ascii => ascii_run(bytes, at),
+        Class::Text => text_run(bytes, at),
+    }
+}
+
+/// Whether the byte is of the class.
+fn passes(class: Class, byte: u8) -> bool
+    ensures { result ≡ passes class byte }
+{
+    match class {
+        Class::Inside(token) => is_raw(token, byte),
+        Class::Ascii => byte.is_ascii(),
+        Class::Text => !is_end(byte),
+    }
+}
+
+/// How many bytes at the front of a short text are of the class, byte by byte.
+fn short_run(class: Class, bytes: &[u8]) -> usize
+    ensures within { result ≤ length bytes.now }
+    ensures run { PassBetween (passes class) bytes.now 0 result }
+    ensures longest { result < length bytes.now → passes class (slice_index bytes.now result) ≡ false }
+{
+    bytes
+        .iter()
+        .position(|byte| !passes(class, *byte))
+        .unwrap_or(bytes.len())
+}
+
+/// How many bytes at the front are of the class: the longest run of them.
+#[inline(always)]
+pub fn run_len(class: Class, bytes: &[u8]) -> usize
+    ensures within { result ≤ length bytes.now }
+    ensures run { PassBetween (passes class) bytes.now 0 result }
+    ensures longest { result < length bytes.now → passes class (slice_index bytes.now result) ≡ false }
+{
+    let len = bytes.len();
+    if len < LANES {
+        return short_run(class, bytes);
+    }
+    let mut at = 0;
+    'loads: while len - at > LANES {
+        let run = load_run(class, bytes, at);
+        if run < LANES {
+            return at + run;
+        }
+        // By a constant, so that the next load need not wait for this one's run.
+        at += LANES;
+    }
+    // The last load may overlap the one before.
+    len - LANES + load_run(class, bytes, len - LANES)
+}

@@ -1,0 +1,174 @@
+//! Reading one line.
+ghost use Rattle.std.specs.Prelude.{◌≡◌, [], ◌<◌, ◌^◌, length, IfOk, IsUtf8};
+ghost use Rattle.hdt_terms.specs.Appending.{Appends};
+ghost use Rattle.hdt_terms.specs.Faults.{Answers};
+ghost use Rattle.hdt_terms.specs.LineReading.{begins, role_here, role_at, is_comment, is_bare, closed_at, triple_at, triple_in, Fills, Holds};
+ghost use Rattle.hdt_terms.specs.Reading.{Gives};
+ghost use Rattle.hdt_terms.specs.Terms.{str};
+
+use crate::dictionary::append_term;
+use crate::fault::{LineReason, ReadError, TermFault, fault_of, refuse};
+use crate::literal::after_blanks;
+use crate::parse::read_term;
+use crate::term::Term;
+use crate::triple::Triple;
+use std::alloc::Global;
+
+/// What a term is in a triple.
+#[derive(Clone, Copy)]
+pub enum Role {
+    Subject,
+    Predicate,
+    Object,
+}
+
+/// Whether a term of the role may begin with this byte.
+fn begins(role: Role, first: u8) -> bool
+    ensures { result ≡ begins role first }
+{
+    match role {
+        Role::Subject => first == b'<' || first == b'_',
+        Role::Predicate => first == b'<',
+        Role::Object => true,
+    }
+}
+
+/// Nothing, or a comment.
+fn is_comment(bytes: &[u8]) -> bool
+    ensures { result ≡ is_comment bytes.now }
+{
+    match bytes.split_first() {
+        None => true,
+        Some((first, _)) => *first == b'#',
+    }
+}
+
+/// Tabs and spaces, and then nothing or a comment.
+#[tactic(auto, unfolding(crate::specs::LineReading::is_bare))]
+pub fn is_bare(text: &[u8]) -> bool
+    ensures { result ≡ is_bare text.now }
+{
+    is_comment(after_blanks(text))
+}
+
+/// The full stop behind tabs and spaces, and then nothing or a comment.
+#[tactic(auto, unfolding(crate::specs::LineReading::closed_at))]
+fn read_end(bytes: &[u8]) -> Result<(), ReadError>
+    ensures { Gives (λ _. tt) result (closed_at bytes.now) }
+{
+    let bytes = after_blanks(bytes);
+    let [b'.', behind @ ..] = bytes else {
+        return refuse(LineReason::Syntax, bytes.len());
+    };
+    let behind = after_blanks(behind);
+    if !is_comment(behind) {
+        return refuse(LineReason::Syntax, behind.len());
+    }
+    Ok(())
+}
+
+/// The term of the role that begins here, and the bytes after it.
+#[tactic(auto, unfolding(crate::specs::LineReading::role_here))]
+fn read_here(alloc: Global, role: Role, bytes: &[u8]) -> Result<(Term, &[u8]), ReadError>
+    requires { IsUtf8 bytes.now }
+    ensures reads { Gives (λ x. (x.0, x.1.now)) result (role_here role bytes.now) }
+    ensures utf8 { IfOk result (λ x. IsUtf8 x.1.now) }
+{
+    match bytes.split_first() {
+        Some((first, _)) if begins(role, *first) => read_term(alloc, bytes),
+        _ => refuse(LineReason::Syntax, bytes.len()),
+    }
+}
+
+/// The term of the role behind tabs and spaces, and the bytes after it.
+#[tactic(auto, unfolding(crate::specs::LineReading::role_at))]
+fn read_role(alloc: Global, role: Role, bytes: &[u8]) -> Result<(Term, &[u8]), ReadError>
+    requires { IsUtf8 bytes.now }
+    ensures reads { Gives (λ x. (x.0, x.1.now)) result (role_at role bytes.now) }
+    ensures utf8 { IfOk result (λ x. IsUtf8 x.1.now) }
+{
+    read_here(alloc, role, after_blanks(bytes))
+}
+
+/// Appends the string of the term of the role that begins here, and answers the bytes after it.
+#[tactic(auto, unfolding(crate::specs::LineReading::role_here))]
+fn append_here<'a>(role: Role, bytes: &'a [u8], out: &mut Vec<u8>) -> Result<&'a [u8], ReadError>
+    requires { IsUtf8 bytes.now }
+    ensures reads { Appends str out.old.items out.new.items (λ rest. rest.now) result (role_here role bytes.now) }
+    ensures utf8 { IfOk result (λ rest. IsUtf8 rest.now) }
+{
+    match bytes.split_first() {
+        Some((first, _)) if begins(role, *first) => append_term(bytes, out),
+        _ => refuse(LineReason::Syntax, bytes.len()),
+    }
+}
+
+/// Puts the string of the term of the role behind tabs and spaces into the buffer, and answers the bytes after it.
+#[tactic(auto, unfolding(crate::specs::LineReading::role_at))]
+fn put_role<'a>(role: Role, bytes: &'a [u8], out: &mut Vec<u8>) -> Result<&'a [u8], ReadError>
+    requires { IsUtf8 bytes.now }
+    ensures reads { Appends str [] out.new.items (λ rest. rest.now) result (role_at role bytes.now) }
+    ensures utf8 { IfOk result (λ rest. IsUtf8 rest.now) }
+{
+    out.clear();
+    append_here(role, after_blanks(bytes), out)
+}
+
+/// The triple of a line.
+#[tactic(auto, unfolding(crate::specs::LineReading::triple_at))]
+fn read_terms(alloc: Global, text: &[u8]) -> Result<Triple, ReadError>
+    requires { IsUtf8 text.now }
+    ensures { Gives (λ triple. triple) result (triple_at text.now) }
+{
+    let (s, rest) = read_role(alloc, Role::Subject, text)?;
+    let (p, rest) = read_role(alloc, Role::Predicate, rest)?;
+    let (o, rest) = read_role(alloc, Role::Object, rest)?;
+    read_end(rest)?;
+    Ok(Triple { s, p, o })
+}
+
+/// Puts the strings of the triple of a line into the buffers.
+#[tactic(auto, unfolding(crate::specs::LineReading::triple_at))]
+fn put_strings(
+    text: &[u8],
+    s: &mut Vec<u8>,
+    p: &mut Vec<u8>,
+    o: &mut Vec<u8>,
+) -> Result<(), ReadError>
+    requires { IsUtf8 text.now }
+    ensures { Fills s.new.items p.new.items o.new.items result (triple_at text.now) }
+{
+    let rest = put_role(Role::Subject, text, s)?;
+    let rest = put_role(Role::Predicate, rest, p)?;
+    let rest = put_role(Role::Object, rest, o)?;
+    read_end(rest)
+}
+
+/// The triple of a line, or the fault that stands in it.
+#[tactic(auto, unfolding(crate::specs::LineReading::triple_in))]
+pub fn read_triple(alloc: Global, text: &[u8]) -> Result<Triple, TermFault>
+    requires { IsUtf8 text.now }
+    ensures { Answers result (triple_in text.now) }
+{
+    match read_terms(alloc, text) {
+        Ok(triple) => Ok(triple),
+        Err(error) => Err(fault_of(text.len(), error)),
+    }
+}
+
+/// Puts the strings of the triple of a line into the buffers, or answers the fault that stands in the line.
+#[tactic(auto, unfolding(crate::specs::LineReading::triple_in))]
+pub fn put_triple(
+    text: &[u8],
+    s: &mut Vec<u8>,
+    p: &mut Vec<u8>,
+    o: &mut Vec<u8>,
+) -> Result<(), TermFault>
+    requires { IsUtf8 text.now }
+    ensures { Holds s.new.items p.new.items o.new.items result (triple_in text.now) }
+{
+    match put_strings(text, s, p, o) {
+        Ok(()) => Ok(()),
+        Err(error) => Err(fault_of(text.len(), error)),
+    }
+}

@@ -1,0 +1,394 @@
+//! The lines of a document, over any reader in any pieces.
+ghost use Rattle.std.specs.Prelude.{◌≡◌, ◌+◌, ◌-◌, ◌==◌, ◌&&◌, if◌then◌else◌, take, slice_index, nat_lt, ◌^◌, ◌<◌, ◌≤◌, true, false, [], length, IfOk, OnOk, OnErr, IfErr, IsErrOf, IsUtf8, None, Some, Ok, Err, IfSome};
+ghost use Rattle.hdt_wire.specs.Counted.{inner, failures};
+ghost use Rattle.hdt_terms.specs.Chars.{is_end};
+ghost use Rattle.hdt_terms.specs.Filling.{Filled};
+ghost use Rattle.hdt_terms.specs.Lines.{NoEnd};
+ghost use Rattle.hdt_terms.specs.declared.fault.LineReason.TheVariants.{Read};
+
+use crate::buffer::Buffer;
+use crate::encoding::check_utf8;
+use crate::fault::{LineFault, LineReason, TermFault};
+use crate::filling::first_line;
+use crate::line::{is_bare, put_triple, read_triple};
+use crate::triple::Triple;
+use hdt_wire::Counted;
+use std::alloc::{AllocError, Global};
+use std::io::Read;
+use std::marker::Model;
+
+/// How many line ends a line with its end adds: none where the end is a line feed behind the carriage return before.
+fn line_ends_of(after_cr: bool, n: usize, end: u8) -> u64
+    ensures value { result ≡ (if after_cr && n == 0 && end == 10 then 0 else 1) }
+    ensures bound { result ≤ 1 }
+{
+    if after_cr && n == 0 && end == b'\n' {
+        0
+    } else {
+        1
+    }
+}
+
+/// Whether the byte before is still the last one after n bytes, none of which is a carriage return.
+fn keeps_cr(after_cr: bool, n: usize) -> bool
+    ensures { result ≡ (after_cr && n == 0) }
+{
+    after_cr && n == 0
+}
+
+/// The triples of a document, line by line, over any reader in any pieces (W3C RDF 1.1 N-Triples, by the profile of
+/// docs/NTRIPLES.md).
+///
+/// It holds one buffer, of 64 KiB at first, which grows where a line is longer. Reading a document takes time in
+/// proportion to its bytes, and memory in proportion to its longest line.
+///
+/// ```
+/// let mut lines = Lines::new(alloc, limit)?;
+/// while let Some(triple) = lines.next_triple(&mut input)? {
+///     ..
+/// }
+/// ```
+#[derive(Drop)]
+pub struct Lines {
+    alloc: Global,
+    held: Buffer,
+    limit: u64,
+    taken: u64,
+    ends: u64,
+    after_cr: bool,
+    ended: bool,
+    failed: Option<LineFault>,
+}
+
+impl Model for Lines {
+    ghost use Rattle.std.specs.Prelude.{◌+◌, ◌^◌, ◌<◌, ◌≤◌, length};
+    ghost use Rattle.hdt_terms.specs.Taking.{State};
+
+    ghost Value = { State };
+
+    ghost view = { λ s. record { held = s.held; taken = s.taken; ends = s.ends; after_cr = s.after_cr; limit = s.limit; ended = s.ended; failed = s.failed } };
+
+    ghost invariant = { λ s. (s.taken + length s.held ≤ s.limit) × (s.limit < 2 ^ 63) × (s.ends ≤ s.taken) };
+}
+
+impl Lines {
+    ghost use Rattle.std.specs.Prelude.{List, ℕ};
+    ghost use Rattle.hdt_terms.specs.LineReading.{is_bare};
+    ghost use Rattle.hdt_terms.specs.Taking.{State, start, left, take_of, take_line, Looked, Parsed, ParsedStrings, Ready, Finds, Answers, AnswersStrings, NoStrings};
+
+    /// A reader of lines that has taken nothing. The input may have so many bytes at most: where it has more,
+    /// [`LineReason::TooLong`] stands behind the lines that are whole within the limit.
+    pub fn new(alloc: Global, limit: u64) -> Result<Lines, AllocError>
+        requires { limit < 2 ^ 63 }
+        ensures { IfOk result (λ s. s ≡ start limit) }
+    {
+        Ok(Lines {
+            alloc,
+            held: Buffer::new(alloc)?,
+            limit,
+            taken: 0,
+            ends: 0,
+            after_cr: false,
+            ended: false,
+            failed: None,
+        })
+    }
+
+    /// Whether the last line was taken.
+    fn has_ended(&self) -> bool
+        ensures { result ≡ self.now.ended }
+    {
+        self.ended
+    }
+
+    /// Reads until the text of the next line is held, and answers how many bytes it has.
+    fn hold_line<R: Read>(&mut self, input: &mut Counted<R>) -> Result<usize, LineReason>
+        ensures does { Filled result self.old.held self.new.held (R.remaining (inner input.old)) (R.remaining (inner input.new))
+            (self.old.limit - self.old.taken) }
+        ensures others { self.new ≡ record self.old { held = self.new.held } }
+        ensures within { self.old.taken + length self.new.held ≤ self.old.limit }
+        ensures room { self.old.taken ≤ self.old.limit }
+        ensures count { OnOk result (failures input.new ≡ failures input.old) }
+        ensures failed { IsErrOf result Read → failures input.new ≡ failures input.old + 1 }
+    {
+        let most = (self.limit - self.taken) as usize;
+        first_line(&mut self.held, most, input)
+    }
+
+    /// A fault of the line in work.
+    fn fault(&self, column: u64, reason: LineReason) -> LineFault
+        ensures { result ≡ record { line = self.now.ends + 1; column = column; reason = reason } }
+    {
+        LineFault {
+            line: self.ends + 1,
+            column,
+            reason,
+        }
+    }
+
+    /// The fault is the answer from now on.
+    fn fail(&mut self, fault: LineFault)
+        ensures { self.new ≡ record self.old { failed = Some fault } }
+    {
+        self.failed = Some(fault);
+    }
+
+    /// Whether the line of n bytes at the front is bare; refuses one that is not UTF-8.
+    fn look(&self, n: usize) -> Result<bool, LineFault>
+        requires within { n ≤ length self.now.held }
+        requires text { NoEnd (take n self.now.held) }
+        ensures { Looked result self.now (take n self.now.held) }
+    {
+        let text = &self.held.as_slice()[..n];
+        match check_utf8(text) {
+            Ok(()) => Ok(is_bare(text)),
+            Err(TermFault { column, reason }) => Err(self.fault(column, reason)),
+        }
+    }
+
+    /// The triple of the line of n bytes at the front.
+    fn parse(&self, n: usize) -> Result<Triple, LineFault>
+        requires within { n ≤ length self.now.held }
+        requires utf8 { IsUtf8 (take n self.now.held) }
+        ensures { Parsed result self.now (take n self.now.held) }
+    {
+        match read_triple(self.alloc, &self.held.as_slice()[..n]) {
+            Ok(triple) => Ok(triple),
+            Err(TermFault { column, reason }) => Err(self.fault(column, reason)),
+        }
+    }
+
+    /// The same in strings.
+    fn parse_strings(
+        &self,
+        n: usize,
+        s: &mut Vec<u8>,
+        p: &mut Vec<u8>,
+        o: &mut Vec<u8>,
+    ) -> Result<(), LineFault>
+        requires within { n ≤ length self.now.held }
+        requires utf8 { IsUtf8 (take n self.now.held) }
+        ensures { ParsedStrings result s.new.items p.new.items o.new.items self.now (take n self.now.held) }
+    {
+        match put_triple(&self.held.as_slice()[..n], s, p, o) {
+            Ok(()) => Ok(()),
+            Err(TermFault { column, reason }) => Err(self.fault(column, reason)),
+        }
+    }
+
+    /// Takes the line of n bytes at the front: with its end, or without one where the input has ended.
+    fn take(&mut self, n: usize)
+        requires within { n ≤ length self.old.held }
+        requires text { NoEnd (take n self.old.held) }
+        requires end { n < length self.old.held → is_end (slice_index self.old.held n) ≡ true }
+        ensures { self.new ≡ take_line self.old n }
+    {
+        if n < self.held.len() {
+            self.take_ended(n);
+        } else {
+            self.take_last();
+        }
+    }
+
+    /// Takes the line of n bytes at the front, and its end.
+    fn take_ended(&mut self, n: usize)
+        requires within { n < length self.old.held }
+        requires text { NoEnd (take n self.old.held) }
+        requires end { is_end (slice_index self.old.held n) ≡ true }
+        ensures { self.new ≡ take_of self.old (n + 1) }
+    {
+        let end = self.held.as_slice()[n];
+        let more = line_ends_of(self.after_cr, n, end);
+        self.ends += more;
+        self.after_cr = end == b'\r';
+        self.held.skip(n + 1);
+        self.taken += n as u64 + 1;
+    }
+
+    /// Takes the last line, which has no end.
+    fn take_last(&mut self)
+        requires text { NoEnd self.old.held }
+        ensures { self.new ≡ record (take_of self.old (length self.old.held)) { ended = true } }
+    {
+        let n = self.held.len();
+        self.after_cr = keeps_cr(self.after_cr, n);
+        self.held.skip(n);
+        self.taken += n as u64;
+        self.ended = true;
+    }
+
+    /// Takes lines without a triple, and answers how many bytes the text of the next line has; `None` at the end.
+    fn find_line<R: Read>(&mut self, input: &mut Counted<R>) -> Result<Option<usize>, LineFault>
+        requires { self.old.ended ≡ false }
+        ensures does { Finds result self.old self.new (left self.old (R.remaining (inner input.old)))
+            (left self.new (R.remaining (inner input.new))) (R.remaining (inner input.new)) }
+        ensures count { OnOk result (failures input.new ≡ failures input.old) }
+        ensures failed { IfErr result (λ f. f.reason ≡ Read → failures input.new ≡ failures input.old + 1) }
+    {
+        // What holds of every reader of lines is known from here on.
+        let _ = &self.alloc;
+        'lines: loop {
+            let n = match self.hold_line(input) {
+                Ok(n) => n,
+                Err(reason) => return Err(self.fault(0, reason)),
+            };
+            match self.look(n) {
+                Ok(true) => {}
+                Ok(false) => return Ok(Some(n)),
+                Err(fault) => return Err(fault),
+            }
+            self.take(n);
+            if self.has_ended() {
+                return Ok(None);
+            }
+        }
+    }
+
+    /// Takes the next line with a triple, and what stands before it.
+    fn take_triple<R: Read>(&mut self, input: &mut Counted<R>) -> Result<Option<Triple>, LineFault>
+        requires { self.old.ended ≡ false }
+        ensures does { Answers result self.old self.new (left self.old (R.remaining (inner input.old)))
+            (left self.new (R.remaining (inner input.new))) (R.remaining (inner input.new)) }
+        ensures count { OnOk result (failures input.new ≡ failures input.old) }
+        ensures failed { IfErr result (λ f. f.reason ≡ Read → failures input.new ≡ failures input.old + 1) }
+    {
+        match self.find_line(input) {
+            Err(fault) => Err(fault),
+            Ok(None) => Ok(None),
+            Ok(Some(n)) => match self.parse(n) {
+                Err(fault) => Err(fault),
+                Ok(triple) => {
+                    self.take(n);
+                    Ok(Some(triple))
+                }
+            },
+        }
+    }
+
+    /// The same in strings.
+    fn take_strings<R: Read>(
+        &mut self,
+        input: &mut Counted<R>,
+        s: &mut Vec<u8>,
+        p: &mut Vec<u8>,
+        o: &mut Vec<u8>,
+    ) -> Result<bool, LineFault>
+        requires { self.old.ended ≡ false }
+        ensures does { AnswersStrings result s.new.items p.new.items o.new.items self.old self.new (left self.old (R.remaining (inner input.old)))
+            (left self.new (R.remaining (inner input.new))) (R.remaining (inner input.new)) }
+        ensures count { OnOk result (failures input.new ≡ failures input.old) }
+        ensures failed { IfErr result (λ f. f.reason ≡ Read → failures input.new ≡ failures input.old + 1) }
+    {
+        match self.find_line(input) {
+            Err(fault) => Err(fault),
+            Ok(None) => Ok(false),
+            Ok(Some(n)) => match self.parse_strings(n, s, p, o) {
+                Err(fault) => Err(fault),
+                Ok(()) => {
+                    self.take(n);
+                    Ok(true)
+                }
+            },
+        }
+    }
+
+    /// The next triple, or `None` at the end of the input, and at each call after it. The pieces that the reader gives
+    /// make no difference.
+    ///
+    /// # Errors
+    ///
+    /// The fault of the next line that is none, or that can't be read; the lines before it are answered first. It is
+    /// answered again by every later call, and nothing more is read. [`LineReason::Read`] comes where the reader failed
+    /// in this call, [`LineReason::OutOfMemory`] only where memory was refused.
+    pub fn next_triple<R: Read>(
+        &mut self,
+        input: &mut Counted<R>,
+    ) -> Result<Option<Triple>, LineFault>
+        // A fault is answered again, and nothing is read or taken.
+        ensures repeated { IfSome self.old.failed (λ f. (result ≡ Err f) × (self.new ≡ self.old) × (input.new ≡ input.old)) }
+        // So is the end.
+        ensures ended { self.old.failed ≡ None → self.old.ended ≡ true →
+            (result ≡ Ok None) × (self.new ≡ self.old) × (input.new ≡ input.old) }
+        // Until then the answer is that of what is left of the input.
+        ensures answers { self.old.failed ≡ None → self.old.ended ≡ false →
+            Answers result self.old self.new (left self.old (R.remaining (inner input.old)))
+            (left self.new (R.remaining (inner input.new))) (R.remaining (inner input.new)) }
+        ensures fault { IfErr result (λ f. self.new.failed ≡ Some f) }
+        // The reader failed in this call at a fault that says so, and at no triple.
+        ensures read { self.old.failed ≡ None → IfErr result (λ f. f.reason ≡ Read → failures input.new ≡ failures input.old + 1) }
+        ensures count { OnOk result (failures input.new ≡ failures input.old) }
+    {
+        if let Some(fault) = self.failed {
+            return Err(fault);
+        }
+        if self.ended {
+            return Ok(None);
+        }
+        match self.take_triple(input) {
+            Ok(found) => Ok(found),
+            Err(fault) => {
+                self.fail(fault);
+                Err(fault)
+            }
+        }
+    }
+
+    /// Whether there is a next triple. The dictionary strings of its subject, predicate and object, which
+    /// [`crate::term_string`] gives of its terms, then stand in the three buffers, and nothing else; where there is none the
+    /// buffers are empty. No term is made: once the buffers have grown, a call allocates nothing.
+    ///
+    /// # Errors
+    ///
+    /// As [`Lines::next_triple`].
+    pub fn next_strings<R: Read>(
+        &mut self,
+        input: &mut Counted<R>,
+        s: &mut Vec<u8>,
+        p: &mut Vec<u8>,
+        o: &mut Vec<u8>,
+    ) -> Result<bool, LineFault>
+        // A fault is answered again, and nothing is read or taken.
+        ensures repeated { IfSome self.old.failed (λ f. (result ≡ Err f) × (self.new ≡ self.old) × (input.new ≡ input.old)) }
+        // So is the end.
+        ensures ended { self.old.failed ≡ None → self.old.ended ≡ true →
+            (result ≡ Ok false) × (self.new ≡ self.old) × (input.new ≡ input.old) }
+        // Until then the answer is that of what is left of the input.
+        ensures answers { self.old.failed ≡ None → self.old.ended ≡ false →
+            AnswersStrings result s.new.items p.new.items o.new.items self.old self.new (left self.old (R.remaining (inner input.old)))
+            (left self.new (R.remaining (inner input.new))) (R.remaining (inner input.new)) }
+        ensures none { NoStrings result s.new.items p.new.items o.new.items }
+        ensures fault { IfErr result (λ f. self.new.failed ≡ Some f) }
+        // The reader failed in this call at a fault that says so, and at no triple.
+        ensures read { self.old.failed ≡ None → IfErr result (λ f. f.reason ≡ Read → failures input.new ≡ failures input.old + 1) }
+        ensures count { OnOk result (failures input.new ≡ failures input.old) }
+    {
+        clear_all(s, p, o);
+        if let Some(fault) = self.failed {
+            return Err(fault);
+        }
+        if self.ended {
+            return Ok(false);
+        }
+        match self.take_strings(input, s, p, o) {
+            Ok(true) => Ok(true),
+            Ok(false) => {
+                clear_all(s, p, o);
+                Ok(false)
+            }
+            Err(fault) => {
+                clear_all(s, p, o);
+                self.fail(fault);
+                Err(fault)
+            }
+        }
+    }
+}
+
+/// Empties the buffers.
+fn clear_all(s: &mut Vec<u8>, p: &mut Vec<u8>, o: &mut Vec<u8>)
+    ensures { (s.new.items ≡ []) × (p.new.items ≡ []) × (o.new.items ≡ []) }
+{
+    s.clear();
+    p.clear();
+    o.clear();
+}

@@ -1,0 +1,174 @@
+-- What the entries of a command state, and what lacks where they state nothing.
+use Rattle.std.proofs.Common.{◌≡◌, ℕ, Bool, true, false, List, Option, None, Some, codes, refl, sym, ap, subst, rules, inl, inr, ◌⊎◌, ◌∙◌}
+use Rattle.std.specs.Prelude.{◌≢◌, IsSome, IsSomeAnd, MatchOption}
+use Rattle.std.specs.declared.alloc.Global.{Global}
+use Rattle.std.specs.declared.vec.Vec.{Vec}
+use Rattle.std.specs.Str.{bytes_eq}
+use Rattle.std.proofs.lemmas.Slice.Eq.{bytes_eq-Decides}
+use Rattle.hdt_dict.specs.declared.role.Role.{Role}
+use Rattle.hdt_tool.specs.Table.{role_name}
+use Rattle.clap.specs.Words.{Row, Text, first_of, one_of}
+use Rattle.hdt_terms.specs.declared.fault.TermFault.{TermFault}
+use Rattle.hdt_terms.specs.Faults.{out_of_memory}
+use Rattle.hdt_terms.specs.Table.{FaultIn}
+use Rattle.hdt_tool.specs.declared.fault.UsageFault.{UsageFault}
+use Rattle.hdt_tool.specs.declared.fault.Word.{Word as TermWord}
+use Rattle.hdt_tool.specs.declared.fault.Word.TheVariants.{Subject, Predicate, Object}
+use Rattle.hdt_tool.specs.declared.fault.UsageFault.TheVariants.{Usage, Help, Word, OutOfMemory}
+use Rattle.hdt_tool.specs.declared.request.Action.{Action}
+use Rattle.hdt_tool.specs.declared.request.Action.TheVariants as action
+use Rattle.hdt_tool.specs.Asked.{AsksAction, ComesWithout, ComesWithoutOr, IsFaultOf, IsMisspelt, IsMisspeltPart, IsStringOf, IsUsed, IsUnused, Misspells, StatesNumber, StatesPart, StatesString, StatesWord, StatesWords, TellsTerm}
+use Rattle.hdt_tool.specs.Lines.{word_name}
+use Rattle.hdt_tool.specs.TriplesText.{Given}
+
+some_is : (a b : Text) → Some a ≡ Some b → a ≡ b
+some_is a b e = cc
+
+-- a fault of the term that a text was to spell
+pub told_term : (word : TermWord) (text : List ℕ) (raw : Bool) (fault : TermFault) (r : UsageFault) → raw ≡ false → TellsTerm word fault r → (fault ≡ out_of_memory) ⊎ FaultIn text fault
+    → ComesWithoutOr (Unit {0}) (IsFaultOf word raw text) r
+told_term word text raw fault (Help said) unused k h = absurd k
+told_term word text raw fault (Usage said) unused k h = absurd k
+told_term word text raw fault (Word other told) unused k (inl e) = absurd (k.2 (ap (λ (f : TermFault). f.reason) e))
+told_term word text raw fault (Word other told) unused k (inr f) = (k.0, unused, subst (FaultIn text) (sym k.1) f)
+told_term word text raw fault OutOfMemory unused k h = tt
+
+-- the string of a word, by the flag
+pub states : (raw entry : Option Text) (text x : List ℕ) (flag : Bool) → (IsUsed raw → flag ≡ true) → (IsUnused raw → flag ≡ false) → entry ≡ Some text
+    → IsStringOf flag text x → StatesString raw entry x
+states raw entry text x flag on off is h = subst (λ (e : Option Text). StatesString raw e x) (sym is) (λ used. h.0 (on used), λ unused. h.1 (off unused))
+
+-- what S, P or O states
+pub states_part : (raw entry : Option Text) (text : Text) (flag : Bool) (part : Option (Vec ℕ Global)) → (IsUsed raw → flag ≡ true) → (IsUnused raw → flag ≡ false) → entry ≡ Some text
+    → MatchOption part (text ≡ codes "?") (λ x. (text ≢ codes "?") × IsStringOf flag text x.items) → StatesPart raw entry part
+states_part raw entry text flag None on off is h = is ∙ ap Some h
+states_part raw entry text flag (Some x) on off is h = (λ any. h.0 (some_is _ _ (sym is ∙ any)), states raw entry text x.items flag on off is h.1)
+
+-- the fault of a word stands in its entry
+in_entry : (word : TermWord) (rows : List Row) (text : List ℕ) (flag : Bool) (other : TermWord) (fault : TermFault) → (IsUsed (one_of (codes "raw") rows) → flag ≡ true)
+    → first_of (word_name word) rows ≡ Some text → IsFaultOf word flag text other fault → IsMisspelt rows word fault
+in_entry word rows text flag other fault on is h =
+    (λ used. let bad : true ≡ false = sym (on used) ∙ h.1 in absurd cc, subst (λ (e : Option Text). IsSomeAnd e (λ t. FaultIn t fault)) (sym is) h.2)
+
+pub misspelt : (word : TermWord) (rows : List Row) (text : List ℕ) (flag : Bool) (r : UsageFault) → (IsUsed (one_of (codes "raw") rows) → flag ≡ true)
+    → first_of (word_name word) rows ≡ Some text → ComesWithoutOr (Unit {0}) (IsFaultOf word flag text) r
+    → ComesWithoutOr (IsSome (first_of (word_name word) rows)) (λ other fault. (other ≡ word) × IsMisspelt rows word fault) r
+misspelt word rows text flag (Help said) on is h = absurd h
+misspelt word rows text flag (Usage said) on is h = λ _. h tt
+misspelt word rows text flag (Word other fault) on is h = (h.0, in_entry word rows text flag other fault on is h)
+misspelt word rows text flag OutOfMemory on is h = tt
+
+pub misspelt_part : (word : TermWord) (rows : List Row) (text : List ℕ) (flag : Bool) (r : UsageFault) → (IsUsed (one_of (codes "raw") rows) → flag ≡ true)
+    → first_of (word_name word) rows ≡ Some text → ComesWithoutOr (Unit {0}) (λ other fault. (text ≢ codes "?") × IsFaultOf word flag text other fault) r
+    → ComesWithoutOr (IsSome (first_of (word_name word) rows)) (λ other fault. (other ≡ word) × IsMisspeltPart rows word fault) r
+misspelt_part word rows text flag (Help said) on is h = absurd h
+misspelt_part word rows text flag (Usage said) on is h = λ _. h tt
+misspelt_part word rows text flag (Word other fault) on is h =
+    (h.1.0, (λ any. h.0 (some_is _ _ (sym is ∙ any)), in_entry word rows text flag other fault on is h.1))
+misspelt_part word rows text flag OutOfMemory on is h = tt
+
+-- ---- what no action can be asked for without
+
+-- a fault that comes only where a fact fails, said of one that needs it
+pub without : (P W : Type 0) (r : UsageFault) → (W → P) → ComesWithout P r → ComesWithout W r
+without P W (Help said) f h = absurd h
+without P W (Usage said) f h = λ w. h (f w)
+without P W (Word word fault) f h = absurd h
+without P W OutOfMemory f h = tt
+
+-- an entry that states two texts
+pub one_text_of : (entry : Option Text) (a b : Text) → entry ≡ Some a → entry ≡ Some b → a ≡ b
+one_text_of entry a b p q = some_is a b (sym p ∙ q)
+
+pub none_of : {P : Type 0} (entry : Option Text) (a : Text) → entry ≡ None → entry ≡ Some a → P
+none_of entry a p q = let bad : None ≡ Some a = sym p ∙ q in absurd cc
+
+-- a fault that comes only where a fact fails, said of another fact that needs it
+pub without_or : (P W : Type 0) (Q : TermWord → TermFault → Type 0) (r : UsageFault) → (W → P) → ComesWithout P r → ComesWithoutOr W Q r
+without_or P W Q (Help said) f h = absurd h
+without_or P W Q (Usage said) f h = λ w. h (f w)
+without_or P W Q (Word word fault) f h = absurd h
+without_or P W Q OutOfMemory f h = tt
+
+pub or_or : (P W : Type 0) (Q Z : TermWord → TermFault → Type 0) (r : UsageFault) → (W → P) → ((word : TermWord) (fault : TermFault) → Q word fault → Z word fault) → ComesWithoutOr P Q r → ComesWithoutOr W Z r
+or_or P W Q Z (Help said) f g h = absurd h
+or_or P W Q Z (Usage said) f g h = λ w. h (f w)
+or_or P W Q Z (Word word fault) f g h = g word fault h
+or_or P W Q Z OutOfMemory f g h = tt
+
+-- two names that differ
+differ : {P : Type 0} (name a b : Text) → name ≡ a → name ≡ b → bytes_eq a b ≡ false → P
+differ name a b p q apart = let same : bytes_eq a b ≡ true = (bytes_eq-Decides a b).1 (sym p ∙ q) in let bad : true ≡ false = sym same ∙ apart in absurd cc
+
+-- `strings` asks for a role
+pub strings_need : (name : Text) (rows : List Row) → name ≡ codes "strings" → (x : Action) × AsksAction name rows x → (role : Role) × (first_of (codes "ROLE") rows ≡ Some (role_name role))
+strings_need name rows is (action.Head, h) = differ name _ _ is h refl
+strings_need name rows is (action.Verify, h) = differ name _ _ is h refl
+strings_need name rows is (action.Strings role, h) = (role, h.1)
+strings_need name rows is (action.Nth role n, h) = differ name _ _ is h.0 refl
+strings_need name rows is (action.Number role x, h) = differ name _ _ is h.0 refl
+strings_need name rows is (action.Find given numbers, inl h) = differ name _ _ is h.0 refl
+strings_need name rows is (action.Find given numbers, inr h) = differ name _ _ is h.0 refl
+
+-- `string` for a role and a number
+pub string_needs : (name : Text) (rows : List Row) → name ≡ codes "string" → (x : Action) × AsksAction name rows x
+    → ((role : Role) × (first_of (codes "ROLE") rows ≡ Some (role_name role))) × ((n : ℕ) × StatesNumber (one_of (codes "N") rows) n)
+string_needs name rows is (action.Head, h) = differ name _ _ is h refl
+string_needs name rows is (action.Verify, h) = differ name _ _ is h refl
+string_needs name rows is (action.Strings role, h) = differ name _ _ is h.0 refl
+string_needs name rows is (action.Nth role n, h) = ((role, h.1), (n, h.2))
+string_needs name rows is (action.Number role x, h) = differ name _ _ is h.0 refl
+string_needs name rows is (action.Find given numbers, inl h) = differ name _ _ is h.0 refl
+string_needs name rows is (action.Find given numbers, inr h) = differ name _ _ is h.0 refl
+
+-- TERM is there where it states a string
+states_some : (raw entry : Option Text) (x : List ℕ) → StatesString raw entry x → IsSome entry
+states_some raw None x h = absurd h
+states_some raw (Some text) x h = search rules
+
+-- `number` for a role and a string
+pub number_needs : (name : Text) (rows : List Row) → name ≡ codes "number" → (x : Action) × AsksAction name rows x
+    → ((role : Role) × (first_of (codes "ROLE") rows ≡ Some (role_name role))) × IsSome (first_of (codes "TERM") rows)
+number_needs name rows is (action.Head, h) = differ name _ _ is h refl
+number_needs name rows is (action.Verify, h) = differ name _ _ is h refl
+number_needs name rows is (action.Strings role, h) = differ name _ _ is h.0 refl
+number_needs name rows is (action.Nth role n, h) = differ name _ _ is h.0 refl
+number_needs name rows is (action.Number role x, h) = ((role, h.1), states_some _ _ x.items h.2)
+number_needs name rows is (action.Find given numbers, inl h) = differ name _ _ is h.0 refl
+number_needs name rows is (action.Find given numbers, inr h) = differ name _ _ is h.0 refl
+
+-- `find` for what S, P and O state
+find_needs : (rows : List Row) → (x : Action) × AsksAction (codes "find") rows x → (given : Given) × StatesWords rows given
+find_needs rows (action.Head, h) = differ _ _ _ refl h refl
+find_needs rows (action.Verify, h) = differ _ _ _ refl h refl
+find_needs rows (action.Strings role, h) = differ _ _ _ refl h.0 refl
+find_needs rows (action.Nth role n, h) = differ _ _ _ refl h.0 refl
+find_needs rows (action.Number role x, h) = differ _ _ _ refl h.0 refl
+find_needs rows (action.Find given numbers, inl h) = (given, h.1)
+find_needs rows (action.Find given numbers, inr h) = differ _ _ _ refl h.0 refl
+
+-- a word is there where it states a string or none
+word_some : (raw entry : Option Text) (x : Option (Vec ℕ Global)) → StatesPart raw entry x → IsSome entry
+word_some raw entry None h = subst (λ (e : Option Text). IsSome e) (sym h) (search rules)
+word_some raw entry (Some x) h = states_some raw entry x.items h.1
+
+pub subject_needed : (rows : List Row) → (x : Action) × AsksAction (codes "find") rows x → IsSome (first_of (word_name Subject) rows)
+subject_needed rows w = let k = find_needs rows w in word_some _ _ k.1.subject k.1.s
+
+pub predicate_needed : (rows : List Row) → (x : Action) × AsksAction (codes "find") rows x → IsSome (first_of (word_name Predicate) rows)
+predicate_needed rows w = let k = find_needs rows w in word_some _ _ k.1.predicate k.1.p
+
+pub object_needed : (rows : List Row) → (x : Action) × AsksAction (codes "find") rows x → IsSome (first_of (word_name Object) rows)
+object_needed rows w = let k = find_needs rows w in word_some _ _ k.1.object k.1.o
+
+-- the first of S, P and O that is not fine
+pub subject_misspelt : (rows : List Row) (word : TermWord) (fault : TermFault) → (word ≡ Subject) × IsMisspeltPart rows Subject fault → Misspells (codes "find") rows word fault
+subject_misspelt rows word fault h = subst (λ (w : TermWord). Misspells (codes "find") rows w fault) (sym h.0) (refl, h.1)
+
+pub predicate_misspelt : (rows : List Row) (s : Option (Vec ℕ Global)) → StatesWord rows Subject s → (word : TermWord) (fault : TermFault)
+    → (word ≡ Predicate) × IsMisspeltPart rows Predicate fault → Misspells (codes "find") rows word fault
+predicate_misspelt rows s first word fault h = subst (λ (w : TermWord). Misspells (codes "find") rows w fault) (sym h.0) (refl, (s, first), h.1)
+
+pub object_misspelt : (rows : List Row) (s p : Option (Vec ℕ Global)) → StatesWord rows Subject s → StatesWord rows Predicate p → (word : TermWord) (fault : TermFault)
+    → (word ≡ Object) × IsMisspeltPart rows Object fault → Misspells (codes "find") rows word fault
+object_misspelt rows s p first second word fault h = subst (λ (w : TermWord). Misspells (codes "find") rows w fault) (sym h.0) (refl, (s, first), (p, second), h.1)

@@ -1,0 +1,26 @@
+use Rattle.std.proofs.Common.{IfOk, MatchResult, sym, subst}
+use Rattle.std.proofs.lemmas.Result.{IfErr-weaker}
+use Rattle.hdt_wire.specs.Counted.{inner}
+use Rattle.hdt_tool.specs.Answer.{Begins, Reports, Stops, Tells}
+use Rattle.hdt_tool.proofs.perform.Goals as goal
+
+pub returns-clause-told : goal.returns-clause-told
+returns-clause-told g c =
+    let left = g.R.Read.remaining in
+    let action = c.args.request.now.action in
+    let after = left (inner c.run.new.input) in
+    IfErr-weaker c.run.result _ _ (λ e h. subst (λ file. IfOk file (λ input. Reports action (left input) e)) (sym c.in-Ok.is)
+    (record { after = after; tells = subst (λ input. Tells action (left input) after e) c.new-input.ensures.inner h })) c.run.ensures.told
+
+pub returns-clause-write : goal.returns-clause-write
+returns-clause-write g c =
+    let left = g.R.Read.remaining in
+    let action = c.args.request.now.action in
+    let after = left (inner c.run.new.input) in
+    let old = g.W.Write.contents (inner c.args.out.now) in
+    let new = g.W.Write.contents (inner c.run.new.out) in
+    IfErr-weaker c.run.result _ _ (λ e h n is. let w = h n is in (
+      w.0,
+      subst (λ file. MatchResult file (λ input. Stops action (left input) old new n) (λ _. ⊥)) (sym c.in-Ok.is)
+          (record { after = after; begins = subst (λ input. Begins action (left input) after old new n) c.new-input.ensures.inner w.1 }),
+    )) c.run.ensures.write

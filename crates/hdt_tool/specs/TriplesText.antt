@@ -1,0 +1,70 @@
+-- What `find` and `dump` print: the triples that have the strings that are given, or any where none is.
+use Rattle.std.specs.Prelude.{◌≡◌, ◌↔◌, ℕ, Bool, true, false, List, [], ◌∷◌, ◌++◌, Option, Some, map, option_map}
+use Rattle.std.specs.Fmt.{decimal}
+use Rattle.std.specs.List.{flat_map}
+use Rattle.std.specs.declared.alloc.Global.{Global}
+use Rattle.std.specs.declared.vec.Vec.{Vec}
+use Rattle.hdt_dict.specs.Strings.{Lent}
+use Rattle.hdt_dict.specs.declared.role.Role.{Role}
+use Rattle.hdt_triples.specs.Counting.{Triple}
+use Rattle.hdt_triples.specs.declared.pattern.Pattern.{Pattern}
+use Rattle.hdt_file.specs.Denoted.{denoted}
+use Rattle.hdt_file.specs.File.{GraphParts}
+use Rattle.hdt_file.specs.Search.{IsPattern}
+use Rattle.hdt_file.specs.Text.{IsFirstIn, IsTextOf}
+use Rattle.hdt_file.specs.TextWriting.{chosen}
+use Rattle.hdt_tool.specs.declared.fault.ToolFault.{ToolFault}
+use Rattle.hdt_tool.specs.declared.fault.ToolFault.TheVariants.{File, NoSuchTerm, NoSuchNumber, NotATerm, Read, Write, OutOfMemory}
+
+-- the strings that are given for subject, predicate and object, each or none
+abbrev pub Given : Type 0
+Given = List (Option (Vec ℕ Global))
+
+-- the same strings, lent from somewhere
+abbrev pub AreLent : Given → List (Option Lent) → Type 0
+AreLent given lent = map (option_map (λ x. x.now)) lent ≡ map (option_map (λ x. x.items)) given
+
+-- the triples that the strings find: the matches of the pattern of their numbers, or none where there is no such pattern
+pub record Finds (g : GraphParts) (given : Given) (found : List Triple) : Type 0 where
+  pub lent : List (Option Lent)
+  pub same : AreLent given lent
+  pub pattern : Option Pattern
+  pub exact : (p : Pattern) → (pattern ≡ Some p) ↔ IsPattern g lent p
+  pub matching : found ≡ chosen g pattern
+
+-- of the triples that the strings find this holds
+pub record FindsWith (g : GraphParts) (given : Given) (Holds : List Triple → Type 0) : Type 0 where
+  pub found : List Triple
+  pub finds : Finds g given found
+  pub holds : Holds found
+
+-- the line of a triple's numbers: subject, predicate and object, with spaces between them
+abbrev pub numbers_line : Triple → List ℕ
+numbers_line t = decimal t.0 ++ 32 ∷ (decimal t.1 ++ 32 ∷ (decimal t.2 ++ 10 ∷ []))
+
+-- a line for each triple, in order
+abbrev pub numbers_lines : List Triple → List ℕ
+numbers_lines found = flat_map numbers_line found
+
+-- triples print as the text: in N-Triples, or as the lines of their numbers
+abbrev pub PrintsTriples : Bool → GraphParts → List Triple → List ℕ → Type 0
+PrintsTriples false g found text = IsTextOf (denoted g found) text
+PrintsTriples true g found text = text ≡ numbers_lines found
+
+-- the triples that the strings find print as the text
+abbrev pub PrintsFound : GraphParts → Given → Bool → List ℕ → Type 0
+PrintsFound g given numbers text = FindsWith g given (λ found. PrintsTriples numbers g found text)
+
+-- in N-Triples: the first string of the triples that the strings find that is no term has this role and number
+abbrev pub LacksTermIn : GraphParts → Given → Bool → Role → ℕ → Type 0
+LacksTermIn g given numbers role n = (numbers ≡ false) × FindsWith g given (λ found. IsFirstIn g found role n)
+
+-- why the triples that the strings find do not print: a string that is no term, or want of memory
+abbrev pub TellsFound : GraphParts → Given → Bool → ToolFault → Type 0
+TellsFound g given numbers (File fault) = ⊥
+TellsFound g given numbers NoSuchTerm = ⊥
+TellsFound g given numbers NoSuchNumber = ⊥
+TellsFound g given numbers (NotATerm role n) = LacksTermIn g given numbers role n
+TellsFound g given numbers Read = ⊥
+TellsFound g given numbers (Write n) = ⊥
+TellsFound g given numbers OutOfMemory = Unit {0}

@@ -1,0 +1,101 @@
+//! What a command prints of its input.
+ghost use Rattle.std.specs.Prelude.{◌≡◌, IfOk, IfErr};
+ghost use Rattle.hdt_tool.specs.Answer.{Consults, IsTold, Opens, Prints, PrintsHead, PrintsVerdict};
+ghost use Rattle.hdt_tool.specs.StringsText.{string_lines, PrintsString, PrintsNumber};
+ghost use Rattle.hdt_tool.specs.TriplesText.{PrintsFound};
+
+use crate::fault::ToolFault;
+use crate::printed_head::head_text;
+use crate::printed_strings::{number_text, string_text, strings_text};
+use crate::printed_triples::triples_text;
+use crate::printed_verdict::verdict;
+use crate::request::Action;
+use hdt_dict::Role;
+use hdt_file::{open, read_head, verify};
+use std::alloc::Global;
+
+/// The text of `strings`.
+fn strings_of(alloc: Global, bytes: &[u8], role: Role) -> Result<Vec<u8>, ToolFault>
+    ensures ok { IfOk result (λ text. Consults bytes.now role (λ strings. text.items ≡ string_lines 1 strings)) }
+    ensures err { IfErr result (λ e. IsTold (Action.Strings role) bytes.now e) }
+{
+    let graph = open(alloc, bytes)?;
+    Ok(strings_text(alloc, &graph, role)?)
+}
+
+/// The text of `string`.
+fn string_of(alloc: Global, bytes: &[u8], role: Role, number: u64) -> Result<Vec<u8>, ToolFault>
+    ensures ok { IfOk result (λ text. Consults bytes.now role (λ strings. PrintsString strings number text.items)) }
+    ensures err { IfErr result (λ e. IsTold (Action.Nth role number) bytes.now e) }
+{
+    let graph = open(alloc, bytes)?;
+    string_text(alloc, &graph, role, number)
+}
+
+/// The text of `number`.
+fn number_of(
+    alloc: Global,
+    bytes: &[u8],
+    role: Role,
+    string: &Vec<u8>,
+) -> Result<Vec<u8>, ToolFault>
+    ensures ok { IfOk result (λ text. Consults bytes.now role (λ strings. PrintsNumber strings string.now.items text.items)) }
+    ensures err { IfErr result (λ e. IsTold (Action.Number role string.now) bytes.now e) }
+{
+    let graph = open(alloc, bytes)?;
+    number_text(alloc, &graph, role, string)
+}
+
+/// The text of `find`.
+fn triples_of(
+    alloc: Global,
+    bytes: &[u8],
+    given: &[Option<Vec<u8>>; 3],
+    numbers: bool,
+) -> Result<Vec<u8>, ToolFault>
+    ensures ok { IfOk result (λ text. Opens bytes.now (λ graph. PrintsFound graph given.now numbers text.items)) }
+    ensures err { IfErr result (λ e. IsTold (Action.Find given.now numbers) bytes.now e) }
+{
+    let graph = open(alloc, bytes)?;
+    triples_text(alloc, &graph, given, numbers)
+}
+
+/// The text of `head`.
+fn head_of(alloc: Global, bytes: &[u8]) -> Result<Vec<u8>, ToolFault>
+    ensures ok { IfOk result (λ text. PrintsHead bytes.now text.items) }
+    ensures err { IfErr result (λ e. IsTold Action.Head bytes.now e) }
+{
+    let head = read_head(bytes)?;
+    Ok(head_text(alloc, &head)?)
+}
+
+/// The text of `verify`.
+fn verdict_of(alloc: Global, bytes: &[u8]) -> Result<Vec<u8>, ToolFault>
+    ensures ok { IfOk result (λ text. PrintsVerdict bytes.now text.items) }
+    ensures err { IfErr result (λ e. IsTold Action.Verify bytes.now e) }
+{
+    let lens = verify(alloc, bytes)?;
+    Ok(verdict(alloc, lens)?)
+}
+
+/// What the command prints of the input, whole. No command builds anything yet, so `made` stays as it is.
+pub fn answer(
+    alloc: Global,
+    action: &Action,
+    bytes: &[u8],
+    made: &mut Vec<u8>,
+) -> Result<Vec<u8>, ToolFault>
+    ensures ok { IfOk result (λ text. Prints action.now bytes.now text.items) }
+    ensures err { IfErr result (λ e. IsTold action.now bytes.now e) }
+    ensures made { made.new.items ≡ made.old.items }
+{
+    let _ = made;
+    match action {
+        Action::Head => head_of(alloc, bytes),
+        Action::Verify => verdict_of(alloc, bytes),
+        Action::Strings(role) => strings_of(alloc, bytes, *role),
+        Action::Nth(role, number) => string_of(alloc, bytes, *role, *number),
+        Action::Number(role, string) => number_of(alloc, bytes, *role, string),
+        Action::Find { given, numbers } => triples_of(alloc, bytes, given, *numbers),
+    }
+}

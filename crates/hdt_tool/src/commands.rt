@@ -1,0 +1,273 @@
+//! The commands of `hdt`, as a table for `clap`.
+ghost use Rattle.std.specs.Prelude.{◌≡◌, IfOk, false};
+ghost use Rattle.clap.specs.Words.{app_of, with_rule, with_subcommand};
+ghost use Rattle.clap.specs.declared.builder.command.Command.TheViews.{out-Command as fields_of};
+ghost use Rattle.hdt_tool.specs.Table.{word_named, flag_named, role_word, number_word, file_command, head_command, verify_command, strings_command, string_command, number_command, find_command, dump_command, empty_table, first_commands, table};
+
+use clap::{Arg, ArgAction, Command, value_parser};
+use std::alloc::{AllocError, Global};
+
+const ABOUT: &str = "Reads RDF HDT files: RDF graphs in a compact binary form.";
+
+const STATUSES: &str = "Exit status:
+  0  done
+  1  the file has a fault, whose reason and place are told, a look-up has no answer, or a
+     string that N-Triples are to show is no term
+  2  the command line is wrong
+  3  reading or writing failed
+  4  out of memory";
+
+const HEAD_ABOUT: &str = "Print a file's head: formats, properties and header";
+
+const HEAD_LONG_ABOUT: &str = "Print the head of an HDT file.
+
+Five lines tell the format and the properties of the file, those of its header, and the
+header's length in bytes. Then the header follows as it is: N-Triples about the graph.
+What stands behind the header in the file is not looked at, so a file that is cut off there
+still shows its head.";
+
+const VERIFY_ABOUT: &str = "Verify a file, and count its triples and strings";
+
+const VERIFY_LONG_ABOUT: &str = "Verify a file.
+
+A file that is accepted is told by `ok` and five counts: the triples, and the strings of the
+sections shared, subjects, predicates and objects. Else the first fault is told, with its place
+in bytes from the start of the file.";
+
+const STRINGS_ABOUT: &str = "Print all strings of a role with their numbers";
+
+const STRINGS_LONG_ABOUT: &str = "Print all strings of a role with their numbers.
+
+One line a string: the number, a tab, the string. Numbers go from 1. In a string \\, a line
+feed and a carriage return are printed as \\\\, \\n and \\r.";
+
+const STRING_ABOUT: &str = "Print the string of a role that has a number";
+
+const NUMBER_ABOUT: &str = "Print the number of a term in a role";
+
+const NUMBER_LONG_ABOUT: &str = "Print the number of a term in a role.
+
+TERM is an N-Triples term, as <http://example.org/a>, _:b or '\"text\"@en'. With --raw it is
+the dictionary string itself: an IRI without its brackets, for one.";
+
+const FIND_ABOUT: &str = "Print the triples that have the given terms";
+
+const FIND_LONG_ABOUT: &str = "Print the triples that have the given terms.
+
+S, P and O are the subject, the predicate and the object: each an N-Triples term, as
+<http://example.org/a>, _:b or '\"text\"@en', or ? for any. One line a triple, in N-Triples, in
+the order of the file. A term that the file does not have in that place finds nothing. With
+--raw, S, P and O are the dictionary strings themselves: an IRI without its brackets, for one.
+With --numbers a line has the numbers of subject, predicate and object, from 1; this also
+shows triples with strings that are no terms, of which N-Triples has no line.";
+
+const DUMP_ABOUT: &str = "Print all triples";
+
+const DUMP_LONG_ABOUT: &str =
+    "Print all triples in N-Triples, one line each, in the order of the file.";
+
+const FILE_HELP: &str = "Path of the HDT file to read";
+
+const ROLE_HELP: &str = "What the strings are in the triples";
+
+const NUMBER_HELP: &str = "The number, from 1";
+
+const TERM_HELP: &str = "The term, in N-Triples";
+
+const RAW_HELP: &str = "Take TERM as a dictionary string";
+
+const SUBJECT_HELP: &str = "The subject, in N-Triples, or ? for any";
+
+const PREDICATE_HELP: &str = "The predicate, in N-Triples, or ? for any";
+
+const OBJECT_HELP: &str = "The object, in N-Triples, or ? for any";
+
+const RAW_PARTS_HELP: &str = "Take S, P and O as dictionary strings";
+
+const NUMBERS_HELP: &str = "Print the numbers of each triple";
+
+/// The command with one more word that has to be given.
+fn with_word<'a>(
+    alloc: Global,
+    command: Command<'a>,
+    id: &'a str,
+    help: &'a str,
+) -> Result<Command<'a>, AllocError>
+    requires { (fields_of command).has_globals ≡ false }
+    ensures shape { IfOk result (λ c. app_of c ≡ with_rule (app_of command.entry) (word_named id.entry.now)) }
+    ensures local { IfOk result (λ c. (fields_of c).has_globals ≡ false) }
+{
+    command.arg(Arg::new(alloc, id).help(help).required(true))
+}
+
+/// The command with one more flag.
+fn with_flag<'a>(
+    alloc: Global,
+    command: Command<'a>,
+    id: &'a str,
+    help: &'a str,
+) -> Result<Command<'a>, AllocError>
+    requires { (fields_of command).has_globals ≡ false }
+    ensures shape { IfOk result (λ c. app_of c ≡ with_rule (app_of command.entry) (flag_named id.entry.now)) }
+    ensures local { IfOk result (λ c. (fields_of c).has_globals ≡ false) }
+{
+    command.arg(
+        Arg::new(alloc, id)
+            .long(id)
+            .help(help)
+            .action(ArgAction::SetTrue),
+    )
+}
+
+/// The command with ROLE, one of these words.
+fn with_role<'a>(
+    alloc: Global,
+    command: Command<'a>,
+    roles: &'a [&'a str],
+) -> Result<Command<'a>, AllocError>
+    requires { (fields_of command).has_globals ≡ false }
+    ensures shape { IfOk result (λ c. app_of c ≡ with_rule (app_of command.entry) (role_word roles.entry)) }
+    ensures local { IfOk result (λ c. (fields_of c).has_globals ≡ false) }
+{
+    let role = Arg::new(alloc, "ROLE")
+        .help(ROLE_HELP)
+        .required(true)
+        .value_parser(roles);
+    command.arg(role)
+}
+
+/// The command with N, a number below 2^64.
+fn with_number<'a>(alloc: Global, command: Command<'a>) -> Result<Command<'a>, AllocError>
+    requires { (fields_of command).has_globals ≡ false }
+    ensures shape { IfOk result (λ c. app_of c ≡ with_rule (app_of command.entry) number_word) }
+    ensures local { IfOk result (λ c. (fields_of c).has_globals ≡ false) }
+{
+    let number = Arg::new(alloc, "N")
+        .help(NUMBER_HELP)
+        .required(true)
+        .value_parser(value_parser!(u64));
+    command.arg(number)
+}
+
+/// A command on a file.
+fn file_command<'a>(
+    alloc: Global,
+    name: &'a str,
+    about: &'a str,
+    long_about: &'a str,
+) -> Result<Command<'a>, AllocError>
+    ensures shape { IfOk result (λ c. app_of c ≡ file_command name.entry.now) }
+    ensures local { IfOk result (λ c. (fields_of c).has_globals ≡ false) }
+{
+    let command = Command::new(alloc, name)
+        .about(about)
+        .long_about(long_about);
+    with_word(alloc, command, "FILE", FILE_HELP)
+}
+
+/// `head FILE`.
+fn head_of<'a>(alloc: Global) -> Result<Command<'a>, AllocError>
+    ensures shape { IfOk result (λ c. app_of c ≡ head_command) }
+    ensures local { IfOk result (λ c. (fields_of c).has_globals ≡ false) }
+{
+    file_command(alloc, "head", HEAD_ABOUT, HEAD_LONG_ABOUT)
+}
+
+/// `verify FILE`.
+fn verify_of<'a>(alloc: Global) -> Result<Command<'a>, AllocError>
+    ensures shape { IfOk result (λ c. app_of c ≡ verify_command) }
+    ensures local { IfOk result (λ c. (fields_of c).has_globals ≡ false) }
+{
+    file_command(alloc, "verify", VERIFY_ABOUT, VERIFY_LONG_ABOUT)
+}
+
+/// `strings FILE ROLE`.
+fn strings_of<'a>(alloc: Global, roles: &'a [&'a str]) -> Result<Command<'a>, AllocError>
+    ensures shape { IfOk result (λ c. app_of c ≡ strings_command roles.entry) }
+    ensures local { IfOk result (λ c. (fields_of c).has_globals ≡ false) }
+{
+    let command = file_command(alloc, "strings", STRINGS_ABOUT, STRINGS_LONG_ABOUT)?;
+    with_role(alloc, command, roles)
+}
+
+/// `string FILE ROLE N`.
+fn string_of<'a>(alloc: Global, roles: &'a [&'a str]) -> Result<Command<'a>, AllocError>
+    ensures shape { IfOk result (λ c. app_of c ≡ string_command roles.entry) }
+    ensures local { IfOk result (λ c. (fields_of c).has_globals ≡ false) }
+{
+    let command = file_command(alloc, "string", STRING_ABOUT, STRING_ABOUT)?;
+    let command = with_role(alloc, command, roles)?;
+    with_number(alloc, command)
+}
+
+/// `number FILE ROLE TERM`, with `--raw`.
+fn number_of<'a>(alloc: Global, roles: &'a [&'a str]) -> Result<Command<'a>, AllocError>
+    ensures shape { IfOk result (λ c. app_of c ≡ number_command roles.entry) }
+    ensures local { IfOk result (λ c. (fields_of c).has_globals ≡ false) }
+{
+    let command = file_command(alloc, "number", NUMBER_ABOUT, NUMBER_LONG_ABOUT)?;
+    let command = with_role(alloc, command, roles)?;
+    let command = with_word(alloc, command, "TERM", TERM_HELP)?;
+    with_flag(alloc, command, "raw", RAW_HELP)
+}
+
+/// `find FILE S P O`, with `--raw` and `--numbers`.
+fn find_of<'a>(alloc: Global) -> Result<Command<'a>, AllocError>
+    ensures shape { IfOk result (λ c. app_of c ≡ find_command) }
+    ensures local { IfOk result (λ c. (fields_of c).has_globals ≡ false) }
+{
+    let command = file_command(alloc, "find", FIND_ABOUT, FIND_LONG_ABOUT)?;
+    let command = with_word(alloc, command, "S", SUBJECT_HELP)?;
+    let command = with_word(alloc, command, "P", PREDICATE_HELP)?;
+    let command = with_word(alloc, command, "O", OBJECT_HELP)?;
+    let command = with_flag(alloc, command, "raw", RAW_PARTS_HELP)?;
+    with_flag(alloc, command, "numbers", NUMBERS_HELP)
+}
+
+/// `dump FILE`.
+fn dump_of<'a>(alloc: Global) -> Result<Command<'a>, AllocError>
+    ensures shape { IfOk result (λ c. app_of c ≡ dump_command) }
+    ensures local { IfOk result (λ c. (fields_of c).has_globals ≡ false) }
+{
+    file_command(alloc, "dump", DUMP_ABOUT, DUMP_LONG_ABOUT)
+}
+
+/// The program, with no command yet.
+fn program<'a>(alloc: Global) -> Result<Command<'a>, AllocError>
+    ensures { IfOk result (λ c. app_of c ≡ empty_table) }
+{
+    Command::new(alloc, "hdt")
+        .about(ABOUT)
+        .after_help(STATUSES)
+        .subcommand_required(true)
+        .bin_name("hdt")
+}
+
+/// The program with one more command.
+fn with_command<'a>(program: Command<'a>, command: Command<'a>) -> Result<Command<'a>, AllocError>
+    requires { (fields_of command).has_globals ≡ false }
+    ensures { IfOk result (λ c. app_of c ≡ with_subcommand (app_of program.entry) (app_of command.entry).top) }
+{
+    program.subcommand(command)
+}
+
+/// The program with the first commands. (All of them in one function would take the prover minutes.)
+fn first_commands<'a>(alloc: Global, roles: &'a [&'a str]) -> Result<Command<'a>, AllocError>
+    ensures { IfOk result (λ c. app_of c ≡ first_commands roles.entry) }
+{
+    let program = program(alloc)?;
+    let program = with_command(program, head_of(alloc)?)?;
+    let program = with_command(program, verify_of(alloc)?)?;
+    let program = with_command(program, strings_of(alloc, roles)?)?;
+    with_command(program, string_of(alloc, roles)?)
+}
+
+/// All the commands; the words for the roles are lent.
+pub fn table_of<'a>(alloc: Global, roles: &'a [&'a str]) -> Result<Command<'a>, AllocError>
+    ensures { IfOk result (λ c. app_of c ≡ table roles.entry) }
+{
+    let program = first_commands(alloc, roles)?;
+    let program = with_command(program, number_of(alloc, roles)?)?;
+    let program = with_command(program, find_of(alloc)?)?;
+    with_command(program, dump_of(alloc)?)
+}

@@ -1,0 +1,4 @@
+mod ItemRows
+mod PlaceLaws
+mod WalkLaws
+mod Within

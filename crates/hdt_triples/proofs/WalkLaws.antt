@@ -1,0 +1,51 @@
+-- What is left from a place on follows from its triple.
+use Rattle.std.proofs.Common.{◌≡◌, ℕ, ◌+◌, ◌-◌, ◌<◌, ◌≤◌, [], ◌∷◌, suc, length, map, ap, ◌∙◌, arith, true, false, cond}
+use Rattle.std.specs.List.{filter, range_with_len}
+use Rattle.std.proofs.lemmas.List.Sums.{length-filter, count_by-le-length}
+use Rattle.hdt_triples.specs.declared.pattern.Pattern.{Pattern}
+use Rattle.hdt_triples.specs.Counting.{BitmapTriples, triple_at, triples_of}
+use Rattle.hdt_triples.specs.CountingLaws.{length-triples}
+use Rattle.hdt_triples.specs.Patterns.{agrees, matches}
+use Rattle.hdt_triples.specs.Walking.{triples_from}
+
+range_first : (a b : ℕ) → a < b → range_with_len a (b - a) ≡ a ∷ range_with_len (a + 1) (b - (a + 1))
+range_first a b h = let e : b - a ≡ suc (b - (a + 1)) = omega arith in ap (range_with_len a) e
+
+range_none : (a b : ℕ) → b ≤ a → range_with_len a (b - a) ≡ []
+range_none a b h = let e : b - a ≡ 0 = omega arith in ap (range_with_len a) e
+
+-- from the first place on there are all
+pub from_start : (f : BitmapTriples) → triples_from f 0 ≡ triples_of f
+unfolding triples_from triples_of
+from_start f = let e : length f.zs - 0 ≡ length f.zs = omega arith in ap (λ (n : ℕ). map (triple_at f) (range_with_len 0 n)) e
+
+from_first : (f : BitmapTriples) (j : ℕ) → j < length f.zs → triples_from f j ≡ triple_at f j ∷ triples_from f (j + 1)
+unfolding triples_from
+from_first f j h = ap (map (triple_at f)) (range_first j (length f.zs) h)
+
+from_end : (f : BitmapTriples) (j : ℕ) → length f.zs ≤ j → triples_from f j ≡ []
+unfolding triples_from
+from_end f j h = ap (map (triple_at f)) (range_none j (length f.zs) h)
+
+pub matches_taken : (p : Pattern) (f : BitmapTriples) (j : ℕ) → j < length f.zs → agrees p (triple_at f j) ≡ true
+    → matches p (triples_from f j) ≡ triple_at f j ∷ matches p (triples_from f (j + 1))
+unfolding matches
+matches_taken p f j h took =
+    ap (filter (agrees p)) (from_first f j h)
+    ∙ ap (λ b. cond b (triple_at f j ∷ filter (agrees p) (triples_from f (j + 1))) (filter (agrees p) (triples_from f (j + 1)))) took
+
+pub matches_passed : (p : Pattern) (f : BitmapTriples) (j : ℕ) → j < length f.zs → agrees p (triple_at f j) ≡ false
+    → matches p (triples_from f j) ≡ matches p (triples_from f (j + 1))
+unfolding matches
+matches_passed p f j h passed =
+    ap (filter (agrees p)) (from_first f j h)
+    ∙ ap (λ b. cond b (triple_at f j ∷ filter (agrees p) (triples_from f (j + 1))) (filter (agrees p) (triples_from f (j + 1)))) passed
+
+pub matches_none : (p : Pattern) (f : BitmapTriples) (j : ℕ) → length f.zs ≤ j → matches p (triples_from f j) ≡ []
+unfolding matches
+matches_none p f j h = ap (filter (agrees p)) (from_end f j h)
+
+-- no more matches than triples
+pub matches_few : (p : Pattern) (f : BitmapTriples) → length (matches p (triples_of f)) ≤ length f.zs
+unfolding matches
+matches_few p f = omega (arith, length-filter (agrees p) (triples_of f), count_by-le-length (agrees p) (triples_of f), length-triples f)

@@ -1,0 +1,5 @@
+use Rattle.hdt_triples.specs.TriplesLaws.{triples_exact}
+use Rattle.hdt_triples.proofs.laws.triples_are_exact.Goals as goal
+
+pub returns : goal.returns
+returns c = triples_exact

@@ -1,0 +1,8 @@
+use Rattle.hdt_triples.specs.WritingLaws.{triples_are, triples_stand}
+use Rattle.hdt_triples.proofs.laws.triples_are_read_again.Goals as goal
+
+pub returns-clause-counted : goal.returns-clause-counted
+returns-clause-counted c = triples_are
+
+pub returns-clause-stands : goal.returns-clause-stands
+returns-clause-stands c = triples_stand

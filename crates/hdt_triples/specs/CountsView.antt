@@ -1,0 +1,6 @@
+-- How many strings each role has, as the layout sees it.
+use Rattle.hdt_triples.specs.Counting as counting
+use Rattle.hdt_triples.specs.declared.counts.Counts.{Counts}
+
+abbrev pub counts_of : Counts → counting.Counts
+counts_of c = record { subjects = c.subjects; predicates = c.predicates; objects = c.objects }

@@ -1,0 +1,47 @@
+//! Which triples can be written.
+ghost use Rattle.std.specs.Prelude.{◌≡◌, ◌+◌, ◌<◌, ◌≤◌, ℕ, true, length};
+ghost use Rattle.hdt_triples.specs.Order.{AreWritable, TripleLess};
+ghost use Rattle.hdt_triples.specs.Fitting.{CanStand};
+
+/// Whether a triple can follow another: it comes after it, and its subject is the same or the next one.
+fn can_follow(before: (u64, u64, u64), next: (u64, u64, u64)) -> bool
+    ensures yes { result ≡ true → TripleLess before next × (next.0 ≤ before.0 + 1) }
+    ensures no { TripleLess before next → next.0 ≤ before.0 + 1 → result ≡ true }
+{
+    let (subject, predicate, object) = before;
+    if next.0 != subject {
+        return next.0 > subject && next.0 - subject == 1;
+    }
+    predicate < next.1 || (predicate == next.1 && object < next.2)
+}
+
+/// Whether triple i can stand behind the one before it.
+fn can_stand(triples: &[(u64, u64, u64)], i: usize) -> bool
+    requires { i < length triples.now }
+    ensures yes { result ≡ true → CanStand triples.now i }
+    ensures no { CanStand triples.now i → result ≡ true }
+{
+    let (subject, predicate, object) = triples[i];
+    if predicate == 0 || object == 0 {
+        return false;
+    }
+    if i == 0 {
+        return subject == 1;
+    }
+    can_follow(triples[i - 1], triples[i])
+}
+
+/// Whether triples can be written: there is one, they strictly ascend, their subjects are 1, 2, 3, .. without a gap, and
+/// their predicates and objects are at least 1. [`put_triples`](crate::put_triples) wants such ones. It takes no memory,
+/// and time in proportion to the triples.
+pub fn are_writable(triples: &[(u64, u64, u64)]) -> bool
+    ensures yes { result ≡ true → AreWritable triples.now }
+    ensures no { AreWritable triples.now → result ≡ true }
+{
+    for i in 0..triples.len() {
+        if !can_stand(triples, i) {
+            return false;
+        }
+    }
+    !triples.is_empty()
+}

@@ -1,0 +1,44 @@
+//! The triples of an HDT file: bitmap triples (HDT submission, Triples; rdfhdt.org, "HDT binary format").
+//!
+//! The layer's promise: what is read at a place is triples in range, each once, in ascending order, with each pair of
+//! subject and predicate once; else the one fault that stands there is answered, with its place. What is written of a
+//! list is read again as that list.
+//!
+//! ```text
+//! let counts = Counts { subjects, predicates, objects };
+//! let (triples, end) = Triples::read(bytes, at, counts)?;
+//! let (subject, predicate, object) = triples.get(0);
+//! ```
+//!
+//! In reading order: `counts`, how many strings the numbers are of; `rows`, the rows of the four sequences; `triples`,
+//! the triples themselves; `fitting`, which lists can be written; `sequences`, the four sequences of a list, and
+//! `writing`, their bytes; `laws`. Triples are counted: the definition is specs/Counting.
+#![tactic(auto)]
+
+mod counts;
+mod fitting;
+mod laws;
+mod matches;
+mod pattern;
+mod place;
+mod rows;
+mod sequences;
+mod triples;
+mod walk;
+mod writing;
+
+pub use counts::Counts;
+pub use fitting::are_writable;
+pub use laws::{triples_are_exact, triples_are_read_again, triples_ascend};
+pub use matches::Matches;
+pub use pattern::Pattern;
+pub use triples::Triples;
+pub use walk::WalkMatches;
+pub use writing::put_triples;
+
+#[cfg(test)]
+mod search_tests;
+#[cfg(test)]
+mod tests;
+#[cfg(test)]
+mod writing_tests;

@@ -1,0 +1,207 @@
+//! The rows of the four sequences, one after another.
+ghost use Rattle.std.specs.Prelude.{◌≡◌, ℕ, ◌≤◌, ◌<◌, ◌+◌, ◌-◌, ◌^◌, length, slice_index, IfOk, OnOk, codes};
+ghost use Rattle.hdt_wire.specs.Property.{property_value};
+ghost use Rattle.hdt_seq.specs.Marks.{marks_before};
+ghost use Rattle.hdt_seq.specs.Numbers.{numbers_of, numbers_places, numbers_read};
+ghost use Rattle.hdt_seq.specs.Bits.{bits_of, bits_places, bits_read};
+ghost use Rattle.hdt_triples.specs.Counting.{AreTriples};
+ghost use Rattle.hdt_triples.specs.Triples.{earlier, entry_row, pair_row, pairs_at, objects_at, last_at, is_one, fit_at};
+ghost use Rattle.hdt_triples.specs.CountsView.{counts_of};
+
+use crate::counts::Counts;
+use hdt_seq::{Bits, Numbers};
+use hdt_wire::{Fault, Reason, demand, property};
+
+/// The last bit is a mark.
+fn last_marked(marks: &Bits<'_>) -> Result<(), Fault>
+    requires { 0 < length (bits_of marks.now) }
+    ensures { result ≡ last_at (bits_of marks.now) (bits_places marks.now) }
+{
+    let last = marks.len() - 1;
+    demand(
+        marks.get(last),
+        marks.entry_place(last) as usize,
+        Reason::LastMark,
+    )
+}
+
+/// How many marks stand before a place, counted from the first.
+pub fn marks_before(marks: &Bits<'_>, place: u64) -> u64
+    requires { place ≤ length (bits_of marks.now) }
+    ensures is { result ≡ marks_before (bits_of marks.now) place }
+    ensures most { result ≤ place }
+{
+    let mut before: u64 = 0;
+    'marks: for i in 0..place {
+        if marks.get(i) {
+            before += 1;
+        }
+    }
+    before
+}
+
+/// The rows of an entry, with the one before it.
+#[tactic(auto, unfolding(crate::specs::Triples::entry_row))]
+fn entry_stands(
+    marks: &Bits<'_>,
+    xs: &Numbers<'_>,
+    count: u64,
+    range: Reason,
+    ascent: Reason,
+    i: u64,
+    before: u64,
+) -> Result<(), Fault>
+    requires within { i < length (numbers_of xs.now) }
+    requires before_is { before ≡ earlier (bits_of marks.now) (numbers_of xs.now) i }
+    ensures { result ≡ entry_row (bits_of marks.now) (numbers_of xs.now) (numbers_places xs.now) count range ascent i }
+{
+    let entry = xs.get(i);
+    demand(
+        1 <= entry && entry <= count,
+        xs.entry_place(i) as usize,
+        range,
+    )?;
+    demand(before < entry, xs.entry_place(i) as usize, ascent)
+}
+
+/// The rows of a pair, with its subject and the predicate before it.
+#[tactic(auto, unfolding(crate::specs::Triples::pair_row))]
+fn pair_stands(
+    counts: &Counts,
+    my: &Bits<'_>,
+    ys: &Numbers<'_>,
+    q: u64,
+    subject: u64,
+    before: u64,
+) -> Result<(), Fault>
+    requires within { q < length (numbers_of ys.now) }
+    requires marked { q < length (bits_of my.now) }
+    requires subject_is { subject ≡ marks_before (bits_of my.now) q + 1 }
+    requires before_is { before ≡ earlier (bits_of my.now) (numbers_of ys.now) q }
+    ensures is { result ≡ pair_row (counts_of counts.now) (bits_of my.now) (bits_places my.now) (numbers_of ys.now) (numbers_places ys.now) q }
+    ensures range { IfOk result (λ _. subject ≤ counts.now.subjects) }
+{
+    demand(
+        subject <= counts.subjects,
+        my.entry_place(q) as usize,
+        Reason::SubjectRange,
+    )?;
+    entry_stands(
+        my,
+        ys,
+        counts.predicates,
+        Reason::PredicateRange,
+        Reason::PredicatesNotAscending,
+        q,
+        before,
+    )
+}
+
+/// The rows of all pairs.
+#[tactic(auto, using(crate::proofs::ItemRows::rows_passed, crate::proofs::ItemRows::rows_stopped, crate::proofs::ItemRows::rows_over))]
+fn pairs_stand(counts: &Counts, my: &Bits<'_>, ys: &Numbers<'_>) -> Result<(), Fault>
+    requires same { length (bits_of my.now) ≡ length (numbers_of ys.now) }
+    requires few { counts.now.subjects < 2 ^ 63 }
+    ensures { result ≡ pairs_at (counts_of counts.now) (bits_of my.now) (bits_places my.now) (numbers_of ys.now) (numbers_places ys.now) }
+{
+    let mut subject: u64 = 1;
+    let mut before: u64 = 0;
+    'pairs: for q in 0..ys.len() {
+        pair_stands(counts, my, ys, q, subject, before)?;
+        if my.get(q) {
+            subject += 1;
+            before = 0;
+        } else {
+            before = ys.get(q);
+        }
+    }
+    Ok(())
+}
+
+/// The rows of the objects of all triples.
+#[tactic(auto, using(crate::proofs::ItemRows::rows_passed, crate::proofs::ItemRows::rows_stopped, crate::proofs::ItemRows::rows_over))]
+fn objects_stand(mz: &Bits<'_>, zs: &Numbers<'_>, count: u64) -> Result<(), Fault>
+    requires { length (bits_of mz.now) ≡ length (numbers_of zs.now) }
+    ensures { result ≡ objects_at (bits_of mz.now) (numbers_of zs.now) (numbers_places zs.now) count }
+{
+    let mut before: u64 = 0;
+    'objects: for j in 0..zs.len() {
+        entry_stands(
+            mz,
+            zs,
+            count,
+            Reason::ObjectRange,
+            Reason::ObjectsNotAscending,
+            j,
+            before,
+        )?;
+        if mz.get(j) {
+            before = 0;
+        } else {
+            before = zs.get(j);
+        }
+    }
+    Ok(())
+}
+
+/// Whether the property `order` is `1`.
+pub fn in_order(properties: &[u8]) -> bool
+    ensures { result ≡ is_one (property_value properties.now (codes "order")) }
+{
+    match property(properties, b"order") {
+        Some(value) => value == b"1".as_slice(),
+        None => false,
+    }
+}
+
+/// The rows of the four sequences together.
+#[tactic(auto, unfolding(crate::specs::Triples::fit_at))]
+fn fit_rows(
+    counts: &Counts,
+    my: &Bits<'_>,
+    mz: &Bits<'_>,
+    ys: &Numbers<'_>,
+    zs: &Numbers<'_>,
+) -> Result<(), Fault>
+    requires some_pairs { 0 < length (bits_of my.now) }
+    requires some_triples { 0 < length (bits_of mz.now) }
+    requires few { counts.now.subjects < 2 ^ 63 }
+    ensures { (a b c d : ℕ) → result ≡ fit_at (counts_of counts.now) (bits_read (my.now, a)) (bits_read (mz.now, b)) (numbers_read (ys.now, c)) (numbers_read (zs.now, d)) }
+{
+    demand(
+        my.len() == ys.len(),
+        ys.count_place() as usize,
+        Reason::LengthsDiffer,
+    )?;
+    demand(
+        mz.len() == zs.len(),
+        zs.count_place() as usize,
+        Reason::LengthsDiffer,
+    )?;
+    last_marked(my)?;
+    last_marked(mz)?;
+    demand(
+        marks_before(mz, mz.len()) == ys.len(),
+        mz.count_place() as usize,
+        Reason::MarkCount,
+    )?;
+    pairs_stand(counts, my, ys)?;
+    objects_stand(mz, zs, counts.objects)
+}
+
+/// The rows of the four sequences together, and what holds where none fails.
+pub fn fit(
+    counts: &Counts,
+    my: &Bits<'_>,
+    mz: &Bits<'_>,
+    ys: &Numbers<'_>,
+    zs: &Numbers<'_>,
+) -> Result<(), Fault>
+    requires some_pairs { 0 < length (bits_of my.now) }
+    requires some_triples { 0 < length (bits_of mz.now) }
+    requires few { counts.now.subjects < 2 ^ 63 }
+    ensures exact { (a b c d : ℕ) → result ≡ fit_at (counts_of counts.now) (bits_read (my.now, a)) (bits_read (mz.now, b)) (numbers_read (ys.now, c)) (numbers_read (zs.now, d)) }
+    ensures fit { OnOk result (AreTriples (counts_of counts.now) (record { my = bits_of my.now; mz = bits_of mz.now; ys = numbers_of ys.now; zs = numbers_of zs.now })) }
+{
+    fit_rows(counts, my, mz, ys, zs)
+}

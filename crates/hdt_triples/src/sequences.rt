@@ -1,0 +1,92 @@
+//! The four sequences of a list of triples.
+ghost use Rattle.std.specs.Prelude.{◌≡◌, ◌<◌, false, length, map, nat_eq, slice_index_or, IfOk};
+ghost use Rattle.hdt_triples.specs.Groups.{last_marks};
+ghost use Rattle.hdt_triples.specs.Writing.{all_pairs, pair_eq, sequences_of};
+ghost use Rattle.hdt_triples.specs.SequencesView.{bitmap_made};
+
+use std::alloc::{AllocError, Global};
+
+/// The four sequences of bitmap triples.
+#[derive(Drop)]
+pub struct Sequences {
+    /// A mark at each pair that is the last of its subject.
+    pub my: Vec<bool>,
+    /// A mark at each triple that is the last of its pair.
+    pub mz: Vec<bool>,
+    /// The predicates of the pairs.
+    pub ys: Vec<u64>,
+    /// The objects of the triples.
+    pub zs: Vec<u64>,
+}
+
+/// Whether no equal pair follows.
+fn ends_pair(pairs: &[(u64, u64)], at: usize) -> bool
+    requires { at < length pairs.now }
+    ensures { result ≡ slice_index_or (last_marks pair_eq pairs.now) at false }
+{
+    at + 1 == pairs.len() || pairs[at + 1] != pairs[at]
+}
+
+/// Whether no pair of the same subject follows.
+fn ends_subject(pairs: &[(u64, u64)], at: usize) -> bool
+    requires { at < length pairs.now }
+    ensures { result ≡ slice_index_or (last_marks nat_eq (map (λ p. p.0) pairs.now)) at false }
+{
+    at + 1 == pairs.len() || pairs[at + 1].0 != pairs[at].0
+}
+
+/// A mark at each pair that no equal pair follows.
+fn pair_marks(alloc: Global, pairs: &[(u64, u64)]) -> Result<Vec<bool>, AllocError>
+    ensures { IfOk result (λ made. made.items ≡ last_marks pair_eq pairs.now) }
+{
+    let mut made = Vec::with_capacity(alloc, pairs.len())?;
+    for i in 0..pairs.len() {
+        made.push(ends_pair(pairs, i))?;
+    }
+    Ok(made)
+}
+
+/// A mark at each pair that no pair of the same subject follows.
+fn subject_marks(alloc: Global, pairs: &[(u64, u64)]) -> Result<Vec<bool>, AllocError>
+    ensures { IfOk result (λ made. made.items ≡ last_marks nat_eq (map (λ p. p.0) pairs.now)) }
+{
+    let mut made = Vec::with_capacity(alloc, pairs.len())?;
+    for i in 0..pairs.len() {
+        made.push(ends_subject(pairs, i))?;
+    }
+    Ok(made)
+}
+
+/// The subject and the predicate of each triple.
+fn pairs(alloc: Global, triples: &[(u64, u64, u64)]) -> Result<Vec<(u64, u64)>, AllocError>
+    ensures { IfOk result (λ made. made.items ≡ all_pairs triples.now) }
+{
+    triples.iter().map(|t| (t.0, t.1)).collect(alloc)
+}
+
+/// The predicates of pairs.
+fn predicates(alloc: Global, pairs: &[(u64, u64)]) -> Result<Vec<u64>, AllocError>
+    ensures { IfOk result (λ made. made.items ≡ map (λ p. p.1) pairs.now) }
+{
+    pairs.iter().map(|p| p.1).collect(alloc)
+}
+
+/// The objects of triples.
+fn objects(alloc: Global, triples: &[(u64, u64, u64)]) -> Result<Vec<u64>, AllocError>
+    ensures { IfOk result (λ made. made.items ≡ map (λ t. t.2) triples.now) }
+{
+    triples.iter().map(|t| t.2).collect(alloc)
+}
+
+/// The four sequences of a list of triples.
+pub fn sequences_of(alloc: Global, triples: &[(u64, u64, u64)]) -> Result<Sequences, AllocError>
+    ensures { IfOk result (λ made. bitmap_made made ≡ sequences_of triples.now) }
+{
+    let mut pairs = pairs(alloc, triples)?;
+    let mz = pair_marks(alloc, pairs.as_slice())?;
+    pairs.dedup();
+    let my = subject_marks(alloc, pairs.as_slice())?;
+    let ys = predicates(alloc, pairs.as_slice())?;
+    let zs = objects(alloc, triples)?;
+    Ok(Sequences { my, mz, ys, zs })
+}

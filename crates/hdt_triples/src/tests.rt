@@ -1,0 +1,435 @@
+use super::*;
+use hdt_seq::{put_bits, put_numbers};
+use hdt_wire::{Fault, Kind, Reason, put_control};
+use std::alloc::Global;
+use std::test::Fail;
+
+/// Four sequences, and how many strings each role has.
+struct Case {
+    my: &'static [bool],
+    mz: &'static [bool],
+    ys: &'static [u64],
+    zs: &'static [u64],
+    counts: [u64; 3],
+}
+
+/// The control block of triples takes 56 bytes with these properties.
+const ORDER: &[u8] = b"order=1;";
+
+/// Triples that stand at place 0, with a byte after them.
+fn spelled(alloc: Global, properties: &[u8], case: &Case) -> Result<Vec<u8>, Fail> {
+    let mut bytes = Vec::new(alloc);
+    if properties.contains(&0) || case.my.is_empty() || case.mz.is_empty() {
+        return Err(Fail::from("no such triples"));
+    }
+    put_control(Kind::Triples, properties, &mut bytes)?;
+    put_bits(case.my, &mut bytes)?;
+    put_bits(case.mz, &mut bytes)?;
+    put_numbers(case.ys, &mut bytes)?;
+    put_numbers(case.zs, &mut bytes)?;
+    bytes.push(0x55)?;
+    Ok(bytes)
+}
+
+/// Reads triples at place 0; the counts are far below the length of the input.
+fn read<'a>(bytes: &'a [u8], counts: [u64; 3]) -> Result<(Triples<'a>, usize), Fault> {
+    let most = bytes.len() as u64;
+    let [subjects, predicates, objects] = counts;
+    let counts = Counts {
+        subjects: subjects.min(most),
+        predicates: predicates.min(most),
+        objects: objects.min(most),
+    };
+    Triples::read(bytes, 0, counts)
+}
+
+/// The three triples (1, 1, 2), (1, 2, 3), (2, 1, 1).
+static THREE: Case = Case {
+    my: &[false, true, true],
+    mz: &[true, true, true],
+    ys: &[1, 2, 1],
+    zs: &[2, 3, 1],
+    counts: [2, 2, 3],
+};
+
+#[test]
+fn reads_three_triples(rt: HostRuntime) -> Result<(), Fail> {
+    let bytes = spelled(rt.alloc(), ORDER, &THREE)?;
+    let (triples, end) = read(&bytes, THREE.counts).ok().ok_or("refused")?;
+    assert_eq!(rt; Some(end), bytes.len().checked_sub(1));
+    assert_eq!(rt; triples.len(), 3);
+    for (j, triple) in [(0, (1, 1, 2)), (1, (1, 2, 3)), (2, (2, 1, 1))] {
+        if j < triples.len() {
+            assert_eq!(rt; triples.get(j), triple, "triple {j}");
+        }
+    }
+    Ok(())
+}
+
+/// Triples of which one row fails, or two: the reason and the place of the earlier one. With one byte of data in each
+/// sequence, bit sequence Y has its count at 57 and its data at 59, bit sequence Z at 65 and 67, number sequence Y at 74 and
+/// 76, number sequence Z at 83 and 85.
+static REFUSED: [(&str, Case, Reason, u64); 19] = [
+    (
+        "marks and numbers of pairs",
+        Case {
+            my: &[true],
+            mz: &[true],
+            ys: &[1, 1],
+            zs: &[1],
+            counts: [1, 1, 1],
+        },
+        Reason::LengthsDiffer,
+        74,
+    ),
+    (
+        "marks and numbers of triples",
+        Case {
+            my: &[true],
+            mz: &[true],
+            ys: &[1],
+            zs: &[1, 2],
+            counts: [1, 1, 2],
+        },
+        Reason::LengthsDiffer,
+        83,
+    ),
+    (
+        "both",
+        Case {
+            my: &[true],
+            mz: &[true],
+            ys: &[1, 1],
+            zs: &[1, 2],
+            counts: [1, 1, 2],
+        },
+        Reason::LengthsDiffer,
+        74,
+    ),
+    (
+        "the last pair isn't marked",
+        Case {
+            my: &[false],
+            mz: &[true],
+            ys: &[1],
+            zs: &[1],
+            counts: [1, 1, 1],
+        },
+        Reason::LastMark,
+        59,
+    ),
+    (
+        "the last triple isn't marked",
+        Case {
+            my: &[true],
+            mz: &[false],
+            ys: &[1],
+            zs: &[1],
+            counts: [1, 1, 1],
+        },
+        Reason::LastMark,
+        67,
+    ),
+    (
+        "fewer marks than pairs",
+        Case {
+            my: &[false, true],
+            mz: &[false, true],
+            ys: &[1, 2],
+            zs: &[1, 2],
+            counts: [1, 2, 2],
+        },
+        Reason::MarkCount,
+        65,
+    ),
+    (
+        "more marks than pairs",
+        Case {
+            my: &[true],
+            mz: &[true, true],
+            ys: &[1],
+            zs: &[1, 1],
+            counts: [1, 1, 1],
+        },
+        Reason::MarkCount,
+        65,
+    ),
+    (
+        "a subject too many",
+        Case {
+            my: &[true, true],
+            mz: &[true, true],
+            ys: &[1, 1],
+            zs: &[1, 1],
+            counts: [1, 1, 1],
+        },
+        Reason::SubjectRange,
+        59,
+    ),
+    (
+        "a subject too many, with predicate 0",
+        Case {
+            my: &[true, true],
+            mz: &[true, true],
+            ys: &[1, 0],
+            zs: &[1, 1],
+            counts: [1, 1, 1],
+        },
+        Reason::SubjectRange,
+        59,
+    ),
+    (
+        "predicate 0",
+        Case {
+            my: &[true],
+            mz: &[true],
+            ys: &[0],
+            zs: &[1],
+            counts: [1, 1, 1],
+        },
+        Reason::PredicateRange,
+        76,
+    ),
+    (
+        "a predicate too many",
+        Case {
+            my: &[true],
+            mz: &[true],
+            ys: &[2],
+            zs: &[1],
+            counts: [1, 1, 1],
+        },
+        Reason::PredicateRange,
+        76,
+    ),
+    (
+        "predicate 0 after another",
+        Case {
+            my: &[false, true],
+            mz: &[true, true],
+            ys: &[1, 0],
+            zs: &[1, 1],
+            counts: [1, 1, 1],
+        },
+        Reason::PredicateRange,
+        76,
+    ),
+    (
+        "an equal predicate",
+        Case {
+            my: &[false, true],
+            mz: &[true, true],
+            ys: &[1, 1],
+            zs: &[1, 2],
+            counts: [1, 1, 2],
+        },
+        Reason::PredicatesNotAscending,
+        76,
+    ),
+    (
+        "a smaller predicate",
+        Case {
+            my: &[false, true],
+            mz: &[true, true],
+            ys: &[2, 1],
+            zs: &[1, 1],
+            counts: [1, 2, 1],
+        },
+        Reason::PredicatesNotAscending,
+        76,
+    ),
+    (
+        "object 0",
+        Case {
+            my: &[true],
+            mz: &[true],
+            ys: &[1],
+            zs: &[0],
+            counts: [1, 1, 1],
+        },
+        Reason::ObjectRange,
+        85,
+    ),
+    (
+        "an object too many",
+        Case {
+            my: &[true],
+            mz: &[true],
+            ys: &[1],
+            zs: &[2],
+            counts: [1, 1, 1],
+        },
+        Reason::ObjectRange,
+        85,
+    ),
+    (
+        "an equal object",
+        Case {
+            my: &[true],
+            mz: &[false, true],
+            ys: &[1],
+            zs: &[1, 1],
+            counts: [1, 1, 1],
+        },
+        Reason::ObjectsNotAscending,
+        85,
+    ),
+    (
+        "a smaller object",
+        Case {
+            my: &[true],
+            mz: &[false, true],
+            ys: &[1],
+            zs: &[2, 1],
+            counts: [1, 1, 2],
+        },
+        Reason::ObjectsNotAscending,
+        85,
+    ),
+    (
+        "a predicate and an object too many",
+        Case {
+            my: &[true],
+            mz: &[true],
+            ys: &[2],
+            zs: &[2],
+            counts: [1, 1, 1],
+        },
+        Reason::PredicateRange,
+        76,
+    ),
+];
+
+#[test]
+fn refuses_each_row_at_its_place(rt: HostRuntime) -> Result<(), Fail> {
+    for (name, case, reason, place) in &REFUSED {
+        let bytes = spelled(rt.alloc(), ORDER, case)?;
+        let fault = read(&bytes, case.counts).err();
+        assert_eq!(rt;
+            fault,
+            Some(Fault {
+                place: *place,
+                reason: *reason
+            }),
+            "{name}"
+        );
+    }
+    for properties in [b"".as_slice(), b"order=2;", b"order=1;order=01"] {
+        let bytes = spelled(rt.alloc(), properties, &THREE)?;
+        let fault = read(&bytes, THREE.counts).err();
+        assert_eq!(rt;
+            fault,
+            Some(Fault {
+                place: 45,
+                reason: Reason::TripleOrder
+            })
+        );
+    }
+    Ok(())
+}
+
+/// Triples that are accepted: a predicate and an object may be smaller in a new group.
+static ACCEPTED: [Case; 3] = [
+    Case {
+        my: &[true, true],
+        mz: &[true, true],
+        ys: &[2, 1],
+        zs: &[2, 1],
+        counts: [2, 2, 2],
+    },
+    Case {
+        my: &[false, true],
+        mz: &[false, true, true],
+        ys: &[1, 2],
+        zs: &[1, 2, 1],
+        counts: [1, 2, 2],
+    },
+    Case {
+        my: &[true],
+        mz: &[true],
+        ys: &[1],
+        zs: &[1],
+        counts: [9, 9, 9],
+    },
+];
+
+#[test]
+fn accepts_what_ascends_in_its_group(rt: HostRuntime) -> Result<(), Fail> {
+    for case in &ACCEPTED {
+        let bytes = spelled(rt.alloc(), b"order=2;order=1", case)?;
+        let (triples, end) = read(&bytes, case.counts).ok().ok_or("refused")?;
+        assert_eq!(rt;
+            (triples.len(), end),
+            (case.zs.len() as u64, bytes.len().wrapping_sub(1))
+        );
+    }
+    Ok(())
+}
+
+#[test]
+fn reads_many_triples(rt: HostRuntime) -> Result<(), Fail> {
+    let alloc = rt.alloc();
+    // 100 subjects, each with 10 predicates, each with 100 objects.
+    let mut my = Vec::new(alloc);
+    let mut mz = Vec::new(alloc);
+    let mut ys = Vec::new(alloc);
+    let mut zs = Vec::new(alloc);
+    for _ in 0..100_u32 {
+        for predicate in 1..=10_u64 {
+            my.push(predicate == 10)?;
+            ys.push(predicate)?;
+            for object in 1..=100_u64 {
+                mz.push(object == 100)?;
+                zs.push(object)?;
+            }
+        }
+    }
+    let mut bytes = Vec::new(alloc);
+    put_control(Kind::Triples, ORDER, &mut bytes)?;
+    if my.is_empty() || mz.is_empty() {
+        return Err(Fail::from("no triples"));
+    }
+    put_bits(&my, &mut bytes)?;
+    put_bits(&mz, &mut bytes)?;
+    put_numbers(&ys, &mut bytes)?;
+    put_numbers(&zs, &mut bytes)?;
+    let (triples, end) = read(&bytes, [100, 10, 100]).ok().ok_or("refused")?;
+    assert_eq!(rt; (triples.len(), end), (100_000, bytes.len()));
+    for (j, triple) in [
+        (0, (1, 1, 1)),
+        (99, (1, 1, 100)),
+        (100, (1, 2, 1)),
+        (54_321, (55, 4, 22)),
+        (99_999, (100, 10, 100)),
+    ] {
+        if j < triples.len() {
+            assert_eq!(rt; triples.get(j), triple, "triple {j}");
+        }
+    }
+    assert_eq!(rt;
+        read(&bytes, [99, 10, 100]).err().map(|fault| fault.reason),
+        Some(Reason::SubjectRange)
+    );
+    assert_eq!(rt;
+        read(&bytes, [100, 9, 100]).err().map(|fault| fault.reason),
+        Some(Reason::PredicateRange)
+    );
+    assert_eq!(rt;
+        read(&bytes, [100, 10, 99]).err().map(|fault| fault.reason),
+        Some(Reason::ObjectRange)
+    );
+    Ok(())
+}
+
+/// A function over values that are copied.
+fn copied<T: Copy>(value: &T) -> T {
+    *value
+}
+
+#[test]
+fn triples_are_copied(rt: HostRuntime) -> Result<(), Fail> {
+    let bytes = spelled(rt.alloc(), ORDER, &THREE)?;
+    let (triples, _) = read(&bytes, THREE.counts).ok().ok_or("refused")?;
+    assert_eq!(rt; copied(&triples).len(), 3);
+    Ok(())
+}

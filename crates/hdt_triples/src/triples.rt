@@ -1,0 +1,101 @@
+//! Bitmap triples.
+ghost use Rattle.std.specs.Prelude.{◌≡◌, ◌≤◌, ◌<◌, ◌^◌, length, IfOk, Ok};
+ghost use Rattle.hdt_wire.specs.Rows.{Reads};
+ghost use Rattle.hdt_seq.specs.Numbers.{numbers_of};
+ghost use Rattle.hdt_seq.specs.Bits.{bits_of};
+ghost use Rattle.hdt_triples.specs.Counting.{AreTriples};
+ghost use Rattle.hdt_triples.specs.CountsView.{counts_of};
+
+use crate::counts::Counts;
+use crate::rows::{fit, in_order, marks_before};
+use hdt_seq::{Bits, Numbers};
+use hdt_wire::{Fault, Kind, Reason, demand, read_control};
+
+/// Triples that were read: they borrow the input, and are searched as they lie.
+#[derive(Clone, Copy)]
+pub struct Triples<'a> {
+    pub(crate) my: Bits<'a>,
+    pub(crate) mz: Bits<'a>,
+    pub(crate) ys: Numbers<'a>,
+    pub(crate) zs: Numbers<'a>,
+    counts: Counts,
+    ghost few: { counts.subjects < 2 ^ 63 },
+    ghost fit: { AreTriples (counts_of counts) (record { my = bits_of my; mz = bits_of mz; ys = numbers_of ys; zs = numbers_of zs }) },
+}
+
+#[tactic(auto, unfolding(crate::specs::Views::bitmap_read))]
+impl<'a> Triples<'a> {
+    ghost use Rattle.hdt_wire.specs.Exact.{Seen};
+    ghost use Rattle.hdt_triples.specs.Counting.{triple_at};
+    ghost use Rattle.hdt_triples.specs.Triples.{TripleParts, IsTriples};
+    ghost use Rattle.hdt_triples.specs.Views.{bitmap_read, read_of, parts_read, triples_in};
+
+    /// Reads by rows.
+    #[tactic(auto, unfolding(crate::specs::Triples::triples_at, crate::specs::Views::bitmap_read))]
+    fn read_rows(bytes: &'a [u8], at: usize, counts: Counts) -> Result<(Triples<'a>, usize), Fault>
+        requires { counts.subjects < 2 ^ 63 }
+        ensures exact { Reads read_of result (triples_in (counts_of counts) bytes.now at) }
+        ensures end { IfOk result (λ r. r.1 ≤ length bytes.now) }
+    {
+        let block = read_control(bytes, at, Kind::Triples)?;
+        demand(
+            in_order(block.properties()),
+            block.properties_at(),
+            Reason::TripleOrder,
+        )?;
+        let (my, my_end) = Bits::read(bytes, block.end())?;
+        let (mz, mz_end) = Bits::read(bytes, my_end)?;
+        let (ys, ys_end) = Numbers::read(bytes, mz_end)?;
+        let (zs, end) = Numbers::read(bytes, ys_end)?;
+        fit(&counts, &my, &mz, &ys, &zs)?;
+        Ok((
+            Triples {
+                my,
+                mz,
+                ys,
+                zs,
+                counts,
+            },
+            end,
+        ))
+    }
+
+    /// Reads the triples at a place, whose numbers are of so many strings, and answers them with the place after them.
+    ///
+    /// It takes no memory, and goes once over the pairs and once over the triples. Faults, in the order of the rows: those
+    /// of the control block, `TripleOrder`, those of the four sequences, `LengthsDiffer`, `LastMark`, `MarkCount`, those
+    /// of the pairs in turn, those of the objects in turn.
+    pub fn read(bytes: &'a [u8], at: usize, counts: Counts) -> Result<(Triples<'a>, usize), Fault>
+        requires subjects { counts.subjects ≤ length bytes.now }
+        requires predicates { counts.predicates ≤ length bytes.now }
+        requires objects { counts.objects ≤ length bytes.now }
+        // What is read stands at that place.
+        ensures found { IfOk result (λ r. Seen parts_read (λ t. IsTriples (counts_of counts) t bytes.now at) (read_of r)) }
+        // What stands there is read, whatever follows.
+        ensures only { (t : TripleParts) → IsTriples (counts_of counts) t bytes.now at → Reads read_of result (Ok (parts_read t)) }
+        // Otherwise it is the one fault that stands.
+        ensures exact { Reads read_of result (triples_in (counts_of counts) bytes.now at) }
+        ensures end { IfOk result (λ r. r.1 ≤ length bytes.now) }
+    {
+        Triples::read_rows(bytes, at, counts)
+    }
+
+    /// How many triples there are.
+    pub fn len(&self) -> u64
+        ensures { result ≡ length (bitmap_read self.now).zs }
+    {
+        self.zs.len()
+    }
+
+    /// Triple j, counted from 0: its subject, its predicate and its object. It counts marks from the first on, so it
+    /// costs time in proportion to the place.
+    #[tactic(auto, using(crate::proofs::Within::pair_within), unfolding(crate::specs::Views::bitmap_read))]
+    pub fn get(&self, j: u64) -> (u64, u64, u64)
+        requires { j < length (bitmap_read self.now).zs }
+        ensures { result ≡ triple_at (bitmap_read self.now) j }
+    {
+        let pair = marks_before(&self.mz, j);
+        let subject = marks_before(&self.my, pair) + 1;
+        (subject, self.ys.get(pair), self.zs.get(j))
+    }
+}
