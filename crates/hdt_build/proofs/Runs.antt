@@ -1,5 +1,5 @@
 -- A run over the lines of an input, which takes the strings of its triples.
-use Rattle.std.proofs.Common.{◌≡◌, ℕ, ◌<◌, ◌≤◌, Bool, true, false, List, [], ◌∷◌, ◌++◌, length, map, eqb, not, Option, ◌⊎◌, inl, inr, refl, sym, ap, subst, ◌∙◌, arith}
+use Rattle.std.proofs.Common.{◌≡◌, ◌≢◌, ℕ, ◌<◌, ◌≤◌, Bool, true, false, List, [], ◌∷◌, ◌++◌, length, map, eqb, not, Option, ◌⊎◌, inl, inr, refl, sym, ap, subst, ◌∙◌, arith}
 use Rattle.std.specs.List.{All}
 use Rattle.std.proofs.lemmas.Bool.{eqb-false}
 use Rattle.std.proofs.lemmas.List.{length-append, map_push}
@@ -8,6 +8,7 @@ use Rattle.std.proofs.lemmas.List.Sums.{AllPass-from_list_all}
 use Rattle.hdt_wire.specs.RowLaws.{not-true}
 use Rattle.hdt_dict.specs.Texts.{IsText}
 use Rattle.hdt_terms.specs.declared.fault.LineFault.{LineFault}
+use Rattle.hdt_terms.specs.declared.fault.LineReason.TheVariants.{OutOfMemory, Read}
 use Rattle.hdt_terms.specs.declared.triple.Triple.{Triple}
 use Rattle.hdt_build.specs.declared.fault.BuildFault.{BuildFault}
 use Rattle.hdt_terms.specs.Documents.{IsDocument, Ran, FaultInDocument}
@@ -17,7 +18,7 @@ use Rattle.hdt_terms.specs.Taking.{State, TakesTriple, start, left}
 use Rattle.hdt_terms.specs.Terms as terms
 use Rattle.hdt_terms.specs.Terms.{str}
 use Rattle.hdt_build.specs.Graph.{StringTriple, subjects_of, predicates_of, objects_of}
-use Rattle.hdt_build.specs.Reading.{most, strings_of, IsGraphIn, AreTexts, IsFaultOf, Tells}
+use Rattle.hdt_build.specs.Reading.{most, strings_of, IsGraphIn, AreTexts, IsFaultOf, ReadFailed, Tells}
 
 pub either : (b : Bool) → (b ≡ true) ⊎ (b ≡ false)
 either true = inl refl
@@ -115,3 +116,8 @@ empty_map (t ∷ ts) e = absurd cc
 -- a graph without triples is that of a document without triples
 pub no_triples : (input : Option (List ℕ)) (graph : List StringTriple) → IsGraphIn input graph → graph ≡ [] → IsDocument most input []
 no_triples input graph h none = subst (IsDocument most input) (empty_map h.triples (sym h.strings ∙ none)) h.document
+
+-- a fault that doesn't tell of the reader comes of a fault that doesn't
+pub not_read : (fault : LineFault) (told : BuildFault) → IsFaultOf fault told → (ReadFailed told → ⊥) → fault.reason ≢ Read
+not_read fault told (inl memory) unread e = absurd cc
+not_read fault told (inr line) unread e = unread (subst ReadFailed (sym line.1) e)

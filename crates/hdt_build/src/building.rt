@@ -65,6 +65,7 @@ fn read_and_build<R: Read>(
     ensures found { IfOk result (λ made. Builds options.now (R.remaining (inner input.old)) made.0.items made.1) }
     ensures told { IfErr result (Tells (R.remaining (inner input.old)) (R.remaining (inner input.new))) }
     ensures read { IfErr result (λ e. ReadFailed e → failures input.new ≡ failures input.old + 1) }
+    ensures still { IfErr result (λ e. (ReadFailed e → ⊥) → failures input.new ≡ failures input.old) }
     ensures count { OnOk result (failures input.new ≡ failures input.old) }
 {
     let document = read_graph(alloc, input)?;
@@ -101,8 +102,9 @@ pub fn build_bytes<R: Read>(
     ensures unread { IsErrOf result BuildFault.BadOptions → input.new ≡ input.old }
     // Any other fault is one that stands in the input.
     ensures told { IfErr result (λ e. e ≢ BuildFault.BadOptions → Tells (R.remaining (inner input.old)) (R.remaining (inner input.new)) e) }
-    // The reader failed in this call where the fault says so, and not at Ok.
+    // The reader failed in this call where the fault says so, and at no other answer.
     ensures read { IfErr result (λ e. ReadFailed e → failures input.new ≡ failures input.old + 1) }
+    ensures still { IfErr result (λ e. (ReadFailed e → ⊥) → failures input.new ≡ failures input.old) }
     ensures count { OnOk result (failures input.new ≡ failures input.old) }
 {
     if !are_right(options) {
@@ -131,8 +133,9 @@ pub fn build<R: Read, W: Write>(
     ensures unread { IsErrOf result BuildFault.BadOptions → input.new ≡ input.old }
     // Any other fault than that of writing is one that stands in the input.
     ensures told { IfErr result (λ e. e ≢ BuildFault.BadOptions → ((n : ℕ) → e ≢ BuildFault.Write n) → Tells (R.remaining (inner input.old)) (R.remaining (inner input.new)) e) }
-    // The reader failed in this call where the fault says so, and not at Ok.
+    // The reader failed in this call where the fault says so, and at no other answer.
     ensures read { IfErr result (λ e. ReadFailed e → failures input.new ≡ failures input.old + 1) }
+    ensures still { IfErr result (λ e. (ReadFailed e → ⊥) → failures input.new ≡ failures input.old) }
     ensures count { OnOk result (failures input.new ≡ failures input.old) }
     // The writer failed in this call, and has gained exactly the first n bytes.
     ensures write { IfErr result (λ e. (n : ℕ) → e ≡ BuildFault.Write n → (failures out.new ≡ failures out.old + 1)

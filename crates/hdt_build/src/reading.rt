@@ -32,6 +32,7 @@ pub fn read_graph<R: Read>(alloc: Global, input: &mut Counted<R>) -> Result<Docu
     ensures texts { IfOk result (λ document. AreTexts (graph_of document)) }
     ensures told { IfErr result (Tells (R.remaining (inner input.old)) (R.remaining (inner input.new))) }
     ensures read { IfErr result (λ e. ReadFailed e → failures input.new ≡ failures input.old + 1) }
+    ensures still { IfErr result (λ e. (ReadFailed e → ⊥) → failures input.new ≡ failures input.old) }
     ensures some { IfErr result (λ e. e ≢ BuildFault.NoTriples) }
     ensures count { OnOk result (failures input.new ≡ failures input.old) }
 {

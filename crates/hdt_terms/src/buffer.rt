@@ -1,5 +1,5 @@
 //! The bytes that were read and not yet taken: one vector, filled at its end and taken from its front.
-ghost use Rattle.std.specs.Prelude.{◌≡◌, ℕ, ◌+◌, ◌-◌, ◌*◌, ◌<◌, ◌≤◌, List, [], length, drop, take, IfOk, OnOk, OnErr, IsErrOf, vec_len, replicate, ◌++◌};
+ghost use Rattle.std.specs.Prelude.{◌≡◌, ◌≢◌, IfErr, ℕ, ◌+◌, ◌-◌, ◌*◌, ◌<◌, ◌≤◌, List, [], length, drop, take, IfOk, OnOk, OnErr, IsErrOf, vec_len, replicate, ◌++◌};
 ghost use Rattle.std.specs.Io.KnownBytes.{Consumes, Keeps, IsAtEnd};
 ghost use Rattle.hdt_wire.specs.Counted.{inner, failures};
 ghost use Rattle.hdt_terms.specs.Filling.{ReadOnce};
@@ -132,6 +132,7 @@ impl Buffer {
         ensures most { IfOk result (λ n. n ≤ most) }
         ensures count { OnOk result (failures input.new ≡ failures input.old) }
         ensures failed { IsErrOf result Read → failures input.new ≡ failures input.old + 1 }
+        ensures still { IfErr result (λ reason. reason ≢ Read → failures input.new ≡ failures input.old) }
     {
         let made = make_room(&mut self.bytes, self.start, self.end);
         self.end -= self.start;

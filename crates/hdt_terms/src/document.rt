@@ -1,5 +1,5 @@
 //! All the triples of a document.
-ghost use Rattle.std.specs.Prelude.{◌≡◌, ◌+◌, ◌^◌, ◌<◌, ◌⊎◌, IfOk, IfErr, OnOk};
+ghost use Rattle.std.specs.Prelude.{◌≡◌, ◌≢◌, ◌+◌, ◌^◌, ◌<◌, ◌⊎◌, IfOk, IfErr, OnOk};
 ghost use Rattle.hdt_wire.specs.Counted.{inner, failures};
 ghost use Rattle.hdt_terms.specs.Documents.{IsDocument, FaultInDocument};
 ghost use Rattle.hdt_terms.specs.declared.fault.LineReason.TheVariants as reasons;
@@ -36,6 +36,7 @@ pub fn read_document<R: Read>(
     ensures fault { IfErr result (λ f. (f.reason ≡ reasons.OutOfMemory) ⊎ FaultInDocument f limit (R.remaining (inner input.old)) (R.remaining (inner input.new))) }
     // The reader failed at a fault that says so, and else not.
     ensures read { IfErr result (λ f. f.reason ≡ reasons.Read → failures input.new ≡ failures input.old + 1) }
+    ensures still { IfErr result (λ f. f.reason ≢ reasons.Read → failures input.new ≡ failures input.old) }
     ensures count { OnOk result (failures input.new ≡ failures input.old) }
 {
     let mut lines = match Lines::new(alloc, limit) {

@@ -1,5 +1,5 @@
 //! Reading until a line is held.
-ghost use Rattle.std.specs.Prelude.{◌≡◌, ◌+◌, ◌≤◌, take, length, OnOk, IsErrOf};
+ghost use Rattle.std.specs.Prelude.{◌≡◌, ◌≢◌, IfErr, ◌+◌, ◌≤◌, take, length, OnOk, IsErrOf};
 ghost use Rattle.hdt_wire.specs.Counted.{inner, failures};
 ghost use Rattle.hdt_terms.specs.Filling.{FoundEnd, ReadMore, Filled};
 ghost use Rattle.hdt_terms.specs.Lines.{NoEnd};
@@ -36,6 +36,7 @@ fn read_more<R: Read>(
     ensures does { ReadMore result held.old held.new (R.remaining (inner input.old)) (R.remaining (inner input.new)) most }
     ensures count { OnOk result (failures input.new ≡ failures input.old) }
     ensures failed { IsErrOf result Read → failures input.new ≡ failures input.old + 1 }
+    ensures still { IfErr result (λ reason. reason ≢ Read → failures input.new ≡ failures input.old) }
 {
     if held.len() == most {
         let mut past = [0u8; 1];
@@ -63,6 +64,7 @@ fn fill<R: Read>(
     ensures does { Filled result held.old held.new (R.remaining (inner input.old)) (R.remaining (inner input.new)) most }
     ensures count { OnOk result (failures input.new ≡ failures input.old) }
     ensures failed { IsErrOf result Read → failures input.new ≡ failures input.old + 1 }
+    ensures still { IfErr result (λ reason. reason ≢ Read → failures input.new ≡ failures input.old) }
 {
     'fill: loop {
         let searched = held.len();
@@ -87,6 +89,7 @@ pub fn first_line<R: Read>(
     ensures does { Filled result held.old held.new (R.remaining (inner input.old)) (R.remaining (inner input.new)) most }
     ensures count { OnOk result (failures input.new ≡ failures input.old) }
     ensures failed { IsErrOf result Read → failures input.new ≡ failures input.old + 1 }
+    ensures still { IfErr result (λ reason. reason ≢ Read → failures input.new ≡ failures input.old) }
 {
     if let Some(place) = line_end(held.as_slice(), 0) {
         return Ok(place);

@@ -1,5 +1,5 @@
 //! The lines of a document, over any reader in any pieces.
-ghost use Rattle.std.specs.Prelude.{◌≡◌, ◌+◌, ◌-◌, ◌==◌, ◌&&◌, if◌then◌else◌, take, slice_index, nat_lt, ◌^◌, ◌<◌, ◌≤◌, true, false, [], length, IfOk, OnOk, OnErr, IfErr, IsErrOf, IsUtf8, None, Some, Ok, Err, IfSome};
+ghost use Rattle.std.specs.Prelude.{◌≡◌, ◌≢◌, ◌+◌, ◌-◌, ◌==◌, ◌&&◌, if◌then◌else◌, take, slice_index, nat_lt, ◌^◌, ◌<◌, ◌≤◌, true, false, [], length, IfOk, OnOk, OnErr, IfErr, IsErrOf, IsUtf8, None, Some, Ok, Err, IfSome};
 ghost use Rattle.hdt_wire.specs.Counted.{inner, failures};
 ghost use Rattle.hdt_terms.specs.Chars.{is_end};
 ghost use Rattle.hdt_terms.specs.Filling.{Filled};
@@ -110,6 +110,7 @@ impl Lines {
         ensures room { self.old.taken ≤ self.old.limit }
         ensures count { OnOk result (failures input.new ≡ failures input.old) }
         ensures failed { IsErrOf result Read → failures input.new ≡ failures input.old + 1 }
+        ensures still { IfErr result (λ reason. reason ≢ Read → failures input.new ≡ failures input.old) }
     {
         let most = (self.limit - self.taken) as usize;
         first_line(&mut self.held, most, input)
@@ -224,6 +225,7 @@ impl Lines {
             (left self.new (R.remaining (inner input.new))) (R.remaining (inner input.new)) }
         ensures count { OnOk result (failures input.new ≡ failures input.old) }
         ensures failed { IfErr result (λ f. f.reason ≡ Read → failures input.new ≡ failures input.old + 1) }
+        ensures still { IfErr result (λ f. f.reason ≢ Read → failures input.new ≡ failures input.old) }
     {
         // What holds of every reader of lines is known from here on.
         let _ = &self.alloc;
@@ -251,6 +253,7 @@ impl Lines {
             (left self.new (R.remaining (inner input.new))) (R.remaining (inner input.new)) }
         ensures count { OnOk result (failures input.new ≡ failures input.old) }
         ensures failed { IfErr result (λ f. f.reason ≡ Read → failures input.new ≡ failures input.old + 1) }
+        ensures still { IfErr result (λ f. f.reason ≢ Read → failures input.new ≡ failures input.old) }
     {
         match self.find_line(input) {
             Err(fault) => Err(fault),
@@ -278,6 +281,7 @@ impl Lines {
             (left self.new (R.remaining (inner input.new))) (R.remaining (inner input.new)) }
         ensures count { OnOk result (failures input.new ≡ failures input.old) }
         ensures failed { IfErr result (λ f. f.reason ≡ Read → failures input.new ≡ failures input.old + 1) }
+        ensures still { IfErr result (λ f. f.reason ≢ Read → failures input.new ≡ failures input.old) }
     {
         match self.find_line(input) {
             Err(fault) => Err(fault),
@@ -314,8 +318,9 @@ impl Lines {
             Answers result self.old self.new (left self.old (R.remaining (inner input.old)))
             (left self.new (R.remaining (inner input.new))) (R.remaining (inner input.new)) }
         ensures fault { IfErr result (λ f. self.new.failed ≡ Some f) }
-        // The reader failed in this call at a fault that says so, and at no triple.
+        // The reader failed in this call at a fault that says so, and at no other answer.
         ensures read { self.old.failed ≡ None → IfErr result (λ f. f.reason ≡ Read → failures input.new ≡ failures input.old + 1) }
+        ensures still { IfErr result (λ f. f.reason ≢ Read → failures input.new ≡ failures input.old) }
         ensures count { OnOk result (failures input.new ≡ failures input.old) }
     {
         if let Some(fault) = self.failed {
@@ -358,8 +363,9 @@ impl Lines {
             (left self.new (R.remaining (inner input.new))) (R.remaining (inner input.new)) }
         ensures none { NoStrings result s.new.items p.new.items o.new.items }
         ensures fault { IfErr result (λ f. self.new.failed ≡ Some f) }
-        // The reader failed in this call at a fault that says so, and at no triple.
+        // The reader failed in this call at a fault that says so, and at no other answer.
         ensures read { self.old.failed ≡ None → IfErr result (λ f. f.reason ≡ Read → failures input.new ≡ failures input.old + 1) }
+        ensures still { IfErr result (λ f. f.reason ≢ Read → failures input.new ≡ failures input.old) }
         ensures count { OnOk result (failures input.new ≡ failures input.old) }
     {
         clear_all(s, p, o);

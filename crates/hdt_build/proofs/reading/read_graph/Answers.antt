@@ -3,7 +3,7 @@ use Rattle.hdt_terms.specs.declared.term.Term.{Term}
 use Rattle.hdt_terms.specs.Spelling.{Spelled}
 use Rattle.hdt_build.specs.Documents.{graph_of}
 use Rattle.hdt_build.specs.Reading.{most, AreTexts}
-use Rattle.hdt_build.proofs.Runs.{Run, either, run_begins, run_on, texts_more, no_texts, line_of, triple_size, told_of}
+use Rattle.hdt_build.proofs.Runs.{Run, either, run_begins, run_on, texts_more, no_texts, line_of, triple_size, told_of, not_read}
 use Rattle.hdt_build.proofs.reading.read_graph.Goals as goal
 
 pub triples-init : goal.triples-init
@@ -72,3 +72,6 @@ returns-in-Err-clause-told g c =
     let going : c.triples.lines.ended ≡ false = ⊎_elim (λ end. absurd (cc (read.ended inv.failed end).0)) (λ e. e) (either c.triples.lines.ended) in
     told_of _ _ c.in-Err.fault c.fault_of.result c.fault_of.ensures
     (c.run_of_lines.ensures.fault c.in-Err.fault most c.triples.lines _ _ _ inv.run.triples (inv.run.going going) (read.answers inv.failed going))
+
+pub returns-in-Err-clause-still : goal.returns-in-Err-clause-still
+returns-in-Err-clause-still g c = λ no. c.in-Err.ensures.still (not_read c.in-Err.fault c.fault_of.result c.fault_of.ensures no) ∙ c.triples.invariant.count
