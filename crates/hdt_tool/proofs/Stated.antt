@@ -1,5 +1,5 @@
 -- What the entries of a command state, and what lacks where they state nothing.
-use Rattle.std.proofs.Common.{◌≡◌, ℕ, Bool, true, false, List, Option, None, Some, codes, refl, sym, ap, subst, rules, inl, inr, ◌⊎◌, ◌∙◌}
+use Rattle.std.proofs.Common.{◌≡◌, ℕ, Bool, true, false, List, Option, None, Some, codes, refl, sym, ap, subst, rules, inl, inr, ◌⊎◌, ⊎_elim, ◌∙◌}
 use Rattle.std.specs.Prelude.{◌≢◌, IsSome, IsSomeAnd, MatchOption}
 use Rattle.std.specs.declared.alloc.Global.{Global}
 use Rattle.std.specs.declared.vec.Vec.{Vec}
@@ -15,9 +15,11 @@ use Rattle.hdt_tool.specs.declared.fault.UsageFault.{UsageFault}
 use Rattle.hdt_tool.specs.declared.fault.Word.{Word as TermWord}
 use Rattle.hdt_tool.specs.declared.fault.Word.TheVariants.{Subject, Predicate, Object}
 use Rattle.hdt_tool.specs.declared.fault.UsageFault.TheVariants.{Usage, Help, Word, OutOfMemory}
+use Rattle.hdt_build.specs.declared.options.Options.{Options}
 use Rattle.hdt_tool.specs.declared.request.Action.{Action}
+use Rattle.hdt_tool.specs.declared.request.Request.{Request}
 use Rattle.hdt_tool.specs.declared.request.Action.TheVariants as action
-use Rattle.hdt_tool.specs.Asked.{AsksAction, ComesWithout, ComesWithoutOr, IsFaultOf, IsMisspelt, IsMisspeltPart, IsStringOf, IsUsed, IsUnused, Misspells, StatesNumber, StatesPart, StatesString, StatesWord, StatesWords, TellsTerm}
+use Rattle.hdt_tool.specs.Asked.{AsksAction, AsksBuild, AsksFor, AsksOfFile, AsksToBuild, ComesWithout, ComesWithoutOr, IsFaultOf, IsMisspelt, IsMisspeltPart, IsStringOf, IsUsed, IsUnused, Misspells, StatesNumber, StatesOptions, StatesPart, StatesString, StatesWord, StatesWords, TellsTerm}
 use Rattle.hdt_tool.specs.Lines.{word_name}
 use Rattle.hdt_tool.specs.TriplesText.{Given}
 
@@ -109,10 +111,11 @@ strings_need name rows is (action.Nth role n, h) = differ name _ _ is h.0 refl
 strings_need name rows is (action.Number role x, h) = differ name _ _ is h.0 refl
 strings_need name rows is (action.Find given numbers, inl h) = differ name _ _ is h.0 refl
 strings_need name rows is (action.Find given numbers, inr h) = differ name _ _ is h.0 refl
+strings_need name rows is (action.Build options, h) = absurd h
 
 -- `string` for a role and a number
 pub string_needs : (name : Text) (rows : List Row) → name ≡ codes "string" → (x : Action) × AsksAction name rows x
-    → ((role : Role) × (first_of (codes "ROLE") rows ≡ Some (role_name role))) × ((n : ℕ) × StatesNumber (one_of (codes "N") rows) n)
+    → ((role : Role) × (first_of (codes "ROLE") rows ≡ Some (role_name role))) × ((n : ℕ) × StatesNumber 64 (one_of (codes "N") rows) n)
 string_needs name rows is (action.Head, h) = differ name _ _ is h refl
 string_needs name rows is (action.Verify, h) = differ name _ _ is h refl
 string_needs name rows is (action.Strings role, h) = differ name _ _ is h.0 refl
@@ -120,6 +123,7 @@ string_needs name rows is (action.Nth role n, h) = ((role, h.1), (n, h.2))
 string_needs name rows is (action.Number role x, h) = differ name _ _ is h.0 refl
 string_needs name rows is (action.Find given numbers, inl h) = differ name _ _ is h.0 refl
 string_needs name rows is (action.Find given numbers, inr h) = differ name _ _ is h.0 refl
+string_needs name rows is (action.Build options, h) = absurd h
 
 -- TERM is there where it states a string
 states_some : (raw entry : Option Text) (x : List ℕ) → StatesString raw entry x → IsSome entry
@@ -136,6 +140,7 @@ number_needs name rows is (action.Nth role n, h) = differ name _ _ is h.0 refl
 number_needs name rows is (action.Number role x, h) = ((role, h.1), states_some _ _ x.items h.2)
 number_needs name rows is (action.Find given numbers, inl h) = differ name _ _ is h.0 refl
 number_needs name rows is (action.Find given numbers, inr h) = differ name _ _ is h.0 refl
+number_needs name rows is (action.Build options, h) = absurd h
 
 -- `find` for what S, P and O state
 find_needs : (rows : List Row) → (x : Action) × AsksAction (codes "find") rows x → (given : Given) × StatesWords rows given
@@ -146,6 +151,7 @@ find_needs rows (action.Nth role n, h) = differ _ _ _ refl h.0 refl
 find_needs rows (action.Number role x, h) = differ _ _ _ refl h.0 refl
 find_needs rows (action.Find given numbers, inl h) = (given, h.1)
 find_needs rows (action.Find given numbers, inr h) = differ _ _ _ refl h.0 refl
+find_needs rows (action.Build options, h) = absurd h
 
 -- a word is there where it states a string or none
 word_some : (raw entry : Option Text) (x : Option (Vec ℕ Global)) → StatesPart raw entry x → IsSome entry
@@ -172,3 +178,39 @@ predicate_misspelt rows s first word fault h = subst (λ (w : TermWord). Misspel
 pub object_misspelt : (rows : List Row) (s p : Option (Vec ℕ Global)) → StatesWord rows Subject s → StatesWord rows Predicate p → (word : TermWord) (fault : TermFault)
     → (word ≡ Object) × IsMisspeltPart rows Object fault → Misspells (codes "find") rows word fault
 object_misspelt rows s p first second word fault h = subst (λ (w : TermWord). Misspells (codes "find") rows w fault) (sym h.0) (refl, (s, first), (p, second), h.1)
+
+-- ---- `build`
+
+-- it asks for options
+pub options_needed : (rows : List Row) (a : Action) → AsksToBuild rows a → (options : Options) × StatesOptions rows options
+options_needed rows action.Head h = absurd h
+options_needed rows action.Verify h = absurd h
+options_needed rows (action.Strings role) h = absurd h
+options_needed rows (action.Nth role n) h = absurd h
+options_needed rows (action.Number role x) h = absurd h
+options_needed rows (action.Find given numbers) h = absurd h
+options_needed rows (action.Build options) h = (options, h)
+
+-- no command on a file has its name
+pub not_of_file : (rows : List Row) (a : Action) → AsksAction (codes "build") rows a → ⊥
+not_of_file rows action.Head h = differ _ _ _ refl h refl
+not_of_file rows action.Verify h = differ _ _ _ refl h refl
+not_of_file rows (action.Strings role) h = differ _ _ _ refl h.0 refl
+not_of_file rows (action.Nth role n) h = differ _ _ _ refl h.0 refl
+not_of_file rows (action.Number role x) h = differ _ _ _ refl h.0 refl
+not_of_file rows (action.Find given numbers) (inl h) = differ _ _ _ refl h.0 refl
+not_of_file rows (action.Find given numbers) (inr h) = differ _ _ _ refl h.0 refl
+not_of_file rows (action.Build options) h = h
+
+-- what is refused of `build` is refused of the whole table
+pub of_build : (name : Text) (rows : List Row) (r : UsageFault) → name ≡ codes "build" → ComesWithout ((request : Request) × AsksBuild (codes "build") rows request) r
+    → ComesWithoutOr ((request : Request) × AsksFor name rows request) (Misspells name rows) r
+of_build name rows r is h =
+    subst (λ (n : Text). ComesWithoutOr ((request : Request) × AsksFor n rows request) (Misspells n rows) r) (sym is) (without_or _ _ (Misspells (codes "build") rows) r
+    (λ w. (w.0, ⊎_elim (λ file. absurd (not_of_file rows w.0.action file.action)) (λ asks. asks) w.1)) h)
+
+-- and so is what is refused of a command on a file
+pub of_others : (name : Text) (rows : List Row) (r : UsageFault) → name ≢ codes "build"
+    → ComesWithoutOr ((request : Request) × AsksOfFile name rows request) (Misspells name rows) r
+    → ComesWithoutOr ((request : Request) × AsksFor name rows request) (Misspells name rows) r
+of_others name rows r other h = or_or _ _ _ _ r (λ w. (w.0, ⊎_elim (λ file. file) (λ asks. absurd (other asks.named)) w.1)) (λ word fault m. m) h

@@ -3,7 +3,7 @@ use Rattle.std.proofs.Common.{◌≡◌, ◌≢◌, ◌⊎◌, ℕ, refl, inl, i
 use Rattle.std.specs.Prelude.{List, Result, Ok, Err, MatchResult, IfOk, IfErr}
 use Rattle.clap.specs.Words.{Text}
 use Rattle.hdt_tool.specs.declared.fault.ToolFault.{ToolFault}
-use Rattle.hdt_tool.specs.declared.fault.ToolFault.TheVariants.{File, NoSuchTerm, NoSuchNumber, NotATerm, Read, Write, OutOfMemory}
+use Rattle.hdt_tool.specs.declared.fault.ToolFault.TheVariants.{File, Input, NoTriples, NoSuchTerm, NoSuchNumber, NotATerm, BadOptions, Read, Write, OutOfMemory}
 use Rattle.hdt_tool.specs.declared.fault.UsageFault.{UsageFault}
 use Rattle.hdt_tool.specs.declared.request.Request.{Request}
 use Rattle.hdt_tool.specs.Asked.{IsRefused, Wants}
@@ -13,6 +13,9 @@ use Rattle.hdt_tool.specs.Status.{Ends, IsCommandStatus, IsRefusalStatus}
 -- a fault that is not the writer's, or one that is
 by_writer : {A B : Type 0} (fault : ToolFault) → (((n : ℕ) → fault ≢ Write n) → A) → ((n : ℕ) → fault ≡ Write n → B) → A ⊎ B
 by_writer (File fault) other write = inl (other (λ n is. absurd cc))
+by_writer (Input fault) other write = inl (other (λ n is. absurd cc))
+by_writer NoTriples other write = inl (other (λ n is. absurd cc))
+by_writer BadOptions other write = inl (other (λ n is. absurd cc))
 by_writer NoSuchTerm other write = inl (other (λ n is. absurd cc))
 by_writer NoSuchNumber other write = inl (other (λ n is. absurd cc))
 by_writer (NotATerm role m) other write = inl (other (λ n is. absurd cc))

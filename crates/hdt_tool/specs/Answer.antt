@@ -5,12 +5,21 @@ use Rattle.hdt_wire.specs.declared.fault.Fault.{Fault}
 use Rattle.hdt_file.specs.Head.{HeadParts, IsHead, head_at_start}
 use Rattle.hdt_file.specs.File.{GraphParts, IsLayout, graph_in}
 use Rattle.hdt_file.specs.Views.{lens_of, strings_in}
+use Rattle.hdt_build.specs.Built.{Builds}
+use Rattle.hdt_build.specs.Options.{AreRight}
+use Rattle.hdt_build.specs.Reading.{Tells as TellsOf}
+use Rattle.hdt_build.specs.declared.fault.BuildFault.{BuildFault}
+use Rattle.hdt_build.specs.declared.fault.BuildFault.TheVariants as building
+use Rattle.hdt_build.specs.declared.options.Options.{Options}
+use Rattle.hdt_build.specs.declared.report.Report.{Report}
+use Rattle.hdt_terms.specs.declared.fault.LineReason.TheVariants as reasons
 use Rattle.hdt_dict.specs.declared.role.Role.{Role}
 use Rattle.hdt_dict.specs.Numbered.{numbered}
 use Rattle.hdt_tool.specs.declared.fault.ToolFault.{ToolFault}
-use Rattle.hdt_tool.specs.declared.fault.ToolFault.TheVariants.{File, NoSuchTerm, NoSuchNumber, NotATerm, Read, Write, OutOfMemory}
+use Rattle.hdt_tool.specs.declared.fault.ToolFault.TheVariants.{File, Input, NoTriples, NoSuchTerm, NoSuchNumber, NotATerm, BadOptions, Read, Write, OutOfMemory}
 use Rattle.hdt_tool.specs.declared.request.Action.{Action}
-use Rattle.hdt_tool.specs.declared.request.Action.TheVariants.{Head, Verify, Strings, Nth, Number, Find}
+use Rattle.hdt_tool.specs.declared.request.Action.TheVariants.{Head, Verify, Strings, Nth, Number, Find, Build}
+use Rattle.hdt_tool.specs.BuiltText.{built_line}
 use Rattle.hdt_tool.specs.HeadText.{head_text}
 use Rattle.hdt_tool.specs.Lines.{fault_status}
 use Rattle.hdt_tool.specs.Verdict.{verdict}
@@ -41,7 +50,7 @@ pub record Opens (bytes : List ℕ) (Holds : GraphParts → Type 0) : Type 0 whe
   pub stands : IsLayout bytes graph
   pub holds : Holds graph
 
--- a command prints the text of these input bytes
+-- a command on a file prints the text of these input bytes
 abbrev pub Prints : Action → List ℕ → List ℕ → Type 0
 Prints Head bytes text = PrintsHead bytes text
 Prints Verify bytes text = PrintsVerdict bytes text
@@ -49,14 +58,17 @@ Prints (Strings role) bytes text = Consults bytes role (λ strings. text ≡ str
 Prints (Nth role n) bytes text = Consults bytes role (λ strings. PrintsString strings n text)
 Prints (Number role x) bytes text = Consults bytes role (λ strings. PrintsNumber strings x.items text)
 Prints (Find given numbers) bytes text = Opens bytes (λ graph. PrintsFound graph given numbers text)
+Prints (Build options) bytes text = ⊥
 
--- a command prints the text of these input bytes, and builds these bytes: none of the commands builds any
-abbrev pub Answer : Action → List ℕ → List ℕ → List ℕ → Type 0
-Answer action bytes text built = Prints action bytes text × (built ≡ [])
+-- a command on a file, which reads it and builds nothing
+abbrev pub ReadsFile : Action → Type 0
+ReadsFile (Build options) = ⊥
+ReadsFile action = Unit {0}
 
--- a fault of these input bytes that a command answers: `head` looks at the head alone, the others at the whole file
+-- a fault of these input bytes that a command on a file answers: `head` looks at the head alone, the others at the whole file
 abbrev pub HasFault : Action → List ℕ → Fault → Type 0
 HasFault Head bytes fault = head_at_start bytes ≡ Err fault
+HasFault (Build options) bytes fault = ⊥
 HasFault action bytes fault = graph_in bytes ≡ Err fault
 
 -- the role has no string with the number that is looked up
@@ -74,15 +86,26 @@ abbrev pub HasNoText : Action → List ℕ → Role → ℕ → Type 0
 HasNoText (Find given numbers) bytes role n = Opens bytes (λ graph. LacksTermIn graph given numbers role n)
 HasNoText action bytes role n = ⊥
 
--- what a command tells of these input bytes, where it prints nothing of them
+-- what a command on a file tells of these input bytes, where it prints nothing of them
 abbrev pub IsTold : Action → List ℕ → ToolFault → Type 0
 IsTold action bytes (File fault) = HasFault action bytes fault
+IsTold action bytes (Input fault) = ⊥
+IsTold action bytes NoTriples = ⊥
 IsTold action bytes NoSuchNumber = LacksNumber action bytes
 IsTold action bytes NoSuchTerm = LacksTerm action bytes
 IsTold action bytes (NotATerm role n) = HasNoText action bytes role n
+IsTold action bytes BadOptions = ⊥
 IsTold action bytes Read = ⊥
 IsTold action bytes (Write n) = ⊥
 IsTold action bytes OutOfMemory = Unit {0}
+
+-- a fault that a command on a file tells before it writes
+abbrev pub IsOfFile : ToolFault → Type 0
+IsOfFile (Input fault) = ⊥
+IsOfFile NoTriples = ⊥
+IsOfFile BadOptions = ⊥
+IsOfFile (Write n) = ⊥
+IsOfFile fault = Unit {0}
 
 -- all that the reader had left are these bytes
 pub record ReadsAll (before after : Option (List ℕ)) (bytes : List ℕ) : Type 0 where
@@ -95,57 +118,80 @@ pub record ReadsWith (before after : Option (List ℕ)) (Holds : List ℕ → Ty
   pub read : ReadsAll before after bytes
   pub holds : Holds bytes
 
--- a fault of the file is the one that stands in the input, a look-up without an answer has none in it, and a string that is no
--- term is the first of what is to be printed
+-- the input is a document, this file is built of it under the options, and the text tells the file's numbers
+pub record BuildsFile (options : Options) (input : Option (List ℕ)) (text built : List ℕ) : Type 0 where
+  pub report : Report
+  pub file : Builds options input built report
+  pub printed : text ≡ built_line report
+
+-- of what the reader had left a command prints this text, and builds these bytes: a command on a file reads all of it, and
+-- builds nothing
+abbrev pub Yields : Action → Option (List ℕ) → Option (List ℕ) → List ℕ → List ℕ → Type 0
+Yields (Build options) before after text built = BuildsFile options before text built
+Yields action before after text built = ReadsWith before after (λ bytes. Prints action bytes text) × (built ≡ [])
+
+-- what the builder tells of a document
+abbrev pub TellsDocument : Action → Option (List ℕ) → Option (List ℕ) → BuildFault → Type 0
+TellsDocument (Build options) before after fault = TellsOf before after fault
+TellsDocument action before after fault = ⊥
+
+-- no file can be built under the options
+abbrev pub HasBadOptions : Action → Type 0
+HasBadOptions (Build options) = AreRight options → ⊥
+HasBadOptions action = ⊥
+
+-- a fault of the file is the one that stands in the input, and so is one of a document, a look-up without an answer has none in
+-- it, and a string that is no term is the first of what is to be printed
 abbrev pub Tells : Action → Option (List ℕ) → Option (List ℕ) → ToolFault → Type 0
 Tells action before after (File fault) = ReadsWith before after (λ bytes. HasFault action bytes fault)
+Tells action before after (Input fault) = TellsDocument action before after (building.Line fault) × (fault.reason ≢ reasons.Read)
+Tells action before after NoTriples = TellsDocument action before after building.NoTriples
 Tells action before after NoSuchNumber = ReadsWith before after (LacksNumber action)
 Tells action before after NoSuchTerm = ReadsWith before after (LacksTerm action)
 Tells action before after (NotATerm role n) = ReadsWith before after (λ bytes. HasNoText action bytes role n)
+Tells action before after BadOptions = HasBadOptions action
 Tells action before after Read = Unit {0}
 Tells action before after (Write n) = Unit {0}
 Tells action before after OutOfMemory = Unit {0}
 
--- the reader's bytes were read, all of them, and the writer has gained the command's text of them
-pub record Answers (action : Action) (before after written_before written_after : Option (List ℕ)) (made_before made_after : List ℕ) : Type 0 where
-  pub bytes : List ℕ
-  pub text : List ℕ
+-- of what the reader had left the command prints this text, and what it builds has been appended to what was made before
+pub record Makes (action : Action) (before after : Option (List ℕ)) (text made_before made_after : List ℕ) : Type 0 where
   pub built : List ℕ
-  pub read : ReadsAll before after bytes
-  pub answer : Answer action bytes text built
-  pub written : Appends written_before written_after text
+  pub yields : Yields action before after text built
   pub made : made_after ≡ made_before ++ built
 
--- the reader's bytes were read, all of them, and the writer has gained the first n bytes of the command's text of them
+-- the writer has gained the command's text of what the reader had left, and what was made what the command builds
+pub record Answers (action : Action) (before after written_before written_after : Option (List ℕ)) (made_before made_after : List ℕ) : Type 0 where
+  pub text : List ℕ
+  pub makes : Makes action before after text made_before made_after
+  pub written : Appends written_before written_after text
+
+-- the writer has gained the first n bytes of the command's text of what the reader had left
 pub record Begins (action : Action) (before after written_before written_after : Option (List ℕ)) (n : ℕ) : Type 0 where
-  pub bytes : List ℕ
   pub text : List ℕ
   pub built : List ℕ
-  pub read : ReadsAll before after bytes
-  pub answer : Answer action bytes text built
+  pub yields : Yields action before after text built
   pub within : n < length text
   pub written : Appends written_before written_after (take n text)
 
--- ---- the same of a reader that is gone after the run, as is what was built
+-- ---- the same of a reader that is gone after the run
 
--- the reader's bytes were read, all of them, and the writer has gained the command's text of them
-pub record Performs (action : Action) (before written_before written_after : Option (List ℕ)) : Type 0 where
+-- the writer has gained the command's text of what the reader had left, and what was made what the command builds
+pub record Performs (action : Action) (before written_before written_after : Option (List ℕ)) (made_before made_after : List ℕ) : Type 0 where
   pub after : Option (List ℕ)
-  pub made : List ℕ
-  pub answers : Answers action before after written_before written_after [] made
+  pub answers : Answers action before after written_before written_after made_before made_after
 
--- the reader's bytes were read, all of them, and the writer has gained the first n bytes of the command's text of them
+-- the writer has gained the first n bytes of the command's text of what the reader had left
 pub record Stops (action : Action) (before written_before written_after : Option (List ℕ)) (n : ℕ) : Type 0 where
   pub after : Option (List ℕ)
   pub begins : Begins action before after written_before written_after n
 
--- a fault of the file is the one that stands in the input, a look-up without an answer has none in it, and a string that is no
--- term is the first of what is to be printed
+-- a fault is told of what the reader had left
 pub record Reports (action : Action) (before : Option (List ℕ)) (fault : ToolFault) : Type 0 where
   pub after : Option (List ℕ)
   pub tells : Tells action before after fault
 
--- the input has a fault, no answer to the look-up, or a string that is no term
+-- the input has a fault, no triples, no answer to the look-up, or a string that is no term
 pub record Faults (action : Action) (before : Option (List ℕ)) : Type 0 where
   pub fault : ToolFault
   pub status : fault_status fault ≡ 1

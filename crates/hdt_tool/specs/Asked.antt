@@ -6,6 +6,7 @@ use Rattle.std.specs.declared.vec.Vec.{Vec}
 use Rattle.clap.specs.Words.{Row, Text, Kinds, IsAmong, first_of, one_of, fault_of, subcommand_of}
 use Rattle.clap.specs.declared.error.kind.ErrorKind.{ErrorKind}
 use Rattle.clap.specs.declared.error.kind.ErrorKind.TheVariants as kind
+use Rattle.hdt_build.specs.declared.options.Options.{Options}
 use Rattle.hdt_terms.specs.declared.fault.TermFault.{TermFault}
 use Rattle.hdt_terms.specs.declared.fault.LineReason.TheVariants as line
 use Rattle.hdt_terms.specs.Appending.{SpellsString}
@@ -23,13 +24,13 @@ use Rattle.hdt_tool.specs.TriplesText.{Given}
 
 -- ---- entries
 
--- the word spells the number in decimal
-abbrev pub SpellsNumber : Text → ℕ → Type 0
-SpellsNumber text n = IsNumeral 10 (without_leading_plus text) × (digits_value 10 (without_leading_plus text) < 2 ^ 64)
+-- the word spells the number in decimal, with so many bits at most
+abbrev pub SpellsNumber : ℕ → Text → ℕ → Type 0
+SpellsNumber bits text n = IsNumeral 10 (without_leading_plus text) × (digits_value 10 (without_leading_plus text) < 2 ^ bits)
     × (n ≡ digits_value 10 (without_leading_plus text))
 
-abbrev pub StatesNumber : Option Text → ℕ → Type 0
-StatesNumber entry n = IsSomeAnd entry (λ text. SpellsNumber text n)
+abbrev pub StatesNumber : ℕ → Option Text → ℕ → Type 0
+StatesNumber bits entry n = IsSomeAnd entry (λ text. SpellsNumber bits text n)
 
 -- what `clap` states of a flag that was used, and of one that was not
 abbrev pub IsUsed : Option Text → Type 0
@@ -80,16 +81,37 @@ AsksAction name rows action.Head = name ≡ codes "head"
 AsksAction name rows action.Verify = name ≡ codes "verify"
 AsksAction name rows (action.Strings role) = (name ≡ codes "strings") × (first_of (codes "ROLE") rows ≡ Some (role_name role))
 AsksAction name rows (action.Nth role n) = (name ≡ codes "string") × (first_of (codes "ROLE") rows ≡ Some (role_name role))
-    × StatesNumber (one_of (codes "N") rows) n
+    × StatesNumber 64 (one_of (codes "N") rows) n
 AsksAction name rows (action.Number role x) = (name ≡ codes "number") × (first_of (codes "ROLE") rows ≡ Some (role_name role))
     × StatesString (one_of (codes "raw") rows) (first_of (codes "TERM") rows) x.items
 AsksAction name rows (action.Find given numbers) = AsksFind name rows given numbers ⊎ AsksDump name given numbers
+AsksAction name rows (action.Build options) = ⊥
 
--- the command with its entries asks for the request; none of the commands writes a file
-pub record AsksFor (name : Text) (rows : List Row) (request : Request) : Type 0 where
+-- a command on a file asks for the request, which writes no file
+pub record AsksOfFile (name : Text) (rows : List Row) (request : Request) : Type 0 where
   pub file : first_of (codes "FILE") rows ≡ Some (string_bytes request.file)
   pub out : option_map string_bytes request.out ≡ None
   pub action : AsksAction name rows request.action
+
+-- the options are those that are given, or the ones that stand in the table for them
+pub record StatesOptions (rows : List Row) (options : Options) : Type 0 where
+  pub base : first_of (codes "base") rows ≡ Some options.base.items
+  pub block_size : StatesNumber 32 (one_of (codes "block-size") rows) options.block_size
+
+abbrev pub AsksToBuild : List Row → Action → Type 0
+AsksToBuild rows (action.Build options) = StatesOptions rows options
+AsksToBuild rows action = ⊥
+
+-- `build` asks for the request, which reads IN and writes OUT
+pub record AsksBuild (name : Text) (rows : List Row) (request : Request) : Type 0 where
+  pub named : name ≡ codes "build"
+  pub file : first_of (codes "IN") rows ≡ Some (string_bytes request.file)
+  pub out : IsSomeAnd request.out (λ path. first_of (codes "OUT") rows ≡ Some (string_bytes path))
+  pub action : AsksToBuild rows request.action
+
+-- the command with its entries asks for the request
+abbrev pub AsksFor : Text → List Row → Request → Type 0
+AsksFor name rows request = AsksOfFile name rows request ⊎ AsksBuild name rows request
 
 abbrev pub Asks : Option (Text × List Row) → Request → Type 0
 Asks entered request = IsSomeAnd entered (λ command. AsksFor command.0 command.1 request)

@@ -3,6 +3,7 @@ pub mod HeadText
 pub mod StringsText
 pub mod TriplesText
 pub mod Verdict
+pub mod BuiltText
 pub mod Answer
 pub mod Faults
 pub mod Lines

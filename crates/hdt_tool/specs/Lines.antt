@@ -14,18 +14,25 @@ use Rattle.hdt_tool.specs.Table.{role_name}
 
 abbrev pub fault_status : ToolFault → ℕ
 fault_status (tool.File fault) = 1
+fault_status (tool.Input fault) = 1
+fault_status tool.NoTriples = 1
 fault_status tool.NoSuchTerm = 1
 fault_status tool.NoSuchNumber = 1
 fault_status (tool.NotATerm role n) = 1
+fault_status tool.BadOptions = 2
 fault_status tool.Read = 3
 fault_status (tool.Write n) = 3
 fault_status tool.OutOfMemory = 4
 
 abbrev pub fault_line : ToolFault → List ℕ
 fault_line (tool.File fault) = codes "hdt: fault " ++ decimal (reason_number fault.reason) ++ codes " " ++ reason_name fault.reason ++ codes " at " ++ decimal fault.place
+fault_line (tool.Input fault) = codes "hdt: line " ++ decimal fault.line ++ codes " column " ++ decimal fault.column ++ codes ": "
+    ++ decimal (line_reason_number fault.reason) ++ codes " " ++ line_reason_name fault.reason
+fault_line tool.NoTriples = codes "hdt: no triples"
 fault_line tool.NoSuchTerm = codes "hdt: no such term"
 fault_line tool.NoSuchNumber = codes "hdt: no such number"
 fault_line (tool.NotATerm role n) = codes "hdt: " ++ role_name role ++ codes " " ++ decimal n ++ codes " is not a term"
+fault_line tool.BadOptions = codes "hdt: bad options"
 fault_line tool.Read = codes "hdt: reading failed"
 fault_line (tool.Write n) = codes "hdt: writing failed"
 fault_line tool.OutOfMemory = codes "hdt: out of memory"

@@ -1,5 +1,5 @@
 -- The command line of `hdt`, as `clap` sees it: one level of commands, each with its words and flags.
-use Rattle.std.specs.Prelude.{◌≡◌, List, [], ◌∷◌, Some, true, codes, map}
+use Rattle.std.specs.Prelude.{◌≡◌, List, [], ◌∷◌, Some, true, codes, map, pos}
 use Rattle.std.specs.Borrow.{Bor}
 use Rattle.clap.specs.Words.{App, Rule, Text, new_app, new_rule, with_rule, with_subcommand}
 use Rattle.clap.specs.declared.builder.action.ArgAction.TheVariants.{SetTrue}
@@ -72,6 +72,24 @@ find_command =
 abbrev pub dump_command : App
 dump_command = file_command (codes "dump")
 
+-- `--name VALUE`, with the value that stands for it where it isn't given
+abbrev pub option_named : Text → Text → Rule
+option_named id value = record (new_rule id) { long = Some id; value_names = 1; defaults = value ∷ [] }
+
+-- `--base IRI`
+abbrev pub base_option : Rule
+base_option = option_named (codes "base") (codes "http://example.org/dataset")
+
+-- `--block-size N`: a number below 2^32
+abbrev pub block_size_option : Rule
+block_size_option = record (option_named (codes "block-size") (codes "16")) { parser = Some (parser.Signed (pos 0) (pos 4294967295)) }
+
+-- `build IN OUT`, with `--base` and `--block-size`
+abbrev pub build_command : App
+build_command =
+    with_rule (with_rule (with_rule (with_rule (new_app (codes "build")) (word_named (codes "IN"))) (word_named (codes "OUT")))
+    base_option) block_size_option
+
 -- a command has to be named
 abbrev pub empty_table : App
 empty_table = let app = new_app (codes "hdt") in record app { top = record app.top { subcommand_required = true } }
@@ -83,4 +101,6 @@ first_commands names =
     (string_command names).top
 
 abbrev pub table : Names → App
-table names = with_subcommand (with_subcommand (with_subcommand (first_commands names) (number_command names).top) find_command.top) dump_command.top
+table names =
+    with_subcommand (with_subcommand (with_subcommand (with_subcommand (first_commands names) (number_command names).top) find_command.top)
+    dump_command.top) build_command.top

@@ -14,7 +14,7 @@ use Rattle.hdt_file.specs.Search.{IsPattern}
 use Rattle.hdt_file.specs.Text.{IsFirstIn, IsTextOf}
 use Rattle.hdt_file.specs.TextWriting.{chosen}
 use Rattle.hdt_tool.specs.declared.fault.ToolFault.{ToolFault}
-use Rattle.hdt_tool.specs.declared.fault.ToolFault.TheVariants.{File, NoSuchTerm, NoSuchNumber, NotATerm, Read, Write, OutOfMemory}
+use Rattle.hdt_tool.specs.declared.fault.ToolFault.TheVariants.{File, Input, NoTriples, NoSuchTerm, NoSuchNumber, NotATerm, BadOptions, Read, Write, OutOfMemory}
 
 -- the strings that are given for subject, predicate and object, each or none
 abbrev pub Given : Type 0
@@ -62,6 +62,9 @@ LacksTermIn g given numbers role n = (numbers ≡ false) × FindsWith g given (�
 -- why the triples that the strings find do not print: a string that is no term, or want of memory
 abbrev pub TellsFound : GraphParts → Given → Bool → ToolFault → Type 0
 TellsFound g given numbers (File fault) = ⊥
+TellsFound g given numbers (Input fault) = ⊥
+TellsFound g given numbers NoTriples = ⊥
+TellsFound g given numbers BadOptions = ⊥
 TellsFound g given numbers NoSuchTerm = ⊥
 TellsFound g given numbers NoSuchNumber = ⊥
 TellsFound g given numbers (NotATerm role n) = LacksTermIn g given numbers role n

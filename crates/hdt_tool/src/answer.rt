@@ -1,6 +1,6 @@
-//! What a command prints of its input.
+//! What a command on a file prints of it.
 ghost use Rattle.std.specs.Prelude.{◌≡◌, IfOk, IfErr};
-ghost use Rattle.hdt_tool.specs.Answer.{Consults, IsTold, Opens, Prints, PrintsHead, PrintsVerdict};
+ghost use Rattle.hdt_tool.specs.Answer.{Consults, IsTold, Opens, Prints, PrintsHead, PrintsVerdict, ReadsFile};
 ghost use Rattle.hdt_tool.specs.StringsText.{string_lines, PrintsString, PrintsNumber};
 ghost use Rattle.hdt_tool.specs.TriplesText.{PrintsFound};
 
@@ -78,18 +78,12 @@ fn verdict_of(alloc: Global, bytes: &[u8]) -> Result<Vec<u8>, ToolFault>
     Ok(verdict(alloc, lens)?)
 }
 
-/// What the command prints of the input, whole. No command builds anything yet, so `made` stays as it is.
-pub fn answer(
-    alloc: Global,
-    action: &Action,
-    bytes: &[u8],
-    made: &mut Vec<u8>,
-) -> Result<Vec<u8>, ToolFault>
+/// What a command on a file prints of it, whole.
+pub fn answer(alloc: Global, action: &Action, bytes: &[u8]) -> Result<Vec<u8>, ToolFault>
+    requires { ReadsFile action.now }
     ensures ok { IfOk result (λ text. Prints action.now bytes.now text.items) }
     ensures err { IfErr result (λ e. IsTold action.now bytes.now e) }
-    ensures made { made.new.items ≡ made.old.items }
 {
-    let _ = made;
     match action {
         Action::Head => head_of(alloc, bytes),
         Action::Verify => verdict_of(alloc, bytes),
@@ -97,5 +91,6 @@ pub fn answer(
         Action::Nth(role, number) => string_of(alloc, bytes, *role, *number),
         Action::Number(role, string) => number_of(alloc, bytes, *role, string),
         Action::Find { given, numbers } => triples_of(alloc, bytes, given, *numbers),
+        Action::Build(_) => unreachable!(),
     }
 }

@@ -1,18 +1,18 @@
 //! The commands of `hdt`, as a table for `clap`.
 ghost use Rattle.std.specs.Prelude.{◌≡◌, IfOk, false};
-ghost use Rattle.clap.specs.Words.{app_of, with_rule, with_subcommand};
+ghost use Rattle.clap.specs.Words.{app_of, rule_of, with_rule, with_subcommand};
 ghost use Rattle.clap.specs.declared.builder.command.Command.TheViews.{out-Command as fields_of};
-ghost use Rattle.hdt_tool.specs.Table.{word_named, flag_named, role_word, number_word, file_command, head_command, verify_command, strings_command, string_command, number_command, find_command, dump_command, empty_table, first_commands, table};
+ghost use Rattle.hdt_tool.specs.Table.{word_named, flag_named, option_named, role_word, base_option, block_size_option, build_command, number_word, file_command, head_command, verify_command, strings_command, string_command, number_command, find_command, dump_command, empty_table, first_commands, table};
 
 use clap::{Arg, ArgAction, Command, value_parser};
 use std::alloc::{AllocError, Global};
 
-const ABOUT: &str = "Reads RDF HDT files: RDF graphs in a compact binary form.";
+const ABOUT: &str = "Builds and reads RDF HDT files: RDF graphs in a compact binary form.";
 
 const STATUSES: &str = "Exit status:
   0  done
-  1  the file has a fault, whose reason and place are told, a look-up has no answer, or a
-     string that N-Triples are to show is no term
+  1  the input has a fault, whose reason and place are told, or no triples, a look-up has no
+     answer, or a string that N-Triples are to show is no term
   2  the command line is wrong
   3  reading or writing failed
   4  out of memory";
@@ -65,6 +65,25 @@ const DUMP_ABOUT: &str = "Print all triples";
 
 const DUMP_LONG_ABOUT: &str =
     "Print all triples in N-Triples, one line each, in the order of the file.";
+
+const BUILD_ABOUT: &str = "Build a file from N-Triples";
+
+const BUILD_LONG_ABOUT: &str = "Build an HDT file from N-Triples.
+
+The order of the lines, repeats and comments make no difference: one graph gives one file, byte
+for byte. It is told by `built` and six counts: the triples, the strings of the sections shared,
+subjects, predicates and objects, and the bytes of the file. OUT is opened only when the file is
+whole, so input that is refused leaves it as it was. IN may be /dev/stdin.";
+
+const IN_HELP: &str = "Path of the N-Triples document to read";
+
+const OUT_HELP: &str = "Path of the HDT file to write";
+
+const BASE: &str = "http://example.org/dataset";
+
+const BASE_HELP: &str = "The IRI that stands for the file in its header";
+
+const BLOCK_SIZE_HELP: &str = "How many strings stand in a block, 1 to 65535";
 
 const FILE_HELP: &str = "Path of the HDT file to read";
 
@@ -147,6 +166,43 @@ fn with_number<'a>(alloc: Global, command: Command<'a>) -> Result<Command<'a>, A
         .required(true)
         .value_parser(value_parser!(u64));
     command.arg(number)
+}
+
+/// An option, its value called by this name, and the value that stands for it where it isn't given.
+fn option_of<'a>(
+    alloc: Global,
+    id: &'a str,
+    called: &'a str,
+    value: &'a str,
+    help: &'a str,
+) -> Arg<'a>
+    ensures rule { rule_of result ≡ option_named id.entry.now value.entry.now }
+    ensures optional { result.global ≡ false }
+{
+    Arg::new(alloc, id)
+        .long(id)
+        .value_name(called)
+        .default_value(value)
+        .help(help)
+}
+
+/// The command with `--base`.
+fn with_base<'a>(alloc: Global, command: Command<'a>) -> Result<Command<'a>, AllocError>
+    requires { (fields_of command).has_globals ≡ false }
+    ensures shape { IfOk result (λ c. app_of c ≡ with_rule (app_of command.entry) base_option) }
+    ensures local { IfOk result (λ c. (fields_of c).has_globals ≡ false) }
+{
+    command.arg(option_of(alloc, "base", "IRI", BASE, BASE_HELP))
+}
+
+/// The command with `--block-size`.
+fn with_block_size<'a>(alloc: Global, command: Command<'a>) -> Result<Command<'a>, AllocError>
+    requires { (fields_of command).has_globals ≡ false }
+    ensures shape { IfOk result (λ c. app_of c ≡ with_rule (app_of command.entry) block_size_option) }
+    ensures local { IfOk result (λ c. (fields_of c).has_globals ≡ false) }
+{
+    let option = option_of(alloc, "block-size", "N", "16", BLOCK_SIZE_HELP);
+    command.arg(option.value_parser(value_parser!(u32)))
 }
 
 /// A command on a file.
@@ -232,6 +288,20 @@ fn dump_of<'a>(alloc: Global) -> Result<Command<'a>, AllocError>
     file_command(alloc, "dump", DUMP_ABOUT, DUMP_LONG_ABOUT)
 }
 
+/// `build IN OUT`, with `--base` and `--block-size`.
+fn build_of<'a>(alloc: Global) -> Result<Command<'a>, AllocError>
+    ensures shape { IfOk result (λ c. app_of c ≡ build_command) }
+    ensures local { IfOk result (λ c. (fields_of c).has_globals ≡ false) }
+{
+    let command = Command::new(alloc, "build")
+        .about(BUILD_ABOUT)
+        .long_about(BUILD_LONG_ABOUT);
+    let command = with_word(alloc, command, "IN", IN_HELP)?;
+    let command = with_word(alloc, command, "OUT", OUT_HELP)?;
+    let command = with_base(alloc, command)?;
+    with_block_size(alloc, command)
+}
+
 /// The program, with no command yet.
 fn program<'a>(alloc: Global) -> Result<Command<'a>, AllocError>
     ensures { IfOk result (λ c. app_of c ≡ empty_table) }
@@ -269,5 +339,6 @@ pub fn table_of<'a>(alloc: Global, roles: &'a [&'a str]) -> Result<Command<'a>, 
     let program = first_commands(alloc, roles)?;
     let program = with_command(program, number_of(alloc, roles)?)?;
     let program = with_command(program, find_of(alloc)?)?;
-    with_command(program, dump_of(alloc)?)
+    let program = with_command(program, dump_of(alloc)?)?;
+    with_command(program, build_of(alloc)?)
 }

@@ -1,14 +1,16 @@
 //! The entries that `clap` states for a command.
 ghost use Rattle.std.specs.Prelude.{◌≡◌, ◌≢◌, ℕ, List, [], IfOk, IfErr, IsSome, MatchOption, Some, codes, string_bytes};
 ghost use Rattle.clap.specs.Words.{first_of, one_of, found_of, rows_of};
+ghost use Rattle.hdt_build.specs.declared.options.Options.{Options};
 ghost use Rattle.hdt_dict.specs.declared.role.Role.{Role};
-ghost use Rattle.hdt_tool.specs.Asked.{AsksAction, ComesWithout, ComesWithoutOr, IsFaultOf, IsMisspelt, IsMisspeltPart, IsStringOf, Misspells, StatesNumber, StatesString, StatesWord, TellsTerm};
+ghost use Rattle.hdt_tool.specs.Asked.{AsksAction, ComesWithout, ComesWithoutOr, IsFaultOf, IsMisspelt, IsMisspeltPart, IsStringOf, Misspells, StatesNumber, StatesOptions, StatesString, StatesWord, TellsTerm};
 ghost use Rattle.hdt_tool.specs.Lines.{word_name};
 ghost use Rattle.hdt_tool.specs.Table.{role_name};
 
 use crate::fault::{UsageFault, Word};
 use crate::request::Action;
 use clap::ArgMatches;
+use hdt_build::Options;
 use hdt_dict::Role;
 use hdt_terms::{LineReason, TermFault, parse_string};
 use std::alloc::Global;
@@ -57,13 +59,36 @@ pub fn role_at<'m>(alloc: Global, matches: &ArgMatches<'m>) -> Result<Role, Usag
 
 /// The number of the word N.
 pub fn number_at<'m>(alloc: Global, matches: &ArgMatches<'m>) -> Result<u64, UsageFault>
-    ensures ok { IfOk result (λ n. StatesNumber (one_of (codes "N") (rows_of (found_of matches.now))) n) }
-    ensures refused { IfErr result (ComesWithout ((n : ℕ) × StatesNumber (one_of (codes "N") (rows_of (found_of matches.now))) n)) }
+    ensures ok { IfOk result (λ n. StatesNumber 64 (one_of (codes "N") (rows_of (found_of matches.now))) n) }
+    ensures refused { IfErr result (ComesWithout ((n : ℕ) × StatesNumber 64 (one_of (codes "N") (rows_of (found_of matches.now))) n)) }
 {
     match matches.get_one::<u64>("N") {
         Some(number) => Ok(number),
         None => Err(missing(alloc)),
     }
+}
+
+/// The number of the option `--block-size`.
+fn block_size_at<'m>(alloc: Global, matches: &ArgMatches<'m>) -> Result<u32, UsageFault>
+    ensures ok { IfOk result (λ n. StatesNumber 32 (one_of (codes "block-size") (rows_of (found_of matches.now))) n) }
+    ensures refused { IfErr result (ComesWithout ((n : ℕ) × StatesNumber 32 (one_of (codes "block-size") (rows_of (found_of matches.now))) n)) }
+{
+    match matches.get_one::<u32>("block-size") {
+        Some(number) => Ok(number),
+        None => Err(missing(alloc)),
+    }
+}
+
+/// The options of `build`: those that are given, or the ones that stand for them.
+pub fn options_at<'m>(alloc: Global, matches: &ArgMatches<'m>) -> Result<Options, UsageFault>
+    ensures ok { IfOk result (λ options. StatesOptions (rows_of (found_of matches.now)) options) }
+    ensures refused { IfErr result (ComesWithout ((options : Options) × StatesOptions (rows_of (found_of matches.now)) options)) }
+{
+    let base = text_at(alloc, matches, "base")?;
+    Ok(Options {
+        block_size: block_size_at(alloc, matches)?,
+        base: base.into_bytes(),
+    })
 }
 
 /// The fault of a word that was read as a term.

@@ -2,10 +2,12 @@
 ghost use Rattle.std.specs.Prelude.{◌≡◌};
 ghost use Rattle.hdt_tool.specs.declared.fault.UsageFault.TheVariants.{OutOfMemory as usage_memory};
 ghost use Rattle.hdt_tool.specs.declared.fault.ToolFault.TheVariants.{OutOfMemory, File};
+ghost use Rattle.hdt_tool.specs.Faults.{line_fault_of};
 
+use hdt_build::BuildFault;
 use hdt_dict::Role;
 use hdt_file::{DumpFault, OpenFault};
-use hdt_terms::TermFault;
+use hdt_terms::{LineFault, LineReason, TermFault};
 use hdt_wire::Fault;
 use std::alloc::{AllocError, AllocFailed, Global};
 use thiserror::Error;
@@ -93,6 +95,13 @@ pub enum ToolFault {
     /// The input has a fault.
     #[error("the file has a fault: {0}")]
     File(Fault),
+    /// The input is no N-Triples document. The reason is never a failure of the reader or want of memory: those are faults of
+    /// their own here.
+    #[error("the input has a fault: {0}")]
+    Input(LineFault),
+    /// The input is a document without triples, of which no file is built.
+    #[error("no triples")]
+    NoTriples,
     /// The role has no such string.
     #[error("no such term")]
     NoSuchTerm,
@@ -102,6 +111,9 @@ pub enum ToolFault {
     /// The string of this role with this number, from 1, is no term of the role, so the triple has no N-Triples line.
     #[error("a string that is not a term: {0:?} {1}")]
     NotATerm(Role, u64),
+    /// The block size or the base is not one that a file can be built with.
+    #[error("bad options")]
+    BadOptions,
     /// The reader failed, or the file could not be opened.
     #[error("reading failed")]
     Read,
@@ -111,6 +123,16 @@ pub enum ToolFault {
     /// Memory was refused.
     #[error("out of memory")]
     OutOfMemory,
+}
+
+/// The fault of a line of the input, or of the reader.
+fn line_fault(fault: LineFault) -> ToolFault
+    ensures { result ≡ line_fault_of fault }
+{
+    match fault.reason {
+        LineReason::Read => ToolFault::Read,
+        _ => ToolFault::Input(fault),
+    }
 }
 
 impl From<Fault> for ToolFault {
@@ -144,6 +166,22 @@ impl From<DumpFault> for ToolFault {
             DumpFault::NotATerm(role, number) => ToolFault::NotATerm(role, number),
             DumpFault::Write(count) => ToolFault::Write(count),
             DumpFault::OutOfMemory => ToolFault::OutOfMemory,
+        }
+    }
+}
+
+impl From<BuildFault> for ToolFault {
+    ghost use Rattle.hdt_tool.specs.Faults.{build_fault_of};
+
+    ghost from_gives = { λ fault e. e ≡ build_fault_of fault };
+
+    fn from(fault: BuildFault) -> ToolFault {
+        match fault {
+            BuildFault::Line(fault) => line_fault(fault),
+            BuildFault::NoTriples => ToolFault::NoTriples,
+            BuildFault::BadOptions => ToolFault::BadOptions,
+            BuildFault::OutOfMemory => ToolFault::OutOfMemory,
+            BuildFault::Write(count) => ToolFault::Write(count),
         }
     }
 }

@@ -6,7 +6,7 @@ ghost use Rattle.hdt_tool.specs.Table.{role_name};
 
 use crate::fault::{ToolFault, UsageFault, Word};
 use hdt_dict::Role;
-use hdt_terms::TermFault;
+use hdt_terms::{LineFault, TermFault};
 use hdt_wire::Fault;
 use std::alloc::{AllocError, Global};
 
@@ -18,6 +18,17 @@ fn file_line(alloc: Global, fault: Fault) -> Result<String, AllocError>
     let name = fault.reason.name();
     let place = fault.place;
     format!(in alloc; "hdt: fault {number} {name} at {place}")
+}
+
+/// The line of a fault of an N-Triples document.
+fn input_line(alloc: Global, fault: LineFault) -> Result<String, AllocError>
+    ensures { IfOk result (λ line. string_bytes line ≡ fault_line (ToolFault.Input fault)) }
+{
+    let line = fault.line;
+    let column = fault.column;
+    let number = fault.reason.number();
+    let name = fault.reason.name();
+    format!(in alloc; "hdt: line {line} column {column}: {number} {name}")
 }
 
 /// The word for a role.
@@ -57,9 +68,12 @@ pub fn fault_line(alloc: Global, fault: &ToolFault) -> Result<(u8, String), Allo
 {
     match fault {
         ToolFault::File(fault) => Ok((1, file_line(alloc, *fault)?)),
+        ToolFault::Input(fault) => Ok((1, input_line(alloc, *fault)?)),
+        ToolFault::NoTriples => Ok((1, String::from_str(alloc, "hdt: no triples")?)),
         ToolFault::NoSuchTerm => Ok((1, String::from_str(alloc, "hdt: no such term")?)),
         ToolFault::NoSuchNumber => Ok((1, String::from_str(alloc, "hdt: no such number")?)),
         ToolFault::NotATerm(role, number) => Ok((1, string_line(alloc, *role, *number)?)),
+        ToolFault::BadOptions => Ok((2, String::from_str(alloc, "hdt: bad options")?)),
         ToolFault::Read => Ok((3, String::from_str(alloc, "hdt: reading failed")?)),
         ToolFault::Write(_) => Ok((3, String::from_str(alloc, "hdt: writing failed")?)),
         ToolFault::OutOfMemory => Ok((4, String::from_str(alloc, "hdt: out of memory")?)),

@@ -10,7 +10,8 @@
 //! | 4 | out of memory |
 #![tactic(auto)]
 
-ghost use Rattle.std.specs.Prelude.{◌≡◌, ◌≢◌, ◌⊎◌, ◌+◌, ℕ, Ok, Err, IfOk, IfErr, OnOk, MatchResult, map, string_bytes};
+ghost use Rattle.std.specs.Prelude.{◌≡◌, ◌≢◌, ◌⊎◌, ◌+◌, ℕ, List, [], Ok, Err, IfOk, IfErr, IsErrOf, OnOk, MatchResult, map, string_bytes};
+ghost use Rattle.std.specs.Io.KnownBytes.{Appends};
 ghost use Rattle.std.specs.IoError.{error_kind};
 ghost use Rattle.std.specs.Vec.Iter.{into_iter_items};
 ghost use Rattle.hdt_wire.specs.Counted.{inner, failures};
@@ -27,6 +28,7 @@ mod fault;
 #[cfg(test)]
 mod find_tests;
 mod lines;
+mod printed_built;
 mod printed_head;
 mod printed_strings;
 mod printed_triples;
@@ -169,18 +171,18 @@ fn open_fault(error: &io::Error) -> ToolFault
     ToolFault::Read
 }
 
-/// Does what a request asks for, from its file, as it was opened, to a writer.
+/// Does what a request asks for, from its file, as it was opened, to a writer; what it builds is appended to `made`.
 fn perform<R: Read + Drop, W: Write>(
     alloc: Global,
     request: &Request,
     file: io::Result<R>,
     out: &mut Counted<W>,
+    made: &mut Vec<u8>,
 ) -> Result<(), ToolFault>
-    // All the input was read, and the writer has gained the command's text of it.
+    // The writer has gained the command's text of the input, and what was made what the command builds.
     ensures ok { OnOk result (MatchResult file (λ input. Performs request.now.action (R.remaining input)
-        (W.contents (inner out.old)) (W.contents (inner out.new))) (λ _. ⊥)) }
-    // A fault of the file is the one that stands in the input, a look-up without an answer has none in it, and a string that is
-    // no term is the first of what is to be printed.
+        (W.contents (inner out.old)) (W.contents (inner out.new)) made.old.items made.new.items) (λ _. ⊥)) }
+    // A fault is told of the input as `run` tells it.
     ensures told { IfErr result (λ e. IfOk file (λ input. Reports request.now.action (R.remaining input) e)) }
     // A file that could not be opened is told as its error's kind says.
     ensures memory { IfErr file (λ e. error_kind e ≡ ErrorKind.OutOfMemory → result ≡ Err ToolFault.OutOfMemory) }
@@ -197,11 +199,10 @@ fn perform<R: Read + Drop, W: Write>(
         Ok(input) => Counted::new(input),
         Err(error) => return Err(open_fault(&error)),
     };
-    let mut made = Vec::new(alloc);
-    run(alloc, request, &mut input, out, &mut made)
+    run(alloc, request, &mut input, out, made)
 }
 
-/// Does what a request asks for, and tells how it ended.
+/// Does what a request that writes no file asks for, and tells how it ended.
 fn performed<R: Read + Drop, W: Write>(
     rt: &HostRuntime,
     request: &Request,
@@ -209,17 +210,87 @@ fn performed<R: Read + Drop, W: Write>(
     out: &mut Counted<W>,
 ) -> u8
     ensures statuses { IsCommandStatus result }
-    // 0: all the input was read, and the writer has gained the command's text of it, without a failure.
-    ensures done { result ≡ 0 → MatchResult file (λ input. Performs request.now.action (R.remaining input)
-        (W.contents (inner out.old)) (W.contents (inner out.new))) (λ _. ⊥) }
+    // 0: the writer has gained the command's text of the input, without a failure.
+    ensures done { result ≡ 0 → MatchResult file (λ input. (made : List ℕ) × Performs request.now.action (R.remaining input)
+        (W.contents (inner out.old)) (W.contents (inner out.new)) [] made) (λ _. ⊥) }
     ensures well { result ≡ 0 → failures out.new ≡ failures out.old }
-    // 1: the input has a fault, no answer to the look-up, or a string that is no term.
+    // 1: the input has a fault, no triples, no answer to the look-up, or a string that is no term.
     ensures fault { result ≡ 1 → MatchResult file (λ input. Faults request.now.action (R.remaining input)) (λ _. ⊥) }
     ensures unwritten { result ≡ 1 → out.new ≡ out.old }
-    // 3 and 4: nothing was written, or the writer failed.
+    // 2, 3 and 4: nothing was written, or the writer failed.
     ensures stopped { result ≢ 0 → (out.new ≡ out.old) ⊎ (failures out.new ≡ failures out.old + 1) }
 {
-    done(rt, perform(rt.alloc(), request, file, out))
+    let mut made = Vec::new(rt.alloc());
+    done(rt, perform(rt.alloc(), request, file, out, &mut made))
+}
+
+/// The fault of a command whose text goes to memory: a failure to write is want of it.
+fn in_memory(fault: ToolFault) -> ToolFault
+    ensures memory { (n : ℕ) → fault ≡ ToolFault.Write n → result ≡ ToolFault.OutOfMemory }
+    ensures other { ((n : ℕ) → fault ≢ ToolFault.Write n) → result ≡ fault }
+{
+    match fault {
+        ToolFault::Write(_) => ToolFault::OutOfMemory,
+        fault => fault,
+    }
+}
+
+/// The fault of a file that could not be created.
+fn create_fault(error: &io::Error) -> ToolFault
+    ensures memory { error_kind error.now ≡ ErrorKind.OutOfMemory → result ≡ ToolFault.OutOfMemory }
+    ensures other { error_kind error.now ≢ ErrorKind.OutOfMemory → result ≡ ToolFault.Write 0 }
+{
+    if error.kind() == ErrorKind::OutOfMemory {
+        return ToolFault::OutOfMemory;
+    }
+    ToolFault::Write(0)
+}
+
+/// Writes what was built to its file, as it was created, and then the line to a writer.
+fn store<F: Write + Drop, W: Write>(
+    file: io::Result<F>,
+    built: &[u8],
+    out: &mut Counted<W>,
+    line: &[u8],
+) -> Result<(), ToolFault>
+    // The writer has gained the line.
+    ensures ok { OnOk result (Appends (W.contents (inner out.old)) (W.contents (inner out.new)) line.now) }
+    // A file that could not be created is told as its error's kind says, and then nothing was written.
+    ensures memory { IfErr file (λ e. error_kind e ≡ ErrorKind.OutOfMemory → result ≡ Err ToolFault.OutOfMemory) }
+    ensures uncreated { IfErr file (λ e. error_kind e ≢ ErrorKind.OutOfMemory → IsErrOf result (ToolFault.Write 0)) }
+    ensures unwritten { IfErr file (λ _. out.new ≡ out.old) }
+{
+    let mut file = match file {
+        Ok(file) => Counted::new(file),
+        Err(error) => return Err(create_fault(&error)),
+    };
+    match file.write_all(built) {
+        Ok(()) => {}
+        Err(count) => return Err(ToolFault::Write(count)),
+    }
+    match out.write_all(line) {
+        Ok(()) => Ok(()),
+        Err(count) => Err(ToolFault::Write(count)),
+    }
+}
+
+/// Does what a request that writes a file asks for: that file is created only where the whole of it was made, and the line of
+/// its numbers is printed last.
+fn build_to(rt: &HostRuntime, request: &Request, path: &str) -> Result<(), ToolFault> {
+    let input = File::open(rt, request.file.as_str());
+    let mut line = Counted::new(Vec::new(rt.alloc()));
+    let mut built = Vec::new(rt.alloc());
+    match perform(rt.alloc(), request, input, &mut line, &mut built) {
+        Ok(()) => {}
+        Err(fault) => return Err(in_memory(fault)),
+    }
+    let mut out = Counted::new(io::writer(rt));
+    store(
+        File::create(rt, path),
+        built.as_slice(),
+        &mut out,
+        line.into_inner().as_slice(),
+    )
 }
 
 /// Tells why the words ask for nothing: help on the standard output, a fault on the standard error.
@@ -232,16 +303,33 @@ fn refuse(rt: &HostRuntime, fault: UsageFault) -> u8
     }
 }
 
+/// Does what a request that writes a file asks for, and tells how it ended.
+fn stored(rt: &HostRuntime, request: &Request, path: &str) -> u8
+    ensures { IsCommandStatus result }
+{
+    done(rt, build_to(rt, request, path))
+}
+
+/// Does what a request asks for, and tells how it ended.
+fn fulfilled(rt: &HostRuntime, request: &Request) -> u8
+    ensures { IsCommandStatus result }
+{
+    match &request.out {
+        Some(path) => stored(rt, request, path.as_str()),
+        None => {
+            let file = File::open(rt, request.file.as_str());
+            let mut out = Counted::new(io::writer(rt));
+            performed(rt, request, file, &mut out)
+        }
+    }
+}
+
 /// Does what was asked for, or tells why nothing was.
 fn answered(rt: &HostRuntime, asked: Result<Request, UsageFault>) -> u8
     ensures { MatchResult asked (λ _. IsCommandStatus result) (λ fault. IsRefusalStatus fault result) }
 {
     match asked {
-        Ok(request) => {
-            let file = File::open(rt, request.file.as_str());
-            let mut out = Counted::new(io::writer(rt));
-            performed(rt, &request, file, &mut out)
-        }
+        Ok(request) => fulfilled(rt, &request),
         Err(fault) => refuse(rt, fault),
     }
 }

@@ -7,7 +7,7 @@ use std::alloc::{AllocError, Global};
 
 /// Appends a count behind a space.
 #[tactic(auto, using(std::proofs::Common::append_assoc))]
-fn put_count(count: u64, out: &mut Vec<u8>) -> Result<(), AllocError>
+pub fn put_count(count: u64, out: &mut Vec<u8>) -> Result<(), AllocError>
     ensures { OnOk result (out.new.items ≡ out.old.items ++ count_text count) }
 {
     out.push(b' ')?;

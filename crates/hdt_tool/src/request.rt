@@ -1,5 +1,6 @@
 //! What a command line asks for.
 
+use hdt_build::Options;
 use hdt_dict::Role;
 
 /// A command.
@@ -22,6 +23,8 @@ pub enum Action {
         /// Whether the triples' numbers are printed, in place of N-Triples.
         numbers: bool,
     },
+    /// Builds a file of an N-Triples document, and prints its numbers.
+    Build(Options),
 }
 
 /// A command and the files that it works on.

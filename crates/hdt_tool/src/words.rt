@@ -1,13 +1,13 @@
 //! The command line of `hdt`.
-ghost use Rattle.std.specs.Prelude.{◌≡◌, IfOk, IfErr, map};
+ghost use Rattle.std.specs.Prelude.{◌≡◌, IfOk, IfErr, codes, map};
 ghost use Rattle.clap.specs.Words.{found_of, rows_of, kind_of};
-ghost use Rattle.hdt_tool.specs.Asked.{AsksAction, AsksFor, ComesWithoutOr, IsRefused, Misspells, TellsKind, Wants};
+ghost use Rattle.hdt_tool.specs.Asked.{AsksAction, AsksBuild, AsksFor, AsksOfFile, ComesWithout, ComesWithoutOr, IsRefused, Misspells, TellsKind, Wants};
 ghost use Rattle.hdt_tool.specs.Table.{AreRoles};
 ghost use Rattle.hdt_tool.specs.declared.request.Action.{Action};
 ghost use Rattle.hdt_tool.specs.declared.request.Request.{Request};
 
 use crate::commands::table_of;
-use crate::entries::{find_at, missing, number_at, role_at, string_at, text_at};
+use crate::entries::{find_at, missing, number_at, options_at, role_at, string_at, text_at};
 use crate::fault::UsageFault;
 use crate::request::{Action, Request};
 use clap::error::ErrorKind;
@@ -55,6 +55,35 @@ fn action_of<'m>(alloc: Global, name: &str, matches: &ArgMatches<'m>) -> Result<
     }
 }
 
+/// What a command on a file with its words asks for.
+fn file_request<'m>(
+    alloc: Global,
+    name: &str,
+    matches: &ArgMatches<'m>,
+) -> Result<Request, UsageFault>
+    ensures ok { IfOk result (λ request. AsksOfFile name.now (rows_of (found_of matches.now)) request) }
+    ensures refused { IfErr result (ComesWithoutOr ((request : Request) × AsksOfFile name.now (rows_of (found_of matches.now)) request)
+        (Misspells name.now (rows_of (found_of matches.now)))) }
+{
+    Ok(Request {
+        action: action_of(alloc, name, matches)?,
+        file: text_at(alloc, matches, "FILE")?,
+        out: None,
+    })
+}
+
+/// What `build` with its words asks for.
+fn build_request<'m>(alloc: Global, matches: &ArgMatches<'m>) -> Result<Request, UsageFault>
+    ensures ok { IfOk result (λ request. AsksBuild (codes "build") (rows_of (found_of matches.now)) request) }
+    ensures refused { IfErr result (ComesWithout ((request : Request) × AsksBuild (codes "build") (rows_of (found_of matches.now)) request)) }
+{
+    Ok(Request {
+        action: Action::Build(options_at(alloc, matches)?),
+        file: text_at(alloc, matches, "IN")?,
+        out: Some(text_at(alloc, matches, "OUT")?),
+    })
+}
+
 /// What a command with its words asks for.
 fn request_of<'m>(
     alloc: Global,
@@ -65,11 +94,10 @@ fn request_of<'m>(
     ensures refused { IfErr result (ComesWithoutOr ((request : Request) × AsksFor name.now (rows_of (found_of matches.now)) request)
         (Misspells name.now (rows_of (found_of matches.now)))) }
 {
-    Ok(Request {
-        action: action_of(alloc, name, matches)?,
-        file: text_at(alloc, matches, "FILE")?,
-        out: None,
-    })
+    match name {
+        "build" => build_request(alloc, matches),
+        _ => file_request(alloc, name, matches),
+    }
 }
 
 /// Reads a command line by the table of commands.

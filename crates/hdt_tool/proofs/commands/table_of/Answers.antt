@@ -7,4 +7,5 @@ pub returns : goal.returns
 returns c =
     let five = c.in_ok-program-2.ensures ∙ grown c.in_ok-program.ensures c.in_ok-number_of.ensures.shape in
     let six = c.in_ok-program-3.ensures ∙ grown five c.in_ok-find_of.ensures.shape in
-    IfOk-weaker c.with_command-3.result _ _ (λ r h. h ∙ grown six c.in_ok-dump_of.ensures.shape) c.with_command-3.ensures
+    let seven = c.in_ok-program-4.ensures ∙ grown six c.in_ok-dump_of.ensures.shape in
+    IfOk-weaker c.with_command-4.result _ _ (λ r h. h ∙ grown seven c.in_ok-build_of.ensures.shape) c.with_command-4.ensures

@@ -9,8 +9,8 @@ pub returns-in-Some-clause-ok : goal.returns-in-Some-clause-ok
 returns-in-Some-clause-ok c =
     let f = found_of c.args.matches.now in
     let id = codes "N" in
-    let go : (o : Option Text) → one_text f id ≡ o → StatesNumber o c.in-Some.number =
-    λ o. elim o as (λ (o : Option Text). one_text f id ≡ o → StatesNumber o c.in-Some.number) [
+    let go : (o : Option Text) → one_text f id ≡ o → StatesNumber 64 o c.in-Some.number =
+    λ o. elim o as (λ (o : Option Text). one_text f id ≡ o → StatesNumber 64 o c.in-Some.number) [
       | None ↦ λ e. let none = c.get_one.ensures.none e in let bad : ⊥ = search rules in bad
       | Some t ↦ λ e. let read = (c.in-Some.ensures.value t e).0 in (read.0.0, read.0.1, read.1)
     ] in
@@ -20,8 +20,8 @@ pub returns-in-None-clause-refused : goal.returns-in-None-clause-refused
 returns-in-None-clause-refused c =
     let f = found_of c.args.matches.now in
     let id = codes "N" in
-    let go : (o : Option Text) → one_text f id ≡ o → (n : ℕ) × StatesNumber o n → ⊥ =
-    λ o. elim o as (λ (o : Option Text). one_text f id ≡ o → (n : ℕ) × StatesNumber o n → ⊥) [
+    let go : (o : Option Text) → one_text f id ≡ o → (n : ℕ) × StatesNumber 64 o n → ⊥ =
+    λ o. elim o as (λ (o : Option Text). one_text f id ≡ o → (n : ℕ) × StatesNumber 64 o n → ⊥) [
       | None ↦ λ e s. s.1
       | Some t ↦ λ e s. let refused = c.in-None.ensures.value t e in refused.1.0 (s.1.0, s.1.1)
     ] in
