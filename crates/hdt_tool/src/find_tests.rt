@@ -13,7 +13,7 @@ const THREE_REST: &[u8] =
     b"$HDT\x03<http://purl.org/HDT/hdt#dictionaryFour>\x00mapping=1;\x00\x82\xB8\x02\x82\x87\x90\xD5\x01\x03\x82\xD38/BG\xE8u:a\x00\x82b\x00\x89\xE3a$\x02\x80\x80\x90h\x01\x01\x81\xF0\x00QS}R\x00\x00\x00\x00\x02\x82\x87\x90\xD5\x01\x03\x82\xD38/BG\xE8u:p\x00\x82q\x00\xEE\xB4p\x98\x02\x81\x84\x90W\x01\x03\x82\xD3 \x8F\xDD\xC0r\"x\"\x00\xA3\x979\x16$HDT\x04<http://purl.org/HDT/hdt#triplesBitmap>\x00order=1;\x00Y\xE9\x01\x83\x95\x06\xB9\xB4\xDCt\x01\x83\x95\x07\xBA7\xB7\x86\x01\x02\x83\xC1\x19\xF2O\x91:\x01\x02\x83\xC1\x1E\x19+[\xEE";
 
 /// Its lines.
-const LINES: [&[u8]; 3] = [
+pub(crate) const THREE_LINES: [&[u8]; 3] = [
     b"<u:a> <u:p> <u:b> .\n",
     b"<u:a> <u:q> \"x\" .\n",
     b"<u:b> <u:p> <u:a> .\n",
@@ -83,7 +83,7 @@ fn found_in(
 }
 
 /// The file of three triples.
-fn three(alloc: Global) -> Result<Vec<u8>, AllocError> {
+pub(crate) fn three(alloc: Global) -> Result<Vec<u8>, AllocError> {
     joined(alloc, &[BLOCKS, THREE_BODY, THREE_REST])
 }
 
@@ -124,7 +124,7 @@ fn triples_are_found_by_each_pattern(rt: HostRuntime) -> Result<(), Fail> {
                 let given = [subject, predicate, object];
                 let (answer, sink) = found_in(alloc, &file, given, false)?;
                 assert_eq!(rt; answer, Ok(()), "{given:?}");
-                let wanted = filtered(alloc, given, LINES)?;
+                let wanted = filtered(alloc, given, THREE_LINES)?;
                 assert!(rt; sink.text() == wanted.as_slice(), "{given:?}");
                 let (answer, sink) = found_in(alloc, &file, given, true)?;
                 assert_eq!(rt; answer, Ok(()), "{given:?}");
@@ -184,7 +184,7 @@ fn a_string_that_is_no_term_is_told(rt: HostRuntime) -> Result<(), Fail> {
 fn a_dump_that_is_not_written_whole_is_told(rt: HostRuntime) -> Result<(), Fail> {
     let alloc = rt.alloc();
     let file = three(alloc)?;
-    let text = joined(alloc, &LINES)?;
+    let text = joined(alloc, &THREE_LINES)?;
     assert_eq!(rt; text.len(), 58);
     for calls in 0..58 {
         let (answer, sink) = found(alloc, &file, [None, None, None], false, Sink::new(1, calls))?;

@@ -21,6 +21,8 @@ ghost use Rattle.hdt_tool.specs.Lines.{fault_status};
 ghost use Rattle.hdt_tool.specs.Status.{Ends, IsCommandStatus, IsRefusalStatus};
 
 mod answer;
+#[cfg(test)]
+mod build_tests;
 mod commands;
 mod entries;
 mod escaping;

@@ -2,11 +2,19 @@ use crate::fault::{ToolFault, UsageFault, Word};
 use crate::lines::{fault_line, usage_line};
 use crate::request::{Action, Request};
 use crate::words::parse_words;
+use hdt_build::Options;
 use hdt_dict::Role;
-use hdt_terms::{LineReason, TermFault};
+use hdt_terms::{LineFault, LineReason, TermFault};
 use hdt_wire::{Fault, Reason};
 use std::alloc::{AllocError, Global};
 use std::test::Fail;
+
+/// The options of `build`, as a text.
+fn options_told(alloc: Global, options: &Options) -> Result<String, AllocError> {
+    let base = &options.base;
+    let size = options.block_size;
+    format!(in alloc; "build {base:?} {size}")
+}
 
 /// A command of a request, as a text.
 fn told(alloc: Global, action: &Action) -> Result<String, AllocError> {
@@ -17,29 +25,24 @@ fn told(alloc: Global, action: &Action) -> Result<String, AllocError> {
         Action::Nth(role, number) => format!(in alloc; "string {role:?} {number}"),
         Action::Number(role, string) => format!(in alloc; "number {role:?} {string:?}"),
         Action::Find { given, numbers } => format!(in alloc; "find {given:?} {numbers}"),
+        Action::Build(options) => options_told(alloc, options),
     }
 }
 
-/// What a command line asks for, as a text: a command and its file, or the kind of fault with its text.
+/// A request, as a text: a command and its files.
+fn request_told(alloc: Global, request: &Request) -> Result<String, AllocError> {
+    let action = told(alloc, &request.action)?;
+    let file = &request.file;
+    match &request.out {
+        Some(out) => format!(in alloc; "{action} of {file} to {out}"),
+        None => format!(in alloc; "{action} of {file}"),
+    }
+}
+
+/// What a command line asks for, as a text: that of a request, or the kind of fault with its text.
 fn asked(alloc: Global, words: &[&str]) -> Result<String, Fail> {
     match parse_words(alloc, words) {
-        Ok(
-            Request {
-                action,
-                file,
-                out: None,
-            },
-        ) => {
-            let action = told(alloc, &action)?;
-            Ok(format!(in alloc; "{action} of {file}")?)
-        }
-        Ok(
-            Request {
-                action: _,
-                file: _,
-                out: _,
-            },
-        ) => Ok(String::from_str(alloc, "another request")?),
+        Ok(request) => Ok(request_told(alloc, &request)?),
         Err(UsageFault::Usage(text)) => Ok(format!(in alloc; "usage {text}")?),
         Err(UsageFault::Help(text)) => Ok(format!(in alloc; "help {text}")?),
         Err(UsageFault::Word { word, fault }) => {
@@ -51,7 +54,50 @@ fn asked(alloc: Global, words: &[&str]) -> Result<String, Fail> {
 }
 
 /// Command lines, and what they ask for.
-static LINES_READ: [(&[&str], &str); 37] = [
+static LINES_READ: [(&[&str], &str); 42] = [
+    (
+        &["hdt", "build", "a.nt", "b.hdt"],
+        "build [104, 116, 116, 112, 58, 47, 47, 101, 120, 97, 109, 112, 108, 101, 46, 111, 114, 103, 47, 100, 97, 116, 97, 115, 101, 116] 16 of a.nt to b.hdt",
+    ),
+    (
+        &[
+            "hdt",
+            "build",
+            "--block-size",
+            "0",
+            "a.nt",
+            "b.hdt",
+            "--base",
+            "u:x",
+        ],
+        "build [117, 58, 120] 0 of a.nt to b.hdt",
+    ),
+    (
+        &[
+            "hdt",
+            "build",
+            "--base=",
+            "--block-size=4294967295",
+            "/dev/stdin",
+            "-",
+        ],
+        "build [] 4294967295 of /dev/stdin to -",
+    ),
+    (
+        &["hdt", "build", "a.nt"],
+        "usage error: the following required arguments were not provided:\n  <OUT>\n\nUsage: hdt build <IN> <OUT>\n\nFor more information, try '--help'.",
+    ),
+    (
+        &[
+            "hdt",
+            "build",
+            "--block-size",
+            "4294967296",
+            "a.nt",
+            "b.hdt",
+        ],
+        "usage error: invalid value '4294967296' for '--block-size <N>': 4294967296 is not in 0..=4294967295\n\nFor more information, try '--help'.",
+    ),
     (&["hdt", "head", "a.hdt"], "head of a.hdt"),
     (&["other", "head", "-"], "head of -"),
     (&["hdt", "head", "--", "--help"], "head of --help"),
@@ -192,7 +238,7 @@ static LINES_READ: [(&[&str], &str); 37] = [
     ),
     (
         &["hdt"],
-        "usage error: 'hdt' requires a subcommand but one was not provided\n  [subcommands: head, verify, strings, string, number, find, dump, help]\n\nUsage: hdt <COMMAND>\n\nFor more information, try '--help'.",
+        "usage error: 'hdt' requires a subcommand but one was not provided\n  [subcommands: head, verify, strings, string, number, find, dump, build, help]\n\nUsage: hdt <COMMAND>\n\nFor more information, try '--help'.",
     ),
 ];
 
@@ -207,9 +253,9 @@ fn command_lines_are_read(rt: HostRuntime) -> Result<(), Fail> {
 
 #[test]
 fn help_is_given(rt: HostRuntime) -> Result<(), Fail> {
-    let table: [(&[&str], &str); 6] = [
-        (&["hdt", "--help"], "help Reads RDF HDT files"),
-        (&["hdt", "help"], "help Reads RDF HDT files"),
+    let table: [(&[&str], &str); 7] = [
+        (&["hdt", "--help"], "help Builds and reads RDF HDT files"),
+        (&["hdt", "help"], "help Builds and reads RDF HDT files"),
         (
             &["hdt", "head", "--help"],
             "help Print the head of an HDT file.\n\n",
@@ -218,6 +264,10 @@ fn help_is_given(rt: HostRuntime) -> Result<(), Fail> {
         (
             &["hdt", "find", "--help"],
             "help Print the triples that have the given terms.\n\n",
+        ),
+        (
+            &["hdt", "build", "--help"],
+            "help Build an HDT file from N-Triples.\n\n",
         ),
         (
             &["hdt", "help", "dump"],
@@ -233,77 +283,103 @@ fn help_is_given(rt: HostRuntime) -> Result<(), Fail> {
     Ok(())
 }
 
+const TRUNCATED: Fault = Fault {
+    place: 68,
+    reason: Reason::Truncated,
+};
+
+const TRAILING: Fault = Fault {
+    place: u64::MAX,
+    reason: Reason::TrailingBytes,
+};
+
+const NO_END: LineFault = LineFault {
+    line: 20,
+    column: 7,
+    reason: LineReason::Syntax,
+};
+
+/// Faults, and what is told of each: its status, its line, and the text that it has as an error of a library.
+static FAULTS_TOLD: [(ToolFault, u8, &str, &str); 13] = [
+    (
+        ToolFault::File(TRUNCATED),
+        1,
+        "hdt: fault 1 Truncated at 68",
+        "the file has a fault: Truncated at 68",
+    ),
+    (
+        ToolFault::File(TRAILING),
+        1,
+        "hdt: fault 33 TrailingBytes at 18446744073709551615",
+        "the file has a fault: TrailingBytes at 18446744073709551615",
+    ),
+    (
+        ToolFault::Input(NO_END),
+        1,
+        "hdt: line 20 column 7: 1 Syntax",
+        "the input has a fault: Syntax at line 20 column 7",
+    ),
+    (ToolFault::NoTriples, 1, "hdt: no triples", "no triples"),
+    (
+        ToolFault::NoSuchTerm,
+        1,
+        "hdt: no such term",
+        "no such term",
+    ),
+    (
+        ToolFault::NoSuchNumber,
+        1,
+        "hdt: no such number",
+        "no such number",
+    ),
+    (
+        ToolFault::NotATerm(Role::Subject, 1),
+        1,
+        "hdt: subject 1 is not a term",
+        "a string that is not a term: Subject 1",
+    ),
+    (
+        ToolFault::NotATerm(Role::Predicate, u64::MAX),
+        1,
+        "hdt: predicate 18446744073709551615 is not a term",
+        "a string that is not a term: Predicate 18446744073709551615",
+    ),
+    (
+        ToolFault::NotATerm(Role::Object, 20),
+        1,
+        "hdt: object 20 is not a term",
+        "a string that is not a term: Object 20",
+    ),
+    (ToolFault::BadOptions, 2, "hdt: bad options", "bad options"),
+    (ToolFault::Read, 3, "hdt: reading failed", "reading failed"),
+    (
+        ToolFault::Write(7),
+        3,
+        "hdt: writing failed",
+        "writing failed after 7 bytes",
+    ),
+    (
+        ToolFault::OutOfMemory,
+        4,
+        "hdt: out of memory",
+        "out of memory",
+    ),
+];
+
 #[test]
 fn faults_are_told_in_a_line(rt: HostRuntime) -> Result<(), Fail> {
-    let truncated = Fault {
-        place: 68,
-        reason: Reason::Truncated,
-    };
-    let trailing = Fault {
-        place: u64::MAX,
-        reason: Reason::TrailingBytes,
-    };
-    for (fault, status, line) in [
-        (
-            ToolFault::File(truncated),
-            1,
-            "hdt: fault 1 Truncated at 68",
-        ),
-        (
-            ToolFault::File(trailing),
-            1,
-            "hdt: fault 33 TrailingBytes at 18446744073709551615",
-        ),
-        (ToolFault::NoSuchTerm, 1, "hdt: no such term"),
-        (ToolFault::NoSuchNumber, 1, "hdt: no such number"),
-        (
-            ToolFault::NotATerm(Role::Subject, 1),
-            1,
-            "hdt: subject 1 is not a term",
-        ),
-        (
-            ToolFault::NotATerm(Role::Predicate, u64::MAX),
-            1,
-            "hdt: predicate 18446744073709551615 is not a term",
-        ),
-        (
-            ToolFault::NotATerm(Role::Object, 20),
-            1,
-            "hdt: object 20 is not a term",
-        ),
-        (ToolFault::Read, 3, "hdt: reading failed"),
-        (ToolFault::Write(7), 3, "hdt: writing failed"),
-        (ToolFault::OutOfMemory, 4, "hdt: out of memory"),
-    ] {
-        let (told_status, told) = fault_line(rt.alloc(), &fault)?;
-        assert_eq!(rt; told_status, status, "{line}");
-        assert_eq!(rt; told.as_str(), line);
+    for (fault, status, line, _) in &FAULTS_TOLD {
+        let (told_status, told) = fault_line(rt.alloc(), fault)?;
+        assert_eq!(rt; told_status, *status, "{line}");
+        assert_eq!(rt; told.as_str(), *line);
     }
     Ok(())
 }
 
 #[test]
 fn faults_print_for_a_library(rt: HostRuntime) -> Result<(), Fail> {
-    let truncated = Fault {
-        place: 68,
-        reason: Reason::Truncated,
-    };
-    for (fault, text) in [
-        (
-            ToolFault::File(truncated),
-            "the file has a fault: Truncated at 68",
-        ),
-        (ToolFault::NoSuchTerm, "no such term"),
-        (ToolFault::NoSuchNumber, "no such number"),
-        (
-            ToolFault::NotATerm(Role::Object, 7),
-            "a string that is not a term: Object 7",
-        ),
-        (ToolFault::Read, "reading failed"),
-        (ToolFault::Write(7), "writing failed after 7 bytes"),
-        (ToolFault::OutOfMemory, "out of memory"),
-    ] {
-        assert!(rt; fault.to_string(rt.alloc())?.as_str() == text);
+    for (fault, _, _, text) in &FAULTS_TOLD {
+        assert_eq!(rt; fault.to_string(rt.alloc())?.as_str(), *text);
     }
     Ok(())
 }
