@@ -119,15 +119,23 @@ def triples(ascending):
     return block + bits(marks_y) + bits(marks_z) + numbers([p for _, p in pairs]) + numbers([o for _, _, o in ascending])
 
 
-def graph(strings):
-    """A file of these triples of dictionary strings; their numbers and the triples, both in the order of the file."""
+def body(base, count):
+    """The header body that a builder writes of so many triples."""
+    dataset = b"<%s> <http://www.w3.org/1999/02/22-rdf-syntax-ns#type> <http://purl.org/HDT/hdt#Dataset> .\n"
+    return dataset % base + b'<%s> <http://rdfs.org/ns/void#triples> "%d" .\n' % (base, count)
+
+
+def graph(strings, base=None, block_size=16):
+    """A file of these triples of dictionary strings, without a header body where there is no base; their numbers and the
+    triples, both in the order of the file."""
     subjects, predicates, objects = ({triple[place] for triple in strings} for place in range(3))
     shared = sorted(subjects & objects)
     parts = shared, sorted(subjects - objects), sorted(predicates), sorted(objects - subjects)
     roles = parts[0] + parts[1], parts[2], parts[0] + parts[3]
     places = [{string: n for n, string in enumerate(role, 1)} for role in roles]
     found = sorted({tuple(place[string] for place, string in zip(places, triple)) for triple in strings})
-    data = head() + dictionary(*parts) + triples(found)
+    header = head() if base is None else head(body(base, len(found)))
+    data = header + dictionary(*parts, block_size) + triples(found)
     return data, found, [tuple(role[n - 1] for role, n in zip(roles, triple)) for triple in found]
 
 
