@@ -1,3 +1,5 @@
 mod Reading
 mod BitReading
 mod Joining
+mod Words
+mod Groups

@@ -15,3 +15,4 @@ pub mod Marks
 pub mod MarksLaws
 pub mod ExactSequences
 pub mod ExactSequencesLaws
+pub mod Directory

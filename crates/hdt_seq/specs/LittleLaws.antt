@@ -49,7 +49,7 @@ little_small (b ∷ bs) (suc k) small fits =
     subst (λ n. b + 256 * little bs < 2 ^ n) (let e : 8 + 8 * k ≡ 8 * suc k = omega arith in e)
     (rw (pow-add 2 8 (8 * k)) (omega (arith, small 0, little_small bs k (rest_bytes b bs small) (omega arith))))
 
-mod_less : (n j k : ℕ) → k ≤ j → n % 2 ^ j % 2 ^ k ≡ n % 2 ^ k
+pub mod_less : (n j k : ℕ) → k ≤ j → n % 2 ^ j % 2 ^ k ≡ n % 2 ^ k
 mod_less n j k h = ap (λ m. n % 2 ^ m % 2 ^ k) (let e : j ≡ (j - k) + k = omega arith in e) ∙ mod-mod-pow n (j - k) k
 
 -- the nine bytes from the first one on hold the bits whole

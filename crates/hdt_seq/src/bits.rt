@@ -1,8 +1,9 @@
 //! Bit sequences: bits packed eight in a byte.
-ghost use Rattle.std.specs.Prelude.{◌≡◌, ◌+◌, ◌*◌, ◌^◌, ◌<◌, ◌≤◌, ℕ, length};
+ghost use Rattle.std.specs.Prelude.{◌≡◌, ◌+◌, ◌*◌, ◌%◌, ◌^◌, ◌<◌, ◌≤◌, ℕ, length};
 
 use crate::rows::{byte_at, code8_at, packed_at};
-use crate::window::bit_of;
+use crate::steps::Steps;
+use crate::window::{bit_of, window};
 use hdt_wire::{Fault, Reason, demand, read_vbyte};
 
 /// A bit sequence that was read: its packed bytes are lent from the input.
@@ -20,7 +21,9 @@ pub struct Bits<'a> {
 impl<'a> Bits<'a> {
     ghost use Rattle.std.specs.Prelude.{Bool, List, Ok, Some, IfOk, slice_get};
     ghost use Rattle.hdt_wire.specs.Rows.{Reads, SpelledAt};
+    ghost use Rattle.std.specs.Int.Count.{ones};
     ghost use Rattle.hdt_seq.specs.Sequence.{place_of_entry};
+    ghost use Rattle.hdt_seq.specs.Marks.{marks_before};
     ghost use Rattle.hdt_seq.specs.Bits.{IsBits, bits_of, bits_places, bits_places_from, bits_and_end, bits_read, bits_at};
 
     /// Reads by rows.
@@ -93,5 +96,20 @@ impl<'a> Bits<'a> {
         ensures { result ≡ place_of_entry (bits_places self.now) i }
     {
         self.packed_at as u64 + i / 8
+    }
+
+    /// The bits from a place on and before another, at most 64 places on, as a number whose lowest bit is the first one:
+    /// one step.
+    pub(crate) fn word(&self, from: u64, to: u64, steps: &mut Steps) -> u64
+        requires order { from ≤ to }
+        requires near { to ≤ from + 64 }
+        requires within { to ≤ length (bits_of self.now) }
+        // The ones of its lowest k bits are the marks of the first k places, and all its ones are all the marks.
+        ensures lowest { (k : ℕ) → from + k ≤ to → marks_before (bits_of self.now) from + ones (result % 2 ^ k) ≡ marks_before (bits_of self.now) (from + k) }
+        ensures all { marks_before (bits_of self.now) from + ones result ≡ marks_before (bits_of self.now) to }
+        ensures cost { steps.new ≡ steps.old + 1 }
+    {
+        steps.tick();
+        window(self.packed, u128::from(from), (to - from) as u8)
     }
 }

@@ -16,6 +16,7 @@
 #![tactic(auto)]
 
 mod bits;
+mod directory;
 mod numbers;
 mod packing;
 mod rows;
@@ -25,6 +26,7 @@ mod window;
 mod writing;
 
 pub use bits::Bits;
+pub use directory::Directory;
 pub use numbers::Numbers;
 pub use rows::{byte_at, code8_at, packed_at};
 pub use steps::Steps;

@@ -1,0 +1,34 @@
+-- The counts of a directory at the group that holds a place.
+use Rattle.std.proofs.Common.{◌≡◌, ℕ, ◌+◌, ◌-◌, ◌*◌, ◌/◌, ◌%◌, ◌<◌, ◌≤◌, List, Bool, length, slice_index, min, ap, ◌∙◌, arith, inl, inr, ◌⊎◌}
+use Rattle.hdt_seq.specs.Marks.{marks_before}
+use Rattle.hdt_seq.specs.MarksLaws.{marks_past}
+use Rattle.hdt_seq.specs.Directory.{AreGroupCounts}
+
+-- the group begins at the place less what is inside
+pub group_start : (counts : List ℕ) (bits : List Bool) (i : ℕ) → AreGroupCounts counts bits → i ≤ length bits
+    → (i / 512 < length counts) × (slice_index counts (i / 512) ≡ marks_before bits (i - i % 512))
+group_start counts bits i kept h =
+    let start : 512 * (i / 512) ≡ i - i % 512 = omega arith in
+    (omega (arith, kept.many), kept.each (i / 512) (omega arith) ∙ ap (marks_before bits) start)
+
+-- no more marks past the end
+pub at_end : (bits : List Bool) (i j : ℕ) → (i ≡ j) ⊎ ((length bits ≤ i) × (length bits ≤ j)) → marks_before bits i ≡ marks_before bits j
+at_end bits i j (inl e) = ap (marks_before bits) e
+at_end bits i j (inr h) = marks_past bits i j h.0 h.1
+
+group_ends : (g r i n left : ℕ) → r < 512 → 512 * g + r ≡ i → i ≤ n → left ≡ min (512 - r) (n - i) → (512 * (g + 1) ≡ i + left) ⊎ ((n ≤ 512 * (g + 1)) × (n ≤ i + left))
+group_ends g r i n left small e h is = grind arith
+
+-- the next one begins where what is left of this one ends, or all marks stand before it
+pub group_end : (counts : List ℕ) (bits : List Bool) (i left : ℕ) → AreGroupCounts counts bits → i ≤ length bits → 448 ≤ i % 512
+    → left ≡ min (512 - i % 512) (length bits - i)
+    → (i / 512 + 1 < length counts) × (slice_index counts (i / 512 + 1) ≡ marks_before bits (i + left))
+group_end counts bits i left kept h late is =
+    let ends = group_ends (i / 512) (i % 512) i (length bits) left (omega arith) (omega arith) h is in
+    (omega (arith, kept.many), kept.each (i / 512 + 1) (omega arith) ∙ at_end bits (512 * (i / 512 + 1)) (i + left) ends)
+
+least_or_past : (i n : ℕ) → (min i n ≡ i) ⊎ ((n ≤ min i n) × (n ≤ i))
+least_or_past i n = grind arith
+
+pub at_least : (bits : List Bool) (i : ℕ) → marks_before bits (min i (length bits)) ≡ marks_before bits i
+at_least bits i = at_end bits (min i (length bits)) i (least_or_past i (length bits))

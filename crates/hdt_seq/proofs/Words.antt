@@ -1,0 +1,83 @@
+-- Marks counted as the ones of words.
+use Rattle.std.proofs.Common.{◌≡◌, ℕ, ◌+◌, ◌-◌, ◌*◌, ◌/◌, ◌%◌, ◌^◌, ◌<◌, ◌≤◌, zero, suc, List, Bool, true, false, cond, nat_eq, bit_and, length, map, refl, ap, sym, ◌∙◌, arith, add-zero}
+use Rattle.std.proofs.lemmas.Nat.{shr-shr, mod-pow-add, ones_cat, mod_below, pow_pos, one_shl, and_mask}
+use Rattle.std.proofs.Math.Nat.{mod-one}
+use Rattle.std.proofs.lemmas.List.FromFn.{take-map-range_with_len, sum_by-map-range_with_len_more}
+use Rattle.std.specs.List.{range_with_len, count_by}
+use Rattle.std.specs.Int.Count.{ones}
+use Rattle.hdt_seq.specs.Little.{little, bit, bits}
+use Rattle.hdt_seq.specs.LittleLaws.{mod_less}
+use Rattle.hdt_seq.specs.Marks.{marks_before}
+
+-- ---- the ones of a number
+
+abbrev digit : Bool → ℕ
+digit b = cond b 1 0
+
+ones_bit : (x : ℕ) → x < 2 → ones x ≡ digit (nat_eq x 1)
+unfolding ones
+ones_bit zero h = refl
+ones_bit (suc zero) h = refl
+ones_bit (suc (suc x)) h = absurd (omega (arith, h))
+
+-- the ones of the lowest k + 1 bits are those of the lowest k, and bit k
+ones_more : (n k : ℕ) → ones (n % 2 ^ (k + 1)) ≡ ones (n % 2 ^ k) + digit (nat_eq (n / 2 ^ k % 2) 1)
+ones_more n k =
+    ap (λ m. ones (n % 2 ^ m)) (let e : k + 1 ≡ 1 + k = omega arith in e)
+    ∙ ap ones (mod-pow-add n 1 k)
+    ∙ ones_cat k (n / 2 ^ k % 2) (n % 2 ^ k) (mod_below n (2 ^ k) (pow_pos k))
+    ∙ ap (λ m. m + ones (n % 2 ^ k)) (ones_bit (n / 2 ^ k % 2) (mod_below (n / 2 ^ k) 2 (omega arith)))
+    ∙ (omega arith)
+
+digit_small : (b : Bool) → digit b ≤ 1
+digit_small true = omega arith
+digit_small false = omega arith
+
+-- so one more bit has at most one more
+pub ones_step : (n k : ℕ) → ones (n % 2 ^ (k + 1)) ≤ ones (n % 2 ^ k) + 1
+ones_step n k = omega (arith, ones_more n k, digit_small (nat_eq (n / 2 ^ k % 2) 1))
+
+pub ones_none : (n : ℕ) → ones (n % 2 ^ 0) ≡ 0
+ones_none n = ap ones (mod-one n) ∙ ones_bit 0 (omega arith)
+
+-- a word's lowest k bits by a mask
+pub lowest_bits : (n k : ℕ) → k < 64 → bit_and n (1 * 2 ^ k % 2 ^ 64 - 1) ≡ n % 2 ^ k
+lowest_bits n k lt = ap (λ m. bit_and n (m - 1)) (one_shl k 64 lt) ∙ and_mask n k
+
+-- ---- the marks of packed bytes
+
+-- the ones of the first places
+abbrev ones_below : List ℕ → ℕ → ℕ
+ones_below bytes i = count_by (λ b. b) (map (bit bytes) (range_with_len 0 i))
+
+marks_are : (bytes : List ℕ) (n i : ℕ) → i ≤ n → marks_before (bits bytes n) i ≡ ones_below bytes i
+unfolding marks_before bits
+marks_are bytes n i h = ap (λ xs. count_by (λ b. b) xs) (take-map-range_with_len (bit bytes) 0 n i h)
+
+one_more : (bytes : List ℕ) (i : ℕ) → ones_below bytes (i + 1) ≡ ones_below bytes i + digit (bit bytes i)
+one_more bytes i = sum_by-map-range_with_len_more (λ b. cond b 1 0) (bit bytes) 0 i i (omega arith)
+
+bit_after : (bytes : List ℕ) (a k : ℕ) → nat_eq (little bytes / 2 ^ a / 2 ^ k % 2) 1 ≡ bit bytes (a + k)
+unfolding bit
+bit_after bytes a k = ap (λ n. nat_eq (n % 2) 1) (shr-shr (little bytes) a k)
+
+ones_between : (bytes : List ℕ) (a k : ℕ) → ones_below bytes a + ones (little bytes / 2 ^ a % 2 ^ k) ≡ ones_below bytes (a + k)
+ones_between bytes a zero =
+    ap (λ n. ones_below bytes a + n) (ones_none (little bytes / 2 ^ a)) ∙ add-zero (ones_below bytes a) ∙ ap (ones_below bytes) (sym (add-zero a))
+ones_between bytes a (suc k) =
+    let next : suc k ≡ k + 1 = omega arith in
+    let end : a + k + 1 ≡ a + suc k = omega arith in
+    let more : ones_below bytes a + ones (little bytes / 2 ^ a % 2 ^ (k + 1)) ≡ ones_below bytes (a + k) + digit (bit bytes (a + k)) =
+    omega (arith, ones_between bytes a k, ones_more (little bytes / 2 ^ a) k, ap digit (bit_after bytes a k)) in
+    ap (λ n. ones_below bytes a + ones (little bytes / 2 ^ a % 2 ^ n)) next ∙ more ∙ sym (one_more bytes (a + k)) ∙ ap (ones_below bytes) end
+
+-- the marks from a place on and before another are the ones of the bits there
+pub marks_between : (bytes : List ℕ) (n a k b : ℕ) → b ≤ n → a + k ≡ b → marks_before (bits bytes n) a + ones (little bytes / 2 ^ a % 2 ^ k) ≡ marks_before (bits bytes n) b
+marks_between bytes n a k b h e =
+    ap (λ x. x + ones (little bytes / 2 ^ a % 2 ^ k)) (marks_are bytes n a (omega arith))
+    ∙ ones_between bytes a k ∙ ap (ones_below bytes) e ∙ sym (marks_are bytes n b h)
+
+-- the same of the lowest k of more bits
+pub marks_lowest : (bytes : List ℕ) (n a w k : ℕ) → k ≤ w → a + k ≤ n → marks_before (bits bytes n) a + ones (little bytes / 2 ^ a % 2 ^ w % 2 ^ k) ≡ marks_before (bits bytes n) (a + k)
+marks_lowest bytes n a w k le h =
+    ap (λ m. marks_before (bits bytes n) a + ones m) (mod_less (little bytes / 2 ^ a) w k le) ∙ marks_between bytes n a k (a + k) h refl

@@ -1,0 +1,17 @@
+use Rattle.std.proofs.Common.{◌≡◌, ◌≤◌, ◌<◌, ◌+◌, ◌-◌, length, slice_index}
+use Rattle.hdt_seq.specs.Width.{digits}
+use Rattle.hdt_seq.specs.Directory.{counts_kept}
+use Rattle.hdt_seq.proofs.directory.Directory.group_of.Given as goal
+
+abbrev pub invariant-loop-high : goal.invariant-loop-high
+invariant-loop-high l = record {
+  apart : l.low < l.high;
+  inside : l.high < length (counts_kept l.self);
+  before_is : l.before ≡ slice_index (counts_kept l.self) l.low;
+  before : l.before < l.k;
+  through : l.k ≤ slice_index (counts_kept l.self) l.high;
+  cost : l.steps + digits (l.high - l.low - 1) ≤ l.fn.steps + digits (length (counts_kept l.self) - 2);
+}
+
+abbrev pub decreases-loop-high : goal.decreases-loop-high
+decreases-loop-high l = l.high - l.low

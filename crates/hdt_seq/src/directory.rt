@@ -1,0 +1,209 @@
+//! Directories: the marks of a bit sequence, which are its bits that are 1, counted by groups.
+ghost use Rattle.std.specs.Prelude.{◌≡◌, ◌≤◌, ◌<◌, ◌+◌, ◌-◌, ◌*◌, ◌/◌, ◌%◌, ◌^◌, ℕ, List, Bool, length, slice_index, slice_get, Some, true, IfOk};
+ghost use Rattle.std.specs.Int.Count.{ones};
+ghost use Rattle.hdt_seq.specs.Width.{digits};
+ghost use Rattle.hdt_seq.specs.Marks.{marks_before, IsPlaceOfMark};
+ghost use Rattle.hdt_seq.specs.Bits.{bits_of};
+
+use crate::bits::Bits;
+use crate::steps::Steps;
+use std::alloc::{AllocError, Global};
+
+/// How many bits a group has. The last group of a sequence may have fewer.
+const GROUP: u64 = 512;
+
+/// How many bits a word has.
+const WORD: u64 = 64;
+
+/// The counts by which marks of a bit sequence are found in few steps: how many marks stand before each group of 512
+/// bits, and last how many there are.
+///
+/// It borrows nothing: the bits are handed in again with each call, and the caller shows that the directory is theirs.
+/// A step is a look at one kept count, or at one word of 64 bits or a part of it.
+///
+/// ```text
+/// let directory = Directory::new(alloc, &bits)?;
+/// let mut steps = Steps::new();
+/// let marks = directory.rank(&bits, bits.len(), &mut steps);
+/// let last = directory.select(&bits, marks, &mut steps);
+/// ```
+#[derive(Drop)]
+pub struct Directory {
+    counts: Vec<u64>,
+}
+
+impl Directory {
+    ghost use Rattle.hdt_seq.specs.Directory.{groups, counts_kept, IsDirectoryOf};
+
+    /// Counts the marks, in one pass over the words. It takes memory once, for as many counts as it keeps; bits past
+    /// the last one never count.
+    #[tactic(auto, unfolding(crate::specs::Directory::counts_kept))]
+    pub fn new(alloc: Global, bits: &Bits<'_>) -> Result<Directory, AllocError>
+        ensures { IfOk result (λ d. IsDirectoryOf d (bits_of bits.now)) }
+    {
+        let groups = bits.len().div_ceil(GROUP);
+        let mut counts = Vec::with_capacity(alloc, groups as usize + 1)?;
+        counts.push(0)?;
+        let mut uncounted = Steps::new();
+        let mut at = 0;
+        let mut total = 0;
+        for group in 0..groups {
+            let next = at + (bits.len() - at).min(GROUP);
+            total += marks_between(bits, at, next, &mut uncounted);
+            at = next;
+            counts.push(total)?;
+        }
+        Ok(Directory { counts })
+    }
+
+    /// How many marks stand before place i, places being counted from 0: at most 8 steps. The caller shows that i is at
+    /// most the length.
+    #[tactic(auto, using(crate::specs::MarksLaws::marks_le, crate::proofs::Groups::group_end))]
+    pub fn rank(&self, bits: &Bits<'_>, i: u64, steps: &mut Steps) -> u64
+        requires counted { IsDirectoryOf self.now (bits_of bits.now) }
+        requires within { i ≤ length (bits_of bits.now) }
+        ensures is { result ≡ marks_before (bits_of bits.now) i }
+        ensures most { result ≤ i }
+        ensures cost { steps.new ≤ steps.old + 8 }
+    {
+        let group = i / GROUP;
+        let inside = i % GROUP;
+        if inside < GROUP - WORD {
+            let before = self.count(group, steps);
+            before + marks_between(bits, i - inside, i, steps)
+        } else {
+            // In the group's last word, which is counted backward from the count of the next group.
+            let left = (GROUP - inside).min(bits.len() - i);
+            let through = self.count(group + 1, steps);
+            through - marks_between(bits, i, i + left, steps)
+        }
+    }
+
+    /// The place, counted from 0, of mark k, counted from 1: at most as many steps as the number of groups has binary
+    /// digits, and 8. The caller shows that there are k marks.
+    pub fn select(&self, bits: &Bits<'_>, k: u64, steps: &mut Steps) -> u64
+        requires counted { IsDirectoryOf self.now (bits_of bits.now) }
+        requires some { 0 < k }
+        requires many { k ≤ marks_before (bits_of bits.now) (length (bits_of bits.now)) }
+        ensures is { IsPlaceOfMark (bits_of bits.now) k result }
+        ensures within { result < length (bits_of bits.now) }
+        ensures through { marks_before (bits_of bits.now) (result + 1) ≡ k }
+        ensures cost { steps.new ≤ steps.old + (digits (groups (bits_of bits.now)) + 8) }
+    {
+        let (group, before) = self.group_of(k, steps);
+        place_from(bits, group * GROUP, k - before, steps)
+    }
+
+    /// How many numbers the directory keeps: one for each group, and one.
+    #[tactic(auto, unfolding(crate::specs::Directory::counts_kept))]
+    pub fn held(&self) -> u128
+        ensures is { result ≡ length (counts_kept self.now) }
+        ensures groups { (bits : List Bool) → IsDirectoryOf self.now bits → result ≡ groups bits + 1 }
+    {
+        self.counts.len() as u128
+    }
+
+    /// The count kept for a group: one step.
+    #[tactic(auto, unfolding(crate::specs::Directory::counts_kept))]
+    fn count(&self, group: u64, steps: &mut Steps) -> u64
+        requires { group < length (counts_kept self.now) }
+        ensures is { result ≡ slice_index (counts_kept self.now) group }
+        ensures cost { steps.new ≡ steps.old + 1 }
+    {
+        steps.tick();
+        self.counts[group as usize]
+    }
+
+    /// The group that holds mark k, with the count of marks before it, by halving.
+    #[tactic(auto, unfolding(crate::specs::Directory::counts_kept), using(crate::specs::WidthLaws::digits_split))]
+    fn group_of(&self, k: u64, steps: &mut Steps) -> (u64, u64)
+        requires some { 1 < length (counts_kept self.now) }
+        requires first { slice_index (counts_kept self.now) 0 ≡ 0 }
+        requires asked { 0 < k }
+        requires last { k ≤ slice_index (counts_kept self.now) (length (counts_kept self.now) - 1) }
+        ensures inside { result.0 + 1 < length (counts_kept self.now) }
+        ensures before_is { result.1 ≡ slice_index (counts_kept self.now) result.0 }
+        ensures before { result.1 < k }
+        ensures through { k ≤ slice_index (counts_kept self.now) (result.0 + 1) }
+        ensures cost { steps.new ≤ steps.old + digits (length (counts_kept self.now) - 2) }
+    {
+        let mut low = 0;
+        let mut before = 0;
+        let mut high = self.counts.len() as u64 - 1;
+        while high - low > 1 {
+            let middle = low + (high - low) / 2;
+            let count = self.count(middle, steps);
+            if count < k {
+                low = middle;
+                before = count;
+            } else {
+                high = middle;
+            }
+        }
+        (low, before)
+    }
+}
+
+/// How many marks stand from a place on and before another: a step for each word.
+#[tactic(auto, using(crate::specs::MarksLaws::marks_le))]
+fn marks_between(bits: &Bits<'_>, from: u64, to: u64, steps: &mut Steps) -> u64
+    requires order { from ≤ to }
+    requires within { to ≤ length (bits_of bits.now) }
+    ensures is { marks_before (bits_of bits.now) from + result ≡ marks_before (bits_of bits.now) to }
+    ensures cost { steps.new ≤ steps.old + (to - from + 63) / 64 }
+{
+    let mut between = 0;
+    let mut at = from;
+    while at < to {
+        let next = at + (to - at).min(WORD);
+        between += u64::from(bits.word(at, next, steps).count_ones());
+        at = next;
+    }
+    between
+}
+
+/// The place of the mark that is number `left`, counted from 1, of those from a place on; it is less than a group away.
+fn place_from(bits: &Bits<'_>, from: u64, left: u64, steps: &mut Steps) -> u64
+    requires some { 0 < left }
+    requires near { marks_before (bits_of bits.now) from + left ≤ marks_before (bits_of bits.now) (from + 512) }
+    ensures within { result < length (bits_of bits.now) }
+    ensures before { marks_before (bits_of bits.now) result + 1 ≡ marks_before (bits_of bits.now) from + left }
+    ensures through { marks_before (bits_of bits.now) (result + 1) ≡ marks_before (bits_of bits.now) from + left }
+    ensures cost { steps.new ≤ steps.old + 8 }
+{
+    let mut at = from;
+    let mut left = left;
+    loop {
+        let next = at + (bits.len() - at).min(WORD);
+        let word = bits.word(at, next, steps);
+        let found = u64::from(word.count_ones());
+        if left <= found {
+            return at + place_of_one(word, next - at, left);
+        }
+        left -= found;
+        at = next;
+    }
+}
+
+/// The place of one number k, counted from 1, among the lowest bits of a word, by halving.
+fn place_of_one(word: u64, width: u64, k: u64) -> u64
+    requires narrow { width ≤ 64 }
+    requires some { 0 < k }
+    requires many { k ≤ ones (word % 2 ^ width) }
+    ensures within { result < width }
+    ensures before { ones (word % 2 ^ result) + 1 ≡ k }
+    ensures through { ones (word % 2 ^ (result + 1)) ≡ k }
+{
+    let mut low = 0;
+    let mut high = width;
+    while high - low > 1 {
+        let middle = low + (high - low) / 2;
+        let lowest = word & ((1 << middle) - 1);
+        if u64::from(lowest.count_ones()) < k {
+            low = middle;
+        } else {
+            high = middle;
+        }
+    }
+    low
+}
