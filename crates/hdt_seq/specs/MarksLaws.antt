@@ -1,11 +1,12 @@
 -- Laws of counts of marks: how they grow from place to place.
-use Rattle.std.proofs.Common.{◌≡◌, ℕ, zero, suc, ◌+◌, ◌-◌, ◌<◌, ◌≤◌, Bool, true, false, cond, List, [], ◌∷◌, length, get_or, take, slice_get, Some, refl, ap, sym, ◌∙◌, arith, le_of_suc-le-suc}
-use Rattle.std.specs.List.{count_by}
+use Rattle.std.proofs.Common.{◌≡◌, ℕ, zero, suc, ◌+◌, ◌-◌, ◌<◌, ◌≤◌, Bool, true, false, cond, List, [], ◌∷◌, length, get_or, take, slice_get, Some, refl, ap, sym, ◌∙◌, arith, le_of_suc-le-suc, inl, inr}
+use Rattle.std.specs.List.{count_by, SomeIndex}
 use Rattle.std.proofs.Math.Nat.{lt_of_not-le}
+use Rattle.std.proofs.lemmas.Bool.{cases_lt}
 use Rattle.std.proofs.lemmas.List.{length-take, take_all}
 use Rattle.std.proofs.lemmas.List.Sums.{count_by-le-length, count_by_more_yes, count_by_more_no, sum_by-cons}
 use Rattle.std.proofs.lemmas.Option.{get_or_from_slice_get, slice_get_within, slice_get-get_or}
-use Rattle.hdt_seq.specs.Marks.{marks_before}
+use Rattle.hdt_seq.specs.Marks.{marks_before, IsPlaceOfMark}
 
 -- ---- steps
 
@@ -22,6 +23,14 @@ marks_marked bits i is = count_by_more_yes (λ b. b) bits i false (slice_get_wit
 pub marks_unmarked : (bits : List Bool) (i : ℕ) → slice_get bits i ≡ Some false → marks_before bits (i + 1) ≡ marks_before bits i
 unfolding marks_before
 marks_unmarked bits i is = count_by_more_no (λ b. b) bits i false (slice_get_within bits i false is) (get_or_from_slice_get bits i false false is)
+
+step_by : (bits : List Bool) (i : ℕ) (b : Bool) → slice_get bits i ≡ Some b → marks_before bits (i + 1) ≤ marks_before bits i + 1
+step_by bits i true is = omega (arith, marks_marked bits i is)
+step_by bits i false is = omega (arith, marks_unmarked bits i is)
+
+-- at most one more after each bit
+marks_step : (bits : List Bool) (i : ℕ) → i < length bits → marks_before bits (i + 1) ≤ marks_before bits i + 1
+marks_step bits i h = step_by bits i (get_or bits i false) (slice_get-get_or bits i false h)
 
 by_value : (bits : List Bool) (i : ℕ) → i < length bits → marks_before bits (i + 1) ≡ marks_before bits i + 1 → (b : Bool) → get_or bits i false ≡ b → slice_get bits i ≡ Some true
 unfolding marks_before
@@ -75,3 +84,37 @@ pub marks_before_last : (bits : List Bool) (i : ℕ) → slice_get bits (length 
 marks_before_last bits i last h =
     let end : length bits - 1 + 1 ≡ length bits = omega (arith, h) in
     omega (arith, marks_mono bits i (length bits - 1) (omega (arith, h)), marks_marked bits (length bits - 1) last, ap (marks_before bits) end)
+
+-- ---- places of marks
+
+-- each number up to how many marks there are is that of a mark
+place_before : (bits : List Bool) (k n : ℕ) → 0 < k → k ≤ marks_before bits n → SomeIndex bits (IsPlaceOfMark bits k)
+place_before bits k zero some h = absurd (omega (arith, some, h, none_before bits))
+place_before bits k (suc n) some h =
+    elim (cases_lt (marks_before bits n) k) [
+      | inl lt ↦
+          let next : suc n ≡ n + 1 = omega arith in
+          let up : marks_before bits n < marks_before bits (n + 1) = omega (arith, lt, h, ap (marks_before bits) next) in
+          let within : n < length bits = sooner_than_end bits n (n + 1) up in
+          let one : marks_before bits (n + 1) ≡ marks_before bits n + 1 = omega (arith, up, marks_step bits n within) in
+          (n, within, record { marked = mark_from_counts bits n within one; before = omega (arith, lt, h, one, ap (marks_before bits) next) })
+      | inr le ↦ place_before bits k n some le
+    ]
+
+pub some_place : (bits : List Bool) (k : ℕ) → 0 < k → k ≤ marks_before bits (length bits) → SomeIndex bits (IsPlaceOfMark bits k)
+some_place bits k some h = place_before bits k (length bits) some h
+
+-- the marks through the place of mark k are k
+pub marks_through : (bits : List Bool) (k i : ℕ) → IsPlaceOfMark bits k i → marks_before bits (i + 1) ≡ k
+marks_through bits k i place = marks_marked bits i place.marked ∙ place.before
+
+-- marks are numbered in the order of their places
+pub places_ascend : (bits : List Bool) (k m i j : ℕ) → IsPlaceOfMark bits k i → IsPlaceOfMark bits m j → k < m → i < j
+places_ascend bits k m i j first second lt = sooner bits i j (omega (arith, first.before, second.before, lt))
+
+-- and each number is that of one mark at most
+pub one_place : (bits : List Bool) (k i j : ℕ) → IsPlaceOfMark bits k i → IsPlaceOfMark bits k j → i ≡ j
+one_place bits k i j first second =
+    let after = sooner bits i (j + 1) (omega (arith, first.before, marks_through bits k j second)) in
+    let before = sooner bits j (i + 1) (omega (arith, second.before, marks_through bits k i first)) in
+    omega (arith, after, before)

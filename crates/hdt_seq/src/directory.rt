@@ -1,5 +1,5 @@
 //! Directories: the marks of a bit sequence, which are its bits that are 1, counted by groups.
-ghost use Rattle.std.specs.Prelude.{◌≡◌, ◌≤◌, ◌<◌, ◌+◌, ◌-◌, ◌*◌, ◌/◌, ◌%◌, ◌^◌, ℕ, List, Bool, length, slice_index, slice_get, Some, true, IfOk};
+ghost use Rattle.std.specs.Prelude.{◌≡◌, ◌≤◌, ◌<◌, ◌+◌, ◌-◌, ◌*◌, ◌/◌, ◌%◌, ◌^◌, ℕ, List, Bool, length, slice_index, slice_get, Some, true, IfOk, SomeIndex};
 ghost use Rattle.std.specs.Int.Count.{ones};
 ghost use Rattle.hdt_seq.specs.Width.{digits};
 ghost use Rattle.hdt_seq.specs.Marks.{marks_before, IsPlaceOfMark};
@@ -207,3 +207,20 @@ fn place_of_one(word: u64, width: u64, k: u64) -> u64
     }
     low
 }
+
+/// Laws of the numbers of marks: the marks of a list of bits are numbered from 1 in the order of their places, so the
+/// count of marks before a place and the place of a mark are inverse.
+pub fn marks_are_numbered()
+    // A mark's number is one more than the count of marks before it.
+    ensures number { (bits : List Bool) (i : ℕ) → slice_get bits i ≡ Some true → IsPlaceOfMark bits (marks_before bits i + 1) i }
+    // Each number up to how many marks there are is that of a mark, and of one only.
+    ensures some { (bits : List Bool) (k : ℕ) → 0 < k → k ≤ marks_before bits (length bits) → SomeIndex bits (IsPlaceOfMark bits k) }
+    ensures one { (bits : List Bool) (k i j : ℕ) → IsPlaceOfMark bits k i → IsPlaceOfMark bits k j → i ≡ j }
+    ensures ascend { (bits : List Bool) (k m i j : ℕ) → IsPlaceOfMark bits k i → IsPlaceOfMark bits m j → k < m → i < j }
+    ensures through { (bits : List Bool) (k i : ℕ) → IsPlaceOfMark bits k i → marks_before bits (i + 1) ≡ k }
+    // Later places have no fewer marks before them.
+    ensures monotone { (bits : List Bool) (i j : ℕ) → i ≤ j → marks_before bits i ≤ marks_before bits j }
+{}
+
+#[cfg(test)]
+mod tests;

@@ -26,7 +26,7 @@ mod window;
 mod writing;
 
 pub use bits::Bits;
-pub use directory::Directory;
+pub use directory::{Directory, marks_are_numbered};
 pub use numbers::Numbers;
 pub use rows::{byte_at, code8_at, packed_at};
 pub use steps::Steps;
