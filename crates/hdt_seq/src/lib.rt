@@ -1,18 +1,23 @@
-//! Number sequences and bit sequences of an HDT file (HDT format version 1), and the steps that searches count.
+//! Number sequences and bit sequences of an HDT file (HDT format version 1), directories over their marks, and the
+//! steps that searches count.
 //!
 //! The layer's promise: what is read at a place is a spelling of exactly these numbers or bits, whatever follows, any
 //! width and any padding allowed; else the one fault that stands there is answered. What is written is the one
-//! canonical spelling, which is read again.
+//! canonical spelling, which is read again. What a directory counts and finds are the marks of the list, which are the
+//! bits that are 1, in a stated number of steps.
 //!
 //! ```text
 //! let (marks, next) = Bits::read(bytes, at)?;
 //! let (numbers, end) = Numbers::read(bytes, next)?;
 //! let first = numbers.get(0);
+//! let directory = Directory::new(alloc, &marks)?;
+//! let before = directory.rank(&marks, marks.len(), &mut steps);
 //! ```
 //!
-//! Both types borrow the input and are `Copy`. Contracts see them as lists, by `numbers_of` and `bits_of` of specs/,
-//! and where they lie by `numbers_places` and `bits_places`. Laws on these lists, and on counts of marks, stand in
-//! specs/: `NumbersLaws`, `BitsLaws`, `MarksLaws`.
+//! Both sequences borrow the input and are `Copy`; a directory owns its counts, and nothing else. Contracts see sequences
+//! as lists, by `numbers_of` and `bits_of` of specs/, and where they lie by `numbers_places` and `bits_places`; that a
+//! directory is one of a list of bits is `IsDirectoryOf`. Laws on these lists, and on counts and places of marks, stand
+//! in specs/: `NumbersLaws`, `BitsLaws`, `MarksLaws`.
 #![tactic(auto)]
 
 mod bits;

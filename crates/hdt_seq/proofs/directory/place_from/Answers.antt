@@ -1,4 +1,4 @@
-use Rattle.std.proofs.Common.{arith, ap, ◌∙◌, ◌≡◌, ◌<◌, ◌≤◌, ◌+◌, ◌*◌, length}
+use Rattle.std.proofs.Common.{arith, ap, ◌∙◌, ◌≡◌, ◌<◌, ◌+◌, length}
 use Rattle.hdt_seq.specs.Marks.{marks_before}
 use Rattle.hdt_seq.specs.Bits.{bits_of}
 use Rattle.hdt_seq.specs.MarksLaws.{sooner, sooner_than_end}

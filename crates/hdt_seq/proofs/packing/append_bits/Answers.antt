@@ -1,4 +1,4 @@
-use Rattle.std.proofs.Common.{◌≡◌, ◌<◌, ℕ, List, Bool, true, false, map, take, length, get_or, refl, sym, ◌∙◌, arith}
+use Rattle.std.proofs.Common.{ℕ, List, false, map, take, sym, arith}
 use Rattle.std.proofs.lemmas.List.{length-map, get_or-map}
 use Rattle.std.proofs.lemmas.Result.{on_ok_weaker, on_err_weaker}
 use Rattle.hdt_seq.specs.Little.{bit_number, packed_bits}

@@ -1,4 +1,4 @@
-use Rattle.std.proofs.Common.{ℕ, arith, ap, ◌∙◌, ◌≡◌, ◌-◌, ◌+◌, ◌/◌, ◌%◌, ◌^◌, List, Bool, length}
+use Rattle.std.proofs.Common.{arith, ap, ◌∙◌, ◌≡◌, ◌-◌, ◌+◌, ◌/◌, ◌%◌, ◌^◌}
 use Rattle.std.specs.Int.Count.{ones}
 use Rattle.hdt_seq.specs.Little.{little, bits}
 use Rattle.hdt_seq.specs.LittleLaws.{length-bits}

@@ -1,4 +1,4 @@
-use Rattle.std.proofs.Common.{arith, ap, ◌∙◌, ◌≡◌, ◌<◌, ◌≤◌, ◌+◌, ◌-◌, ◌*◌, length, slice_index}
+use Rattle.std.proofs.Common.{arith, ap, ◌∙◌, ◌≡◌, ◌+◌, ◌-◌, ◌*◌, length, slice_index}
 use Rattle.hdt_seq.specs.WidthLaws.{digits_mono}
 use Rattle.hdt_seq.specs.Marks.{marks_before}
 use Rattle.hdt_seq.specs.MarksLaws.{marks_le, marks_past, none_before, mark_from_counts}
