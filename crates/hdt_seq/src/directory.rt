@@ -35,8 +35,8 @@ pub struct Directory {
 impl Directory {
     ghost use Rattle.hdt_seq.specs.Directory.{groups, counts_kept, IsDirectoryOf};
 
-    /// Counts the marks, in one pass over the words. It takes memory once, for as many counts as it keeps; bits past
-    /// the last one never count.
+    /// Counts the marks, in one pass over the words; bits past the last one never count. It takes memory once, for the
+    /// counts that it keeps: 8 bytes for each group and 8 more. An `Err` says that this memory was refused.
     #[tactic(auto, unfolding(crate::specs::Directory::counts_kept))]
     pub fn new(alloc: Global, bits: &Bits<'_>) -> Result<Directory, AllocError>
         ensures { IfOk result (λ d. IsDirectoryOf d (bits_of bits.now)) }
@@ -56,8 +56,8 @@ impl Directory {
         Ok(Directory { counts })
     }
 
-    /// How many marks stand before place i, places being counted from 0: at most 8 steps. The caller shows that i is at
-    /// most the length.
+    /// How many marks stand before place i, places being counted from 0, in at most 8 steps and with no memory. The
+    /// caller shows that i is at most the length, at which all marks are counted.
     #[tactic(auto, using(crate::specs::MarksLaws::marks_le, crate::proofs::Groups::group_end))]
     pub fn rank(&self, bits: &Bits<'_>, i: u64, steps: &mut Steps) -> u64
         requires counted { IsDirectoryOf self.now (bits_of bits.now) }
@@ -79,8 +79,8 @@ impl Directory {
         }
     }
 
-    /// The place, counted from 0, of mark k, counted from 1: at most as many steps as the number of groups has binary
-    /// digits, and 8. The caller shows that there are k marks.
+    /// The place, counted from 0, of mark k, counted from 1, in at most as many steps as the number of groups has binary
+    /// digits, and 8, and with no memory. The caller shows that there are k marks.
     pub fn select(&self, bits: &Bits<'_>, k: u64, steps: &mut Steps) -> u64
         requires counted { IsDirectoryOf self.now (bits_of bits.now) }
         requires some { 0 < k }
@@ -94,7 +94,7 @@ impl Directory {
         place_from(bits, group * GROUP, k - before, steps)
     }
 
-    /// How many numbers the directory keeps: one for each group, and one.
+    /// How many numbers of 8 bytes the directory keeps: one for each group, and the total.
     #[tactic(auto, unfolding(crate::specs::Directory::counts_kept))]
     pub fn held(&self) -> u128
         ensures is { result ≡ length (counts_kept self.now) }
