@@ -49,12 +49,26 @@ fn input_of(bytes: &[u8], first: usize, step: usize, fails: usize) -> Counted<Pi
     })
 }
 
-/// A line of three texts.
-fn tell(out: &mut Vec<u8>, s: &[u8], p: &[u8], o: &[u8]) -> Result<(), Fail> {
-    for text in [s, b" ", p, b" ", o, b"\n"] {
-        out.extend_from_slice(text)?;
-    }
+/// A text and the byte behind it.
+fn tell_part(out: &mut Vec<u8>, text: &[u8], end: u8) -> Result<(), AllocError> {
+    out.extend_from_slice(text)?;
+    out.push(end)?;
     Ok(())
+}
+
+/// A line of three texts.
+fn tell(out: &mut Vec<u8>, s: &[u8], p: &[u8], o: &[u8]) -> Result<(), AllocError> {
+    tell_part(out, s, b' ')?;
+    tell_part(out, p, b' ')?;
+    tell_part(out, o, b'\n')
+}
+
+/// The line of a triple.
+fn tell_triple(alloc: Global, out: &mut Vec<u8>, triple: &Triple) -> Result<(), AllocError> {
+    let s = term_string(alloc, &triple.s)?;
+    let p = term_string(alloc, &triple.p)?;
+    let o = term_string(alloc, &triple.o)?;
+    tell(out, &s, &p, &o)
 }
 
 /// The fault, where it is not want of memory.
@@ -67,32 +81,84 @@ fn tell_fault(alloc: Global, out: &mut Vec<u8>, fault: LineFault) -> Result<(), 
     Ok(())
 }
 
+/// The line of what was found, or the end. Whether it is a line.
+fn tell_found(alloc: Global, out: &mut Vec<u8>, found: Option<Triple>) -> Result<bool, AllocError> {
+    match found {
+        Some(triple) => tell_triple(alloc, out, &triple)?,
+        None => out.extend_from_slice(b"end")?,
+    }
+    Ok(out.last() == Some(&b'\n'))
+}
+
+/// What the next call answers, by terms: a triple, the end or the fault. Whether it is a triple.
+fn next_by_terms(
+    alloc: Global,
+    lines: &mut Lines,
+    input: &mut Counted<Pieces<'_>>,
+    out: &mut Vec<u8>,
+) -> Result<bool, Fail> {
+    match lines.next_triple(input) {
+        Ok(found) => Ok(tell_found(alloc, out, found)?),
+        Err(fault) => {
+            tell_fault(alloc, out, fault)?;
+            Ok(false)
+        }
+    }
+}
+
+/// Three buffers, which hold something at first.
+#[derive(Drop)]
+struct Three {
+    s: Vec<u8>,
+    p: Vec<u8>,
+    o: Vec<u8>,
+}
+
+/// Such buffers.
+fn three_buffers(alloc: Global) -> Result<Three, AllocError> {
+    let s = Vec::from_slice(alloc, b"s")?;
+    let p = Vec::from_slice(alloc, b"p")?;
+    let o = Vec::from_slice(alloc, b"o")?;
+    Ok(Three { s, p, o })
+}
+
+/// The same by dictionary strings.
+fn next_by_strings(
+    alloc: Global,
+    lines: &mut Lines,
+    input: &mut Counted<Pieces<'_>>,
+    three: &mut Three,
+    out: &mut Vec<u8>,
+) -> Result<bool, Fail> {
+    match lines.next_strings(input, &mut three.s, &mut three.p, &mut three.o) {
+        Ok(true) => {
+            tell(out, &three.s, &three.p, &three.o)?;
+            Ok(true)
+        }
+        Ok(false) => {
+            out.extend_from_slice(b"end")?;
+            Ok(false)
+        }
+        Err(fault) => {
+            tell_fault(alloc, out, fault)?;
+            Ok(false)
+        }
+    }
+}
+
 /// The dictionary strings of each triple, a line each, and then the end or the fault, which later calls answer again.
 fn strings_told(alloc: Global, limit: u64, input: &mut Counted<Pieces<'_>>) -> Result<Vec<u8>, Fail>
     requires { limit < 2 ^ 63 }
 {
     let mut lines = Lines::new(alloc, limit)?;
-    let mut s = Vec::from_slice(alloc, b"s")?;
-    let mut p = Vec::from_slice(alloc, b"p")?;
-    let mut o = Vec::from_slice(alloc, b"o")?;
+    let mut three = three_buffers(alloc)?;
     let mut out = Vec::new(alloc);
     for _ in 0..100_u8 {
-        match lines.next_strings(input, &mut s, &mut p, &mut o) {
-            Ok(true) => tell(&mut out, &s, &p, &o)?,
-            Ok(false) => {
-                if lines.next_strings(input, &mut s, &mut p, &mut o) != Ok(false) {
-                    return Err("not the end")?;
-                }
-                out.extend_from_slice(b"end")?;
-                return Ok(out);
-            }
-            Err(fault) => {
-                if lines.next_strings(input, &mut s, &mut p, &mut o) != Err(fault) {
-                    return Err("not the fault")?;
-                }
-                tell_fault(alloc, &mut out, fault)?;
-                return Ok(out);
-            }
+        let before = out.len();
+        if !next_by_strings(alloc, &mut lines, input, &mut three, &mut out)? {
+            let mut again = Vec::new(alloc);
+            let is_line = next_by_strings(alloc, &mut lines, input, &mut three, &mut again)?;
+            return told_again(out, before, is_line, &again);
         }
     }
     Err("no end")?
@@ -105,30 +171,22 @@ fn terms_told(alloc: Global, limit: u64, input: &mut Counted<Pieces<'_>>) -> Res
     let mut lines = Lines::new(alloc, limit)?;
     let mut out = Vec::new(alloc);
     for _ in 0..100_u8 {
-        match lines.next_triple(input) {
-            Ok(Some(triple)) => {
-                let s = term_string(alloc, &triple.s)?;
-                let p = term_string(alloc, &triple.p)?;
-                let o = term_string(alloc, &triple.o)?;
-                tell(&mut out, &s, &p, &o)?;
-            }
-            Ok(None) => {
-                if lines.next_triple(input) != Ok(None) {
-                    return Err("not the end")?;
-                }
-                out.extend_from_slice(b"end")?;
-                return Ok(out);
-            }
-            Err(fault) => {
-                if lines.next_triple(input) != Err(fault) {
-                    return Err("not the fault")?;
-                }
-                tell_fault(alloc, &mut out, fault)?;
-                return Ok(out);
-            }
+        let before = out.len();
+        if !next_by_terms(alloc, &mut lines, input, &mut out)? {
+            let mut again = Vec::new(alloc);
+            let is_line = next_by_terms(alloc, &mut lines, input, &mut again)?;
+            return told_again(out, before, is_line, &again);
         }
     }
     Err("no end")?
+}
+
+/// What was told, where its last part, behind so many bytes, is the one that was told again.
+fn told_again(out: Vec<u8>, before: usize, is_line: bool, again: &[u8]) -> Result<Vec<u8>, Fail> {
+    if is_line || out.as_slice().get(before..) != Some(again) {
+        return Err("it is not told again")?;
+    }
+    Ok(out)
 }
 
 /// Both calls tell this of the bytes, in pieces of these sizes.
@@ -390,31 +448,60 @@ fn failing_readers(rt: HostRuntime) -> Result<(), Fail> {
     Ok(())
 }
 
-/// The fault of an answer, if it is one. Want of memory ends the test.
-fn fault_of<T: Drop>(answer: Result<T, LineFault>) -> Result<Option<LineFault>, Fail> {
-    match answer {
-        Ok(_) => Ok(None),
-        Err(fault) if fault.reason == LineReason::OutOfMemory => Err(fault)?,
-        Err(fault) => Ok(Some(fault)),
+/// The fault, if there is one. Want of memory ends the test.
+fn but_memory(fault: Option<LineFault>) -> Result<Option<LineFault>, LineFault> {
+    match fault {
+        Some(fault) if fault.reason == LineReason::OutOfMemory => Err(fault),
+        _ => Ok(fault),
     }
+}
+
+/// [`THREE`] in pieces of this size, within this limit.
+fn three_read(alloc: Global, limit: u64, step: usize) -> Result<Vec<Triple>, LineFault>
+    requires { limit < 2 ^ 63 }
+{
+    read_document(alloc, limit, &mut input_of(THREE, step, step, ALL))
+}
+
+/// The subjects of these triples have these strings. The triples, copied.
+fn copied(
+    rt: &impl Abort,
+    alloc: Global,
+    triples: &[Triple],
+    subjects: &[&[u8]],
+) -> Result<Vec<Triple>, AllocError> {
+    let mut again = Vec::new(alloc);
+    for (subject, triple) in subjects.iter().zip(triples) {
+        assert_eq!(rt; term_string(alloc, &triple.s)?.as_slice(), *subject);
+        again.push(triple.clone()?)?;
+    }
+    Ok(again)
+}
+
+/// The subjects of [`THREE`].
+static SUBJECTS: [&[u8]; 3] = [b"u:a", b"u:a", b"u:b"];
+
+/// The triples of [`THREE`].
+fn whole_document(rt: &impl Abort, alloc: Global, step: usize) -> Result<(), Fail> {
+    let triples = three_read(alloc, 58, step)?;
+    assert_eq!(rt; triples.len(), 3);
+    let again = copied(rt, alloc, &triples, &SUBJECTS)?;
+    assert!(rt; again == triples);
+    assert!(rt; triples.first() != triples.last());
+    Ok(())
 }
 
 #[test]
 fn whole_documents(rt: HostRuntime) -> Result<(), Fail> {
-    let alloc = rt.alloc();
     for step in [1, 3, ALL] {
-        let triples = read_document(alloc, 58, &mut input_of(THREE, step, step, ALL))?;
-        assert_eq!(rt; triples.len(), 3);
-        let mut again = Vec::new(alloc);
-        for (line, triple) in [b"u:a", b"u:a", b"u:b"].iter().zip(&triples) {
-            assert_eq!(rt; term_string(alloc, &triple.s)?.as_slice(), line.as_slice());
-            again.push(triple.clone()?)?;
-        }
-        assert!(rt; again == triples);
-        assert!(rt; triples.first() != triples.last());
-        let cut = read_document(alloc, 57, &mut input_of(THREE, step, step, ALL));
-        let fault = fault_of(cut)?.map(|f| (f.line, f.column, f.reason));
-        assert_eq!(rt; fault, Some((3, 0, LineReason::TooLong)));
+        whole_document(&rt, rt.alloc(), step)?;
+        let fault = but_memory(three_read(rt.alloc(), 57, step).err())?;
+        let wanted = LineFault {
+            line: 3,
+            column: 0,
+            reason: LineReason::TooLong,
+        };
+        assert_eq!(rt; fault, Some(wanted));
     }
     Ok(())
 }
@@ -456,33 +543,68 @@ static LARGE: [(&[u8], &[u8], &[u8], &[u8]); 6] = [
     (b"\"\\u00e9", b"\\t\"", b"\"\xC3\xA9", b"\t\""),
 ];
 
+/// The text spells the term of the string, which is spelled again and copied.
+fn large_term(rt: &impl Abort, alloc: Global, text: &[u8], string: &[u8]) -> Result<(), Fail> {
+    let term = parse_term(alloc, text)?;
+    assert!(rt; term_string(alloc, &term)?.as_slice() == string);
+    assert!(rt; string_term(alloc, string)? == term);
+    assert!(rt; term.clone()? == term);
+    let mut spelled = Vec::new(alloc);
+    put_term(&term, &mut spelled)?;
+    assert!(rt; parse_term(alloc, &spelled)? == term);
+    Ok(())
+}
+
+/// The text spells the term of the string, with no term on the way.
+fn large_string(rt: &impl Abort, alloc: Global, text: &[u8], string: &[u8]) -> Result<(), Fail> {
+    let mut out = Vec::new(alloc);
+    parse_string(text, &mut out)?;
+    assert!(rt; out.as_slice() == string);
+    Ok(())
+}
+
+/// One line of 100,000 bytes and more, with the text as its object, and one behind it.
+fn large_lines(alloc: Global, text: &[u8]) -> Result<Vec<u8>, AllocError> {
+    let mut lines = repeated(alloc, b"<u:s>\t<u:p>", b' ', 100_000, text)?;
+    lines.extend_from_slice(b" .\n<u:s> <u:p> <u:o> .")?;
+    Ok(lines)
+}
+
+/// What is told of these lines, where the text spells the term of the string.
+fn large_told(alloc: Global, string: &[u8]) -> Result<Vec<u8>, AllocError> {
+    let mut told = Vec::from_slice(alloc, b"u:s u:p ")?;
+    told.extend_from_slice(string)?;
+    told.extend_from_slice(b"\nu:s u:p u:o\nend")?;
+    Ok(told)
+}
+
+/// Both calls tell this of the lines, in pieces of this size.
+fn large_lines_told(
+    rt: &impl Abort,
+    alloc: Global,
+    lines: &[u8],
+    told: &[u8],
+    step: usize,
+) -> Result<(), Fail> {
+    let strings = strings_told(alloc, 1_000_000, &mut input_of(lines, step, step, ALL))?;
+    assert!(rt; strings.as_slice() == told, "{step}");
+    let terms = terms_told(alloc, 1_000_000, &mut input_of(lines, step, step, ALL))?;
+    assert!(rt; terms.as_slice() == told, "by terms, {step}");
+    Ok(())
+}
+
 #[test]
 fn large_terms(rt: HostRuntime) -> Result<(), Fail> {
     let alloc = rt.alloc();
     for (front, back, string_front, string_back) in &LARGE {
         let text = repeated(alloc, front, b'b', 100_000, back)?;
         let string = repeated(alloc, string_front, b'b', 100_000, string_back)?;
-        let term = parse_term(alloc, &text)?;
-        assert!(rt; term_string(alloc, &term)? == string);
-        assert!(rt; string_term(alloc, &string)? == term);
-        assert!(rt; term.clone()? == term);
-        let mut out = Vec::new(alloc);
-        parse_string(&text, &mut out)?;
-        assert!(rt; out == string);
-        let mut spelled = Vec::new(alloc);
-        put_term(&term, &mut spelled)?;
-        assert!(rt; parse_term(alloc, &spelled)? == term);
-        // One line of 100,000 bytes and more, and one behind it.
-        let mut lines = repeated(alloc, b"<u:s>\t<u:p>", b' ', 100_000, &text)?;
-        lines.extend_from_slice(b" .\n<u:s> <u:p> <u:o> .")?;
-        let mut told = Vec::from_slice(alloc, b"u:s u:p ")?;
-        told.extend_from_slice(&string)?;
-        told.extend_from_slice(b"\nu:s u:p u:o\nend")?;
+        large_term(&rt, alloc, &text, &string)?;
+        large_string(&rt, alloc, &text, &string)?;
+        let lines = large_lines(alloc, &text)?;
+        let told = large_told(alloc, &string)?;
         for step in [1000, ALL] {
-            let strings = strings_told(alloc, 1_000_000, &mut input_of(&lines, step, step, ALL))?;
-            assert!(rt; strings == told, "{step}");
-            let terms = terms_told(alloc, 1_000_000, &mut input_of(&lines, step, step, ALL))?;
-            assert!(rt; terms == told, "by terms, {step}");
+            large_lines_told(&rt, alloc, &lines, &told, step)?;
         }
     }
     Ok(())
@@ -505,29 +627,52 @@ static RUNS: [(&[u8], &[u8], Option<&[u8]>); 12] = [
     (b"\"b:", b"", None),
 ];
 
+/// What stands before the run in the string of a term with this front.
+fn begin_of(front: &[u8]) -> &'static [u8] {
+    if front.first() == Some(&b'<') {
+        b"u:"
+    } else {
+        b"\"b:"
+    }
+}
+
+/// The column of the text's fault, if there is one. Want of memory ends the test.
+fn column_of(text: &[u8], out: &mut Vec<u8>) -> Result<Option<u64>, TermFault> {
+    match parse_string(text, out) {
+        Ok(()) => Ok(None),
+        Err(fault) if fault.reason == LineReason::OutOfMemory => Err(fault),
+        Err(fault) => Ok(Some(fault.column)),
+    }
+}
+
+/// A run of this length gives a term whose string has this end, or a fault right behind the run.
+fn plain_run(
+    rt: &impl Abort,
+    alloc: Global,
+    front: &[u8],
+    back: &[u8],
+    end: Option<&[u8]>,
+    times: u8,
+) -> Result<(), Fail> {
+    let text = repeated(alloc, front, b'b', usize::from(times), back)?;
+    let mut out = Vec::new(alloc);
+    let column = column_of(&text, &mut out)?;
+    match end {
+        Some(end) => {
+            let string = repeated(alloc, begin_of(front), b'b', usize::from(times), end)?;
+            assert_eq!(rt; column, None, "{times}");
+            assert!(rt; out == string, "{times}");
+        }
+        None => assert_eq!(rt; column, Some(4 + u64::from(times)), "{times}"),
+    }
+    Ok(())
+}
+
 #[test]
 fn plain_runs(rt: HostRuntime) -> Result<(), Fail> {
-    let alloc = rt.alloc();
     for (front, back, end) in &RUNS {
         for times in 0..=70_u8 {
-            let text = repeated(alloc, front, b'b', usize::from(times), back)?;
-            let mut out = Vec::new(alloc);
-            match (parse_string(&text, &mut out), end) {
-                (Ok(()), Some(end)) => {
-                    let begin: &[u8] = if front.first() == Some(&b'<') {
-                        b"u:"
-                    } else {
-                        b"\"b:"
-                    };
-                    let string = repeated(alloc, begin, b'b', usize::from(times), end)?;
-                    assert!(rt; out == string, "{times}");
-                }
-                (Err(fault), None) if fault.reason != LineReason::OutOfMemory => {
-                    assert_eq!(rt; fault.column, 4 + u64::from(times), "{times}");
-                }
-                (Err(fault), _) => return Err(fault)?,
-                (Ok(()), None) => return Err("it is a term")?,
-            }
+            plain_run(&rt, rt.alloc(), front, back, *end, times)?;
         }
     }
     Ok(())
