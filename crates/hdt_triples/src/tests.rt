@@ -1,7 +1,8 @@
 use super::*;
 use hdt_seq::{put_bits, put_numbers};
 use hdt_wire::{Fault, Kind, Reason, put_control};
-use std::alloc::Global;
+use std::alloc::{AllocError, Global};
+use std::process::Abort;
 use std::test::Fail;
 
 /// Four sequences, and how many strings each role has.
@@ -16,17 +17,32 @@ struct Case {
 /// The control block of triples takes 56 bytes with these properties.
 const ORDER: &[u8] = b"order=1;";
 
+/// Writes four sequences.
+fn put_sequences(
+    my: &[bool],
+    mz: &[bool],
+    ys: &[u64],
+    zs: &[u64],
+    out: &mut Vec<u8>,
+) -> Result<(), Fail> {
+    if my.is_empty() || mz.is_empty() {
+        return Err(Fail::from("no such triples"));
+    }
+    put_bits(my, out)?;
+    put_bits(mz, out)?;
+    put_numbers(ys, out)?;
+    put_numbers(zs, out)?;
+    Ok(())
+}
+
 /// Triples that stand at place 0, with a byte after them.
 fn spelled(alloc: Global, properties: &[u8], case: &Case) -> Result<Vec<u8>, Fail> {
     let mut bytes = Vec::new(alloc);
-    if properties.contains(&0) || case.my.is_empty() || case.mz.is_empty() {
-        return Err(Fail::from("no such triples"));
+    if properties.contains(&0) {
+        return Err(Fail::from("no such properties"));
     }
     put_control(Kind::Triples, properties, &mut bytes)?;
-    put_bits(case.my, &mut bytes)?;
-    put_bits(case.mz, &mut bytes)?;
-    put_numbers(case.ys, &mut bytes)?;
-    put_numbers(case.zs, &mut bytes)?;
+    put_sequences(case.my, case.mz, case.ys, case.zs, &mut bytes)?;
     bytes.push(0x55)?;
     Ok(bytes)
 }
@@ -52,17 +68,29 @@ static THREE: Case = Case {
     counts: [2, 2, 3],
 };
 
+/// The triples that are read so, and where they end.
+fn opened<'a>(bytes: &'a [u8], counts: [u64; 3]) -> Result<(Triples<'a>, usize), Fail> {
+    Ok(read(bytes, counts).ok().ok_or("refused")?)
+}
+
+/// The triples of these indexes are these.
+fn has_rows(rt: &impl Abort, triples: &Triples<'_>, rows: &[(u64, (u64, u64, u64))]) {
+    for (j, triple) in rows {
+        assert!(rt; *j < triples.len(), "{j}");
+        assert_eq!(rt; triples.get(*j), *triple, "triple {j}");
+    }
+}
+
+/// The triples of [`THREE`], by their indexes.
+static ROWS: [(u64, (u64, u64, u64)); 3] = [(0, (1, 1, 2)), (1, (1, 2, 3)), (2, (2, 1, 1))];
+
 #[test]
 fn reads_three_triples(rt: HostRuntime) -> Result<(), Fail> {
     let bytes = spelled(rt.alloc(), ORDER, &THREE)?;
-    let (triples, end) = read(&bytes, THREE.counts).ok().ok_or("refused")?;
+    let (triples, end) = opened(&bytes, THREE.counts)?;
     assert_eq!(rt; Some(end), bytes.len().checked_sub(1));
     assert_eq!(rt; triples.len(), 3);
-    for (j, triple) in [(0, (1, 1, 2)), (1, (1, 2, 3)), (2, (2, 1, 1))] {
-        if j < triples.len() {
-            assert_eq!(rt; triples.get(j), triple, "triple {j}");
-        }
-    }
+    has_rows(&rt, &triples, &ROWS);
     Ok(())
 }
 
@@ -357,7 +385,7 @@ static ACCEPTED: [Case; 3] = [
 fn accepts_what_ascends_in_its_group(rt: HostRuntime) -> Result<(), Fail> {
     for case in &ACCEPTED {
         let bytes = spelled(rt.alloc(), b"order=2;order=1", case)?;
-        let (triples, end) = read(&bytes, case.counts).ok().ok_or("refused")?;
+        let (triples, end) = opened(&bytes, case.counts)?;
         assert_eq!(rt;
             (triples.len(), end),
             (case.zs.len() as u64, bytes.len().wrapping_sub(1))
@@ -366,58 +394,68 @@ fn accepts_what_ascends_in_its_group(rt: HostRuntime) -> Result<(), Fail> {
     Ok(())
 }
 
-#[test]
-fn reads_many_triples(rt: HostRuntime) -> Result<(), Fail> {
-    let alloc = rt.alloc();
-    // 100 subjects, each with 10 predicates, each with 100 objects.
-    let mut my = Vec::new(alloc);
-    let mut mz = Vec::new(alloc);
-    let mut ys = Vec::new(alloc);
-    let mut zs = Vec::new(alloc);
-    for _ in 0..100_u32 {
-        for predicate in 1..=10_u64 {
-            my.push(predicate == 10)?;
-            ys.push(predicate)?;
-            for object in 1..=100_u64 {
-                mz.push(object == 100)?;
-                zs.push(object)?;
-            }
+/// The marks of so many groups of this length.
+fn group_marks(alloc: Global, groups: u32, length: u64) -> Result<Vec<bool>, AllocError> {
+    let mut made = Vec::new(alloc);
+    for _ in 0..groups {
+        for n in 1..=length {
+            made.push(n == length)?;
         }
     }
+    Ok(made)
+}
+
+/// The numbers of so many groups, each from 1 to this one.
+fn group_numbers(alloc: Global, groups: u32, length: u64) -> Result<Vec<u64>, AllocError> {
+    let mut made = Vec::new(alloc);
+    for _ in 0..groups {
+        for n in 1..=length {
+            made.push(n)?;
+        }
+    }
+    Ok(made)
+}
+
+/// 100 subjects, each with 10 predicates, each with 100 objects.
+fn many(alloc: Global) -> Result<Vec<u8>, Fail> {
+    let my = group_marks(alloc, 100, 10)?;
+    let mz = group_marks(alloc, 1_000, 100)?;
+    let ys = group_numbers(alloc, 100, 10)?;
+    let zs = group_numbers(alloc, 1_000, 100)?;
     let mut bytes = Vec::new(alloc);
     put_control(Kind::Triples, ORDER, &mut bytes)?;
-    if my.is_empty() || mz.is_empty() {
-        return Err(Fail::from("no triples"));
-    }
-    put_bits(&my, &mut bytes)?;
-    put_bits(&mz, &mut bytes)?;
-    put_numbers(&ys, &mut bytes)?;
-    put_numbers(&zs, &mut bytes)?;
-    let (triples, end) = read(&bytes, [100, 10, 100]).ok().ok_or("refused")?;
+    put_sequences(&my, &mz, &ys, &zs, &mut bytes)?;
+    Ok(bytes)
+}
+
+/// Some of these triples, by their indexes.
+static MANY_ROWS: [(u64, (u64, u64, u64)); 5] = [
+    (0, (1, 1, 1)),
+    (99, (1, 1, 100)),
+    (100, (1, 2, 1)),
+    (54_321, (55, 4, 22)),
+    (99_999, (100, 10, 100)),
+];
+
+/// Counts of strings of which one is too few for these triples, and why they are refused.
+static TOO_FEW: [([u64; 3], Reason); 3] = [
+    ([99, 10, 100], Reason::SubjectRange),
+    ([100, 9, 100], Reason::PredicateRange),
+    ([100, 10, 99], Reason::ObjectRange),
+];
+
+#[test]
+fn reads_many_triples(rt: HostRuntime) -> Result<(), Fail> {
+    let bytes = many(rt.alloc())?;
+    let (triples, end) = opened(&bytes, [100, 10, 100])?;
     assert_eq!(rt; (triples.len(), end), (100_000, bytes.len()));
-    for (j, triple) in [
-        (0, (1, 1, 1)),
-        (99, (1, 1, 100)),
-        (100, (1, 2, 1)),
-        (54_321, (55, 4, 22)),
-        (99_999, (100, 10, 100)),
-    ] {
-        if j < triples.len() {
-            assert_eq!(rt; triples.get(j), triple, "triple {j}");
-        }
+    has_rows(&rt, &triples, &MANY_ROWS);
+    for (counts, reason) in &TOO_FEW {
+        assert_eq!(rt;
+            read(&bytes, *counts).err().map(|fault| fault.reason),
+            Some(*reason)
+        );
     }
-    assert_eq!(rt;
-        read(&bytes, [99, 10, 100]).err().map(|fault| fault.reason),
-        Some(Reason::SubjectRange)
-    );
-    assert_eq!(rt;
-        read(&bytes, [100, 9, 100]).err().map(|fault| fault.reason),
-        Some(Reason::PredicateRange)
-    );
-    assert_eq!(rt;
-        read(&bytes, [100, 10, 99]).err().map(|fault| fault.reason),
-        Some(Reason::ObjectRange)
-    );
     Ok(())
 }
 
@@ -429,7 +467,7 @@ fn copied<T: Copy>(value: &T) -> T {
 #[test]
 fn triples_are_copied(rt: HostRuntime) -> Result<(), Fail> {
     let bytes = spelled(rt.alloc(), ORDER, &THREE)?;
-    let (triples, _) = read(&bytes, THREE.counts).ok().ok_or("refused")?;
+    let (triples, _) = opened(&bytes, THREE.counts)?;
     assert_eq!(rt; copied(&triples).len(), 3);
     Ok(())
 }

@@ -70,6 +70,25 @@ fn compare(rt: &impl Abort, triples: &Triples<'_>, list: &[(u64, u64, u64)]) {
     }
 }
 
+/// These triples are written as these sequences behind the block, and are read again.
+fn writes_sample(
+    rt: &impl Abort,
+    alloc: Global,
+    block: &[u8],
+    triples: &[(u64, u64, u64)],
+    sequences: &[u8],
+    name: &str,
+) -> Result<(), Fail> {
+    let mut out = written(alloc, triples)?;
+    assert!(rt; out.strip_prefix(block) == Some(sequences), "{name}");
+    let end = out.len();
+    out.push(0x55)?;
+    let (again, stop) = read_again(&out, 3)?;
+    assert_eq!(rt; stop, end, "end of {name}");
+    compare(rt, &again, triples);
+    Ok(())
+}
+
 #[test]
 fn writes_the_samples(rt: HostRuntime) -> Result<(), Fail> {
     let mut block = BEFORE.to_vec(rt.alloc())?;
@@ -79,16 +98,7 @@ fn writes_the_samples(rt: HostRuntime) -> Result<(), Fail> {
         "the block"
     );
     for (name, triples, sequences) in &SAMPLES {
-        let mut out = written(rt.alloc(), triples)?;
-        assert!(rt;
-            out.strip_prefix(block.as_slice()) == Some(sequences),
-            "{name}"
-        );
-        let end = out.len();
-        out.push(0x55)?;
-        let (again, stop) = read_again(&out, 3)?;
-        assert_eq!(rt; stop, end, "end of {name}");
-        compare(&rt, &again, triples);
+        writes_sample(&rt, rt.alloc(), &block, triples, sequences, name)?;
     }
     Ok(())
 }
@@ -102,37 +112,48 @@ static WIDE: [(u64, u64, u64); 5] = [
     (2, 1, 1),
 ];
 
+/// The bits at this place are these. Where they end.
+fn has_bits(rt: &impl Abort, bytes: &[u8], at: usize, wanted: &[bool]) -> Result<usize, Fail> {
+    let (bits, end) = Bits::read(bytes, at).ok().ok_or("bits")?;
+    assert_eq!(rt; bits.len(), wanted.len() as u64);
+    for (i, mark) in wanted.iter().enumerate() {
+        if (i as u64) < bits.len() {
+            assert_eq!(rt; bits.get(i as u64), *mark, "mark {i} at {at}");
+        }
+    }
+    Ok(end)
+}
+
+/// The numbers at this place are these. Where they end.
+fn has_numbers(rt: &impl Abort, bytes: &[u8], at: usize, wanted: &[u64]) -> Result<usize, Fail> {
+    let (numbers, end) = Numbers::read(bytes, at).ok().ok_or("numbers")?;
+    assert_eq!(rt; numbers.len(), wanted.len() as u64);
+    for (i, number) in wanted.iter().enumerate() {
+        if (i as u64) < numbers.len() {
+            assert_eq!(rt; numbers.get(i as u64), *number, "number {i} at {at}");
+        }
+    }
+    Ok(end)
+}
+
+/// The sequences of [`WIDE`]: the marks of its pairs and of its triples, its predicates and its objects.
+static PAIR_MARKS: [bool; 4] = [false, false, true, true];
+
+static TRIPLE_MARKS: [bool; 5] = [true, true, false, true, true];
+
+static PREDICATES: [u64; 4] = [1, u64::MAX - 1, u64::MAX, 1];
+
+static OBJECTS: [u64; 5] = [u64::MAX, 1, u64::MAX - 1, u64::MAX, 1];
+
 #[test]
 fn writes_wide_numbers(rt: HostRuntime) -> Result<(), Fail> {
     let out = written(rt.alloc(), &WIDE)?;
-    let (my, my_end) = Bits::read(&out, BEFORE.len() + BLOCK.len())
-        .ok()
-        .ok_or("my")?;
-    let (mz, mz_end) = Bits::read(&out, my_end).ok().ok_or("mz")?;
-    let (ys, ys_end) = Numbers::read(&out, mz_end).ok().ok_or("ys")?;
-    let (zs, end) = Numbers::read(&out, ys_end).ok().ok_or("zs")?;
+    let at = BEFORE.len() + BLOCK.len();
+    let at = has_bits(&rt, &out, at, &PAIR_MARKS)?;
+    let at = has_bits(&rt, &out, at, &TRIPLE_MARKS)?;
+    let at = has_numbers(&rt, &out, at, &PREDICATES)?;
+    let end = has_numbers(&rt, &out, at, &OBJECTS)?;
     assert_eq!(rt; end, out.len());
-    for (i, mark) in [false, false, true, true].iter().enumerate() {
-        if (i as u64) < my.len() {
-            assert_eq!(rt; my.get(i as u64), *mark, "mark of pair {i}");
-        }
-    }
-    for (i, mark) in [true, true, false, true, true].iter().enumerate() {
-        if (i as u64) < mz.len() {
-            assert_eq!(rt; mz.get(i as u64), *mark, "mark of triple {i}");
-        }
-    }
-    for (i, predicate) in [1, u64::MAX - 1, u64::MAX, 1].iter().enumerate() {
-        if (i as u64) < ys.len() {
-            assert_eq!(rt; ys.get(i as u64), *predicate, "predicate {i}");
-        }
-    }
-    for (i, triple) in WIDE.iter().enumerate() {
-        if (i as u64) < zs.len() {
-            assert_eq!(rt; zs.get(i as u64), triple.2, "object {i}");
-        }
-    }
-    assert_eq!(rt; (my.len(), mz.len(), ys.len(), zs.len()), (4, 5, 4, 5));
     Ok(())
 }
 
