@@ -10,7 +10,7 @@
 //! | 4 | out of memory |
 #![tactic(auto)]
 
-ghost use Rattle.std.specs.Prelude.{◌≡◌, ◌≢◌, ◌⊎◌, ◌+◌, ℕ, List, [], Ok, Err, IfOk, IfErr, IsErrOf, OnOk, MatchResult, map, string_bytes};
+ghost use Rattle.std.specs.Prelude.{◌≡◌, ◌≢◌, ◌⊎◌, ◌+◌, ℕ, List, [], Ok, Err, IfOk, IfErr, OnOk, MatchResult, map, string_bytes};
 ghost use Rattle.std.specs.Io.KnownBytes.{Appends};
 ghost use Rattle.std.specs.IoError.{error_kind};
 ghost use Rattle.std.specs.Vec.Iter.{into_iter_items};
@@ -248,24 +248,21 @@ fn create_fault(error: &io::Error) -> ToolFault
     ToolFault::Write(0)
 }
 
-/// Writes what was built to its file, as it was created, and then the line to a writer.
-fn store<F: Write + Drop, W: Write>(
-    file: io::Result<F>,
+/// Writes what was built to its file, and then the line to a writer.
+fn store<F: Write, W: Write>(
+    file: &mut Counted<F>,
     built: &[u8],
     out: &mut Counted<W>,
     line: &[u8],
 ) -> Result<(), ToolFault>
-    // The writer has gained the line.
-    ensures ok { OnOk result (Appends (W.contents (inner out.old)) (W.contents (inner out.new)) line.now) }
-    // A file that could not be created is told as its error's kind says, and then nothing was written.
-    ensures memory { IfErr file (λ e. error_kind e ≡ ErrorKind.OutOfMemory → result ≡ Err ToolFault.OutOfMemory) }
-    ensures uncreated { IfErr file (λ e. error_kind e ≢ ErrorKind.OutOfMemory → IsErrOf result (ToolFault.Write 0)) }
-    ensures unwritten { IfErr file (λ _. out.new ≡ out.old) }
+    // The file has gained what was built, and the writer the line.
+    ensures file { OnOk result (Appends (F.contents (inner file.old)) (F.contents (inner file.new)) built.now) }
+    ensures line { OnOk result (Appends (W.contents (inner out.old)) (W.contents (inner out.new)) line.now) }
+    ensures well { OnOk result ((failures file.new ≡ failures file.old) × (failures out.new ≡ failures out.old)) }
+    // Where the file failed the writer is as it was; else the writer failed.
+    ensures failed { IfErr result (λ e. (n : ℕ) × (e ≡ ToolFault.Write n)) }
+    ensures unwritten { failures file.new ≢ failures file.old → out.new ≡ out.old }
 {
-    let mut file = match file {
-        Ok(file) => Counted::new(file),
-        Err(error) => return Err(create_fault(&error)),
-    };
     match file.write_all(built) {
         Ok(()) => {}
         Err(count) => return Err(ToolFault::Write(count)),
@@ -286,23 +283,17 @@ fn build_to(rt: &HostRuntime, request: &Request, path: &str) -> Result<(), ToolF
         Ok(()) => {}
         Err(fault) => return Err(in_memory(fault)),
     }
+    let mut file = match File::create(rt, path) {
+        Ok(file) => Counted::new(file),
+        Err(error) => return Err(create_fault(&error)),
+    };
     let mut out = Counted::new(io::writer(rt));
     store(
-        File::create(rt, path),
+        &mut file,
         built.as_slice(),
         &mut out,
         line.into_inner().as_slice(),
     )
-}
-
-/// Tells why the words ask for nothing: help on the standard output, a fault on the standard error.
-fn refuse(rt: &HostRuntime, fault: UsageFault) -> u8
-    ensures { IsRefusalStatus fault result }
-{
-    match fault {
-        UsageFault::Help(text) => printed(rt, rt.println(text.as_str())),
-        fault => report(rt, usage_line(rt.alloc(), &fault)),
-    }
 }
 
 /// Does what a request that writes a file asks for, and tells how it ended.
