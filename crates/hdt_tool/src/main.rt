@@ -296,6 +296,16 @@ fn build_to(rt: &HostRuntime, request: &Request, path: &str) -> Result<(), ToolF
     )
 }
 
+/// Tells why the words ask for nothing: help on the standard output, a fault on the standard error.
+fn refuse(rt: &HostRuntime, fault: UsageFault) -> u8
+    ensures { IsRefusalStatus fault result }
+{
+    match fault {
+        UsageFault::Help(text) => printed(rt, rt.println(text.as_str())),
+        fault => report(rt, usage_line(rt.alloc(), &fault)),
+    }
+}
+
 /// Does what a request that writes a file asks for, and tells how it ended.
 fn stored(rt: &HostRuntime, request: &Request, path: &str) -> u8
     ensures { IsCommandStatus result }
