@@ -32,3 +32,10 @@ least_or_past i n = grind arith
 
 pub at_least : (bits : List Bool) (i : ℕ) → marks_before bits (min i (length bits)) ≡ marks_before bits i
 at_least bits i = at_end bits (min i (length bits)) i (least_or_past i (length bits))
+
+-- the last one is that of all marks
+pub last_count : (counts : List ℕ) (bits : List Bool) (i len : ℕ) → AreGroupCounts counts bits → len ≡ length counts → i ≡ length bits → slice_index counts (len - 1) ≡ marks_before bits i
+last_count counts bits i len kept m e =
+    let last : len - 1 ≡ (length bits + 511) / 512 = omega (arith, m, kept.many) in
+    ap (slice_index counts) last ∙ kept.each ((length bits + 511) / 512) (omega arith)
+    ∙ at_end bits (512 * ((length bits + 511) / 512)) i (inr (omega arith, omega (arith, e)))

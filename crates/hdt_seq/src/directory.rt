@@ -57,15 +57,19 @@ impl Directory {
     }
 
     /// How many marks stand before place i, places being counted from 0, in at most 8 steps and with no memory. The
-    /// caller shows that i is at most the length, at which all marks are counted.
-    #[tactic(auto, using(crate::specs::MarksLaws::marks_le, crate::proofs::Groups::group_end))]
+    /// caller shows that i is at most the length, at which all marks are counted, in one step.
+    #[tactic(auto, unfolding(crate::specs::Directory::counts_kept), using(crate::specs::MarksLaws::marks_le, crate::proofs::Groups::group_end))]
     pub fn rank(&self, bits: &Bits<'_>, i: u64, steps: &mut Steps) -> u64
         requires counted { IsDirectoryOf self.now (bits_of bits.now) }
         requires within { i ≤ length (bits_of bits.now) }
         ensures is { result ≡ marks_before (bits_of bits.now) i }
         ensures most { result ≤ i }
         ensures cost { steps.new ≤ steps.old + 8 }
+        ensures total { i ≡ length (bits_of bits.now) → steps.new ≡ steps.old + 1 }
     {
+        if i == bits.len() {
+            return self.count(self.counts.len() as u64 - 1, steps);
+        }
         let group = i / GROUP;
         let inside = i % GROUP;
         if inside < GROUP - WORD {
