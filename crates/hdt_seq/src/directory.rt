@@ -65,6 +65,7 @@ impl Directory {
         ensures is { result ≡ marks_before (bits_of bits.now) i }
         ensures most { result ≤ i }
         ensures cost { steps.new ≤ steps.old + 8 }
+        ensures more { steps.old ≤ steps.new }
         ensures total { i ≡ length (bits_of bits.now) → steps.new ≡ steps.old + 1 }
     {
         if i == bits.len() {
@@ -93,6 +94,7 @@ impl Directory {
         ensures within { result < length (bits_of bits.now) }
         ensures through { marks_before (bits_of bits.now) (result + 1) ≡ k }
         ensures cost { steps.new ≤ steps.old + (digits (groups (bits_of bits.now)) + 8) }
+        ensures more { steps.old ≤ steps.new }
     {
         let (group, before) = self.group_of(k, steps);
         place_from(bits, group * GROUP, k - before, steps)
@@ -130,6 +132,7 @@ impl Directory {
         ensures before { result.1 < k }
         ensures through { k ≤ slice_index (counts_kept self.now) (result.0 + 1) }
         ensures cost { steps.new ≤ steps.old + digits (length (counts_kept self.now) - 2) }
+        ensures more { steps.old ≤ steps.new }
     {
         let mut low = 0;
         let mut before = 0;
@@ -155,6 +158,7 @@ fn marks_between(bits: &Bits<'_>, from: u64, to: u64, steps: &mut Steps) -> u64
     requires within { to ≤ length (bits_of bits.now) }
     ensures is { marks_before (bits_of bits.now) from + result ≡ marks_before (bits_of bits.now) to }
     ensures cost { steps.new ≤ steps.old + (to - from + 63) / 64 }
+    ensures more { steps.old ≤ steps.new }
 {
     let mut between = 0;
     let mut at = from;
@@ -174,6 +178,7 @@ fn place_from(bits: &Bits<'_>, from: u64, left: u64, steps: &mut Steps) -> u64
     ensures before { marks_before (bits_of bits.now) result + 1 ≡ marks_before (bits_of bits.now) from + left }
     ensures through { marks_before (bits_of bits.now) (result + 1) ≡ marks_before (bits_of bits.now) from + left }
     ensures cost { steps.new ≤ steps.old + 8 }
+    ensures more { steps.old ≤ steps.new }
 {
     let mut at = from;
     let mut left = left;

@@ -1,4 +1,15 @@
+mod AscentLaws
+mod CountLaws
+mod GoingLaws
 mod ItemRows
+mod JumpLaws
+mod ListsLaws
+mod ObjectLaws
 mod PlaceLaws
+mod PlacingLaws
+mod PredicateLaws
+mod RunLaws
+mod SliceLaws
+mod SubjectLaws
 mod WalkLaws
 mod Within

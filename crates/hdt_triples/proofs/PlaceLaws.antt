@@ -1,5 +1,7 @@
 -- A place, and the place after it.
-use Rattle.std.proofs.Common.{◌≡◌, ℕ, ◌+◌, ◌<◌, ◌≤◌, length, ap, sym, ◌∙◌, arith, true, false, slice_get, Some}
+use Rattle.std.proofs.Common.{◌≡◌, ℕ, ◌+◌, ◌-◌, ◌<◌, ◌≤◌, length, ap, sym, ◌∙◌, arith, true, false, slice_get, Some}
+use Rattle.std.proofs.lemmas.Option.{slice_get_within}
+use Rattle.hdt_seq.specs.Marks.{marks_before}
 use Rattle.hdt_seq.specs.MarksLaws.{marks_marked, marks_unmarked}
 use Rattle.hdt_triples.specs.Counting.{BitmapTriples, Counts, IsMarked, AreTriples, pair_of, subject_at}
 use Rattle.hdt_triples.specs.OrderLaws.{pair_within}
@@ -39,6 +41,14 @@ subject_ends f p s h mark last = record {
   pair_is = next_pair f p s mark;
   subject_is = omega (arith, s.subject_is, marks_marked f.my p.pair last);
 }
+
+-- no more subjects than the count
+pub subjects_few : (counts : Counts) (f : BitmapTriples) → AreTriples counts f → marks_before f.my (length f.my) ≤ counts.subjects
+subjects_few counts f t =
+    let last = length f.my - 1 in
+    let within : last < length f.my = slice_get_within f.my last true t.marked.last_pair in
+    let end : last + 1 ≡ length f.my = omega (arith, within) in
+    omega (arith, ap (marks_before f.my) end, marks_marked f.my last t.marked.last_pair, t.subjects last (omega (arith, within, t.marked.pairs)))
 
 -- its subject is at most the count
 pub subject_few : (counts : Counts) (f : BitmapTriples) (p : Place) → AreTriples counts f → Stands f p → p.at < length f.zs → p.subject ≤ counts.subjects

@@ -1,11 +1,14 @@
 -- What is left from a place on follows from its triple.
-use Rattle.std.proofs.Common.{◌≡◌, ℕ, ◌+◌, ◌-◌, ◌<◌, ◌≤◌, [], ◌∷◌, suc, length, map, ap, ◌∙◌, arith, true, false, cond}
+use Rattle.std.proofs.Common.{◌≡◌, ℕ, ◌+◌, ◌-◌, ◌^◌, ◌<◌, ◌≤◌, [], ◌∷◌, suc, length, map, ap, ◌∙◌, arith, true, false, cond}
 use Rattle.std.specs.List.{filter, range_with_len}
 use Rattle.std.proofs.lemmas.List.Sums.{length-filter, count_by-le-length}
+use Rattle.hdt_seq.specs.NumbersLaws.{numbers_below}
 use Rattle.hdt_triples.specs.declared.pattern.Pattern.{Pattern}
+use Rattle.hdt_triples.specs.declared.triples.Triples.{Triples}
 use Rattle.hdt_triples.specs.Counting.{BitmapTriples, triple_at, triples_of}
 use Rattle.hdt_triples.specs.CountingLaws.{length-triples}
 use Rattle.hdt_triples.specs.Patterns.{agrees, matches}
+use Rattle.hdt_triples.specs.Views.{bitmap_read}
 use Rattle.hdt_triples.specs.Walking.{triples_from}
 
 range_first : (a b : ℕ) → a < b → range_with_len a (b - a) ≡ a ∷ range_with_len (a + 1) (b - (a + 1))
@@ -19,7 +22,7 @@ pub from_start : (f : BitmapTriples) → triples_from f 0 ≡ triples_of f
 unfolding triples_from triples_of
 from_start f = let e : length f.zs - 0 ≡ length f.zs = omega arith in ap (λ (n : ℕ). map (triple_at f) (range_with_len 0 n)) e
 
-from_first : (f : BitmapTriples) (j : ℕ) → j < length f.zs → triples_from f j ≡ triple_at f j ∷ triples_from f (j + 1)
+pub from_first : (f : BitmapTriples) (j : ℕ) → j < length f.zs → triples_from f j ≡ triple_at f j ∷ triples_from f (j + 1)
 unfolding triples_from
 from_first f j h = ap (map (triple_at f)) (range_first j (length f.zs) h)
 
@@ -49,3 +52,8 @@ matches_none p f j h = ap (filter (agrees p)) (from_end f j h)
 pub matches_few : (p : Pattern) (f : BitmapTriples) → length (matches p (triples_of f)) ≤ length f.zs
 unfolding matches
 matches_few p f = omega (arith, length-filter (agrees p) (triples_of f), count_by-le-length (agrees p) (triples_of f), length-triples f)
+
+-- so they can be counted
+pub matches_fit : (p : Pattern) (t : Triples) → length (matches p (triples_of (bitmap_read t))) < 2 ^ 64
+unfolding bitmap_read
+matches_fit p t = omega (arith, matches_few p (bitmap_read t), numbers_below t.zs)

@@ -15,23 +15,39 @@
 //! `writing`, their bytes; `laws`. Triples are counted: the definition is specs/Counting.
 #![tactic(auto)]
 
+mod counting;
 mod counts;
 mod fitting;
+mod halving;
+mod indexed;
 mod laws;
+mod listed;
+mod look;
 mod matches;
+mod object;
+mod pair;
 mod pattern;
 mod place;
+mod predicate;
 mod rows;
 mod sequences;
+mod spot;
+mod subject;
 mod triples;
 mod walk;
 mod writing;
 
 pub use counts::Counts;
 pub use fitting::are_writable;
+pub use indexed::IndexedTriples;
 pub use laws::{triples_are_exact, triples_are_read_again, triples_ascend};
+pub use listed::ListedTriples;
 pub use matches::Matches;
+pub use object::ObjectMatches;
+pub use pair::PairMatches;
 pub use pattern::Pattern;
+pub use predicate::PredicateMatches;
+pub use subject::SubjectMatches;
 pub use triples::Triples;
 pub use walk::WalkMatches;
 pub use writing::put_triples;

@@ -1,10 +1,17 @@
 //! The matches of a pattern.
-ghost use Rattle.std.specs.Prelude.{◌≡◌, ◌≤◌, ◌<◌, ◌*◌, ◌^◌, length};
+ghost use Rattle.std.specs.Prelude.{◌≡◌, ◌≤◌, ◌<◌, ◌*◌, ◌^◌, IsSome, length};
+ghost use Rattle.hdt_triples.specs.Bounds.{most_steps};
 ghost use Rattle.hdt_triples.specs.Counting.{triples_of};
 ghost use Rattle.hdt_triples.specs.Patterns.{matches};
 ghost use Rattle.hdt_triples.specs.Views.{bitmap_read};
 
+use crate::indexed::IndexedTriples;
+use crate::listed::ListedTriples;
+use crate::object::ObjectMatches;
+use crate::pair::PairMatches;
 use crate::pattern::Pattern;
+use crate::predicate::PredicateMatches;
+use crate::subject::SubjectMatches;
 use crate::triples::Triples;
 use crate::walk::WalkMatches;
 
@@ -16,6 +23,14 @@ pub enum Matches<'a> {
     Empty,
     /// All triples in turn.
     Walk(WalkMatches<'a>),
+    /// The triples of a subject in turn.
+    Subject(SubjectMatches<'a>),
+    /// The triples of a subject and a predicate, which stand together, or the one with the object.
+    Pair(PairMatches<'a>),
+    /// The triples of a predicate, by its list of pairs.
+    Predicate(PredicateMatches<'a>),
+    /// The triples of an object, by its list, in turn.
+    Object(ObjectMatches<'a>),
 }
 
 impl<'a> Triples<'a> {
@@ -31,6 +46,53 @@ impl<'a> Triples<'a> {
         ensures few { limit_of result ≡ 4 * length (bitmap_read self.now).zs }
     {
         Matches::Walk(self.find_walk(pattern))
+    }
+}
+
+impl<'a> IndexedTriples<'a> {
+    ghost use Rattle.hdt_triples.specs.Left.{left_of, limit_of};
+    ghost use Rattle.hdt_triples.specs.ListedViews.{triples_indexed};
+
+    /// The matches of a pattern: exactly the triples that agree with each number that is given, once each, in the order of
+    /// the triples. Where a subject is given it is found by the directories, else it is a walk over all triples. It takes
+    /// no memory.
+    #[tactic(auto, unfolding(crate::specs::Bounds::most_steps, crate::specs::Left::left_of, crate::specs::Left::limit_of))]
+    pub fn find(&self, pattern: Pattern) -> Matches<'_>
+        ensures items { left_of result ≡ matches pattern (triples_of (bitmap_read (triples_indexed self.now))) }
+        ensures fits { length (left_of result) < 2 ^ 64 }
+        // With a subject, the steps of this call and of all its items are at most the table's number.
+        ensures few { IsSome pattern.s → limit_of result ≡ most_steps (bitmap_read (triples_indexed self.now)) pattern }
+    {
+        match (pattern.s, pattern.p) {
+            (Some(subject), Some(predicate)) => {
+                Matches::Pair(self.find_pair(pattern, subject, predicate))
+            }
+            (Some(subject), None) => Matches::Subject(self.find_subject(pattern, subject)),
+            (None, _) => Matches::Walk(self.triples.find_walk(pattern)),
+        }
+    }
+}
+
+impl<'a> ListedTriples<'a> {
+    ghost use Rattle.hdt_triples.specs.Left.{left_of, limit_of};
+    ghost use Rattle.hdt_triples.specs.ListedViews.{triples_listed};
+
+    /// The matches of a pattern: exactly the triples that agree with each number that is given, once each, in the order of
+    /// the triples. A subject is found by the directories, a predicate alone by its list of pairs, an object without a
+    /// subject by its list of places; where nothing is given it is a walk. It takes no memory.
+    #[tactic(auto, unfolding(crate::specs::Bounds::most_steps, crate::specs::Left::left_of, crate::specs::Left::limit_of))]
+    pub fn find(&self, pattern: Pattern) -> Matches<'_>
+        ensures items { left_of result ≡ matches pattern (triples_of (bitmap_read (triples_listed self.now))) }
+        ensures fits { length (left_of result) < 2 ^ 64 }
+        // The steps of this call and of all its items are at most the table's number.
+        ensures few { limit_of result ≡ most_steps (bitmap_read (triples_listed self.now)) pattern }
+    {
+        match (pattern.s, pattern.p, pattern.o) {
+            (Some(_), _, _) => self.indexed.find(pattern),
+            (None, _, Some(object)) => Matches::Object(self.find_object(pattern, object)),
+            (None, Some(predicate), None) => Matches::Predicate(self.find_predicate(predicate)),
+            (None, None, None) => Matches::Walk(self.indexed.triples.find_walk(pattern)),
+        }
     }
 }
 
@@ -54,6 +116,10 @@ impl<'a> Iterator for Matches<'a> {
         match self {
             Matches::Empty => None,
             Matches::Walk(matches) => matches.next(),
+            Matches::Subject(matches) => matches.next(),
+            Matches::Pair(matches) => matches.next(),
+            Matches::Predicate(matches) => matches.next(),
+            Matches::Object(matches) => matches.next(),
         }
     }
 }
@@ -69,6 +135,10 @@ impl<'a> Matches<'a> {
         match self {
             Matches::Empty => (),
             Matches::Walk(matches) => matches.steps_are_few(),
+            Matches::Subject(matches) => matches.steps_are_few(),
+            Matches::Pair(matches) => matches.steps_are_few(),
+            Matches::Predicate(matches) => matches.steps_are_few(),
+            Matches::Object(matches) => matches.steps_are_few(),
         }
     }
 }

@@ -1,13 +1,13 @@
 //! Where a walk over triples stands.
-ghost use Rattle.std.specs.Prelude.{◌≡◌, ◌+◌, ◌<◌, ◌≤◌, length, slice_get, slice_index, Some};
-ghost use Rattle.hdt_seq.specs.Bits.{bits_of};
-ghost use Rattle.hdt_seq.specs.Numbers.{numbers_of};
+ghost use Rattle.std.specs.Prelude.{◌≡◌, ◌+◌, ◌<◌, ◌≤◌, length};
+ghost use Rattle.hdt_seq.specs.Marks.{marks_before};
 ghost use Rattle.hdt_triples.specs.Counting.{triple_at};
 ghost use Rattle.hdt_triples.specs.Views.{bitmap_read};
 ghost use Rattle.hdt_triples.specs.Walking.{Stands};
 
+use crate::look::{entry, mark};
 use crate::triples::Triples;
-use hdt_seq::{Bits, Numbers, Steps};
+use hdt_seq::Steps;
 
 /// A place among the triples: triple `at`, from 0, with its pair, from 0, and its subject, from 1.
 #[derive(Clone, Copy)]
@@ -15,26 +15,6 @@ pub(crate) struct Place {
     pub at: u64,
     pub pair: u64,
     pub subject: u64,
-}
-
-/// An entry, by one look.
-fn entry(xs: &Numbers<'_>, i: u64, steps: &mut Steps) -> u64
-    requires { i < length (numbers_of xs.now) }
-    ensures is { result ≡ slice_index (numbers_of xs.now) i }
-    ensures cost { steps.new ≡ steps.old + 1 }
-{
-    steps.tick();
-    xs.get(i)
-}
-
-/// A mark, by one look.
-fn mark(bits: &Bits<'_>, i: u64, steps: &mut Steps) -> bool
-    requires { i < length (bits_of bits.now) }
-    ensures is { slice_get (bits_of bits.now) i ≡ Some result }
-    ensures cost { steps.new ≡ steps.old + 1 }
-{
-    steps.tick();
-    bits.get(i)
 }
 
 #[tactic(auto, unfolding(crate::specs::Views::bitmap_read))]
@@ -49,6 +29,19 @@ impl<'a> Triples<'a> {
             at: 0,
             pair: 0,
             subject: 1,
+        }
+    }
+
+    /// The end, past all triples, of so many subjects.
+    pub(crate) fn end(&self, subjects: u64) -> Place
+        requires { subjects ≡ marks_before (bitmap_read self.now).my (length (bitmap_read self.now).my) }
+        ensures at { result.at ≡ length (bitmap_read self.now).zs }
+        ensures stands { Stands (bitmap_read self.now) result }
+    {
+        Place {
+            at: self.zs.len(),
+            pair: self.ys.len(),
+            subject: subjects + 1,
         }
     }
 
@@ -71,6 +64,7 @@ impl<'a> Triples<'a> {
         requires stands { Stands (bitmap_read self.now) place }
         requires within { place.at < length (bitmap_read self.now).zs }
         ensures at { result.at ≡ place.at + 1 }
+        ensures later { place.subject ≤ result.subject }
         ensures stands { Stands (bitmap_read self.now) result }
         ensures cost { steps.new ≤ steps.old + 2 }
         ensures more { steps.old ≤ steps.new }

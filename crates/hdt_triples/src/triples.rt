@@ -18,8 +18,10 @@ pub struct Triples<'a> {
     pub(crate) mz: Bits<'a>,
     pub(crate) ys: Numbers<'a>,
     pub(crate) zs: Numbers<'a>,
-    counts: Counts,
+    pub(crate) counts: Counts,
     ghost few: { counts.subjects < 2 ^ 63 },
+    ghost predicates_few: { counts.predicates < 2 ^ 63 },
+    ghost objects_few: { counts.objects < 2 ^ 63 },
     ghost fit: { AreTriples (counts_of counts) (record { my = bits_of my; mz = bits_of mz; ys = numbers_of ys; zs = numbers_of zs }) },
 }
 
@@ -33,7 +35,9 @@ impl<'a> Triples<'a> {
     /// Reads by rows.
     #[tactic(auto, unfolding(crate::specs::Triples::triples_at, crate::specs::Views::bitmap_read))]
     fn read_rows(bytes: &'a [u8], at: usize, counts: Counts) -> Result<(Triples<'a>, usize), Fault>
-        requires { counts.subjects < 2 ^ 63 }
+        requires subjects { counts.subjects < 2 ^ 63 }
+        requires predicates { counts.predicates < 2 ^ 63 }
+        requires objects { counts.objects < 2 ^ 63 }
         ensures exact { Reads read_of result (triples_in (counts_of counts) bytes.now at) }
         ensures end { IfOk result (λ r. r.1 ≤ length bytes.now) }
     {

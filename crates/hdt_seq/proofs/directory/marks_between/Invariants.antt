@@ -9,6 +9,7 @@ invariant-loop-at l = record {
   within : l.at ≤ l.to;
   counted : marks_before (bits_of l.bits) l.from + l.between ≡ marks_before (bits_of l.bits) l.at;
   cost : l.steps + (l.to - l.at + 63) / 64 ≤ l.fn.steps + (l.to - l.from + 63) / 64;
+  more : l.fn.steps ≤ l.steps;
 }
 
 abbrev pub decreases-loop-at : goal.decreases-loop-at

@@ -11,6 +11,7 @@ invariant-loop-high l = record {
   before : l.before < l.k;
   through : l.k ≤ slice_index (counts_kept l.self) l.high;
   cost : l.steps + digits (l.high - l.low - 1) ≤ l.fn.steps + digits (length (counts_kept l.self) - 2);
+  more : l.fn.steps ≤ l.steps;
 }
 
 abbrev pub decreases-loop-high : goal.decreases-loop-high

@@ -1,0 +1,119 @@
+-- What the lists by key say of one key.
+use Rattle.std.proofs.Common.{◌≡◌, ◌≢◌, ◌⊎◌, inl, inr, ℕ, ◌+◌, ◌-◌, ◌<◌, ◌≤◌, ◌==◌, zero, suc, List, [], ◌∷◌, length, drop, slice_index, filter, refl, ap, sym, ◌∙◌, arith, Bool, true, false, cond, subst, eq-or-lt_of_le, eq-eqb}
+use Rattle.std.proofs.lemmas.Bool.{ne_eqb, cases_lt, eqb-true}
+use Rattle.std.proofs.lemmas.List.{drop_more}
+use Rattle.std.specs.List.{All, range_with_len, slice_range}
+use Rattle.std.proofs.lemmas.List.Elements.{All-from_get_or}
+use Rattle.hdt_triples.specs.Counting.{AreGrouped}
+use Rattle.hdt_triples.specs.Lists.{IsKey, places_of, places_from, AreLists, AreParts}
+use Rattle.hdt_triples.proofs.CountLaws.{below_mono, below_le}
+
+pub parts_of_lists : (xs : List ℕ) (greatest : ℕ) (starts flat : List ℕ) → AreLists xs greatest starts flat → AreParts starts flat
+parts_of_lists xs greatest starts flat l = record {
+  ordered = λ k h. omega (arith, l.begins k (omega (arith, h, l.starts_len)), l.begins (k + 1) (omega (arith, h, l.starts_len)), below_mono xs (k + 1) (k + 1 + 1) (omega arith));
+  within = λ k h. omega (arith, l.begins k (omega (arith, h, l.starts_len)), l.flat_len, below_le xs (k + 1));
+}
+
+-- numbers in groups are keys
+pub keys_of : (marks : List Bool) (xs : List ℕ) (count : ℕ) → AreGrouped marks xs count → All (IsKey count) xs
+keys_of marks xs count g = All-from_get_or (IsKey count) xs 0 (λ i h. (g.from i h, g.to i h))
+
+-- no place has another key
+none_kept : (n : ℕ) (xs : List ℕ) (k a : ℕ) → ((i : ℕ) → a ≤ i → i < a + n → slice_index xs i ≢ k) → filter (λ i. slice_index xs i == k) (range_with_len a n) ≡ []
+none_kept zero xs k a none = refl
+none_kept (suc n) xs k a none =
+    ap (λ b. cond b (a ∷ filter (λ i. slice_index xs i == k) (range_with_len (a + 1) n)) (filter (λ i. slice_index xs i == k) (range_with_len (a + 1) n))) (ne_eqb (slice_index xs a) k (none a (omega arith) (omega arith)))
+    ∙ none_kept n xs k (a + 1) (λ i l w. none i (omega (arith, l)) (omega (arith, w)))
+
+pub no_key : (xs : List ℕ) (greatest k : ℕ) → All (IsKey greatest) xs → (k ≡ 0) ⊎ (greatest < k) → places_of xs k ≡ []
+no_key xs greatest k keys (inl e) = none_kept (length xs) xs k 0 (λ i l w same. omega (arith, same, e, (keys i 0 (omega (arith, w))).0))
+no_key xs greatest k keys (inr h) = none_kept (length xs) xs k 0 (λ i l w same. omega (arith, same, h, (keys i 0 (omega (arith, w))).1))
+
+pub key_part : (xs : List ℕ) (greatest k : ℕ) (starts flat : List ℕ) → AreLists xs greatest starts flat → 1 ≤ k → k ≤ greatest
+    → slice_range flat (slice_index starts (k - 1)) (slice_index starts k) ≡ places_of xs k
+key_part xs greatest k starts flat l low high =
+    let e : k - 1 + 1 ≡ k = omega (arith, low) in
+    ap (λ m. slice_range flat (slice_index starts (k - 1)) (slice_index starts m)) (sym e) ∙ l.places (k - 1) (omega (arith, low, high)) ∙ ap (places_of xs) e
+
+pub places_from_start : (xs : List ℕ) (k : ℕ) → places_of xs k ≡ places_from xs k 0
+places_from_start xs k = ap (λ n. filter (λ i. slice_index xs i == k) (range_with_len 0 n)) (let e : length xs ≡ length xs - 0 = omega arith in e)
+
+pub eqb_false_ne : (a b : ℕ) → (a == b) ≡ false → a ≢ b
+eqb_false_ne a b test e = let yes : (a == b) ≡ true = eq-eqb a b e in absurd (cc)
+
+-- the first place from a on, and those behind it
+pub record IsFirstPlace (xs : List ℕ) (k a q : ℕ) (qs : List ℕ) : Type 0 where
+  pub from : a ≤ q
+  pub within : q < length xs
+  pub key : slice_index xs q ≡ k
+  pub before : (i : ℕ) → a ≤ i → i < q → slice_index xs i ≢ k
+  pub behind : qs ≡ places_from xs k (q + 1)
+
+abbrev kept_from : List ℕ → ℕ → ℕ → ℕ → List ℕ
+kept_from xs k a n = filter (λ i. slice_index xs i == k) (range_with_len a n)
+
+not_yet : (xs : List ℕ) (k a i : ℕ) → slice_index xs a ≢ k → (a ≡ i) ⊎ (a < i) → (a + 1 ≤ i → slice_index xs i ≢ k) → slice_index xs i ≢ k
+not_yet xs k a i ne (inl e) later = subst (λ j. slice_index xs j ≢ k) e ne
+not_yet xs k a i ne (inr h) later = later (omega (arith, h))
+
+-- where the first of them is tried
+first_by : (n : ℕ) (xs : List ℕ) (k a q : ℕ) (qs : List ℕ) (b : Bool) → a + suc n ≡ length xs → (slice_index xs a == k) ≡ b
+    → ((q ∷ qs ≡ kept_from xs k (a + 1) n) → IsFirstPlace xs k (a + 1) q qs)
+    → q ∷ qs ≡ cond b (a ∷ kept_from xs k (a + 1) n) (kept_from xs k (a + 1) n) → IsFirstPlace xs k a q qs
+first_by n xs k a q qs true len test later is =
+    let first : q ≡ a = cc in
+    let rest : qs ≡ kept_from xs k (a + 1) n = cc in
+    let count : n ≡ length xs - (q + 1) = omega (arith, len, first) in
+    record {
+      from = omega (arith, first);
+      within = omega (arith, first, len);
+      key = ap (slice_index xs) first ∙ eqb-true (slice_index xs a) k test;
+      before = λ i l w. absurd (omega (arith, first, l, w));
+      behind = rest ∙ ap (λ m. kept_from xs k (m + 1) n) (sym first) ∙ ap (kept_from xs k (q + 1)) count;
+    }
+first_by n xs k a q qs false len test later is =
+    let f = later is in
+    let ne : slice_index xs a ≢ k = λ e. eqb_false_ne (slice_index xs a) k test e in
+    record {
+      from = omega (arith, f.from);
+      within = f.within;
+      key = f.key;
+      before = λ i l w. not_yet xs k a i ne (eq-or-lt_of_le l) (λ h. f.before i h w);
+      behind = f.behind;
+    }
+
+first_place_of : (n : ℕ) (xs : List ℕ) (k a q : ℕ) (qs : List ℕ) → a + n ≡ length xs → q ∷ qs ≡ kept_from xs k a n → IsFirstPlace xs k a q qs
+first_place_of zero xs k a q qs len is = absurd (cc)
+first_place_of (suc n) xs k a q qs len is =
+    first_by n xs k a q qs (slice_index xs a == k) len refl (λ h. first_place_of n xs k (a + 1) q qs (omega (arith, len)) h) is
+
+none_past : (n a : ℕ) → n ≤ a → range_with_len a (n - a) ≡ []
+none_past n a h = ap (range_with_len a) (let e : n - a ≡ 0 = omega (arith, h) in e)
+
+first_cases : (xs : List ℕ) (k a q : ℕ) (qs : List ℕ) → q ∷ qs ≡ places_from xs k a → (a < length xs) ⊎ (length xs ≤ a) → IsFirstPlace xs k a q qs
+first_cases xs k a q qs is (inl h) = first_place_of (length xs - a) xs k a q qs (omega (arith, h)) is
+first_cases xs k a q qs is (inr h) = let none : places_from xs k a ≡ [] = ap (filter (λ i. slice_index xs i == k)) (none_past (length xs) a h) in absurd (cc)
+
+pub first_place : (xs : List ℕ) (k a q : ℕ) (qs : List ℕ) → q ∷ qs ≡ places_from xs k a → IsFirstPlace xs k a q qs
+first_place xs k a q qs is = first_cases xs k a q qs is (cases_lt a (length xs))
+
+-- there is none from a on
+none_by : (n : ℕ) (xs : List ℕ) (k a : ℕ) (b : Bool) → (slice_index xs a == k) ≡ b → ([] ≡ kept_from xs k (a + 1) n → (i : ℕ) → a + 1 ≤ i → i < a + 1 + n → slice_index xs i ≢ k)
+    → [] ≡ cond b (a ∷ kept_from xs k (a + 1) n) (kept_from xs k (a + 1) n) → (i : ℕ) → a ≤ i → i < a + suc n → slice_index xs i ≢ k
+none_by n xs k a true test later is = absurd (cc)
+none_by n xs k a false test later is = λ i l w.
+    not_yet xs k a i (λ e. eqb_false_ne (slice_index xs a) k test e) (eq-or-lt_of_le l) (λ h. later is i h (omega (arith, w)))
+
+none_of : (n : ℕ) (xs : List ℕ) (k a : ℕ) → [] ≡ kept_from xs k a n → (i : ℕ) → a ≤ i → i < a + n → slice_index xs i ≢ k
+none_of zero xs k a is i l w = absurd (omega (arith, l, w))
+none_of (suc n) xs k a is i l w = none_by n xs k a (slice_index xs a == k) refl (none_of n xs k (a + 1)) is i l w
+
+pub no_place : (xs : List ℕ) (k a : ℕ) → [] ≡ places_from xs k a → (i : ℕ) → a ≤ i → i < length xs → slice_index xs i ≢ k
+no_place xs k a is i l w = none_of (length xs - a) xs k a is i l (omega (arith, l, w))
+
+-- the first of what is left
+rest_first : (rest : List ℕ) → 0 < length rest → rest ≡ slice_index rest 0 ∷ drop 1 rest
+rest_first rest h = drop_more rest 0 0 h
+
+pub split_rest : (rest js : List ℕ) (at : ℕ) → 0 < length rest → at ≡ slice_index rest 0 → js ≡ drop 1 rest → rest ≡ at ∷ js
+split_rest rest js at h first behind = rest_first rest h ∙ ap (λ j. j ∷ drop 1 rest) (sym first) ∙ ap (λ xs. at ∷ xs) (sym behind)

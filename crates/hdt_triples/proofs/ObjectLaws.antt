@@ -1,0 +1,78 @@
+-- The triples at an object's places.
+use Rattle.std.proofs.Common.{◌≡◌, ◌≢◌, ℕ, ◌+◌, ◌-◌, ◌<◌, ◌≤◌, ◌==◌, ◌&&◌, List, [], ◌∷◌, length, map, filter, drop, refl, ap, sym, ◌∙◌, arith, Bool, true, false, cond, Some, slice_index, subst, eq-eqb}
+use Rattle.std.proofs.lemmas.Bool.{ne_eqb, eqb-true}
+use Rattle.std.proofs.lemmas.List.{nil_from_length}
+use Rattle.std.proofs.lemmas.List.Elements.{filter_passes, All-filter, All-from_get_or, All-rest}
+use Rattle.std.proofs.lemmas.List.FromFn.{length-range_with_len, get_or-range_with_len}
+use Rattle.std.specs.List.{All, range_with_len}
+use Rattle.hdt_triples.specs.declared.pattern.Pattern.{Pattern}
+use Rattle.hdt_triples.specs.Counting.{BitmapTriples, Triple, triple_at, triples_of}
+use Rattle.hdt_triples.specs.Walking.{triples_from}
+use Rattle.hdt_triples.specs.Patterns.{agrees, admits, matches}
+use Rattle.hdt_triples.specs.Bounds.{of_object, object_price, Pays, limit}
+use Rattle.hdt_triples.specs.Lists.{places_of, IsPlaceOf}
+use Rattle.hdt_triples.proofs.ListsLaws.{eqb_false_ne, split_rest}
+
+pub among_places : (xs : List ℕ) (k : ℕ) → All (IsPlaceOf xs k) (places_of xs k)
+among_places xs k =
+    let keep : ℕ → Bool = λ i. slice_index xs i == k in
+    let range : All (λ i. i < length xs) (range_with_len 0 (length xs)) = All-from_get_or (λ i. i < length xs) (range_with_len 0 (length xs)) 0
+    (λ i h. let small : i < length xs = omega (arith, h, length-range_with_len 0 (length xs)) in omega (arith, small, get_or-range_with_len 0 (length xs) i 0 small)) in
+    let within : All (λ i. i < length xs) (places_of xs k) = All-filter keep (λ i. i < length xs) (range_with_len 0 (length xs)) range in
+    λ i d h. (within i d h, eqb-true _ _ (filter_passes keep (range_with_len 0 (length xs)) i d h))
+
+-- what a test leaves out doesn't matter where none of it agrees
+by_test : (p : Pattern) (t : ℕ → Triple) (keep : ℕ → Bool) (j : ℕ) (js : List ℕ) (b c : Bool) → (b ≡ false → c ≡ false) → filter (agrees p) (map t (filter keep js)) ≡ filter (agrees p) (map t js)
+    → agrees p (t j) ≡ c → filter (agrees p) (map t (cond b (j ∷ filter keep js) (filter keep js))) ≡ cond c (t j ∷ filter (agrees p) (map t js)) (filter (agrees p) (map t js))
+by_test p t keep j js true c none rest is =
+    ap (λ x. cond x (t j ∷ filter (agrees p) (map t (filter keep js))) (filter (agrees p) (map t (filter keep js)))) is ∙ ap (λ xs. cond c (t j ∷ xs) xs) rest
+by_test p t keep j js false c none rest is = rest ∙ ap (λ x. cond x (t j ∷ filter (agrees p) (map t js)) (filter (agrees p) (map t js))) (sym (none refl))
+
+kept_matches : (p : Pattern) (t : ℕ → Triple) (keep : ℕ → Bool) (js : List ℕ) → ((j : ℕ) → keep j ≡ false → agrees p (t j) ≡ false) → filter (agrees p) (map t (filter keep js)) ≡ filter (agrees p) (map t js)
+kept_matches p t keep [] none = refl
+kept_matches p t keep (j ∷ js) none = by_test p t keep j js (keep j) (agrees p (t j)) (none j) (kept_matches p t keep js none) refl
+
+and_false : (a b : Bool) → (a && b && false) ≡ false
+and_false true true = refl
+and_false true false = refl
+and_false false b = refl
+
+-- a triple of another object doesn't agree
+pub other_object : (p : Pattern) (o : ℕ) (t : Triple) → p.o ≡ Some o → t.2 ≢ o → agrees p t ≡ false
+other_object p o t given ne =
+    ap (λ g. admits p.s t.0 && admits p.p t.1 && admits g t.2) given
+    ∙ ap (λ b. admits p.s t.0 && admits p.p t.1 && b) (ne_eqb o t.2 (λ e. ne (sym e)))
+    ∙ and_false (admits p.s t.0) (admits p.p t.1)
+
+-- the matches are those at the object's places
+pub object_law : (p : Pattern) (f : BitmapTriples) (o : ℕ) → p.o ≡ Some o → matches p (map (triple_at f) (places_of f.zs o)) ≡ matches p (triples_of f)
+unfolding matches triples_of
+object_law p f o given = kept_matches p (triple_at f) (λ j. slice_index f.zs j == o) (range_with_len 0 (length f.zs)) (λ j no. other_object p o (triple_at f j) given (eqb_false_ne (slice_index f.zs j) o no))
+
+pub object_pays_first : (f : BitmapTriples) (o steps : ℕ) → steps ≤ 20 → Pays (object_price o) f steps (map (triple_at f) (places_of f.zs o))
+unfolding limit object_price
+object_pays_first f o steps few = omega (arith, few, ap length (object_law (of_object o) f o refl))
+
+pub object_step : (p : Pattern) (f : BitmapTriples) (rest js : List ℕ) (at : ℕ) (b : Bool) → 0 < length rest → at ≡ slice_index rest 0 → js ≡ drop 1 rest → agrees p (triple_at f at) ≡ b
+    → matches p (map (triple_at f) rest) ≡ cond b (triple_at f at ∷ matches p (map (triple_at f) js)) (matches p (map (triple_at f) js))
+unfolding matches
+object_step p f rest js at b h first behind is =
+    ap (λ xs. matches p (map (triple_at f) xs)) (split_rest rest js at h first behind)
+    ∙ ap (λ x. cond x (triple_at f at ∷ matches p (map (triple_at f) js)) (matches p (map (triple_at f) js))) is
+
+pub object_over : (p : Pattern) (f : BitmapTriples) (rest : List ℕ) → length rest ≡ 0 → matches p (map (triple_at f) rest) ≡ []
+unfolding matches
+object_over p f rest h = ap (λ xs. matches p (map (triple_at f) xs)) (nil_from_length rest h)
+
+pub object_pays_on : (o : ℕ) (f : BitmapTriples) (rest js : List ℕ) (at steps after : ℕ) → 0 < length rest → at ≡ slice_index rest 0 → js ≡ drop 1 rest → IsPlaceOf f.zs o at → after ≤ steps + 20
+    → Pays (object_price o) f steps (map (triple_at f) rest) → Pays (object_price o) f after (map (triple_at f) js)
+unfolding limit object_price
+object_pays_on o f rest js at steps after h first behind place few pays =
+    let own : agrees (of_object o) (triple_at f at) ≡ true = eq-eqb o (slice_index f.zs at) (sym place.1) in
+    omega (arith, few, pays, ap length (object_step (of_object o) f rest js at true h first behind own))
+
+pub among_first : (xs : List ℕ) (k : ℕ) (rest : List ℕ) (at : ℕ) → 0 < length rest → at ≡ slice_index rest 0 → All (IsPlaceOf xs k) rest → IsPlaceOf xs k at
+among_first xs k rest at h first all = subst (IsPlaceOf xs k) (sym first) (all 0 0 h)
+
+pub among_behind : (xs : List ℕ) (k : ℕ) (rest js : List ℕ) (at : ℕ) → 0 < length rest → at ≡ slice_index rest 0 → js ≡ drop 1 rest → All (IsPlaceOf xs k) rest → All (IsPlaceOf xs k) js
+among_behind xs k rest js at h first behind all = All-rest (IsPlaceOf xs k) at js rest (split_rest rest js at h first behind) all

@@ -1,0 +1,143 @@
+-- The triples of a predicate's pairs.
+use Rattle.std.proofs.Common.{◌≡◌, ◌≢◌, ◌⊎◌, inl, inr, ℕ, ◌+◌, ◌*◌, ◌-◌, ◌<◌, ◌≤◌, ◌&&◌, suc, List, [], ◌∷◌, length, refl, ap, sym, ◌∙◌, arith, Bool, true, false, not, Some, slice_index, slice_get, eq-eqb}
+use Rattle.std.proofs.lemmas.Bool.{ne_eqb, cases_lt}
+use Rattle.hdt_seq.specs.Width.{digits}
+use Rattle.hdt_seq.specs.Directory.{groups}
+use Rattle.hdt_seq.specs.Marks.{marks_before}
+use Rattle.hdt_triples.specs.Counting.{BitmapTriples, IsMarked, Triple, triple_at, triples_of, subject_at, pair_of}
+use Rattle.hdt_triples.specs.Walking.{triples_from}
+use Rattle.hdt_triples.specs.Patterns.{agrees, matches}
+use Rattle.hdt_triples.specs.Bounds.{of_predicate, predicate_price, Pays, limit, counting, jump}
+use Rattle.hdt_triples.specs.Lists.{places_of, places_from}
+use Rattle.hdt_triples.specs.Spots.{Between, Inside, InPairs}
+use Rattle.hdt_triples.specs.declared.spot.Spot.{Spot}
+use Rattle.hdt_seq.specs.MarksLaws.{marks_mono, marks_marked, marks_unmarked}
+use Rattle.hdt_triples.specs.OrderLaws.{pair_within}
+use Rattle.hdt_triples.proofs.WalkLaws.{from_start, matches_taken}
+use Rattle.hdt_triples.proofs.SubjectLaws.{none_left}
+use Rattle.hdt_triples.proofs.JumpLaws.{matches_jump}
+use Rattle.hdt_triples.proofs.ListsLaws.{IsFirstPlace, first_place, no_place, places_from_start}
+
+other_predicate : (p : ℕ) (t : Triple) → t.1 ≢ p → agrees (of_predicate p) t ≡ false
+other_predicate p t ne = ap (λ b. true && b && true) (ne_eqb p t.1 (λ e. ne (sym e)))
+
+own_predicate : (p : ℕ) (t : Triple) → t.1 ≡ p → agrees (of_predicate p) t ≡ true
+own_predicate p t e = ap (λ b. true && b && true) (eq-eqb p t.1 (sym e))
+
+-- where no pair is left no triple is
+pub predicate_over : (f : BitmapTriples) (p at : ℕ) (rest : List ℕ) → IsMarked f → Between f p rest at → rest ≡ [] → matches (of_predicate p) (triples_from f at) ≡ []
+predicate_over f p at rest marked s none =
+    none_left (length f.zs - at) (of_predicate p) f at (omega (arith, s.within))
+    (λ i l w. other_predicate p (triple_at f i) (no_place f.ys p (pair_of f at) (sym none ∙ s.rest_is) (pair_of f i) (marks_mono f.mz at i l) (pair_within f marked i w)))
+
+-- a place where pair q begins
+pub record Begins (f : BitmapTriples) (q at : ℕ) : Type 0 where
+  pub within : at < length f.zs
+  pub is : pair_of f at ≡ q
+  pub earlier : (i : ℕ) → i < at → pair_of f i < q
+
+not_before : (f : BitmapTriples) (p q at start : ℕ) (rest : List ℕ) → Between f p rest at → Begins f q start → pair_of f at ≤ q → (start < at) ⊎ (at ≤ start) → at ≤ start
+not_before f p q at start rest s b from (inl h) = absurd (omega (arith, s.earlier start h, b.is, from))
+not_before f p q at start rest s b from (inr h) = h
+
+pub predicate_entered : (f : BitmapTriples) (p q at start : ℕ) (rest qs : List ℕ) → IsMarked f → Between f p rest at → rest ≡ q ∷ qs → Begins f q start
+    → matches (of_predicate p) (triples_from f at) ≡ matches (of_predicate p) (triples_from f start)
+predicate_entered f p q at start rest qs marked s split b =
+    let first = first_place f.ys p (pair_of f at) q qs (sym split ∙ s.rest_is) in
+    let h : at ≤ start = not_before f p q at start rest s b first.from (cases_lt start at) in
+    let e : at + (start - at) ≡ start = omega (arith, h) in
+    matches_jump (start - at) (of_predicate p) f at (omega (arith, e, b.within))
+    (λ i l w. other_predicate p (triple_at f i) (first.before (pair_of f i) (marks_mono f.mz at i l) (b.earlier i (omega (arith, w, e)))))
+    ∙ ap (λ j. matches (of_predicate p) (triples_from f j)) e
+
+pub inside_entered : (f : BitmapTriples) (p q at start subject : ℕ) (rest qs : List ℕ) → Between f p rest at → rest ≡ q ∷ qs → Begins f q start → subject ≡ subject_at f q → Inside f p qs start subject
+inside_entered f p q at start subject rest qs s split b subject_is =
+    let first = first_place f.ys p (pair_of f at) q qs (sym split ∙ s.rest_is) in
+    record {
+      within = b.within;
+      rest_is = first.behind ∙ ap (λ n. places_from f.ys p (n + 1)) (sym b.is);
+      predicate_is = ap (slice_index f.ys) b.is ∙ first.key;
+      subject_is = subject_is ∙ ap (subject_at f) (sym b.is);
+    }
+
+-- a pair has an end
+not_last : (f : BitmapTriples) (at : ℕ) → IsMarked f → at < length f.zs → pair_of f (at + 1) ≡ pair_of f at → (at + 1 < length f.zs) ⊎ (length f.zs ≤ at + 1) → at + 1 < length f.zs
+not_last f at marked h e (inl more) = more
+not_last f at marked h e (inr over) =
+    let last : at + 1 ≡ length f.mz = omega (arith, h, over, marked.triples) in
+    absurd (omega (arith, e, pair_within f marked at h, marked.each_pair, ap (marks_before f.mz) last))
+
+-- the next triple is of the same pair
+pub inside_goes_on : (f : BitmapTriples) (p at subject : ℕ) (rest : List ℕ) → IsMarked f → Inside f p rest at subject → slice_get f.mz at ≡ Some false → Inside f p rest (at + 1) subject
+inside_goes_on f p at subject rest marked s mark =
+    let e : pair_of f (at + 1) ≡ pair_of f at = marks_unmarked f.mz at mark in
+    record {
+      within = not_last f at marked s.within e (cases_lt (at + 1) (length f.zs));
+      rest_is = s.rest_is ∙ ap (λ n. places_from f.ys p (n + 1)) (sym e);
+      predicate_is = ap (slice_index f.ys) e ∙ s.predicate_is;
+      subject_is = s.subject_is ∙ ap (subject_at f) (sym e);
+    }
+
+-- the pair ends
+pub inside_ends : (f : BitmapTriples) (p at subject : ℕ) (rest : List ℕ) → Inside f p rest at subject → slice_get f.mz at ≡ Some true → Between f p rest (at + 1)
+inside_ends f p at subject rest s mark =
+    let e : pair_of f (at + 1) ≡ pair_of f at + 1 = marks_marked f.mz at mark in
+    record {
+      within = omega (arith, s.within);
+      rest_is = s.rest_is ∙ ap (places_from f.ys p) (sym e);
+      earlier = λ i h. omega (arith, e, marks_mono f.mz i at (omega (arith, h)));
+    }
+
+pub inside_triple : (f : BitmapTriples) (p at subject : ℕ) (rest : List ℕ) → Inside f p rest at subject → triple_at f at ≡ (subject, p, slice_index f.zs at)
+inside_triple f p at subject rest s =
+    ap (λ x. let t : Triple = (x, slice_index f.ys (pair_of f at), slice_index f.zs at) in t) (sym s.subject_is)
+    ∙ ap (λ y. let t : Triple = (subject, y, slice_index f.zs at) in t) s.predicate_is
+
+pub predicate_taken : (f : BitmapTriples) (p at subject : ℕ) (rest : List ℕ) → Inside f p rest at subject
+    → matches (of_predicate p) (triples_from f at) ≡ (subject, p, slice_index f.zs at) ∷ matches (of_predicate p) (triples_from f (at + 1))
+predicate_taken f p at subject rest s =
+    matches_taken (of_predicate p) f at s.within (own_predicate p (triple_at f at) s.predicate_is)
+    ∙ ap (λ t. t ∷ matches (of_predicate p) (triples_from f (at + 1))) (inside_triple f p at subject rest s)
+
+pub none_marked : (bits : List Bool) → marks_before bits 0 ≡ 0
+unfolding marks_before
+none_marked bits = refl
+
+pub none_before : (f : BitmapTriples) → pair_of f 0 ≡ 0
+unfolding marks_before
+none_before f = refl
+
+pub between_first : (f : BitmapTriples) (p : ℕ) (rest : List ℕ) → rest ≡ places_of f.ys p → Between f p rest 0
+between_first f p rest is = record {
+  within = omega arith;
+  rest_is = is ∙ places_from_start f.ys p ∙ ap (places_from f.ys p) (sym (none_before f));
+  earlier = λ i h. absurd (omega (arith, h));
+}
+
+pub predicate_pays_first : (f : BitmapTriples) (p steps : ℕ) → steps ≤ 20 → Pays (predicate_price f p) f steps (triples_from f 0)
+unfolding limit predicate_price jump
+predicate_pays_first f p steps few = omega (arith, few, ap (λ ts. (digits (groups f.my) + digits (groups f.mz) + 20) * length (matches (of_predicate p) ts)) (from_start f))
+
+pub predicate_pays_on : (f : BitmapTriples) (p at start subject steps after : ℕ) (rest : List ℕ) → matches (of_predicate p) (triples_from f at) ≡ matches (of_predicate p) (triples_from f start) → Inside f p rest start subject
+    → after ≤ steps + (digits (groups f.mz) + 19) → Pays (predicate_price f p) f steps (triples_from f at) → Pays (predicate_price f p) f after (triples_from f (start + 1))
+unfolding limit predicate_price jump
+predicate_pays_on f p at start subject steps after rest jump s few pays =
+    let count : counting (predicate_price f p) (triples_from f at) ≡ suc (counting (predicate_price f p) (triples_from f (start + 1))) =
+    ap length (jump ∙ predicate_taken f p start subject rest s) in
+    omega (arith, few, pays, ap (λ n. (digits (groups f.my) + digits (groups f.mz) + 20) * n) count)
+
+-- the spot after a begun pair's triple
+pub left_spot : (f : BitmapTriples) (p : ℕ) (s : Spot) (last : Bool) → IsMarked f → s.inside ≡ true → slice_get f.mz s.at ≡ Some last → InPairs f p s
+    → InPairs f p (record { rest = s.rest; at = s.at + 1; subject = s.subject; inside = not last })
+left_spot f p s true marked inside is st = record {
+  between = λ u. inside_ends f p s.at s.subject s.rest.now (st.inside inside) is;
+  inside = λ u. let no : false ≡ true = u in absurd (cc);
+}
+left_spot f p s false marked inside is st = record {
+  between = λ u. let no : true ≡ false = u in absurd (cc);
+  inside = λ u. inside_goes_on f p s.at s.subject s.rest.now marked (st.inside inside) is;
+}
+
+-- the next pair of the predicate
+pub next_of : (f : BitmapTriples) (p at q : ℕ) (rest qs : List ℕ) → Between f p rest at → rest ≡ q ∷ qs → IsFirstPlace f.ys p (pair_of f at) q qs
+next_of f p at q rest qs s split = first_place f.ys p (pair_of f at) q qs (sym split ∙ s.rest_is)

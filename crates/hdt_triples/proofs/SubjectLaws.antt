@@ -1,0 +1,70 @@
+-- The triples of a subject stand together.
+use Rattle.std.proofs.Common.{◌≡◌, ◌≢◌, ℕ, ◌+◌, ◌-◌, ◌<◌, ◌≤◌, zero, suc, [], length, refl, ap, sym, ◌∙◌, arith, true, false, Some, add-one, ◌&&◌}
+use Rattle.std.proofs.lemmas.Bool.{ne_eqb, eq-eqb}
+use Rattle.hdt_seq.specs.Width.{digits}
+use Rattle.hdt_seq.specs.Directory.{groups}
+use Rattle.hdt_triples.specs.declared.pattern.Pattern.{Pattern}
+use Rattle.hdt_triples.specs.declared.place.Place.{Place}
+use Rattle.hdt_triples.specs.Counting.{BitmapTriples, IsMarked, Triple, triple_at, triples_of, subject_at, pair_of}
+use Rattle.hdt_triples.specs.Patterns.{agrees, admits, matches}
+use Rattle.hdt_triples.specs.Walking.{Stands, triples_from}
+use Rattle.hdt_triples.specs.Bounds.{subject_price, of_subject, Pays, limit, jump}
+use Rattle.hdt_seq.specs.MarksLaws.{marks_mono, marks_before_last}
+use Rattle.hdt_seq.specs.Marks.{marks_before}
+use Rattle.hdt_triples.specs.OrderLaws.{pair_within}
+use Rattle.hdt_triples.proofs.WalkLaws.{from_start, matches_taken, matches_passed, matches_none}
+
+-- none agrees before a place
+pub skipped : (p : Pattern) (f : BitmapTriples) (j : ℕ) → j ≤ length f.zs → ((i : ℕ) → i < j → agrees p (triple_at f i) ≡ false) → matches p (triples_of f) ≡ matches p (triples_from f j)
+skipped p f zero h none = ap (matches p) (sym (from_start f))
+skipped p f (suc j) h none =
+    skipped p f j (omega (arith, h)) (λ i l. none i (omega (arith, l)))
+    ∙ matches_passed p f j (omega (arith, h)) (none j (omega arith))
+    ∙ ap (λ n. matches p (triples_from f n)) (add-one j)
+
+pub none_left : (n : ℕ) (p : Pattern) (f : BitmapTriples) (j : ℕ) → j + n ≡ length f.zs → ((i : ℕ) → j ≤ i → i < length f.zs → agrees p (triple_at f i) ≡ false) → matches p (triples_from f j) ≡ []
+none_left zero p f j h none = matches_none p f j (omega (arith, h))
+none_left (suc n) p f j h none =
+    matches_passed p f j (omega (arith, h)) (none j (omega arith) (omega (arith, h)))
+    ∙ none_left n p f (j + 1) (omega (arith, h)) (λ i l w. none i (omega (arith, l)) w)
+
+-- a triple of another subject doesn't agree
+pub other_subject : (p : Pattern) (s : ℕ) (t : Triple) → p.s ≡ Some s → t.0 ≢ s → agrees p t ≡ false
+other_subject p s t given ne =
+    ap (λ o. admits o t.0 && admits p.p t.1 && admits p.o t.2) given
+    ∙ ap (λ b. b && admits p.p t.1 && admits p.o t.2) (ne_eqb s t.0 (λ e. ne (sym e)))
+
+own_subject : (s : ℕ) (t : Triple) → t.0 ≡ s → agrees (of_subject s) t ≡ true
+own_subject s t e = ap (λ b. b && true && true) (eq-eqb s t.0 (sym e))
+
+pub matches_skipped : (p : Pattern) (s : ℕ) (f : BitmapTriples) (j : ℕ) → p.s ≡ Some s → j ≤ length f.zs → ((i : ℕ) → i < j → subject_at f (pair_of f i) ≢ s)
+    → matches p (triples_of f) ≡ matches p (triples_from f j)
+matches_skipped p s f j given h before = skipped p f j h (λ i l. other_subject p s (triple_at f i) given (before i l))
+
+-- where a later subject stands none of this one is left
+pub matches_over : (p : Pattern) (s : ℕ) (f : BitmapTriples) (at : Place) → p.s ≡ Some s → Stands f at → s < at.subject → matches p (triples_from f at.at) ≡ []
+matches_over p s f at given st later =
+    none_left (length f.zs - at.at) p f at.at (omega (arith, st.within))
+    (λ i l w. other_subject p s (triple_at f i) given
+    (let e : subject_at f (pair_of f at.at) ≤ subject_at f (pair_of f i) = omega (arith, marks_mono f.my (pair_of f at.at) (pair_of f i) (marks_mono f.mz at.at i l)) in
+    λ same. omega (arith, e, same, later, st.subject_is, ap (subject_at f) st.pair_is)))
+
+-- the call's own steps can be paid
+pub pays_first : (s : ℕ) (f : BitmapTriples) (j steps : ℕ) → j ≤ length f.zs → ((i : ℕ) → i < j → subject_at f (pair_of f i) ≢ s) → steps ≤ digits (groups f.my) + digits (groups f.mz) + 17
+    → Pays (subject_price f s) f steps (triples_from f j)
+unfolding limit subject_price jump
+pays_first s f j steps h before few = omega (arith, few, ap length (matches_skipped (of_subject s) s f j refl h before))
+
+-- and the four steps of one triple
+pub pays_on : (s : ℕ) (f : BitmapTriples) (j steps after : ℕ) → j < length f.zs → subject_at f (pair_of f j) ≡ s → after ≤ steps + 4 → Pays (subject_price f s) f steps (triples_from f j)
+    → Pays (subject_price f s) f after (triples_from f (j + 1))
+unfolding limit subject_price jump
+pays_on s f j steps after h own few pays = omega (arith, few, pays, ap length (matches_taken (of_subject s) f j h (own_subject s (triple_at f j) own)))
+
+-- where the subject's first pair q begins at place j, what stands before is of earlier subjects
+pub before_start : (f : BitmapTriples) (s q j : ℕ) → marks_before f.my q + 2 ≡ s → marks_before f.mz j ≡ q → (i : ℕ) → i ≤ j → subject_at f (pair_of f i) ≢ s
+before_start f s q j y z i h same =
+    omega (arith, y, same, marks_mono f.my (pair_of f i) q (let e : pair_of f i ≤ q = omega (arith, z, marks_mono f.mz i j h) in e))
+
+pub subject_above : (f : BitmapTriples) (i : ℕ) → IsMarked f → i < length f.zs → subject_at f (pair_of f i) ≤ marks_before f.my (length f.my)
+subject_above f i marked h = omega (arith, marks_before_last f.my (pair_of f i) marked.last_pair (let e : pair_of f i < length f.my = omega (arith, marked.pairs, pair_within f marked i h) in e))

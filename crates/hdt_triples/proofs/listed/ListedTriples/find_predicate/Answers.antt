@@ -1,0 +1,21 @@
+use Rattle.std.proofs.Common.{arith, ◌≡◌, true, false}
+use Rattle.hdt_triples.specs.Views.{bitmap_read}
+use Rattle.hdt_triples.proofs.PredicateLaws.{between_first, predicate_pays_first}
+use Rattle.std.proofs.Common.{ap}
+use Rattle.hdt_triples.proofs.WalkLaws.{from_start}
+use Rattle.hdt_triples.specs.PredicateLeft.{left_of_predicate}
+use Rattle.hdt_triples.specs.Bounds.{of_predicate}
+use Rattle.hdt_triples.specs.Patterns.{matches}
+use Rattle.hdt_triples.proofs.listed.ListedTriples.find_predicate.Goals as goal
+
+pub invariant_of-result : goal.invariant_of-result
+invariant_of-result c =
+    let f = bitmap_read c.args.self.now.indexed.triples in
+    record {
+      stands = record { between = λ u. between_first f c.args.predicate c.pairs_of-rest.result.now c.pairs_of-rest.ensures.is; inside = λ u. let no : false ≡ true = u in absurd (cc) };
+      few = predicate_pays_first f c.args.predicate c.pairs_of-rest.new.steps (omega (arith, c.pairs_of-rest.ensures.cost, c.new-steps.ensures));
+    }
+
+pub returns-clause-items : goal.returns-clause-items
+unfolding left_of_predicate
+returns-clause-items c = ap (matches (of_predicate c.args.predicate)) (from_start (bitmap_read c.args.self.now.indexed.triples))

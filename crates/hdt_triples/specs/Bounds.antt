@@ -1,0 +1,67 @@
+-- The table of steps: what a search takes at most, by what is given. A search is a call of find and all of its items together. A step is a look at a kept
+-- count, at a word of 64 marks or a part of it, at an entry of the predicates or objects, or at an entry of a list.
+use Rattle.std.specs.Prelude.{ℕ, ◌+◌, ◌*◌, ◌≤◌, List, length, Option, Some, None}
+use Rattle.hdt_seq.specs.Width.{digits}
+use Rattle.hdt_seq.specs.Directory.{groups}
+use Rattle.hdt_triples.specs.Counting.{BitmapTriples, Triple, triples_of}
+use Rattle.hdt_triples.specs.Patterns.{matches}
+use Rattle.hdt_triples.specs.declared.pattern.Pattern.{Pattern}
+
+-- a base, and so much for each triple that counts and for one more
+pub record Price : Type 0 where
+  pub base : ℕ
+  pub each : ℕ
+  -- the triples that count are those that agree with this
+  pub counted : Pattern
+
+-- halving the groups of the marks of both kinds, once each, and 20 more
+unfoldable pub jump : BitmapTriples → ℕ
+jump f = digits (groups f.my) + digits (groups f.mz) + 20
+
+abbrev pub of_subject : ℕ → Pattern
+of_subject s = record { s = Some s; p = None; o = None }
+
+abbrev pub of_predicate : ℕ → Pattern
+of_predicate p = record { s = None; p = Some p; o = None }
+
+abbrev pub of_object : ℕ → Pattern
+of_object o = record { s = None; p = None; o = Some o }
+
+-- a subject, and no predicate: a jump, and 4 for each triple of the subject
+unfoldable pub subject_price : BitmapTriples → ℕ → Price
+subject_price f s = record { base = jump f; each = 4; counted = of_subject s }
+
+-- a subject and a predicate: two jumps, halving the pairs and the triples, and 4 for each match
+unfoldable pub pair_price : BitmapTriples → Pattern → Price
+pair_price f p = record { base = 2 * jump f + digits (length f.ys) + digits (length f.zs); each = 4; counted = p }
+
+-- a predicate alone: a jump for each match
+unfoldable pub predicate_price : BitmapTriples → ℕ → Price
+predicate_price f p = record { base = 0; each = jump f; counted = of_predicate p }
+
+-- an object, and no subject: 20 for each triple of the object
+unfoldable pub object_price : ℕ → Price
+object_price o = record { base = 0; each = 20; counted = of_object o }
+
+-- so many of them count
+abbrev pub counting : Price → List Triple → ℕ
+counting c ts = length (matches c.counted ts)
+
+unfoldable pub limit : Price → BitmapTriples → ℕ
+limit c f = c.base + c.each * (1 + counting c (triples_of f))
+
+abbrev pub most_steps_by : BitmapTriples → Pattern → Option ℕ → Option ℕ → Option ℕ → ℕ
+most_steps_by f pattern (Some s) None o = limit (subject_price f s) f
+most_steps_by f pattern (Some s) (Some p) o = limit (pair_price f pattern) f
+most_steps_by f pattern None (Some p) None = limit (predicate_price f p) f
+most_steps_by f pattern None p (Some o) = limit (object_price o) f
+-- nothing: all triples are walked over
+most_steps_by f pattern None None None = 4 * length f.zs
+
+-- the table
+unfoldable pub most_steps : BitmapTriples → Pattern → ℕ
+most_steps f p = most_steps_by f p p.s p.p p.o
+
+-- what is left can be paid: the steps so far, and the price of what is left, are within the limit
+abbrev pub Pays : Price → BitmapTriples → ℕ → List Triple → Type 0
+Pays c f steps left = steps + c.each * counting c left ≤ limit c f

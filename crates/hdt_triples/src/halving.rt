@@ -1,0 +1,32 @@
+//! Looking a number up in an ascending part of a sequence.
+ghost use Rattle.std.specs.Prelude.{◌≤◌, ◌<◌, ◌+◌, ◌-◌, ℕ, length, slice_index};
+ghost use Rattle.hdt_seq.specs.Numbers.{numbers_of};
+ghost use Rattle.hdt_seq.specs.Width.{digits};
+
+use crate::look::entry;
+use hdt_seq::{Numbers, Steps};
+
+/// The first place of an ascending part whose entry is x or more, or its end, by halving.
+#[tactic(auto, using(hdt_seq::specs::WidthLaws::digits_split))]
+pub(crate) fn place_from(xs: &Numbers<'_>, from: u64, to: u64, x: u64, steps: &mut Steps) -> u64
+    requires order { from ≤ to }
+    requires within { to ≤ length (numbers_of xs.now) }
+    requires ascend { (i j : ℕ) → from ≤ i → i < j → j < to → slice_index (numbers_of xs.now) i < slice_index (numbers_of xs.now) j }
+    ensures low { from ≤ result }
+    ensures high { result ≤ to }
+    ensures below { (i : ℕ) → from ≤ i → i < result → slice_index (numbers_of xs.now) i < x }
+    ensures above { (i : ℕ) → result ≤ i → i < to → x ≤ slice_index (numbers_of xs.now) i }
+    ensures cost { steps.new ≤ steps.old + digits (to - from) }
+{
+    let mut low = from;
+    let mut high = to;
+    'halves: while low < high {
+        let middle = low + (high - low) / 2;
+        if entry(xs, middle, steps) < x {
+            low = middle + 1;
+        } else {
+            high = middle;
+        }
+    }
+    low
+}

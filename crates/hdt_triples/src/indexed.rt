@@ -1,0 +1,117 @@
+//! Triples with directories over their marks: where a subject and a pair begin.
+ghost use Rattle.std.specs.Prelude.{◌≡◌, ◌≢◌, ◌≤◌, ◌<◌, ◌+◌, ◌*◌, ℕ, length, IfOk, IfErr, IfSome, Some};
+ghost use Rattle.hdt_seq.specs.Directory.{IsDirectoryOf, groups};
+ghost use Rattle.hdt_seq.specs.Marks.{marks_before};
+ghost use Rattle.hdt_seq.specs.Width.{digits};
+ghost use Rattle.hdt_triples.specs.Counting.{pair_of, subject_at};
+ghost use Rattle.hdt_triples.specs.Views.{bitmap_read};
+ghost use Rattle.hdt_triples.specs.Walking.{Stands};
+
+use crate::place::Place;
+use crate::triples::Triples;
+use hdt_seq::{Directory, Steps};
+use std::alloc::Global;
+
+/// Triples with directories over the marks of their pairs and of their triples, by which a subject and a pair are found
+/// in few steps. They borrow the input; the directories are all that they keep.
+#[derive(Drop)]
+pub struct IndexedTriples<'a> {
+    pub(crate) triples: Triples<'a>,
+    pub(crate) y: Directory,
+    pub(crate) z: Directory,
+    ghost y_counted: { IsDirectoryOf y (bitmap_read triples).my },
+    ghost z_counted: { IsDirectoryOf z (bitmap_read triples).mz },
+}
+
+impl<'a> Triples<'a> {
+    ghost use Rattle.hdt_triples.specs.ListedViews.{triples_indexed};
+
+    /// Grows the directories, in one pass over the marks: a number of 8 bytes for each 512 of them, and two more. Want of
+    /// memory hands the triples back.
+    #[tactic(auto, unfolding(crate::specs::Views::bitmap_read))]
+    pub fn with_directories(self, alloc: Global) -> Result<IndexedTriples<'a>, Triples<'a>>
+        ensures indexed { IfOk result (λ t. triples_indexed t ≡ self.entry) }
+        ensures back { IfErr result (λ t. t ≡ self.entry) }
+    {
+        let Ok(y) = Directory::new(alloc, &self.my) else {
+            return Err(self);
+        };
+        let Ok(z) = Directory::new(alloc, &self.mz) else {
+            return Err(self);
+        };
+        Ok(IndexedTriples {
+            triples: self,
+            y,
+            z,
+        })
+    }
+}
+
+impl<'a> IndexedTriples<'a> {
+    ghost use Rattle.hdt_triples.specs.ListedViews.{directories_held, triples_indexed};
+
+    /// How many numbers of 8 bytes the directories keep.
+    #[tactic(auto, unfolding(crate::specs::Views::bitmap_read))]
+    pub fn held(&self) -> u128
+        ensures { result ≡ directories_held (bitmap_read (triples_indexed self.now)) }
+    {
+        self.y.held() + self.z.held()
+    }
+
+    /// How many subjects the triples have, by one look.
+    #[tactic(auto, unfolding(crate::specs::Views::bitmap_read))]
+    pub(crate) fn subjects(&self, steps: &mut Steps) -> u64
+        ensures is { result ≡ marks_before (bitmap_read (triples_indexed self.now)).my (length (bitmap_read (triples_indexed self.now)).my) }
+        ensures cost { steps.new ≡ steps.old + 1 }
+    {
+        self.y.rank(&self.triples.my, self.triples.my.len(), steps)
+    }
+
+    /// The place of a pair's first triple.
+    #[tactic(auto, unfolding(crate::specs::Views::bitmap_read))]
+    pub(crate) fn start_of_pair(&self, pair: u64, steps: &mut Steps) -> u64
+        requires { pair < length (bitmap_read (triples_indexed self.now)).ys }
+        ensures within { result < length (bitmap_read (triples_indexed self.now)).zs }
+        ensures is { pair_of (bitmap_read (triples_indexed self.now)) result ≡ pair }
+        ensures earlier { (i : ℕ) → i < result → pair_of (bitmap_read (triples_indexed self.now)) i < pair }
+        ensures cost { steps.new ≤ steps.old + (digits (groups (bitmap_read (triples_indexed self.now)).mz) + 8) }
+        ensures more { steps.old ≤ steps.new }
+    {
+        if pair == 0 {
+            return 0;
+        }
+        self.z.select(&self.triples.mz, pair, steps) + 1
+    }
+
+    /// The place after a pair's last triple.
+    #[tactic(auto, unfolding(crate::specs::Views::bitmap_read))]
+    pub(crate) fn end_of_pair(&self, pair: u64, steps: &mut Steps) -> u64
+        requires { pair < length (bitmap_read (triples_indexed self.now)).ys }
+        ensures within { result ≤ length (bitmap_read (triples_indexed self.now)).zs }
+        ensures below { (i : ℕ) → i < result → pair_of (bitmap_read (triples_indexed self.now)) i ≤ pair }
+        ensures above { (i : ℕ) → result ≤ i → pair < pair_of (bitmap_read (triples_indexed self.now)) i }
+        ensures cost { steps.new ≤ steps.old + (digits (groups (bitmap_read (triples_indexed self.now)).mz) + 8) }
+    {
+        self.z.select(&self.triples.mz, pair + 1, steps) + 1
+    }
+
+    /// The place of a subject's first triple, or the end.
+    #[tactic(auto, unfolding(crate::specs::Views::bitmap_read))]
+    pub(crate) fn start_of(&self, subject: u64, steps: &mut Steps) -> Place
+        ensures stands { Stands (bitmap_read (triples_indexed self.now)) result }
+        ensures reached { result.at < length (bitmap_read (triples_indexed self.now)).zs → subject ≤ result.subject }
+        ensures before { (i : ℕ) → i < result.at → subject_at (bitmap_read (triples_indexed self.now)) (pair_of (bitmap_read (triples_indexed self.now)) i) ≢ subject }
+        ensures cost { steps.new ≤ steps.old + (digits (groups (bitmap_read (triples_indexed self.now)).my) + digits (groups (bitmap_read (triples_indexed self.now)).mz) + 17) }
+    {
+        let subjects = self.subjects(steps);
+        if subject == 0 || subject > subjects {
+            return self.triples.end(subjects);
+        }
+        if subject == 1 {
+            return self.triples.first();
+        }
+        let pair = self.y.select(&self.triples.my, subject - 1, steps) + 1;
+        let at = self.z.select(&self.triples.mz, pair, steps) + 1;
+        Place { at, pair, subject }
+    }
+}

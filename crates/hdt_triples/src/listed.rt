@@ -1,0 +1,120 @@
+//! Triples with their lists by predicate and by object.
+ghost use Rattle.std.specs.Prelude.{◌≡◌, ◌≤◌, ◌+◌, ℕ, List, IfOk, IfErr};
+ghost use Rattle.std.specs.List.{All};
+ghost use Rattle.hdt_triples.specs.Lists.{AreLists, AreParts, IsKey, places_of};
+ghost use Rattle.hdt_triples.specs.Views.{bitmap_read};
+
+use crate::counting::lists_by;
+use crate::indexed::IndexedTriples;
+use crate::look::listed;
+use crate::triples::Triples;
+use hdt_seq::Steps;
+use std::alloc::Global;
+
+/// Triples with directories, and with the pairs of each predicate and the places of each object, ascending: each of the
+/// eight patterns is found in few steps. They borrow the input; the directories and the four vectors are all that they
+/// keep.
+///
+/// ```text
+/// let (triples, end) = Triples::read(bytes, at, counts)?;
+/// let indexed = triples.with_directories(alloc).map_err(|_| AllocError)?;
+/// let listed = indexed.with_lists(alloc).map_err(|_| AllocError)?;
+/// for (subject, predicate, object) in listed.find(pattern) { .. }
+/// ```
+#[derive(Drop)]
+pub struct ListedTriples<'a> {
+    pub(crate) indexed: IndexedTriples<'a>,
+    // where the pairs of each predicate end in `pairs`, and before them those of the predicate before
+    pair_starts: Vec<u64>,
+    pairs: Vec<u64>,
+    // where the places of each object end in `places`, and before them those of the object before
+    triple_starts: Vec<u64>,
+    places: Vec<u64>,
+    ghost by_predicate: { AreLists (bitmap_read indexed.triples).ys indexed.triples.counts.predicates pair_starts.items pairs.items },
+    ghost by_object: { AreLists (bitmap_read indexed.triples).zs indexed.triples.counts.objects triple_starts.items places.items },
+}
+
+/// The places of a key, by two looks.
+fn part<'a>(starts: &[u64], flat: &'a [u64], key: u64, steps: &mut Steps) -> &'a [u64]
+    requires { AreParts starts.now flat.now }
+    ensures is { (xs : List ℕ) (greatest : ℕ) → AreLists xs greatest starts.now flat.now → All (IsKey greatest) xs → result.now ≡ places_of xs key }
+    ensures cost { steps.new ≤ steps.old + 2 }
+{
+    if key == 0 || key >= starts.len() as u64 {
+        return &[];
+    }
+    let key = key as usize;
+    let from = listed(starts, key - 1, steps) as usize;
+    let to = listed(starts, key, steps) as usize;
+    &flat[from..to]
+}
+
+impl<'a> IndexedTriples<'a> {
+    ghost use Rattle.hdt_triples.specs.ListedViews.{triples_indexed, triples_listed};
+
+    /// Grows the lists, by counting: in time in proportion to the triples and the strings, with no sort. Want of memory
+    /// hands the value back.
+    #[tactic(auto, using(crate::proofs::ListsLaws::keys_of), unfolding(crate::specs::Views::bitmap_read))]
+    pub fn with_lists(self, alloc: Global) -> Result<ListedTriples<'a>, IndexedTriples<'a>>
+        ensures listed { IfOk result (λ t. triples_listed t ≡ triples_indexed self.entry) }
+        ensures back { IfErr result (λ t. t ≡ self.entry) }
+    {
+        let triples = self.triples;
+        let Ok((pair_starts, pairs)) = lists_by(alloc, &triples.ys, triples.counts.predicates)
+        else {
+            return Err(self);
+        };
+        let Ok((triple_starts, places)) = lists_by(alloc, &triples.zs, triples.counts.objects)
+        else {
+            return Err(self);
+        };
+        Ok(ListedTriples {
+            indexed: self,
+            pair_starts,
+            pairs,
+            triple_starts,
+            places,
+        })
+    }
+}
+
+impl<'a> ListedTriples<'a> {
+    ghost use Rattle.hdt_triples.specs.ListedViews.{directories_held, lists_held, roles_of, triples_listed};
+
+    /// The triples themselves.
+    pub fn triples(&self) -> &Triples<'a>
+        ensures { result.now ≡ triples_listed self.now }
+    {
+        &self.indexed.triples
+    }
+
+    /// How many numbers of 8 bytes the directories and the lists keep.
+    #[tactic(auto, unfolding(crate::specs::Views::bitmap_read))]
+    pub fn held(&self) -> u128
+        ensures { result ≡ directories_held (bitmap_read (triples_listed self.now)) + lists_held (roles_of (triples_listed self.now)) (bitmap_read (triples_listed self.now)) }
+    {
+        self.indexed.held()
+            + self.pair_starts.len() as u128
+            + self.pairs.len() as u128
+            + self.triple_starts.len() as u128
+            + self.places.len() as u128
+    }
+
+    /// The pairs of a predicate, ascending, by two looks.
+    #[tactic(auto, using(crate::proofs::ListsLaws::parts_of_lists), unfolding(crate::specs::Views::bitmap_read))]
+    pub(crate) fn pairs_of(&self, predicate: u64, steps: &mut Steps) -> &[u64]
+        ensures is { result.now ≡ places_of (bitmap_read (triples_listed self.now)).ys predicate }
+        ensures cost { steps.new ≤ steps.old + 2 }
+    {
+        part(&self.pair_starts, &self.pairs, predicate, steps)
+    }
+
+    /// The places of the triples of an object, ascending, by two looks.
+    #[tactic(auto, using(crate::proofs::ListsLaws::parts_of_lists), unfolding(crate::specs::Views::bitmap_read))]
+    pub(crate) fn places_of(&self, object: u64, steps: &mut Steps) -> &[u64]
+        ensures is { result.now ≡ places_of (bitmap_read (triples_listed self.now)).zs object }
+        ensures cost { steps.new ≤ steps.old + 2 }
+    {
+        part(&self.triple_starts, &self.places, object, steps)
+    }
+}

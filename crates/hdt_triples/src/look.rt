@@ -1,0 +1,36 @@
+//! Looks at entries and marks, each of which is a step.
+ghost use Rattle.std.specs.Prelude.{◌≡◌, ◌+◌, ◌<◌, length, slice_get, slice_index, Some};
+ghost use Rattle.hdt_seq.specs.Bits.{bits_of};
+ghost use Rattle.hdt_seq.specs.Numbers.{numbers_of};
+
+use hdt_seq::{Bits, Numbers, Steps};
+
+/// An entry, by one look.
+pub(crate) fn entry(xs: &Numbers<'_>, i: u64, steps: &mut Steps) -> u64
+    requires { i < length (numbers_of xs.now) }
+    ensures is { result ≡ slice_index (numbers_of xs.now) i }
+    ensures cost { steps.new ≡ steps.old + 1 }
+{
+    steps.tick();
+    xs.get(i)
+}
+
+/// A mark, by one look.
+pub(crate) fn mark(bits: &Bits<'_>, i: u64, steps: &mut Steps) -> bool
+    requires { i < length (bits_of bits.now) }
+    ensures is { slice_get (bits_of bits.now) i ≡ Some result }
+    ensures cost { steps.new ≡ steps.old + 1 }
+{
+    steps.tick();
+    bits.get(i)
+}
+
+/// An entry of a list by predicate or by object, by one look.
+pub(crate) fn listed(xs: &[u64], i: usize, steps: &mut Steps) -> u64
+    requires { i < length xs.now }
+    ensures is { result ≡ slice_index xs.now i }
+    ensures cost { steps.new ≡ steps.old + 1 }
+{
+    steps.tick();
+    xs[i]
+}

@@ -1,0 +1,113 @@
+//! The matches of a pattern that gives an object and no subject.
+ghost use Rattle.std.specs.Prelude.{◌≡◌, ◌≤◌, ◌+◌, map, Some};
+ghost use Rattle.std.specs.List.{All};
+ghost use Rattle.hdt_triples.specs.Bounds.{object_price, Pays, limit};
+ghost use Rattle.hdt_triples.specs.Counting.{triple_at, triples_of};
+ghost use Rattle.hdt_triples.specs.Lists.{IsPlaceOf};
+ghost use Rattle.hdt_triples.specs.Patterns.{matches};
+ghost use Rattle.hdt_triples.specs.Views.{bitmap_read};
+
+use crate::indexed::IndexedTriples;
+use crate::listed::ListedTriples;
+use crate::look::{entry, listed};
+use crate::pattern::Pattern;
+use hdt_seq::Steps;
+
+/// The matches of a pattern that gives an object and no subject, in order: the triples at the places of the object's
+/// list, each compared with the pattern.
+#[derive(Drop)]
+pub struct ObjectMatches<'a> {
+    indexed: &'a IndexedTriples<'a>,
+    pattern: Pattern,
+    object: u64,
+    rest: &'a [u64],
+    steps: Steps,
+    ghost given: { pattern.o ≡ Some object },
+    ghost among: { All (IsPlaceOf (bitmap_read indexed.now.triples).zs object) rest.now },
+    pub ghost few: { Pays (object_price object) (bitmap_read indexed.now.triples) steps (map (triple_at (bitmap_read indexed.now.triples)) rest.now) },
+}
+
+impl<'a> IndexedTriples<'a> {
+    ghost use Rattle.hdt_triples.specs.ListedViews.{triples_indexed};
+
+    /// The triple of an object at one of its places: its pair and its subject by counting marks.
+    #[tactic(auto, using(crate::specs::OrderLaws::pair_within), unfolding(crate::specs::Views::bitmap_read))]
+    fn triple_of_object(&self, at: u64, object: u64, steps: &mut Steps) -> (u64, u64, u64)
+        requires { IsPlaceOf (bitmap_read (triples_indexed self.now)).zs object at }
+        ensures is { result ≡ triple_at (bitmap_read (triples_indexed self.now)) at }
+        ensures cost { steps.new ≤ steps.old + 17 }
+        ensures more { steps.old ≤ steps.new }
+    {
+        let pair = self.z.rank(&self.triples.mz, at, steps);
+        let predicate = entry(&self.triples.ys, pair, steps);
+        let subject = self.y.rank(&self.triples.my, pair, steps) + 1;
+        (subject, predicate, object)
+    }
+}
+
+impl<'a> ListedTriples<'a> {
+    ghost use Rattle.hdt_triples.specs.ObjectLeft.{left_of_object, limit_of_object};
+    ghost use Rattle.hdt_triples.specs.ListedViews.{triples_listed};
+
+    /// The matches of a pattern that gives this object.
+    #[tactic(auto, unfolding(crate::specs::ObjectLeft::left_of_object, crate::specs::ObjectLeft::limit_of_object))]
+    pub(crate) fn find_object(&self, pattern: Pattern, object: u64) -> ObjectMatches<'_>
+        requires { pattern.o ≡ Some object }
+        ensures items { left_of_object result ≡ matches pattern (triples_of (bitmap_read (triples_listed self.now))) }
+        ensures few { limit_of_object result ≡ limit (object_price object) (bitmap_read (triples_listed self.now)) }
+    {
+        let mut steps = Steps::new();
+        let rest = self.places_of(object, &mut steps);
+        ObjectMatches {
+            indexed: &self.indexed,
+            pattern,
+            object,
+            rest,
+            steps,
+        }
+    }
+}
+
+impl<'a> Iterator for ObjectMatches<'a> {
+    type Item = (u64, u64, u64);
+
+    ghost use Rattle.std.specs.Iterator.{YieldsFirst, MakesProgress, item_count};
+    ghost use Rattle.std.specs.Prelude.{⊤};
+    ghost use Rattle.hdt_triples.specs.ObjectLeft.{left_of_object, limit_of_object, steps_of_object};
+
+    ghost next_gives = { YieldsFirst left_of_object };
+
+    ghost remaining = { item_count left_of_object };
+
+    #[tactic(auto, unfolding(crate::specs::ObjectLeft::left_of_object, crate::specs::ObjectLeft::limit_of_object, crate::specs::ObjectLeft::steps_of_object))]
+    fn next(&mut self) -> Option<(u64, u64, u64)>
+        ensures steps { YieldsFirst left_of_object self.old result self.new }
+        ensures goes { MakesProgress (λ _. ⊤) (item_count left_of_object) self.old result self.new }
+        ensures same { limit_of_object self.new ≡ limit_of_object self.old }
+        ensures more { steps_of_object self.old ≤ steps_of_object self.new }
+    {
+        while !self.rest.is_empty() {
+            let at = listed(self.rest, 0, &mut self.steps);
+            let triple = self
+                .indexed
+                .triple_of_object(at, self.object, &mut self.steps);
+            self.rest = self.rest.split_at(1).1;
+            if self.pattern.takes(triple) {
+                return Some(triple);
+            }
+        }
+        None
+    }
+}
+
+impl<'a> ObjectMatches<'a> {
+    ghost use Rattle.hdt_triples.specs.ObjectLeft.{limit_of_object, steps_of_object};
+
+    /// The law that at every moment the steps are few.
+    #[tactic(auto, unfolding(crate::specs::ObjectLeft::limit_of_object, crate::specs::ObjectLeft::steps_of_object))]
+    pub(crate) fn steps_are_few(&self)
+        ensures { steps_of_object self.now ≤ limit_of_object self.now }
+    {
+        let _ = &self.rest;
+    }
+}

@@ -1,0 +1,171 @@
+//! The matches of a pattern that gives a subject and a predicate.
+ghost use Rattle.std.specs.Prelude.{◌≡◌, ◌≤◌, ◌<◌, ◌+◌, ◌*◌, ℕ, length, Some, IfSome, false};
+ghost use Rattle.hdt_seq.specs.Directory.{groups};
+ghost use Rattle.hdt_seq.specs.Width.{digits};
+ghost use Rattle.hdt_triples.specs.Bounds.{pair_price, Pays, limit};
+ghost use Rattle.hdt_triples.specs.Counting.{triple_at, triples_of};
+ghost use Rattle.hdt_triples.specs.Patterns.{agrees, matches};
+ghost use Rattle.hdt_triples.specs.Runs.{IsPairOf, IsRun, PairsOf};
+ghost use Rattle.hdt_triples.specs.Views.{bitmap_read};
+ghost use Rattle.hdt_triples.specs.Walking.{triples_from};
+
+use crate::halving::place_from;
+use crate::indexed::IndexedTriples;
+use crate::look::entry;
+use crate::pattern::Pattern;
+use crate::triples::Triples;
+use hdt_seq::Steps;
+
+/// The matches of a pattern that gives a subject and a predicate, in order: they stand together.
+#[derive(Drop)]
+pub struct PairMatches<'a> {
+    triples: Triples<'a>,
+    pattern: Pattern,
+    subject: u64,
+    predicate: u64,
+    at: u64,
+    end: u64,
+    steps: Steps,
+    ghost run: { IsRun (bitmap_read triples) pattern subject predicate at end },
+    pub ghost few: { Pays (pair_price (bitmap_read triples) pattern) (bitmap_read triples) steps (triples_from (bitmap_read triples) at) },
+}
+
+impl<'a> IndexedTriples<'a> {
+    ghost use Rattle.hdt_triples.specs.ListedViews.{triples_indexed};
+
+    /// Where the pairs of a subject begin and end.
+    #[tactic(auto, unfolding(crate::specs::Views::bitmap_read))]
+    fn pairs_of_subject(&self, subject: u64, steps: &mut Steps) -> (u64, u64)
+        ensures are { PairsOf (bitmap_read (triples_indexed self.now)) subject result.0 result.1 }
+        ensures cost { steps.new ≤ steps.old + (2 * digits (groups (bitmap_read (triples_indexed self.now)).my) + 17) }
+    {
+        let subjects = self.subjects(steps);
+        if subject == 0 || subject > subjects {
+            return (0, 0);
+        }
+        let high = self.y.select(&self.triples.my, subject, steps) + 1;
+        if subject == 1 {
+            return (0, high);
+        }
+        (
+            self.y.select(&self.triples.my, subject - 1, steps) + 1,
+            high,
+        )
+    }
+
+    /// The pair of a subject and a predicate, if there is one.
+    #[tactic(auto, unfolding(crate::specs::Views::bitmap_read))]
+    fn pair_with(&self, subject: u64, predicate: u64, steps: &mut Steps) -> Option<u64>
+        ensures found { IfSome result (λ q. IsPairOf (bitmap_read (triples_indexed self.now)) subject predicate q) }
+        ensures only { (q : ℕ) → IsPairOf (bitmap_read (triples_indexed self.now)) subject predicate q → result ≡ Some q }
+        ensures cost { steps.new ≤ steps.old + (2 * digits (groups (bitmap_read (triples_indexed self.now)).my) + 18 + digits (length (bitmap_read (triples_indexed self.now)).ys)) }
+    {
+        let (low, high) = self.pairs_of_subject(subject, steps);
+        let pair = place_from(&self.triples.ys, low, high, predicate, steps);
+        if pair < high && entry(&self.triples.ys, pair, steps) == predicate {
+            return Some(pair);
+        }
+        None
+    }
+
+    /// The places of the matches.
+    #[tactic(auto, unfolding(crate::specs::Views::bitmap_read))]
+    fn run_of(
+        &self,
+        pattern: Pattern,
+        subject: u64,
+        predicate: u64,
+        steps: &mut Steps,
+    ) -> (u64, u64)
+        requires subject_given { pattern.s ≡ Some subject }
+        requires predicate_given { pattern.p ≡ Some predicate }
+        ensures run { IsRun (bitmap_read (triples_indexed self.now)) pattern subject predicate result.0 result.1 }
+        ensures before { (i : ℕ) → i < result.0 → agrees pattern (triple_at (bitmap_read (triples_indexed self.now)) i) ≡ false }
+        ensures cost { steps.new ≤ steps.old + (2 * digits (groups (bitmap_read (triples_indexed self.now)).my) + 2 * digits (groups (bitmap_read (triples_indexed self.now)).mz) + 35 + digits (length (bitmap_read (triples_indexed self.now)).ys) + digits (length (bitmap_read (triples_indexed self.now)).zs)) }
+    {
+        let Some(pair) = self.pair_with(subject, predicate, steps) else {
+            return (0, 0);
+        };
+        let at = self.start_of_pair(pair, steps);
+        let end = self.end_of_pair(pair, steps);
+        let Some(object) = pattern.o else {
+            return (at, end);
+        };
+        let place = place_from(&self.triples.zs, at, end, object, steps);
+        if place < end && entry(&self.triples.zs, place, steps) == object {
+            return (place, place + 1);
+        }
+        (0, 0)
+    }
+}
+
+impl<'a> IndexedTriples<'a> {
+    ghost use Rattle.hdt_triples.specs.ListedViews.{triples_indexed};
+    ghost use Rattle.hdt_triples.specs.PairLeft.{left_of_pair, limit_of_pair};
+
+    /// The matches of a pattern that gives this subject and this predicate.
+    #[tactic(auto, unfolding(crate::specs::PairLeft::left_of_pair, crate::specs::PairLeft::limit_of_pair))]
+    pub(crate) fn find_pair(
+        &self,
+        pattern: Pattern,
+        subject: u64,
+        predicate: u64,
+    ) -> PairMatches<'a>
+        requires subject_given { pattern.s ≡ Some subject }
+        requires predicate_given { pattern.p ≡ Some predicate }
+        ensures items { left_of_pair result ≡ matches pattern (triples_of (bitmap_read (triples_indexed self.now))) }
+        ensures few { limit_of_pair result ≡ limit (pair_price (bitmap_read (triples_indexed self.now)) pattern) (bitmap_read (triples_indexed self.now)) }
+    {
+        let mut steps = Steps::new();
+        let (at, end) = self.run_of(pattern, subject, predicate, &mut steps);
+        PairMatches {
+            triples: self.triples,
+            pattern,
+            subject,
+            predicate,
+            at,
+            end,
+            steps,
+        }
+    }
+}
+
+impl<'a> Iterator for PairMatches<'a> {
+    type Item = (u64, u64, u64);
+
+    ghost use Rattle.std.specs.Iterator.{YieldsFirst, MakesProgress, item_count};
+    ghost use Rattle.std.specs.Prelude.{⊤};
+    ghost use Rattle.hdt_triples.specs.PairLeft.{left_of_pair, limit_of_pair, steps_of_pair};
+
+    ghost next_gives = { YieldsFirst left_of_pair };
+
+    ghost remaining = { item_count left_of_pair };
+
+    #[tactic(auto, unfolding(crate::specs::PairLeft::left_of_pair, crate::specs::PairLeft::limit_of_pair, crate::specs::PairLeft::steps_of_pair))]
+    fn next(&mut self) -> Option<(u64, u64, u64)>
+        ensures steps { YieldsFirst left_of_pair self.old result self.new }
+        ensures goes { MakesProgress (λ _. ⊤) (item_count left_of_pair) self.old result self.new }
+        ensures same { limit_of_pair self.new ≡ limit_of_pair self.old }
+        ensures more { steps_of_pair self.old ≤ steps_of_pair self.new }
+    {
+        let triples = self.triples;
+        if self.at >= self.end {
+            return None;
+        }
+        let object = entry(&triples.zs, self.at, &mut self.steps);
+        self.at += 1;
+        Some((self.subject, self.predicate, object))
+    }
+}
+
+impl<'a> PairMatches<'a> {
+    ghost use Rattle.hdt_triples.specs.PairLeft.{limit_of_pair, steps_of_pair};
+
+    /// The law that at every moment the steps are few.
+    #[tactic(auto, unfolding(crate::specs::PairLeft::limit_of_pair, crate::specs::PairLeft::steps_of_pair))]
+    pub(crate) fn steps_are_few(&self)
+        ensures { steps_of_pair self.now ≤ limit_of_pair self.now }
+    {
+        let _ = &self.at;
+    }
+}

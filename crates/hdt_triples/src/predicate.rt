@@ -1,0 +1,92 @@
+//! The matches of a pattern that gives a predicate alone.
+ghost use Rattle.std.specs.Prelude.{◌≡◌, ◌≤◌};
+ghost use Rattle.hdt_triples.specs.Bounds.{of_predicate, predicate_price, Pays, limit};
+ghost use Rattle.hdt_triples.specs.Counting.{triples_of};
+ghost use Rattle.hdt_triples.specs.Patterns.{matches};
+ghost use Rattle.hdt_triples.specs.Spots.{InPairs};
+ghost use Rattle.hdt_triples.specs.Views.{bitmap_read};
+ghost use Rattle.hdt_triples.specs.Walking.{triples_from};
+
+use crate::indexed::IndexedTriples;
+use crate::listed::ListedTriples;
+use crate::look::entry;
+use crate::spot::Spot;
+use hdt_seq::Steps;
+
+/// The triples of a predicate, in order: its pairs by its list, the triples of each pair by their marks.
+#[derive(Drop)]
+pub struct PredicateMatches<'a> {
+    indexed: &'a IndexedTriples<'a>,
+    predicate: u64,
+    spot: Spot<'a>,
+    steps: Steps,
+    ghost stands: { InPairs (bitmap_read indexed.now.triples) predicate spot },
+    pub ghost few: { Pays (predicate_price (bitmap_read indexed.now.triples) predicate) (bitmap_read indexed.now.triples) steps (triples_from (bitmap_read indexed.now.triples) spot.at) },
+}
+
+impl<'a> ListedTriples<'a> {
+    ghost use Rattle.hdt_triples.specs.PredicateLeft.{left_of_predicate, limit_of_predicate};
+    ghost use Rattle.hdt_triples.specs.ListedViews.{triples_listed};
+
+    /// The triples of a predicate.
+    #[tactic(auto, unfolding(crate::specs::PredicateLeft::left_of_predicate, crate::specs::PredicateLeft::limit_of_predicate))]
+    pub(crate) fn find_predicate(&self, predicate: u64) -> PredicateMatches<'_>
+        ensures items { left_of_predicate result ≡ matches (of_predicate predicate) (triples_of (bitmap_read (triples_listed self.now))) }
+        ensures few { limit_of_predicate result ≡ limit (predicate_price (bitmap_read (triples_listed self.now)) predicate) (bitmap_read (triples_listed self.now)) }
+    {
+        let mut steps = Steps::new();
+        let rest = self.pairs_of(predicate, &mut steps);
+        PredicateMatches {
+            indexed: &self.indexed,
+            predicate,
+            spot: Spot {
+                rest,
+                at: 0,
+                subject: 0,
+                inside: false,
+            },
+            steps,
+        }
+    }
+}
+
+impl<'a> Iterator for PredicateMatches<'a> {
+    type Item = (u64, u64, u64);
+
+    ghost use Rattle.std.specs.Iterator.{YieldsFirst, MakesProgress, item_count};
+    ghost use Rattle.std.specs.Prelude.{⊤};
+    ghost use Rattle.hdt_triples.specs.PredicateLeft.{left_of_predicate, limit_of_predicate, steps_of_predicate};
+
+    ghost next_gives = { YieldsFirst left_of_predicate };
+
+    ghost remaining = { item_count left_of_predicate };
+
+    #[tactic(auto, unfolding(crate::specs::PredicateLeft::left_of_predicate, crate::specs::PredicateLeft::limit_of_predicate, crate::specs::PredicateLeft::steps_of_predicate))]
+    fn next(&mut self) -> Option<(u64, u64, u64)>
+        ensures steps { YieldsFirst left_of_predicate self.old result self.new }
+        ensures goes { MakesProgress (λ _. ⊤) (item_count left_of_predicate) self.old result self.new }
+        ensures same { limit_of_predicate self.new ≡ limit_of_predicate self.old }
+        ensures more { steps_of_predicate self.old ≤ steps_of_predicate self.new }
+    {
+        if !self.spot.inside && self.spot.rest.is_empty() {
+            return None;
+        }
+        let indexed = self.indexed;
+        let spot = indexed.enter(self.spot, self.predicate, &mut self.steps);
+        let object = entry(&indexed.triples.zs, spot.at, &mut self.steps);
+        self.spot = indexed.triples.leave(spot, &mut self.steps);
+        Some((spot.subject, self.predicate, object))
+    }
+}
+
+impl<'a> PredicateMatches<'a> {
+    ghost use Rattle.hdt_triples.specs.PredicateLeft.{limit_of_predicate, steps_of_predicate};
+
+    /// The law that at every moment the steps are few.
+    #[tactic(auto, unfolding(crate::specs::PredicateLeft::limit_of_predicate, crate::specs::PredicateLeft::steps_of_predicate))]
+    pub(crate) fn steps_are_few(&self)
+        ensures { steps_of_predicate self.now ≤ limit_of_predicate self.now }
+    {
+        let _ = &self.spot;
+    }
+}

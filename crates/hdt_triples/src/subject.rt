@@ -1,0 +1,91 @@
+//! The matches of a pattern that gives a subject and no predicate.
+ghost use Rattle.std.specs.Prelude.{◌≡◌, ◌≤◌, ◌<◌, length, Some};
+ghost use Rattle.hdt_triples.specs.Bounds.{subject_price, Pays, limit};
+ghost use Rattle.hdt_triples.specs.Counting.{triples_of};
+ghost use Rattle.hdt_triples.specs.Patterns.{matches};
+ghost use Rattle.hdt_triples.specs.Views.{bitmap_read};
+ghost use Rattle.hdt_triples.specs.Walking.{Stands, triples_from};
+
+use crate::indexed::IndexedTriples;
+use crate::pattern::Pattern;
+use crate::place::Place;
+use crate::triples::Triples;
+use hdt_seq::Steps;
+
+/// The matches of a pattern that gives a subject and no predicate, in order: a walk over the subject's triples.
+#[derive(Drop)]
+pub struct SubjectMatches<'a> {
+    triples: Triples<'a>,
+    pattern: Pattern,
+    subject: u64,
+    place: Place,
+    steps: Steps,
+    ghost given: { pattern.s ≡ Some subject },
+    ghost stands: { Stands (bitmap_read triples) place },
+    ghost reached: { place.at < length (bitmap_read triples).zs → subject ≤ place.subject },
+    pub ghost few: { Pays (subject_price (bitmap_read triples) subject) (bitmap_read triples) steps (triples_from (bitmap_read triples) place.at) },
+}
+
+impl<'a> IndexedTriples<'a> {
+    ghost use Rattle.hdt_triples.specs.ListedViews.{triples_indexed};
+    ghost use Rattle.hdt_triples.specs.SubjectLeft.{left_of_subject, limit_of_subject};
+
+    /// The matches of a pattern that gives this subject.
+    #[tactic(auto, using(crate::proofs::SubjectLaws::matches_skipped), unfolding(crate::specs::SubjectLeft::left_of_subject, crate::specs::SubjectLeft::limit_of_subject))]
+    pub(crate) fn find_subject(&self, pattern: Pattern, subject: u64) -> SubjectMatches<'a>
+        requires { pattern.s ≡ Some subject }
+        ensures items { left_of_subject result ≡ matches pattern (triples_of (bitmap_read (triples_indexed self.now))) }
+        ensures few { limit_of_subject result ≡ limit (subject_price (bitmap_read (triples_indexed self.now)) subject) (bitmap_read (triples_indexed self.now)) }
+    {
+        let mut steps = Steps::new();
+        let place = self.start_of(subject, &mut steps);
+        SubjectMatches {
+            triples: self.triples,
+            pattern,
+            subject,
+            place,
+            steps,
+        }
+    }
+}
+
+impl<'a> Iterator for SubjectMatches<'a> {
+    type Item = (u64, u64, u64);
+
+    ghost use Rattle.std.specs.Iterator.{YieldsFirst, MakesProgress, item_count};
+    ghost use Rattle.std.specs.Prelude.{⊤};
+    ghost use Rattle.hdt_triples.specs.SubjectLeft.{left_of_subject, limit_of_subject, steps_of_subject};
+
+    ghost next_gives = { YieldsFirst left_of_subject };
+
+    ghost remaining = { item_count left_of_subject };
+
+    #[tactic(auto, using(crate::proofs::WalkLaws::matches_taken, crate::proofs::WalkLaws::matches_passed, crate::proofs::WalkLaws::matches_none, crate::proofs::SubjectLaws::matches_over, crate::proofs::SubjectLaws::pays_on), unfolding(crate::specs::SubjectLeft::left_of_subject, crate::specs::SubjectLeft::limit_of_subject, crate::specs::SubjectLeft::steps_of_subject))]
+    fn next(&mut self) -> Option<(u64, u64, u64)>
+        ensures steps { YieldsFirst left_of_subject self.old result self.new }
+        ensures goes { MakesProgress (λ _. ⊤) (item_count left_of_subject) self.old result self.new }
+        ensures same { limit_of_subject self.new ≡ limit_of_subject self.old }
+        ensures more { steps_of_subject self.old ≤ steps_of_subject self.new }
+    {
+        while self.place.at < self.triples.len() && self.place.subject == self.subject {
+            let triple = self.triples.look(self.place, &mut self.steps);
+            self.place = self.triples.go_on(self.place, &mut self.steps);
+            if self.pattern.takes(triple) {
+                return Some(triple);
+            }
+        }
+        None
+    }
+}
+
+impl<'a> SubjectMatches<'a> {
+    ghost use Rattle.hdt_triples.specs.SubjectLeft.{limit_of_subject, steps_of_subject};
+
+    /// The law that at every moment the steps are few.
+    #[tactic(auto, unfolding(crate::specs::SubjectLeft::limit_of_subject, crate::specs::SubjectLeft::steps_of_subject))]
+    pub(crate) fn steps_are_few(&self)
+        ensures { steps_of_subject self.now ≤ limit_of_subject self.now }
+    {
+        let _ = &self.place;
+    }
+}
