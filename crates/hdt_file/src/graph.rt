@@ -1,56 +1,23 @@
-//! A whole file: the graph that it denotes, and the verdict on it.
-ghost use Rattle.std.specs.Prelude.{◌≡◌, ◌⊎◌, ◌<◌, ◌^◌, ℕ, List, length, Ok, IfOk};
-ghost use Rattle.hdt_wire.specs.Exact.{Exactly, OneFault, OneValue, Seen, seen};
-ghost use Rattle.hdt_wire.specs.Rows.{Gives, IsBytes};
-ghost use Rattle.hdt_file.specs.Faults.{fault_of};
-ghost use Rattle.hdt_file.specs.File.{FileParts, IsFile, GraphParts, IsLayout, counts_in, graph_in};
-ghost use Rattle.hdt_file.specs.Graph.{IsGraph};
+//! The graph of a file.
+ghost use Rattle.std.specs.Prelude.{◌≡◌, ℕ, length, IfOk};
 ghost use Rattle.hdt_dict.specs.Views.{dictionary_of};
-ghost use Rattle.hdt_triples.specs.CountsView.{counts_of};
-ghost use Rattle.hdt_file.specs.FileLaws.{graph_rows};
-ghost use Rattle.hdt_file.specs.Views.{graph_seen, lens_of};
+ghost use Rattle.hdt_triples.specs.ListedViews.{roles_of, triples_listed};
+ghost use Rattle.hdt_file.specs.File.{counts_in};
 
-use crate::dictionary::read_dictionary;
-use crate::fault::OpenFault;
 use crate::head::Head;
 use hdt_dict::{Dictionary, Role, Strings};
 use hdt_seq::Steps;
-use hdt_triples::{Counts, Triples};
-use hdt_wire::{Reason, demand};
+use hdt_triples::ListedTriples;
 use std::alloc::{AllocError, Global};
 
-/// A file that was opened: it borrows the input, and answers by it.
-#[derive(Clone, Copy)]
+/// A file that was opened: it borrows the input, and answers by it. Beside the input it keeps the directories and the
+/// lists of its triples, and nothing else.
+#[derive(Drop)]
 pub struct Graph<'a> {
     pub(crate) head: Head<'a>,
     pub(crate) dictionary: Dictionary<'a>,
-    pub(crate) triples: Triples<'a>,
-}
-
-/// How many strings each role of a dictionary has.
-fn counts_in(dictionary: &Dictionary<'_>) -> Counts
-    ensures { counts_of result ≡ counts_in (dictionary_of dictionary.now) }
-{
-    Counts {
-        subjects: dictionary.count(Role::Subject),
-        predicates: dictionary.count(Role::Predicate),
-        objects: dictionary.count(Role::Object),
-    }
-}
-
-/// Reads by rows.
-#[tactic(auto, unfolding(crate::specs::FileLaws::graph_rows, crate::specs::Views::graph_seen))]
-fn read_rows<'a>(alloc: Global, bytes: &'a [u8]) -> Result<Graph<'a>, OpenFault>
-    ensures { Gives fault_of graph_seen result (graph_rows bytes.now) }
-{
-    let (head, dictionary, at) = read_dictionary(alloc, bytes)?;
-    let (triples, end) = Triples::read(bytes, at, counts_in(&dictionary))?;
-    demand(end == bytes.len(), end, Reason::TrailingBytes)?;
-    Ok(Graph {
-        head,
-        dictionary,
-        triples,
-    })
+    pub(crate) triples: ListedTriples<'a>,
+    ghost roles: { roles_of (triples_listed triples) ≡ counts_in (dictionary_of dictionary) },
 }
 
 #[tactic(auto, unfolding(crate::specs::Views::graph_seen))]
@@ -59,7 +26,9 @@ impl<'a> Graph<'a> {
     ghost use Rattle.hdt_front.specs.Numbering.{place};
     ghost use Rattle.hdt_dict.specs.Numbered.{numbered, Appends};
     ghost use Rattle.hdt_dict.specs.Views.{role_block, role_looks};
-    ghost use Rattle.hdt_file.specs.Views.{graph_seen, strings_in};
+    ghost use Rattle.hdt_triples.specs.ListedViews.{directories_held, lists_held};
+    ghost use Rattle.hdt_file.specs.Graph.{counts_of};
+    ghost use Rattle.hdt_file.specs.Views.{bitmap_of_graph, graph_seen, strings_in};
 
     /// The header body: triples about the file, as N-Triples, which are not looked at. It is lent from the input.
     pub fn header(&self) -> &'a [u8]
@@ -72,7 +41,7 @@ impl<'a> Graph<'a> {
     pub fn len(&self) -> u64
         ensures { result ≡ length (graph_seen self.now).triples }
     {
-        self.triples.len()
+        self.triples.triples().len()
     }
 
     /// How many strings each section has: shared, subjects, predicates, objects.
@@ -81,6 +50,14 @@ impl<'a> Graph<'a> {
         ensures { result ≡ length (graph_seen self.now).dictionary.shared ∷ length (graph_seen self.now).dictionary.subjects ∷ length (graph_seen self.now).dictionary.predicates ∷ length (graph_seen self.now).dictionary.objects ∷ [] }
     {
         self.dictionary.section_lens()
+    }
+
+    /// How many numbers of 8 bytes the graph keeps beside the input.
+    #[tactic(auto, unfolding(crate::specs::Views::graph_seen, crate::specs::Views::bitmap_of_graph))]
+    pub fn held(&self) -> u128
+        ensures { result ≡ directories_held (bitmap_of_graph self.now) + lists_held (counts_of (graph_seen self.now).dictionary) (bitmap_of_graph self.now) }
+    {
+        self.triples.held()
     }
 
     /// How many strings a role has.
@@ -125,59 +102,3 @@ impl<'a> Graph<'a> {
         self.dictionary.string_of(role, n, out, steps)
     }
 }
-
-/// Opens a file: the graph of its bytes, or the first fault that stands in them.
-///
-/// It reads the bytes once, from front to back, in time in proportion to them. The graph borrows them.
-///
-/// ```text
-/// let graph = open(alloc, bytes)?;
-/// let subjects = graph.count(Role::Subject);
-/// ```
-pub fn open<'a>(alloc: Global, bytes: &'a [u8]) -> Result<Graph<'a>, OpenFault>
-    // The bytes are a layout of the graph that is answered.
-    ensures found { IfOk result (λ graph. IsLayout bytes.now (graph_seen graph)) }
-    // The graph of any layout of these bytes is answered, unless memory ran out.
-    ensures only { (graph : GraphParts) → IsLayout bytes.now graph → Gives fault_of graph_seen result (Ok graph) }
-    // Otherwise it is the one fault that stands.
-    ensures exact { Gives fault_of graph_seen result (graph_in bytes.now) }
-{
-    read_rows(alloc, bytes)
-}
-
-/// Verifies by rows.
-fn verify_rows(alloc: Global, bytes: &[u8]) -> Result<[u64; 5], OpenFault>
-    ensures { Gives fault_of (λ lens. lens) result (seen lens_of (graph_in bytes.now)) }
-{
-    let graph = open(alloc, bytes)?;
-    let [shared, subjects, predicates, objects] = graph.section_lens();
-    Ok([graph.len(), shared, subjects, predicates, objects])
-}
-
-/// Verifies a file: how many triples it has, and how many strings each section, shared, subjects, predicates, objects;
-/// or the first fault that stands in its bytes.
-pub fn verify(alloc: Global, bytes: &[u8]) -> Result<[u64; 5], OpenFault>
-    // The bytes are a layout of a graph, of which these are the counts.
-    ensures found { IfOk result (λ lens. Seen lens_of (IsLayout bytes.now) lens) }
-    // The counts of any layout of these bytes are answered, unless memory ran out.
-    ensures only { (graph : GraphParts) → IsLayout bytes.now graph → Gives fault_of (λ lens. lens) result (Ok (lens_of graph)) }
-    // Otherwise it is the one fault that stands.
-    ensures exact { Gives fault_of (λ lens. lens) result (seen lens_of (graph_in bytes.now)) }
-{
-    verify_rows(alloc, bytes)
-}
-
-/// Bytes are a layout of one graph at most, and one layout or one fault, never both.
-pub fn one_layout()
-    ensures exact { (bytes : List ℕ) → IsBytes bytes → length bytes < 2 ^ 64 → Exactly (graph_in bytes) (IsLayout bytes) }
-    ensures one { (bytes : List ℕ) (g h : GraphParts) → IsBytes bytes → length bytes < 2 ^ 64 → IsLayout bytes g → IsLayout bytes h → g ≡ h }
-    ensures file { (bytes : List ℕ) (a b : FileParts) → IsBytes bytes → length bytes < 2 ^ 64 → IsFile a bytes → IsFile b bytes → a ≡ b }
-    ensures or_fault { (bytes : List ℕ) → IsBytes bytes → length bytes < 2 ^ 64 → OneValue (graph_in bytes) (IsLayout bytes) ⊎ OneFault (graph_in bytes) (IsLayout bytes) }
-{}
-
-/// The graph of a layout has sections of ascending UTF-8 strings without zero bytes, no string in two of shared,
-/// subjects and objects, and at least one triple; the triples strictly ascend, and each number is that of a string of
-/// its role.
-pub fn layouts_are_graphs()
-    ensures { (bytes : List ℕ) (g : GraphParts) → IsLayout bytes g → IsGraph g }
-{}

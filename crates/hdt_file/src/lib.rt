@@ -22,6 +22,8 @@ mod dictionary;
 mod fault;
 mod graph;
 mod head;
+mod layout;
+mod opening;
 mod search;
 #[cfg(test)]
 mod search_tests;
@@ -36,7 +38,8 @@ mod text_tests;
 
 pub use dictionary::{fronts_are_exact, read_dictionary};
 pub use fault::{DumpFault, OpenFault};
-pub use graph::{Graph, layouts_are_graphs, one_layout, open, verify};
+pub use graph::Graph;
 pub use head::{Head, one_head, read_head};
+pub use opening::{layouts_are_graphs, one_layout, open, verify};
 pub use text::{graph_text, write_graph};
 pub use text_laws::{one_text, text_is_a_document};

@@ -1,23 +1,25 @@
 //! Searching a graph, by numbers and by strings.
-ghost use Rattle.std.specs.Prelude.{◌≡◌, ◌↔◌, ◌≤◌, ◌<◌, ◌+◌, ◌*◌, ◌^◌, ℕ, List, [], Option, Some, length};
+ghost use Rattle.std.specs.Prelude.{◌≡◌, ◌↔◌, ◌≤◌, ◌<◌, ◌+◌, ◌^◌, ℕ, List, [], Option, Some, length};
+ghost use Rattle.hdt_triples.specs.Bounds.{most_steps};
 ghost use Rattle.hdt_triples.specs.Left.{left_of, limit_of};
 ghost use Rattle.hdt_triples.specs.Patterns.{matches};
 ghost use Rattle.hdt_file.specs.Search.{IsPart, IsPattern, given_looks, part_looks};
-ghost use Rattle.hdt_file.specs.Views.{graph_seen, strings_in};
+ghost use Rattle.hdt_file.specs.Views.{bitmap_of_graph, graph_seen, strings_in};
 
 use crate::graph::Graph;
 use hdt_dict::Role;
 use hdt_seq::Steps;
 use hdt_triples::{Matches, Pattern};
 
-#[tactic(auto, unfolding(crate::specs::Views::graph_seen))]
+#[tactic(auto, unfolding(crate::specs::Views::graph_seen, crate::specs::Views::bitmap_of_graph))]
 impl<'a> Graph<'a> {
     /// The triples that agree with each number that the pattern gives: exactly those, once each, in the order of the
-    /// file's triples. It takes no memory.
-    pub fn search(&self, pattern: Pattern) -> Matches<'a>
+    /// file's triples. It takes no memory, and few steps: those of the table.
+    pub fn search(&self, pattern: Pattern) -> Matches<'_>
         ensures items { left_of result ≡ matches pattern (graph_seen self.now).triples }
         ensures fits { length (left_of result) < 2 ^ 64 }
-        ensures few { limit_of result ≤ 4 * length (graph_seen self.now).triples }
+        // The steps of this call and of all its items are at most the table's number.
+        ensures few { limit_of result ≡ most_steps (bitmap_of_graph self.now) pattern }
     {
         self.triples.find(pattern)
     }
@@ -52,15 +54,17 @@ impl<'a> Graph<'a> {
 
     /// The triples that have each string that is given in its role, as [`Graph::search`] gives them; none where a string
     /// isn't in its role. It takes no memory.
-    #[tactic(auto, unfolding(crate::specs::Views::graph_seen, hdt_triples::specs::Left::left_of, hdt_triples::specs::Left::limit_of))]
-    pub fn find(&self, given: [Option<&[u8]>; 3], steps: &mut Steps) -> Matches<'a>
+    #[tactic(auto, unfolding(crate::specs::Views::graph_seen, crate::specs::Views::bitmap_of_graph, hdt_triples::specs::Left::left_of, hdt_triples::specs::Left::limit_of))]
+    pub fn find(&self, given: [Option<&[u8]>; 3], steps: &mut Steps) -> Matches<'_>
         // The matches of the pattern of the strings.
         ensures items { (p : Pattern) → IsPattern (graph_seen self.now) given.entry p → left_of result ≡ matches p (graph_seen self.now).triples }
         // Where a string isn't in its role there are none.
         ensures none { ((p : Pattern) → IsPattern (graph_seen self.now) given.entry p → ⊥) → left_of result ≡ [] }
         ensures fits { length (left_of result) < 2 ^ 64 }
         ensures cost { steps.new ≤ steps.old + given_looks self.now given.entry }
-        ensures few { limit_of result ≤ 4 * length (graph_seen self.now).triples }
+        // The steps of the items are at most the table's number, apart from those of the look-ups; none where there are none.
+        ensures few { (p : Pattern) → IsPattern (graph_seen self.now) given.entry p → limit_of result ≡ most_steps (bitmap_of_graph self.now) p }
+        ensures idle { ((p : Pattern) → IsPattern (graph_seen self.now) given.entry p → ⊥) → limit_of result ≡ 0 }
         ensures more { steps.old ≤ steps.new }
     {
         match self.pattern(given, steps) {

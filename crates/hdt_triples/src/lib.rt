@@ -53,6 +53,8 @@ pub use walk::WalkMatches;
 pub use writing::put_triples;
 
 #[cfg(test)]
+mod listed_tests;
+#[cfg(test)]
 mod search_tests;
 #[cfg(test)]
 mod tests;

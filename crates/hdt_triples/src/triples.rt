@@ -30,6 +30,7 @@ impl<'a> Triples<'a> {
     ghost use Rattle.hdt_wire.specs.Exact.{Seen};
     ghost use Rattle.hdt_triples.specs.Counting.{triple_at};
     ghost use Rattle.hdt_triples.specs.Triples.{TripleParts, IsTriples};
+    ghost use Rattle.hdt_triples.specs.ListedViews.{roles_of};
     ghost use Rattle.hdt_triples.specs.Views.{bitmap_read, read_of, parts_read, triples_in};
 
     /// Reads by rows.
@@ -40,6 +41,7 @@ impl<'a> Triples<'a> {
         requires objects { counts.objects < 2 ^ 63 }
         ensures exact { Reads read_of result (triples_in (counts_of counts) bytes.now at) }
         ensures end { IfOk result (λ r. r.1 ≤ length bytes.now) }
+        ensures roles { IfOk result (λ r. roles_of r.0 ≡ counts_of counts) }
     {
         let block = read_control(bytes, at, Kind::Triples)?;
         demand(
@@ -80,6 +82,8 @@ impl<'a> Triples<'a> {
         // Otherwise it is the one fault that stands.
         ensures exact { Reads read_of result (triples_in (counts_of counts) bytes.now at) }
         ensures end { IfOk result (λ r. r.1 ≤ length bytes.now) }
+        // The triples are of so many strings.
+        ensures roles { IfOk result (λ r. roles_of r.0 ≡ counts_of counts) }
     {
         Triples::read_rows(bytes, at, counts)
     }

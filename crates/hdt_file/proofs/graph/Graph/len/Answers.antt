@@ -1,9 +1,10 @@
-use Rattle.std.proofs.Common.{◌∙◌, sym}
+use Rattle.std.proofs.Common.{◌∙◌, ap, length, sym}
 use Rattle.hdt_triples.specs.CountingLaws.{length-triples}
+use Rattle.hdt_triples.specs.ListedViews.{triples_listed}
 use Rattle.hdt_triples.specs.Views.{bitmap_read}
 use Rattle.hdt_file.specs.Views.{graph_seen}
 use Rattle.hdt_file.proofs.graph.Graph.len.Goals as goal
 
 pub returns : goal.returns
 unfolding graph_seen
-returns c = c.len.ensures ∙ sym (length-triples (bitmap_read c.args.self.now.triples))
+returns c = c.len.ensures ∙ ap (λ t. length (bitmap_read t).zs) c.triples.ensures ∙ sym (length-triples (bitmap_read (triples_listed c.args.self.now.triples)))

@@ -6,7 +6,7 @@ use Rattle.hdt_file.specs.Faults.{fault_of}
 use Rattle.hdt_file.specs.File.{IsLayout, graph_in}
 use Rattle.hdt_file.specs.FileLaws.{layout_exact}
 use Rattle.hdt_file.specs.Views.{lens_of}
-use Rattle.hdt_file.proofs.graph.verify.Goals as goal
+use Rattle.hdt_file.proofs.opening.verify.Goals as goal
 
 pub returns-clause-found : goal.returns-clause-found
 returns-clause-found c =

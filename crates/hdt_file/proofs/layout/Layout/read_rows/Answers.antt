@@ -1,7 +1,7 @@
 use Rattle.std.proofs.Common.{◌≡◌, ◌≤◌, ℕ, length, ap, arith, subst, sym}
 use Rattle.hdt_dict.specs.declared.role.Role.TheVariants.{Subject, Predicate, Object}
 use Rattle.hdt_triples.specs.Counting.{Counts}
-use Rattle.hdt_file.proofs.graph.read_rows.Goals as goal
+use Rattle.hdt_file.proofs.layout.Layout.read_rows.Goals as goal
 
 pub read-requires-clause-subjects : goal.read-requires-clause-subjects
 read-requires-clause-subjects c = omega (arith, ap (λ (n : Counts). n.subjects) c.counts_in.ensures, c.in_ok-head.ensures.few Subject)

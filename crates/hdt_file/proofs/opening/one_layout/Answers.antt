@@ -1,5 +1,5 @@
 use Rattle.hdt_file.specs.FileLaws.{layout_exact, layout_alone, file_alone, layout_or_fault}
-use Rattle.hdt_file.proofs.graph.one_layout.Goals as goal
+use Rattle.hdt_file.proofs.opening.one_layout.Goals as goal
 
 pub returns-clause-exact : goal.returns-clause-exact
 returns-clause-exact c = layout_exact

@@ -1,5 +1,5 @@
 use Rattle.hdt_file.specs.GraphLaws.{layout_graph}
-use Rattle.hdt_file.proofs.graph.layouts_are_graphs.Goals as goal
+use Rattle.hdt_file.proofs.opening.layouts_are_graphs.Goals as goal
 
 pub returns : goal.returns
 returns c = layout_graph

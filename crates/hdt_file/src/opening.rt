@@ -1,0 +1,96 @@
+//! Opening and verifying a file: the graph that its bytes denote, and the verdict on them.
+ghost use Rattle.std.specs.Prelude.{◌≡◌, ◌⊎◌, ◌<◌, ◌^◌, ℕ, List, length, Ok, IfOk};
+ghost use Rattle.hdt_wire.specs.Exact.{Exactly, OneFault, OneValue, Seen, seen};
+ghost use Rattle.hdt_wire.specs.Rows.{Gives, IsBytes};
+ghost use Rattle.hdt_file.specs.Faults.{fault_of};
+ghost use Rattle.hdt_file.specs.File.{FileParts, IsFile, GraphParts, IsLayout, graph_in};
+ghost use Rattle.hdt_file.specs.Graph.{IsGraph};
+ghost use Rattle.hdt_file.specs.LayoutView.{layout_seen};
+ghost use Rattle.hdt_file.specs.Views.{graph_seen, lens_of};
+
+use crate::fault::OpenFault;
+use crate::graph::Graph;
+use crate::layout::Layout;
+use std::alloc::Global;
+
+/// The graph of a layout, with the directories and the lists of its triples.
+#[tactic(auto, unfolding(crate::specs::Views::graph_seen, crate::specs::LayoutView::layout_seen))]
+fn with_lists(alloc: Global, layout: Layout<'_>) -> Result<Graph<'_>, OpenFault>
+    ensures { Gives fault_of graph_seen result (Ok (layout_seen layout.entry)) }
+{
+    let Ok(indexed) = layout.triples.with_directories(alloc) else {
+        return Err(OpenFault::OutOfMemory);
+    };
+    let Ok(triples) = indexed.with_lists(alloc) else {
+        return Err(OpenFault::OutOfMemory);
+    };
+    Ok(Graph {
+        head: layout.head,
+        dictionary: layout.dictionary,
+        triples,
+    })
+}
+
+/// Opens by rows.
+fn open_rows<'a>(alloc: Global, bytes: &'a [u8]) -> Result<Graph<'a>, OpenFault>
+    ensures { Gives fault_of graph_seen result (graph_in bytes.now) }
+{
+    let layout = Layout::read(alloc, bytes)?;
+    with_lists(alloc, layout)
+}
+
+/// Opens a file: the graph of its bytes, or the first fault that stands in them.
+///
+/// It reads the bytes once, from front to back, then grows the directories and the lists, in time in proportion to the
+/// bytes. The graph borrows the bytes, and keeps [`Graph::held`] numbers beside them.
+///
+/// ```text
+/// let graph = open(alloc, bytes)?;
+/// let subjects = graph.count(Role::Subject);
+/// ```
+pub fn open<'a>(alloc: Global, bytes: &'a [u8]) -> Result<Graph<'a>, OpenFault>
+    // The bytes are a layout of the graph that is answered.
+    ensures found { IfOk result (λ graph. IsLayout bytes.now (graph_seen graph)) }
+    // The graph of any layout of these bytes is answered, unless memory ran out.
+    ensures only { (graph : GraphParts) → IsLayout bytes.now graph → Gives fault_of graph_seen result (Ok graph) }
+    // Otherwise it is the one fault that stands.
+    ensures exact { Gives fault_of graph_seen result (graph_in bytes.now) }
+{
+    open_rows(alloc, bytes)
+}
+
+/// Verifies by rows.
+fn verify_rows(alloc: Global, bytes: &[u8]) -> Result<[u64; 5], OpenFault>
+    ensures { Gives fault_of (λ lens. lens) result (seen lens_of (graph_in bytes.now)) }
+{
+    let layout = Layout::read(alloc, bytes)?;
+    Ok(layout.lens())
+}
+
+/// Verifies a file: how many triples it has, and how many strings each section, shared, subjects, predicates, objects;
+/// or the first fault that stands in its bytes. It grows neither directories nor lists.
+pub fn verify(alloc: Global, bytes: &[u8]) -> Result<[u64; 5], OpenFault>
+    // The bytes are a layout of a graph, of which these are the counts.
+    ensures found { IfOk result (λ lens. Seen lens_of (IsLayout bytes.now) lens) }
+    // The counts of any layout of these bytes are answered, unless memory ran out.
+    ensures only { (graph : GraphParts) → IsLayout bytes.now graph → Gives fault_of (λ lens. lens) result (Ok (lens_of graph)) }
+    // Otherwise it is the one fault that stands.
+    ensures exact { Gives fault_of (λ lens. lens) result (seen lens_of (graph_in bytes.now)) }
+{
+    verify_rows(alloc, bytes)
+}
+
+/// Bytes are a layout of one graph at most, and one layout or one fault, never both.
+pub fn one_layout()
+    ensures exact { (bytes : List ℕ) → IsBytes bytes → length bytes < 2 ^ 64 → Exactly (graph_in bytes) (IsLayout bytes) }
+    ensures one { (bytes : List ℕ) (g h : GraphParts) → IsBytes bytes → length bytes < 2 ^ 64 → IsLayout bytes g → IsLayout bytes h → g ≡ h }
+    ensures file { (bytes : List ℕ) (a b : FileParts) → IsBytes bytes → length bytes < 2 ^ 64 → IsFile a bytes → IsFile b bytes → a ≡ b }
+    ensures or_fault { (bytes : List ℕ) → IsBytes bytes → length bytes < 2 ^ 64 → OneValue (graph_in bytes) (IsLayout bytes) ⊎ OneFault (graph_in bytes) (IsLayout bytes) }
+{}
+
+/// The graph of a layout has sections of ascending UTF-8 strings without zero bytes, no string in two of shared,
+/// subjects and objects, and at least one triple; the triples strictly ascend, and each number is that of a string of
+/// its role.
+pub fn layouts_are_graphs()
+    ensures { (bytes : List ℕ) (g : GraphParts) → IsLayout bytes g → IsGraph g }
+{}
