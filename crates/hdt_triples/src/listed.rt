@@ -25,11 +25,11 @@ use std::alloc::Global;
 pub struct ListedTriples<'a> {
     pub(crate) indexed: IndexedTriples<'a>,
     // where the pairs of each predicate end in `pairs`, and before them those of the predicate before
-    pair_starts: Vec<u64>,
-    pairs: Vec<u64>,
+    pub(crate) pair_starts: Vec<u64>,
+    pub(crate) pairs: Vec<u64>,
     // where the places of each object end in `places`, and before them those of the object before
-    triple_starts: Vec<u64>,
-    places: Vec<u64>,
+    pub(crate) triple_starts: Vec<u64>,
+    pub(crate) places: Vec<u64>,
     ghost by_predicate: { AreLists (bitmap_read indexed.triples).ys indexed.triples.counts.predicates pair_starts.items pairs.items },
     ghost by_object: { AreLists (bitmap_read indexed.triples).zs indexed.triples.counts.objects triple_starts.items places.items },
 }

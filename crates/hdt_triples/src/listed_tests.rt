@@ -305,9 +305,13 @@ fn fields(rt: HostRuntime) -> Result<(), Fail> {
         triple_starts,
         places,
     } = &listed;
-    let _: [&Vec<u64>; 4] = [pair_starts, pairs, triple_starts, places];
+    let _: &Vec<u64> = pair_starts;
+    let _: &Vec<u64> = pairs;
+    let _: &Vec<u64> = triple_starts;
+    let _: &Vec<u64> = places;
     let IndexedTriples { triples, y, z } = indexed;
     let _: &Triples<'_> = triples;
-    let _: [&Directory; 2] = [y, z];
+    let _: &Directory = y;
+    let _: &Directory = z;
     Ok(())
 }
