@@ -1,6 +1,7 @@
 use super::*;
+use hdt_dict::Dictionary;
 use hdt_seq::Steps;
-use hdt_triples::Pattern;
+use hdt_triples::{ListedTriples, Pattern};
 use std::alloc::Global;
 use std::test::Fail;
 
@@ -78,6 +79,22 @@ fn searches_by_numbers(rt: HostRuntime) -> Result<(), Fail> {
             }
         }
     }
+    Ok(())
+}
+
+/// All that a graph keeps: a new field fails here. Of numbers it keeps those of its triples.
+#[test]
+fn fields(rt: HostRuntime) -> Result<(), Fail> {
+    let graph = open(rt.alloc(), THREE)?;
+    assert_eq!(rt; graph.held(), 17);
+    let Graph {
+        head,
+        dictionary,
+        triples,
+    } = &graph;
+    let _: &Head<'_> = head;
+    let _: &Dictionary<'_> = dictionary;
+    let _: &ListedTriples<'_> = triples;
     Ok(())
 }
 

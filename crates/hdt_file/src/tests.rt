@@ -203,6 +203,7 @@ fn opens_the_sample(rt: HostRuntime) -> Result<(), Fail> {
     assert_eq!(rt; bytes.len(), 459);
     assert_eq!(rt; verdict(alloc, &bytes)?, Ok([1, 1, 0, 1, 0]));
     let graph = open(alloc, &bytes)?;
+    assert_eq!(rt; graph.held(), 10);
     assert!(rt; graph.header() == BODY);
     assert_eq!(rt; (graph.len(), graph.section_lens()), (1, [1, 0, 1, 0]));
     let mut steps = Steps::new();
