@@ -1,5 +1,6 @@
 pub mod Texts
 pub mod Splitting
+pub mod Merging
 pub mod Overlaps
 pub mod Rows
 pub mod Numbering

@@ -20,13 +20,6 @@ module _ (ss os s o : List (List ℕ)) (same_s : SameMembers s ss) (same_o : Sam
     λ h. Contains-filter (has o) s x ((same_s x).1 h.0) (Contains-has o x ((same_o x).1 h.1)),
   )
 
-  -- the strings of o that are not shared
-  objects_of : (r : List (List ℕ)) → r ≡ filter (λ x. not (has sh x)) o → (x : List ℕ) → (Contains r x → Contains os x × ¬ Contains ss x) × (Contains os x × ¬ Contains ss x → Contains r x)
-  objects_of r rest x = rw rest (
-    λ h. let g = Contains-from_filter (λ y. not (has sh y)) o x h in let there = (same_o x).0 g.0 in (there, λ both. lacks-back sh x g.1 ((shared_of x).1 (both, there))),
-    λ h. Contains-filter (λ y. not (has sh y)) o x ((same_o x).1 h.0) (lacks sh x (λ both. h.1 ((shared_of x).0 both).0)),
-  )
-
 -- the strings of s that o lacks
 rest_of : (ss os s o r : List (List ℕ)) → SameMembers s ss → SameMembers o os → r ≡ filter (λ x. not (has o x)) s → (x : List ℕ) → (Contains r x → Contains ss x × ¬ Contains os x) × (Contains ss x × ¬ Contains os x → Contains r x)
 rest_of ss os s o r same_s same_o is x = rw is (
@@ -36,7 +29,7 @@ rest_of ss os s o r same_s same_o is x = rw is (
 
 pub are_split : (ss ps os s p o : List (List ℕ)) (d : FourLists)
     → SameMembers s ss → SameMembers p ps → SameMembers o os → IsAscending s → IsAscending p → IsAscending o
-    → d.shared ≡ filter (has o) s → d.subjects ≡ filter (λ x. not (has o x)) s → d.objects ≡ filter (λ x. not (has d.shared x)) o → d.predicates ≡ p
+    → d.shared ≡ filter (has o) s → d.subjects ≡ filter (λ x. not (has o x)) s → d.objects ≡ filter (λ x. not (has s x)) o → d.predicates ≡ p
     → IsSplit ss ps os d
 are_split ss ps os s p o d same_s same_p same_o up_s up_p up_o sh su ob pr = record {
   shared_ascend = filter_ascends _ s d.shared sh up_s;
@@ -46,5 +39,5 @@ are_split ss ps os s p o d same_s same_p same_o up_s up_p up_o sh su ob pr = rec
   shared = shared_of ss os s o same_s same_o d.shared sh;
   subjects = rest_of ss os s o d.subjects same_s same_o su;
   predicates = rw pr same_p;
-  objects = objects_of ss os s o same_s same_o d.shared sh d.objects ob;
+  objects = rest_of os ss o s d.objects same_o same_s ob;
 }

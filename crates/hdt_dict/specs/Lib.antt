@@ -9,6 +9,7 @@ pub mod Strings
 pub mod StringsLaws
 pub mod MembersLaws
 pub mod MergeLaws
+pub mod Merging
 pub mod Split
 pub mod Texts
 pub mod SplitLaws

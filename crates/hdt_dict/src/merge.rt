@@ -1,60 +1,82 @@
 //! Two ascending lists of strings, walked side by side.
-ghost use Rattle.std.specs.Prelude.{◌≡◌, ◌≢◌, ◌<◌, ◌≤◌, length, slice_index_or, IfOk, not};
-ghost use Rattle.std.specs.declared.cmp.Ordering.TheVariants.{Less};
+ghost use Rattle.std.specs.Prelude.{◌≡◌, ◌⊎◌, ◌+◌, ◌<◌, ◌≤◌, [], ℕ, length, slice_index_or, IfOk, not, true, false};
+ghost use Rattle.std.specs.declared.cmp.Ordering.TheVariants.{Less, Equal, Greater};
 ghost use Rattle.std.specs.List.{filter};
 ghost use Rattle.hdt_front.specs.Canonical.{lent_texts};
-ghost use Rattle.hdt_dict.specs.Strings.{string_cmp, IsAscending, FirstBelow, has};
+ghost use Rattle.hdt_dict.specs.Merging.{ArePassed, IsFirstAlone, AreEqual};
+ghost use Rattle.hdt_dict.specs.Strings.{IsAscending, has};
 
 use std::alloc::{AllocError, Global};
+use std::cmp::Ordering;
 
-/// The first place from a given one on whose string isn't less than x, in an ascending list whose strings before
-/// that place are less.
-fn place_from(list: &[&[u8]], from: usize, x: &[u8]) -> usize
-    requires within { from ≤ length list.now }
-    requires below { FirstBelow (lent_texts list.now) from x.now }
-    ensures within { result ≤ length list.now }
-    ensures below { FirstBelow (lent_texts list.now) result x.now }
-    ensures stops { result < length list.now → string_cmp (slice_index_or (lent_texts list.now) result x.now) x.now ≢ Less }
+/// Which of two ascending lists has the next string, where the first has i strings before it and the second j: Less the
+/// first, Greater the second, Equal both.
+fn next_of(xs: &[&[u8]], i: usize, ys: &[&[u8]], j: usize) -> Ordering
+    requires some { (i < length xs.now) ⊎ (j < length ys.now) }
+    requires xs_ascending { IsAscending (lent_texts xs.now) }
+    requires ys_ascending { IsAscending (lent_texts ys.now) }
+    requires xs_passed { ArePassed (lent_texts xs.now) i (lent_texts ys.now) j }
+    requires ys_passed { ArePassed (lent_texts ys.now) j (lent_texts xs.now) i }
+    ensures first { result ≡ Less → IsFirstAlone (lent_texts xs.now) i (lent_texts ys.now) j }
+    ensures second { result ≡ Greater → IsFirstAlone (lent_texts ys.now) j (lent_texts xs.now) i }
+    ensures both { result ≡ Equal → AreEqual (lent_texts xs.now) i (lent_texts ys.now) j }
 {
-    for at in from..list.len() {
-        if !list[at].cmp(x).is_lt() {
-            return at;
-        }
+    if j >= ys.len() {
+        return Ordering::Less;
     }
-    list.len()
+    if i >= xs.len() {
+        return Ordering::Greater;
+    }
+    xs[i].cmp(ys[j])
 }
 
-/// Whether an ascending list has x, at the place from `place_from`.
-fn stands_at(list: &[&[u8]], at: usize, x: &[u8]) -> bool
-    requires ascending { IsAscending (lent_texts list.now) }
-    requires below { FirstBelow (lent_texts list.now) at x.now }
-    requires stops { at < length list.now → string_cmp (slice_index_or (lent_texts list.now) at x.now) x.now ≢ Less }
-    ensures { result ≡ has (lent_texts list.now) x.now }
-{
-    at < list.len() && list[at] == x
+/// What two ascending lists have in common.
+pub(crate) struct Merged<'a> {
+    /// The strings that both have.
+    pub both: Vec<&'a [u8]>,
+    /// Those of the first alone.
+    pub first: Vec<&'a [u8]>,
+    /// Those of the second alone.
+    pub second: Vec<&'a [u8]>,
 }
 
-/// The strings of xs that ys has, and the others, by one walk along both.
-pub(crate) fn parted<'a>(
+/// Merges two ascending lists of strings, by one walk along both.
+pub(crate) fn merge<'a>(
     alloc: Global,
     xs: &[&'a [u8]],
     ys: &[&'a [u8]],
-) -> Result<(Vec<&'a [u8]>, Vec<&'a [u8]>), AllocError>
+) -> Result<Merged<'a>, AllocError>
     requires xs_ascending { IsAscending (lent_texts xs.now) }
     requires ys_ascending { IsAscending (lent_texts ys.now) }
-    ensures common { IfOk result (λ parts. lent_texts parts.0.items ≡ filter (has (lent_texts ys.now)) (lent_texts xs.now)) }
-    ensures rest { IfOk result (λ parts. lent_texts parts.1.items ≡ filter (λ x. not (has (lent_texts ys.now) x)) (lent_texts xs.now)) }
+    ensures both { IfOk result (λ m. lent_texts m.both.items ≡ filter (has (lent_texts ys.now)) (lent_texts xs.now)) }
+    ensures first { IfOk result (λ m. lent_texts m.first.items ≡ filter (λ x. not (has (lent_texts ys.now) x)) (lent_texts xs.now)) }
+    ensures second { IfOk result (λ m. lent_texts m.second.items ≡ filter (λ y. not (has (lent_texts xs.now) y)) (lent_texts ys.now)) }
 {
-    let mut common = Vec::new(alloc);
-    let mut rest = Vec::new(alloc);
-    let mut at = 0;
-    for text in xs {
-        at = place_from(ys, at, *text);
-        if stands_at(ys, at, *text) {
-            common.push(*text)?;
-            continue;
+    let mut both = Vec::new(alloc);
+    let mut first = Vec::new(alloc);
+    let mut second = Vec::new(alloc);
+    let mut i = 0;
+    let mut j = 0;
+    'sides: while i < xs.len() || j < ys.len() {
+        match next_of(xs, i, ys, j) {
+            Ordering::Less => {
+                first.push(xs[i])?;
+                i += 1;
+            }
+            Ordering::Greater => {
+                second.push(ys[j])?;
+                j += 1;
+            }
+            Ordering::Equal => {
+                both.push(xs[i])?;
+                i += 1;
+                j += 1;
+            }
         }
-        rest.push(*text)?;
     }
-    Ok((common, rest))
+    Ok(Merged {
+        both,
+        first,
+        second,
+    })
 }

@@ -3,7 +3,7 @@ ghost use Rattle.std.specs.Prelude.{◌≡◌, IfOk};
 ghost use Rattle.hdt_front.specs.Canonical.{lent_texts, texts};
 ghost use Rattle.hdt_dict.specs.Split.{IsSplit, lists_of, lent_lists_of};
 
-use crate::merge::parted;
+use crate::merge::{Merged, merge};
 use crate::sorted::ascending_strings;
 use std::alloc::{AllocError, Global};
 
@@ -35,7 +35,7 @@ pub struct LentParts<'a> {
 
 /// Parts the strings of three roles, in any order and with repeats, into the four sections. No string is copied.
 ///
-/// It costs a sort of each list and a walk along both of subjects and objects.
+/// It costs a sort of each list and one walk along both of subjects and objects.
 #[tactic(auto, unfolding(crate::specs::Split::lent_lists_of))]
 pub fn split_lent<'a>(
     alloc: Global,
@@ -48,13 +48,16 @@ pub fn split_lent<'a>(
     let all_subjects = ascending_strings(alloc, subjects)?;
     let all_objects = ascending_strings(alloc, objects)?;
     let predicates = ascending_strings(alloc, predicates)?;
-    let (shared, subjects) = parted(alloc, all_subjects.as_slice(), all_objects.as_slice())?;
-    let (_, objects) = parted(alloc, all_objects.as_slice(), shared.as_slice())?;
+    let Merged {
+        both,
+        first,
+        second,
+    } = merge(alloc, all_subjects.as_slice(), all_objects.as_slice())?;
     Ok(LentParts {
-        shared,
-        subjects,
+        shared: both,
+        subjects: first,
         predicates,
-        objects,
+        objects: second,
     })
 }
 

@@ -1,0 +1,23 @@
+-- Two ascending lists, walked side by side: what is passed, and what comes next.
+use Rattle.std.specs.Prelude.{◌≡◌, ℕ, ◌+◌, ◌<◌, ◌≤◌, List, [], length, slice_index_or, true, false}
+use Rattle.hdt_dict.specs.Strings.{FirstBelow, has}
+
+-- the first i strings of xs are less than each of ys from place j on
+abbrev pub ArePassed : List (List ℕ) → ℕ → List (List ℕ) → ℕ → Type 0
+ArePassed xs i ys j = (m : ℕ) → j ≤ m → m < length ys → FirstBelow xs i (slice_index_or ys m [])
+
+-- string i of xs comes next, and ys doesn't have it
+pub record IsFirstAlone (xs : List (List ℕ)) (i : ℕ) (ys : List (List ℕ)) (j : ℕ) : Type 0 where
+  pub within : i < length xs
+  pub lacks : has ys (slice_index_or xs i []) ≡ false
+  pub passed : ArePassed xs (i + 1) ys j
+  pub ahead : ArePassed ys j xs (i + 1)
+
+-- string i of xs and string j of ys come next, and are equal
+pub record AreEqual (xs : List (List ℕ)) (i : ℕ) (ys : List (List ℕ)) (j : ℕ) : Type 0 where
+  pub first_within : i < length xs
+  pub second_within : j < length ys
+  pub second_has : has ys (slice_index_or xs i []) ≡ true
+  pub first_has : has xs (slice_index_or ys j []) ≡ true
+  pub first_passed : ArePassed xs (i + 1) ys (j + 1)
+  pub second_passed : ArePassed ys (j + 1) xs (i + 1)
