@@ -6,7 +6,7 @@ pub mod Ascent
 pub mod Lies
 pub mod Strings
 pub mod Folds
-pub mod Words
+pub mod Loads
 pub mod Utf8
 pub mod Inside
 pub mod Following
