@@ -1,6 +1,5 @@
 -- From the mask of one load to the bytes that agree.
-use Rattle.std.proofs.Common.{◌≡◌, ℕ, zero, suc, ◌+◌, ◌*◌, ◌^◌, ◌%◌, ◌<◌, ◌≤◌, Bool, true, false, not, cond, List, [], ◌∷◌, length, map, take, drop, nat_eq, min, ◌-◌, inl, inr, refl, sym, ap, ◌∙◌, arith, w8}
-use Rattle.std.proofs.lemmas.Bool.{cases_lt}
+use Rattle.std.proofs.Common.{◌≡◌, ℕ, zero, suc, ◌+◌, ◌*◌, ◌^◌, ◌%◌, ◌<◌, ◌≤◌, Bool, true, false, not, cond, List, [], ◌∷◌, length, map, take, drop, nat_eq, min, refl, sym, ap, ◌∙◌, arith, w8}
 use Rattle.std.proofs.lemmas.List.{map-id, length-map}
 use Rattle.std.proofs.lemmas.Simd.{tops_compared, mask_l-mod, first_set_mask_l, length-zip2, length-chunk}
 use Rattle.std.specs.List.{common_prefix_len, prefix_len}
@@ -73,10 +72,6 @@ load_agrees a b i n r in_a in_b few so_far found =
       stop = λ h. omega (arith, counted, f.stop (omega (arith, counted, h)), all);
     }
 
--- the last load ends where the shorter string does
-pub last_load : (a b : List ℕ) (least n r : ℕ) → n ≤ least → least ≡ min (length a) (length b) → AgreesOn a b (least - n) n r → least - n + r ≡ agreed a b
-last_load a b least n r long is on =
-    elim (cases_lt r n) [
-      | inl less ↦ on.stop less
-      | inr all ↦ let bound = common_prefix_len-le nat_eq a b in omega (arith, long, is, all, on.within, on.so_far, bound)
-    ]
+-- strings agree no further than the shorter one goes
+pub agreed_least : (a b : List ℕ) → common_prefix_len nat_eq a b ≤ min (length a) (length b)
+agreed_least a b = let bound = common_prefix_len-le nat_eq a b in omega (arith, bound)

@@ -81,6 +81,7 @@ fn common_bytes(a: &[u8], b: &[u8]) -> usize
 
 /// How far two strings agree of which one is shorter than 32 bytes: by two loads, which may overlap, or byte by byte.
 #[inline(always)]
+#[tactic(auto, using(crate::proofs::Loads::agreed_least))]
 fn common_short(a: &[u8], b: &[u8]) -> usize
     requires short { min (length a.now) (length b.now) < LANES }
     ensures greatest { result ≡ common_prefix_len nat_eq a.now b.now }
@@ -106,6 +107,7 @@ fn common_short(a: &[u8], b: &[u8]) -> usize
 
 /// How many bytes two strings have in common at their front: the greatest number, at most both lengths, of first bytes
 /// that are equal. It compares 32 bytes at a time, fewer where a string is shorter.
+#[tactic(auto, using(crate::proofs::Loads::agreed_least))]
 pub fn common_prefix(a: &[u8], b: &[u8]) -> usize
     ensures greatest { result ≡ common_prefix_len nat_eq a.now b.now }
     ensures within { (result ≤ length a.now) × (result ≤ length b.now) }
