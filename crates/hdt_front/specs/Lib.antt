@@ -20,7 +20,7 @@ pub mod Numbering
 pub mod Halving
 pub mod Strings
 pub mod StringsLaws
-pub mod Agreeing
+pub mod Reaching
 pub mod Searching
 pub mod Walking
 pub mod Walks

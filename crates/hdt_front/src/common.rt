@@ -1,14 +1,12 @@
 //! How far two strings agree, 32 bytes at a time.
 ghost use Rattle.std.specs.Prelude.{◌≡◌, ◌≤◌, ◌<◌, ◌+◌, length, min, nat_eq};
 ghost use Rattle.std.specs.List.{common_prefix_len};
-ghost use Rattle.hdt_front.specs.Agreeing.{AgreesOn, first_set};
+ghost use Rattle.hdt_front.specs.Reaching.{Reaches};
 ghost use Rattle.hdt_front.specs.Searching.{order, agreed};
 
+use crate::scan::{LANES, first_set};
 use std::cmp::Ordering;
 use std::simd::prelude::*;
-
-/// The bytes of one load.
-const LANES: usize = 32;
 
 /// The bytes of one load where fewer than [`LANES`] are to be compared.
 const HALF: usize = 16;
@@ -16,25 +14,13 @@ const HALF: usize = 16;
 /// The bytes of one load where fewer than [`HALF`] are to be compared.
 const WORD: usize = 8;
 
-/// The place of the lowest bit that is set, or the number of lanes.
-#[inline(always)]
-fn first_set(mask: u64, lanes: usize) -> usize
-    ensures { result ≡ first_set mask lanes }
-{
-    if mask == 0 {
-        lanes
-    } else {
-        mask.trailing_zeros() as usize
-    }
-}
-
 /// How many of the next 32 bytes agree.
 #[inline(always)]
 fn lanes_agree(a: &[u8], b: &[u8], at: usize) -> usize
     requires in_a { at + LANES ≤ length a.now }
     requires in_b { at + LANES ≤ length b.now }
     requires so_far { at ≤ common_prefix_len nat_eq a.now b.now }
-    ensures { AgreesOn a.now b.now at LANES result }
+    ensures { Reaches (common_prefix_len nat_eq a.now b.now) at LANES result }
 {
     let left = u8x32::from_slice(&a[at..]);
     let right = u8x32::from_slice(&b[at..]);
@@ -47,7 +33,7 @@ fn half_agrees(a: &[u8], b: &[u8], at: usize) -> usize
     requires in_a { at + HALF ≤ length a.now }
     requires in_b { at + HALF ≤ length b.now }
     requires so_far { at ≤ common_prefix_len nat_eq a.now b.now }
-    ensures { AgreesOn a.now b.now at HALF result }
+    ensures { Reaches (common_prefix_len nat_eq a.now b.now) at HALF result }
 {
     let left = u8x16::from_slice(&a[at..]);
     let right = u8x16::from_slice(&b[at..]);
@@ -60,7 +46,7 @@ fn word_agrees(a: &[u8], b: &[u8], at: usize) -> usize
     requires in_a { at + WORD ≤ length a.now }
     requires in_b { at + WORD ≤ length b.now }
     requires so_far { at ≤ common_prefix_len nat_eq a.now b.now }
-    ensures { AgreesOn a.now b.now at WORD result }
+    ensures { Reaches (common_prefix_len nat_eq a.now b.now) at WORD result }
 {
     let left = u8x8::from_slice(&a[at..]);
     let right = u8x8::from_slice(&b[at..]);

@@ -29,6 +29,7 @@ mod laws;
 mod packed;
 mod piece;
 mod reading;
+mod scan;
 mod search;
 mod section;
 mod string;

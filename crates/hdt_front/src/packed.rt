@@ -7,9 +7,10 @@ ghost use Rattle.hdt_front.specs.StringRows.{place_at, opened_at, unfolded_rows,
 
 use crate::fault::ReadFault;
 use crate::piece::read_front;
+use crate::scan::text_seen;
 use crate::unfold::{ascends, unfold_tested};
 use hdt_seq::Numbers;
-use hdt_wire::{Fault, Reason, demand, zero_in};
+use hdt_wire::{Fault, Reason, demand};
 use std::alloc::Global;
 
 /// How strings lie folded in the input: their packed bytes, the starts of their blocks, how many strings there are, how
@@ -115,10 +116,10 @@ impl<'a> Packed<'a> {
         let place = self.place(rest);
         demand(kept <= before.len() as u64, place, Reason::PrefixTooLong)?;
         let kept = kept as usize;
-        let end = zero_in(text);
+        let (end, ascii) = text_seen(text);
         demand(end < text.len(), self.place(text), Reason::PackedLength)?;
         let later = ascends(i == 0, before, kept, &text[..end]);
-        let valid = unfold_tested(before, kept, &text[..end])?;
+        let valid = unfold_tested(before, kept, &text[..end], ascii)?;
         demand_string(valid, later, place)?;
         Ok(&text[end + 1..])
     }

@@ -4,7 +4,8 @@ ghost use Rattle.hdt_wire.specs.Rows.{zero_in};
 ghost use Rattle.hdt_wire.specs.VByte.{vbyte_at};
 ghost use Rattle.hdt_front.specs.Unfolding.{read_or, text_from, kept, text_of, after_piece};
 
-use hdt_wire::{Fault, read_vbyte, zero_in};
+use crate::scan::text_len;
+use hdt_wire::{Fault, read_vbyte};
 
 /// The number at the front, and where it ends, as `read_vbyte`; that of one byte at once.
 #[tactic(auto, using(crate::proofs::Inside::one_byte))]
@@ -39,6 +40,6 @@ pub(crate) fn piece_of(head: bool, rest: &[u8]) -> (u64, &[u8], &[u8])
 {
     let (kept, end) = if head { (0, 0) } else { read_or_zero(rest) };
     let from = rest.split_at(end).1;
-    let len = zero_in(from);
+    let len = text_len(from);
     (kept, from.split_at(len).0, from.split_at(len + 1).1)
 }
