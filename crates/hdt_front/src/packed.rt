@@ -1,7 +1,10 @@
 //! The strings of a section, checked one after another.
 ghost use Rattle.std.specs.Prelude.{◌≡◌, ◌≤◌, ◌<◌, ◌+◌, ◌-◌, ◌/◌, ◌%◌, ◌^◌, true, length, [], IfOk, ℕ, List, Ok, get_or};
 ghost use Rattle.std.specs.Str.{is_utf8};
-ghost use Rattle.hdt_wire.specs.Rows.{Reads, Gives};
+ghost use Rattle.std.specs.Prelude.{◌==◌};
+ghost use Rattle.hdt_wire.specs.declared.fault.Reason.TheVariants.{BlockPlace as BlockPlaceOf};
+ghost use Rattle.hdt_wire.specs.Rows.{demand as demand_is, Reads, Gives};
+ghost use Rattle.hdt_seq.specs.Sequence.{place_of_entry};
 ghost use Rattle.hdt_seq.specs.Numbers.{numbers_of};
 ghost use Rattle.hdt_front.specs.StringRows.{place_at, opened_at, unfolded_rows, string_row, strings_at};
 
@@ -49,6 +52,23 @@ impl<'a> Packed<'a> {
         self.base + (self.bytes.len() - rest.len())
     }
 
+    /// The row of the head of a block: its start is what is kept.
+    #[inline(never)]
+    fn demand_start(&self, i: u64, rest: &[u8]) -> Result<(), Fault>
+        requires here { i < self.now.count }
+        requires head { i % self.now.block ≡ 0 }
+        requires left { length rest.now ≤ length self.now.bytes.now }
+        ensures { result ≡ demand_is (get_or (packing_of self.now).starts (i / self.now.block) 0 == (packing_of self.now).size - length rest.now) (place_of_entry (packing_of self.now).starts_at (i / self.now.block)) BlockPlaceOf }
+    {
+        let entry = i / self.block;
+        let at = (self.bytes.len() - rest.len()) as u64;
+        demand(
+            self.starts.get(entry) == at,
+            self.starts.entry_place(entry) as usize,
+            Reason::BlockPlace,
+        )
+    }
+
     /// How much of the string before string i keeps, and the bytes from its text on; it is the head of its block where
     /// its number inside the block is 0.
     #[tactic(auto, unfolding(crate::specs::StringRows::opened_at))]
@@ -60,13 +80,7 @@ impl<'a> Packed<'a> {
         ensures left { IfOk result (λ x. length x.1.now ≤ length rest.now) }
     {
         if inside == 0 {
-            let entry = i / self.block;
-            let at = (self.bytes.len() - rest.len()) as u64;
-            demand(
-                self.starts.get(entry) == at,
-                self.starts.entry_place(entry) as usize,
-                Reason::BlockPlace,
-            )?;
+            self.demand_start(i, rest)?;
             return Ok((0, rest));
         }
         match read_front(rest) {

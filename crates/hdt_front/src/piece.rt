@@ -7,7 +7,17 @@ ghost use Rattle.hdt_front.specs.Unfolding.{read_or, text_from, kept, text_of, a
 use crate::scan::text_len;
 use hdt_wire::{Fault, read_vbyte};
 
+/// The number at the front, and where it ends, as `read_vbyte`: apart, since most have one byte.
+#[inline(never)]
+fn read_long(rest: &[u8]) -> Result<(u64, usize), Fault>
+    ensures exact { result ≡ vbyte_at rest.now 0 }
+    ensures end { IfOk result (λ x. x.1 ≤ length rest.now) }
+{
+    read_vbyte(rest, 0)
+}
+
 /// The number at the front, and where it ends, as `read_vbyte`; that of one byte at once.
+#[inline(always)]
 #[tactic(auto, using(crate::proofs::Inside::one_byte))]
 pub(crate) fn read_front(rest: &[u8]) -> Result<(u64, usize), Fault>
     ensures exact { result ≡ vbyte_at rest.now 0 }
@@ -16,7 +26,7 @@ pub(crate) fn read_front(rest: &[u8]) -> Result<(u64, usize), Fault>
     if !rest.is_empty() && rest[0] >= 128 {
         return Ok((u64::from(rest[0] - 128), 1));
     }
-    read_vbyte(rest, 0)
+    read_long(rest)
 }
 
 /// The number at the front, and where it ends; zeros where none is there.

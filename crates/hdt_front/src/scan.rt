@@ -92,5 +92,5 @@ pub(crate) fn text_seen(bytes: &[u8]) -> (usize, bool)
     if plain < bytes.len() && bytes[plain] == 0 {
         return (plain, true);
     }
-    (text_len(bytes), false)
+    (zero_in(bytes), false)
 }
