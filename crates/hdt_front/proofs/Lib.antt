@@ -11,3 +11,4 @@ pub mod Utf8
 pub mod Inside
 pub mod Following
 pub mod Inverse
+pub mod PlainLaws

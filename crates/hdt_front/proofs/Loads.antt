@@ -150,6 +150,10 @@ ascii_at x n i plain inside =
       | inr past ↦ omega (arith, get_or_past (take n x) i 0 (omega (arith, length-take-le n x (omega (arith, inside)), past)))
     ]
 
+-- each byte of a run of such bytes is below 128
+pub plain_byte : (x : List ℕ) (i : ℕ) → i < plain_in x → get_or x i 0 < 128
+plain_byte x i h = (no_zero (get_or x i 0) (prefix_len_passes is_plain x i 0 h)).1
+
 -- a run of such bytes up to a zero byte is an ASCII text
 pub plain_text : (x : List ℕ) (n : ℕ) → n ≤ plain_in x → n < length x → get_or x n 0 ≡ 0 → (n ≡ zero_in x) × (is_utf8 (take n x) ≡ true)
 plain_text x n plain inside ends = (

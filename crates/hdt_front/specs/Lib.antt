@@ -21,6 +21,7 @@ pub mod Halving
 pub mod Strings
 pub mod StringsLaws
 pub mod Reaching
+pub mod PlainPieces
 pub mod Searching
 pub mod Walking
 pub mod Walks

@@ -28,6 +28,7 @@ mod landed;
 mod laws;
 mod packed;
 mod piece;
+mod plain;
 mod reading;
 mod scan;
 mod search;

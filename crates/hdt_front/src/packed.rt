@@ -10,8 +10,9 @@ ghost use Rattle.hdt_front.specs.StringRows.{place_at, opened_at, unfolded_rows,
 
 use crate::fault::ReadFault;
 use crate::piece::read_front;
+use crate::plain::plain_piece;
 use crate::scan::text_seen;
-use crate::unfold::{ascends, unfold_tested};
+use crate::unfold::{ascends, unfold, unfold_tested};
 use hdt_seq::Numbers;
 use hdt_wire::{Fault, Reason, demand};
 use std::alloc::Global;
@@ -109,9 +110,10 @@ impl<'a> Packed<'a> {
         }
     }
 
-    /// Checks string i, which takes the place of the string before; what is left after it.
+    /// Checks string i by all its rows.
     #[tactic(auto, unfolding(crate::specs::StringRows::string_row))]
-    fn check_string<'b>(
+    #[inline(never)]
+    fn check_any<'b>(
         &self,
         i: u64,
         inside: u64,
@@ -136,6 +138,33 @@ impl<'a> Packed<'a> {
         let valid = unfold_tested(before, kept, &text[..end], ascii)?;
         demand_string(valid, later, place)?;
         Ok(&text[end + 1..])
+    }
+
+    /// Checks string i, which takes the place of the string before; what is left after it. Usual pieces are checked at
+    /// once, and the others, which are few, row by row.
+    fn check_string<'b>(
+        &self,
+        i: u64,
+        inside: u64,
+        before: &mut Vec<u8>,
+        rest: &'b [u8],
+    ) -> Result<&'b [u8], ReadFault>
+        requires here { i < self.now.count }
+        requires inside { inside ≡ i % self.now.block }
+        requires left { length rest.now ≤ length self.now.bytes.now }
+        requires utf8 { is_utf8 before.old.items ≡ true }
+        ensures utf8 { IfOk result (λ after. is_utf8 before.new.items ≡ true) }
+        ensures exact { Gives fault_of (λ after. (before.new.items, after.now)) result (string_row (packing_of self.now) i before.old.items rest.now) }
+        ensures left { IfOk result (λ after. length after.now ≤ length rest.now) }
+    {
+        if inside > 0 {
+            if let Some((kept, len)) = plain_piece(before, rest) {
+                let text = &rest[1..];
+                unfold(before, kept, &text[..len])?;
+                return Ok(&text[len + 1..]);
+            }
+        }
+        self.check_any(i, inside, before, rest)
     }
 
     /// Checks all strings.

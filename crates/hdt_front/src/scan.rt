@@ -65,7 +65,7 @@ pub(crate) fn text_len(bytes: &[u8]) -> usize
 
 /// How many bytes at the front are ASCII and not zero, as far as whole loads show.
 #[inline(always)]
-fn plain_len(bytes: &[u8]) -> usize
+pub(crate) fn plain_len(bytes: &[u8]) -> usize
     ensures plain { result ≤ plain_in bytes.now }
     ensures within { result ≤ length bytes.now }
 {
