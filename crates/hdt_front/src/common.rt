@@ -1,5 +1,6 @@
 //! How far two strings agree, 32 bytes at a time.
-ghost use Rattle.std.specs.Prelude.{◌≡◌, ◌≤◌, ◌<◌, ◌+◌, length, min, nat_eq};
+ghost use Rattle.std.specs.Prelude.{◌≡◌, ◌≤◌, ◌<◌, ◌+◌, length, min, take, slice_index, nat_eq};
+ghost use Rattle.hdt_wire.specs.Rows.{zero_in};
 ghost use Rattle.std.specs.List.{common_prefix_len};
 ghost use Rattle.hdt_front.specs.Reaching.{Reaches};
 ghost use Rattle.hdt_front.specs.Searching.{order, agreed};
@@ -126,4 +127,24 @@ pub(crate) fn compared(a: &[u8], b: &[u8]) -> (Ordering, usize)
         return (a[same].cmp(&b[same]), same);
     }
     (a.len().cmp(&b.len()), same)
+}
+
+/// The byte at a place, 0 behind the end.
+#[inline(always)]
+fn byte_or_zero(x: &[u8], at: usize) -> u8
+    ensures { result ≡ slice_index x.now at }
+{
+    if at < x.len() { x[at] } else { 0 }
+}
+
+/// How the text up to the first zero byte lies to a string without zero bytes, and how far they agree. Its end isn't
+/// sought: the zero byte there differs.
+pub(crate) fn compared_stored(stored: &[u8], x: &[u8]) -> (Ordering, usize)
+    requires ends { zero_in stored.now < length stored.now }
+    requires sought { zero_in x.now ≡ length x.now }
+    ensures order { result.0 ≡ order (take (zero_in stored.now) stored.now) x.now }
+    ensures same { result.1 ≡ agreed (take (zero_in stored.now) stored.now) x.now }
+{
+    let same = common_prefix(stored, x);
+    (stored[same].cmp(&byte_or_zero(x, same)), same)
 }

@@ -1,5 +1,5 @@
 //! The piece of a string: a number where it isn't the head of a block, a text, and a zero byte.
-ghost use Rattle.std.specs.Prelude.{◌≡◌, ◌≤◌, ◌<◌, length, IfOk};
+ghost use Rattle.std.specs.Prelude.{◌≡◌, ◌≤◌, ◌<◌, ◌+◌, length, drop, IfOk};
 ghost use Rattle.hdt_wire.specs.Rows.{zero_in};
 ghost use Rattle.hdt_wire.specs.VByte.{vbyte_at};
 ghost use Rattle.hdt_front.specs.Unfolding.{read_or, text_from, kept, text_of, after_piece};
@@ -52,4 +52,12 @@ pub(crate) fn piece_of(head: bool, rest: &[u8]) -> (u64, &[u8], &[u8])
     let from = rest.split_at(end).1;
     let len = text_len(from);
     (kept, from.split_at(len).0, from.split_at(len + 1).1)
+}
+
+/// What is left after the text at the front and its zero byte.
+pub(crate) fn behind_text(bytes: &[u8]) -> &[u8]
+    requires { zero_in bytes.now < length bytes.now }
+    ensures { result.now ≡ drop (zero_in bytes.now + 1) bytes.now }
+{
+    bytes.split_at(text_len(bytes) + 1).1
 }
