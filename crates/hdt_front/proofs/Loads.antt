@@ -1,5 +1,5 @@
 -- From the mask of one load to the bytes that it tells of.
-use Rattle.std.proofs.Common.{◌≡◌, ℕ, zero, suc, ◌+◌, ◌*◌, ◌^◌, ◌%◌, ◌<◌, ◌≤◌, Bool, true, false, not, cond, List, [], ◌∷◌, length, map, take, drop, nat_eq, min, refl, sym, ap, ◌∙◌, arith, w8, get_or, Fits, nat_lt, ltb-true, inl, inr, length-take-le, ◌&&◌}
+use Rattle.std.proofs.Common.{◌≡◌, ℕ, zero, suc, ◌+◌, ◌^◌, ◌%◌, ◌<◌, ◌≤◌, Bool, true, false, not, cond, List, [], ◌∷◌, length, map, take, drop, nat_eq, min, refl, sym, ap, ◌∙◌, arith, w8, get_or, Fits, nat_lt, ltb-true, inl, inr, length-take-le, ◌&&◌}
 use Rattle.std.proofs.lemmas.List.{map-id, length-map, get_or-take, get_or_past}
 use Rattle.std.proofs.lemmas.Simd.{tops_compared, mask_l-mod, first_set_mask_l, length-zip2, length-chunk, map-map, get_or-chunk}
 use Rattle.std.proofs.lemmas.Bool.{agree_below, agree_below_at, cases_lt, eq-eqb}

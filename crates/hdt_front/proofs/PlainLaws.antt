@@ -5,8 +5,6 @@ use Rattle.std.specs.Ordering.{is_lt}
 use Rattle.std.specs.Str.{is_utf8}
 use Rattle.std.proofs.lemmas.Str.{IsCharBoundary-before_ascii}
 use Rattle.std.proofs.lemmas.List.{get_or-take, get_or-drop}
-use Rattle.hdt_wire.specs.Rows.{zero_in}
-use Rattle.hdt_wire.specs.VByte.{vbyte_at}
 use Rattle.hdt_front.specs.Unfolding.{is_head}
 use Rattle.hdt_front.specs.StringRows.{Packing, precedes, opened_at, string_row}
 use Rattle.hdt_front.specs.Reaching.{plain_in}

@@ -1,4 +1,4 @@
-use Rattle.std.proofs.Common.{◌≤◌, ◌-◌, length, nat_eq}
+use Rattle.std.proofs.Common.{◌≤◌, ◌-◌, nat_eq}
 use Rattle.std.specs.List.{common_prefix_len}
 use Rattle.hdt_front.proofs.common.common_prefix.Given as goal
 

@@ -1,4 +1,4 @@
-use Rattle.std.proofs.Common.{◌≡◌, ℕ, arith, ap, sym, ◌∙◌, get_or}
+use Rattle.std.proofs.Common.{ℕ, arith, ap, sym, ◌∙◌, get_or}
 use Rattle.std.specs.Ordering.{nat_cmp}
 use Rattle.hdt_front.proofs.AgreeLaws.{stored_lies}
 use Rattle.hdt_front.proofs.common.compared_stored.Goals as goal
