@@ -1,11 +1,16 @@
 -- How the order of strings goes by the front that is kept.
-use Rattle.std.proofs.Common.{◌≡◌, ℕ, ◌+◌, ◌<◌, ◌≤◌, zero, suc, List, [], ◌∷◌, ◌++◌, length, take, drop, refl, sym, ap, arith, Bool, true, false, nat_eq, cond, get_or}
+use Rattle.std.proofs.Common.{◌≡◌, ℕ, ◌+◌, ◌<◌, ◌≤◌, zero, suc, List, [], ◌∷◌, ◌++◌, length, take, drop, refl, sym, ap, arith, Bool, true, false, nat_eq, cond, get_or, ◌∙◌, length-take-le}
 use Rattle.std.proofs.Common.{Ordering, nat_lt}
 use Rattle.std.specs.declared.cmp.Ordering.TheVariants.{Less, Equal, Greater}
 use Rattle.std.specs.Ordering.{nat_cmp, ordering_then}
 use Rattle.std.specs.Cmp.Lexicographic.{slice_cmp}
 use Rattle.std.specs.List.{common_prefix_len}
 use Rattle.std.proofs.lemmas.Bool.Decides.{nat_tests}
+use Rattle.std.proofs.lemmas.List.Sums.{common_prefix_len-le}
+use Rattle.hdt_wire.specs.Rows.{zero_in}
+use Rattle.hdt_front.specs.Folding.{NoZero}
+use Rattle.hdt_front.specs.StringsFound.{split_zero, text_no_zero}
+use Rattle.hdt_front.proofs.Following.{no_zero}
 
 abbrev pub order : List ℕ → List ℕ → Ordering
 order x y = slice_cmp nat_cmp x y
@@ -94,3 +99,60 @@ lengths_decide [] (y ∷ b) k e ends = sym (none_less (length b))
 lengths_decide (x ∷ a) [] k e ends = sym (some_greater (length a))
 lengths_decide (x ∷ a) (y ∷ b) k e ends =
     rw (← further_cmp (length a) (length b)) (lengths_step (nat_lt x y) (nat_eq x y) (apart x y) (agreed a b) k (length a) (length b) (order a b) (λ j h i. lengths_decide a b j h i) e ends)
+
+stored_step : (lt eq : Bool) → (lt ≡ true → eq ≡ true → ⊥) → (c d : ℕ) (p x : List ℕ) (n k : ℕ) (o : Ordering) → nat_cmp c d ≡ cond lt Less (cond eq Equal Greater)
+    → ((j : ℕ) → j ≡ n → o ≡ nat_cmp (get_or p j 0) (get_or x j 0)) → k ≡ cond eq (1 + n) 0 → both lt eq o ≡ nat_cmp (get_or (c ∷ p) k 0) (get_or (d ∷ x) k 0)
+stored_step true true not_both c d p x n k o is rest e = absurd (not_both refl refl)
+stored_step true false not_both c d p x n zero o is rest e = sym is
+stored_step false false not_both c d p x n zero o is rest e = sym is
+stored_step true false not_both c d p x n (suc k) o is rest e = absurd (omega (arith, e))
+stored_step false false not_both c d p x n (suc k) o is rest e = absurd (omega (arith, e))
+stored_step false true not_both c d p x n zero o is rest e = absurd (omega (arith, e))
+stored_step false true not_both c d p x n (suc k) o is rest e = rest k (omega (arith, e))
+
+zero_first : (d : ℕ) → nat_eq d 0 ≡ false → (nat_eq 0 d ≡ false) × (Less ≡ nat_cmp 0 d)
+zero_first d h = (grind (arith, nat_tests, h), grind (arith, nat_tests, h))
+
+byte_first : (c : ℕ) → nat_eq c 0 ≡ false → Greater ≡ nat_cmp c 0
+byte_first c h = grind (arith, nat_tests, h)
+
+-- a text that ends at a zero byte agrees with a string without zero bytes as far as the bytes there do
+pub stored_agrees : (text more x : List ℕ) → NoZero x → agreed ((text ++ 0 ∷ []) ++ more) x ≡ agreed text x
+unfolding NoZero
+stored_agrees [] more [] h = refl
+stored_agrees [] more (d ∷ x) h = ap (λ (t : Bool). cond t (1 + agreed more x) 0) (zero_first d h.0).0
+stored_agrees (c ∷ text) more [] h = refl
+stored_agrees (c ∷ text) more (d ∷ x) h = ap (λ n. cond (nat_eq c d) (1 + n) 0) (stored_agrees text more x h.1)
+
+-- and the bytes behind those decide
+pub stored_decides : (text more x : List ℕ) (k : ℕ) → NoZero text → NoZero x → k ≡ agreed ((text ++ 0 ∷ []) ++ more) x
+    → order text x ≡ nat_cmp (get_or ((text ++ 0 ∷ []) ++ more) k 0) (get_or x k 0)
+unfolding NoZero
+stored_decides [] more [] zero t h e = refl
+stored_decides [] more [] (suc k) t h e = absurd (omega (arith, e))
+stored_decides [] more (d ∷ x) zero t h e = (zero_first d h.0).1
+stored_decides [] more (d ∷ x) (suc k) t h e = absurd (omega (arith, e, ap (λ (t : Bool). cond t (1 + agreed more x) 0) (zero_first d h.0).0))
+stored_decides (c ∷ text) more [] zero t h e = byte_first c t.0
+stored_decides (c ∷ text) more [] (suc k) t h e = absurd (omega (arith, e))
+stored_decides (c ∷ text) more (d ∷ x) k t h e =
+    stored_step (nat_lt c d) (nat_eq c d) (apart c d) c d ((text ++ 0 ∷ []) ++ more) x (agreed ((text ++ 0 ∷ []) ++ more) x) k (order text x) refl (λ j f. stored_decides text more x j t.1 h.1 f) e
+
+-- how a text lies that is stored up to a zero byte
+pub record StoredLies (stored x : List ℕ) : Type 0 where
+  pub order : order (take (zero_in stored) stored) x ≡ nat_cmp (get_or stored (agreed stored x) 0) (get_or x (agreed stored x) 0)
+  pub same : agreed stored x ≡ agreed (take (zero_in stored) stored) x
+  pub inside : agreed stored x ≤ zero_in stored
+
+pub stored_lies : (stored x : List ℕ) → zero_in stored < length stored → zero_in x ≡ length x → StoredLies stored x
+stored_lies stored x ends sought =
+    let text : List ℕ = take (zero_in stored) stored in
+    let more : List ℕ = drop (zero_in stored + 1) stored in
+    let split : stored ≡ (text ++ 0 ∷ []) ++ more = split_zero stored ends in
+    let none = no_zero x sought in
+    let same : agreed stored x ≡ agreed text x = ap (λ (s : List ℕ). agreed s x) split ∙ stored_agrees text more x none in
+    record {
+      order = stored_decides text more x (agreed stored x) (text_no_zero stored) none (ap (λ (s : List ℕ). agreed s x) split)
+          ∙ ap (λ (s : List ℕ). nat_cmp (get_or s (agreed stored x) 0) (get_or x (agreed stored x) 0)) (sym split);
+      same = same;
+      inside = omega (arith, same, (common_prefix_len-le nat_eq text x).0, length-take-le (zero_in stored) stored (omega (arith, ends)));
+    }

@@ -11,7 +11,7 @@ use Rattle.hdt_front.specs.StringRows.{precedes}
 use Rattle.hdt_front.specs.Folding.{NoZero, Ascending}
 use Rattle.hdt_front.specs.FoldingLaws.{nonzero_from, nonzero_to}
 
-no_zero : (s : List ℕ) → zero_in s ≡ length s → NoZero s
+pub no_zero : (s : List ℕ) → zero_in s ≡ length s → NoZero s
 no_zero s e =
     let p : ℕ → Bool = λ n. not (eqb n 0) in
     let none : HasNoZero s = λ k d lt.
@@ -23,7 +23,7 @@ no_zero s e =
 nonzero : (b : ℕ) → b ≢ 0 → eqb b 0 ≡ false
 nonzero b ne = grind (arith, ne)
 
-zero_none : (s : List ℕ) → NoZero s → zero_in s ≡ length s
+pub zero_none : (s : List ℕ) → NoZero s → zero_in s ≡ length s
 zero_none s h = position_or_len_is (λ b. eqb b 0) s (length s) 0 (omega arith) (λ j lt. nonzero (get_or s j 0) (nonzero_from s h j 0 lt)) (λ lt. absurd (omega (arith, lt)))
 
 abbrev can : ℕ → List ℕ → List ℕ → Bool

@@ -1,5 +1,5 @@
 -- Looking up by string and by number are inverse; blocks are as few as can be.
-use Rattle.std.proofs.Common.{◌≡◌, ℕ, zero, suc, ◌+◌, ◌-◌, ◌*◌, ◌/◌, ◌<◌, ◌≤◌, Bool, true, false, cond, List, [], ◌∷◌, length, get_or, Option, Some, None, refl, sym, ap, ◌∙◌, arith, inl, inr, Ordering}
+use Rattle.std.proofs.Common.{◌≡◌, ℕ, zero, suc, ◌+◌, ◌-◌, ◌*◌, ◌/◌, ◌<◌, ◌≤◌, Bool, true, false, cond, List, [], ◌∷◌, length, get_or, Option, Some, None, refl, sym, ap, ◌∙◌, arith, subst, inl, inr, Ordering}
 use Rattle.std.specs.Prelude.{option_map}
 use Rattle.std.specs.Str.{bytes_eq}
 use Rattle.std.specs.Ordering.{nat_cmp, is_eq}
@@ -10,6 +10,12 @@ use Rattle.std.proofs.lemmas.Map.Text.{is_eq-slice_cmp}
 use Rattle.std.proofs.lemmas.Bool.{cases_lt}
 use Rattle.std.proofs.Math.Nat.{lt-div-mul-add, div-mul-le_self, mul-le-mul_left}
 use Rattle.hdt_front.specs.declared.section.Section.{Section}
+use Rattle.hdt_wire.specs.Rows.{zero_in}
+use Rattle.hdt_front.specs.Unfolding.{is_head, string_of_piece, after_piece, unfolded}
+use Rattle.hdt_front.specs.Folding.{NoZero}
+use Rattle.hdt_front.specs.StringsFound.{string_no_zero}
+use Rattle.hdt_front.specs.StringSteps.{length-unfolded}
+use Rattle.hdt_front.proofs.Following.{zero_none}
 use Rattle.hdt_front.specs.Numbering.{place}
 use Rattle.hdt_front.specs.Packed.{packing_of}
 use Rattle.hdt_front.specs.Strings.{strings_of, blocks_of, block_size}
@@ -95,3 +101,26 @@ none_by n b e = ap (λ n. (n + (b - 1)) / b) e ∙ no_strings b
 pub none : (s : Section) → length (strings_of s) ≡ 0 → blocks_of s ≡ 0
 unfolding blocks_of
 none s e = let p = s.packed in none_by p.count p.block (omega (arith, e, count_is s))
+
+unfolded_no_zero : (b n i : ℕ) (before rest : List ℕ) (k : ℕ) → NoZero before → k < n → NoZero (get_or (unfolded b n i before rest) k [])
+unfolding unfolded
+unfolded_no_zero b zero i before rest k none h = absurd (omega (arith, h))
+unfolded_no_zero b (suc n) i before rest zero none h = string_no_zero (is_head b i) before rest none
+unfolded_no_zero b (suc n) i before rest (suc k) none h =
+    unfolded_no_zero b n (i + 1) (string_of_piece (is_head b i) before rest) (after_piece (is_head b i) rest) k (string_no_zero (is_head b i) before rest none) (omega (arith, h))
+
+string_has_none : (s : Section) (k : ℕ) → k < length (strings_of s) → NoZero (get_or (strings_of s) k [])
+unfolding strings_of NoZero
+string_has_none s k h = unfolded_no_zero s.packed.block s.packed.count 0 [] s.packed.bytes.now k tt (omega (arith, h, length-unfolded s.packed.block s.packed.count 0 [] s.packed.bytes.now))
+
+by_none : (r : Option ℕ) → ((n : ℕ) → r ≡ Some n → ⊥) → None ≡ r
+by_none (Some n) h = absurd (h n refl)
+by_none None h = refl
+
+-- a string with a zero byte is in no section
+pub zero_absent : (s : Section) (x : List ℕ) → zero_in x < length x → None ≡ place (strings_of s) x
+zero_absent s x h =
+    by_none (place (strings_of s) x) (λ n e.
+    let f = found s x n e in
+    let none : NoZero x = subst NoZero f.2 (string_has_none s (n - 1) (omega (arith, f.0, f.1))) in
+    omega (arith, h, zero_none x none))

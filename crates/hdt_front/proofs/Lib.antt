@@ -6,8 +6,9 @@ pub mod Ascent
 pub mod Lies
 pub mod Strings
 pub mod Folds
-pub mod Words
+pub mod Loads
 pub mod Utf8
 pub mod Inside
 pub mod Following
 pub mod Inverse
+pub mod PlainLaws

@@ -20,6 +20,8 @@ pub mod Numbering
 pub mod Halving
 pub mod Strings
 pub mod StringsLaws
+pub mod Reaching
+pub mod PlainPieces
 pub mod Searching
 pub mod Walking
 pub mod Walks

@@ -35,7 +35,7 @@ text_by_test c xs false e h =
     let made : NoZero (take (suc (zero_in xs)) (c ∷ xs)) = (e, h) in
     subst (λ (k : ℕ). NoZero (take k (c ∷ xs))) one made
 
-text_no_zero : (xs : List ℕ) → NoZero (take (zero_in xs) xs)
+pub text_no_zero : (xs : List ℕ) → NoZero (take (zero_in xs) xs)
 unfolding NoZero
 text_no_zero [] = tt
 text_no_zero (c ∷ xs) = text_by_test c xs (nat_eq c 0) refl (text_no_zero xs)
@@ -44,7 +44,7 @@ not-false : (b : Bool) → not b ≡ false → b ≡ true
 not-false true e = refl
 not-false false e = sym e
 
-split_zero : (t : List ℕ) → zero_in t < length t → t ≡ (take (zero_in t) t ++ 0 ∷ []) ++ drop (zero_in t + 1) t
+pub split_zero : (t : List ℕ) → zero_in t < length t → t ≡ (take (zero_in t) t ++ 0 ∷ []) ++ drop (zero_in t + 1) t
 split_zero t h =
     let zero_is : get_or t (zero_in t) 0 ≡ 0 = eqb-true _ _ (not-false _ (prefix_len_stops (λ n. not (nat_eq n 0)) t 0 h)) in
     sym (take-append-drop (zero_in t + 1) t) ∙ ap (λ (l : List ℕ). l ++ drop (zero_in t + 1) t) (take_more t (zero_in t) 0 h ∙ ap (λ (c : ℕ). take (zero_in t) t ++ c ∷ []) zero_is)
@@ -99,7 +99,7 @@ or_right : (a b : Bool) → (a || b) ≡ true → (a ≡ false → b ≡ true)
 or_right true b h = λ e. absurd (cc)
 or_right false b h = λ e. h
 
-string_no_zero : (h : Bool) (before rest : List ℕ) → NoZero before → NoZero (string_of_piece h before rest)
+pub string_no_zero : (h : Bool) (before rest : List ℕ) → NoZero before → NoZero (string_of_piece h before rest)
 unfolding string_of_piece text_of
 string_no_zero h before rest none = append_no_zero (take (kept h rest) before) _ (take_no_zero (kept h rest) before none) (text_no_zero (text_from h rest))
 

@@ -1,27 +1,60 @@
-//! How far two strings agree.
-ghost use Rattle.std.specs.Prelude.{◌≡◌, ◌≤◌, ◌+◌, length, drop, nat_eq};
+//! How far two strings agree, 32 bytes at a time.
+ghost use Rattle.std.specs.Prelude.{◌≡◌, ◌≤◌, ◌<◌, ◌+◌, length, min, take, slice_index, nat_eq};
+ghost use Rattle.hdt_wire.specs.Rows.{zero_in};
 ghost use Rattle.std.specs.List.{common_prefix_len};
+ghost use Rattle.hdt_front.specs.Reaching.{Reaches};
 ghost use Rattle.hdt_front.specs.Searching.{order, agreed};
 
-use byteorder::{ByteOrder, LittleEndian};
+use crate::scan::{LANES, first_set};
 use std::cmp::Ordering;
+use std::simd::prelude::*;
 
-/// How many bytes two strings have in common at their front, as far as whole words of eight bytes agree.
-fn common_words(a: &[u8], b: &[u8]) -> usize
-    ensures so_far { result + common_prefix_len nat_eq (drop result a.now) (drop result b.now) ≡ common_prefix_len nat_eq a.now b.now }
-    ensures within { (result ≤ length a.now) × (result ≤ length b.now) }
+/// The bytes of one load where fewer than [`LANES`] are to be compared.
+const HALF: usize = 16;
+
+/// The bytes of one load where fewer than [`HALF`] are to be compared.
+const WORD: usize = 8;
+
+/// How many of the next 32 bytes agree.
+#[inline(always)]
+fn lanes_agree(a: &[u8], b: &[u8], at: usize) -> usize
+    requires in_a { at + LANES ≤ length a.now }
+    requires in_b { at + LANES ≤ length b.now }
+    requires so_far { at ≤ common_prefix_len nat_eq a.now b.now }
+    ensures { Reaches (common_prefix_len nat_eq a.now b.now) at LANES result }
 {
-    let least = a.len().min(b.len());
-    let mut len = 0;
-    while least - len >= 8
-        && LittleEndian::read_u64(a.split_at(len).1) == LittleEndian::read_u64(b.split_at(len).1)
-    {
-        len += 8;
-    }
-    len
+    let left = u8x32::from_slice(&a[at..]);
+    let right = u8x32::from_slice(&b[at..]);
+    first_set(left.simd_ne(right).to_bitmask(), LANES)
 }
 
-/// The same, byte by byte.
+/// How many of the next 16 bytes agree.
+#[inline(always)]
+fn half_agrees(a: &[u8], b: &[u8], at: usize) -> usize
+    requires in_a { at + HALF ≤ length a.now }
+    requires in_b { at + HALF ≤ length b.now }
+    requires so_far { at ≤ common_prefix_len nat_eq a.now b.now }
+    ensures { Reaches (common_prefix_len nat_eq a.now b.now) at HALF result }
+{
+    let left = u8x16::from_slice(&a[at..]);
+    let right = u8x16::from_slice(&b[at..]);
+    first_set(left.simd_ne(right).to_bitmask(), HALF)
+}
+
+/// How many of the next 8 bytes agree.
+#[inline(always)]
+fn word_agrees(a: &[u8], b: &[u8], at: usize) -> usize
+    requires in_a { at + WORD ≤ length a.now }
+    requires in_b { at + WORD ≤ length b.now }
+    requires so_far { at ≤ common_prefix_len nat_eq a.now b.now }
+    ensures { Reaches (common_prefix_len nat_eq a.now b.now) at WORD result }
+{
+    let left = u8x8::from_slice(&a[at..]);
+    let right = u8x8::from_slice(&b[at..]);
+    first_set(left.simd_ne(right).to_bitmask(), WORD)
+}
+
+/// How far two strings agree, byte by byte.
 fn common_bytes(a: &[u8], b: &[u8]) -> usize
     ensures greatest { result ≡ common_prefix_len nat_eq a.now b.now }
     ensures within { (result ≤ length a.now) × (result ≤ length b.now) }
@@ -33,14 +66,53 @@ fn common_bytes(a: &[u8], b: &[u8]) -> usize
     len
 }
 
+/// How far two strings agree of which one is shorter than 32 bytes: by two loads, which may overlap, or byte by byte.
+#[inline(always)]
+#[tactic(auto, using(crate::proofs::Loads::agreed_least))]
+fn common_short(a: &[u8], b: &[u8]) -> usize
+    requires short { min (length a.now) (length b.now) < LANES }
+    ensures greatest { result ≡ common_prefix_len nat_eq a.now b.now }
+    ensures within { (result ≤ length a.now) × (result ≤ length b.now) }
+{
+    let least = a.len().min(b.len());
+    if least >= HALF {
+        let same = half_agrees(a, b, 0);
+        if same < HALF {
+            return same;
+        }
+        return least - HALF + half_agrees(a, b, least - HALF);
+    }
+    if least >= WORD {
+        let same = word_agrees(a, b, 0);
+        if same < WORD {
+            return same;
+        }
+        return least - WORD + word_agrees(a, b, least - WORD);
+    }
+    common_bytes(a, b)
+}
+
 /// How many bytes two strings have in common at their front: the greatest number, at most both lengths, of first bytes
-/// that are equal. It goes by words of eight bytes.
+/// that are equal. It compares 32 bytes at a time, fewer where a string is shorter.
+#[tactic(auto, using(crate::proofs::Loads::agreed_least))]
 pub fn common_prefix(a: &[u8], b: &[u8]) -> usize
     ensures greatest { result ≡ common_prefix_len nat_eq a.now b.now }
     ensures within { (result ≤ length a.now) × (result ≤ length b.now) }
 {
-    let words = common_words(a, b);
-    words + common_bytes(a.split_at(words).1, b.split_at(words).1)
+    let least = a.len().min(b.len());
+    if least < LANES {
+        return common_short(a, b);
+    }
+    let mut at = 0;
+    while least - at > LANES {
+        let same = lanes_agree(a, b, at);
+        if same < LANES {
+            return at + same;
+        }
+        at += LANES;
+    }
+    // The last load may overlap the one before.
+    least - LANES + lanes_agree(a, b, least - LANES)
 }
 
 /// How a string lies to another one, and how far they agree: the first bytes that differ decide, else the lengths.
@@ -55,4 +127,24 @@ pub(crate) fn compared(a: &[u8], b: &[u8]) -> (Ordering, usize)
         return (a[same].cmp(&b[same]), same);
     }
     (a.len().cmp(&b.len()), same)
+}
+
+/// The byte at a place, 0 behind the end.
+#[inline(always)]
+fn byte_or_zero(x: &[u8], at: usize) -> u8
+    ensures { result ≡ slice_index x.now at }
+{
+    if at < x.len() { x[at] } else { 0 }
+}
+
+/// How the text up to the first zero byte lies to a string without zero bytes, and how far they agree. Its end isn't
+/// sought: the zero byte there differs.
+pub(crate) fn compared_stored(stored: &[u8], x: &[u8]) -> (Ordering, usize)
+    requires ends { zero_in stored.now < length stored.now }
+    requires sought { zero_in x.now ≡ length x.now }
+    ensures order { result.0 ≡ order (take (zero_in stored.now) stored.now) x.now }
+    ensures same { result.1 ≡ agreed (take (zero_in stored.now) stored.now) x.now }
+{
+    let same = common_prefix(stored, x);
+    (stored[same].cmp(&byte_or_zero(x, same)), same)
 }

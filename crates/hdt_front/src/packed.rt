@@ -1,15 +1,20 @@
 //! The strings of a section, checked one after another.
 ghost use Rattle.std.specs.Prelude.{◌≡◌, ◌≤◌, ◌<◌, ◌+◌, ◌-◌, ◌/◌, ◌%◌, ◌^◌, true, length, [], IfOk, ℕ, List, Ok, get_or};
 ghost use Rattle.std.specs.Str.{is_utf8};
-ghost use Rattle.hdt_wire.specs.Rows.{Reads, Gives};
+ghost use Rattle.std.specs.Prelude.{◌==◌};
+ghost use Rattle.hdt_wire.specs.declared.fault.Reason.TheVariants.{BlockPlace as BlockPlaceOf};
+ghost use Rattle.hdt_wire.specs.Rows.{demand as demand_is, Reads, Gives};
+ghost use Rattle.hdt_seq.specs.Sequence.{place_of_entry};
 ghost use Rattle.hdt_seq.specs.Numbers.{numbers_of};
 ghost use Rattle.hdt_front.specs.StringRows.{place_at, opened_at, unfolded_rows, string_row, strings_at};
 
 use crate::fault::ReadFault;
 use crate::piece::read_front;
-use crate::unfold::{ascends, unfold_tested};
+use crate::plain::plain_piece;
+use crate::scan::text_seen;
+use crate::unfold::{ascends, unfold, unfold_tested};
 use hdt_seq::Numbers;
-use hdt_wire::{Fault, Reason, demand, zero_in};
+use hdt_wire::{Fault, Reason, demand};
 use std::alloc::Global;
 
 /// How strings lie folded in the input: their packed bytes, the starts of their blocks, how many strings there are, how
@@ -48,6 +53,23 @@ impl<'a> Packed<'a> {
         self.base + (self.bytes.len() - rest.len())
     }
 
+    /// The row of the head of a block: its start is what is kept.
+    #[inline(never)]
+    fn demand_start(&self, i: u64, rest: &[u8]) -> Result<(), Fault>
+        requires here { i < self.now.count }
+        requires head { i % self.now.block ≡ 0 }
+        requires left { length rest.now ≤ length self.now.bytes.now }
+        ensures { result ≡ demand_is (get_or (packing_of self.now).starts (i / self.now.block) 0 == (packing_of self.now).size - length rest.now) (place_of_entry (packing_of self.now).starts_at (i / self.now.block)) BlockPlaceOf }
+    {
+        let entry = i / self.block;
+        let at = (self.bytes.len() - rest.len()) as u64;
+        demand(
+            self.starts.get(entry) == at,
+            self.starts.entry_place(entry) as usize,
+            Reason::BlockPlace,
+        )
+    }
+
     /// How much of the string before string i keeps, and the bytes from its text on; it is the head of its block where
     /// its number inside the block is 0.
     #[tactic(auto, unfolding(crate::specs::StringRows::opened_at))]
@@ -59,13 +81,7 @@ impl<'a> Packed<'a> {
         ensures left { IfOk result (λ x. length x.1.now ≤ length rest.now) }
     {
         if inside == 0 {
-            let entry = i / self.block;
-            let at = (self.bytes.len() - rest.len()) as u64;
-            demand(
-                self.starts.get(entry) == at,
-                self.starts.entry_place(entry) as usize,
-                Reason::BlockPlace,
-            )?;
+            self.demand_start(i, rest)?;
             return Ok((0, rest));
         }
         match read_front(rest) {
@@ -94,9 +110,10 @@ impl<'a> Packed<'a> {
         }
     }
 
-    /// Checks string i, which takes the place of the string before; what is left after it.
+    /// Checks string i by all its rows.
     #[tactic(auto, unfolding(crate::specs::StringRows::string_row))]
-    fn check_string<'b>(
+    #[inline(never)]
+    fn check_any<'b>(
         &self,
         i: u64,
         inside: u64,
@@ -115,12 +132,39 @@ impl<'a> Packed<'a> {
         let place = self.place(rest);
         demand(kept <= before.len() as u64, place, Reason::PrefixTooLong)?;
         let kept = kept as usize;
-        let end = zero_in(text);
+        let (end, ascii) = text_seen(text);
         demand(end < text.len(), self.place(text), Reason::PackedLength)?;
         let later = ascends(i == 0, before, kept, &text[..end]);
-        let valid = unfold_tested(before, kept, &text[..end])?;
+        let valid = unfold_tested(before, kept, &text[..end], ascii)?;
         demand_string(valid, later, place)?;
         Ok(&text[end + 1..])
+    }
+
+    /// Checks string i, which takes the place of the string before; what is left after it. Usual pieces are checked at
+    /// once, and the others, which are few, row by row.
+    fn check_string<'b>(
+        &self,
+        i: u64,
+        inside: u64,
+        before: &mut Vec<u8>,
+        rest: &'b [u8],
+    ) -> Result<&'b [u8], ReadFault>
+        requires here { i < self.now.count }
+        requires inside { inside ≡ i % self.now.block }
+        requires left { length rest.now ≤ length self.now.bytes.now }
+        requires utf8 { is_utf8 before.old.items ≡ true }
+        ensures utf8 { IfOk result (λ after. is_utf8 before.new.items ≡ true) }
+        ensures exact { Gives fault_of (λ after. (before.new.items, after.now)) result (string_row (packing_of self.now) i before.old.items rest.now) }
+        ensures left { IfOk result (λ after. length after.now ≤ length rest.now) }
+    {
+        if inside > 0 {
+            if let Some((kept, len)) = plain_piece(before, rest) {
+                let text = &rest[1..];
+                unfold(before, kept, &text[..len])?;
+                return Ok(&text[len + 1..]);
+            }
+        }
+        self.check_any(i, inside, before, rest)
     }
 
     /// Checks all strings.

@@ -1,12 +1,23 @@
 //! The piece of a string: a number where it isn't the head of a block, a text, and a zero byte.
-ghost use Rattle.std.specs.Prelude.{◌≡◌, ◌≤◌, ◌<◌, length, IfOk};
+ghost use Rattle.std.specs.Prelude.{◌≡◌, ◌≤◌, ◌<◌, ◌+◌, length, drop, IfOk};
 ghost use Rattle.hdt_wire.specs.Rows.{zero_in};
 ghost use Rattle.hdt_wire.specs.VByte.{vbyte_at};
 ghost use Rattle.hdt_front.specs.Unfolding.{read_or, text_from, kept, text_of, after_piece};
 
-use hdt_wire::{Fault, read_vbyte, zero_in};
+use crate::scan::text_len;
+use hdt_wire::{Fault, read_vbyte};
+
+/// The number at the front, and where it ends, as `read_vbyte`: apart, since most have one byte.
+#[inline(never)]
+fn read_long(rest: &[u8]) -> Result<(u64, usize), Fault>
+    ensures exact { result ≡ vbyte_at rest.now 0 }
+    ensures end { IfOk result (λ x. x.1 ≤ length rest.now) }
+{
+    read_vbyte(rest, 0)
+}
 
 /// The number at the front, and where it ends, as `read_vbyte`; that of one byte at once.
+#[inline(always)]
 #[tactic(auto, using(crate::proofs::Inside::one_byte))]
 pub(crate) fn read_front(rest: &[u8]) -> Result<(u64, usize), Fault>
     ensures exact { result ≡ vbyte_at rest.now 0 }
@@ -15,7 +26,7 @@ pub(crate) fn read_front(rest: &[u8]) -> Result<(u64, usize), Fault>
     if !rest.is_empty() && rest[0] >= 128 {
         return Ok((u64::from(rest[0] - 128), 1));
     }
-    read_vbyte(rest, 0)
+    read_long(rest)
 }
 
 /// The number at the front, and where it ends; zeros where none is there.
@@ -39,6 +50,14 @@ pub(crate) fn piece_of(head: bool, rest: &[u8]) -> (u64, &[u8], &[u8])
 {
     let (kept, end) = if head { (0, 0) } else { read_or_zero(rest) };
     let from = rest.split_at(end).1;
-    let len = zero_in(from);
+    let len = text_len(from);
     (kept, from.split_at(len).0, from.split_at(len + 1).1)
+}
+
+/// What is left after the text at the front and its zero byte.
+pub(crate) fn behind_text(bytes: &[u8]) -> &[u8]
+    requires { zero_in bytes.now < length bytes.now }
+    ensures { result.now ≡ drop (zero_in bytes.now + 1) bytes.now }
+{
+    bytes.split_at(text_len(bytes) + 1).1
 }

@@ -7,11 +7,12 @@ ghost use Rattle.hdt_front.specs.Facts.{rest_at};
 ghost use Rattle.hdt_front.specs.declared.landed.Lie.TheVariants.{Less as LessOf};
 ghost use Rattle.hdt_front.specs.Searching.{order, agreed, IsLess, LiesSo, Lands};
 
-use crate::common::compared;
+use crate::common::{compared, compared_stored};
 use crate::landed::{Landed, Lie};
-use crate::piece::piece_of;
+use crate::piece::{behind_text, piece_of};
 use crate::section::Section;
 use hdt_seq::Steps;
+use hdt_wire::zero_in;
 use std::cmp::Ordering;
 
 /// What a kept length says alone: where more is kept of the string before than agrees, a string lies as that one does.
@@ -46,24 +47,27 @@ impl<'a> Section<'a> {
     ghost use Rattle.hdt_front.specs.Numbering.{place};
     ghost use Rattle.hdt_front.specs.Halving.{digits};
 
-    /// A look at the head of a block: how it lies to the sought string, how far they agree, and what is left after it.
+    /// A look at the head of a block: how it lies to the sought string, how far they agree, and the bytes from it on.
     fn look_at_head(&self, block: u64, x: &[u8], steps: &mut Steps) -> (Ordering, usize, &'a [u8])
-        requires { block < blocks_of self.now }
+        requires block { block < blocks_of self.now }
+        requires sought { zero_in x.now ≡ length x.now }
         ensures order { result.0 ≡ order (get_or (strings_of self.now) (block * self.now.packed.block) []) x.now }
         ensures same { result.1 ≡ agreed (get_or (strings_of self.now) (block * self.now.packed.block) []) x.now }
-        ensures rest { result.2.now ≡ rest_at self.now.packed.block (block * self.now.packed.block + 1) self.now.packed.bytes.now }
+        ensures ends { zero_in result.2.now < length result.2.now }
+        ensures rest { drop (zero_in result.2.now + 1) result.2.now ≡ rest_at self.now.packed.block (block * self.now.packed.block + 1) self.now.packed.bytes.now }
         ensures cost { steps.new ≡ steps.old + 1 }
     {
         steps.tick();
-        let (string, rest) = self.opened_head(block);
-        let (order, same) = compared(string, x);
-        (order, same, rest)
+        let head = self.from_head(block);
+        let (order, same) = compared_stored(head, x);
+        (order, same, head)
     }
 
     /// The last block whose head isn't greater than the sought string, by halving.
     #[tactic(auto, using(crate::proofs::Halving::digits_less))]
     fn block_of(&self, x: &[u8], steps: &mut Steps) -> Landed<'a>
-        requires { 0 < blocks_of self.now }
+        requires some { 0 < blocks_of self.now }
+        requires sought { zero_in x.now ≡ length x.now }
         ensures lands { Lands (strings_of self.now) self.now.packed.block (blocks_of self.now) self.now.packed.bytes.now x.now result }
         ensures cost { steps.new ≤ steps.old + digits (blocks_of self.now) }
         ensures more { steps.old ≤ steps.new }
@@ -71,16 +75,16 @@ impl<'a> Section<'a> {
         let mut low = 0;
         let mut high = self.blocks();
         let mut same = 0;
-        let mut rest = self.packed.bytes;
+        let mut last = self.packed.bytes;
         while low < high {
             let middle = low + (high - low) / 2;
-            let (order, agreed, after) = self.look_at_head(middle, x, steps);
+            let (order, agreed, head) = self.look_at_head(middle, x, steps);
             match order {
                 Ordering::Equal => return Landed::Head(middle),
                 Ordering::Less => {
                     low = middle + 1;
                     same = agreed;
-                    rest = after;
+                    last = head;
                 }
                 Ordering::Greater => high = middle,
             }
@@ -88,7 +92,7 @@ impl<'a> Section<'a> {
         if low == 0 {
             Landed::Before
         } else {
-            Landed::Inside(low - 1, same, rest)
+            Landed::Inside(low - 1, same, behind_text(last))
         }
     }
 
@@ -148,6 +152,10 @@ impl<'a> Section<'a> {
         ensures more { steps.old ≤ steps.new }
     {
         if self.blocks() == 0 {
+            return None;
+        }
+        // No string has a zero byte.
+        if zero_in(x) < x.len() {
             return None;
         }
         match self.block_of(x, steps) {

@@ -5,7 +5,7 @@ ghost use Rattle.hdt_front.specs.Packed.{packing_of};
 ghost use Rattle.hdt_seq.specs.Numbers.{numbers_of};
 
 use crate::packed::Packed;
-use hdt_wire::zero_in;
+use crate::scan::text_len;
 
 /// A section that was read: its strings lie folded in the input, and are searched there. It keeps nothing but slices
 /// of the input and a few numbers, so it is copied for nothing.
@@ -66,7 +66,7 @@ impl<'a> Section<'a> {
         ensures rest { result.1.now ≡ rest_at self.now.packed.block (block * self.now.packed.block + 1) self.now.packed.bytes.now }
     {
         let piece = self.from_head(block);
-        let end = zero_in(piece);
+        let end = text_len(piece);
         (&piece[..end], piece.split_at(end + 1).1)
     }
 

@@ -709,17 +709,36 @@ fn holds_many_strings(rt: HostRuntime) -> Result<(), Fail> {
     Ok(())
 }
 
+/// Lengths on both sides of a load of 32 bytes, and of two.
+static LENGTHS: [usize; 8] = [0, 1, 31, 32, 33, 63, 64, 65];
+
+/// So many bytes, neighbours being different.
+fn mixed(alloc: Global, len: usize) -> Result<Vec<u8>, AllocError> {
+    let mut bytes = Vec::with_capacity(alloc, len)?;
+    let mut byte = 0_u8;
+    for _ in 0..len {
+        bytes.push(byte)?;
+        byte = byte.wrapping_add(37);
+    }
+    Ok(bytes)
+}
+
 #[test]
 fn finds_common_prefixes(rt: HostRuntime) -> Result<(), Fail> {
-    let a = [7_u8; 40];
-    for len in 0..=a.len() {
-        let (front, _) = a.split_at(len);
-        assert_eq!(rt; common_prefix(front, &a), len, "a front of {len}");
-        for place in 0..len {
-            let mut b = front.to_vec(rt.alloc())?;
-            b[place] = 8;
-            assert_eq!(rt; common_prefix(front, &b), place, "{place} of {len}");
+    let alloc = rt.alloc();
+    for len in &LENGTHS {
+        let a = mixed(alloc, *len)?;
+        let same = a.clone()?;
+        assert_eq!(rt; common_prefix(&a, &same), *len, "equal strings of {len}");
+        for place in 0..a.len() {
+            let mut b = a.clone()?;
+            b[place] = !b[place];
+            assert_eq!(rt; common_prefix(&a, &b), place, "{place} of {len}");
         }
     }
+    let a = mixed(alloc, 33)?;
+    let front = mixed(alloc, 32)?;
+    assert_eq!(rt; common_prefix(&a, &front), 32);
+    assert_eq!(rt; common_prefix(&front, &a), 32);
     Ok(())
 }

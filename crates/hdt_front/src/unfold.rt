@@ -38,6 +38,14 @@ pub(crate) fn valid(bytes: &[u8]) -> bool
     }
 }
 
+/// Whether a text is UTF-8; one that was seen to be ASCII is.
+fn seen_or_valid(ascii: bool, text: &[u8]) -> bool
+    requires { ascii ≡ true → is_utf8 text.now ≡ true }
+    ensures { result ≡ is_utf8 text.now }
+{
+    ascii || valid(text)
+}
+
 /// Whether a character of a string begins at a place, or the string ends there.
 #[tactic(auto, using(crate::proofs::Utf8::at_start))]
 fn is_boundary(string: &[u8], at: usize) -> bool
@@ -81,21 +89,24 @@ pub(crate) fn unfold(string: &mut Vec<u8>, kept: usize, text: &[u8]) -> Result<(
 }
 
 /// Unfolds a string over the one before it, and answers whether it is UTF-8. The string before is, so only what
-/// follows the kept bytes is tested, with the beginning of a character that is cut there.
+/// follows the kept bytes is tested, with the beginning of a character that is cut there; where the text was seen to be
+/// ASCII, and no character is cut, nothing is.
 pub(crate) fn unfold_tested(
     string: &mut Vec<u8>,
     kept: usize,
     text: &[u8],
+    ascii: bool,
 ) -> Result<bool, AllocError>
     requires within { kept ≤ length string.old.items }
     requires utf8 { is_utf8 string.old.items ≡ true }
+    requires seen { ascii ≡ true → is_utf8 text.now ≡ true }
     ensures ok { OnOk result (string.new.items ≡ take kept string.old.items ++ text.now) }
     ensures tested { IfOk result (λ valid. valid ≡ is_utf8 string.new.items) }
 {
     let start = character_start(string, kept);
     unfold(string, kept, text)?;
     if start == kept {
-        Ok(valid(text))
+        Ok(seen_or_valid(ascii, text))
     } else {
         Ok(valid(string.split_at(start).1))
     }

@@ -1,4 +1,5 @@
-use Rattle.std.proofs.Common.{◌≡◌, ◌≤◌, ◌<◌, ◌+◌, ◌-◌, ◌*◌, get_or, []}
+use Rattle.std.proofs.Common.{◌≡◌, ◌≤◌, ◌<◌, ◌+◌, ◌-◌, ◌*◌, get_or, [], length, drop}
+use Rattle.hdt_wire.specs.Rows.{zero_in}
 use Rattle.std.specs.declared.cmp.Ordering.TheVariants.{Greater}
 use Rattle.hdt_front.specs.Strings.{strings_of, blocks_of}
 use Rattle.hdt_front.specs.Halving.{digits}
@@ -11,7 +12,8 @@ invariant-loop-low l = record {
   in_order : l.low ≤ l.high;
   inside : l.high ≤ blocks_of l.self;
   less : 0 < l.low → IsLess (get_or (strings_of l.self) ((l.low - 1) * l.self.packed.block) []) l.x l.same;
-  rest : 0 < l.low → l.rest ≡ rest_at l.self.packed.block ((l.low - 1) * l.self.packed.block + 1) l.self.packed.bytes.now;
+  ends : 0 < l.low → zero_in l.last < length l.last;
+  rest : 0 < l.low → drop (zero_in l.last + 1) l.last ≡ rest_at l.self.packed.block ((l.low - 1) * l.self.packed.block + 1) l.self.packed.bytes.now;
   greater : l.high < blocks_of l.self → order (get_or (strings_of l.self) (l.high * l.self.packed.block) []) l.x ≡ Greater;
   cost : l.steps + digits (l.high - l.low) ≤ l.fn.steps + digits (blocks_of l.self);
   more : l.fn.steps ≤ l.steps;

@@ -4,6 +4,7 @@ use Rattle.hdt_front.specs.Packed.{packing_of}
 use Rattle.hdt_front.specs.StringSteps.{length-unfolded}
 use Rattle.hdt_front.proofs.Ascent.{place_found, place_absent}
 use Rattle.hdt_front.proofs.Lies.{some_block, head_inside, no_blocks, ascends, some_looks}
+use Rattle.hdt_front.proofs.Inverse.{zero_absent}
 use Rattle.hdt_front.proofs.section.Section.place_of.Goals as goal
 
 pub returns-then-blocks-eq0-clause-place : goal.returns-then-blocks-eq0-clause-place
@@ -13,6 +14,9 @@ returns-then-blocks-eq0-clause-place c =
     let none : p.count ≡ 0 = no_blocks p.count p.block p.some (sym c.blocks-2.ensures ∙ c.if-blocks-eq0.true) in
     let many = length-unfolded p.block p.count 0 [] p.bytes.now in
     sym (place_absent (strings_of s) c.args.x.now 0 (ascends (packing_of p) p.count p.bytes.now s.read) (omega arith) (λ h. absurd (omega (arith, h))) (λ h. absurd (omega (arith, h, many, none))))
+
+pub returns-then-zero_in-x-clause-place : goal.returns-then-zero_in-x-clause-place
+returns-then-zero_in-x-clause-place c = zero_absent c.args.self.now c.args.x.now (omega (arith, c.zero_in.ensures.len, c.if-zero_in-x.true))
 
 pub overflow_mul-result : goal.overflow_mul-result
 unfolding strings_of blocks_of

@@ -1,0 +1,15 @@
+-- The usual piece behind the head of a block.
+use Rattle.std.specs.Prelude.{◌≡◌, ℕ, ◌<◌, ◌≤◌, ◌++◌, true, List, length, take, drop, Ok}
+use Rattle.std.specs.Str.{is_utf8}
+use Rattle.hdt_wire.specs.Rows.{zero_in}
+use Rattle.hdt_wire.specs.VByte.{vbyte_at}
+use Rattle.hdt_front.specs.StringRows.{precedes}
+
+-- its rows hold, where its number has one byte and its text so many
+pub record IsPlainPiece (before rest : List ℕ) (kept len : ℕ) : Type 0 where
+  pub number : vbyte_at rest 0 ≡ Ok (kept, 1)
+  pub fits : kept ≤ length before
+  pub text : zero_in (drop 1 rest) ≡ len
+  pub ends : len < length (drop 1 rest)
+  pub utf8 : is_utf8 (take kept before ++ take len (drop 1 rest)) ≡ true
+  pub later : precedes before (take kept before ++ take len (drop 1 rest)) ≡ true

@@ -1,0 +1,96 @@
+//! Where the text of a piece ends, 32 bytes at a time.
+ghost use Rattle.std.specs.Prelude.{◌≡◌, ◌≤◌, ◌<◌, ◌+◌, true, length, take};
+ghost use Rattle.std.specs.Str.{is_utf8};
+ghost use Rattle.hdt_wire.specs.Rows.{zero_in};
+ghost use Rattle.hdt_front.specs.Reaching.{Reaches, first_set, plain_in};
+
+use hdt_wire::zero_in;
+use std::simd::prelude::*;
+
+/// The bytes of one load.
+pub(crate) const LANES: usize = 32;
+
+/// The place of the lowest bit that is set, or the number of lanes.
+#[inline(always)]
+pub(crate) fn first_set(mask: u64, lanes: usize) -> usize
+    ensures { result ≡ first_set mask lanes }
+{
+    if mask == 0 {
+        lanes
+    } else {
+        mask.trailing_zeros() as usize
+    }
+}
+
+/// How many of the next 32 bytes are no zero byte, up to the first.
+#[inline(always)]
+fn load_text(bytes: &[u8], at: usize) -> usize
+    requires inside { at + LANES ≤ length bytes.now }
+    requires so_far { at ≤ zero_in bytes.now }
+    ensures { Reaches (zero_in bytes.now) at LANES result }
+{
+    let v = u8x32::from_slice(&bytes[at..]);
+    first_set(v.simd_eq(u8x32::splat(0)).to_bitmask(), LANES)
+}
+
+/// How many of the next 32 bytes are ASCII and not zero, up to the first that isn't.
+#[inline(always)]
+fn load_plain(bytes: &[u8], at: usize) -> usize
+    requires inside { at + LANES ≤ length bytes.now }
+    requires so_far { at ≤ plain_in bytes.now }
+    ensures { Reaches (plain_in bytes.now) at LANES result }
+{
+    let v = u8x32::from_slice(&bytes[at..]);
+    let stops = (v - u8x32::splat(1)).simd_ge(u8x32::splat(127));
+    first_set(stops.to_bitmask(), LANES)
+}
+
+/// How many bytes stand before the first zero byte; without one, all.
+#[inline(always)]
+#[tactic(auto, using(crate::proofs::Loads::zero_behind))]
+pub(crate) fn text_len(bytes: &[u8]) -> usize
+    ensures len { result ≡ zero_in bytes.now }
+    ensures within { result ≤ length bytes.now }
+{
+    let mut at = 0;
+    while bytes.len() - at >= LANES {
+        let run = load_text(bytes, at);
+        if run < LANES {
+            return at + run;
+        }
+        at += LANES;
+    }
+    at + zero_in(bytes.split_at(at).1)
+}
+
+/// How many bytes at the front are ASCII and not zero, as far as whole loads show.
+#[inline(always)]
+pub(crate) fn plain_len(bytes: &[u8]) -> usize
+    ensures plain { result ≤ plain_in bytes.now }
+    ensures within { result ≤ length bytes.now }
+{
+    let mut at = 0;
+    while bytes.len() - at >= LANES {
+        let run = load_plain(bytes, at);
+        if run < LANES {
+            return at + run;
+        }
+        at += LANES;
+    }
+    at
+}
+
+/// The length of the text, as [`text_len`], and whether it was seen to be ASCII on the way.
+#[inline(always)]
+#[tactic(auto, using(crate::proofs::Loads::plain_text))]
+pub(crate) fn text_seen(bytes: &[u8]) -> (usize, bool)
+    ensures len { result.0 ≡ zero_in bytes.now }
+    ensures within { result.0 ≤ length bytes.now }
+    ensures ascii { result.1 ≡ true → is_utf8 (take result.0 bytes.now) ≡ true }
+{
+    let plain = plain_len(bytes);
+    if plain < bytes.len() && bytes[plain] == 0 {
+        return (plain, true);
+    }
+    (zero_in(bytes), false)
+}
