@@ -5,9 +5,9 @@ ghost use Rattle.hdt_terms.specs.Terms.{IsText};
 ghost use Rattle.hdt_terms.specs.Strings.{TermOf, SuffixOf, suffix_seen, term_seen, kind_of};
 
 use crate::chars::is_absolute;
-use crate::encoding::is_utf8;
 use crate::iri::is_iri;
 use crate::label::is_label;
+use crate::lanes::{Class, run_len};
 use crate::tag::is_tag;
 use crate::term::{Kind, Suffix, Term};
 use crate::text::Text;
@@ -88,11 +88,25 @@ pub fn kind_of(term: LentTerm<'_>) -> Kind
     }
 }
 
+/// Whether the bytes are ASCII without U+0000, as those of most terms.
+fn is_ascii_text(bytes: &[u8]) -> bool
+    ensures { IsTrue result → IsText bytes.now }
+{
+    run_len(Class::AsciiText, bytes) == bytes.len()
+}
+
+/// Whether the bytes are UTF-8 without U+0000, by two looks at each.
+fn is_text_beyond_ascii(bytes: &[u8]) -> bool
+    ensures { IsTrue result ↔ IsText bytes.now }
+{
+    memchr(0, bytes).is_none() && simdutf8::is_utf8(bytes)
+}
+
 /// Whether the bytes are UTF-8 without U+0000.
 fn is_text(bytes: &[u8]) -> bool
     ensures { IsTrue result ↔ IsText bytes.now }
 {
-    memchr(0, bytes).is_none() && is_utf8(bytes)
+    is_ascii_text(bytes) || is_text_beyond_ascii(bytes)
 }
 
 /// What follows the prefix, where the bytes begin with it.

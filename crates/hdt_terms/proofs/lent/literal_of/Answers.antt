@@ -1,4 +1,4 @@
-use Rattle.std.proofs.Common.{◌≡◌, ℕ, List, Some, None, ◌∷◌, suc, drop, take, sym, ap, subst, ◌∙◌}
+use Rattle.std.proofs.Common.{◌≡◌, ℕ, List, Some, None, ◌∷◌, suc, drop, sym, ap, subst, ◌∙◌}
 use Rattle.hdt_terms.specs.declared.term.Term.TheVariants.{Literal}
 use Rattle.hdt_terms.specs.Strings.{TermOf, SuffixOf, suffix_seen}
 use Rattle.hdt_terms.proofs.Quotes.{none_there}
