@@ -1,9 +1,10 @@
 //! The strings of a graph as terms of N-Triples.
-ghost use Rattle.std.specs.Prelude.{◌≡◌, ◌↔◌, ◌++◌, ◌∷◌, [], Some, IfOk, IfErr, OnOk, IsErrOf, IsTrue};
-ghost use Rattle.hdt_terms.specs.Writing.{written};
+ghost use Rattle.std.specs.Prelude.{◌≡◌, ◌↔◌, ◌++◌, ◌∷◌, [], Some, IfErr, OnOk, OnErr, IsErrOf, IsTrue};
+ghost use Rattle.hdt_terms.specs.Strings.{kind_of};
+ghost use Rattle.hdt_terms.specs.declared.term.Term.{Term};
 ghost use Rattle.hdt_terms.specs.declared.fault.StringFault.TheVariants as StringFaultOf;
 ghost use Rattle.hdt_file.specs.Denoted.{string_of};
-ghost use Rattle.hdt_file.specs.Text.{FitsRole, HasNoTerm, IsTermOf};
+ghost use Rattle.hdt_file.specs.Text.{FitsRole, HasNoTerm};
 ghost use Rattle.hdt_file.specs.TextWriting.{AppendsLine, AppendsTerm, KeepsFront, TellsFirstOf, TellsString};
 ghost use Rattle.hdt_file.specs.Views.{graph_seen};
 
@@ -11,32 +12,35 @@ use crate::fault::DumpFault;
 use crate::graph::Graph;
 use hdt_dict::Role;
 use hdt_seq::Steps;
-use hdt_terms::{StringFault, Term, put_term, string_term};
+use hdt_terms::{Kind, StringFault, put_string};
 use std::alloc::Global;
 
-/// Whether a term of its kind can have the role: an IRI or a blank node as subject, an IRI as predicate, any as object.
-fn fits(role: Role, term: &Term) -> bool
-    ensures { IsTrue result ↔ FitsRole role term.now }
+/// Whether a term of this kind can have the role: an IRI or a blank node as subject, an IRI as predicate, any as object.
+fn fits(role: Role, kind: Kind) -> bool
+    ensures { (term : Term) → kind ≡ kind_of term → IsTrue result ↔ FitsRole role term }
 {
-    match (role, term) {
-        (Role::Subject, Term::Literal(_, _)) => false,
+    match (role, kind) {
+        (Role::Subject, Kind::Literal) => false,
         (Role::Subject, _) => true,
-        (Role::Predicate, Term::Iri(_)) => true,
+        (Role::Predicate, Kind::Iri) => true,
         (Role::Predicate, _) => false,
         (Role::Object, _) => true,
     }
 }
 
-/// The term that the string is in the role.
-pub fn role_term(alloc: Global, role: Role, string: &[u8]) -> Result<Term, StringFault>
-    ensures found { IfOk result (λ term. IsTermOf role string.now term) }
+/// Appends the term that the string is in the role, straight from its bytes. After an error `out` is as it was.
+pub fn put_role_term(role: Role, string: &[u8], out: &mut Vec<u8>) -> Result<(), StringFault>
+    ensures ok { OnOk result (AppendsTerm role string.now out.old.items out.new.items) }
     ensures none { IsErrOf result StringFaultOf.NotATerm → HasNoTerm role string.now }
+    ensures err { OnErr result (out.new.items ≡ out.old.items) }
 {
-    let term = string_term(alloc, string)?;
-    if !fits(role, &term) {
+    let len = out.len();
+    let kind = put_string(string, out)?;
+    if !fits(role, kind) {
+        out.truncate(len);
         return Err(StringFault::NotATerm);
     }
-    Ok(term)
+    Ok(())
 }
 
 /// Spells the triples of a graph, one line after another: a string that was unfolded, and the front of the last line,
@@ -74,8 +78,8 @@ fn append_term(
 {
     string.clear();
     graph.string_of(role, n, string, &mut Steps::new())?;
-    match role_term(*out.allocator(), role, string) {
-        Ok(term) => Ok(put_term(&term, out)?),
+    match put_role_term(role, string, out) {
+        Ok(()) => Ok(()),
         Err(StringFault::NotATerm) => Err(DumpFault::NotATerm(role, n)),
         Err(StringFault::OutOfMemory) => Err(DumpFault::OutOfMemory),
     }

@@ -7,9 +7,9 @@ ghost use Rattle.hdt_file.specs.Views.{graph_seen, strings_in};
 
 use crate::fault::DumpFault;
 use crate::graph::Graph;
-use crate::spelling::role_term;
+use crate::spelling::put_role_term;
 use hdt_dict::{Arena, Role};
-use hdt_terms::{StringFault, put_term};
+use hdt_terms::StringFault;
 use std::alloc::{AllocError, Global};
 
 /// The N-Triples spellings of the strings of each role, in the order of their numbers; that of a string that is no term
@@ -22,13 +22,12 @@ pub struct Tables {
 }
 
 /// Makes the spelling of a string in `out`, of which nothing else is left.
-fn spell(alloc: Global, role: Role, string: &[u8], out: &mut Vec<u8>) -> Result<(), AllocError>
+fn spell(role: Role, string: &[u8], out: &mut Vec<u8>) -> Result<(), AllocError>
     ensures { OnOk result (IsSpelling role string.now out.new.items) }
 {
     out.clear();
-    match role_term(alloc, role, string) {
-        Ok(term) => put_term(&term, out),
-        Err(StringFault::NotATerm) => Ok(()),
+    match put_role_term(role, string, out) {
+        Ok(()) | Err(StringFault::NotATerm) => Ok(()),
         Err(StringFault::OutOfMemory) => Err(AllocError),
     }
 }
@@ -41,7 +40,7 @@ fn spellings_of(alloc: Global, graph: &Graph<'_>, role: Role) -> Result<Arena, A
     let mut spelling = Vec::new(alloc);
     let mut strings = graph.strings(alloc, role);
     'strings: while let Some(_) = strings.next()? {
-        spell(alloc, role, strings.last(), &mut spelling)?;
+        spell(role, strings.last(), &mut spelling)?;
         arena.push(&spelling)?;
     }
     Ok(arena)

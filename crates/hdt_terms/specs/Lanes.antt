@@ -1,9 +1,9 @@
 -- Runs of bytes that pass a test, by places.
-use Rattle.std.specs.Prelude.{◌≡◌, ℕ, ◌+◌, ◌<◌, ◌≤◌, Bool, true, false, not, ◌==◌, if◌then◌else◌, List, slice_index}
+use Rattle.std.specs.Prelude.{◌≡◌, ℕ, ◌+◌, ◌<◌, ◌≤◌, Bool, true, false, not, ◌&&◌, ◌==◌, if◌then◌else◌, List, slice_index}
 use Rattle.std.specs.Char.{is_ascii}
 use Rattle.std.specs.Int.{w64, trailing_zeros}
 use Rattle.hdt_terms.specs.declared.lanes.Class.{Class}
-use Rattle.hdt_terms.specs.declared.lanes.Class.TheVariants.{Inside, Ascii, Text}
+use Rattle.hdt_terms.specs.declared.lanes.Class.TheVariants.{Inside, Ascii, AsciiText, Text}
 use Rattle.hdt_terms.specs.Chars.{is_end}
 use Rattle.hdt_terms.specs.Spelling.{is_raw}
 
@@ -11,6 +11,7 @@ use Rattle.hdt_terms.specs.Spelling.{is_raw}
 abbrev pub passes : Class → ℕ → Bool
 passes (Inside token) c = is_raw token c
 passes Ascii c = is_ascii c
+passes AsciiText c = not (c == 0) && is_ascii c
 passes Text c = not (is_end c)
 
 -- the bytes from at up to end pass the test

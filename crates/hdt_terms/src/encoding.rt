@@ -1,5 +1,5 @@
 //! Whether a text is UTF-8.
-ghost use Rattle.std.specs.Prelude.{◌≡◌, ◌≤◌, length, IsTrue, MatchResult};
+ghost use Rattle.std.specs.Prelude.{◌≡◌, ◌≤◌, ◌↔◌, length, IsTrue, MatchResult};
 ghost use Rattle.std.specs.Str.{IsAscii, IsUtf8};
 ghost use Rattle.std.specs.Str.Lossy.{utf8_valid_len};
 ghost use Rattle.hdt_terms.specs.Table.{not_utf8_at};
@@ -14,7 +14,7 @@ fn is_ascii(bytes: &[u8]) -> bool
     run_len(Class::Ascii, bytes) == bytes.len()
 }
 
-/// The same for a text with other characters, which few have.
+/// Refuses a text with other characters, which few have, as [`check_utf8`] does.
 #[inline(never)]
 fn check_beyond_ascii(text: &[u8]) -> Result<(), TermFault>
     ensures { MatchResult result (λ _. IsUtf8 text.now) (λ fault. ¬ (IsUtf8 text.now) × (fault ≡ not_utf8_at (utf8_valid_len text.now))) }
@@ -37,4 +37,12 @@ pub fn check_utf8(text: &[u8]) -> Result<(), TermFault>
         return Ok(());
     }
     check_beyond_ascii(text)
+}
+
+/// Whether the bytes are UTF-8.
+#[inline(always)]
+pub fn is_utf8(bytes: &[u8]) -> bool
+    ensures { IsTrue result ↔ IsUtf8 bytes.now }
+{
+    is_ascii(bytes) || simdutf8::is_utf8(bytes)
 }

@@ -1,7 +1,7 @@
 //! How many bytes from the first on are of one class, 16 at a time.
 ghost use Rattle.std.specs.Prelude.{◌≡◌, ◌+◌, ◌<◌, ◌≤◌, false, length, slice_index};
 ghost use Rattle.hdt_terms.specs.declared.pieces.Token.TheVariants.{Iri, Quoted};
-ghost use Rattle.hdt_terms.specs.declared.lanes.Class.TheVariants.{Inside, Ascii, Text};
+ghost use Rattle.hdt_terms.specs.declared.lanes.Class.TheVariants.{Inside, Ascii, AsciiText, Text};
 ghost use Rattle.hdt_terms.specs.Chars.{is_end};
 ghost use Rattle.hdt_terms.specs.Lanes.{IsRun, PassBetween, first_set, passes};
 
@@ -16,6 +16,8 @@ pub enum Class {
     Inside(Token),
     /// Those below 128.
     Ascii,
+    /// Those below 128 but 0.
+    AsciiText,
     /// Those that end no line.
     Text,
 }
@@ -77,6 +79,17 @@ fn ascii_run(bytes: &[u8], at: usize) -> usize
     first_set(stops.to_bitmask())
 }
 
+/// How many bytes from here on are ASCII but U+0000.
+#[inline(always)]
+fn ascii_text_run(bytes: &[u8], at: usize) -> usize
+    requires { at + LANES ≤ length bytes.now }
+    ensures { IsRun (passes AsciiText) bytes.now at LANES result }
+{
+    let v = u8x16::from_slice(&bytes[at..]);
+    let stops = v.simd_eq(u8x16::splat(0)) | v.simd_ge(u8x16::splat(0x80));
+    first_set(stops.to_bitmask())
+}
+
 /// How many bytes from here on end no line.
 #[inline(always)]
 fn text_run(bytes: &[u8], at: usize) -> usize
@@ -98,6 +111,7 @@ fn load_run(class: Class, bytes: &[u8], at: usize) -> usize
         Class::Inside(Token::Iri) => iri_run(bytes, at),
         Class::Inside(Token::Quoted) => string_run(bytes, at),
         Class::Ascii => ascii_run(bytes, at),
+        Class::AsciiText => ascii_text_run(bytes, at),
         Class::Text => text_run(bytes, at),
     }
 }
@@ -109,6 +123,7 @@ fn passes(class: Class, byte: u8) -> bool
     match class {
         Class::Inside(token) => is_raw(token, byte),
         Class::Ascii => byte.is_ascii(),
+        Class::AsciiText => byte != 0 && byte.is_ascii(),
         Class::Text => !is_end(byte),
     }
 }

@@ -36,6 +36,7 @@ mod iri;
 mod label;
 mod lanes;
 mod laws;
+mod lent;
 mod line;
 mod lines;
 mod literal;
@@ -57,9 +58,9 @@ pub use laws::{
 };
 pub use lines::Lines;
 pub use parse::{parse_string, parse_term};
-pub use put::put_term;
+pub use put::{put_string, put_term};
 pub use strings::{string_term, term_string};
-pub use term::{Suffix, Term};
+pub use term::{Kind, Suffix, Term};
 pub use text::Text;
 pub use triple::Triple;
 

@@ -1,0 +1,208 @@
+//! Terms whose texts are lent: those that dictionary strings are, and how terms are looked at where they are written.
+ghost use Rattle.std.specs.Prelude.{◌≡◌, ◌≢◌, ◌↔◌, ◌++◌, ◌∷◌, List, ℕ, IsTrue, IfOk, MatchOption};
+ghost use Rattle.std.specs.Option.{option_map};
+ghost use Rattle.hdt_terms.specs.Terms.{IsText};
+ghost use Rattle.hdt_terms.specs.Strings.{TermOf, SuffixOf, suffix_seen, term_seen, kind_of};
+
+use crate::chars::is_absolute;
+use crate::iri::is_iri;
+use crate::label::is_label;
+use crate::lanes::{Class, run_len};
+use crate::tag::is_tag;
+use crate::term::{Kind, Suffix, Term};
+use crate::text::Text;
+use memchr::{memchr, memrchr};
+use std::alloc::{AllocError, Global};
+
+/// A term whose texts are lent, in the cases of [`Term`].
+#[derive(Clone, Copy)]
+pub enum LentTerm<'a> {
+    Iri(&'a [u8]),
+    Blank(&'a [u8]),
+    Literal(&'a [u8], LentSuffix<'a>),
+}
+
+/// What stands behind the text of such a literal, in the cases of [`Suffix`].
+#[derive(Clone, Copy)]
+pub enum LentSuffix<'a> {
+    Plain,
+    Tag(&'a [u8]),
+    Datatype(&'a [u8]),
+}
+
+/// The suffix, lent.
+pub fn lend_suffix(suffix: &Suffix) -> LentSuffix<'_>
+    ensures { suffix_seen result ≡ suffix.now }
+{
+    match suffix {
+        Suffix::Plain => LentSuffix::Plain,
+        Suffix::Tag(tag) => LentSuffix::Tag(tag.as_bytes()),
+        Suffix::Datatype(iri) => LentSuffix::Datatype(iri.as_bytes()),
+    }
+}
+
+/// The term, lent.
+pub fn lend(term: &Term) -> LentTerm<'_>
+    ensures { term_seen result ≡ term.now }
+{
+    match term {
+        Term::Iri(iri) => LentTerm::Iri(iri.as_bytes()),
+        Term::Blank(label) => LentTerm::Blank(label.as_bytes()),
+        Term::Literal(text, suffix) => LentTerm::Literal(text.as_bytes(), lend_suffix(suffix)),
+    }
+}
+
+/// A copy of the suffix.
+fn copy_suffix(alloc: Global, suffix: LentSuffix<'_>) -> Result<Suffix, AllocError>
+    ensures { IfOk result (λ copy. copy ≡ suffix_seen suffix.entry) }
+{
+    match suffix {
+        LentSuffix::Plain => Ok(Suffix::Plain),
+        LentSuffix::Tag(tag) => Ok(Suffix::Tag(Text::from_slice(alloc, tag)?)),
+        LentSuffix::Datatype(iri) => Ok(Suffix::Datatype(Text::from_slice(alloc, iri)?)),
+    }
+}
+
+/// A copy of the term.
+pub fn copy_term(alloc: Global, term: LentTerm<'_>) -> Result<Term, AllocError>
+    ensures { IfOk result (λ copy. copy ≡ term_seen term.entry) }
+{
+    match term {
+        LentTerm::Iri(iri) => Ok(Term::Iri(Text::from_slice(alloc, iri)?)),
+        LentTerm::Blank(label) => Ok(Term::Blank(Text::from_slice(alloc, label)?)),
+        LentTerm::Literal(text, suffix) => {
+            let suffix = copy_suffix(alloc, suffix)?;
+            Ok(Term::Literal(Text::from_slice(alloc, text)?, suffix))
+        }
+    }
+}
+
+/// The kind of the term.
+pub fn kind_of(term: LentTerm<'_>) -> Kind
+    ensures { result ≡ kind_of (term_seen term.entry) }
+{
+    match term {
+        LentTerm::Iri(_) => Kind::Iri,
+        LentTerm::Blank(_) => Kind::Blank,
+        LentTerm::Literal(_, _) => Kind::Literal,
+    }
+}
+
+/// Whether the bytes are ASCII without U+0000, as those of most terms.
+fn is_ascii_text(bytes: &[u8]) -> bool
+    ensures { IsTrue result → IsText bytes.now }
+{
+    run_len(Class::AsciiText, bytes) == bytes.len()
+}
+
+/// Whether the bytes are UTF-8 without U+0000, by two looks at each.
+fn is_text_beyond_ascii(bytes: &[u8]) -> bool
+    ensures { IsTrue result ↔ IsText bytes.now }
+{
+    memchr(0, bytes).is_none() && simdutf8::is_utf8(bytes)
+}
+
+/// Whether the bytes are UTF-8 without U+0000.
+fn is_text(bytes: &[u8]) -> bool
+    ensures { IsTrue result ↔ IsText bytes.now }
+{
+    is_ascii_text(bytes) || is_text_beyond_ascii(bytes)
+}
+
+/// What follows the prefix, where the bytes begin with it.
+fn behind<'a>(prefix: &[u8], bytes: &'a [u8]) -> Option<&'a [u8]>
+    ensures { MatchOption result ((rest : List ℕ) → bytes.now ≢ prefix.now ++ rest) (λ rest. bytes.now ≡ prefix.now ++ rest.now) }
+{
+    bytes.strip_prefix(prefix)
+}
+
+/// What stands before the end, where the bytes end with it.
+fn before<'a>(bytes: &'a [u8], end: &[u8]) -> Option<&'a [u8]>
+    ensures { MatchOption result ((front : List ℕ) → bytes.now ≢ front ++ end.now) (λ front. bytes.now ≡ front.now ++ end.now) }
+{
+    bytes.strip_suffix(end)
+}
+
+/// The suffix for these bytes behind the last quote.
+fn suffix_of(bytes: &[u8]) -> Option<LentSuffix<'_>>
+    ensures { SuffixOf bytes.now (option_map suffix_seen result) }
+{
+    if bytes.is_empty() {
+        return Some(LentSuffix::Plain);
+    }
+    if let Some(tag) = behind(b"@", bytes) {
+        return tag_of(tag);
+    }
+    match behind(b"^^<", bytes) {
+        Some(rest) => datatype_of(rest),
+        None => None,
+    }
+}
+
+/// The suffix for these bytes behind `@`.
+fn tag_of(tag: &[u8]) -> Option<LentSuffix<'_>>
+    ensures { SuffixOf (64 ∷ tag.now) (option_map suffix_seen result) }
+{
+    if !is_tag(tag) {
+        return None;
+    }
+    Some(LentSuffix::Tag(tag))
+}
+
+/// The suffix for these bytes behind `^^<`.
+fn datatype_of(rest: &[u8]) -> Option<LentSuffix<'_>>
+    ensures { SuffixOf (94 ∷ 94 ∷ 60 ∷ rest.now) (option_map suffix_seen result) }
+{
+    let Some(iri) = before(rest, b">") else {
+        return None;
+    };
+    if !is_iri(iri) {
+        return None;
+    }
+    Some(LentSuffix::Datatype(iri))
+}
+
+/// The literal for these bytes behind the first quote: the last quote ends its text.
+fn literal_of(rest: &[u8]) -> Option<LentTerm<'_>>
+    requires { IsText rest.now }
+    ensures { TermOf (34 ∷ rest.now) (option_map term_seen result) }
+{
+    let Some(at) = memrchr(b'"', rest) else {
+        return None;
+    };
+    let (text, quote) = rest.split_at(at);
+    match suffix_of(quote.split_at(1).1) {
+        Some(suffix) => Some(LentTerm::Literal(text, suffix)),
+        None => None,
+    }
+}
+
+/// The blank node for these bytes behind `_:`.
+fn blank_of(label: &[u8]) -> Option<LentTerm<'_>>
+    requires { IsText label.now }
+    ensures { TermOf (95 ∷ 58 ∷ label.now) (option_map term_seen result) }
+{
+    if !is_label(label) {
+        return None;
+    }
+    Some(LentTerm::Blank(label))
+}
+
+/// The dictionary term with this string, of which it lends its texts.
+pub fn lent_term(bytes: &[u8]) -> Option<LentTerm<'_>>
+    ensures { TermOf bytes.now (option_map term_seen result) }
+{
+    if !is_text(bytes) {
+        return None;
+    }
+    if let Some(rest) = behind(b"\"", bytes) {
+        return literal_of(rest);
+    }
+    if let Some(label) = behind(b"_:", bytes) {
+        return blank_of(label);
+    }
+    if !is_absolute(bytes) {
+        return None;
+    }
+    Some(LentTerm::Iri(bytes))
+}
