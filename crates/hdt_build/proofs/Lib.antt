@@ -11,8 +11,8 @@ pub mod NoTriples
 pub mod Numbering
 pub mod OneDocument
 pub mod Order
+pub mod Moving
 pub mod Placing
+pub mod Ranking
 pub mod Runs
-pub mod Splitting
-pub mod Texts
 pub mod Unique

@@ -7,6 +7,5 @@ pub mod Layouts
 pub mod Numbers
 pub mod Options
 pub mod Placed
-pub mod PlacedLaws
 pub mod Reading
 pub mod Texts

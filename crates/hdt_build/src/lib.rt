@@ -30,7 +30,6 @@ mod options;
 mod placed;
 mod reading;
 mod report;
-mod split;
 #[cfg(test)]
 mod tests;
 mod triples;
