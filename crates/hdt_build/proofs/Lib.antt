@@ -6,6 +6,7 @@ pub mod Distinct
 pub mod Equal
 pub mod Grown
 pub mod Heads
+pub mod KeyOrder
 pub mod Layouts
 pub mod NoTriples
 pub mod Numbering

@@ -3,6 +3,7 @@ pub mod Canonical
 pub mod Documents
 pub mod Graph
 pub mod Header
+pub mod Keys
 pub mod Layouts
 pub mod Numbers
 pub mod Options

@@ -23,6 +23,7 @@ mod file;
 mod form;
 mod header;
 mod interner;
+mod keys;
 mod laws;
 mod lists;
 mod numbers;
