@@ -14,7 +14,7 @@ use Rattle.hdt_build.specs.Graph.{subject_terms, predicate_terms, object_terms}
 use Rattle.hdt_dict.specs.MembersLaws.{SameMembers-map, Contains-from_map, All-same_members}
 use Rattle.hdt_build.specs.Numbers.{term_at, AreNumbersOf}
 use Rattle.hdt_triples.specs.Counting.{Triple}
-use Rattle.hdt_build.specs.Graph.{StringTriple, InRange, IsForm, denoted, string_triple, triple_at, triples_of, triple_cmp, AscendingTriples}
+use Rattle.hdt_build.specs.Graph.{StringTriple, InRange, IsForm, denoted, string_triple, triple_at, triples_of, triple_cmp, AscendingTriples, numbers_at}
 use Rattle.hdt_build.proofs.Distinct.{number_unique, subjects_distinct}
 use Rattle.hdt_triples.specs.Order.{triple_in, AreWritable}
 use Rattle.hdt_build.proofs.Order.{triple_total, first_le, triple_less}
@@ -43,33 +43,29 @@ module _ {ss ps os : List (List ℕ)} (d : FourLists) (h : IsSplit ss ps os d) w
         | inr b ↦ Contains-append_right d.shared d.objects x ((h.objects x).1 (a, b))
       ]
 
--- the numbers at the places of a triple
-abbrev pub number_at : (sn pn on : List ℕ) → Triple → Triple
-number_at sn pn on t = (get_or sn t.0 0, get_or pn t.1 0, get_or on t.2 0)
-
-same_strings : (a b c d e f : List ℕ) → a ≡ b → c ≡ d → e ≡ f → let l : StringTriple = (a, c, e) in let r : StringTriple = (b, d, f) in l ≡ r
+pub same_strings : (a b c d e f : List ℕ) → a ≡ b → c ≡ d → e ≡ f → let l : StringTriple = (a, c, e) in let r : StringTriple = (b, d, f) in l ≡ r
 same_strings a b c d e f p q r = cc
 
 module _ (d : FourLists) (ss ps os : List (List ℕ)) (sn pn on : List ℕ) (s : AreNumbersOf (subject_terms d) ss sn) (p : AreNumbersOf (predicate_terms d) ps pn) (o : AreNumbersOf (object_terms d) os on) where
-  one_denoted : (t : Triple) → t.0 < length ss → t.1 < length ps → t.2 < length os → string_triple d (number_at sn pn on t) ≡ triple_at ss ps os t
+  one_denoted : (t : Triple) → t.0 < length ss → t.1 < length ps → t.2 < length os → string_triple d (numbers_at sn pn on t) ≡ triple_at ss ps os t
   one_denoted t a b c = same_strings _ _ _ _ _ _ (s.each t.0 a).is (p.each t.1 b).is (o.each t.2 c).is
 
-  one_in_range : (t : Triple) → t.0 < length ss → t.1 < length ps → t.2 < length os → InRange d (number_at sn pn on t)
+  one_in_range : (t : Triple) → t.0 < length ss → t.1 < length ps → t.2 < length os → InRange d (numbers_at sn pn on t)
   one_in_range t a b c =
       let x = s.each t.0 a in
       let y = p.each t.1 b in
       let z = o.each t.2 c in
       ((x.from_one, x.within), (y.from_one, y.within), (z.from_one, z.within))
 
-  pub denoted_is : (ids : List Triple) → All (λ t. t.0 < length ss) ids → All (λ t. t.1 < length ps) ids → All (λ t. t.2 < length os) ids → denoted d (map (number_at sn pn on) ids) ≡ triples_of ss ps os ids
+  pub denoted_is : (ids : List Triple) → All (λ t. t.0 < length ss) ids → All (λ t. t.1 < length ps) ids → All (λ t. t.2 < length os) ids → denoted d (map (numbers_at sn pn on) ids) ≡ triples_of ss ps os ids
   denoted_is [] a b c = refl
   denoted_is (t ∷ ids) a b c =
       let e = one_denoted t (All-head (λ (t : Triple). t.0 < length ss) t ids a) (All-head (λ (t : Triple). t.1 < length ps) t ids b) (All-head (λ (t : Triple). t.2 < length os) t ids c) in
       let f = denoted_is ids (All-tail (λ (t : Triple). t.0 < length ss) t ids a) (All-tail (λ (t : Triple). t.1 < length ps) t ids b) (All-tail (λ (t : Triple). t.2 < length os) t ids c) in
       λ i. e i ∷ f i
 
-  pub all_in_range : (ids : List Triple) → All (λ t. t.0 < length ss) ids → All (λ t. t.1 < length ps) ids → All (λ t. t.2 < length os) ids → All (InRange d) (map (number_at sn pn on) ids)
-  all_in_range ids a b c = All-map (InRange d) (number_at sn pn on) ids (λ k t below. one_in_range _ (a k t below) (b k t below) (c k t below))
+  pub all_in_range : (ids : List Triple) → All (λ t. t.0 < length ss) ids → All (λ t. t.1 < length ps) ids → All (λ t. t.2 < length os) ids → All (InRange d) (map (numbers_at sn pn on) ids)
+  all_in_range ids a b c = All-map (InRange d) (numbers_at sn pn on) ids (λ k t below. one_in_range _ (a k t below) (b k t below) (c k t below))
 
 -- where each string of a role's list is used, the list is that of the graph
 module _ (ss ps os : List (List ℕ)) (ids : List Triple) where
@@ -97,13 +93,13 @@ module _ (ss ps os : List (List ℕ)) (ids : List Triple) where
       → AreNumbersOf (subject_terms d) ss sn → AreNumbersOf (predicate_terms d) ps pn → AreNumbersOf (object_terms d) os on
       → All (λ t. t.0 < length ss) ids → All (λ t. t.1 < length ps) ids → All (λ t. t.2 < length os) ids
       → All (Contains (map (λ t. t.0) (triples_of ss ps os ids))) ss → All (Contains (map (λ t. t.1) (triples_of ss ps os ids))) ps → All (Contains (map (λ t. t.2) (triples_of ss ps os ids))) os
-      → AscendingTriples ts → SameMembers ts (map (number_at sn pn on) ids)
+      → AscendingTriples ts → SameMembers ts (map (numbers_at sn pn on) ids)
       → IsForm (triples_of ss ps os ids) d ts
   canonical_result d sn pn on ts h s p o a b c u v w up same = record {
     sections = graph_split d h a b c u v w;
     ascending = up;
-    in_range = All-same_members (InRange d) (map (number_at sn pn on) ids) ts same (all_in_range d ss ps os sn pn on s p o ids a b c);
-    denotes = subst (SameMembers (denoted d ts)) (denoted_is d ss ps os sn pn on s p o ids a b c) (SameMembers-map (string_triple d) ts (map (number_at sn pn on) ids) same);
+    in_range = All-same_members (InRange d) (map (numbers_at sn pn on) ids) ts same (all_in_range d ss ps os sn pn on s p o ids a b c);
+    denotes = subst (SameMembers (denoted d ts)) (denoted_is d ss ps os sn pn on s p o ids a b c) (SameMembers-map (string_triple d) ts (map (numbers_at sn pn on) ids) same);
   }
 
 module _ {g : List StringTriple} (d : FourLists) (ts : List Triple) (h : IsForm g d ts) where

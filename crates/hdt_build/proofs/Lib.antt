@@ -6,13 +6,14 @@ pub mod Distinct
 pub mod Equal
 pub mod Grown
 pub mod Heads
+pub mod KeyOrder
 pub mod Layouts
 pub mod NoTriples
 pub mod Numbering
 pub mod OneDocument
 pub mod Order
+pub mod Moving
 pub mod Placing
+pub mod Ranking
 pub mod Runs
-pub mod Splitting
-pub mod Texts
 pub mod Unique

@@ -1,13 +1,14 @@
 -- Numbers of the strings of two sections, one after the other, and the walk that finds them.
-use Rattle.std.proofs.Common.{◌≡◌, ◌≢◌, ℕ, ◌+◌, ◌-◌, ◌<◌, List, [], ◌++◌, length, get_or, set, ap, sym, ◌∙◌, subst, inl, inr, ⊎_elim, arith}
+use Rattle.std.proofs.Common.{◌≡◌, ◌≢◌, ℕ, ◌+◌, ◌-◌, ◌<◌, ◌≤◌, List, [], ◌∷◌, ◌++◌, length, get_or, ap, sym, ◌∙◌, subst, inl, inr, ⊎_elim, arith}
 use Rattle.std.specs.declared.cmp.Ordering.TheVariants.{Less}
 use Rattle.std.specs.List.{Contains}
-use Rattle.std.proofs.lemmas.Bool.{cases_lt, cases_eq}
-use Rattle.std.proofs.lemmas.List.{length-map, get_or_append_left, get_or-append_right, length-append, get_or-set_same, get_or-set_other, get_or_default}
+use Rattle.std.proofs.lemmas.Bool.{cases_lt}
+use Rattle.std.proofs.lemmas.List.{length-map, get_or_append_left, get_or-append_right, length-append, get_or_default}
 use Rattle.std.proofs.lemmas.List.Elements.{Contains-append_cases}
 use Rattle.hdt_front.specs.Canonical.{lent_texts}
-use Rattle.hdt_dict.specs.Strings.{Lent, IsAscending, FirstBelow, string_cmp}
-use Rattle.hdt_build.specs.Placed.{Placed, ArePlaced, placed_text, placed_at}
+use Rattle.hdt_dict.specs.Strings.{Lent, nothing, IsAscending, FirstBelow, string_cmp}
+use Rattle.hdt_build.specs.Placed.{Ascends}
+use Rattle.hdt_dict.specs.StringsLaws.{string_at}
 use Rattle.hdt_dict.specs.MergeLaws.{stands}
 use Rattle.hdt_build.specs.Numbers.{IsNumberOf, AreNumbersOf}
 
@@ -41,28 +42,33 @@ module _ (vs : List Lent) (at : ℕ) (x : List ℕ) (up : IsAscending (lent_text
 pub in_second : (xs ys : List (List ℕ)) (x : List ℕ) → (Contains xs x → ⊥) → Contains (xs ++ ys) x → Contains ys x
 in_second xs ys x absent there = ⊎_elim (λ here. absurd (absent here)) (λ later. later) (Contains-append_cases xs ys x there)
 
-module _ (terms xs : List (List ℕ)) (ps : List Placed) (ns : List ℕ) (placed : ArePlaced xs ps) where
-  -- one more number, at the place of its string
-  pub numbers_more : (i v : ℕ) → i < length ps → length ns ≡ length xs → IsNumberOf terms (placed_text ps i) v
-      → ((n : ℕ) → n < i → IsNumberOf terms (placed_text ps n) (get_or ns (placed_at ps n) 0))
-      → (n : ℕ) → n < i + 1 → IsNumberOf terms (placed_text ps n) (get_or (set ns (placed_at ps i) v) (placed_at ps n) 0)
-  numbers_more i v in' long new old n below =
-      let here : n < length ps = omega arith in
-      let inside : placed_at ps i < length ns = omega (arith, placed.within i in') in
-      elim (cases_eq (placed_at ps n) (placed_at ps i)) as (λ _. IsNumberOf terms (placed_text ps n) (get_or (set ns (placed_at ps i) v) (placed_at ps n) 0)) [
-        | inl same ↦
-            let text : placed_text ps i ≡ placed_text ps n = sym (placed.is i in') ∙ ap (λ k. get_or xs k []) (sym same) ∙ placed.is n here in
-            rw (same, get_or-set_same ns (placed_at ps i) v 0 inside, ← text) new
-        | inr apart ↦
-            let before : n < i = elim (cases_lt n i) as (λ _. n < i) [ inl lt ↦ lt | inr le ↦ let e : n ≡ i = omega arith in absurd (apart (ap (placed_at ps) e)) ] in
-            rw (get_or-set_other ns (placed_at ps i) (placed_at ps n) v 0 apart) (old n before)
-      ]
+-- an ascending list of lent strings, as an index reads it
+pub lent_ascends : (vs : List Lent) → Ascends (lent_texts vs) → (m n : ℕ) → m ≤ n → n < length vs → string_cmp (get_or vs n nothing).now (get_or vs m nothing).now ≢ Less
+lent_ascends vs up m n low high =
+    let before : m < length vs = omega arith in
+    rw (← string_at vs n nothing [] high, ← string_at vs m nothing [] before) (up m n low (omega (arith, length-map vs (λ (v : Lent). v.now))))
+
+module _ (terms : List (List ℕ)) (vs : List Lent) (ns : List ℕ) where
+  -- one more number, at the end
+  pub numbers_more : (i v : ℕ) → length ns ≡ i → IsNumberOf terms (get_or vs i nothing).now v
+      → ((n : ℕ) → n < i → IsNumberOf terms (get_or vs n nothing).now (get_or ns n 0))
+      → (length (ns ++ v ∷ []) ≡ i + 1) × ((n : ℕ) → n < i + 1 → IsNumberOf terms (get_or vs n nothing).now (get_or (ns ++ v ∷ []) n 0))
+  numbers_more i v long new old = (
+    omega (arith, length-append ns (v ∷ [])),
+    λ n below. elim (cases_lt n i) as (λ _. IsNumberOf terms (get_or vs n nothing).now (get_or (ns ++ v ∷ []) n 0)) [
+      | inl before ↦ rw (get_or_append_left ns (v ∷ []) 0 n (omega arith)) (old n before)
+      | inr behind ↦
+          let e : n ≡ i = omega arith in
+          let z : n - i ≡ 0 = omega arith in
+          rw (get_or-append_right ns (v ∷ []) i n 0 long behind, z) (subst (λ k. IsNumberOf terms (get_or vs k nothing).now v) (sym e) new)
+    ],
+  )
 
   -- all of them
-  pub numbers_all : length ns ≡ length xs → ((n : ℕ) → n < length ps → IsNumberOf terms (placed_text ps n) (get_or ns (placed_at ps n) 0)) → AreNumbersOf terms xs ns
+  pub numbers_all : length ns ≡ length vs → ((n : ℕ) → n < length vs → IsNumberOf terms (get_or vs n nothing).now (get_or ns n 0)) → AreNumbersOf terms (lent_texts vs) ns
   numbers_all long all = record {
-    long = long;
+    long = long ∙ sym (length-map vs (λ (v : Lent). v.now));
     each = λ k below.
-        let r = placed.every k below in
-        subst (λ j. IsNumberOf terms (get_or xs j []) (get_or ns j 0)) r.2 (rw (placed.is r.0 r.1) (all r.0 r.1));
+        let in' : k < length vs = omega (arith, length-map vs (λ (v : Lent). v.now)) in
+        rw (string_at vs k nothing [] in') (all k in');
   }

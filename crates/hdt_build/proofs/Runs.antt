@@ -8,7 +8,7 @@ use Rattle.std.proofs.lemmas.List.Sums.{AllPass-from_list_all}
 use Rattle.hdt_wire.specs.RowLaws.{not-true}
 use Rattle.hdt_dict.specs.Texts.{IsText}
 use Rattle.hdt_terms.specs.declared.fault.LineFault.{LineFault}
-use Rattle.hdt_terms.specs.declared.fault.LineReason.TheVariants.{OutOfMemory, Read}
+use Rattle.hdt_terms.specs.declared.fault.LineReason.TheVariants.{Read}
 use Rattle.hdt_terms.specs.declared.triple.Triple.{Triple}
 use Rattle.hdt_build.specs.declared.fault.BuildFault.{BuildFault}
 use Rattle.hdt_terms.specs.Documents.{IsDocument, Ran, FaultInDocument}

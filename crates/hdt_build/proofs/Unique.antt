@@ -3,9 +3,7 @@ use Rattle.std.proofs.Common.{◌≡◌, ◌∙◌, ℕ, List, ap, subst}
 use Rattle.std.specs.List.{Contains}
 use Rattle.std.specs.Cmp.Lexicographic.{nat_list_cmp_total}
 use Rattle.std.proofs.lemmas.List.Elements.{All-contains}
-use Rattle.hdt_build.specs.PlacedLaws.{placed_same}
 use Rattle.hdt_dict.specs.Strings.{SameMembers, string_cmp}
-use Rattle.hdt_build.specs.Placed.{Placed, ArePlaced, placed_strings}
 use Rattle.hdt_dict.specs.Split.{FourLists, IsSplit}
 use Rattle.hdt_build.specs.Graph.{subject_terms, predicate_terms, object_terms}
 use Rattle.hdt_dict.specs.MembersLaws.{SameMembers-map, SameMembers-trans, Contains-map, Contains-from_map, ascending_unique}
@@ -26,11 +24,6 @@ split_same d s p o h = record {
   predicates = λ x. (λ a. (p x).0 ((h.predicates x).0 a), λ r. (h.predicates x).1 ((p x).1 r));
   objects = λ x. (λ a. let r = (h.objects x).0 a in ((o x).0 r.0, λ b. r.1 ((s x).1 b)), λ r. (h.objects x).1 ((o x).1 r.0, λ b. r.1 ((s x).0 b)));
 }
-
--- the sections of three lists in ascending order, seen through the lists that they order
-pub split_of : (ss ps os : List (List ℕ)) (as' bs cs : List Placed) (d : FourLists) → ArePlaced ss as' → ArePlaced ps bs → ArePlaced os cs
-    → IsSplit (placed_strings as') (placed_strings bs) (placed_strings cs) d → IsSplit ss ps os d
-split_of ss ps os as' bs cs d a b c h = split_same d (placed_same ss as' a) (placed_same ps bs b) (placed_same os cs c) h
 
 -- the sections of three lists are determined
 same_sections : (a b c d e f g h : List (List ℕ)) → a ≡ e → b ≡ f → c ≡ g → d ≡ h → let l : FourLists = record { shared = a; subjects = b; predicates = c; objects = d } in let r : FourLists = record { shared = e; subjects = f; predicates = g; objects = h } in l ≡ r

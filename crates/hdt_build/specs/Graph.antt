@@ -1,5 +1,5 @@
 -- A graph as string triples, and its dictionary and number triples (HDT submission, dictionary and triples).
-use Rattle.std.specs.Prelude.{ℕ, List, [], map, length, slice_index_or, ◌++◌, ◌&&◌, Bool, nat_eq}
+use Rattle.std.specs.Prelude.{ℕ, List, [], map, length, slice_index, slice_index_or, ◌++◌, ◌&&◌, Bool, nat_eq}
 use Rattle.std.specs.declared.cmp.Ordering.{Ordering}
 use Rattle.std.specs.Ordering.{nat_cmp, ordering_then}
 use Rattle.std.specs.List.{All}
@@ -79,3 +79,7 @@ triple_at ss ps os t = (slice_index_or ss t.0 [], slice_index_or ps t.1 [], slic
 -- their string triples
 abbrev pub triples_of : (ss ps os : List (List ℕ)) → List Triple → List StringTriple
 triples_of ss ps os ids = map (triple_at ss ps os) ids
+
+-- what three lists of numbers have at the places of a triple
+abbrev pub numbers_at : (sn pn on : List ℕ) → Triple → Triple
+numbers_at sn pn on t = (slice_index sn t.0, slice_index pn t.1, slice_index on t.2)

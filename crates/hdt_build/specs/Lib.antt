@@ -3,10 +3,10 @@ pub mod Canonical
 pub mod Documents
 pub mod Graph
 pub mod Header
+pub mod Keys
 pub mod Layouts
 pub mod Numbers
 pub mod Options
 pub mod Placed
-pub mod PlacedLaws
 pub mod Reading
 pub mod Texts

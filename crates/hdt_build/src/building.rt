@@ -47,7 +47,8 @@ fn built(
     requires right { AreRight options.now }
     ensures { IfOk result (λ made. IsBuilt options.now (graph_of document) made.0.items made.1) }
 {
-    let (lists, ids) = document.into_lists();
+    let (lists, mut ids) = document.into_lists();
+    let lists = lists.in_order(alloc, &mut ids)?;
     let form = lists.form(alloc, ids)?;
     let header = header_body(alloc, options.base.as_slice(), form.triples.len() as u64)?;
     let bytes = canonical_file(alloc, header.as_slice(), &form, options.block_size)?;

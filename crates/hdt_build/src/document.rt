@@ -14,7 +14,7 @@ pub struct Document {
     subjects: Interner,
     predicates: Interner,
     objects: Interner,
-    ids: Vec<(usize, usize, usize)>,
+    ids: Vec<(u64, u64, u64)>,
 }
 
 /// A place of a subject in the list, at whose end it is put where none is known. Where the triple before has the same
@@ -22,7 +22,7 @@ pub struct Document {
 fn subject_place(
     alloc: Global,
     list: &mut Interner,
-    ids: &[(usize, usize, usize)],
+    ids: &[(u64, u64, u64)],
     subject: &[u8],
 ) -> Result<usize, AllocError>
     requires { All (λ t. t.0 < length list.old) ids.now }
@@ -31,8 +31,9 @@ fn subject_place(
     ensures list { IfOk result (λ i. list.new ≡ with_text list.old subject.now i) }
 {
     if let Some((before, _, _)) = ids.last() {
-        if list.list().get(*before) == subject {
-            return Ok(*before);
+        let before = *before as usize;
+        if list.list().get(before) == subject {
+            return Ok(before);
         }
     }
     list.place_of(alloc, subject)
@@ -61,7 +62,7 @@ impl Document {
         let i = subject_place(alloc, &mut self.subjects, self.ids.as_slice(), s)?;
         let j = self.predicates.place_of(alloc, p)?;
         let k = self.objects.place_of(alloc, o)?;
-        self.ids.push((i, j, k))?;
+        self.ids.push((i as u64, j as u64, k as u64))?;
         Ok(())
     }
 
@@ -73,7 +74,7 @@ impl Document {
     }
 
     /// The strings, without what finds their places, and the triples.
-    pub fn into_lists(self) -> (Lists, Vec<(usize, usize, usize)>)
+    pub fn into_lists(self) -> (Lists, Vec<(u64, u64, u64)>)
         ensures subjects { result.0.subjects ≡ self.subjects }
         ensures predicates { result.0.predicates ≡ self.predicates }
         ensures objects { result.0.objects ≡ self.objects }

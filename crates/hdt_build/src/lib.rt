@@ -23,6 +23,7 @@ mod file;
 mod form;
 mod header;
 mod interner;
+mod keys;
 mod laws;
 mod lists;
 mod numbers;
@@ -30,7 +31,6 @@ mod options;
 mod placed;
 mod reading;
 mod report;
-mod split;
 #[cfg(test)]
 mod tests;
 mod triples;

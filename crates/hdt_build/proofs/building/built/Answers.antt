@@ -9,18 +9,18 @@ use Rattle.hdt_build.proofs.building.built.Goals as goal
 
 pub canonical_file-requires-clause-sections : goal.canonical_file-requires-clause-sections
 canonical_file-requires-clause-sections c =
-    let form : IsForm (graph_of c.args.document) (lent_lists_of c.in_ok-form.form.parts) c.in_ok-form.form.triples.items = (rw (c.into_lists-lists.ensures.subjects, c.into_lists-lists.ensures.predicates, c.into_lists-lists.ensures.objects, c.into_lists-lists.ensures.ids) at c.in_ok-form.ensures) in
+    let form : IsForm (graph_of c.args.document) (lent_lists_of c.in_ok-form.form.parts) c.in_ok-form.form.triples.items = (rw (c.in_ok-lists.ensures.graph, c.into_lists-lists.ensures.subjects, c.into_lists-lists.ensures.predicates, c.into_lists-lists.ensures.objects, c.into_lists-lists.ensures.ids) at c.in_ok-form.ensures) in
     form_sections _ _ _ form c.requires.texts
 
 pub canonical_file-requires-clause-triples : goal.canonical_file-requires-clause-triples
 canonical_file-requires-clause-triples c =
-    let form : IsForm (graph_of c.args.document) (lent_lists_of c.in_ok-form.form.parts) c.in_ok-form.form.triples.items = (rw (c.into_lists-lists.ensures.subjects, c.into_lists-lists.ensures.predicates, c.into_lists-lists.ensures.objects, c.into_lists-lists.ensures.ids) at c.in_ok-form.ensures) in
+    let form : IsForm (graph_of c.args.document) (lent_lists_of c.in_ok-form.form.parts) c.in_ok-form.form.triples.items = (rw (c.in_ok-lists.ensures.graph, c.into_lists-lists.ensures.subjects, c.into_lists-lists.ensures.predicates, c.into_lists-lists.ensures.objects, c.into_lists-lists.ensures.ids) at c.in_ok-form.ensures) in
     writable (lent_lists_of c.in_ok-form.form.parts) c.in_ok-form.form.triples.items form
     (some_triple (graph_of c.args.document) (lent_lists_of c.in_ok-form.form.parts) c.in_ok-form.form.triples.items form c.requires.some)
 
 pub returns : goal.returns
 returns c =
-    let form : IsForm (graph_of c.args.document) (lent_lists_of c.in_ok-form.form.parts) c.in_ok-form.form.triples.items = (rw (c.into_lists-lists.ensures.subjects, c.into_lists-lists.ensures.predicates, c.into_lists-lists.ensures.objects, c.into_lists-lists.ensures.ids) at c.in_ok-form.ensures) in
+    let form : IsForm (graph_of c.args.document) (lent_lists_of c.in_ok-form.form.parts) c.in_ok-form.form.triples.items = (rw (c.in_ok-lists.ensures.graph, c.into_lists-lists.ensures.subjects, c.into_lists-lists.ensures.predicates, c.into_lists-lists.ensures.objects, c.into_lists-lists.ensures.ids) at c.in_ok-form.ensures) in
     let ts = c.in_ok-form.form.triples in
     let many : vec_len ts ≡ length ts.items = omega (arith, ts.ok.0) in
     is_built c.args.options.now (graph_of c.args.document) (lent_lists_of c.in_ok-form.form.parts) c.in_ok-form.form.triples.items c.in_ok-header.header.items c.in_ok-bytes.bytes.items c.report_of-report.result

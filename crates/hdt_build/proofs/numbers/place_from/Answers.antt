@@ -2,7 +2,7 @@ use Rattle.std.proofs.Common.{below_more, ap, sym, ◌∙◌}
 use Rattle.hdt_dict.specs.Strings.{string_cmp, nothing}
 use Rattle.hdt_dict.specs.StringsLaws.{string_at}
 use Rattle.hdt_dict.specs.MergeLaws.{Less-from_is_lt}
-use Rattle.hdt_build.proofs.split.place_from.Goals as goal
+use Rattle.hdt_build.proofs.numbers.place_from.Goals as goal
 
 pub loop-at-preserved : goal.loop-at-preserved
 loop-at-preserved c =

@@ -5,7 +5,7 @@ use Rattle.hdt_front.specs.Canonical.{lent_texts}
 use Rattle.hdt_dict.specs.Strings.{nothing}
 use Rattle.hdt_dict.specs.StringsLaws.{string_at}
 use Rattle.hdt_dict.specs.MergeLaws.{has_here, has_past}
-use Rattle.hdt_build.proofs.split.stands_at.Goals as goal
+use Rattle.hdt_build.proofs.numbers.stands_at.Goals as goal
 
 pub returns-then-at-list : goal.returns-then-at-list
 returns-then-at-list c =
