@@ -105,11 +105,7 @@ fn read(bytes: &[u8], counts: [u64; 3]) -> Result<Triples<'_>, Fail> {
 }
 
 /// The same with directories and lists.
-fn listed(
-    alloc: Global,
-    bytes: &[u8],
-    counts: [u64; 3],
-) -> Result<ListedTriples<'_>, Fail> {
+fn listed(alloc: Global, bytes: &[u8], counts: [u64; 3]) -> Result<ListedTriples<'_>, Fail> {
     let triples = read(bytes, counts)?;
     let Ok(indexed) = triples.with_directories(alloc) else {
         return Err(Fail::from(AllocError));

@@ -1,5 +1,5 @@
 //! The matches of a pattern that gives an object and no subject.
-ghost use Rattle.std.specs.Prelude.{◌≡◌, ◌≤◌, ◌+◌, map, Some};
+ghost use Rattle.std.specs.Prelude.{◌≡◌, ◌≤◌, ◌+◌, ◌<◌, ◌^◌, map, Some, length};
 ghost use Rattle.std.specs.List.{All};
 ghost use Rattle.hdt_triples.specs.Bounds.{object_price, Pays, limit};
 ghost use Rattle.hdt_triples.specs.Counting.{triple_at, triples_of};
@@ -54,6 +54,7 @@ impl<'a> ListedTriples<'a> {
     pub(crate) fn find_object(&self, pattern: Pattern, object: u64) -> ObjectMatches<'_>
         requires { pattern.o ≡ Some object }
         ensures items { left_of_object result ≡ matches pattern (triples_of (bitmap_read (triples_listed self.now))) }
+        ensures fits { length (left_of_object result) < 2 ^ 64 }
         ensures few { limit_of_object result ≡ limit (object_price object) (bitmap_read (triples_listed self.now)) }
     {
         let mut steps = Steps::new();

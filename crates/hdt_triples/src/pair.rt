@@ -1,5 +1,5 @@
 //! The matches of a pattern that gives a subject and a predicate.
-ghost use Rattle.std.specs.Prelude.{◌≡◌, ◌≤◌, ◌<◌, ◌+◌, ◌*◌, ℕ, length, Some, IfSome, false};
+ghost use Rattle.std.specs.Prelude.{◌≡◌, ◌≤◌, ◌<◌, ◌+◌, ◌*◌, ◌^◌, ℕ, length, Some, IfSome, false};
 ghost use Rattle.hdt_seq.specs.Directory.{groups};
 ghost use Rattle.hdt_seq.specs.Width.{digits};
 ghost use Rattle.hdt_triples.specs.Bounds.{pair_price, Pays, limit};
@@ -114,6 +114,7 @@ impl<'a> IndexedTriples<'a> {
         requires subject_given { pattern.s ≡ Some subject }
         requires predicate_given { pattern.p ≡ Some predicate }
         ensures items { left_of_pair result ≡ matches pattern (triples_of (bitmap_read (triples_indexed self.now))) }
+        ensures fits { length (left_of_pair result) < 2 ^ 64 }
         ensures few { limit_of_pair result ≡ limit (pair_price (bitmap_read (triples_indexed self.now)) pattern) (bitmap_read (triples_indexed self.now)) }
     {
         let mut steps = Steps::new();

@@ -1,5 +1,5 @@
 //! The matches of a pattern that gives a predicate alone.
-ghost use Rattle.std.specs.Prelude.{◌≡◌, ◌≤◌};
+ghost use Rattle.std.specs.Prelude.{◌≡◌, ◌≤◌, ◌<◌, ◌^◌, length};
 ghost use Rattle.hdt_triples.specs.Bounds.{of_predicate, predicate_price, Pays, limit};
 ghost use Rattle.hdt_triples.specs.Counting.{triples_of};
 ghost use Rattle.hdt_triples.specs.Patterns.{matches};
@@ -32,6 +32,7 @@ impl<'a> ListedTriples<'a> {
     #[tactic(auto, unfolding(crate::specs::PredicateLeft::left_of_predicate, crate::specs::PredicateLeft::limit_of_predicate))]
     pub(crate) fn find_predicate(&self, predicate: u64) -> PredicateMatches<'_>
         ensures items { left_of_predicate result ≡ matches (of_predicate predicate) (triples_of (bitmap_read (triples_listed self.now))) }
+        ensures fits { length (left_of_predicate result) < 2 ^ 64 }
         ensures few { limit_of_predicate result ≡ limit (predicate_price (bitmap_read (triples_listed self.now)) predicate) (bitmap_read (triples_listed self.now)) }
     {
         let mut steps = Steps::new();

@@ -1,5 +1,5 @@
 //! The matches of a pattern that gives a subject and no predicate.
-ghost use Rattle.std.specs.Prelude.{◌≡◌, ◌≤◌, ◌<◌, length, Some};
+ghost use Rattle.std.specs.Prelude.{◌≡◌, ◌≤◌, ◌<◌, ◌^◌, length, Some};
 ghost use Rattle.hdt_triples.specs.Bounds.{subject_price, Pays, limit};
 ghost use Rattle.hdt_triples.specs.Counting.{triples_of};
 ghost use Rattle.hdt_triples.specs.Patterns.{matches};
@@ -35,6 +35,7 @@ impl<'a> IndexedTriples<'a> {
     pub(crate) fn find_subject(&self, pattern: Pattern, subject: u64) -> SubjectMatches<'a>
         requires { pattern.s ≡ Some subject }
         ensures items { left_of_subject result ≡ matches pattern (triples_of (bitmap_read (triples_indexed self.now))) }
+        ensures fits { length (left_of_subject result) < 2 ^ 64 }
         ensures few { limit_of_subject result ≡ limit (subject_price (bitmap_read (triples_indexed self.now)) subject) (bitmap_read (triples_indexed self.now)) }
     {
         let mut steps = Steps::new();

@@ -1,5 +1,5 @@
 //! The matches of a pattern by a walk over all triples.
-ghost use Rattle.std.specs.Prelude.{◌≡◌, ◌≤◌, ◌*◌, length};
+ghost use Rattle.std.specs.Prelude.{◌≡◌, ◌≤◌, ◌*◌, ◌<◌, ◌^◌, length};
 ghost use Rattle.hdt_triples.specs.Counting.{triples_of};
 ghost use Rattle.hdt_triples.specs.Patterns.{matches};
 ghost use Rattle.hdt_triples.specs.Views.{bitmap_read};
@@ -28,6 +28,7 @@ impl<'a> Triples<'a> {
     #[tactic(auto, using(crate::proofs::WalkLaws::from_start), unfolding(crate::specs::WalkLeft::left_of_walk, crate::specs::WalkLeft::limit_of_walk))]
     pub(crate) fn find_walk(&self, pattern: Pattern) -> WalkMatches<'a>
         ensures items { left_of_walk result ≡ matches pattern (triples_of (bitmap_read self.now)) }
+        ensures fits { length (left_of_walk result) < 2 ^ 64 }
         ensures few { limit_of_walk result ≡ 4 * length (bitmap_read self.now).zs }
     {
         WalkMatches {

@@ -1,4 +1,4 @@
-use Rattle.std.proofs.Common.{arith, sym, subst, map, ap, ◌∙◌}
+use Rattle.std.proofs.Common.{arith, sym, subst, map, ap, ◌∙◌, length}
 use Rattle.std.specs.List.{All}
 use Rattle.hdt_triples.specs.Bounds.{Pays, object_price}
 use Rattle.hdt_triples.specs.Counting.{triple_at}
@@ -7,6 +7,7 @@ use Rattle.hdt_triples.specs.Patterns.{matches}
 use Rattle.hdt_triples.specs.Views.{bitmap_read}
 use Rattle.hdt_triples.specs.ObjectLeft.{left_of_object}
 use Rattle.hdt_triples.proofs.ObjectLaws.{among_places, object_law, object_pays_first}
+use Rattle.hdt_triples.proofs.WalkLaws.{matches_fit}
 use Rattle.hdt_triples.proofs.listed.ListedTriples.find_object.Goals as goal
 
 pub invariant_of-result : goal.invariant_of-result
@@ -25,3 +26,7 @@ unfolding left_of_object
 returns-clause-items c =
     let f = bitmap_read c.args.self.now.indexed.triples in
     ap (λ js. matches c.args.pattern (map (triple_at f) js)) c.places_of-rest.ensures.is ∙ object_law c.args.pattern f c.args.object c.requires
+
+pub returns-clause-fits : goal.returns-clause-fits
+unfolding left_of_object
+returns-clause-fits c = omega (arith, ap length (returns-clause-items c), matches_fit c.args.pattern c.args.self.now.indexed.triples)
