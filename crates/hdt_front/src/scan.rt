@@ -67,6 +67,7 @@ pub(crate) fn text_len(bytes: &[u8]) -> usize
 #[inline(always)]
 pub(crate) fn plain_len(bytes: &[u8]) -> usize
     ensures plain { result ≤ plain_in bytes.now }
+    ensures whole { result + LANES ≤ length bytes.now → result ≡ plain_in bytes.now }
     ensures within { result ≤ length bytes.now }
 {
     let mut at = 0;
