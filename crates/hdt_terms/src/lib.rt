@@ -11,7 +11,8 @@
 //! put_term(&term, &mut line)?; // the same here, since nothing in it is escaped
 //! ```
 //!
-//! [`parse_string`] reads a text as [`parse_term`] does and appends its dictionary string, with no term made.
+//! [`parse_string`] reads a text as [`parse_term`] does and appends its dictionary string, and [`put_string`] goes the other
+//! way, from a dictionary string to the text, both with no term made.
 //!
 //! [`Lines`] gives the triples of a document, line by line, over any reader in any pieces: [`Lines::next_triple`] as terms,
 //! which is simple, and [`Lines::next_strings`] as dictionary strings in buffers that are handed in, which is fast.
@@ -21,8 +22,8 @@
 //! In reading order: `term`, `text` and `triple`, the types; `fault`, what is wrong with a text; `chars`, the classes of
 //! characters; `lanes`, runs of bytes 16 at a time, and `encoding`, UTF-8; the tokens, `pieces` (the inside of IRIs and
 //! strings), `iri`, `label`, `tag` and `literal`; `dictionary`, tokens as dictionary strings; `parse`, one term; `line`, one
-//! line; `buffer`, `filling` and `lines`, a reader's lines; `document`, all of them; `strings`, dictionary strings; `put`, writing;
-//! `laws`, what holds of all terms and lines.
+//! line; `buffer`, `filling` and `lines`, a reader's lines; `document`, all of them; `lent`, the term that a dictionary string
+//! is, its texts lent; `strings`, dictionary strings; `put`, writing; `laws`, what holds of all terms and lines.
 #![tactic(auto)]
 
 mod buffer;

@@ -145,6 +145,7 @@ pub fn is_raw(token: Token, byte: u8) -> bool
 }
 
 /// How many bytes at the front stand in a token as they are.
+#[inline(always)]
 pub fn plain_len(token: Token, bytes: &[u8]) -> usize
     ensures within { result ≤ length bytes.now }
     ensures plain { (k : ℕ) → k < result → is_raw token (slice_index bytes.now k) ≡ true }
@@ -178,6 +179,7 @@ fn append_char(c: char, out: &mut Vec<u8>) -> Result<(), AllocError>
 }
 
 /// Appends what stands inside a token, its escapes resolved, and answers the bytes after its end.
+#[inline(always)]
 pub fn inside<'a>(token: Token, bytes: &'a [u8], out: &mut Vec<u8>) -> Result<&'a [u8], ReadError>
     ensures reads { Appends itself out.old.items out.new.items (λ rest. rest.now) result (inside token 0 bytes.now) }
     ensures kept { Extends out.old.items out.new.items }
