@@ -1,8 +1,9 @@
 //! From N-Triples to a file.
-ghost use Rattle.std.specs.Prelude.{◌≡◌, ◌≢◌, ◌<◌, ◌+◌, ◌↔◌, [], ℕ, length, take, IfOk, IfErr, OnOk, IsErrOf};
+ghost use Rattle.std.specs.Prelude.{◌≡◌, ◌≢◌, ◌<◌, ◌+◌, ◌↔◌, [], ℕ, List, length, take, IfOk, IfErr, OnOk, IsErrOf};
 ghost use Rattle.std.specs.Io.KnownBytes.{Appends};
 ghost use Rattle.hdt_wire.specs.Counted.{inner, failures};
-ghost use Rattle.hdt_dict.specs.Split.{lent_lists_of};
+ghost use Rattle.hdt_dict.specs.Split.{FourLists, lent_lists_of};
+ghost use Rattle.hdt_triples.specs.Counting.{Triple};
 ghost use Rattle.hdt_build.specs.Built.{report_of, IsBuilt, Builds, Writes, Begins};
 ghost use Rattle.hdt_build.specs.Documents.{graph_of, IsSound};
 ghost use Rattle.hdt_build.specs.Options.{AreRight};
@@ -20,10 +21,10 @@ use hdt_wire::Counted;
 use std::alloc::{AllocError, Global};
 use std::io::{Read, Write};
 
-/// The numbers of a file with these sections and triples.
+/// The numbers of a file with these sections and triples, without its length.
 #[tactic(auto, unfolding(crate::specs::Built::report_of, hdt_dict::specs::Split::lent_lists_of))]
-fn report_of(form: &Form<'_>, bytes: &[u8]) -> Report
-    ensures { result ≡ report_of (lent_lists_of form.now.parts) form.now.triples.items bytes.now }
+fn counts_of(form: &Form<'_>) -> Report
+    ensures { result ≡ report_of (lent_lists_of form.now.parts) form.now.triples.items [] }
 {
     Report {
         triples: form.triples.len() as u64,
@@ -31,7 +32,18 @@ fn report_of(form: &Form<'_>, bytes: &[u8]) -> Report
         subjects: form.parts.subjects.len() as u64,
         predicates: form.parts.predicates.len() as u64,
         objects: form.parts.objects.len() as u64,
+        bytes: 0,
+    }
+}
+
+/// The numbers with the length of the file.
+#[tactic(auto, unfolding(crate::specs::Built::report_of))]
+fn report_of(counts: Report, bytes: &[u8]) -> Report
+    ensures { (d : FourLists) (ts : List Triple) → counts ≡ report_of d ts [] → result ≡ report_of d ts bytes.now }
+{
+    Report {
         bytes: bytes.len() as u64,
+        ..counts
     }
 }
 
@@ -51,8 +63,9 @@ fn built(
     let lists = lists.in_order(alloc, &mut ids)?;
     let form = lists.form(alloc, ids)?;
     let header = header_body(alloc, options.base.as_slice(), form.triples.len() as u64)?;
-    let bytes = canonical_file(alloc, header.as_slice(), &form, options.block_size)?;
-    let report = report_of(&form, bytes.as_slice());
+    let counts = counts_of(&form);
+    let bytes = canonical_file(alloc, header.as_slice(), form, options.block_size)?;
+    let report = report_of(counts, bytes.as_slice());
     Ok((bytes, report))
 }
 

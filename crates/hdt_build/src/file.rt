@@ -23,22 +23,25 @@ fn put_head(alloc: Global, header: &[u8], out: &mut Vec<u8>) -> Result<(), Alloc
     out.extend_from_slice(header)
 }
 
-/// The canonical file of a header body, the four sections and the number triples of a graph, and a block size.
+/// The canonical file of a header body, the four sections and the number triples of a graph, and a block size. The sections are
+/// let go before the triples are written.
 #[tactic(auto, using(std::proofs::Common::append_assoc), unfolding(crate::specs::Canonical::canonical_file))]
 pub fn canonical_file(
     alloc: Global,
     header: &[u8],
-    form: &Form<'_>,
+    form: Form<'_>,
     block_size: u32,
 ) -> Result<Vec<u8>, AllocError>
-    requires sections { AreSections (lent_lists_of form.now.parts) }
-    requires triples { AreWritable form.now.triples.items }
+    requires sections { AreSections (lent_lists_of form.parts) }
+    requires triples { AreWritable form.triples.items }
     requires block { 1 ≤ block_size }
-    ensures { IfOk result (λ bytes. bytes.items ≡ canonical_file header.now block_size (lent_lists_of form.now.parts) form.now.triples.items) }
+    ensures { IfOk result (λ bytes. bytes.items ≡ canonical_file header.now block_size (lent_lists_of form.entry.parts) form.entry.triples.items) }
 {
+    let Form { parts, triples } = form;
     let mut bytes = Vec::new(alloc);
     put_head(alloc, header, &mut bytes)?;
-    put_lent_dictionary(alloc, &form.parts, block_size, &mut bytes)?;
-    put_triples(alloc, form.triples.as_slice(), &mut bytes)?;
+    put_lent_dictionary(alloc, &parts, block_size, &mut bytes)?;
+    drop(parts);
+    put_triples(alloc, triples.as_slice(), &mut bytes)?;
     Ok(bytes)
 }

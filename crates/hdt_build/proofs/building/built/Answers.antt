@@ -27,4 +27,4 @@ returns c =
     c.requires.some c.requires.texts form
     ((rw (c.as_slice.ensures.value, c.len.ensures) at c.in_ok-header.ensures) ∙ ap (header_body c.args.options.now.base.items) many)
     (rw c.as_slice-2.ensures.value at c.in_ok-bytes.ensures)
-    (rw c.as_slice-3.ensures.value at c.report_of-report.ensures)
+    ((rw c.as_slice-3.ensures.value at c.report_of-report.ensures) _ _ c.counts_of-counts.ensures)
