@@ -12,8 +12,8 @@
 //!
 //! In reading order: `options`, `report` and `fault`, what is asked for and what is answered; `interner`, strings
 //! kept once, and where they stand; `document`, triples as places of strings, and `lists`, the strings alone;
-//! `reading`, the lines of an input; `placed` and `split`, the strings in order and the four sections; `numbers`, `triples`
-//! and `form`, triples as numbers; `header` and `file`, the bytes; `building`, all of it; `laws`.
+//! `reading`, the lines of an input; `keys` and `placed`, the strings in order; `numbers`, `triples` and `form`, the four
+//! sections and triples as numbers; `header` and `file`, the bytes; `building`, all of it; `laws`.
 #![tactic(auto)]
 
 mod building;
