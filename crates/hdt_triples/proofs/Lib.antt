@@ -12,4 +12,3 @@ mod RunLaws
 mod SliceLaws
 mod SubjectLaws
 mod WalkLaws
-mod Within

@@ -8,11 +8,18 @@
 //! let counts = Counts { subjects, predicates, objects };
 //! let (triples, end) = Triples::read(bytes, at, counts)?;
 //! let (subject, predicate, object) = triples.get(0);
+//! let indexed = triples.with_directories(alloc).map_err(|_| AllocError)?;
+//! let listed = indexed.with_lists(alloc).map_err(|_| AllocError)?;
+//! let found = listed.find(pattern).count();
 //! ```
 //!
 //! In reading order: `counts`, how many strings the numbers are of; `rows`, the rows of the four sequences; `triples`,
 //! the triples themselves; `fitting`, which lists can be written; `sequences`, the four sequences of a list, and
 //! `writing`, their bytes; `laws`. Triples are counted: the definition is specs/Counting.
+//!
+//! Searching: `matches`, the items of a search whichever way it goes; `walk`, over all triples; `indexed`, directories over
+//! the marks, by which `subject` and `pair` go; `listed`, the lists by predicate and by object that `counting` makes, by
+//! which `predicate` and `object` go. How many steps each takes at most is the table of specs/Bounds.
 #![tactic(auto)]
 
 mod counting;

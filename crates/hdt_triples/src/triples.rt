@@ -97,7 +97,7 @@ impl<'a> Triples<'a> {
 
     /// Triple j, counted from 0: its subject, its predicate and its object. It counts marks from the first on, so it
     /// costs time in proportion to the place.
-    #[tactic(auto, using(crate::proofs::Within::pair_within), unfolding(crate::specs::Views::bitmap_read))]
+    #[tactic(auto, using(crate::specs::OrderLaws::pair_within), unfolding(crate::specs::Views::bitmap_read))]
     pub fn get(&self, j: u64) -> (u64, u64, u64)
         requires { j < length (bitmap_read self.now).zs }
         ensures { result ≡ triple_at (bitmap_read self.now) j }
