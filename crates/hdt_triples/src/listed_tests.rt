@@ -276,7 +276,7 @@ fn finds_each_pattern_that_occurs(rt: HostRuntime) -> Result<(), Fail> {
     let mut bytes = Vec::new(alloc);
     put_triples(alloc, &list, &mut bytes)?;
     let listed = listed(alloc, &bytes, [125, 10, 55])?;
-    for (s, p, o) in list.iter().copied().step_by(7) {
+    for (s, p, o) in list.iter().copied() {
         for numbers in [[s, p, o], [s, p, 0], [s, 0, o], [s, 0, 0]] {
             all_agree(&rt, &listed, pattern_of(numbers), &list)?;
         }
