@@ -11,8 +11,8 @@ use Rattle.hdt_wire.specs.Control.{Block, IsBlock, control_at}
 use Rattle.hdt_wire.specs.ExactItems.{rows_from}
 use Rattle.hdt_front.specs.Section.{SectionParts, IsSection, string_place, section_at}
 use Rattle.hdt_dict.specs.Strings.{has}
-use Rattle.hdt_dict.specs.declared.role.Role.{Role}
-use Rattle.hdt_dict.specs.declared.role.Role.TheVariants.{Subject, Predicate, Object}
+use Rattle.hdt_wire.specs.declared.role.Role.{Role}
+use Rattle.hdt_wire.specs.declared.role.Role.TheVariants.{Subject, Predicate, Object}
 
 -- what a dictionary says: its four sections, with their places
 pub record DictionaryParts : Type 0 where

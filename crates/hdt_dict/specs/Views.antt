@@ -1,8 +1,8 @@
 -- What a `Dictionary` stands for.
 use Rattle.std.specs.Prelude.{ℕ, ◌+◌, max}
 use Rattle.hdt_front.specs.Strings.{section_of, looks, block_size}
-use Rattle.hdt_dict.specs.declared.role.Role.{Role}
-use Rattle.hdt_dict.specs.declared.role.Role.TheVariants.{Subject, Predicate, Object}
+use Rattle.hdt_wire.specs.declared.role.Role.{Role}
+use Rattle.hdt_wire.specs.declared.role.Role.TheVariants.{Subject, Predicate, Object}
 use Rattle.hdt_dict.specs.declared.dictionary.Dictionary.{Dictionary}
 use Rattle.hdt_dict.specs.Dictionary.{DictionaryParts}
 

@@ -7,14 +7,13 @@ ghost use Rattle.hdt_front.specs.Strings.{strings_of, section_of};
 ghost use Rattle.hdt_front.specs.Section.{string_place};
 ghost use Rattle.hdt_dict.specs.Dictionary.{DictionaryParts, IsDictionary, terms, section_number, apart_at, dictionary_at};
 ghost use Rattle.hdt_dict.specs.Numbered.{numbered, Appends};
-ghost use Rattle.hdt_dict.specs.declared.role.Role.{Role};
+ghost use Rattle.hdt_wire.specs.declared.role.Role.{Role};
 
 use crate::apart::{check_objects, check_subjects};
-use crate::role::Role;
 use crate::two::{number_in_two, string_in_one, string_in_two};
 use hdt_front::{ReadFault, Section};
 use hdt_seq::Steps;
-use hdt_wire::{Kind, read_control};
+use hdt_wire::{Kind, Role, read_control};
 use std::alloc::{AllocError, Global};
 
 /// A dictionary that was read: it borrows the input, in which its strings are searched as they lie, and owns nothing.

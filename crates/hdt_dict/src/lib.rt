@@ -25,7 +25,6 @@ mod laws;
 mod merge;
 mod overlap;
 mod parts;
-mod role;
 mod sorted;
 mod two;
 mod walk;
@@ -33,11 +32,11 @@ mod writing;
 
 pub use arena::Arena;
 pub use dictionary::Dictionary;
+pub use hdt_wire::Role;
 pub use laws::{
     dictionaries_are_exact, dictionary_is_read_again, one_dictionary, split_makes_sections,
 };
 pub use parts::{LentParts, Parts, split, split_lent};
-pub use role::Role;
 pub use sorted::ascending_strings;
 pub use walk::Strings;
 pub use writing::{put_dictionary, put_lent_dictionary};

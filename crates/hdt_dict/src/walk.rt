@@ -5,8 +5,8 @@ ghost use Rattle.hdt_dict.specs.Views.{dictionary_of};
 ghost use Rattle.hdt_dict.specs.Walking.{stepped, next_number};
 
 use crate::dictionary::Dictionary;
-use crate::role::Role;
 use hdt_front::{Section, Walk};
+use hdt_wire::Role;
 use std::alloc::{AllocError, Global};
 use std::marker::Model;
 

@@ -12,7 +12,7 @@ use Rattle.hdt_terms.specs.Lines.{NoEnd, SpelledTriple, EndedLines, triples_of, 
 use Rattle.hdt_terms.specs.Spelling.{Spelled}
 use Rattle.hdt_terms.specs.Terms.{IsGrammarTerm}
 use Rattle.hdt_terms.specs.Writing.{written}
-use Rattle.hdt_dict.specs.declared.role.Role.TheVariants.{Subject, Predicate}
+use Rattle.hdt_wire.specs.declared.role.Role.TheVariants.{Subject, Predicate}
 use Rattle.hdt_file.specs.Denoted.{StringTriple}
 use Rattle.hdt_file.specs.Text.{TermTriple, AreTermsOf, Pairwise, line, IsTextOf}
 use Rattle.hdt_file.specs.Documents.{triple_of, AreGrammarTerms}

@@ -2,4 +2,5 @@ mod Digits
 mod Reading
 mod Texts
 mod Documents
+mod Parts
 mod Spelled

@@ -3,8 +3,8 @@ use Rattle.std.proofs.Common.{◌≡◌, ◌⊎◌, ℕ, zero, suc, ◌+◌, Lis
 use Rattle.std.specs.Option.{unwrap_or}
 use Rattle.hdt_dict.specs.Numbered.{numbered}
 use Rattle.hdt_dict.specs.Walking.{Progress, stepped_by, next_number}
-use Rattle.hdt_dict.specs.declared.role.Role.{Role}
-use Rattle.hdt_dict.specs.declared.role.Role.TheVariants.{Subject, Predicate, Object}
+use Rattle.hdt_wire.specs.declared.role.Role.{Role}
+use Rattle.hdt_wire.specs.declared.role.Role.TheVariants.{Subject, Predicate, Object}
 use Rattle.hdt_terms.specs.Chars.{is_absolute}
 use Rattle.hdt_terms.specs.declared.term.Term.{Term}
 use Rattle.hdt_terms.specs.declared.term.Term.TheVariants.{Iri, Blank, Literal}
@@ -12,7 +12,8 @@ use Rattle.hdt_terms.specs.Terms.{str}
 use Rattle.hdt_terms.specs.Writing.{written}
 use Rattle.hdt_triples.specs.Counting.{Triple}
 use Rattle.hdt_file.specs.File.{GraphParts}
-use Rattle.hdt_file.specs.Denoted.{part, string_of, strings_of}
+use Rattle.hdt_triples.specs.Uses.{part}
+use Rattle.hdt_file.specs.Denoted.{string_of, strings_of}
 use Rattle.hdt_file.specs.Spellings.{IsSpelling, AreSpellings, AreTables, spelling_in}
 use Rattle.hdt_file.specs.Text.{IsTermOf, HasTerm, HasNoTerm, IsBefore, IsFirstOf, line_front}
 use Rattle.hdt_file.specs.TextWriting.{AppendsTerm, AppendsLine, IsFront, TellsString, TellsFirstOf}

@@ -2,11 +2,12 @@
 use Rattle.std.proofs.Common.{◌≡◌, ℕ, List, [], ◌∷◌, ◌++◌, refl, sym, ap, ◌∙◌, append_assoc, append-nil, subst, inl, inr}
 use Rattle.std.specs.List.{flat_map}
 use Rattle.hdt_terms.specs.Writing.{written}
-use Rattle.hdt_dict.specs.declared.role.Role.{Role}
-use Rattle.hdt_dict.specs.declared.role.Role.TheVariants.{Subject, Predicate, Object}
+use Rattle.hdt_wire.specs.declared.role.Role.{Role}
+use Rattle.hdt_wire.specs.declared.role.Role.TheVariants.{Subject, Predicate, Object}
 use Rattle.hdt_triples.specs.Counting.{Triple}
 use Rattle.hdt_file.specs.File.{GraphParts}
-use Rattle.hdt_file.specs.Denoted.{part, string_of, strings_of, denoted}
+use Rattle.hdt_triples.specs.Uses.{part}
+use Rattle.hdt_file.specs.Denoted.{string_of, strings_of, denoted}
 use Rattle.hdt_file.specs.Text.{TermTriple, IsTermOf, AreTermsOf, HasTerm, IsBefore, IsFirstOf, IsFirstIn, IsTextOf, line, line_front}
 use Rattle.hdt_file.specs.TextWriting.{AppendsTerm, AppendsLine, IsFront, TellsString, TellsFirstOf, TellsFirstIn}
 use Rattle.hdt_file.specs.declared.fault.DumpFault.{DumpFault}

@@ -2,20 +2,14 @@
 use Rattle.std.specs.Prelude.{ℕ, List, [], map}
 use Rattle.std.specs.Option.{unwrap_or}
 use Rattle.hdt_dict.specs.Numbered.{numbered}
-use Rattle.hdt_dict.specs.declared.role.Role.{Role}
-use Rattle.hdt_dict.specs.declared.role.Role.TheVariants.{Subject, Predicate, Object}
+use Rattle.hdt_wire.specs.declared.role.Role.{Role}
+use Rattle.hdt_wire.specs.declared.role.Role.TheVariants.{Subject, Predicate, Object}
 use Rattle.hdt_triples.specs.Counting.{Triple}
 use Rattle.hdt_file.specs.File.{GraphParts}
 use Rattle.hdt_file.specs.Views.{strings_in}
 
 abbrev pub StringTriple : Type 0
 StringTriple = List ℕ × List ℕ × List ℕ
-
--- the part of a triple that has the role
-abbrev pub part : {A : Type 0} → Role → A × A × A → A
-part Subject t = t.0
-part Predicate t = t.1
-part Object t = t.2
 
 -- the string of a role with the number n, from 1; empty for any other number, which no triple of a layout has
 abbrev pub string_of : GraphParts → Role → ℕ → List ℕ

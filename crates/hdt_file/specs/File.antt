@@ -5,7 +5,7 @@ use Rattle.hdt_wire.specs.declared.fault.Fault.{Fault}
 use Rattle.hdt_wire.specs.declared.fault.Reason.TheVariants.{TrailingBytes}
 use Rattle.hdt_wire.specs.Rows.{◌>>=◌, demand}
 use Rattle.hdt_dict.specs.Dictionary.{DictionaryParts, IsDictionary, terms}
-use Rattle.hdt_dict.specs.declared.role.Role.TheVariants.{Subject, Predicate, Object}
+use Rattle.hdt_wire.specs.declared.role.Role.TheVariants.{Subject, Predicate, Object}
 use Rattle.hdt_triples.specs.Counting.{Counts, Triple, triples_of}
 use Rattle.hdt_triples.specs.Triples.{TripleParts, bitmap_of, IsTriples, triples_at}
 use Rattle.hdt_file.specs.Head.{HeadParts, IsHead}

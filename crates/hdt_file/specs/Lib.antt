@@ -12,9 +12,13 @@ pub mod GraphLaws
 pub mod Head
 pub mod HeadLaws
 pub mod LayoutView
+pub mod Parts
+pub mod PartsLaws
 pub mod Search
 pub mod Spellings
 pub mod Text
 pub mod TextLaws
 pub mod TextWriting
+pub mod Tight
+pub mod TightLaws
 pub mod Views

@@ -2,8 +2,8 @@
 use Rattle.std.specs.Prelude.{◌≡◌, ℕ, ◌⊎◌, List, []}
 use Rattle.std.specs.Option.{unwrap_or}
 use Rattle.hdt_dict.specs.Numbered.{numbered}
-use Rattle.hdt_dict.specs.declared.role.Role.{Role}
-use Rattle.hdt_dict.specs.declared.role.Role.TheVariants.{Subject, Predicate, Object}
+use Rattle.hdt_wire.specs.declared.role.Role.{Role}
+use Rattle.hdt_wire.specs.declared.role.Role.TheVariants.{Subject, Predicate, Object}
 use Rattle.hdt_terms.specs.declared.term.Term.{Term}
 use Rattle.hdt_terms.specs.Writing.{written}
 use Rattle.hdt_file.specs.File.{GraphParts}

@@ -6,11 +6,12 @@ use Rattle.hdt_terms.specs.declared.term.Term.{Term}
 use Rattle.hdt_terms.specs.Lines.{IsSubject, IsPredicate}
 use Rattle.hdt_terms.specs.Terms.{str, IsDictionaryTerm}
 use Rattle.hdt_terms.specs.Writing.{written}
-use Rattle.hdt_dict.specs.declared.role.Role.{Role}
-use Rattle.hdt_dict.specs.declared.role.Role.TheVariants.{Subject, Predicate, Object}
+use Rattle.hdt_wire.specs.declared.role.Role.{Role}
+use Rattle.hdt_wire.specs.declared.role.Role.TheVariants.{Subject, Predicate, Object}
 use Rattle.hdt_triples.specs.Counting.{Triple}
 use Rattle.hdt_file.specs.File.{GraphParts}
-use Rattle.hdt_file.specs.Denoted.{StringTriple, part, strings_of}
+use Rattle.hdt_triples.specs.Uses.{part}
+use Rattle.hdt_file.specs.Denoted.{StringTriple, strings_of}
 
 abbrev pub TermTriple : Type 0
 TermTriple = Term × Term × Term

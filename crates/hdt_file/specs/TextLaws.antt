@@ -4,10 +4,11 @@ use Rattle.std.specs.List.{flat_map}
 use Rattle.hdt_terms.specs.declared.term.Term.{Term}
 use Rattle.hdt_terms.specs.Terms.{str, IsDictionaryTerm}
 use Rattle.hdt_triples.specs.Counting.{Triple}
-use Rattle.hdt_dict.specs.declared.role.Role.{Role}
-use Rattle.hdt_dict.specs.declared.role.Role.TheVariants.{Subject, Predicate, Object}
+use Rattle.hdt_wire.specs.declared.role.Role.{Role}
+use Rattle.hdt_wire.specs.declared.role.Role.TheVariants.{Subject, Predicate, Object}
 use Rattle.hdt_file.specs.File.{GraphParts}
-use Rattle.hdt_file.specs.Denoted.{StringTriple, part, strings_of, denoted}
+use Rattle.hdt_triples.specs.Uses.{part}
+use Rattle.hdt_file.specs.Denoted.{StringTriple, strings_of, denoted}
 use Rattle.hdt_file.specs.Text.{TermTriple, IsTermOf, AreTermsOf, Pairwise, line, IsTextOf, IsBefore, IsFirstOf, IsFirstIn}
 
 -- no two dictionary terms have one string

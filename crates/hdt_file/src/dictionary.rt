@@ -2,7 +2,7 @@
 ghost use Rattle.std.specs.Prelude.{◌≡◌, ◌≤◌, ℕ, List, ◌<◌, ◌^◌, length, Ok, IfOk};
 ghost use Rattle.hdt_wire.specs.Rows.{Gives, IsBytes};
 ghost use Rattle.hdt_wire.specs.Exact.{Exactly};
-ghost use Rattle.hdt_dict.specs.declared.role.Role.{Role};
+ghost use Rattle.hdt_wire.specs.declared.role.Role.{Role};
 ghost use Rattle.hdt_dict.specs.Dictionary.{terms};
 ghost use Rattle.hdt_dict.specs.Views.{dictionary_of};
 ghost use Rattle.hdt_file.specs.Faults.{fault_of};

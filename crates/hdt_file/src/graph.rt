@@ -22,11 +22,12 @@ pub struct Graph<'a> {
 
 #[tactic(auto, unfolding(crate::specs::Views::graph_seen))]
 impl<'a> Graph<'a> {
-    ghost use Rattle.std.specs.Prelude.{◌∷◌, ◌↔◌, ◌≤◌, ◌+◌, [], Some, None, IsOk, OnErr};
+    ghost use Rattle.std.specs.Prelude.{◌∷◌, ◌↔◌, ◌≤◌, ◌+◌, [], Some, None, IsOk, OnErr, IsTrue};
     ghost use Rattle.hdt_front.specs.Numbering.{place};
     ghost use Rattle.hdt_dict.specs.Numbered.{numbered, Appends};
     ghost use Rattle.hdt_dict.specs.Views.{role_block, role_looks};
     ghost use Rattle.hdt_triples.specs.ListedViews.{directories_held, lists_held};
+    ghost use Rattle.hdt_triples.specs.Uses.{Uses};
     ghost use Rattle.hdt_file.specs.Graph.{counts_of};
     ghost use Rattle.hdt_file.specs.Views.{bitmap_of_graph, graph_seen, strings_in};
 
@@ -72,6 +73,14 @@ impl<'a> Graph<'a> {
         ensures { result ≡ record { given = 0; last = []; ahead = strings_in (graph_seen self.now) role } }
     {
         self.dictionary.strings(alloc, role)
+    }
+
+    /// Whether a triple has the number n, from 1, in the role: one that no string of the role has isn't used. It takes a look
+    /// or two, and no memory.
+    pub fn uses(&self, role: Role, n: u64) -> bool
+        ensures { IsTrue result ↔ Uses (graph_seen self.now).triples role n }
+    {
+        self.triples.uses(role, n)
     }
 
     /// The number of a string in a role, from 1; None where the role has no such string. It takes no memory, and

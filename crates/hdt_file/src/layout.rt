@@ -37,14 +37,15 @@ impl<'a> Layout<'a> {
     ghost use Rattle.hdt_wire.specs.Rows.{Gives};
     ghost use Rattle.hdt_file.specs.Faults.{fault_of};
     ghost use Rattle.hdt_file.specs.File.{graph_in};
-    ghost use Rattle.hdt_file.specs.FileLaws.{graph_rows};
-    ghost use Rattle.hdt_file.specs.LayoutView.{layout_seen};
+    ghost use Rattle.hdt_file.specs.LayoutView.{layout_parts, layout_seen};
+    ghost use Rattle.hdt_file.specs.Parts.{parts_in};
+    ghost use Rattle.hdt_file.specs.PartsLaws.{parts_rows};
     ghost use Rattle.hdt_file.specs.Views.{lens_of};
 
     /// Reads by rows.
-    #[tactic(auto, unfolding(crate::specs::FileLaws::graph_rows, crate::specs::LayoutView::layout_seen))]
+    #[tactic(auto, unfolding(crate::specs::PartsLaws::parts_rows, crate::specs::LayoutView::layout_parts))]
     fn read_rows(alloc: Global, bytes: &'a [u8]) -> Result<Layout<'a>, OpenFault>
-        ensures { Gives fault_of layout_seen result (graph_rows bytes.now) }
+        ensures { Gives fault_of layout_parts result (parts_rows bytes.now) }
     {
         let (head, dictionary, at) = read_dictionary(alloc, bytes)?;
         let (triples, end) = Triples::read(bytes, at, counts_in(&dictionary))?;
@@ -58,7 +59,8 @@ impl<'a> Layout<'a> {
 
     /// Reads a whole file: its parts, or the first fault that stands in it. It reads the bytes once, from front to back.
     pub(crate) fn read(alloc: Global, bytes: &'a [u8]) -> Result<Layout<'a>, OpenFault>
-        ensures { Gives fault_of layout_seen result (graph_in bytes.now) }
+        ensures parts { Gives fault_of layout_parts result (parts_in bytes.now) }
+        ensures graph { Gives fault_of layout_seen result (graph_in bytes.now) }
     {
         Layout::read_rows(alloc, bytes)
     }

@@ -35,6 +35,7 @@ mod text;
 mod text_laws;
 #[cfg(test)]
 mod text_tests;
+mod tight;
 
 pub use dictionary::{fronts_are_exact, read_dictionary};
 pub use fault::{DumpFault, OpenFault};
@@ -43,3 +44,4 @@ pub use head::{Head, one_head, read_head};
 pub use opening::{layouts_are_graphs, one_layout, open, verify};
 pub use text::{graph_text, write_graph};
 pub use text_laws::{one_text, text_is_a_document};
+pub use tight::{one_tight_layout, open_tight, verify_tight};

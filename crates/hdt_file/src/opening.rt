@@ -5,8 +5,8 @@ ghost use Rattle.hdt_wire.specs.Rows.{Gives, IsBytes};
 ghost use Rattle.hdt_file.specs.Faults.{fault_of};
 ghost use Rattle.hdt_file.specs.File.{FileParts, IsFile, GraphParts, IsLayout, graph_in};
 ghost use Rattle.hdt_file.specs.Graph.{IsGraph};
-ghost use Rattle.hdt_file.specs.LayoutView.{layout_seen};
-ghost use Rattle.hdt_file.specs.Views.{graph_seen, lens_of};
+ghost use Rattle.hdt_file.specs.LayoutView.{layout_parts, layout_seen};
+ghost use Rattle.hdt_file.specs.Views.{graph_parts, graph_seen, lens_of};
 
 use crate::fault::OpenFault;
 use crate::graph::Graph;
@@ -14,9 +14,10 @@ use crate::layout::Layout;
 use std::alloc::Global;
 
 /// The graph of a layout, with the directories and the lists of its triples.
-#[tactic(auto, unfolding(crate::specs::Views::graph_seen, crate::specs::LayoutView::layout_seen))]
-fn with_lists(alloc: Global, layout: Layout<'_>) -> Result<Graph<'_>, OpenFault>
-    ensures { Gives fault_of graph_seen result (Ok (layout_seen layout.entry)) }
+#[tactic(auto, unfolding(crate::specs::Views::graph_seen, crate::specs::Views::graph_parts, crate::specs::LayoutView::layout_seen, crate::specs::LayoutView::layout_parts))]
+pub(crate) fn with_lists(alloc: Global, layout: Layout<'_>) -> Result<Graph<'_>, OpenFault>
+    ensures seen { Gives fault_of graph_seen result (Ok (layout_seen layout.entry)) }
+    ensures parts { IfOk result (λ graph. graph_parts graph ≡ layout_parts layout.entry) }
 {
     let Ok(indexed) = layout.triples.with_directories(alloc) else {
         return Err(OpenFault::OutOfMemory);

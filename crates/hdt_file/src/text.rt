@@ -1,7 +1,7 @@
 //! The N-Triples text of a graph.
 ghost use Rattle.std.specs.Prelude.{◌≡◌, ◌≢◌, ◌+◌, ◌⊎◌, ℕ, List, Option, OnOk, IfOk, IfErr, Some, IsOk};
 ghost use Rattle.hdt_wire.specs.Counted.{inner, failures};
-ghost use Rattle.hdt_dict.specs.declared.role.Role.{Role};
+ghost use Rattle.hdt_wire.specs.declared.role.Role.{Role};
 ghost use Rattle.hdt_triples.specs.Counting.{Triple};
 ghost use Rattle.hdt_file.specs.Denoted.{StringTriple, denoted};
 ghost use Rattle.hdt_file.specs.File.{GraphParts};

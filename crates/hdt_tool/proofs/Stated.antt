@@ -5,7 +5,7 @@ use Rattle.std.specs.declared.alloc.Global.{Global}
 use Rattle.std.specs.declared.vec.Vec.{Vec}
 use Rattle.std.specs.Str.{bytes_eq}
 use Rattle.std.proofs.lemmas.Slice.Eq.{bytes_eq-Decides}
-use Rattle.hdt_dict.specs.declared.role.Role.{Role}
+use Rattle.hdt_wire.specs.declared.role.Role.{Role}
 use Rattle.hdt_tool.specs.Table.{role_name}
 use Rattle.clap.specs.Words.{Row, Text, first_of, one_of}
 use Rattle.hdt_terms.specs.declared.fault.TermFault.{TermFault}

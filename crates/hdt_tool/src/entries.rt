@@ -2,7 +2,7 @@
 ghost use Rattle.std.specs.Prelude.{◌≡◌, ◌≢◌, ℕ, List, [], IfOk, IfErr, IsSome, MatchOption, Some, codes, string_bytes};
 ghost use Rattle.clap.specs.Words.{first_of, one_of, found_of, rows_of};
 ghost use Rattle.hdt_build.specs.declared.options.Options.{Options};
-ghost use Rattle.hdt_dict.specs.declared.role.Role.{Role};
+ghost use Rattle.hdt_wire.specs.declared.role.Role.{Role};
 ghost use Rattle.hdt_tool.specs.Asked.{AsksAction, ComesWithout, ComesWithoutOr, IsFaultOf, IsMisspelt, IsMisspeltPart, IsStringOf, Misspells, StatesNumber, StatesOptions, StatesString, StatesWord, TellsTerm};
 ghost use Rattle.hdt_tool.specs.Lines.{word_name};
 ghost use Rattle.hdt_tool.specs.Table.{role_name};

@@ -1,7 +1,7 @@
 mod AscentLaws
 mod CountLaws
+mod EarlierLaws
 mod GoingLaws
-mod ItemRows
 mod JumpLaws
 mod ListsLaws
 mod ObjectLaws
@@ -11,4 +11,5 @@ mod PredicateLaws
 mod RunLaws
 mod SliceLaws
 mod SubjectLaws
+mod UsingLaws
 mod WalkLaws

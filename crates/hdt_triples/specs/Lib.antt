@@ -20,6 +20,8 @@ pub mod Spots
 pub mod SubjectLeft
 pub mod Triples
 pub mod TriplesLaws
+pub mod Uses
+pub mod UsesLaws
 pub mod Views
 pub mod WalkLeft
 pub mod Walking

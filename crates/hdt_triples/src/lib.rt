@@ -19,7 +19,8 @@
 //!
 //! Searching: `matches`, the items of a search whichever way it goes; `walk`, over all triples; `indexed`, directories over
 //! the marks, by which `subject` and `pair` go; `listed`, the lists by predicate and by object that `counting` makes, by
-//! which `predicate` and `object` go. How many steps each takes at most is the table of specs/Bounds.
+//! which `predicate` and `object` go. How many steps each takes at most is the table of specs/Bounds. `uses` tells which
+//! numbers stand in a triple.
 #![tactic(auto)]
 
 mod counting;
@@ -41,6 +42,7 @@ mod sequences;
 mod spot;
 mod subject;
 mod triples;
+mod uses;
 mod walk;
 mod writing;
 

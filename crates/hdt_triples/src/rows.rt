@@ -98,7 +98,7 @@ fn pair_stands(
 }
 
 /// The rows of all pairs.
-#[tactic(auto, using(crate::proofs::ItemRows::rows_passed, crate::proofs::ItemRows::rows_stopped, crate::proofs::ItemRows::rows_over))]
+#[tactic(auto, using(hdt_wire::specs::ItemLaws::rows_passed, hdt_wire::specs::ItemLaws::rows_stopped, hdt_wire::specs::ItemLaws::rows_over))]
 fn pairs_stand(counts: &Counts, my: &Bits<'_>, ys: &Numbers<'_>) -> Result<(), Fault>
     requires same { length (bits_of my.now) ≡ length (numbers_of ys.now) }
     requires few { counts.now.subjects < 2 ^ 63 }
@@ -119,7 +119,7 @@ fn pairs_stand(counts: &Counts, my: &Bits<'_>, ys: &Numbers<'_>) -> Result<(), F
 }
 
 /// The rows of the objects of all triples.
-#[tactic(auto, using(crate::proofs::ItemRows::rows_passed, crate::proofs::ItemRows::rows_stopped, crate::proofs::ItemRows::rows_over))]
+#[tactic(auto, using(hdt_wire::specs::ItemLaws::rows_passed, hdt_wire::specs::ItemLaws::rows_stopped, hdt_wire::specs::ItemLaws::rows_over))]
 fn objects_stand(mz: &Bits<'_>, zs: &Numbers<'_>, count: u64) -> Result<(), Fault>
     requires { length (bits_of mz.now) ≡ length (numbers_of zs.now) }
     ensures { result ≡ objects_at (bits_of mz.now) (numbers_of zs.now) (numbers_places zs.now) count }

@@ -3,7 +3,7 @@ use Rattle.std.specs.Prelude.{ℕ, List, ◌++◌, codes}
 use Rattle.std.specs.Fmt.{decimal}
 use Rattle.hdt_wire.specs.declared.fault.Fault.{Fault}
 use Rattle.hdt_wire.specs.declared.fault.Reason.{Reason}
-use Rattle.hdt_wire.specs.declared.fault.Reason.TheVariants.{Truncated, OverlongNumber, NumberTooLarge, NotHdt, WrongKind, Check16, WrongFormat, HeaderLength, TripleOrder, Check8, Check32, SequenceKind, Width, BitsKind, SectionKind, BlockSize, BlockCount, BlockPlace, PrefixTooLong, PackedLength, NotUtf8, StringsNotAscending, SectionsOverlap, NoTriples, LengthsDiffer, LastMark, MarkCount, SubjectRange, PredicateRange, ObjectRange, PredicatesNotAscending, ObjectsNotAscending, TrailingBytes}
+use Rattle.hdt_wire.specs.declared.fault.Reason.TheVariants.{Truncated, OverlongNumber, NumberTooLarge, NotHdt, WrongKind, Check16, WrongFormat, HeaderLength, TripleOrder, Check8, Check32, SequenceKind, Width, BitsKind, SectionKind, BlockSize, BlockCount, BlockPlace, PrefixTooLong, PackedLength, NotUtf8, StringsNotAscending, SectionsOverlap, NoTriples, LengthsDiffer, LastMark, MarkCount, SubjectRange, PredicateRange, ObjectRange, PredicatesNotAscending, ObjectsNotAscending, TrailingBytes, Unused}
 
 -- the number, from 1, in the order in which the format's parts come
 abbrev pub reason_number : Reason → ℕ
@@ -40,6 +40,7 @@ reason_number ObjectRange = 30
 reason_number PredicatesNotAscending = 31
 reason_number ObjectsNotAscending = 32
 reason_number TrailingBytes = 33
+reason_number Unused = 34
 
 -- the name, in ASCII
 abbrev pub reason_name : Reason → List ℕ
@@ -76,6 +77,7 @@ reason_name ObjectRange = codes "ObjectRange"
 reason_name PredicatesNotAscending = codes "PredicatesNotAscending"
 reason_name ObjectsNotAscending = codes "ObjectsNotAscending"
 reason_name TrailingBytes = codes "TrailingBytes"
+reason_name Unused = codes "Unused"
 
 -- a fault as text: the reason's name, and the place in decimal
 abbrev pub fault_text : Fault → List ℕ

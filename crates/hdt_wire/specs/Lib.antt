@@ -10,6 +10,7 @@ pub mod Property
 pub mod Counted
 pub mod Exact
 pub mod ExactItems
+pub mod ItemLaws
 pub mod ExactLaws
 pub mod ExactReading
 pub mod ExactLeaves

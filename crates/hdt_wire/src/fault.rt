@@ -73,12 +73,14 @@ pub enum Reason {
     ObjectsNotAscending = 32,
     /// Bytes follow the last part.
     TrailingBytes = 33,
+    /// No triple uses a string of the dictionary in its role. Only tight reading asks for it.
+    Unused = 34,
 }
 
 impl Reason {
     ghost use Rattle.hdt_wire.specs.Fault.{reason_number, reason_name};
 
-    /// The reason's number, from 1 to 33, as the table of faults in docs/FORMAT.md has it.
+    /// The reason's number, from 1 to 34, as the table of faults in docs/FORMAT.md has it.
     pub fn number(self) -> u8
         ensures { result ≡ reason_number self }
     {
@@ -123,6 +125,7 @@ impl Reason {
             Reason::PredicatesNotAscending => "PredicatesNotAscending",
             Reason::ObjectsNotAscending => "ObjectsNotAscending",
             Reason::TrailingBytes => "TrailingBytes",
+            Reason::Unused => "Unused",
         }
     }
 }

@@ -16,6 +16,7 @@ mod control;
 mod counted;
 mod fault;
 mod properties;
+mod role;
 mod rows;
 mod tally;
 mod vbyte;
@@ -26,6 +27,7 @@ pub use control::{Control, Kind, block_is_read_again, put_control, read_control}
 pub use counted::{Counted, Failed};
 pub use fault::{Fault, Reason};
 pub use properties::property;
+pub use role::Role;
 pub use rows::{bytes_at, demand, text_at, zero_in};
 pub use tally::Tally;
 pub use vbyte::{one_spelling, put_vbyte, read_vbyte, vbyte_len};

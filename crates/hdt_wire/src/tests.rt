@@ -223,7 +223,7 @@ fn finds_the_last_property(rt: HostRuntime) {
 }
 
 /// Every reason, in the order of its number.
-static REASONS: [Reason; 33] = [
+static REASONS: [Reason; 34] = [
     Reason::Truncated,
     Reason::OverlongNumber,
     Reason::NumberTooLarge,
@@ -257,6 +257,7 @@ static REASONS: [Reason; 33] = [
     Reason::PredicatesNotAscending,
     Reason::ObjectsNotAscending,
     Reason::TrailingBytes,
+    Reason::Unused,
 ];
 
 /// Prints each reason's number and name on a line: tests/run compares them with the table of docs/FORMAT.md.

@@ -4,7 +4,8 @@ use Rattle.hdt_seq.specs.Numbers.{numbers_of, numbers_places}
 use Rattle.hdt_seq.specs.MarksLaws.{none_before, marks_marked, marks_unmarked}
 use Rattle.hdt_triples.specs.Triples.{pair_row}
 use Rattle.hdt_triples.specs.CountsView.{counts_of}
-use Rattle.hdt_triples.proofs.ItemRows.{rows_passed, rows_all, earlier_first, earlier_marked, earlier_unmarked}
+use Rattle.hdt_wire.specs.ItemLaws.{rows_passed, rows_all}
+use Rattle.hdt_triples.proofs.EarlierLaws.{earlier_first, earlier_marked, earlier_unmarked}
 use Rattle.hdt_triples.proofs.rows.pairs_stand.Goals as goal
 use Rattle.hdt_triples.proofs.rows.pairs_stand.Goals.{then-get, else-get}
 

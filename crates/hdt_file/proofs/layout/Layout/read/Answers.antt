@@ -1,11 +1,19 @@
-use Rattle.std.proofs.Common.{Result, subst}
+use Rattle.std.proofs.Common.{Result, Ok, Err, subst, ap, sym, ◌∙◌, ◌≡◌}
 use Rattle.hdt_wire.specs.declared.fault.Fault.{Fault}
+use Rattle.hdt_wire.specs.Exact.{seen}
 use Rattle.hdt_wire.specs.Rows.{Gives}
 use Rattle.hdt_file.specs.Faults.{fault_of}
 use Rattle.hdt_file.specs.File.{GraphParts}
-use Rattle.hdt_file.specs.FileLaws.{rows_are}
-use Rattle.hdt_file.specs.LayoutView.{layout_seen}
+use Rattle.hdt_file.specs.LayoutView.{layout_parts, layout_seen}
+use Rattle.hdt_file.specs.Parts.{Parts, graph_from, parts_in}
+use Rattle.hdt_file.specs.PartsLaws.{rows_are, graph_is}
+use Rattle.hdt_file.proofs.Parts.{seen_gives}
 use Rattle.hdt_file.proofs.layout.Layout.read.Goals as goal
 
-pub returns : goal.returns
-returns c = subst (λ (rows : Result GraphParts Fault). Gives fault_of layout_seen c.read_rows.result rows) (rows_are c.args.bytes.now) c.read_rows.ensures
+pub returns-clause-parts : goal.returns-clause-parts
+returns-clause-parts c = subst (λ (rows : Result Parts Fault). Gives fault_of layout_parts c.read_rows.result rows) (rows_are c.args.bytes.now) c.read_rows.ensures
+
+pub returns-clause-graph : goal.returns-clause-graph
+returns-clause-graph c =
+    subst (λ (rows : Result GraphParts Fault). Gives fault_of layout_seen c.read_rows.result rows) (graph_is c.args.bytes.now)
+    (seen_gives c.read_rows.result (parts_in c.args.bytes.now) (returns-clause-parts c))

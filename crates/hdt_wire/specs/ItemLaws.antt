@@ -1,11 +1,8 @@
 -- What is left of the rows of items follows from the first of them.
-use Rattle.std.proofs.Common.{List, Bool, true, false, cond, add-one, slice_index, ◌≡◌, ℕ, ◌+◌, ◌-◌, ◌<◌, ◌≤◌, suc, refl, ap, ◌∙◌, arith, slice_get, Some}
-use Rattle.std.specs.Prelude.{Ok, Err, Result}
+use Rattle.std.proofs.Common.{◌≡◌, ◌∙◌, ℕ, suc, ◌+◌, ◌-◌, ◌<◌, ◌≤◌, Result, Ok, Err, ap, arith}
 use Rattle.hdt_wire.specs.declared.fault.Fault.{Fault}
 use Rattle.hdt_wire.specs.Rows.{◌>>=◌}
-use Rattle.std.proofs.lemmas.Option.{get_or_from_slice_get}
 use Rattle.hdt_wire.specs.ExactItems.{rows_from}
-use Rattle.hdt_triples.specs.Triples.{earlier}
 
 first_row : (row : ℕ → Result (Unit {0}) Fault) (i n : ℕ) → i < n → rows_from row i (n - i) ≡ (row i >>= λ _. rows_from row (i + 1) (n - (i + 1)))
 unfolding rows_from
@@ -23,15 +20,3 @@ rows_over row i n h = let e : n - i ≡ 0 = omega arith in ap (rows_from row i) 
 
 pub rows_all : (row : ℕ → Result (Unit {0}) Fault) (n : ℕ) → rows_from row 0 (n - 0) ≡ rows_from row 0 n
 rows_all row n = let e : n - 0 ≡ n = omega arith in ap (rows_from row 0) e
-
-pub earlier_first : (marks : List Bool) (xs : List ℕ) → earlier marks xs 0 ≡ 0
-unfolding earlier
-earlier_first marks xs = refl
-
-pub earlier_marked : (marks : List Bool) (xs : List ℕ) (i : ℕ) → slice_get marks i ≡ Some true → earlier marks xs (i + 1) ≡ 0
-unfolding earlier
-earlier_marked marks xs i h = ap (earlier marks xs) (add-one i) ∙ ap (λ b. cond b 0 (slice_index xs i)) (get_or_from_slice_get marks i true false h)
-
-pub earlier_unmarked : (marks : List Bool) (xs : List ℕ) (i : ℕ) → slice_get marks i ≡ Some false → earlier marks xs (i + 1) ≡ slice_index xs i
-unfolding earlier
-earlier_unmarked marks xs i h = ap (earlier marks xs) (add-one i) ∙ ap (λ b. cond b 0 (slice_index xs i)) (get_or_from_slice_get marks i false false h)

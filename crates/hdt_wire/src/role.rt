@@ -1,4 +1,4 @@
-//! The roles that a string can have in a triple.
+//! The roles that a string can have in a triple, which dictionary and triples share.
 
 /// What a string is in a triple.
 #[derive(Clone, Copy, Debug, PartialEq, Eq)]

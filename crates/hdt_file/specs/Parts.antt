@@ -1,0 +1,30 @@
+-- The parts of a file as code keeps them: the head, the dictionary with its places, the sequences of the triples.
+use Rattle.std.specs.Prelude.{ℕ, List, Result, Ok}
+use Rattle.hdt_wire.specs.declared.fault.Fault.{Fault}
+use Rattle.hdt_wire.specs.Exact.{seen}
+use Rattle.hdt_wire.specs.Rows.{◌>>=◌}
+use Rattle.hdt_triples.specs.Counting.{BitmapTriples, triples_of}
+use Rattle.hdt_triples.specs.Triples.{bitmap_of}
+use Rattle.hdt_file.specs.Dictionary.{HeadAndDictionary}
+use Rattle.hdt_file.specs.File.{FileParts, GraphParts, file_at_start, sections_of}
+use Rattle.hdt_file.specs.Tight.{strings_used}
+
+abbrev pub Parts : Type 0
+Parts = HeadAndDictionary × BitmapTriples
+
+abbrev pub parts_from : FileParts → Parts
+parts_from file = (record { head = file.head; dictionary = file.dictionary }, bitmap_of file.triples)
+
+-- the parts of the bytes, or the fault that stands in them
+abbrev pub parts_in : List ℕ → Result Parts Fault
+parts_in bytes = seen parts_from (file_at_start bytes)
+
+-- the parts as users of the file see them
+abbrev pub graph_from : Parts → GraphParts
+graph_from p = record { header = p.0.head.body; dictionary = sections_of p.0.dictionary; triples = triples_of p.1 }
+
+-- the rows of the strings of a tight file, after those of its parts
+unfoldable pub tight_from : Parts → Result GraphParts Fault
+tight_from p = do
+  _ ← strings_used p.0.dictionary (triples_of p.1)
+  Ok (graph_from p)

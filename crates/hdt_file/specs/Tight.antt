@@ -1,0 +1,58 @@
+-- Tight files: triples use each string of the dictionary in its role, and so each shared string both as subject and as
+-- object.
+use Rattle.std.specs.Prelude.{◌≡◌, ℕ, zero, suc, ◌+◌, ◌≤◌, ◌&&◌, Bool, List, length, Result, Ok}
+use Rattle.hdt_wire.specs.declared.fault.Fault.{Fault}
+use Rattle.hdt_wire.specs.declared.fault.Reason.TheVariants.{Unused}
+use Rattle.hdt_wire.specs.declared.role.Role.{Role}
+use Rattle.hdt_wire.specs.declared.role.Role.TheVariants.{Subject, Predicate, Object}
+use Rattle.hdt_wire.specs.Rows.{◌>>=◌, demand}
+use Rattle.hdt_wire.specs.ExactItems.{rows_from}
+use Rattle.hdt_front.specs.Section.{string_place}
+use Rattle.hdt_dict.specs.Dictionary.{DictionaryParts, section_number}
+use Rattle.hdt_triples.specs.Counting.{Triple, triples_of}
+use Rattle.hdt_triples.specs.Triples.{bitmap_of}
+use Rattle.hdt_triples.specs.Uses.{Uses, uses}
+use Rattle.hdt_file.specs.File.{FileParts, GraphParts, IsLayout, file_at_start, graph_of}
+use Rattle.hdt_file.specs.Views.{strings_in}
+
+-- each number of each role, from 1 to how many strings the role has, stands in that role in a triple
+abbrev pub IsTight : GraphParts → Type 0
+IsTight g = (role : Role) (n : ℕ) → 1 ≤ n → n ≤ length (strings_in g role) → Uses g.triples role n
+
+-- the bytes are a layout of the graph, and triples use all of its strings
+pub record IsTightLayout (bytes : List ℕ) (graph : GraphParts) : Type 0 where
+  pub layout : IsLayout bytes graph
+  pub tight : IsTight graph
+
+-- ---- the rows
+
+-- whether triples use string n of a section, from 1: a shared one in both roles; the numbers of subjects and objects go
+-- on behind those of the shared strings
+unfoldable pub is_used : DictionaryParts → List Triple → ℕ → ℕ → Bool
+is_used d ts zero n = uses ts Subject n && uses ts Object n
+is_used d ts (suc zero) n = uses ts Subject (length d.shared.strings + n)
+is_used d ts (suc (suc zero)) n = uses ts Predicate n
+is_used d ts (suc (suc (suc i))) n = uses ts Object (length d.shared.strings + n)
+
+-- the row of string i of a section, from 0
+unfoldable pub used_row : DictionaryParts → List Triple → ℕ → ℕ → Result (Unit {0}) Fault
+used_row d ts section i = demand (is_used d ts section (i + 1)) (string_place (section_number d section) i) Unused
+
+-- the rows of all strings of a section
+abbrev pub section_used : DictionaryParts → List Triple → ℕ → Result (Unit {0}) Fault
+section_used d ts section = rows_from (used_row d ts section) 0 (length (section_number d section).strings)
+
+-- string by string of shared, subjects, predicates and objects
+unfoldable pub strings_used : DictionaryParts → List Triple → Result (Unit {0}) Fault
+strings_used d ts = do
+  _ ← section_used d ts 0
+  _ ← section_used d ts 1
+  _ ← section_used d ts 2
+  section_used d ts 3
+
+-- the rows of a tight file, from top to bottom, those of its strings after all others: its graph, or the fault that stands
+unfoldable pub tight_in : List ℕ → Result GraphParts Fault
+tight_in bytes = do
+  file ← file_at_start bytes
+  _ ← strings_used file.dictionary (triples_of (bitmap_of file.triples))
+  Ok (graph_of file)
