@@ -4,8 +4,9 @@ use Rattle.hdt_wire.specs.declared.fault.Fault.{Fault}
 use Rattle.hdt_wire.specs.Exact.{seen}
 use Rattle.hdt_wire.specs.Rows.{Gives}
 use Rattle.hdt_file.specs.Faults.{fault_of}
-use Rattle.hdt_file.specs.LayoutView.{layout_parts, layout_seen}
+use Rattle.hdt_file.specs.LayoutView.{layout_seen}
 use Rattle.hdt_file.specs.Parts.{Parts, graph_from}
+use Rattle.hdt_file.specs.PartsViews.{layout_parts}
 use Rattle.hdt_file.specs.declared.fault.OpenFault.{OpenFault}
 use Rattle.hdt_file.specs.declared.fault.OpenFault.TheVariants as opens
 use Rattle.hdt_file.specs.declared.layout.Layout.{Layout}

@@ -14,6 +14,7 @@ pub mod HeadLaws
 pub mod LayoutView
 pub mod Parts
 pub mod PartsLaws
+pub mod PartsViews
 pub mod Search
 pub mod Spellings
 pub mod Text

@@ -28,3 +28,9 @@ unfoldable pub tight_from : Parts → Result GraphParts Fault
 tight_from p = do
   _ ← strings_used p.0.dictionary (triples_of p.1)
   Ok (graph_from p)
+
+-- the rows of a tight file by its parts
+unfoldable pub tight_rows : List ℕ → Result GraphParts Fault
+tight_rows bytes = do
+  p ← parts_in bytes
+  tight_from p

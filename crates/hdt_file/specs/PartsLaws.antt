@@ -8,7 +8,7 @@ use Rattle.hdt_triples.specs.Triples.{TripleParts, triples_at}
 use Rattle.hdt_triples.specs.Views.{parts_read, triples_in}
 use Rattle.hdt_file.specs.Dictionary.{HeadAndDictionary, dictionary_after_head}
 use Rattle.hdt_file.specs.File.{FileParts, GraphParts, counts_in, file_at_start, graph_in}
-use Rattle.hdt_file.specs.Parts.{Parts, parts_from, parts_in, graph_from, tight_from}
+use Rattle.hdt_file.specs.Parts.{Parts, parts_from, parts_in, graph_from, tight_from, tight_rows}
 use Rattle.hdt_file.specs.Tight.{tight_in}
 
 unfoldable pub parts_rows : List ℕ → Result Parts Fault
@@ -55,6 +55,6 @@ tight_of_parts : (r : Result FileParts Fault) → (seen parts_from r >>= tight_f
 tight_of_parts (Ok file) = refl
 tight_of_parts (Err e) = refl
 
-pub tight_is : (bytes : List ℕ) → (parts_in bytes >>= tight_from) ≡ tight_in bytes
-unfolding tight_in tight_from
+pub tight_is : (bytes : List ℕ) → tight_rows bytes ≡ tight_in bytes
+unfolding tight_in tight_from tight_rows
 tight_is bytes = tight_of_parts (file_at_start bytes)

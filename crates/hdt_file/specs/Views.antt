@@ -8,7 +8,6 @@ use Rattle.hdt_triples.specs.ListedViews.{triples_listed}
 use Rattle.hdt_triples.specs.Views.{bitmap_read}
 use Rattle.hdt_file.specs.Head.{parts_of}
 use Rattle.hdt_file.specs.File.{GraphParts, sections_of}
-use Rattle.hdt_file.specs.Parts.{Parts}
 use Rattle.hdt_file.specs.declared.graph.Graph.{Graph}
 
 -- the four sequences of its triples
@@ -18,10 +17,6 @@ bitmap_of_graph g = bitmap_read (triples_listed g.triples)
 -- the graph as its users see it
 unfoldable pub graph_seen : Graph → GraphParts
 graph_seen g = record { header = (parts_of g.head).body; dictionary = sections_of (dictionary_of g.dictionary); triples = triples_of (bitmap_read (triples_listed g.triples)) }
-
--- its parts, with the places of the dictionary
-unfoldable pub graph_parts : Graph → Parts
-graph_parts g = (record { head = parts_of g.head; dictionary = dictionary_of g.dictionary }, bitmap_read (triples_listed g.triples))
 
 -- how many triples a graph has, and how many strings each section: shared, subjects, predicates, objects
 abbrev pub lens_of : GraphParts → List ℕ

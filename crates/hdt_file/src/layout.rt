@@ -37,13 +37,14 @@ impl<'a> Layout<'a> {
     ghost use Rattle.hdt_wire.specs.Rows.{Gives};
     ghost use Rattle.hdt_file.specs.Faults.{fault_of};
     ghost use Rattle.hdt_file.specs.File.{graph_in};
-    ghost use Rattle.hdt_file.specs.LayoutView.{layout_parts, layout_seen};
+    ghost use Rattle.hdt_file.specs.LayoutView.{layout_seen};
     ghost use Rattle.hdt_file.specs.Parts.{parts_in};
     ghost use Rattle.hdt_file.specs.PartsLaws.{parts_rows};
+    ghost use Rattle.hdt_file.specs.PartsViews.{layout_parts};
     ghost use Rattle.hdt_file.specs.Views.{lens_of};
 
     /// Reads by rows.
-    #[tactic(auto, unfolding(crate::specs::PartsLaws::parts_rows, crate::specs::LayoutView::layout_parts))]
+    #[tactic(auto, unfolding(crate::specs::PartsLaws::parts_rows, crate::specs::PartsViews::layout_parts))]
     fn read_rows(alloc: Global, bytes: &'a [u8]) -> Result<Layout<'a>, OpenFault>
         ensures { Gives fault_of layout_parts result (parts_rows bytes.now) }
     {

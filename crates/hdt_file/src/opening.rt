@@ -5,8 +5,9 @@ ghost use Rattle.hdt_wire.specs.Rows.{Gives, IsBytes};
 ghost use Rattle.hdt_file.specs.Faults.{fault_of};
 ghost use Rattle.hdt_file.specs.File.{FileParts, IsFile, GraphParts, IsLayout, graph_in};
 ghost use Rattle.hdt_file.specs.Graph.{IsGraph};
-ghost use Rattle.hdt_file.specs.LayoutView.{layout_parts, layout_seen};
-ghost use Rattle.hdt_file.specs.Views.{graph_parts, graph_seen, lens_of};
+ghost use Rattle.hdt_file.specs.LayoutView.{layout_seen};
+ghost use Rattle.hdt_file.specs.PartsViews.{graph_parts, layout_parts};
+ghost use Rattle.hdt_file.specs.Views.{graph_seen, lens_of};
 
 use crate::fault::OpenFault;
 use crate::graph::Graph;
@@ -14,7 +15,7 @@ use crate::layout::Layout;
 use std::alloc::Global;
 
 /// The graph of a layout, with the directories and the lists of its triples.
-#[tactic(auto, unfolding(crate::specs::Views::graph_seen, crate::specs::Views::graph_parts, crate::specs::LayoutView::layout_seen, crate::specs::LayoutView::layout_parts))]
+#[tactic(auto, unfolding(crate::specs::Views::graph_seen, crate::specs::PartsViews::graph_parts, crate::specs::LayoutView::layout_seen, crate::specs::PartsViews::layout_parts))]
 pub(crate) fn with_lists(alloc: Global, layout: Layout<'_>) -> Result<Graph<'_>, OpenFault>
     ensures seen { Gives fault_of graph_seen result (Ok (layout_seen layout.entry)) }
     ensures parts { IfOk result (λ graph. graph_parts graph ≡ layout_parts layout.entry) }

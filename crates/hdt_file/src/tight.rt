@@ -8,9 +8,9 @@ ghost use Rattle.hdt_dict.specs.Views.{dictionary_of};
 ghost use Rattle.hdt_triples.specs.Counting.{triples_of};
 ghost use Rattle.hdt_file.specs.Faults.{fault_of};
 ghost use Rattle.hdt_file.specs.File.{GraphParts, graph_in};
-ghost use Rattle.hdt_file.specs.LayoutView.{layout_parts};
-ghost use Rattle.hdt_file.specs.Parts.{tight_from};
-ghost use Rattle.hdt_file.specs.Tight.{IsTightLayout, is_used, section_used, strings_used, tight_in};
+ghost use Rattle.hdt_file.specs.Parts.{tight_from, tight_rows};
+ghost use Rattle.hdt_file.specs.PartsViews.{layout_parts};
+ghost use Rattle.hdt_file.specs.Tight.{IsTightLayout, is_used, used_row, section_used, strings_used, tight_in};
 ghost use Rattle.hdt_file.specs.Views.{bitmap_of_graph, graph_seen, lens_of};
 
 use crate::fault::OpenFault;
@@ -30,28 +30,54 @@ fn is_used(graph: &Graph<'_>, section: usize, n: u64) -> bool
     ensures { result ≡ is_used (dictionary_of graph.now.dictionary) (triples_of (bitmap_of_graph graph.now)) section n }
 {
     let [shared, _, _, _] = graph.section_lens();
+    let triples = &graph.triples;
     match section {
-        0 => graph.uses(Role::Subject, n) && graph.uses(Role::Object, n),
-        1 => graph.uses(Role::Subject, shared + n),
-        2 => graph.uses(Role::Predicate, n),
-        _ => graph.uses(Role::Object, shared + n),
+        0 => triples.uses(Role::Subject, n) && triples.uses(Role::Object, n),
+        1 => triples.uses(Role::Subject, shared + n),
+        2 => triples.uses(Role::Predicate, n),
+        _ => triples.uses(Role::Object, shared + n),
     }
+}
+
+/// How many strings a section has.
+#[tactic(auto, unfolding(crate::specs::Views::graph_seen))]
+fn count_in(graph: &Graph<'_>, section: usize) -> u64
+    requires { section < 4 }
+    ensures { result ≡ length (section_number (dictionary_of graph.now.dictionary) section).strings }
+{
+    let [shared, subjects, predicates, objects] = graph.section_lens();
+    match section {
+        0 => shared,
+        1 => subjects,
+        2 => predicates,
+        _ => objects,
+    }
+}
+
+/// The row of string i of a section, from 0.
+#[tactic(auto, unfolding(crate::specs::Tight::used_row))]
+fn check_string(graph: &Graph<'_>, section: usize, i: u64) -> Result<(), Fault>
+    requires section { section < 4 }
+    requires within { i < length (section_number (dictionary_of graph.now.dictionary) section).strings }
+    ensures { result ≡ used_row (dictionary_of graph.now.dictionary) (triples_of (bitmap_of_graph graph.now)) section i }
+{
+    if is_used(graph, section, i + 1) {
+        return Ok(());
+    }
+    Err(Fault {
+        place: graph.dictionary.string_start(section, i + 1),
+        reason: Reason::Unused,
+    })
 }
 
 /// The rows of a section's strings, one after another.
 #[tactic(auto, using(hdt_wire::specs::ItemLaws::rows_passed, hdt_wire::specs::ItemLaws::rows_stopped, hdt_wire::specs::ItemLaws::rows_over))]
 fn check_section(graph: &Graph<'_>, section: usize) -> Result<(), Fault>
-    requires section { section < 4 }
+    requires { section < 4 }
     ensures { result ≡ section_used (dictionary_of graph.now.dictionary) (triples_of (bitmap_of_graph graph.now)) section }
 {
-    let count = graph.section_lens()[section];
-    'strings: for i in 0..count {
-        if !is_used(graph, section, i + 1) {
-            return Err(Fault {
-                place: graph.dictionary.string_start(section, i + 1),
-                reason: Reason::Unused,
-            });
-        }
+    'strings: for i in 0..count_in(graph, section) {
+        check_string(graph, section, i)?;
     }
     Ok(())
 }
@@ -68,7 +94,7 @@ fn check_strings(graph: &Graph<'_>) -> Result<(), Fault>
 }
 
 /// The graph of a layout, if it is tight.
-#[tactic(auto, unfolding(crate::specs::Parts::tight_from, crate::specs::Views::graph_seen, crate::specs::Views::graph_parts, crate::specs::Views::bitmap_of_graph))]
+#[tactic(auto, unfolding(crate::specs::Parts::tight_from, crate::specs::Views::graph_seen, crate::specs::PartsViews::graph_parts, crate::specs::Views::bitmap_of_graph))]
 fn tight_graph(alloc: Global, layout: Layout<'_>) -> Result<Graph<'_>, OpenFault>
     ensures { Gives fault_of graph_seen result (tight_from (layout_parts layout.entry)) }
 {
@@ -78,8 +104,9 @@ fn tight_graph(alloc: Global, layout: Layout<'_>) -> Result<Graph<'_>, OpenFault
 }
 
 /// Opens by rows.
+#[tactic(auto, unfolding(crate::specs::Parts::tight_rows))]
 fn open_tight_rows<'a>(alloc: Global, bytes: &'a [u8]) -> Result<Graph<'a>, OpenFault>
-    ensures { Gives fault_of graph_seen result (tight_in bytes.now) }
+    ensures { Gives fault_of graph_seen result (tight_rows bytes.now) }
 {
     let layout = Layout::read(alloc, bytes)?;
     tight_graph(alloc, layout)
@@ -108,7 +135,7 @@ pub fn open_tight<'a>(alloc: Global, bytes: &'a [u8]) -> Result<Graph<'a>, OpenF
 /// Verifies by rows.
 #[tactic(auto, unfolding(crate::specs::Views::graph_seen))]
 fn verify_tight_rows(alloc: Global, bytes: &[u8]) -> Result<[u64; 5], OpenFault>
-    ensures { Gives fault_of (λ lens. lens) result (seen lens_of (tight_in bytes.now)) }
+    ensures { Gives fault_of (λ lens. lens) result (seen lens_of (tight_rows bytes.now)) }
 {
     let graph = open_tight_rows(alloc, bytes)?;
     let [shared, subjects, predicates, objects] = graph.section_lens();

@@ -4,9 +4,10 @@ use Rattle.hdt_wire.specs.Exact.{seen}
 use Rattle.hdt_wire.specs.Rows.{Gives}
 use Rattle.hdt_file.specs.Faults.{fault_of}
 use Rattle.hdt_file.specs.File.{GraphParts}
-use Rattle.hdt_file.specs.LayoutView.{layout_parts, layout_seen}
+use Rattle.hdt_file.specs.LayoutView.{layout_seen}
 use Rattle.hdt_file.specs.Parts.{Parts, graph_from, parts_in}
 use Rattle.hdt_file.specs.PartsLaws.{rows_are, graph_is}
+use Rattle.hdt_file.specs.PartsViews.{layout_parts}
 use Rattle.hdt_file.proofs.Parts.{seen_gives}
 use Rattle.hdt_file.proofs.layout.Layout.read.Goals as goal
 
