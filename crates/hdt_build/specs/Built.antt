@@ -14,10 +14,14 @@ use Rattle.hdt_build.specs.Reading.{IsGraphIn}
 unfoldable pub report_of : FourLists → List Triple → List ℕ → Report
 report_of d ts bytes = record { triples = length ts; shared = length d.shared; subjects = length d.subjects; predicates = length d.predicates; objects = length d.objects; bytes = length bytes }
 
--- the canonical file of a set of string triples under the options, and its numbers
-pub record IsBuilt (options : Options) (graph : List StringTriple) (bytes : List ℕ) (report : Report) : Type 0 where
-  pub file : IsCanonical (header_body options.base.items report.triples) graph options.block_size bytes
+-- the canonical file of a header body, a set of string triples and a block size, and its numbers
+pub record IsMade (header : List ℕ) (graph : List StringTriple) (b : ℕ) (bytes : List ℕ) (report : Report) : Type 0 where
+  pub file : IsCanonical header graph b bytes
   pub report_is : report ≡ report_of file.dictionary file.triples bytes
+
+-- the canonical file of a set of string triples under the options, and its numbers
+abbrev pub IsBuilt : Options → List StringTriple → List ℕ → Report → Type 0
+IsBuilt options graph bytes report = IsMade (header_body options.base.items report.triples) graph options.block_size bytes report
 
 -- the input is a document, and this is built of its graph
 pub record Builds (options : Options) (input : Option (List ℕ)) (bytes : List ℕ) (report : Report) : Type 0 where

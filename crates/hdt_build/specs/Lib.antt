@@ -9,4 +9,5 @@ pub mod Numbers
 pub mod Options
 pub mod Placed
 pub mod Reading
+pub mod Rewritten
 pub mod Texts

@@ -1,6 +1,7 @@
-//! Why nothing was built.
+//! Why nothing was built or rewritten.
 ghost use Rattle.std.specs.Prelude.{◌≡◌};
 ghost use Rattle.hdt_build.specs.declared.fault.BuildFault.TheVariants as faults;
+ghost use Rattle.hdt_build.specs.declared.fault.RewriteFault.TheVariants as rewrites;
 
 use hdt_terms::LineFault;
 use std::alloc::{AllocError, AllocFailed};
@@ -40,5 +41,35 @@ impl<T: Drop> From<AllocFailed<T>> for BuildFault {
 
     fn from(_error: AllocFailed<T>) -> BuildFault {
         BuildFault::OutOfMemory
+    }
+}
+
+/// Why nothing was rewritten, or not all of it was written.
+#[derive(Clone, Copy, Debug, PartialEq, Eq, Error)]
+pub enum RewriteFault {
+    /// The block size is not one that can be taken; nothing was written.
+    #[error("the options are not ones that can be taken")]
+    BadOptions,
+    /// Memory was refused; nothing was written. With more memory the call may be made again.
+    #[error("out of memory")]
+    OutOfMemory,
+    /// The writer failed after it had taken so many bytes, which are the first ones of the file.
+    #[error("writing failed after {0} bytes")]
+    Write(u64),
+}
+
+impl From<AllocError> for RewriteFault {
+    ghost from_gives = { λ _ e. e ≡ rewrites.OutOfMemory };
+
+    fn from(_error: AllocError) -> RewriteFault {
+        RewriteFault::OutOfMemory
+    }
+}
+
+impl<T: Drop> From<AllocFailed<T>> for RewriteFault {
+    ghost from_gives = { λ _ e. e ≡ rewrites.OutOfMemory };
+
+    fn from(_error: AllocFailed<T>) -> RewriteFault {
+        RewriteFault::OutOfMemory
     }
 }

@@ -31,15 +31,17 @@ mod options;
 mod placed;
 mod reading;
 mod report;
+mod rewriting;
 #[cfg(test)]
 mod tests;
 mod triples;
 
 pub use building::{build, build_bytes};
-pub use fault::BuildFault;
+pub use fault::{BuildFault, RewriteFault};
 pub use laws::{
     canonical_files_are_layouts, equal_graphs_equal_files, no_triples_are_told, one_canonical_file,
     one_document,
 };
 pub use options::Options;
 pub use report::Report;
+pub use rewriting::{rewrite, rewrite_bytes};

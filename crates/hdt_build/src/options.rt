@@ -1,6 +1,6 @@
 //! What a builder is asked for.
 ghost use Rattle.std.specs.Prelude.{◌↔◌, IsTrue};
-ghost use Rattle.hdt_build.specs.Options.{AreRight};
+ghost use Rattle.hdt_build.specs.Options.{AreRight, IsBlockSize};
 
 use hdt_terms::is_iri;
 
@@ -15,6 +15,13 @@ pub struct Options {
     pub block_size: u32,
     /// The IRI that stands for the file in its header, in UTF-8: an absolute IRI without excluded characters.
     pub base: Vec<u8>,
+}
+
+/// Whether a file can be written in such blocks.
+pub fn is_block_size(block_size: u32) -> bool
+    ensures { IsTrue result ↔ IsBlockSize block_size }
+{
+    1 <= block_size && block_size <= MOST
 }
 
 /// Whether a builder takes the options.

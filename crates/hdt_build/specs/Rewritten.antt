@@ -1,0 +1,25 @@
+-- What is rewritten of a graph.
+use Rattle.std.specs.Prelude.{ℕ, ◌<◌, List, length, take, Option}
+use Rattle.std.specs.Io.KnownBytes.{Appends}
+use Rattle.hdt_file.specs.File.{GraphParts}
+use Rattle.hdt_build.specs.declared.report.Report.{Report}
+use Rattle.hdt_build.specs.Built.{IsMade}
+use Rattle.hdt_build.specs.Layouts.{denoted_by}
+
+-- the canonical file of the set of string triples that the graph denotes, with its header body, and its numbers
+abbrev pub IsRewritten : ℕ → GraphParts → List ℕ → Report → Type 0
+IsRewritten b graph bytes report = IsMade graph.header (denoted_by graph) b bytes report
+
+-- that file has gone to a writer
+pub record WritesAgain (b : ℕ) (graph : GraphParts) (before after : Option (List ℕ)) (report : Report) : Type 0 where
+  pub bytes : List ℕ
+  pub rewritten : IsRewritten b graph bytes report
+  pub written : Appends before after bytes
+
+-- only its first n bytes have
+pub record BeginsAgain (b : ℕ) (graph : GraphParts) (before after : Option (List ℕ)) (n : ℕ) : Type 0 where
+  pub bytes : List ℕ
+  pub report : Report
+  pub rewritten : IsRewritten b graph bytes report
+  pub part : n < length bytes
+  pub written : Appends before after (take n bytes)
