@@ -17,3 +17,5 @@ pub mod Placing
 pub mod Ranking
 pub mod Runs
 pub mod Unique
+mod Using
+mod Keeping

@@ -11,3 +11,4 @@ pub mod Placed
 pub mod Reading
 pub mod Rewritten
 pub mod Texts
+pub mod Used

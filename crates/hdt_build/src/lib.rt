@@ -35,6 +35,7 @@ mod rewriting;
 #[cfg(test)]
 mod tests;
 mod triples;
+mod used;
 
 pub use building::{build, build_bytes};
 pub use fault::{BuildFault, RewriteFault};

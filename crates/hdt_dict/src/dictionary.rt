@@ -4,8 +4,8 @@ ghost use Rattle.hdt_wire.specs.Rows.{Gives};
 ghost use Rattle.hdt_front.specs.Faults.{fault_of};
 ghost use Rattle.hdt_front.specs.Numbering.{place};
 ghost use Rattle.hdt_front.specs.Strings.{strings_of, section_of};
-ghost use Rattle.hdt_front.specs.Section.{string_place};
-ghost use Rattle.hdt_dict.specs.Dictionary.{DictionaryParts, IsDictionary, terms, section_number, apart_at, dictionary_at};
+ghost use Rattle.hdt_front.specs.Section.{AreStrings, string_place};
+ghost use Rattle.hdt_dict.specs.Dictionary.{AreApart, DictionaryParts, IsDictionary, terms, section_number, apart_at, dictionary_at};
 ghost use Rattle.hdt_dict.specs.Numbered.{numbered, Appends};
 ghost use Rattle.hdt_wire.specs.declared.role.Role.{Role};
 
@@ -91,6 +91,24 @@ impl<'a> Dictionary<'a> {
         ensures end { IfOk result (λ r. (at < r.1) × (r.1 ≤ length bytes.now)) }
     {
         Dictionary::read_rows(alloc, bytes, at)
+    }
+
+    /// The law that each section has strings, UTF-8 without zero bytes, which ascend, and that no string stands in two of
+    /// shared, subjects and objects.
+    #[tactic(auto, unfolding(crate::specs::Views::dictionary_of, hdt_front::specs::Strings::section_of))]
+    pub fn are_sections(&self)
+        ensures shared { AreStrings (dictionary_of self.now).shared.strings }
+        ensures subjects { AreStrings (dictionary_of self.now).subjects.strings }
+        ensures predicates { AreStrings (dictionary_of self.now).predicates.strings }
+        ensures objects { AreStrings (dictionary_of self.now).objects.strings }
+        ensures shared_subjects { AreApart (dictionary_of self.now).shared.strings (dictionary_of self.now).subjects.strings }
+        ensures shared_objects { AreApart (dictionary_of self.now).shared.strings (dictionary_of self.now).objects.strings }
+        ensures subjects_objects { AreApart (dictionary_of self.now).subjects.strings (dictionary_of self.now).objects.strings }
+    {
+        self.shared.are_strings();
+        self.subjects.are_strings();
+        self.predicates.are_strings();
+        self.objects.are_strings();
     }
 
     /// How many strings each section has: shared, subjects, predicates, objects.

@@ -28,8 +28,18 @@ impl<'a> Graph<'a> {
     ghost use Rattle.hdt_dict.specs.Views.{role_block, role_looks};
     ghost use Rattle.hdt_triples.specs.ListedViews.{directories_held, lists_held};
     ghost use Rattle.hdt_triples.specs.Uses.{Uses};
-    ghost use Rattle.hdt_file.specs.Graph.{counts_of};
+    ghost use Rattle.hdt_file.specs.Graph.{IsGraph, counts_of};
     ghost use Rattle.hdt_file.specs.Views.{bitmap_of_graph, graph_seen, strings_in};
+
+    /// The law that this is a graph: sections of ascending UTF-8 strings without zero bytes, no string in two of shared,
+    /// subjects and objects, and at least one triple; the triples strictly ascend, and each number is that of a string of its
+    /// role.
+    #[tactic(auto, unfolding(crate::specs::Views::graph_seen))]
+    pub fn is_graph(&self)
+        ensures { IsGraph (graph_seen self.now) }
+    {
+        self.dictionary.are_sections();
+    }
 
     /// The header body: triples about the file, as N-Triples, which are not looked at. It is lent from the input.
     pub fn header(&self) -> &'a [u8]

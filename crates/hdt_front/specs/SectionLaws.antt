@@ -25,7 +25,7 @@ use Rattle.hdt_front.specs.StringSteps.{length-unfolded}
 use Rattle.hdt_front.specs.StringsFound.{found_from}
 use Rattle.hdt_front.specs.StringsOnly.{rows_only}
 use Rattle.hdt_front.specs.FoldingLaws.{folded_found, folded_only, strings_are, strings_ascend}
-use Rattle.hdt_front.specs.Section.{SectionParts, PackedParts, HasStarts, IsSection, starts_counted, packing_with, packed_parts_at, section_at}
+use Rattle.hdt_front.specs.Section.{AreStrings, SectionParts, PackedParts, HasStarts, IsSection, starts_counted, packing_with, packed_parts_at, section_at}
 
 -- ---- the rows about counts
 
@@ -70,6 +70,10 @@ strings_found : (p : Packing) (n : ℕ) (packed : List ℕ) → p.size ≡ lengt
     → Folded p.block 0 0 [] (unfolded p.block n 0 [] packed) packed p.starts × Ascending 0 [] (unfolded p.block n 0 [] packed)
 unfolding NoZero
 strings_found p n packed size bs e = found_from p n 0 0 [] packed (omega (arith, size)) tt bs e
+
+-- what a section keeps is of strings that ascend
+pub strings_ascend_in : (p : Packing) (n : ℕ) (packed : List ℕ) → p.size ≡ length packed → IsBytes packed → strings_at p n 0 [] packed ≡ Ok tt → AreStrings (unfolded p.block n 0 [] packed)
+strings_ascend_in p n packed size bs e = strings_are (unfolded p.block n 0 [] packed) (strings_found p n packed size bs e).1
 
 -- what the rows above those of the strings leave
 pub record AreParts (p : PackedParts) (bytes : List ℕ) (at : ℕ) : Type 0 where

@@ -2,6 +2,7 @@
 ghost use Rattle.std.specs.Prelude.{◌≡◌, ◌≤◌, ◌<◌, ◌+◌, ◌-◌, ◌*◌, length, drop, get_or, [], Ok};
 ghost use Rattle.hdt_front.specs.StringRows.{strings_at};
 ghost use Rattle.hdt_front.specs.Packed.{packing_of};
+ghost use Rattle.hdt_wire.specs.Rows.{IsBytes};
 ghost use Rattle.hdt_seq.specs.Numbers.{numbers_of};
 
 use crate::packed::Packed;
@@ -24,9 +25,23 @@ pub struct Section<'a> {
     ghost read: { strings_at (packing_of packed) packed.count 0 [] packed.bytes.now ≡ Ok tt },
 }
 
+/// The law that what is lent as bytes is bytes.
+fn are_bytes(bytes: &[u8])
+    ensures { IsBytes bytes.now }
+{
+}
+
 impl<'a> Section<'a> {
     ghost use Rattle.hdt_front.specs.Strings.{strings_of, blocks_of, block_size};
     ghost use Rattle.hdt_front.specs.Facts.{rest_at};
+    ghost use Rattle.hdt_front.specs.Section.{AreStrings};
+
+    /// The law that the strings are UTF-8 without zero bytes, and ascend.
+    pub fn are_strings(&self)
+        ensures { AreStrings (strings_of self.now) }
+    {
+        are_bytes(self.packed.bytes);
+    }
 
     /// How many strings there are: at most as many as packed bytes.
     pub fn len(&self) -> u64
