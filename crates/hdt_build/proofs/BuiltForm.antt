@@ -1,12 +1,13 @@
 -- What is built of a form.
-use Rattle.std.proofs.Common.{◌≡◌, ℕ, ◌<◌, ◌∙◌, List, length, ap, sym}
+use Rattle.std.proofs.Common.{◌≡◌, ℕ, ◌<◌, ◌∙◌, List, length, ap, sym, subst, Result, Ok, Err}
+use Rattle.std.specs.Prelude.{IfOk}
 use Rattle.hdt_dict.specs.Split.{FourLists}
 use Rattle.hdt_dict.specs.SplitLaws.{split_sections}
 use Rattle.hdt_dict.specs.Writing.{AreSections}
 use Rattle.hdt_triples.specs.Counting.{Triple}
 use Rattle.hdt_build.specs.declared.options.Options.{Options}
 use Rattle.hdt_build.specs.declared.report.Report.{Report}
-use Rattle.hdt_build.specs.Built.{report_of, IsBuilt}
+use Rattle.hdt_build.specs.Built.{report_of, IsMade, IsBuilt}
 use Rattle.hdt_build.specs.Canonical.{canonical_file}
 use Rattle.hdt_build.specs.Graph.{StringTriple, IsForm}
 use Rattle.hdt_build.specs.Header.{header_body}
@@ -16,18 +17,34 @@ use Rattle.hdt_build.specs.Reading.{AreTexts}
 pub form_sections : (g : List StringTriple) (d : FourLists) (ts : List Triple) → IsForm g d ts → AreTexts g → AreSections d
 form_sections g d ts h t = split_sections _ _ _ d h.sections t.subjects_are t.predicates_are t.objects_are
 
-pub is_built : (options : Options) (g : List StringTriple) (d : FourLists) (ts : List Triple) (header bytes : List ℕ) (report : Report)
-    → 0 < length g → AreTexts g → IsForm g d ts → header ≡ header_body options.base.items (length ts) → bytes ≡ canonical_file header options.block_size d ts → report ≡ report_of d ts bytes
-    → IsBuilt options g bytes report
-unfolding report_of
-is_built options g d ts header bytes report some texts form head file told = record {
+-- the bytes and the numbers of a form make the file of what it is a form of
+made_of : (g : List StringTriple) (d : FourLists) (ts : List Triple) (header : List ℕ) (b : ℕ) (bytes : List ℕ) (report : Report)
+    → 0 < length g → AreTexts g → IsForm g d ts → bytes ≡ canonical_file header b d ts → report ≡ report_of d ts bytes → IsMade header g b bytes report
+made_of g d ts header b bytes report some texts form file told = record {
   file = record {
     dictionary = d;
     triples = ts;
     some = some;
     form = form;
     sections = form_sections g d ts form texts;
-    bytes_are = file ∙ ap (λ (h : List ℕ). canonical_file h options.block_size d ts) (head ∙ ap (header_body options.base.items) (sym (ap (λ (r : Report). r.triples) told)));
+    bytes_are = file;
   };
   report_is = told;
 }
+
+pub all_made : {V E : Type 0} (items : V → List ℕ) (r : Result (V × Report) E) (g : List StringTriple) (d : FourLists) (ts : List Triple) (header : List ℕ) (b : ℕ)
+    → 0 < length g → AreTexts g → IsForm g d ts
+    → IfOk r (λ made. items made.0 ≡ canonical_file header b d ts) → IfOk r (λ made. made.1 ≡ report_of d ts (items made.0)) → IfOk r (λ made. IsMade header g b (items made.0) made.1)
+all_made items (Ok made) g d ts header b some texts form file told = made_of g d ts header b (items made.0) made.1 some texts form file told
+all_made items (Err e) g d ts header b some texts form file told = tt
+
+-- the header body that tells how many triples a file has, which are those of its numbers
+pub all_built : {V E : Type 0} (items : V → List ℕ) (r : Result (V × Report) E) (options : Options) (g : List StringTriple) (d : FourLists) (ts : List Triple) (header : List ℕ)
+    → 0 < length g → AreTexts g → IsForm g d ts → header ≡ header_body options.base.items (length ts)
+    → IfOk r (λ made. items made.0 ≡ canonical_file header options.block_size d ts) → IfOk r (λ made. made.1 ≡ report_of d ts (items made.0)) → IfOk r (λ made. IsBuilt options g (items made.0) made.1)
+unfolding report_of
+all_built items (Ok made) options g d ts header some texts form head file told =
+    let count : length ts ≡ made.1.triples = sym (ap (λ (r : Report). r.triples) told) in
+    subst (λ (h : List ℕ). IsMade h g options.block_size (items made.0) made.1) (head ∙ ap (header_body options.base.items) count)
+    (made_of g d ts header options.block_size (items made.0) made.1 some texts form file told)
+all_built items (Err e) options g d ts header some texts form head file told = tt

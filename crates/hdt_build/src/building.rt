@@ -1,18 +1,14 @@
 //! From N-Triples to a file.
-ghost use Rattle.std.specs.Prelude.{◌≡◌, ◌≢◌, ◌<◌, ◌+◌, ◌↔◌, [], ℕ, List, length, take, IfOk, IfErr, OnOk, IsErrOf};
-ghost use Rattle.std.specs.Io.KnownBytes.{Appends};
+ghost use Rattle.std.specs.Prelude.{◌≡◌, ◌≢◌, ◌<◌, ◌+◌, ◌↔◌, ℕ, length, IfOk, IfErr, OnOk, IsErrOf};
 ghost use Rattle.hdt_wire.specs.Counted.{inner, failures};
-ghost use Rattle.hdt_dict.specs.Split.{FourLists, lent_lists_of};
-ghost use Rattle.hdt_triples.specs.Counting.{Triple};
-ghost use Rattle.hdt_build.specs.Built.{report_of, IsBuilt, Builds, Writes, Begins};
+ghost use Rattle.hdt_build.specs.Built.{IsBuilt, Builds, Writes, Begins};
 ghost use Rattle.hdt_build.specs.Documents.{graph_of, IsSound};
 ghost use Rattle.hdt_build.specs.Options.{AreRight};
 ghost use Rattle.hdt_build.specs.Reading.{AreTexts, Tells, ReadFailed};
 
 use crate::document::Document;
 use crate::fault::BuildFault;
-use crate::file::canonical_file;
-use crate::form::Form;
+use crate::file::whole_file;
 use crate::header::header_body;
 use crate::options::{Options, are_right};
 use crate::reading::read_graph;
@@ -20,32 +16,6 @@ use crate::report::Report;
 use hdt_wire::Counted;
 use std::alloc::{AllocError, Global};
 use std::io::{Read, Write};
-
-/// The numbers of a file with these sections and triples, without its length.
-#[tactic(auto, unfolding(crate::specs::Built::report_of, hdt_dict::specs::Split::lent_lists_of))]
-fn counts_of(form: &Form<'_>) -> Report
-    ensures { result ≡ report_of (lent_lists_of form.now.parts) form.now.triples.items [] }
-{
-    Report {
-        triples: form.triples.len() as u64,
-        shared: form.parts.shared.len() as u64,
-        subjects: form.parts.subjects.len() as u64,
-        predicates: form.parts.predicates.len() as u64,
-        objects: form.parts.objects.len() as u64,
-        bytes: 0,
-    }
-}
-
-/// The numbers with the length of the file.
-#[tactic(auto, unfolding(crate::specs::Built::report_of))]
-fn report_of(counts: Report, bytes: &[u8]) -> Report
-    ensures { (d : FourLists) (ts : List Triple) → counts ≡ report_of d ts [] → result ≡ report_of d ts bytes.now }
-{
-    Report {
-        bytes: bytes.len() as u64,
-        ..counts
-    }
-}
 
 /// The canonical file of a document's graph under the options, and its numbers.
 fn built(
@@ -63,10 +33,7 @@ fn built(
     let lists = lists.in_order(alloc, &mut ids)?;
     let form = lists.form(alloc, ids)?;
     let header = header_body(alloc, options.base.as_slice(), form.triples.len() as u64)?;
-    let counts = counts_of(&form);
-    let bytes = canonical_file(alloc, header.as_slice(), form, options.block_size)?;
-    let report = report_of(counts, bytes.as_slice());
-    Ok((bytes, report))
+    whole_file(alloc, header.as_slice(), form, options.block_size)
 }
 
 /// The same of what the reader gives, under options that are right.

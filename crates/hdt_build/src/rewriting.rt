@@ -6,8 +6,10 @@ ghost use Rattle.hdt_build.specs.Options.{IsBlockSize};
 ghost use Rattle.hdt_build.specs.Rewritten.{IsRewritten, WritesAgain, BeginsAgain};
 
 use crate::fault::RewriteFault;
+use crate::file::whole_file;
 use crate::options::{Options, is_block_size};
 use crate::report::Report;
+use crate::used::used_lists;
 use hdt_file::Graph;
 use hdt_wire::Counted;
 use std::alloc::{AllocError, Global};
@@ -22,7 +24,11 @@ fn rewritten(
     requires { IsBlockSize block_size }
     ensures { IfOk result (λ made. IsRewritten block_size (graph_seen graph.now) made.0.items made.1) }
 {
-    Err(AllocError)
+    graph.is_graph();
+    let (lists, mut ids) = used_lists(alloc, graph)?;
+    let lists = lists.in_order(alloc, &mut ids)?;
+    let form = lists.form(alloc, ids)?;
+    whole_file(alloc, graph.header(), form, block_size)
 }
 
 /// Rewrites a file that was opened as the canonical file of the same set of string triples, in memory: with the same header
