@@ -118,7 +118,7 @@ module _ {g : List StringTriple} (d : FourLists) (ts : List Triple) (h : IsForm 
       (s.0, s.1, ap (λ (t : StringTriple). t.0) s.2 ∙ r.2)
 
   -- each number of a subject occurs
-  occurs : (n : ℕ) → 0 < n → n ≤ length (subject_terms d) → (t : Triple) × Contains ts t × (t.0 ≡ n)
+  pub occurs : (n : ℕ) → 0 < n → n ≤ length (subject_terms d) → (t : Triple) × Contains ts t × (t.0 ≡ n)
   occurs n a b =
       let r = occurs_as (term_at (subject_terms d) n) (Contains-get_or (subject_terms d) (n - 1) [] (omega arith)) in
       let range = All-contains (InRange d) ts r.0 h.in_range r.1 in

@@ -23,6 +23,7 @@ use Rattle.hdt_build.specs.Layouts.{parts_of, IsLayoutOf}
 use Rattle.hdt_build.proofs.Counts.{dictionary_bytes}
 use Rattle.hdt_build.proofs.Denoting.{some_triple, writable, once}
 use Rattle.hdt_build.proofs.Heads.{length_no_zero, states_length}
+use Rattle.hdt_build.proofs.TightForm.{form_tight}
 
 -- where a dictionary ends
 dictionary_end : (b : ℕ) (d : FourLists) (at : ℕ) → (canonical_dictionary_parts b d at).objects.end ≡ at + length (canonical_dictionary b d)
@@ -125,6 +126,7 @@ module _ (header : List ℕ) (graph : List StringTriple) (b : ℕ) (d : FourList
       of = file_graph;
     };
     header_is = refl;
+    tight = form_tight d ts form header;
     exactly = form.denotes;
     once = λ i j x lt below. once d ts form i j x lt below;
   }

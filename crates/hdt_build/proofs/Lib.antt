@@ -19,3 +19,5 @@ pub mod Runs
 pub mod Unique
 mod Using
 mod Keeping
+mod TightForm
+mod Again

@@ -4,6 +4,7 @@ use Rattle.hdt_dict.specs.Split.{FourLists}
 use Rattle.hdt_dict.specs.Strings.{SameMembers}
 use Rattle.hdt_wire.specs.declared.role.Role.TheVariants.{Subject, Predicate, Object}
 use Rattle.hdt_file.specs.File.{GraphParts, IsLayout}
+use Rattle.hdt_file.specs.Tight.{IsTight}
 use Rattle.hdt_file.specs.Views.{strings_in}
 use Rattle.hdt_triples.specs.Counting.{Triple}
 use Rattle.hdt_build.specs.Graph.{StringTriple}
@@ -29,10 +30,11 @@ parts_of header d ts = record {
   triples = ts;
 }
 
--- The bytes are a layout with this header body, and what they denote lists exactly the graph's triples, each once.
+-- The bytes are a tight layout with this header body, and what they denote lists exactly the graph's triples, each once.
 pub record IsLayoutOf (header : List ℕ) (graph : List StringTriple) (bytes : List ℕ) : Type 0 where
   pub parts : GraphParts
   pub layout : IsLayout bytes parts
   pub header_is : parts.header ≡ header
+  pub tight : IsTight parts
   pub exactly : SameMembers (denoted_by parts) graph
   pub once : AreOnce (denoted_by parts)

@@ -32,6 +32,7 @@ mod placed;
 mod reading;
 mod report;
 mod rewriting;
+mod rewriting_laws;
 #[cfg(test)]
 mod tests;
 mod triples;
@@ -46,3 +47,4 @@ pub use laws::{
 pub use options::Options;
 pub use report::Report;
 pub use rewriting::{rewrite, rewrite_bytes};
+pub use rewriting_laws::{rewriting_again_changes_nothing, rewriting_keeps_the_graph};
