@@ -21,3 +21,4 @@ mod Using
 mod Keeping
 mod TightForm
 mod Again
+mod TwoRuns

@@ -26,6 +26,7 @@ mod interner;
 mod keys;
 mod laws;
 mod lists;
+mod merging;
 mod numbers;
 mod options;
 mod placed;
@@ -33,6 +34,8 @@ mod reading;
 mod report;
 mod rewriting;
 mod rewriting_laws;
+#[cfg(test)]
+mod rewriting_tests;
 #[cfg(test)]
 mod tests;
 mod triples;

@@ -14,15 +14,15 @@ use std::process::Abort;
 use std::test::Fail;
 
 /// The file of `<http://a/> <http://a/> <http://a/> .` with the base `http://a/`.
-const V1: &[u8] =
+pub(crate) const V1: &[u8] =
     b"$HDT\x01<http://purl.org/HDT/hdt#HDTv1>\x00\x00v5$HDT\x02ntriples\x00length=150;\x00\x0EM<http://a/> <http://www.w3.org/1999/02/22-rdf-syntax-ns#type> <http://purl.org/HDT/hdt#Dataset> .\n<http://a/> <http://rdfs.org/ns/void#triples> \"1\" .\n$HDT\x03<http://purl.org/HDT/hdt#dictionaryFour>\x00mapping=1;\x00\x82\xB8\x02\x81\x8A\x90\x81\x01\x04\x82\xB8\xA0\xF7\xE66\xF0http://a/\x00\xF4\x81z\xD4\x02\x80\x80\x90h\x01\x01\x81\xF0\x00QS}R\x00\x00\x00\x00\x02\x81\x8A\x90\x81\x01\x04\x82\xB8\xA0\xF7\xE66\xF0http://a/\x00\xF4\x81z\xD4\x02\x80\x80\x90h\x01\x01\x81\xF0\x00QS}R\x00\x00\x00\x00$HDT\x04<http://purl.org/HDT/hdt#triplesBitmap>\x00order=1;\x00Y\xE9\x01\x81\x9B\x01R\xD0\x16\xA0\x01\x81\x9B\x01R\xD0\x16\xA0\x01\x01\x81\xF0\x01R\xD0\x16\xA0\x01\x01\x81\xF0\x01R\xD0\x16\xA0";
 
 /// The file of [`LINES`] with the base `http://a/`.
-const THREE: &[u8] =
+pub(crate) const THREE: &[u8] =
     b"$HDT\x01<http://purl.org/HDT/hdt#HDTv1>\x00\x00v5$HDT\x02ntriples\x00length=150;\x00\x0EM<http://a/> <http://www.w3.org/1999/02/22-rdf-syntax-ns#type> <http://purl.org/HDT/hdt#Dataset> .\n<http://a/> <http://rdfs.org/ns/void#triples> \"3\" .\n$HDT\x03<http://purl.org/HDT/hdt#dictionaryFour>\x00mapping=1;\x00\x82\xB8\x02\x82\x87\x90\xD5\x01\x03\x82\xD38/BG\xE8u:a\x00\x82b\x00\x89\xE3a$\x02\x80\x80\x90h\x01\x01\x81\xF0\x00QS}R\x00\x00\x00\x00\x02\x82\x87\x90\xD5\x01\x03\x82\xD38/BG\xE8u:p\x00\x82q\x00\xEE\xB4p\x98\x02\x81\x84\x90W\x01\x03\x82\xD3 \x8F\xDD\xC0r\"x\"\x00\xA3\x979\x16$HDT\x04<http://purl.org/HDT/hdt#triplesBitmap>\x00order=1;\x00Y\xE9\x01\x83\x95\x06\xB9\xB4\xDCt\x01\x83\x95\x07\xBA7\xB7\x86\x01\x02\x83\xC1\x19\xF2O\x91:\x01\x02\x83\xC1\x1E\x19+[\xEE";
 
 /// Three triples: two strings are subjects and objects.
-const LINES: &[u8] = b"<u:a> <u:p> <u:b> .\n<u:a> <u:q> \"x\" .\n<u:b> <u:p> <u:a> .\n";
+pub(crate) const LINES: &[u8] = b"<u:a> <u:p> <u:b> .\n<u:a> <u:q> \"x\" .\n<u:b> <u:p> <u:a> .\n";
 
 /// The line of V1.
 const LINE: &[u8] = b"<http://a/> <http://a/> <http://a/> .\n";
@@ -57,15 +57,15 @@ impl Read for Source<'_> {
 
 /// Takes at most `step` bytes a call, and fails after so many calls.
 #[derive(Drop)]
-struct Sink {
+pub(crate) struct Sink {
     taken: [u8; 512],
-    len: usize,
+    pub(crate) len: usize,
     step: usize,
-    calls: usize,
+    pub(crate) calls: usize,
 }
 
 impl Sink {
-    fn text(&self) -> &[u8] {
+    pub(crate) fn text(&self) -> &[u8] {
         self.taken.get(..self.len).unwrap_or(&[])
     }
 }
@@ -88,7 +88,7 @@ impl Write for Sink {
 }
 
 /// More than any test gives or takes.
-const ALL: usize = 1_000_000_000;
+pub(crate) const ALL: usize = 1_000_000_000;
 
 fn input_of(bytes: &[u8], step: usize, fails: usize) -> Counted<Source<'_>> {
     Counted::new(Source {
@@ -99,7 +99,7 @@ fn input_of(bytes: &[u8], step: usize, fails: usize) -> Counted<Source<'_>> {
     })
 }
 
-fn sink_of(step: usize, calls: usize) -> Counted<Sink> {
+pub(crate) fn sink_of(step: usize, calls: usize) -> Counted<Sink> {
     Counted::new(Sink {
         taken: [0; 512],
         len: 0,
@@ -108,7 +108,7 @@ fn sink_of(step: usize, calls: usize) -> Counted<Sink> {
     })
 }
 
-fn options(alloc: Global, block_size: u32, base: &[u8]) -> Result<Options, AllocError> {
+pub(crate) fn options(alloc: Global, block_size: u32, base: &[u8]) -> Result<Options, AllocError> {
     Ok(Options {
         block_size,
         base: Vec::from_slice(alloc, base)?,
@@ -125,7 +125,11 @@ fn seen<T>(answer: Result<T, BuildFault>) -> Result<Result<T, BuildFault>, Fail>
 }
 
 /// What is built of a text with the base `http://a/`.
-fn made_of(alloc: Global, text: &[u8], block_size: u32) -> Result<(Vec<u8>, Report), Fail> {
+pub(crate) fn made_of(
+    alloc: Global,
+    text: &[u8],
+    block_size: u32,
+) -> Result<(Vec<u8>, Report), Fail> {
     let options = options(alloc, block_size, b"http://a/")?;
     match build_bytes(alloc, &mut input_of(text, ALL, ALL), &options) {
         Ok(made) => Ok(made),
@@ -143,7 +147,7 @@ fn fault_of(alloc: Global, text: &[u8], block_size: u32, base: &[u8]) -> Result<
     }
 }
 
-fn report(
+pub(crate) fn report(
     triples: u64,
     shared: u64,
     subjects: u64,
@@ -509,7 +513,7 @@ fn put_string(
 }
 
 /// The lines of a file's triples.
-fn lines_of(alloc: Global, bytes: &[u8]) -> Result<Vec<u8>, Fail> {
+pub(crate) fn lines_of(alloc: Global, bytes: &[u8]) -> Result<Vec<u8>, Fail> {
     let graph = open(alloc, bytes)?;
     let mut text = Vec::new(alloc);
     let mut found = graph.search(Pattern {

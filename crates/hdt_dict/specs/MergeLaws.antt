@@ -73,7 +73,7 @@ passes_on ys xs at i up below within m after in' k lt =
     let same : get_or ys k x ≡ get_or ys k y = get_or_default ys k x y (omega arith) in
     nat_list_cmp_total.trans (get_or ys k y) x y (ap (λ z. string_cmp z x) (sym same) ∙ one) (Less-from_sorted string_cmp xs i m [] up (omega arith) in')
 
-below_or : (z x y : List ℕ) (o : Ordering) → string_cmp x y ≡ o → string_cmp z x ≡ Less → string_cmp y x ≢ Less → string_cmp z y ≡ Less
+pub below_or : (z x y : List ℕ) (o : Ordering) → string_cmp x y ≡ o → string_cmp z x ≡ Less → string_cmp y x ≢ Less → string_cmp z y ≡ Less
 below_or z x y Less e less up = nat_list_cmp_total.trans z x y less e
 below_or z x y Equal e less up = ap (string_cmp z) (sym (exact_bytes x y e)) ∙ less
 below_or z x y Greater e less up = absurd (up (nat_list_cmp_total.antisymm y x ∙ ap ordering_reverse e))
