@@ -482,12 +482,19 @@ fn texts_between(
     Ok(out)
 }
 
-/// Whether all are UTF-8 without a zero byte.
+/// Whether the bytes are UTF-8 without a zero byte.
+fn is_text(bytes: &[u8]) -> bool
+    ensures { IsTrue result → IsText bytes.now }
+{
+    std::str::from_utf8(bytes).is_ok() && !bytes.contains(&0)
+}
+
+/// Whether all of them are.
 fn are_texts(list: &[&[u8]]) -> bool
     ensures { IsTrue result → All IsText (lent_texts list.now) }
 {
     for text in list {
-        if std::str::from_utf8(*text).is_err() || text.contains(&0) {
+        if !is_text(*text) {
             return false;
         }
     }
@@ -501,8 +508,14 @@ fn with_strings(
     predicates: &[&[u8]],
     objects: &[&[u8]],
 ) -> Result<Vec<u8>, Fail> {
-    if !are_texts(subjects) || !are_texts(predicates) || !are_texts(objects) {
-        return Err(Fail::from("no texts"));
+    if !are_texts(subjects) {
+        return Err("a subject is no text")?;
+    }
+    if !are_texts(predicates) {
+        return Err("a predicate is no text")?;
+    }
+    if !are_texts(objects) {
+        return Err("an object is no text")?;
     }
     let mut bytes = file(alloc, b"")?;
     let parts = split_lent(alloc, subjects, predicates, objects)?;
