@@ -1,5 +1,5 @@
 use super::*;
-use hdt_dict::Dictionary;
+use hdt_dict::{Dictionary, Role};
 use hdt_seq::Steps;
 use hdt_triples::{ListedTriples, Pattern};
 use std::alloc::Global;
@@ -78,6 +78,21 @@ fn searches_by_numbers(rt: HostRuntime) -> Result<(), Fail> {
                 assert_eq!(rt; found, filtered(alloc, pattern)?, "{pattern:?}");
             }
         }
+    }
+    Ok(())
+}
+
+/// Each string of the file is used, so it is tight.
+#[test]
+fn uses_what_stands_in_its_triples(rt: HostRuntime) -> Result<(), Fail> {
+    let graph = open_tight(rt.alloc(), THREE)?;
+    for n in [0, 1, 2, 3, 4, u64::MAX] {
+        let subject = TRIPLES.iter().any(|triple| triple.0 == n);
+        let predicate = TRIPLES.iter().any(|triple| triple.1 == n);
+        let object = TRIPLES.iter().any(|triple| triple.2 == n);
+        assert_eq!(rt; graph.uses(Role::Subject, n), subject, "subject {n}");
+        assert_eq!(rt; graph.uses(Role::Predicate, n), predicate, "predicate {n}");
+        assert_eq!(rt; graph.uses(Role::Object, n), object, "object {n}");
     }
     Ok(())
 }

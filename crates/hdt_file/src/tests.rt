@@ -1,8 +1,14 @@
+ghost use Rattle.std.specs.Prelude.{IsTrue, All};
+ghost use Rattle.hdt_front.specs.Canonical.{lent_texts};
+ghost use Rattle.hdt_dict.specs.Texts.{IsText};
+
 use super::*;
-use hdt_dict::Role;
+use hdt_dict::{Role, put_lent_dictionary, split_lent};
 use hdt_seq::Steps;
+use hdt_triples::{are_writable, put_triples};
 use hdt_wire::{Control, Fault, Kind, Reason, put_control};
 use std::alloc::{AllocError, Global};
+use std::process::Abort;
 use std::test::Fail;
 
 /// The blocks of the sample file V1, and its header body.
@@ -293,6 +299,266 @@ fn tells_damage_at_its_place(rt: HostRuntime) -> Result<(), Fail> {
         let bytes = replaced(rt.alloc(), *at, *old, new)?;
         let wanted = wanted.map_err(|(place, reason)| Fault { place, reason });
         assert_eq!(rt; verdict(rt.alloc(), &bytes)?, wanted, "at {at}");
+    }
+    Ok(())
+}
+
+/// The section of the one string `u:y`, that of `http://a/` and `u:x`, and that of `u:x` and `u:y`.
+const Y: &[u8] = &[
+    0x02, 0x81, 0x84, 0x90, 0x57, 0x01, 0x03, 0x82, 0xD3, 0x20, 0x8F, 0xDD, 0xC0, 0x72, 0x75, 0x3A,
+    0x79, 0x00, 0xC3, 0x4F, 0xD0, 0xAC,
+];
+
+const AX: &[u8] = &[
+    0x02, 0x82, 0x8F, 0x90, 0x7D, 0x01, 0x04, 0x82, 0xB8, 0xF0, 0x24, 0x3C, 0x13, 0xA1, 0x68, 0x74,
+    0x74, 0x70, 0x3A, 0x2F, 0x2F, 0x61, 0x2F, 0x00, 0x80, 0x75, 0x3A, 0x78, 0x00, 0x74, 0x4F, 0x3A,
+    0x2A,
+];
+
+const XY: &[u8] = &[
+    0x02, 0x82, 0x87, 0x90, 0xD5, 0x01, 0x03, 0x82, 0xD3, 0x38, 0x2F, 0x42, 0x47, 0xE8, 0x75, 0x3A,
+    0x78, 0x00, 0x82, 0x79, 0x00, 0xC7, 0x7C, 0x03, 0xC0,
+];
+
+/// The control block of the triples, and the sequences of the triple (1, 1, 1), of (1, 1, 2), of (1, 2, 1), of
+/// (1, 1, 1) and (1, 1, 2), of (1, 1, 1) and (1, 1, 3).
+const TRIPLES: &[u8] = b"$HDT\x04<http://purl.org/HDT/hdt#triplesBitmap>\x00order=1;\x00Y\xE9";
+
+const ONE: &[u8] = &[
+    0x01, 0x81, 0x9B, 0x01, 0x52, 0xD0, 0x16, 0xA0, 0x01, 0x81, 0x9B, 0x01, 0x52, 0xD0, 0x16, 0xA0,
+    0x01, 0x01, 0x81, 0xF0, 0x01, 0x52, 0xD0, 0x16, 0xA0, 0x01, 0x01, 0x81, 0xF0, 0x01, 0x52, 0xD0,
+    0x16, 0xA0,
+];
+
+const OBJECT_2: &[u8] = &[
+    0x01, 0x81, 0x9B, 0x01, 0x52, 0xD0, 0x16, 0xA0, 0x01, 0x81, 0x9B, 0x01, 0x52, 0xD0, 0x16, 0xA0,
+    0x01, 0x01, 0x81, 0xF0, 0x01, 0x52, 0xD0, 0x16, 0xA0, 0x01, 0x02, 0x81, 0xCF, 0x02, 0xA6, 0x23,
+    0x46, 0xB3,
+];
+
+const PREDICATE_2: &[u8] = &[
+    0x01, 0x81, 0x9B, 0x01, 0x52, 0xD0, 0x16, 0xA0, 0x01, 0x81, 0x9B, 0x01, 0x52, 0xD0, 0x16, 0xA0,
+    0x01, 0x02, 0x81, 0xCF, 0x02, 0xA6, 0x23, 0x46, 0xB3, 0x01, 0x01, 0x81, 0xF0, 0x01, 0x52, 0xD0,
+    0x16, 0xA0,
+];
+
+const OBJECTS_1_2: &[u8] = &[
+    0x01, 0x81, 0x9B, 0x01, 0x52, 0xD0, 0x16, 0xA0, 0x01, 0x82, 0x92, 0x02, 0xA6, 0x23, 0x46, 0xB3,
+    0x01, 0x01, 0x81, 0xF0, 0x01, 0x52, 0xD0, 0x16, 0xA0, 0x01, 0x02, 0x82, 0xC6, 0x09, 0x9D, 0x88,
+    0xCF, 0x2A,
+];
+
+const OBJECTS_1_3: &[u8] = &[
+    0x01, 0x81, 0x9B, 0x01, 0x52, 0xD0, 0x16, 0xA0, 0x01, 0x82, 0x92, 0x02, 0xA6, 0x23, 0x46, 0xB3,
+    0x01, 0x01, 0x81, 0xF0, 0x01, 0x52, 0xD0, 0x16, 0xA0, 0x01, 0x02, 0x82, 0xC6, 0x0D, 0x82, 0x1F,
+    0x55, 0xED,
+];
+
+/// Four sections, the triples, what `verify` answers, and the place of the first string that no triple uses in its role.
+///
+/// The sections begin at 277. They take 28 bytes ([`A`]), 18 ([`NONE`]), 22 ([`X`], [`Y`]), 33 ([`AX`]) and 25 ([`XY`]), and
+/// their first string begins behind 14 of these. The string after `http://a/` begins 10 bytes behind it, the one after
+/// `u:x` 4 bytes.
+static LOOSE: [([&[u8]; 4], &[u8], [u64; 5], Option<u64>); 14] = [
+    ([A, NONE, A, NONE], ONE, [1, 1, 0, 1, 0], None),
+    // A string that is used in no role, of each section.
+    ([A, X, A, NONE], ONE, [1, 1, 1, 1, 0], Some(319)),
+    ([A, NONE, A, X], ONE, [1, 1, 0, 1, 1], Some(365)),
+    ([A, NONE, AX, NONE], ONE, [1, 1, 0, 2, 0], Some(347)),
+    ([A, NONE, AX, NONE], PREDICATE_2, [1, 1, 0, 2, 0], Some(337)),
+    // A shared string that is used as a subject alone, and one that is as an object alone.
+    ([A, NONE, A, X], OBJECT_2, [1, 1, 0, 1, 1], Some(291)),
+    ([AX, NONE, A, NONE], OBJECTS_1_2, [2, 2, 0, 1, 0], Some(301)),
+    // The objects' numbers go on behind the shared string's.
+    ([A, NONE, A, X], OBJECTS_1_2, [2, 1, 0, 1, 1], None),
+    ([A, NONE, A, XY], OBJECTS_1_2, [2, 1, 0, 1, 2], Some(369)),
+    ([A, NONE, A, XY], OBJECTS_1_3, [2, 1, 0, 1, 2], Some(365)),
+    // Strings of two sections: the earlier section's is told.
+    ([A, NONE, AX, X], OBJECT_2, [1, 1, 0, 2, 1], Some(291)),
+    ([A, X, AX, NONE], ONE, [1, 1, 1, 2, 0], Some(319)),
+    ([A, X, A, Y], ONE, [1, 1, 1, 1, 1], Some(319)),
+    ([A, NONE, AX, X], ONE, [1, 1, 0, 2, 1], Some(347)),
+];
+
+/// An answer of opening or verifying; want of memory is an `Err`.
+fn told(answer: Result<[u64; 5], OpenFault>) -> Result<Result<[u64; 5], Fault>, Fail> {
+    match answer {
+        Ok(lens) => Ok(Ok(lens)),
+        Err(OpenFault::Fault(fault)) => Ok(Err(fault)),
+        Err(OpenFault::OutOfMemory) => Err(Fail::from(AllocError)),
+    }
+}
+
+/// The counts of a graph that is opened.
+fn opened(alloc: Global, bytes: &[u8], tight: bool) -> Result<[u64; 5], OpenFault> {
+    let graph = if tight {
+        open_tight(alloc, bytes)?
+    } else {
+        open(alloc, bytes)?
+    };
+    let [shared, subjects, predicates, objects] = graph.section_lens();
+    Ok([graph.len(), shared, subjects, predicates, objects])
+}
+
+/// Opening and verifying give this answer, and tight reading that one.
+fn answers(
+    rt: &impl Abort,
+    alloc: Global,
+    bytes: &[u8],
+    wanted: Result<[u64; 5], Fault>,
+    tight: Result<[u64; 5], Fault>,
+) -> Result<(), Fail> {
+    assert_eq!(rt; told(opened(alloc, bytes, false))?, wanted);
+    assert_eq!(rt; told(verify(alloc, bytes))?, wanted);
+    assert_eq!(rt; told(opened(alloc, bytes, true))?, tight);
+    assert_eq!(rt; told(verify_tight(alloc, bytes))?, tight);
+    Ok(())
+}
+
+#[test]
+fn refuses_what_no_triple_uses(rt: HostRuntime) -> Result<(), Fail> {
+    for (sections, triples, lens, place) in &LOOSE {
+        let mut bytes = file(rt.alloc(), CONTROL)?;
+        for section in *sections {
+            bytes.extend_from_slice(section)?;
+        }
+        bytes.extend_from_slice(TRIPLES)?;
+        bytes.extend_from_slice(triples)?;
+        let tight = match *place {
+            Some(place) => Err(Fault {
+                place,
+                reason: Reason::Unused,
+            }),
+            None => Ok(*lens),
+        };
+        answers(&rt, rt.alloc(), &bytes, Ok(*lens), tight)?;
+        // What follows the file is told first.
+        let trailing = Fault {
+            place: bytes.len() as u64,
+            reason: Reason::TrailingBytes,
+        };
+        bytes.push(0)?;
+        answers(&rt, rt.alloc(), &bytes, Err(trailing), Err(trailing))?;
+    }
+    Ok(())
+}
+
+#[test]
+fn tells_damage_before_what_is_unused(rt: HostRuntime) -> Result<(), Fail> {
+    for (at, old, new, wanted) in &DAMAGED {
+        let bytes = replaced(rt.alloc(), *at, *old, new)?;
+        if let Err((place, reason)) = *wanted {
+            let fault = Fault { place, reason };
+            answers(&rt, rt.alloc(), &bytes, Err(fault), Err(fault))?;
+        }
+    }
+    Ok(())
+}
+
+/// The texts `00000` to `99999`, one after another.
+fn numerals(alloc: Global) -> Result<Vec<u8>, AllocError> {
+    let mut out = Vec::with_capacity(alloc, 500_000)?;
+    for i in 0..100_000_u32 {
+        for place in [10_000, 1_000, 100, 10, 1] {
+            out.push(b'0' + (i / place % 10) as u8)?;
+        }
+    }
+    Ok(out)
+}
+
+/// Some of these texts.
+fn texts_between(
+    alloc: Global,
+    numerals: &[u8],
+    from: usize,
+    to: usize,
+) -> Result<Vec<&[u8]>, AllocError> {
+    let mut out = Vec::new(alloc);
+    for (i, numeral) in numerals.chunks_exact(5).enumerate() {
+        if from <= i && i < to {
+            out.push(numeral)?;
+        }
+    }
+    Ok(out)
+}
+
+/// Whether the bytes are UTF-8 without a zero byte.
+fn is_text(bytes: &[u8]) -> bool
+    ensures { IsTrue result → IsText bytes.now }
+{
+    std::str::from_utf8(bytes).is_ok() && !bytes.contains(&0)
+}
+
+/// Whether all of them are.
+fn are_texts(list: &[&[u8]]) -> bool
+    ensures { IsTrue result → All IsText (lent_texts list.now) }
+{
+    for text in list {
+        if !is_text(*text) {
+            return false;
+        }
+    }
+    true
+}
+
+/// The head of V1 and the dictionary of these strings, in blocks of 16.
+fn with_strings(
+    alloc: Global,
+    subjects: &[&[u8]],
+    predicates: &[&[u8]],
+    objects: &[&[u8]],
+) -> Result<Vec<u8>, Fail> {
+    if !are_texts(subjects) {
+        return Err("a subject is no text")?;
+    }
+    if !are_texts(predicates) {
+        return Err("a predicate is no text")?;
+    }
+    if !are_texts(objects) {
+        return Err("an object is no text")?;
+    }
+    let mut bytes = file(alloc, b"")?;
+    let parts = split_lent(alloc, subjects, predicates, objects)?;
+    put_lent_dictionary(alloc, &parts, 16, &mut bytes)?;
+    Ok(bytes)
+}
+
+/// For each subject from 1 to 60,000 one triple, with the object of the same number, or the last with object 1; there are
+/// 100 predicates.
+fn sixty_thousand(alloc: Global, last_object: u64) -> Result<Vec<(u64, u64, u64)>, AllocError> {
+    let mut list = Vec::new(alloc);
+    for n in 1..=60_000_u64 {
+        let object = if n == 60_000 { last_object } else { n };
+        list.push((n, n % 100 + 1, object))?;
+    }
+    Ok(list)
+}
+
+/// The counts of 60,000 triples of 100,100 strings: `00000` to `59999` are subjects, `40000` to `99999` objects.
+const SIXTY_THOUSAND: [u64; 5] = [60_000, 20_000, 40_000, 100, 40_000];
+
+#[test]
+fn tells_tightness_of_a_large_file(rt: HostRuntime) -> Result<(), Fail> {
+    let alloc = rt.alloc();
+    let numerals = numerals(alloc)?;
+    let subjects = texts_between(alloc, &numerals, 0, 60_000)?;
+    let predicates = texts_between(alloc, &numerals, 0, 100)?;
+    let objects = texts_between(alloc, &numerals, 40_000, 100_000)?;
+    let mut bytes = with_strings(alloc, &subjects, &predicates, &objects)?;
+    let end = bytes.len();
+    // The last object, `99999`, is the last of its block: a number, its last byte and a zero byte, before four bytes of code.
+    let unused = Fault {
+        place: (end as u64).wrapping_sub(7),
+        reason: Reason::Unused,
+    };
+    for (last_object, tight) in [(60_000, Ok(SIXTY_THOUSAND)), (1, Err(unused))] {
+        let list = sixty_thousand(alloc, last_object)?;
+        if !are_writable(&list) {
+            return Err(Fail::from("not writable"));
+        }
+        bytes.truncate(end);
+        put_triples(alloc, &list, &mut bytes)?;
+        answers(&rt, alloc, &bytes, Ok(SIXTY_THOUSAND), tight)?;
     }
     Ok(())
 }

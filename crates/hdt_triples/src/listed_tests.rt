@@ -1,6 +1,6 @@
 use super::*;
 use hdt_seq::{Directory, put_bits, put_numbers};
-use hdt_wire::{Kind, check32, put_control};
+use hdt_wire::{Kind, Role, check32, put_control};
 use std::alloc::{AllocError, Global};
 use std::process::Abort;
 use std::test::Fail;
@@ -285,6 +285,104 @@ fn finds_each_pattern_that_occurs(rt: HostRuntime) -> Result<(), Fail> {
         for o in 0..=56 {
             all_agree(&rt, &listed, pattern_of([0, p, o]), &list)?;
         }
+    }
+    Ok(())
+}
+
+/// A role, a number, and whether one of the three triples has it there.
+static USED: [(Role, u64, bool); 16] = [
+    (Role::Subject, 0, false),
+    (Role::Subject, 1, true),
+    (Role::Subject, 2, true),
+    (Role::Subject, 3, false),
+    (Role::Subject, u64::MAX, false),
+    (Role::Predicate, 0, false),
+    (Role::Predicate, 1, true),
+    (Role::Predicate, 2, true),
+    (Role::Predicate, 3, false),
+    (Role::Predicate, u64::MAX, false),
+    (Role::Object, 0, false),
+    (Role::Object, 1, true),
+    (Role::Object, 2, true),
+    (Role::Object, 3, true),
+    (Role::Object, 4, false),
+    (Role::Object, u64::MAX, false),
+];
+
+/// The counts of the roles may be larger than what is used.
+#[test]
+fn tells_what_three_triples_use(rt: HostRuntime) -> Result<(), Fail> {
+    for padding in [0, 0xFF] {
+        let bytes = spelled_case(rt.alloc(), &THREE, padding)?;
+        for counts in [THREE.counts, [9, 9, 9]] {
+            let listed = listed(rt.alloc(), &bytes, counts)?;
+            for (role, n, wanted) in USED {
+                assert_eq!(rt; listed.uses(role, n), wanted, "{role:?} {n}");
+            }
+        }
+    }
+    Ok(())
+}
+
+/// Number k, from 0, of those that aren't a multiple of ten.
+fn no_tenth(k: u64) -> u64 {
+    (k / 9).wrapping_mul(10).wrapping_add(k % 9).wrapping_add(1)
+}
+
+/// 5,000 triples of 125 subjects, of the 18 predicates below 20 and the 90 objects below 100 that aren't a multiple of ten.
+fn without_tenths(alloc: Global) -> Result<Vec<(u64, u64, u64)>, AllocError> {
+    let mut list = Vec::new(alloc);
+    for subject in 1..=125_u64 {
+        for step in 0..4_u64 {
+            let predicate = no_tenth(step.wrapping_mul(4).wrapping_add(subject % 6));
+            for ten in 0..10_u64 {
+                let first = subject.wrapping_add(predicate) % 9;
+                list.push((
+                    subject,
+                    predicate,
+                    no_tenth(ten.wrapping_mul(9).wrapping_add(first)),
+                ))?;
+            }
+        }
+    }
+    Ok(list)
+}
+
+/// Whether a triple of a list has the number in the role, by a plain search.
+fn stands_in(list: &[(u64, u64, u64)], role: Role, n: u64) -> bool {
+    list.iter().any(|triple| match role {
+        Role::Subject => triple.0 == n,
+        Role::Predicate => triple.1 == n,
+        Role::Object => triple.2 == n,
+    })
+}
+
+/// Of each role the numbers up to one past the count, and how many of them are used.
+static UP_TO: [(Role, u64, u64); 3] = [
+    (Role::Subject, 151, 125),
+    (Role::Predicate, 21, 18),
+    (Role::Object, 101, 90),
+];
+
+#[test]
+fn tells_what_many_triples_use(rt: HostRuntime) -> Result<(), Fail> {
+    let alloc = rt.alloc();
+    let list = without_tenths(alloc)?;
+    assert_eq!(rt; list.len(), 5_000);
+    if !are_writable(&list) {
+        return Err(Fail::from("not writable"));
+    }
+    let mut bytes = Vec::new(alloc);
+    put_triples(alloc, &list, &mut bytes)?;
+    let listed = listed(alloc, &bytes, [150, 20, 100])?;
+    for (role, last, wanted) in UP_TO {
+        let mut used: u64 = 0;
+        for n in 0..=last {
+            let uses = listed.uses(role, n);
+            assert_eq!(rt; uses, stands_in(&list, role, n), "{role:?} {n}");
+            used = used.wrapping_add(uses as u64);
+        }
+        assert_eq!(rt; used, wanted, "{role:?}");
     }
     Ok(())
 }
