@@ -1,5 +1,12 @@
+use Rattle.std.proofs.Common.{◌↔◌, subst, sym}
+use Rattle.std.specs.Prelude.{IsErrOf}
 use Rattle.std.proofs.lemmas.Result.{IfOk-weaker, IfErr-weaker}
 use Rattle.hdt_wire.specs.Counted.{inner}
+use Rattle.hdt_build.specs.Options.{AreRight}
+use Rattle.hdt_build.specs.declared.options.Options.{Options}
+use Rattle.hdt_tool.specs.Answer.{IfBuild}
+use Rattle.hdt_tool.specs.declared.fault.ToolFault.TheVariants.{BadOptions}
+use Rattle.hdt_tool.specs.declared.request.Action.{Action}
 use Rattle.hdt_tool.proofs.Making.{on_file, nothing_built, no_options, not_writing}
 use Rattle.hdt_tool.proofs.run.text_of.Goals as goal
 
@@ -22,3 +29,7 @@ returns-in_default-clause-unread g c = no_options c.args.action.now _ (on_file c
 
 pub returns-in_default-clause-others : goal.returns-in_default-clause-others
 returns-in_default-clause-others g c = IfErr-weaker c.file_text.result _ _ not_writing c.file_text.ensures.others
+
+pub returns-in-Build-clause-bad : goal.returns-in-Build-clause-bad
+returns-in-Build-clause-bad g c =
+    subst (λ (a : Action). IfBuild a (λ (options : Options). IsErrOf c.built_text.result BadOptions ↔ (AreRight options → ⊥))) (sym c.in-Build.is) c.built_text.ensures.bad
