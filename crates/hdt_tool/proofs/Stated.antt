@@ -190,28 +190,16 @@ object_misspelt rows s p first second word fault h = subst (λ (w : TermWord). M
 -- ---- `build` and `rewrite`
 
 -- `build` asks for options
-pub options_needed : (rows : List Row) (a : Action) → AsksToMake (codes "build") rows a → (options : Options) × StatesOptions rows options
-options_needed rows action.Head h = absurd h
-options_needed rows action.Verify h = absurd h
-options_needed rows action.VerifyTight h = absurd h
-options_needed rows (action.Strings role) h = absurd h
-options_needed rows (action.Nth role n) h = absurd h
-options_needed rows (action.Number role x) h = absurd h
-options_needed rows (action.Find given numbers) h = absurd h
-options_needed rows (action.Build options) h = (options, h.1)
-options_needed rows (action.Rewrite b) h = differ _ _ _ refl h.0 refl
-
--- `rewrite` for a block size
-pub block_size_needed : (rows : List Row) (a : Action) → AsksToMake (codes "rewrite") rows a → (n : ℕ) × StatesNumber 32 (one_of (codes "block-size") rows) n
-block_size_needed rows action.Head h = absurd h
-block_size_needed rows action.Verify h = absurd h
-block_size_needed rows action.VerifyTight h = absurd h
-block_size_needed rows (action.Strings role) h = absurd h
-block_size_needed rows (action.Nth role n) h = absurd h
-block_size_needed rows (action.Number role x) h = absurd h
-block_size_needed rows (action.Find given numbers) h = absurd h
-block_size_needed rows (action.Build options) h = differ _ _ _ refl h.0 refl
-block_size_needed rows (action.Rewrite b) h = (b, h.1)
+pub options_needed : (name : Text) (rows : List Row) → name ≡ codes "build" → (a : Action) → AsksToMake name rows a → (options : Options) × StatesOptions rows options
+options_needed name rows is action.Head h = absurd h
+options_needed name rows is action.Verify h = absurd h
+options_needed name rows is action.VerifyTight h = absurd h
+options_needed name rows is (action.Strings role) h = absurd h
+options_needed name rows is (action.Nth role n) h = absurd h
+options_needed name rows is (action.Number role x) h = absurd h
+options_needed name rows is (action.Find given numbers) h = absurd h
+options_needed name rows is (action.Build options) h = (options, h.1)
+options_needed name rows is (action.Rewrite b) h = differ name _ _ is h.0 refl
 
 -- no command makes a file that has another name
 only_these : (name : Text) (rows : List Row) (a : Action) → name ≢ codes "build" → name ≢ codes "rewrite" → AsksToMake name rows a → ⊥
@@ -251,20 +239,14 @@ rewrite_is_none rows (action.Build options) h = h
 rewrite_is_none rows (action.Rewrite b) h = h
 
 -- what is refused of a command that makes a file is refused of the whole table
-of_making : (name other : Text) (rows : List Row) (r : UsageFault) → name ≡ other → ((a : Action) → AsksAction other rows a → ⊥)
-    → ComesWithout ((request : Request) × AsksOfFiles other rows request) r
+pub of_making : (name : Text) (rows : List Row) (r : UsageFault) → (name ≡ codes "build") ⊎ (name ≡ codes "rewrite")
+    → ComesWithout ((request : Request) × AsksOfFiles name rows request) r
     → ComesWithoutOr ((request : Request) × AsksFor name rows request) (Misspells name rows) r
-of_making name other rows r is none h =
-    subst (λ (n : Text). ComesWithoutOr ((request : Request) × AsksFor n rows request) (Misspells n rows) r) (sym is) (without_or _ _ (Misspells other rows) r
-    (λ w. (w.0, ⊎_elim (λ file. absurd (none w.0.action file.action)) (λ asks. asks) w.1)) h)
-
-pub of_build : (name : Text) (rows : List Row) (r : UsageFault) → name ≡ codes "build" → ComesWithout ((request : Request) × AsksOfFiles (codes "build") rows request) r
-    → ComesWithoutOr ((request : Request) × AsksFor name rows request) (Misspells name rows) r
-of_build name rows r is h = of_making name (codes "build") rows r is (build_is_none rows) h
-
-pub of_rewrite : (name : Text) (rows : List Row) (r : UsageFault) → name ≡ codes "rewrite" → ComesWithout ((request : Request) × AsksOfFiles (codes "rewrite") rows request) r
-    → ComesWithoutOr ((request : Request) × AsksFor name rows request) (Misspells name rows) r
-of_rewrite name rows r is h = of_making name (codes "rewrite") rows r is (rewrite_is_none rows) h
+of_making name rows r is h = without_or _ _ (Misspells name rows) r (λ w. (w.0, ⊎_elim (λ file. absurd (none w.0.action file.action)) (λ asks. asks) w.1)) h
+  where
+    none : (a : Action) → AsksAction name rows a → ⊥
+    none a asks = ⊎_elim (λ build. build_is_none rows a (subst (λ (n : Text). AsksAction n rows a) build asks))
+        (λ rewrite. rewrite_is_none rows a (subst (λ (n : Text). AsksAction n rows a) rewrite asks)) is
 
 -- and so is what is refused of a command on a file
 pub of_others : (name : Text) (rows : List Row) (r : UsageFault) → name ≢ codes "build" → name ≢ codes "rewrite"

@@ -1,7 +1,7 @@
 //! The command line of `hdt`.
-ghost use Rattle.std.specs.Prelude.{◌≡◌, IfOk, IfErr, codes, map};
+ghost use Rattle.std.specs.Prelude.{◌≡◌, IfOk, IfErr, map};
 ghost use Rattle.clap.specs.Words.{found_of, rows_of, kind_of};
-ghost use Rattle.hdt_tool.specs.Asked.{AsksAction, AsksFor, AsksOfFile, AsksOfFiles, ComesWithout, ComesWithoutOr, IsRefused, Misspells, TellsKind, Wants};
+ghost use Rattle.hdt_tool.specs.Asked.{AsksAction, AsksFor, AsksOfFile, AsksOfFiles, AsksToMake, ComesWithout, ComesWithoutOr, IsRefused, Misspells, TellsKind, Wants};
 ghost use Rattle.hdt_tool.specs.Table.{AreRoles};
 ghost use Rattle.hdt_tool.specs.declared.request.Action.{Action};
 ghost use Rattle.hdt_tool.specs.declared.request.Request.{Request};
@@ -74,25 +74,29 @@ fn file_request<'m>(
     })
 }
 
-/// What `build` with its words asks for.
-fn build_request<'m>(alloc: Global, matches: &ArgMatches<'m>) -> Result<Request, UsageFault>
-    ensures ok { IfOk result (λ request. AsksOfFiles (codes "build") (rows_of (found_of matches.now)) request) }
-    ensures refused { IfErr result (ComesWithout ((request : Request) × AsksOfFiles (codes "build") (rows_of (found_of matches.now)) request)) }
+/// What a command that makes a file makes, by its name with its entries.
+fn making_of<'m>(alloc: Global, name: &str, matches: &ArgMatches<'m>) -> Result<Action, UsageFault>
+    ensures ok { IfOk result (AsksToMake name.now (rows_of (found_of matches.now))) }
+    ensures refused { IfErr result (ComesWithout ((action : Action) × AsksToMake name.now (rows_of (found_of matches.now)) action)) }
 {
-    Ok(Request {
-        action: Action::Build(options_at(alloc, matches)?),
-        file: text_at(alloc, matches, "IN")?,
-        out: Some(text_at(alloc, matches, "OUT")?),
-    })
+    match name {
+        "build" => Ok(Action::Build(options_at(alloc, matches)?)),
+        "rewrite" => Ok(Action::Rewrite(block_size_at(alloc, matches)?)),
+        _ => Err(missing(alloc)),
+    }
 }
 
-/// What `rewrite` with its words asks for.
-fn rewrite_request<'m>(alloc: Global, matches: &ArgMatches<'m>) -> Result<Request, UsageFault>
-    ensures ok { IfOk result (λ request. AsksOfFiles (codes "rewrite") (rows_of (found_of matches.now)) request) }
-    ensures refused { IfErr result (ComesWithout ((request : Request) × AsksOfFiles (codes "rewrite") (rows_of (found_of matches.now)) request)) }
+/// What a command that makes a file asks for with its words.
+fn making_request<'m>(
+    alloc: Global,
+    name: &str,
+    matches: &ArgMatches<'m>,
+) -> Result<Request, UsageFault>
+    ensures ok { IfOk result (AsksOfFiles name.now (rows_of (found_of matches.now))) }
+    ensures refused { IfErr result (ComesWithout ((request : Request) × AsksOfFiles name.now (rows_of (found_of matches.now)) request)) }
 {
     Ok(Request {
-        action: Action::Rewrite(block_size_at(alloc, matches)?),
+        action: making_of(alloc, name, matches)?,
         file: text_at(alloc, matches, "IN")?,
         out: Some(text_at(alloc, matches, "OUT")?),
     })
@@ -109,8 +113,7 @@ fn request_of<'m>(
         (Misspells name.now (rows_of (found_of matches.now)))) }
 {
     match name {
-        "build" => build_request(alloc, matches),
-        "rewrite" => rewrite_request(alloc, matches),
+        "build" | "rewrite" => making_request(alloc, name, matches),
         _ => file_request(alloc, name, matches),
     }
 }
