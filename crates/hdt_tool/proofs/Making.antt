@@ -1,7 +1,6 @@
 -- What a command makes of its input, seen from each kind of command.
-use Rattle.std.proofs.Common.{◌≡◌, ◌≢◌, ℕ, List, [], Option, refl, sym, ap, subst}
+use Rattle.std.proofs.Common.{◌≡◌, ◌≢◌, ℕ, List, [], Option, refl, sym, ap}
 use Rattle.std.proofs.lemmas.List.{append-nil}
-use Rattle.std.specs.Prelude.{Result, IfErr, IsErrOf}
 use Rattle.hdt_build.specs.Reading.{ReadFailed}
 use Rattle.hdt_build.specs.declared.fault.BuildFault.{BuildFault}
 use Rattle.hdt_build.specs.declared.fault.BuildFault.TheVariants as building
@@ -10,7 +9,7 @@ use Rattle.hdt_tool.specs.declared.fault.ToolFault.{ToolFault}
 use Rattle.hdt_tool.specs.declared.fault.ToolFault.TheVariants.{File, Input, NoTriples, NoSuchTerm, NoSuchNumber, NotATerm, BadOptions, Read, Write, OutOfMemory}
 use Rattle.hdt_tool.specs.declared.request.Action.{Action}
 use Rattle.hdt_tool.specs.declared.request.Action.TheVariants.{Head, Verify, VerifyTight, Strings, Nth, Number, Find, Build, Rewrite}
-use Rattle.hdt_tool.specs.Answer.{IfBuild, IsOfFile, Makes, Prints, ReadsFile, ReadsWith, RewritesFile}
+use Rattle.hdt_tool.specs.Answer.{IfBuild, IsOfFile, Makes, Prints, ReadsFile, ReadsWith}
 use Rattle.hdt_tool.specs.Faults.{build_fault_of, told_of_reason}
 
 -- a fault that doesn't tell of the reader comes of a fault of the builder that doesn't

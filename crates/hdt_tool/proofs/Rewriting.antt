@@ -5,7 +5,6 @@ use Rattle.hdt_file.specs.File.{GraphParts, IsLayout}
 use Rattle.hdt_build.specs.Options.{AreRight, IsBlockSize}
 use Rattle.hdt_build.specs.declared.fault.RewriteFault.{RewriteFault}
 use Rattle.hdt_build.specs.declared.fault.RewriteFault.TheVariants as rewriting
-use Rattle.hdt_build.specs.declared.options.Options.{Options}
 use Rattle.hdt_tool.specs.declared.fault.ToolFault.{ToolFault}
 use Rattle.hdt_tool.specs.declared.fault.ToolFault.TheVariants.{BadOptions, Write}
 use Rattle.hdt_tool.specs.declared.request.Action.{Action}
