@@ -56,33 +56,35 @@ def control(kind, form, properties):
     return block + code16(block)
 
 
-def packed(entries, width):
-    """Entries side by side, least bit first; padding bits are 0. Eight entries fill whole bytes."""
+def packed(entries, width, padding=0):
+    """Entries side by side, least bit first; padding bits are 0, or 1. Eight entries fill whole bytes."""
     data = bytearray()
     for i in range(0, len(entries), 8):
         eight = entries[i : i + 8]
+        size = (width * len(eight) + 7) // 8
         joined = sum(entry << width * k for k, entry in enumerate(eight))
-        data += joined.to_bytes((width * len(eight) + 7) // 8, "little")
+        joined |= padding * ((1 << 8 * size) - (1 << width * len(eight)))
+        data += joined.to_bytes(size, "little")
     return bytes(data)
 
 
-def numbers(entries):
-    """A number sequence, as wide as its greatest entry needs."""
-    width = max(1, max(entries, default=0).bit_length())
+def numbers(entries, foreign=0):
+    """A number sequence, as wide as its greatest entry needs; a foreign one has another width, and padding bits that are 1."""
+    width = foreign or max(1, max(entries, default=0).bit_length())
     head = b"\x01" + bytes([width]) + number(len(entries))
-    data = packed(entries, width)
+    data = packed(entries, width, int(foreign > 0))
     return head + code8(head) + data + code32(data)
 
 
-def bits(marks):
-    """A bit sequence."""
+def bits(marks, foreign=0):
+    """A bit sequence; the padding bits of a foreign one are 1."""
     head = b"\x01" + number(len(marks))
-    data = packed(marks, 1)
+    data = packed(marks, 1, int(foreign > 0))
     return head + code8(head) + data + code32(data)
 
 
-def section(strings, block_size=16):
-    """A dictionary section with the longest common prefixes."""
+def section(strings, block_size=16, foreign=0):
+    """A dictionary section with the longest common prefixes; in a foreign one no string keeps a byte of the one before."""
     packed, starts, before = bytearray(), [], b""
     for i, string in enumerate(strings):
         if i % block_size == 0:
@@ -90,33 +92,42 @@ def section(strings, block_size=16):
             packed += string + b"\0"
         else:
             kept = 0
-            while kept < min(len(before), len(string)) and before[kept] == string[kept]:
+            while not foreign and kept < min(len(before), len(string)) and before[kept] == string[kept]:
                 kept += 1
             packed += number(kept) + string[kept:] + b"\0"
         before = string
     starts.append(len(packed))
     head = b"\x02" + number(len(strings)) + number(len(packed)) + number(block_size)
-    return head + code8(head) + numbers(starts) + bytes(packed) + code32(packed)
+    return head + code8(head) + numbers(starts, foreign) + bytes(packed) + code32(packed)
 
 
-def head(body=b""):
+# Properties that a foreign file has beside those that are needed, before and behind them.
+FURTHER = b"a=b;Codification=x=y;", b"sizeStrings=12;last"
+
+
+def properties(needed, foreign):
+    return needed.join(FURTHER) if foreign else needed
+
+
+def head(body=b"", foreign=0):
     """The global block, the header block and the header body."""
-    properties = b"length=%d;" % len(body)
-    return control(1, b"<http://purl.org/HDT/hdt#HDTv1>", b"") + control(2, b"ntriples", properties) + body
+    block = control(1, b"<http://purl.org/HDT/hdt#HDTv1>", properties(b"", foreign))
+    return block + control(2, b"ntriples", properties(b"length=%d;" % len(body), foreign)) + body
 
 
-def dictionary(shared, subjects, predicates, objects, block_size=16):
-    block = control(3, b"<http://purl.org/HDT/hdt#dictionaryFour>", b"mapping=1;")
-    return block + b"".join(section(strings, block_size) for strings in (shared, subjects, predicates, objects))
+def dictionary(shared, subjects, predicates, objects, block_size=16, foreign=0):
+    block = control(3, b"<http://purl.org/HDT/hdt#dictionaryFour>", properties(b"mapping=1;", foreign))
+    return block + b"".join(section(strings, block_size, foreign) for strings in (shared, subjects, predicates, objects))
 
 
-def triples(ascending):
+def triples(ascending, foreign=0):
     """The triples block and its four sequences, of triples whose subjects are 1, 2, 3, .. without a gap."""
     pairs = sorted({triple[:2] for triple in ascending})
     marks_y = [int(pair == last) for pair, last in zip(pairs, lasts(pairs, 1))]
     marks_z = [int(triple == last) for triple, last in zip(ascending, lasts(ascending, 2))]
-    block = control(4, b"<http://purl.org/HDT/hdt#triplesBitmap>", b"order=1;")
-    return block + bits(marks_y) + bits(marks_z) + numbers([p for _, p in pairs]) + numbers([o for _, _, o in ascending])
+    block = control(4, b"<http://purl.org/HDT/hdt#triplesBitmap>", properties(b"order=1;", foreign))
+    marks = bits(marks_y, foreign) + bits(marks_z, foreign)
+    return block + marks + numbers([p for _, p in pairs], foreign) + numbers([o for _, _, o in ascending], foreign)
 
 
 def body(base, count):
@@ -128,14 +139,20 @@ def body(base, count):
 def graph(strings, base=None, block_size=16):
     """A file of these triples of dictionary strings, without a header body where there is no base; their numbers and the
     triples, both in the order of the file."""
-    subjects, predicates, objects = ({triple[place] for triple in strings} for place in range(3))
+    sets = [{triple[place] for triple in strings} for place in range(3)]
+    return loose(strings, *sets, base, block_size)
+
+
+def loose(strings, subjects, predicates, objects, base=None, block_size=16, foreign=0):
+    """The same with these sets of strings in each role, and what is packed as wide as `foreign` says, if that isn't 0. Strings
+    may be unused; of the subjects only the last ones, since those that are used count up by marks."""
     shared = sorted(subjects & objects)
     parts = shared, sorted(subjects - objects), sorted(predicates), sorted(objects - subjects)
     roles = parts[0] + parts[1], parts[2], parts[0] + parts[3]
     places = [{string: n for n, string in enumerate(role, 1)} for role in roles]
     found = sorted({tuple(place[string] for place, string in zip(places, triple)) for triple in strings})
-    header = head() if base is None else head(body(base, len(found)))
-    data = header + dictionary(*parts, block_size) + triples(found)
+    header = head(b"" if base is None else body(base, len(found)), foreign)
+    data = header + dictionary(*parts, block_size, foreign) + triples(found, foreign)
     return data, found, [tuple(role[n - 1] for role, n in zip(roles, triple)) for triple in found]
 
 

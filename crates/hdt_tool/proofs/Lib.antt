@@ -3,6 +3,7 @@ mod Stated
 mod Listing
 mod Told
 mod Making
+mod Rewriting
 mod Triples
 pub mod Statuses
 mod Grown

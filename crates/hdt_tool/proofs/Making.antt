@@ -1,7 +1,6 @@
 -- What a command makes of its input, seen from each kind of command.
-use Rattle.std.proofs.Common.{◌≡◌, ◌≢◌, ℕ, List, [], Option, refl, sym, ap, subst}
+use Rattle.std.proofs.Common.{◌≡◌, ◌≢◌, ℕ, List, [], Option, refl, sym, ap}
 use Rattle.std.proofs.lemmas.List.{append-nil}
-use Rattle.std.specs.Prelude.{Result, IfErr, IsErrOf}
 use Rattle.hdt_build.specs.Reading.{ReadFailed}
 use Rattle.hdt_build.specs.declared.fault.BuildFault.{BuildFault}
 use Rattle.hdt_build.specs.declared.fault.BuildFault.TheVariants as building
@@ -9,8 +8,8 @@ use Rattle.hdt_build.specs.declared.options.Options.{Options}
 use Rattle.hdt_tool.specs.declared.fault.ToolFault.{ToolFault}
 use Rattle.hdt_tool.specs.declared.fault.ToolFault.TheVariants.{File, Input, NoTriples, NoSuchTerm, NoSuchNumber, NotATerm, BadOptions, Read, Write, OutOfMemory}
 use Rattle.hdt_tool.specs.declared.request.Action.{Action}
-use Rattle.hdt_tool.specs.declared.request.Action.TheVariants.{Head, Verify, Strings, Nth, Number, Find, Build}
-use Rattle.hdt_tool.specs.Answer.{HasBadOptions, IsOfFile, Makes, Prints, ReadsFile, ReadsWith}
+use Rattle.hdt_tool.specs.declared.request.Action.TheVariants.{Head, Verify, VerifyTight, Strings, Nth, Number, Find, Build, Rewrite}
+use Rattle.hdt_tool.specs.Answer.{IfBuild, IsOfFile, Makes, Prints, ReadsFile, ReadsWith}
 use Rattle.hdt_tool.specs.Faults.{build_fault_of, told_of_reason}
 
 -- a fault that doesn't tell of the reader comes of a fault of the builder that doesn't
@@ -21,39 +20,42 @@ not_failed building.BadOptions not h = h
 not_failed building.OutOfMemory not h = h
 not_failed (building.Write n) not h = h
 
--- a command that is not `build` is one on a file
-pub on_file : (action : Action) → ((options : Options) → action ≡ Build options → ⊥) → ReadsFile action
-on_file Head other = tt
-on_file Verify other = tt
-on_file (Strings role) other = tt
-on_file (Nth role n) other = tt
-on_file (Number role x) other = tt
-on_file (Find given numbers) other = tt
-on_file (Build options) other = other options refl
+-- a command that is not `build` or `rewrite` is one on a file
+pub on_file : (action : Action) → ((options : Options) → action ≡ Build options → ⊥) → ((b : ℕ) → action ≡ Rewrite b → ⊥) → ReadsFile action
+on_file Head other another = tt
+on_file Verify other another = tt
+on_file VerifyTight other another = tt
+on_file (Strings role) other another = tt
+on_file (Nth role n) other another = tt
+on_file (Number role x) other another = tt
+on_file (Find given numbers) other another = tt
+on_file (Build options) other another = other options refl
+on_file (Rewrite b) other another = another b refl
 
--- a command on a file builds nothing
+-- a command on a file makes nothing
 pub nothing_built : (action : Action) → ReadsFile action → (before after : Option (List ℕ)) (text made : List ℕ) → ReadsWith before after (λ bytes. Prints action bytes text)
     → Makes action before after text made made
 nothing_built Head is before after text made h = record { built = []; yields = (h, refl); made = sym (append-nil made) }
 nothing_built Verify is before after text made h = record { built = []; yields = (h, refl); made = sym (append-nil made) }
+nothing_built VerifyTight is before after text made h = record { built = []; yields = (h, refl); made = sym (append-nil made) }
 nothing_built (Strings role) is before after text made h = record { built = []; yields = (h, refl); made = sym (append-nil made) }
 nothing_built (Nth role n) is before after text made h = record { built = []; yields = (h, refl); made = sym (append-nil made) }
 nothing_built (Number role x) is before after text made h = record { built = []; yields = (h, refl); made = sym (append-nil made) }
 nothing_built (Find given numbers) is before after text made h = record { built = []; yields = (h, refl); made = sym (append-nil made) }
 nothing_built (Build options) is before after text made h = absurd is
+nothing_built (Rewrite b) is before after text made h = absurd is
 
--- nor has it options
-pub no_options : (action : Action) → ReadsFile action → HasBadOptions action → ⊥
-no_options Head is h = h
-no_options Verify is h = h
-no_options (Strings role) is h = h
-no_options (Nth role n) is h = h
-no_options (Number role x) is h = h
-no_options (Find given numbers) is h = h
-no_options (Build options) is h = is
-
-pub never_bad : {X : Type 0} (r : Result X ToolFault) → IfErr r IsOfFile → IsErrOf r BadOptions → ⊥
-never_bad {X} r told h = subst (λ (t : Result X ToolFault). IfErr t IsOfFile) h told
+-- nor has it the options of `build`
+pub no_options : (action : Action) (Holds : Options → Type 0) → ReadsFile action → IfBuild action Holds
+no_options Head Holds is = tt
+no_options Verify Holds is = tt
+no_options VerifyTight Holds is = tt
+no_options (Strings role) Holds is = tt
+no_options (Nth role n) Holds is = tt
+no_options (Number role x) Holds is = tt
+no_options (Find given numbers) Holds is = tt
+no_options (Build options) Holds is = absurd is
+no_options (Rewrite b) Holds is = tt
 
 pub not_writing : (e : ToolFault) → IsOfFile e → (n : ℕ) → e ≢ Write n
 not_writing (File fault) h n is = absurd cc

@@ -19,7 +19,7 @@ use Rattle.hdt_build.specs.declared.options.Options.{Options}
 use Rattle.hdt_tool.specs.declared.request.Action.{Action}
 use Rattle.hdt_tool.specs.declared.request.Request.{Request}
 use Rattle.hdt_tool.specs.declared.request.Action.TheVariants as action
-use Rattle.hdt_tool.specs.Asked.{AsksAction, AsksBuild, AsksFor, AsksOfFile, AsksToBuild, ComesWithout, ComesWithoutOr, IsFaultOf, IsMisspelt, IsMisspeltPart, IsStringOf, IsUsed, IsUnused, Misspells, StatesNumber, StatesOptions, StatesPart, StatesString, StatesWord, StatesWords, TellsTerm}
+use Rattle.hdt_tool.specs.Asked.{AsksAction, AsksFor, AsksOfFile, AsksOfFiles, AsksToMake, ComesWithout, ComesWithoutOr, IsFaultOf, IsMisspelt, IsMisspeltPart, IsStringOf, IsUsed, IsUnused, Misspells, StatesNumber, StatesOptions, StatesPart, StatesString, StatesWord, StatesWords, TellsTerm}
 use Rattle.hdt_tool.specs.Lines.{word_name}
 use Rattle.hdt_tool.specs.TriplesText.{Given}
 
@@ -105,25 +105,29 @@ differ name a b p q apart = let same : bytes_eq a b ≡ true = (bytes_eq-Decides
 -- `strings` asks for a role
 pub strings_need : (name : Text) (rows : List Row) → name ≡ codes "strings" → (x : Action) × AsksAction name rows x → (role : Role) × (first_of (codes "ROLE") rows ≡ Some (role_name role))
 strings_need name rows is (action.Head, h) = differ name _ _ is h refl
-strings_need name rows is (action.Verify, h) = differ name _ _ is h refl
+strings_need name rows is (action.Verify, h) = differ name _ _ is h.0 refl
+strings_need name rows is (action.VerifyTight, h) = differ name _ _ is h.0 refl
 strings_need name rows is (action.Strings role, h) = (role, h.1)
 strings_need name rows is (action.Nth role n, h) = differ name _ _ is h.0 refl
 strings_need name rows is (action.Number role x, h) = differ name _ _ is h.0 refl
 strings_need name rows is (action.Find given numbers, inl h) = differ name _ _ is h.0 refl
 strings_need name rows is (action.Find given numbers, inr h) = differ name _ _ is h.0 refl
 strings_need name rows is (action.Build options, h) = absurd h
+strings_need name rows is (action.Rewrite b, h) = absurd h
 
 -- `string` for a role and a number
 pub string_needs : (name : Text) (rows : List Row) → name ≡ codes "string" → (x : Action) × AsksAction name rows x
     → ((role : Role) × (first_of (codes "ROLE") rows ≡ Some (role_name role))) × ((n : ℕ) × StatesNumber 64 (one_of (codes "N") rows) n)
 string_needs name rows is (action.Head, h) = differ name _ _ is h refl
-string_needs name rows is (action.Verify, h) = differ name _ _ is h refl
+string_needs name rows is (action.Verify, h) = differ name _ _ is h.0 refl
+string_needs name rows is (action.VerifyTight, h) = differ name _ _ is h.0 refl
 string_needs name rows is (action.Strings role, h) = differ name _ _ is h.0 refl
 string_needs name rows is (action.Nth role n, h) = ((role, h.1), (n, h.2))
 string_needs name rows is (action.Number role x, h) = differ name _ _ is h.0 refl
 string_needs name rows is (action.Find given numbers, inl h) = differ name _ _ is h.0 refl
 string_needs name rows is (action.Find given numbers, inr h) = differ name _ _ is h.0 refl
 string_needs name rows is (action.Build options, h) = absurd h
+string_needs name rows is (action.Rewrite b, h) = absurd h
 
 -- TERM is there where it states a string
 states_some : (raw entry : Option Text) (x : List ℕ) → StatesString raw entry x → IsSome entry
@@ -134,24 +138,28 @@ states_some raw (Some text) x h = search rules
 pub number_needs : (name : Text) (rows : List Row) → name ≡ codes "number" → (x : Action) × AsksAction name rows x
     → ((role : Role) × (first_of (codes "ROLE") rows ≡ Some (role_name role))) × IsSome (first_of (codes "TERM") rows)
 number_needs name rows is (action.Head, h) = differ name _ _ is h refl
-number_needs name rows is (action.Verify, h) = differ name _ _ is h refl
+number_needs name rows is (action.Verify, h) = differ name _ _ is h.0 refl
+number_needs name rows is (action.VerifyTight, h) = differ name _ _ is h.0 refl
 number_needs name rows is (action.Strings role, h) = differ name _ _ is h.0 refl
 number_needs name rows is (action.Nth role n, h) = differ name _ _ is h.0 refl
 number_needs name rows is (action.Number role x, h) = ((role, h.1), states_some _ _ x.items h.2)
 number_needs name rows is (action.Find given numbers, inl h) = differ name _ _ is h.0 refl
 number_needs name rows is (action.Find given numbers, inr h) = differ name _ _ is h.0 refl
 number_needs name rows is (action.Build options, h) = absurd h
+number_needs name rows is (action.Rewrite b, h) = absurd h
 
 -- `find` for what S, P and O state
 find_needs : (rows : List Row) → (x : Action) × AsksAction (codes "find") rows x → (given : Given) × StatesWords rows given
 find_needs rows (action.Head, h) = differ _ _ _ refl h refl
-find_needs rows (action.Verify, h) = differ _ _ _ refl h refl
+find_needs rows (action.Verify, h) = differ _ _ _ refl h.0 refl
+find_needs rows (action.VerifyTight, h) = differ _ _ _ refl h.0 refl
 find_needs rows (action.Strings role, h) = differ _ _ _ refl h.0 refl
 find_needs rows (action.Nth role n, h) = differ _ _ _ refl h.0 refl
 find_needs rows (action.Number role x, h) = differ _ _ _ refl h.0 refl
 find_needs rows (action.Find given numbers, inl h) = (given, h.1)
 find_needs rows (action.Find given numbers, inr h) = differ _ _ _ refl h.0 refl
 find_needs rows (action.Build options, h) = absurd h
+find_needs rows (action.Rewrite b, h) = absurd h
 
 -- a word is there where it states a string or none
 word_some : (raw entry : Option Text) (x : Option (Vec ℕ Global)) → StatesPart raw entry x → IsSome entry
@@ -179,38 +187,70 @@ pub object_misspelt : (rows : List Row) (s p : Option (Vec ℕ Global)) → Stat
     → (word ≡ Object) × IsMisspeltPart rows Object fault → Misspells (codes "find") rows word fault
 object_misspelt rows s p first second word fault h = subst (λ (w : TermWord). Misspells (codes "find") rows w fault) (sym h.0) (refl, (s, first), (p, second), h.1)
 
--- ---- `build`
+-- ---- `build` and `rewrite`
 
--- it asks for options
-pub options_needed : (rows : List Row) (a : Action) → AsksToBuild rows a → (options : Options) × StatesOptions rows options
-options_needed rows action.Head h = absurd h
-options_needed rows action.Verify h = absurd h
-options_needed rows (action.Strings role) h = absurd h
-options_needed rows (action.Nth role n) h = absurd h
-options_needed rows (action.Number role x) h = absurd h
-options_needed rows (action.Find given numbers) h = absurd h
-options_needed rows (action.Build options) h = (options, h)
+-- `build` asks for options
+pub options_needed : (name : Text) (rows : List Row) → name ≡ codes "build" → (a : Action) → AsksToMake name rows a → (options : Options) × StatesOptions rows options
+options_needed name rows is action.Head h = absurd h
+options_needed name rows is action.Verify h = absurd h
+options_needed name rows is action.VerifyTight h = absurd h
+options_needed name rows is (action.Strings role) h = absurd h
+options_needed name rows is (action.Nth role n) h = absurd h
+options_needed name rows is (action.Number role x) h = absurd h
+options_needed name rows is (action.Find given numbers) h = absurd h
+options_needed name rows is (action.Build options) h = (options, h.1)
+options_needed name rows is (action.Rewrite b) h = differ name _ _ is h.0 refl
 
--- no command on a file has its name
-pub not_of_file : (rows : List Row) (a : Action) → AsksAction (codes "build") rows a → ⊥
-not_of_file rows action.Head h = differ _ _ _ refl h refl
-not_of_file rows action.Verify h = differ _ _ _ refl h refl
-not_of_file rows (action.Strings role) h = differ _ _ _ refl h.0 refl
-not_of_file rows (action.Nth role n) h = differ _ _ _ refl h.0 refl
-not_of_file rows (action.Number role x) h = differ _ _ _ refl h.0 refl
-not_of_file rows (action.Find given numbers) (inl h) = differ _ _ _ refl h.0 refl
-not_of_file rows (action.Find given numbers) (inr h) = differ _ _ _ refl h.0 refl
-not_of_file rows (action.Build options) h = h
+-- no command makes a file that has another name
+only_these : (name : Text) (rows : List Row) (a : Action) → name ≢ codes "build" → name ≢ codes "rewrite" → AsksToMake name rows a → ⊥
+only_these name rows action.Head build rewrite h = h
+only_these name rows action.Verify build rewrite h = h
+only_these name rows action.VerifyTight build rewrite h = h
+only_these name rows (action.Strings role) build rewrite h = h
+only_these name rows (action.Nth role n) build rewrite h = h
+only_these name rows (action.Number role x) build rewrite h = h
+only_these name rows (action.Find given numbers) build rewrite h = h
+only_these name rows (action.Build options) build rewrite h = build h.0
+only_these name rows (action.Rewrite b) build rewrite h = rewrite h.0
 
--- what is refused of `build` is refused of the whole table
-pub of_build : (name : Text) (rows : List Row) (r : UsageFault) → name ≡ codes "build" → ComesWithout ((request : Request) × AsksBuild (codes "build") rows request) r
+-- no command on a file has the name of one that makes a file
+build_is_none : (rows : List Row) (a : Action) → AsksAction (codes "build") rows a → ⊥
+build_is_none rows action.Head h = differ _ _ _ refl h refl
+build_is_none rows action.Verify h = differ _ _ _ refl h.0 refl
+build_is_none rows action.VerifyTight h = differ _ _ _ refl h.0 refl
+build_is_none rows (action.Strings role) h = differ _ _ _ refl h.0 refl
+build_is_none rows (action.Nth role n) h = differ _ _ _ refl h.0 refl
+build_is_none rows (action.Number role x) h = differ _ _ _ refl h.0 refl
+build_is_none rows (action.Find given numbers) (inl h) = differ _ _ _ refl h.0 refl
+build_is_none rows (action.Find given numbers) (inr h) = differ _ _ _ refl h.0 refl
+build_is_none rows (action.Build options) h = h
+build_is_none rows (action.Rewrite b) h = h
+
+rewrite_is_none : (rows : List Row) (a : Action) → AsksAction (codes "rewrite") rows a → ⊥
+rewrite_is_none rows action.Head h = differ _ _ _ refl h refl
+rewrite_is_none rows action.Verify h = differ _ _ _ refl h.0 refl
+rewrite_is_none rows action.VerifyTight h = differ _ _ _ refl h.0 refl
+rewrite_is_none rows (action.Strings role) h = differ _ _ _ refl h.0 refl
+rewrite_is_none rows (action.Nth role n) h = differ _ _ _ refl h.0 refl
+rewrite_is_none rows (action.Number role x) h = differ _ _ _ refl h.0 refl
+rewrite_is_none rows (action.Find given numbers) (inl h) = differ _ _ _ refl h.0 refl
+rewrite_is_none rows (action.Find given numbers) (inr h) = differ _ _ _ refl h.0 refl
+rewrite_is_none rows (action.Build options) h = h
+rewrite_is_none rows (action.Rewrite b) h = h
+
+-- what is refused of a command that makes a file is refused of the whole table
+pub of_making : (name : Text) (rows : List Row) (r : UsageFault) → (name ≡ codes "build") ⊎ (name ≡ codes "rewrite")
+    → ComesWithout ((request : Request) × AsksOfFiles name rows request) r
     → ComesWithoutOr ((request : Request) × AsksFor name rows request) (Misspells name rows) r
-of_build name rows r is h =
-    subst (λ (n : Text). ComesWithoutOr ((request : Request) × AsksFor n rows request) (Misspells n rows) r) (sym is) (without_or _ _ (Misspells (codes "build") rows) r
-    (λ w. (w.0, ⊎_elim (λ file. absurd (not_of_file rows w.0.action file.action)) (λ asks. asks) w.1)) h)
+of_making name rows r is h = without_or _ _ (Misspells name rows) r (λ w. (w.0, ⊎_elim (λ file. absurd (none w.0.action file.action)) (λ asks. asks) w.1)) h
+  where
+    none : (a : Action) → AsksAction name rows a → ⊥
+    none a asks = ⊎_elim (λ build. build_is_none rows a (subst (λ (n : Text). AsksAction n rows a) build asks))
+        (λ rewrite. rewrite_is_none rows a (subst (λ (n : Text). AsksAction n rows a) rewrite asks)) is
 
 -- and so is what is refused of a command on a file
-pub of_others : (name : Text) (rows : List Row) (r : UsageFault) → name ≢ codes "build"
+pub of_others : (name : Text) (rows : List Row) (r : UsageFault) → name ≢ codes "build" → name ≢ codes "rewrite"
     → ComesWithoutOr ((request : Request) × AsksOfFile name rows request) (Misspells name rows) r
     → ComesWithoutOr ((request : Request) × AsksFor name rows request) (Misspells name rows) r
-of_others name rows r other h = or_or _ _ _ _ r (λ w. (w.0, ⊎_elim (λ file. file) (λ asks. absurd (other asks.named)) w.1)) (λ word fault m. m) h
+of_others name rows r build rewrite h =
+    or_or _ _ _ _ r (λ w. (w.0, ⊎_elim (λ file. file) (λ asks. absurd (only_these name rows w.0.action build rewrite asks.action)) w.1)) (λ word fault m. m) h

@@ -5,20 +5,44 @@ use Rattle.std.specs.declared.vec.Vec.{Vec}
 use Rattle.hdt_tool.specs.declared.fault.ToolFault.{ToolFault}
 use Rattle.hdt_tool.specs.declared.fault.ToolFault.TheVariants.{File, Input, NoTriples, NoSuchTerm, NoSuchNumber, NotATerm, BadOptions, Read, Write, OutOfMemory}
 use Rattle.hdt_tool.specs.declared.request.Action.{Action}
-use Rattle.hdt_tool.specs.declared.request.Action.TheVariants.{Nth, Number, Find}
+use Rattle.hdt_tool.specs.declared.request.Action.TheVariants.{Head, Verify, VerifyTight, Strings, Nth, Number, Find, Build, Rewrite}
 use Rattle.hdt_wire.specs.declared.role.Role.{Role}
 use Rattle.hdt_dict.specs.Numbered.{numbered}
 use Rattle.hdt_file.specs.File.{GraphParts, IsLayout}
 use Rattle.hdt_file.specs.Views.{strings_in}
-use Rattle.hdt_tool.specs.Answer.{IsOfFile, IsTold, ReadsAll, Tells}
+use Rattle.hdt_tool.specs.Answer.{HasBadBlocks, IsOfFile, IsTold, ReadsAll, ReadsFile, Tells, TellsBadOptions}
 use Rattle.hdt_tool.specs.TriplesText.{Given, TellsFound}
+
+-- a block size that is not written is told of the run
+bad_blocks : (action : Action) (before after : Option (List ℕ)) (bytes : List ℕ) → ReadsAll before after bytes → HasBadBlocks action bytes → TellsBadOptions action before after
+bad_blocks Head before after bytes read h = absurd h
+bad_blocks Verify before after bytes read h = absurd h
+bad_blocks VerifyTight before after bytes read h = absurd h
+bad_blocks (Strings role) before after bytes read h = absurd h
+bad_blocks (Nth role n) before after bytes read h = absurd h
+bad_blocks (Number role x) before after bytes read h = absurd h
+bad_blocks (Find given numbers) before after bytes read h = absurd h
+bad_blocks (Build options) before after bytes read h = absurd h
+bad_blocks (Rewrite b) before after bytes read h = record { bytes = bytes; read = read; holds = h }
+
+-- it is told by `rewrite` alone
+no_blocks : (action : Action) (bytes : List ℕ) → ReadsFile action → HasBadBlocks action bytes → ⊥
+no_blocks Head bytes is h = h
+no_blocks Verify bytes is h = h
+no_blocks VerifyTight bytes is h = h
+no_blocks (Strings role) bytes is h = h
+no_blocks (Nth role n) bytes is h = h
+no_blocks (Number role x) bytes is h = h
+no_blocks (Find given numbers) bytes is h = h
+no_blocks (Build options) bytes is h = h
+no_blocks (Rewrite b) bytes is h = is
 
 -- what is told of the bytes that were read is told of the run
 pub told_all : (action : Action) (before after : Option (List ℕ)) (bytes : List ℕ) (e : ToolFault) → ReadsAll before after bytes → IsTold action bytes e → Tells action before after e
 told_all action before after bytes (File fault) read h = record { bytes = bytes; read = read; holds = h }
 told_all action before after bytes (Input fault) read h = absurd h
 told_all action before after bytes NoTriples read h = absurd h
-told_all action before after bytes BadOptions read h = absurd h
+told_all action before after bytes BadOptions read h = bad_blocks action before after bytes read h
 told_all action before after bytes NoSuchNumber read h = record { bytes = bytes; read = read; holds = h }
 told_all action before after bytes NoSuchTerm read h = record { bytes = bytes; read = read; holds = h }
 told_all action before after bytes (NotATerm role n) read h = record { bytes = bytes; read = read; holds = h }
@@ -31,7 +55,7 @@ pub not_read : (action : Action) (bytes : List ℕ) (e : ToolFault) → IsTold a
 not_read action bytes (File fault) h is = absurd cc
 not_read action bytes (Input fault) h is = h
 not_read action bytes NoTriples h is = h
-not_read action bytes BadOptions h is = h
+not_read action bytes BadOptions h is = absurd cc
 not_read action bytes NoSuchNumber h is = absurd cc
 not_read action bytes NoSuchTerm h is = absurd cc
 not_read action bytes (NotATerm role n) h is = absurd cc
@@ -43,7 +67,7 @@ pub not_write : (action : Action) (bytes : List ℕ) (e : ToolFault) (n : ℕ) �
 not_write action bytes (File fault) n h is = absurd cc
 not_write action bytes (Input fault) n h is = h
 not_write action bytes NoTriples n h is = h
-not_write action bytes BadOptions n h is = h
+not_write action bytes BadOptions n h is = absurd cc
 not_write action bytes NoSuchNumber n h is = absurd cc
 not_write action bytes NoSuchTerm n h is = absurd cc
 not_write action bytes (NotATerm role m) n h is = absurd cc
@@ -76,15 +100,15 @@ no_text given numbers bytes graph Read stands h = absurd h
 no_text given numbers bytes graph (Write n) stands h = absurd h
 no_text given numbers bytes graph OutOfMemory stands h = tt
 
--- it is one that a command on a file tells
-pub of_file : (action : Action) (bytes : List ℕ) (e : ToolFault) → IsTold action bytes e → IsOfFile e
-of_file action bytes (File fault) h = tt
-of_file action bytes (Input fault) h = h
-of_file action bytes NoTriples h = h
-of_file action bytes NoSuchNumber h = tt
-of_file action bytes NoSuchTerm h = tt
-of_file action bytes (NotATerm role n) h = tt
-of_file action bytes BadOptions h = h
-of_file action bytes Read h = tt
-of_file action bytes (Write n) h = h
-of_file action bytes OutOfMemory h = tt
+-- it is one that a command that reads a file alone tells
+pub of_file : (action : Action) (bytes : List ℕ) (e : ToolFault) → ReadsFile action → IsTold action bytes e → IsOfFile e
+of_file action bytes (File fault) is h = tt
+of_file action bytes (Input fault) is h = h
+of_file action bytes NoTriples is h = h
+of_file action bytes NoSuchNumber is h = tt
+of_file action bytes NoSuchTerm is h = tt
+of_file action bytes (NotATerm role n) is h = tt
+of_file action bytes BadOptions is h = no_blocks action bytes is h
+of_file action bytes Read is h = tt
+of_file action bytes (Write n) is h = h
+of_file action bytes OutOfMemory is h = tt

@@ -4,10 +4,12 @@ use Rattle.std.specs.Io.KnownBytes.{Appends, Consumes, IsAtEnd}
 use Rattle.hdt_wire.specs.declared.fault.Fault.{Fault}
 use Rattle.hdt_file.specs.Head.{HeadParts, IsHead, head_at_start}
 use Rattle.hdt_file.specs.File.{GraphParts, IsLayout, graph_in}
+use Rattle.hdt_file.specs.Tight.{IsTightLayout, tight_in}
 use Rattle.hdt_file.specs.Views.{lens_of, strings_in}
 use Rattle.hdt_build.specs.Built.{Builds}
-use Rattle.hdt_build.specs.Options.{AreRight}
+use Rattle.hdt_build.specs.Options.{AreRight, IsBlockSize}
 use Rattle.hdt_build.specs.Reading.{Tells as TellsOf}
+use Rattle.hdt_build.specs.Rewritten.{IsRewritten}
 use Rattle.hdt_build.specs.declared.fault.BuildFault.{BuildFault}
 use Rattle.hdt_build.specs.declared.fault.BuildFault.TheVariants as building
 use Rattle.hdt_build.specs.declared.options.Options.{Options}
@@ -18,8 +20,8 @@ use Rattle.hdt_dict.specs.Numbered.{numbered}
 use Rattle.hdt_tool.specs.declared.fault.ToolFault.{ToolFault}
 use Rattle.hdt_tool.specs.declared.fault.ToolFault.TheVariants.{File, Input, NoTriples, NoSuchTerm, NoSuchNumber, NotATerm, BadOptions, Read, Write, OutOfMemory}
 use Rattle.hdt_tool.specs.declared.request.Action.{Action}
-use Rattle.hdt_tool.specs.declared.request.Action.TheVariants.{Head, Verify, Strings, Nth, Number, Find, Build}
-use Rattle.hdt_tool.specs.BuiltText.{built_line}
+use Rattle.hdt_tool.specs.declared.request.Action.TheVariants.{Head, Verify, VerifyTight, Strings, Nth, Number, Find, Build, Rewrite}
+use Rattle.hdt_tool.specs.BuiltText.{built_line, rewritten_line}
 use Rattle.hdt_tool.specs.HeadText.{head_text}
 use Rattle.hdt_tool.specs.Lines.{fault_status}
 use Rattle.hdt_tool.specs.Verdict.{verdict}
@@ -38,6 +40,12 @@ pub record PrintsVerdict (bytes text : List ℕ) : Type 0 where
   pub stands : IsLayout bytes graph
   pub printed : text ≡ verdict (lens_of graph)
 
+-- the bytes are a layout of a graph, triples use all of its strings, and they print as the verdict on it
+pub record PrintsTightVerdict (bytes text : List ℕ) : Type 0 where
+  pub graph : GraphParts
+  pub stands : IsTightLayout bytes graph
+  pub printed : text ≡ verdict (lens_of graph)
+
 -- the bytes are a layout of a graph, and of the strings of the role this holds
 pub record Consults (bytes : List ℕ) (role : Role) (Holds : List (List ℕ) → Type 0) : Type 0 where
   pub graph : GraphParts
@@ -54,20 +62,25 @@ pub record Opens (bytes : List ℕ) (Holds : GraphParts → Type 0) : Type 0 whe
 abbrev pub Prints : Action → List ℕ → List ℕ → Type 0
 Prints Head bytes text = PrintsHead bytes text
 Prints Verify bytes text = PrintsVerdict bytes text
+Prints VerifyTight bytes text = PrintsTightVerdict bytes text
 Prints (Strings role) bytes text = Consults bytes role (λ strings. text ≡ string_lines 1 strings)
 Prints (Nth role n) bytes text = Consults bytes role (λ strings. PrintsString strings n text)
 Prints (Number role x) bytes text = Consults bytes role (λ strings. PrintsNumber strings x.items text)
 Prints (Find given numbers) bytes text = Opens bytes (λ graph. PrintsFound graph given numbers text)
 Prints (Build options) bytes text = ⊥
+Prints (Rewrite b) bytes text = ⊥
 
--- a command on a file, which reads it and builds nothing
+-- a command on a file, which reads it and makes none
 abbrev pub ReadsFile : Action → Type 0
 ReadsFile (Build options) = ⊥
+ReadsFile (Rewrite b) = ⊥
 ReadsFile action = Unit {0}
 
--- a fault of these input bytes that a command on a file answers: `head` looks at the head alone, the others at the whole file
+-- a fault of these input bytes that a command on a file answers: `head` looks at the head alone, the others at the whole file,
+-- and `verify --tight` also at whether triples use its strings
 abbrev pub HasFault : Action → List ℕ → Fault → Type 0
 HasFault Head bytes fault = head_at_start bytes ≡ Err fault
+HasFault VerifyTight bytes fault = tight_in bytes ≡ Err fault
 HasFault (Build options) bytes fault = ⊥
 HasFault action bytes fault = graph_in bytes ≡ Err fault
 
@@ -86,6 +99,11 @@ abbrev pub HasNoText : Action → List ℕ → Role → ℕ → Type 0
 HasNoText (Find given numbers) bytes role n = Opens bytes (λ graph. LacksTermIn graph given numbers role n)
 HasNoText action bytes role n = ⊥
 
+-- the bytes are a layout, which is not to be written again in such blocks
+abbrev pub HasBadBlocks : Action → List ℕ → Type 0
+HasBadBlocks (Rewrite b) bytes = Opens bytes (λ graph. IsBlockSize b → ⊥)
+HasBadBlocks action bytes = ⊥
+
 -- what a command on a file tells of these input bytes, where it prints nothing of them
 abbrev pub IsTold : Action → List ℕ → ToolFault → Type 0
 IsTold action bytes (File fault) = HasFault action bytes fault
@@ -94,12 +112,12 @@ IsTold action bytes NoTriples = ⊥
 IsTold action bytes NoSuchNumber = LacksNumber action bytes
 IsTold action bytes NoSuchTerm = LacksTerm action bytes
 IsTold action bytes (NotATerm role n) = HasNoText action bytes role n
-IsTold action bytes BadOptions = ⊥
+IsTold action bytes BadOptions = HasBadBlocks action bytes
 IsTold action bytes Read = ⊥
 IsTold action bytes (Write n) = ⊥
 IsTold action bytes OutOfMemory = Unit {0}
 
--- a fault that a command on a file tells before it writes
+-- a fault that a command that reads a file alone tells before it writes
 abbrev pub IsOfFile : ToolFault → Type 0
 IsOfFile (Input fault) = ⊥
 IsOfFile NoTriples = ⊥
@@ -124,10 +142,21 @@ pub record BuildsFile (options : Options) (input : Option (List ℕ)) (text buil
   pub file : Builds options input built report
   pub printed : text ≡ built_line report
 
--- of what the reader had left a command prints this text, and builds these bytes: a command on a file reads all of it, and
--- builds nothing
+-- the bytes are a layout of a graph, this is the canonical file of the triples that the graph denotes, with its header body, in
+-- blocks of a size that is written, and the text tells the file's numbers
+pub record RewritesFile (b : ℕ) (bytes text built : List ℕ) : Type 0 where
+  pub graph : GraphParts
+  pub stands : IsLayout bytes graph
+  pub size : IsBlockSize b
+  pub report : Report
+  pub file : IsRewritten b graph built report
+  pub printed : text ≡ rewritten_line report
+
+-- of what the reader had left a command prints this text, and makes these bytes: `build` and `rewrite` a file, and a command on a
+-- file reads all of it and makes nothing
 abbrev pub Yields : Action → Option (List ℕ) → Option (List ℕ) → List ℕ → List ℕ → Type 0
 Yields (Build options) before after text built = BuildsFile options before text built
+Yields (Rewrite b) before after text built = ReadsWith before after (λ bytes. RewritesFile b bytes text built)
 Yields action before after text built = ReadsWith before after (λ bytes. Prints action bytes text) × (built ≡ [])
 
 -- what the builder tells of a document
@@ -135,10 +164,16 @@ abbrev pub TellsDocument : Action → Option (List ℕ) → Option (List ℕ) �
 TellsDocument (Build options) before after fault = TellsOf before after fault
 TellsDocument action before after fault = ⊥
 
--- no file can be built under the options
-abbrev pub HasBadOptions : Action → Type 0
-HasBadOptions (Build options) = AreRight options → ⊥
-HasBadOptions action = ⊥
+-- of the options of `build` this holds
+abbrev pub IfBuild : Action → (Options → Type 0) → Type 0
+IfBuild (Build options) Holds = Holds options
+IfBuild action Holds = Unit {0}
+
+-- the options can't be taken: `build` tells it whatever the input is, `rewrite` where the input is a layout
+abbrev pub TellsBadOptions : Action → Option (List ℕ) → Option (List ℕ) → Type 0
+TellsBadOptions (Build options) before after = AreRight options → ⊥
+TellsBadOptions (Rewrite b) before after = ReadsWith before after (HasBadBlocks (Rewrite b))
+TellsBadOptions action before after = ⊥
 
 -- a fault of the file is the one that stands in the input, and so is one of a document, a look-up without an answer has none in
 -- it, and a string that is no term is the first of what is to be printed
@@ -149,18 +184,18 @@ Tells action before after NoTriples = TellsDocument action before after building
 Tells action before after NoSuchNumber = ReadsWith before after (LacksNumber action)
 Tells action before after NoSuchTerm = ReadsWith before after (LacksTerm action)
 Tells action before after (NotATerm role n) = ReadsWith before after (λ bytes. HasNoText action bytes role n)
-Tells action before after BadOptions = HasBadOptions action
+Tells action before after BadOptions = TellsBadOptions action before after
 Tells action before after Read = Unit {0}
 Tells action before after (Write n) = Unit {0}
 Tells action before after OutOfMemory = Unit {0}
 
--- of what the reader had left the command prints this text, and what it builds has been appended to what was made before
+-- of what the reader had left the command prints this text, and the file that it makes has been appended to what was made before
 pub record Makes (action : Action) (before after : Option (List ℕ)) (text made_before made_after : List ℕ) : Type 0 where
   pub built : List ℕ
   pub yields : Yields action before after text built
   pub made : made_after ≡ made_before ++ built
 
--- the writer has gained the command's text of what the reader had left, and what was made what the command builds
+-- the writer has gained the command's text of what the reader had left, and what was made the file that the command makes
 pub record Answers (action : Action) (before after written_before written_after : Option (List ℕ)) (made_before made_after : List ℕ) : Type 0 where
   pub text : List ℕ
   pub makes : Makes action before after text made_before made_after
@@ -176,7 +211,7 @@ pub record Begins (action : Action) (before after written_before written_after :
 
 -- ---- the same of a reader that is gone after the run
 
--- the writer has gained the command's text of what the reader had left, and what was made what the command builds
+-- the writer has gained the command's text of what the reader had left, and what was made the file that the command makes
 pub record Performs (action : Action) (before written_before written_after : Option (List ℕ)) (made_before made_after : List ℕ) : Type 0 where
   pub after : Option (List ℕ)
   pub answers : Answers action before after written_before written_after made_before made_after

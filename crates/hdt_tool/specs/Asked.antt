@@ -75,10 +75,15 @@ AsksFind name rows given numbers = (name ≡ codes "find") × StatesWords rows g
 abbrev pub AsksDump : Text → Given → Bool → Type 0
 AsksDump name given numbers = (name ≡ codes "dump") × (given ≡ None ∷ None ∷ None ∷ []) × (numbers ≡ false)
 
+-- `verify` asks for tight files by a flag
+abbrev pub AsksVerify : Text → List Row → Bool → Type 0
+AsksVerify name rows tight = (name ≡ codes "verify") × StatesFlag (one_of (codes "tight") rows) tight
+
 -- the command's name, with the entries that it takes
 abbrev pub AsksAction : Text → List Row → Action → Type 0
 AsksAction name rows action.Head = name ≡ codes "head"
-AsksAction name rows action.Verify = name ≡ codes "verify"
+AsksAction name rows action.Verify = AsksVerify name rows false
+AsksAction name rows action.VerifyTight = AsksVerify name rows true
 AsksAction name rows (action.Strings role) = (name ≡ codes "strings") × (first_of (codes "ROLE") rows ≡ Some (role_name role))
 AsksAction name rows (action.Nth role n) = (name ≡ codes "string") × (first_of (codes "ROLE") rows ≡ Some (role_name role))
     × StatesNumber 64 (one_of (codes "N") rows) n
@@ -86,6 +91,7 @@ AsksAction name rows (action.Number role x) = (name ≡ codes "number") × (firs
     × StatesString (one_of (codes "raw") rows) (first_of (codes "TERM") rows) x.items
 AsksAction name rows (action.Find given numbers) = AsksFind name rows given numbers ⊎ AsksDump name given numbers
 AsksAction name rows (action.Build options) = ⊥
+AsksAction name rows (action.Rewrite b) = ⊥
 
 -- a command on a file asks for the request, which writes no file
 pub record AsksOfFile (name : Text) (rows : List Row) (request : Request) : Type 0 where
@@ -98,20 +104,21 @@ pub record StatesOptions (rows : List Row) (options : Options) : Type 0 where
   pub base : first_of (codes "base") rows ≡ Some options.base.items
   pub block_size : StatesNumber 32 (one_of (codes "block-size") rows) options.block_size
 
-abbrev pub AsksToBuild : List Row → Action → Type 0
-AsksToBuild rows (action.Build options) = StatesOptions rows options
-AsksToBuild rows action = ⊥
+-- the name of a command that makes a file, with the options that it takes
+abbrev pub AsksToMake : Text → List Row → Action → Type 0
+AsksToMake name rows (action.Build options) = (name ≡ codes "build") × StatesOptions rows options
+AsksToMake name rows (action.Rewrite b) = (name ≡ codes "rewrite") × StatesNumber 32 (one_of (codes "block-size") rows) b
+AsksToMake name rows action = ⊥
 
--- `build` asks for the request, which reads IN and writes OUT
-pub record AsksBuild (name : Text) (rows : List Row) (request : Request) : Type 0 where
-  pub named : name ≡ codes "build"
+-- a command that makes a file asks for the request, which reads IN and writes OUT
+pub record AsksOfFiles (name : Text) (rows : List Row) (request : Request) : Type 0 where
   pub file : first_of (codes "IN") rows ≡ Some (string_bytes request.file)
   pub out : IsSomeAnd request.out (λ path. first_of (codes "OUT") rows ≡ Some (string_bytes path))
-  pub action : AsksToBuild rows request.action
+  pub action : AsksToMake name rows request.action
 
 -- the command with its entries asks for the request
 abbrev pub AsksFor : Text → List Row → Request → Type 0
-AsksFor name rows request = AsksOfFile name rows request ⊎ AsksBuild name rows request
+AsksFor name rows request = AsksOfFile name rows request ⊎ AsksOfFiles name rows request
 
 abbrev pub Asks : Option (Text × List Row) → Request → Type 0
 Asks entered request = IsSomeAnd entered (λ command. AsksFor command.0 command.1 request)

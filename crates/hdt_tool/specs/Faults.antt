@@ -1,6 +1,9 @@
--- The faults of a command that come from the faults of opening a file, of making the text of a graph, and of building a file.
+-- The faults of a command that come from the faults of opening a file, of making the text of a graph, and of building or
+-- rewriting a file.
 use Rattle.hdt_build.specs.declared.fault.BuildFault.{BuildFault}
 use Rattle.hdt_build.specs.declared.fault.BuildFault.TheVariants as building
+use Rattle.hdt_build.specs.declared.fault.RewriteFault.{RewriteFault}
+use Rattle.hdt_build.specs.declared.fault.RewriteFault.TheVariants as rewriting
 use Rattle.hdt_file.specs.declared.fault.DumpFault.{DumpFault}
 use Rattle.hdt_file.specs.declared.fault.DumpFault.TheVariants as dumping
 use Rattle.hdt_file.specs.declared.fault.OpenFault.{OpenFault}
@@ -34,3 +37,8 @@ build_fault_of building.NoTriples = NoTriples
 build_fault_of building.BadOptions = BadOptions
 build_fault_of building.OutOfMemory = OutOfMemory
 build_fault_of (building.Write n) = Write n
+
+abbrev pub rewrite_fault_of : RewriteFault → ToolFault
+rewrite_fault_of rewriting.BadOptions = BadOptions
+rewrite_fault_of rewriting.OutOfMemory = OutOfMemory
+rewrite_fault_of (rewriting.Write n) = Write n

@@ -45,9 +45,9 @@ file_command name = with_rule (new_app name) (word_named (codes "FILE"))
 abbrev pub head_command : App
 head_command = file_command (codes "head")
 
--- `verify FILE`
+-- `verify FILE`, with `--tight`
 abbrev pub verify_command : App
-verify_command = file_command (codes "verify")
+verify_command = with_rule (file_command (codes "verify")) (flag_named (codes "tight"))
 
 -- `strings FILE ROLE`
 abbrev pub strings_command : Names → App
@@ -90,6 +90,11 @@ build_command =
     with_rule (with_rule (with_rule (with_rule (new_app (codes "build")) (word_named (codes "IN"))) (word_named (codes "OUT")))
     base_option) block_size_option
 
+-- `rewrite IN OUT`, with `--block-size`
+abbrev pub rewrite_command : App
+rewrite_command =
+    with_rule (with_rule (with_rule (new_app (codes "rewrite")) (word_named (codes "IN"))) (word_named (codes "OUT"))) block_size_option
+
 -- a command has to be named
 abbrev pub empty_table : App
 empty_table = let app = new_app (codes "hdt") in record app { top = record app.top { subcommand_required = true } }
@@ -102,5 +107,5 @@ first_commands names =
 
 abbrev pub table : Names → App
 table names =
-    with_subcommand (with_subcommand (with_subcommand (with_subcommand (first_commands names) (number_command names).top) find_command.top)
-    dump_command.top) build_command.top
+    with_subcommand (with_subcommand (with_subcommand (with_subcommand (with_subcommand (first_commands names) (number_command names).top)
+    find_command.top) dump_command.top) build_command.top) rewrite_command.top

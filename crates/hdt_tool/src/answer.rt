@@ -1,6 +1,6 @@
 //! What a command on a file prints of it.
 ghost use Rattle.std.specs.Prelude.{◌≡◌, IfOk, IfErr};
-ghost use Rattle.hdt_tool.specs.Answer.{Consults, IsTold, Opens, Prints, PrintsHead, PrintsVerdict, ReadsFile};
+ghost use Rattle.hdt_tool.specs.Answer.{Consults, IsTold, Opens, Prints, PrintsHead, PrintsTightVerdict, PrintsVerdict, ReadsFile};
 ghost use Rattle.hdt_tool.specs.StringsText.{string_lines, PrintsString, PrintsNumber};
 ghost use Rattle.hdt_tool.specs.TriplesText.{PrintsFound};
 
@@ -11,7 +11,7 @@ use crate::printed_triples::triples_text;
 use crate::printed_verdict::verdict;
 use crate::request::Action;
 use hdt_dict::Role;
-use hdt_file::{open, read_head, verify};
+use hdt_file::{open, read_head, verify, verify_tight};
 use std::alloc::Global;
 
 /// The text of `strings`.
@@ -78,6 +78,15 @@ fn verdict_of(alloc: Global, bytes: &[u8]) -> Result<Vec<u8>, ToolFault>
     Ok(verdict(alloc, lens)?)
 }
 
+/// The text of `verify --tight`.
+fn tight_verdict_of(alloc: Global, bytes: &[u8]) -> Result<Vec<u8>, ToolFault>
+    ensures ok { IfOk result (λ text. PrintsTightVerdict bytes.now text.items) }
+    ensures err { IfErr result (λ e. IsTold Action.VerifyTight bytes.now e) }
+{
+    let lens = verify_tight(alloc, bytes)?;
+    Ok(verdict(alloc, lens)?)
+}
+
 /// What a command on a file prints of it, whole.
 pub fn answer(alloc: Global, action: &Action, bytes: &[u8]) -> Result<Vec<u8>, ToolFault>
     requires { ReadsFile action.now }
@@ -87,10 +96,11 @@ pub fn answer(alloc: Global, action: &Action, bytes: &[u8]) -> Result<Vec<u8>, T
     match action {
         Action::Head => head_of(alloc, bytes),
         Action::Verify => verdict_of(alloc, bytes),
+        Action::VerifyTight => tight_verdict_of(alloc, bytes),
         Action::Strings(role) => strings_of(alloc, bytes, *role),
         Action::Nth(role, number) => string_of(alloc, bytes, *role, *number),
         Action::Number(role, string) => number_of(alloc, bytes, *role, string),
         Action::Find { given, numbers } => triples_of(alloc, bytes, given, *numbers),
-        Action::Build(_) => unreachable!(),
+        Action::Build(_) | Action::Rewrite(_) => unreachable!(),
     }
 }

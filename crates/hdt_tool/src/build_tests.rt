@@ -24,28 +24,27 @@ fn request_of(alloc: Global, base: &[u8], block_size: u32) -> Result<Request, Al
     })
 }
 
-/// What a build answers, what it printed and made, and what is left of the source. Want of memory is an `Err`.
+/// What a command that makes a file answers, what it printed and made, and what is left of the source.
 #[derive(Drop)]
-struct Outcome<'a> {
-    answer: Result<(), ToolFault>,
-    sink: Sink,
-    made: Vec<u8>,
-    left: &'a [u8],
+pub(crate) struct Outcome<'a> {
+    pub(crate) answer: Result<(), ToolFault>,
+    pub(crate) sink: Sink,
+    pub(crate) made: Vec<u8>,
+    pub(crate) left: &'a [u8],
 }
 
-/// What a build answers with this base and block size, after `made` was made.
-fn built<'a>(
+/// What a request answers after `made` was made. Want of memory is an `Err`.
+pub(crate) fn outcome_of<'a>(
     alloc: Global,
-    options: (&[u8], u32),
+    request: &Request,
     source: Source<'a>,
     sink: Sink,
     made: &[u8],
 ) -> Result<Outcome<'a>, Fail> {
-    let request = request_of(alloc, options.0, options.1)?;
     let mut made = made.to_vec(alloc)?;
     let mut input = Counted::new(source);
     let mut out = Counted::new(sink);
-    let answer = run(alloc, &request, &mut input, &mut out, &mut made);
+    let answer = run(alloc, request, &mut input, &mut out, &mut made);
     if answer == Err(ToolFault::OutOfMemory) {
         return Err(Fail::from(AllocError));
     }
@@ -57,8 +56,20 @@ fn built<'a>(
     })
 }
 
+/// What a build answers with this base and block size, after `made` was made.
+pub(crate) fn built<'a>(
+    alloc: Global,
+    options: (&[u8], u32),
+    source: Source<'a>,
+    sink: Sink,
+    made: &[u8],
+) -> Result<Outcome<'a>, Fail> {
+    let request = request_of(alloc, options.0, options.1)?;
+    outcome_of(alloc, &request, source, sink, made)
+}
+
 /// The document as a source that gives so many bytes a call.
-fn source_of(bytes: &[u8], step: usize) -> Source<'_> {
+pub(crate) fn source_of(bytes: &[u8], step: usize) -> Source<'_> {
     Source {
         bytes,
         step,
@@ -66,7 +77,7 @@ fn source_of(bytes: &[u8], step: usize) -> Source<'_> {
     }
 }
 
-fn wide() -> Sink {
+pub(crate) fn wide() -> Sink {
     Sink::new(usize::MAX, usize::MAX)
 }
 

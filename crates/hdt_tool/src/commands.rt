@@ -2,7 +2,7 @@
 ghost use Rattle.std.specs.Prelude.{◌≡◌, IfOk, false};
 ghost use Rattle.clap.specs.Words.{app_of, rule_of, with_rule, with_subcommand};
 ghost use Rattle.clap.specs.declared.builder.command.Command.TheViews.{out-Command as fields_of};
-ghost use Rattle.hdt_tool.specs.Table.{word_named, flag_named, option_named, role_word, base_option, block_size_option, build_command, number_word, file_command, head_command, verify_command, strings_command, string_command, number_command, find_command, dump_command, empty_table, first_commands, table};
+ghost use Rattle.hdt_tool.specs.Table.{word_named, flag_named, option_named, role_word, base_option, block_size_option, build_command, rewrite_command, number_word, file_command, head_command, verify_command, strings_command, string_command, number_command, find_command, dump_command, empty_table, first_commands, table};
 
 use clap::{Arg, ArgAction, Command, value_parser};
 use std::alloc::{AllocError, Global};
@@ -32,7 +32,10 @@ const VERIFY_LONG_ABOUT: &str = "Verify a file.
 
 A file that is accepted is told by `ok` and five counts: the triples, and the strings of the
 sections shared, subjects, predicates and objects. Else the first fault is told, with its place
-in bytes from the start of the file.";
+in bytes from the start of the file. With --tight a file is also refused whose dictionary has a
+string that no triple uses in its place, as one that `rewrite` would leave out.";
+
+const TIGHT_HELP: &str = "Refuse strings that no triple uses";
 
 const STRINGS_ABOUT: &str = "Print all strings of a role with their numbers";
 
@@ -74,6 +77,17 @@ The order of the lines, repeats and comments make no difference: one graph gives
 for byte. It is told by `built` and six counts: the triples, the strings of the sections shared,
 subjects, predicates and objects, and the bytes of the file. OUT is opened only when the file is
 whole, so input that is refused leaves it as it was. IN may be /dev/stdin.";
+
+const REWRITE_ABOUT: &str = "Write a file again in canonical form";
+
+const REWRITE_LONG_ABOUT: &str = "Write an HDT file again, as the canonical file of its triples.
+
+The header stays as it is, byte for byte. Strings that no triple uses are left out, and so the
+numbers of strings and the order of triples may change; the triples are the same. A file that
+`build` has built is its own canonical file, if the block size is the same. It is told by
+`rewritten` and six counts: the triples, the strings of the sections shared, subjects,
+predicates and objects, and the bytes of the file. OUT is opened only when the file is whole, so
+input that is refused leaves it as it was. IN may be OUT.";
 
 const IN_HELP: &str = "Path of the N-Triples document to read";
 
@@ -229,12 +243,13 @@ fn head_of<'a>(alloc: Global) -> Result<Command<'a>, AllocError>
     file_command(alloc, "head", HEAD_ABOUT, HEAD_LONG_ABOUT)
 }
 
-/// `verify FILE`.
+/// `verify FILE`, with `--tight`.
 fn verify_of<'a>(alloc: Global) -> Result<Command<'a>, AllocError>
     ensures shape { IfOk result (λ c. app_of c ≡ verify_command) }
     ensures local { IfOk result (λ c. (fields_of c).has_globals ≡ false) }
 {
-    file_command(alloc, "verify", VERIFY_ABOUT, VERIFY_LONG_ABOUT)
+    let command = file_command(alloc, "verify", VERIFY_ABOUT, VERIFY_LONG_ABOUT)?;
+    with_flag(alloc, command, "tight", TIGHT_HELP)
 }
 
 /// `strings FILE ROLE`.
@@ -302,6 +317,19 @@ fn build_of<'a>(alloc: Global) -> Result<Command<'a>, AllocError>
     with_block_size(alloc, command)
 }
 
+/// `rewrite IN OUT`, with `--block-size`.
+fn rewrite_of<'a>(alloc: Global) -> Result<Command<'a>, AllocError>
+    ensures shape { IfOk result (λ c. app_of c ≡ rewrite_command) }
+    ensures local { IfOk result (λ c. (fields_of c).has_globals ≡ false) }
+{
+    let command = Command::new(alloc, "rewrite")
+        .about(REWRITE_ABOUT)
+        .long_about(REWRITE_LONG_ABOUT);
+    let command = with_word(alloc, command, "IN", FILE_HELP)?;
+    let command = with_word(alloc, command, "OUT", OUT_HELP)?;
+    with_block_size(alloc, command)
+}
+
 /// The program, with no command yet.
 fn program<'a>(alloc: Global) -> Result<Command<'a>, AllocError>
     ensures { IfOk result (λ c. app_of c ≡ empty_table) }
@@ -340,5 +368,6 @@ pub fn table_of<'a>(alloc: Global, roles: &'a [&'a str]) -> Result<Command<'a>, 
     let program = with_command(program, number_of(alloc, roles)?)?;
     let program = with_command(program, find_of(alloc)?)?;
     let program = with_command(program, dump_of(alloc)?)?;
-    with_command(program, build_of(alloc)?)
+    let program = with_command(program, build_of(alloc)?)?;
+    with_command(program, rewrite_of(alloc)?)
 }

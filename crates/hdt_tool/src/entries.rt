@@ -69,7 +69,7 @@ pub fn number_at<'m>(alloc: Global, matches: &ArgMatches<'m>) -> Result<u64, Usa
 }
 
 /// The number of the option `--block-size`.
-fn block_size_at<'m>(alloc: Global, matches: &ArgMatches<'m>) -> Result<u32, UsageFault>
+pub fn block_size_at<'m>(alloc: Global, matches: &ArgMatches<'m>) -> Result<u32, UsageFault>
     ensures ok { IfOk result (λ n. StatesNumber 32 (one_of (codes "block-size") (rows_of (found_of matches.now))) n) }
     ensures refused { IfErr result (ComesWithout ((n : ℕ) × StatesNumber 32 (one_of (codes "block-size") (rows_of (found_of matches.now))) n)) }
 {
@@ -89,6 +89,16 @@ pub fn options_at<'m>(alloc: Global, matches: &ArgMatches<'m>) -> Result<Options
         block_size: block_size_at(alloc, matches)?,
         base: base.into_bytes(),
     })
+}
+
+/// What `verify` asks for, by `--tight`.
+pub fn verify_at<'m>(matches: &ArgMatches<'m>) -> Action
+    ensures { AsksAction (codes "verify") (rows_of (found_of matches.now)) result }
+{
+    if matches.get_flag("tight") {
+        return Action::VerifyTight;
+    }
+    Action::Verify
 }
 
 /// The fault of a word that was read as a term.

@@ -4,7 +4,7 @@ ghost use Rattle.hdt_tool.specs.declared.fault.UsageFault.TheVariants.{OutOfMemo
 ghost use Rattle.hdt_tool.specs.declared.fault.ToolFault.TheVariants.{OutOfMemory, File};
 ghost use Rattle.hdt_tool.specs.Faults.{line_fault_of};
 
-use hdt_build::BuildFault;
+use hdt_build::{BuildFault, RewriteFault};
 use hdt_dict::Role;
 use hdt_file::{DumpFault, OpenFault};
 use hdt_terms::{LineFault, LineReason, TermFault};
@@ -111,7 +111,7 @@ pub enum ToolFault {
     /// The string of this role with this number, from 1, is no term of the role, so the triple has no N-Triples line.
     #[error("a string that is not a term: {0:?} {1}")]
     NotATerm(Role, u64),
-    /// The block size or the base is not one that a file can be built with.
+    /// The block size or the base is not one that a file can be built with, or the block size not one to rewrite it with.
     #[error("bad options")]
     BadOptions,
     /// The reader failed, or the file could not be opened.
@@ -182,6 +182,20 @@ impl From<BuildFault> for ToolFault {
             BuildFault::BadOptions => ToolFault::BadOptions,
             BuildFault::OutOfMemory => ToolFault::OutOfMemory,
             BuildFault::Write(count) => ToolFault::Write(count),
+        }
+    }
+}
+
+impl From<RewriteFault> for ToolFault {
+    ghost use Rattle.hdt_tool.specs.Faults.{rewrite_fault_of};
+
+    ghost from_gives = { λ fault e. e ≡ rewrite_fault_of fault };
+
+    fn from(fault: RewriteFault) -> ToolFault {
+        match fault {
+            RewriteFault::BadOptions => ToolFault::BadOptions,
+            RewriteFault::OutOfMemory => ToolFault::OutOfMemory,
+            RewriteFault::Write(count) => ToolFault::Write(count),
         }
     }
 }

@@ -36,9 +36,13 @@ mod printed_strings;
 mod printed_triples;
 mod printed_verdict;
 mod request;
+#[cfg(test)]
+mod rewrite_tests;
 mod run;
 #[cfg(test)]
 mod tests;
+#[cfg(test)]
+mod tight_tests;
 mod words;
 #[cfg(test)]
 mod words_tests;
@@ -173,7 +177,7 @@ fn open_fault(error: &io::Error) -> ToolFault
     ToolFault::Read
 }
 
-/// Does what a request asks for, from its file, as it was opened, to a writer; what it builds is appended to `made`.
+/// Does what a request asks for, from its file, as it was opened, to a writer; the file that it makes is appended to `made`.
 fn perform<R: Read + Drop, W: Write>(
     alloc: Global,
     request: &Request,
@@ -181,7 +185,7 @@ fn perform<R: Read + Drop, W: Write>(
     out: &mut Counted<W>,
     made: &mut Vec<u8>,
 ) -> Result<(), ToolFault>
-    // The writer has gained the command's text of the input, and what was made what the command builds.
+    // The writer has gained the command's text of the input, and what was made the file that the command makes.
     ensures ok { OnOk result (MatchResult file (λ input. Performs request.now.action (R.remaining input)
         (W.contents (inner out.old)) (W.contents (inner out.new)) made.old.items made.new.items) (λ _. ⊥)) }
     // A fault is told of the input as `run` tells it.
@@ -204,7 +208,7 @@ fn perform<R: Read + Drop, W: Write>(
     run(alloc, request, &mut input, out, made)
 }
 
-/// Does what a request that writes no file asks for, and tells how it ended.
+/// Does what a request that makes no file asks for, and tells how it ended.
 fn performed<R: Read + Drop, W: Write>(
     rt: &HostRuntime,
     request: &Request,
@@ -248,14 +252,14 @@ fn create_fault(error: &io::Error) -> ToolFault
     ToolFault::Write(0)
 }
 
-/// Writes what was built to its file, and then the line to a writer.
+/// Writes what was made to its file, and then the line to a writer.
 fn store<F: Write, W: Write>(
     file: &mut Counted<F>,
     built: &[u8],
     out: &mut Counted<W>,
     line: &[u8],
 ) -> Result<(), ToolFault>
-    // The file has gained what was built, and the writer the line.
+    // The file has gained what was made, and the writer the line.
     ensures file { OnOk result (Appends (F.contents (inner file.old)) (F.contents (inner file.new)) built.now) }
     ensures line { OnOk result (Appends (W.contents (inner out.old)) (W.contents (inner out.new)) line.now) }
     ensures well { OnOk result ((failures file.new ≡ failures file.old) × (failures out.new ≡ failures out.old)) }
@@ -273,7 +277,7 @@ fn store<F: Write, W: Write>(
     }
 }
 
-/// Does what a request that writes a file asks for: that file is created only where the whole of it was made, and the line of
+/// Does what a request that makes a file asks for: that file is created only where the whole of it was made, and the line of
 /// its numbers is printed last.
 fn build_to(rt: &HostRuntime, request: &Request, path: &str) -> Result<(), ToolFault> {
     let input = File::open(rt, request.file.as_str());
@@ -306,7 +310,7 @@ fn refuse(rt: &HostRuntime, fault: UsageFault) -> u8
     }
 }
 
-/// Does what a request that writes a file asks for, and tells how it ended.
+/// Does what a request that makes a file asks for, and tells how it ended.
 fn stored(rt: &HostRuntime, request: &Request, path: &str) -> u8
     ensures { IsCommandStatus result }
 {

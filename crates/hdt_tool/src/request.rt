@@ -10,6 +10,8 @@ pub enum Action {
     Head,
     /// Verifies a file.
     Verify,
+    /// Verifies a file, of which triples use each string in its role.
+    VerifyTight,
     /// Prints all strings of a role with their numbers.
     Strings(Role),
     /// Prints the string of a role that has this number, from 1.
@@ -25,6 +27,8 @@ pub enum Action {
     },
     /// Builds a file of an N-Triples document, and prints its numbers.
     Build(Options),
+    /// Writes a file again as the canonical file of its triples, in blocks of so many strings, and prints its numbers.
+    Rewrite(u32),
 }
 
 /// A command and the files that it works on.

@@ -2,13 +2,15 @@
 ghost use Rattle.std.specs.Prelude.{◌≡◌, ◌≢◌, ◌<◌, ◌++◌, ◌+◌, ◌↔◌, ℕ, List, IfOk, IfErr, OnOk, OnErr, IsErrOf, length, take};
 ghost use Rattle.std.specs.Io.KnownBytes.{Appends};
 ghost use Rattle.hdt_wire.specs.Counted.{inner, failures};
-ghost use Rattle.hdt_tool.specs.Answer.{ReadsAll, ReadsWith, ReadsFile, Prints, Tells, Makes, Answers, Begins, HasBadOptions, IsOfFile};
+ghost use Rattle.hdt_build.specs.Options.{AreRight};
+ghost use Rattle.hdt_tool.specs.Answer.{ReadsAll, ReadsWith, ReadsFile, Prints, Tells, IsTold, Makes, Answers, Begins, IfBuild, IsOfFile, RewritesFile};
 
 use crate::answer::answer;
 use crate::fault::ToolFault;
-use crate::printed_built::built_line;
+use crate::printed_built::{built_line, rewritten_line};
 use crate::request::{Action, Request};
-use hdt_build::{Options, build_bytes};
+use hdt_build::{Options, build_bytes, rewrite_bytes};
+use hdt_file::open;
 use hdt_wire::{Counted, Failed};
 use std::alloc::Global;
 use std::io::{Read, Write};
@@ -69,7 +71,7 @@ fn built_text<R: Read>(
     ensures read { IsErrOf result ToolFault.Read → failures input.new ≡ failures input.old + 1 }
     ensures reader_well { OnOk result (failures input.new ≡ failures input.old) }
     ensures reader_told { IfErr result (λ e. e ≢ ToolFault.Read → failures input.new ≡ failures input.old) }
-    ensures bad { IsErrOf result ToolFault.BadOptions ↔ HasBadOptions (Action.Build options.now) }
+    ensures bad { IsErrOf result ToolFault.BadOptions ↔ (AreRight options.now → ⊥) }
     ensures unread { IsErrOf result ToolFault.BadOptions → input.new ≡ input.old }
     ensures others { IfErr result (λ e. (n : ℕ) → e ≢ ToolFault.Write n) }
     ensures kept { OnErr result (made.new.items ≡ made.old.items) }
@@ -80,7 +82,49 @@ fn built_text<R: Read>(
     Ok(text)
 }
 
-/// What the command prints of the input; what it builds is appended to `made`.
+/// What `rewrite` prints of a file; the file that it makes of it is appended to `made`.
+fn rewritten_of(
+    alloc: Global,
+    block_size: u32,
+    bytes: &[u8],
+    made: &mut Vec<u8>,
+) -> Result<Vec<u8>, ToolFault>
+    ensures ok { IfOk result (λ text. (file : List ℕ) × RewritesFile block_size bytes.now text.items file × (made.new.items ≡ made.old.items ++ file)) }
+    ensures told { IfErr result (IsTold (Action.Rewrite block_size) bytes.now) }
+    ensures kept { OnErr result (made.new.items ≡ made.old.items) }
+{
+    let graph = open(alloc, bytes)?;
+    let options = Options {
+        block_size,
+        base: Vec::new(alloc),
+    };
+    let (mut file, report) = rewrite_bytes(alloc, &graph, &options)?;
+    let text = rewritten_line(alloc, &report)?;
+    made.append(&mut file)?;
+    Ok(text)
+}
+
+/// What `rewrite` prints of the input; the file that it makes of it is appended to `made`.
+fn rewritten_text<R: Read>(
+    alloc: Global,
+    block_size: u32,
+    input: &mut Counted<R>,
+    made: &mut Vec<u8>,
+) -> Result<Vec<u8>, ToolFault>
+    ensures ok { IfOk result (λ text. Makes (Action.Rewrite block_size) (R.remaining (inner input.old)) (R.remaining (inner input.new))
+        text.items made.old.items made.new.items) }
+    ensures told { IfErr result (Tells (Action.Rewrite block_size) (R.remaining (inner input.old)) (R.remaining (inner input.new))) }
+    ensures read { IsErrOf result ToolFault.Read → failures input.new ≡ failures input.old + 1 }
+    ensures reader_well { OnOk result (failures input.new ≡ failures input.old) }
+    ensures reader_told { IfErr result (λ e. e ≢ ToolFault.Read → failures input.new ≡ failures input.old) }
+    ensures others { IfErr result (λ e. (n : ℕ) → e ≢ ToolFault.Write n) }
+    ensures kept { OnErr result (made.new.items ≡ made.old.items) }
+{
+    let bytes = read_all(alloc, input)?;
+    rewritten_of(alloc, block_size, bytes.as_slice(), made)
+}
+
+/// What the command prints of the input; the file that it makes is appended to `made`.
 fn text_of<R: Read>(
     alloc: Global,
     action: &Action,
@@ -93,19 +137,21 @@ fn text_of<R: Read>(
     ensures read { IsErrOf result ToolFault.Read → failures input.new ≡ failures input.old + 1 }
     ensures reader_well { OnOk result (failures input.new ≡ failures input.old) }
     ensures reader_told { IfErr result (λ e. e ≢ ToolFault.Read → failures input.new ≡ failures input.old) }
-    ensures bad { IsErrOf result ToolFault.BadOptions ↔ HasBadOptions action.now }
-    ensures unread { IsErrOf result ToolFault.BadOptions → input.new ≡ input.old }
+    ensures bad { IfBuild action.now (λ options. IsErrOf result ToolFault.BadOptions ↔ (AreRight options → ⊥)) }
+    ensures unread { IfBuild action.now (λ options. IsErrOf result ToolFault.BadOptions → input.new ≡ input.old) }
     ensures others { IfErr result (λ e. (n : ℕ) → e ≢ ToolFault.Write n) }
     ensures kept { OnErr result (made.new.items ≡ made.old.items) }
 {
     match action {
         Action::Build(options) => built_text(alloc, options, input, made),
+        Action::Rewrite(block_size) => rewritten_text(alloc, *block_size, input, made),
         _ => file_text(alloc, action, input),
     }
 }
 
-/// Does what the request asks for: reads the input to its end, and writes the command's text to `out`. The file that `build`
-/// builds is appended to `made`; the other commands leave that as it is. Opens no file: the input is that of `request.file`.
+/// Does what the request asks for: reads the input to its end, and writes the command's text to `out`. The file that `build` or
+/// `rewrite` makes is appended to `made`; the other commands leave that as it is. Opens no file: the input is that of
+/// `request.file`.
 pub fn run<R: Read, W: Write>(
     alloc: Global,
     request: &Request,
@@ -113,15 +159,16 @@ pub fn run<R: Read, W: Write>(
     out: &mut Counted<W>,
     made: &mut Vec<u8>,
 ) -> Result<(), ToolFault>
-    // The writer has gained the command's text of what the reader had left, all of it, and what was made what the command builds.
+    // The writer has gained the command's text of what the reader had left, all of it, and what was made the file that the command makes.
     ensures ok { OnOk result (Answers request.now.action (R.remaining (inner input.old)) (R.remaining (inner input.new))
         (W.contents (inner out.old)) (W.contents (inner out.new)) made.old.items made.new.items) }
     // A fault of the file is the one that stands in the input, and so is one of a document, a look-up without an answer has none
-    // in it, and a string that is no term is the first of what is to be printed.
+    // in it, and a string that is no term is the first of what is to be printed. Bad options are told by `build` and `rewrite`
+    // alone, by `rewrite` only of an input that is a layout, and of a block size that is not written.
     ensures told { IfErr result (Tells request.now.action (R.remaining (inner input.old)) (R.remaining (inner input.new))) }
-    // Bad options are told exactly where they are so, and then nothing was read.
-    ensures bad { IsErrOf result ToolFault.BadOptions ↔ HasBadOptions request.now.action }
-    ensures unread { IsErrOf result ToolFault.BadOptions → input.new ≡ input.old }
+    // Those of `build` are told exactly where they are so, and then nothing was read.
+    ensures bad { IfBuild request.now.action (λ options. IsErrOf result ToolFault.BadOptions ↔ (AreRight options → ⊥)) }
+    ensures unread { IfBuild request.now.action (λ options. IsErrOf result ToolFault.BadOptions → input.new ≡ input.old) }
     // The reader failed in this call, once; at every other answer it has not failed.
     ensures read { IsErrOf result ToolFault.Read → failures input.new ≡ failures input.old + 1 }
     ensures reader_well { OnOk result (failures input.new ≡ failures input.old) }

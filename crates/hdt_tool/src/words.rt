@@ -1,13 +1,15 @@
 //! The command line of `hdt`.
-ghost use Rattle.std.specs.Prelude.{◌≡◌, IfOk, IfErr, codes, map};
+ghost use Rattle.std.specs.Prelude.{◌≡◌, IfOk, IfErr, map};
 ghost use Rattle.clap.specs.Words.{found_of, rows_of, kind_of};
-ghost use Rattle.hdt_tool.specs.Asked.{AsksAction, AsksBuild, AsksFor, AsksOfFile, ComesWithout, ComesWithoutOr, IsRefused, Misspells, TellsKind, Wants};
+ghost use Rattle.hdt_tool.specs.Asked.{AsksAction, AsksFor, AsksOfFile, AsksOfFiles, AsksToMake, ComesWithout, ComesWithoutOr, IsRefused, Misspells, TellsKind, Wants};
 ghost use Rattle.hdt_tool.specs.Table.{AreRoles};
 ghost use Rattle.hdt_tool.specs.declared.request.Action.{Action};
 ghost use Rattle.hdt_tool.specs.declared.request.Request.{Request};
 
 use crate::commands::table_of;
-use crate::entries::{find_at, missing, number_at, options_at, role_at, string_at, text_at};
+use crate::entries::{
+    block_size_at, find_at, missing, number_at, options_at, role_at, string_at, text_at, verify_at,
+};
 use crate::fault::UsageFault;
 use crate::request::{Action, Request};
 use clap::error::ErrorKind;
@@ -42,7 +44,7 @@ fn action_of<'m>(alloc: Global, name: &str, matches: &ArgMatches<'m>) -> Result<
 {
     match name {
         "head" => Ok(Action::Head),
-        "verify" => Ok(Action::Verify),
+        "verify" => Ok(verify_at(matches)),
         "strings" => Ok(Action::Strings(role_at(alloc, matches)?)),
         "string" => Ok(Action::Nth(role_at(alloc, matches)?, number_at(alloc, matches)?)),
         "number" => Ok(Action::Number(role_at(alloc, matches)?, string_at(alloc, matches)?)),
@@ -72,13 +74,29 @@ fn file_request<'m>(
     })
 }
 
-/// What `build` with its words asks for.
-fn build_request<'m>(alloc: Global, matches: &ArgMatches<'m>) -> Result<Request, UsageFault>
-    ensures ok { IfOk result (λ request. AsksBuild (codes "build") (rows_of (found_of matches.now)) request) }
-    ensures refused { IfErr result (ComesWithout ((request : Request) × AsksBuild (codes "build") (rows_of (found_of matches.now)) request)) }
+/// What a command that makes a file makes, by its name with its entries.
+fn making_of<'m>(alloc: Global, name: &str, matches: &ArgMatches<'m>) -> Result<Action, UsageFault>
+    ensures ok { IfOk result (AsksToMake name.now (rows_of (found_of matches.now))) }
+    ensures refused { IfErr result (ComesWithout ((action : Action) × AsksToMake name.now (rows_of (found_of matches.now)) action)) }
+{
+    match name {
+        "build" => Ok(Action::Build(options_at(alloc, matches)?)),
+        "rewrite" => Ok(Action::Rewrite(block_size_at(alloc, matches)?)),
+        _ => Err(missing(alloc)),
+    }
+}
+
+/// What a command that makes a file asks for with its words.
+fn making_request<'m>(
+    alloc: Global,
+    name: &str,
+    matches: &ArgMatches<'m>,
+) -> Result<Request, UsageFault>
+    ensures ok { IfOk result (AsksOfFiles name.now (rows_of (found_of matches.now))) }
+    ensures refused { IfErr result (ComesWithout ((request : Request) × AsksOfFiles name.now (rows_of (found_of matches.now)) request)) }
 {
     Ok(Request {
-        action: Action::Build(options_at(alloc, matches)?),
+        action: making_of(alloc, name, matches)?,
         file: text_at(alloc, matches, "IN")?,
         out: Some(text_at(alloc, matches, "OUT")?),
     })
@@ -95,7 +113,7 @@ fn request_of<'m>(
         (Misspells name.now (rows_of (found_of matches.now)))) }
 {
     match name {
-        "build" => build_request(alloc, matches),
+        "build" | "rewrite" => making_request(alloc, name, matches),
         _ => file_request(alloc, name, matches),
     }
 }

@@ -21,11 +21,13 @@ fn told(alloc: Global, action: &Action) -> Result<String, AllocError> {
     match action {
         Action::Head => String::from_str(alloc, "head"),
         Action::Verify => String::from_str(alloc, "verify"),
+        Action::VerifyTight => String::from_str(alloc, "verify --tight"),
         Action::Strings(role) => format!(in alloc; "strings {role:?}"),
         Action::Nth(role, number) => format!(in alloc; "string {role:?} {number}"),
         Action::Number(role, string) => format!(in alloc; "number {role:?} {string:?}"),
         Action::Find { given, numbers } => format!(in alloc; "find {given:?} {numbers}"),
         Action::Build(options) => options_told(alloc, options),
+        Action::Rewrite(size) => format!(in alloc; "rewrite {size}"),
     }
 }
 
@@ -54,7 +56,7 @@ fn asked(alloc: Global, words: &[&str]) -> Result<String, Fail> {
 }
 
 /// Command lines, and what they ask for.
-static LINES_READ: [(&[&str], &str); 42] = [
+static LINES_READ: [(&[&str], &str); 53] = [
     (
         &["hdt", "build", "a.nt", "b.hdt"],
         "build [104, 116, 116, 112, 58, 47, 47, 101, 120, 97, 109, 112, 108, 101, 46, 111, 114, 103, 47, 100, 97, 116, 97, 115, 101, 116] 16 of a.nt to b.hdt",
@@ -164,6 +166,47 @@ static LINES_READ: [(&[&str], &str); 42] = [
     ),
     (&["hdt", "verify", "a.hdt"], "verify of a.hdt"),
     (
+        &["hdt", "verify", "--tight", "a.hdt"],
+        "verify --tight of a.hdt",
+    ),
+    (
+        &["hdt", "verify", "a.hdt", "--tight"],
+        "verify --tight of a.hdt",
+    ),
+    (&["hdt", "verify", "--", "--tight"], "verify of --tight"),
+    (
+        &["hdt", "verify", "--tight"],
+        "usage error: the following required arguments were not provided:\n  <FILE>\n\nUsage: hdt verify --tight <FILE>\n\nFor more information, try '--help'.",
+    ),
+    (
+        &["hdt", "head", "--tight", "a.hdt"],
+        "usage error: unexpected argument '--tight' found\n\n  tip: to pass '--tight' as a value, use '-- --tight'\n\nUsage: hdt head <FILE>\n\nFor more information, try '--help'.",
+    ),
+    (
+        &["hdt", "rewrite", "a.hdt", "b.hdt"],
+        "rewrite 16 of a.hdt to b.hdt",
+    ),
+    (
+        &["hdt", "rewrite", "a.hdt", "a.hdt", "--block-size", "0"],
+        "rewrite 0 of a.hdt to a.hdt",
+    ),
+    (
+        &["hdt", "rewrite", "--block-size=4294967295", "a.hdt", "-"],
+        "rewrite 4294967295 of a.hdt to -",
+    ),
+    (
+        &["hdt", "rewrite", "a.hdt"],
+        "usage error: the following required arguments were not provided:\n  <OUT>\n\nUsage: hdt rewrite <IN> <OUT>\n\nFor more information, try '--help'.",
+    ),
+    (
+        &["hdt", "rewrite", "a.hdt", "b.hdt", "--base", "x"],
+        "usage error: unexpected argument '--base' found\n\n  tip: to pass '--base' as a value, use '-- --base'\n\nUsage: hdt rewrite <IN> <OUT>\n\nFor more information, try '--help'.",
+    ),
+    (
+        &["hdt", "rewrite", "a.hdt", "b.hdt", "--block-size", "x"],
+        "usage error: invalid value 'x' for '--block-size <N>': invalid digit found in string\n\nFor more information, try '--help'.",
+    ),
+    (
         &["hdt", "dump", "a.hdt"],
         "find [None, None, None] false of a.hdt",
     ),
@@ -238,7 +281,7 @@ static LINES_READ: [(&[&str], &str); 42] = [
     ),
     (
         &["hdt"],
-        "usage error: 'hdt' requires a subcommand but one was not provided\n  [subcommands: head, verify, strings, string, number, find, dump, build, help]\n\nUsage: hdt <COMMAND>\n\nFor more information, try '--help'.",
+        "usage error: 'hdt' requires a subcommand but one was not provided\n  [subcommands: head, verify, strings, string, number, find, dump, build, rewrite, help]\n\nUsage: hdt <COMMAND>\n\nFor more information, try '--help'.",
     ),
 ];
 
@@ -253,7 +296,7 @@ fn command_lines_are_read(rt: HostRuntime) -> Result<(), Fail> {
 
 #[test]
 fn help_is_given(rt: HostRuntime) -> Result<(), Fail> {
-    let table: [(&[&str], &str); 7] = [
+    let table: [(&[&str], &str); 9] = [
         (&["hdt", "--help"], "help Builds and reads RDF HDT files"),
         (&["hdt", "help"], "help Builds and reads RDF HDT files"),
         (
@@ -268,6 +311,11 @@ fn help_is_given(rt: HostRuntime) -> Result<(), Fail> {
         (
             &["hdt", "build", "--help"],
             "help Build an HDT file from N-Triples.\n\n",
+        ),
+        (&["hdt", "verify", "--help"], "help Verify a file.\n\n"),
+        (
+            &["hdt", "rewrite", "--help"],
+            "help Write an HDT file again, as the canonical file of its triples.\n\n",
         ),
         (
             &["hdt", "help", "dump"],
@@ -293,6 +341,11 @@ const TRAILING: Fault = Fault {
     reason: Reason::TrailingBytes,
 };
 
+const UNUSED: Fault = Fault {
+    place: 319,
+    reason: Reason::Unused,
+};
+
 const NO_END: LineFault = LineFault {
     line: 20,
     column: 7,
@@ -300,7 +353,7 @@ const NO_END: LineFault = LineFault {
 };
 
 /// Faults, and what is told of each: its status, its line, and the text that it has as an error of a library.
-static FAULTS_TOLD: [(ToolFault, u8, &str, &str); 13] = [
+static FAULTS_TOLD: [(ToolFault, u8, &str, &str); 14] = [
     (
         ToolFault::File(TRUNCATED),
         1,
@@ -312,6 +365,12 @@ static FAULTS_TOLD: [(ToolFault, u8, &str, &str); 13] = [
         1,
         "hdt: fault 33 TrailingBytes at 18446744073709551615",
         "the file has a fault: TrailingBytes at 18446744073709551615",
+    ),
+    (
+        ToolFault::File(UNUSED),
+        1,
+        "hdt: fault 34 Unused at 319",
+        "the file has a fault: Unused at 319",
     ),
     (
         ToolFault::Input(NO_END),

@@ -8,4 +8,5 @@ returns c =
     let five = c.in_ok-program-2.ensures ∙ grown c.in_ok-program.ensures c.in_ok-number_of.ensures.shape in
     let six = c.in_ok-program-3.ensures ∙ grown five c.in_ok-find_of.ensures.shape in
     let seven = c.in_ok-program-4.ensures ∙ grown six c.in_ok-dump_of.ensures.shape in
-    IfOk-weaker c.with_command-4.result _ _ (λ r h. h ∙ grown seven c.in_ok-build_of.ensures.shape) c.with_command-4.ensures
+    let eight = c.in_ok-program-5.ensures ∙ grown seven c.in_ok-build_of.ensures.shape in
+    IfOk-weaker c.with_command-5.result _ _ (λ r h. h ∙ grown eight c.in_ok-rewrite_of.ensures.shape) c.with_command-5.ensures
