@@ -17,20 +17,70 @@ fn joined(bytes: &[u8]) -> u128
     }
 }
 
+/// So many bits of a number from a place on.
+#[inline(always)]
+#[tactic(auto, using(crate::proofs::Joining::masked))]
+fn bits_between(number: u128, shift: u8, width: u8) -> u64
+    requires first { shift < 8 }
+    requires narrow { width ≤ 64 }
+    ensures { result ≡ number / 2 ^ shift % 2 ^ width }
+{
+    ((number >> shift) & ((1 << width) - 1)) as u64
+}
+
+/// So many bits from a place in the first byte on, out of the first eight bytes, which hold them whole.
+#[inline(always)]
+#[tactic(auto, using(crate::proofs::Joining::of_eight))]
+fn loaded_bits(rest: &[u8], shift: u8, width: u8) -> u64
+    requires first { shift < 8 }
+    requires whole { shift + width ≤ 64 }
+    requires within { 8 ≤ length rest.now }
+    ensures { result ≡ little rest.now / 2 ^ shift % 2 ^ width }
+{
+    bits_between(u128::from(LittleEndian::read_u64(rest)), shift, width)
+}
+
+/// So many bits from a place in the first byte on, out of the first nine bytes or all.
+#[cold]
+#[inline(never)]
+fn joined_bits(rest: &[u8], shift: u8, width: u8) -> u64
+    requires first { shift < 8 }
+    requires narrow { width ≤ 64 }
+    ensures { result ≡ little rest.now / 2 ^ shift % 2 ^ width }
+{
+    let near = if rest.len() > 9 { &rest[..9] } else { rest };
+    bits_between(joined(near), shift, width)
+}
+
+/// So many bits from a place in the first byte on. At most 56 bits are whole in eight bytes, wherever they begin: that is
+/// asked first, since it is the same for all entries of a width.
+#[inline(always)]
+fn bits_from(rest: &[u8], shift: u8, width: u8) -> u64
+    requires first { shift < 8 }
+    requires narrow { width ≤ 64 }
+    ensures { result ≡ little rest.now / 2 ^ shift % 2 ^ width }
+{
+    if rest.len() >= 8 && (width <= 56 || shift + width <= 64) {
+        loaded_bits(rest, shift, width)
+    } else {
+        joined_bits(rest, shift, width)
+    }
+}
+
 /// So many bits, at most 64, from a place in bits on, as a number.
+#[inline(always)]
+#[tactic(auto, using(crate::proofs::Joining::of_rest))]
 pub fn window(bytes: &[u8], at: u128, width: u8) -> u64
     requires narrow { width ≤ 64 }
     requires within { at ≤ 8 * length bytes.now }
     ensures { result ≡ little bytes.now / 2 ^ at % 2 ^ width }
 {
     let first = (at / 8) as usize;
-    let rest = &bytes[first..];
-    let near = if rest.len() > 9 { &rest[..9] } else { rest };
-    let shifted = joined(near) >> (at % 8);
-    (shifted & ((1 << width) - 1)) as u64
+    bits_from(&bytes[first..], (at % 8) as u8, width)
 }
 
 /// Entry i of a width.
+#[inline(always)]
 pub fn entry_of(bytes: &[u8], width: u8, i: u64) -> u64
     requires narrow { width ≤ 64 }
     requires within { width * i ≤ 8 * length bytes.now }
@@ -40,6 +90,7 @@ pub fn entry_of(bytes: &[u8], width: u8, i: u64) -> u64
 }
 
 /// Whether bit i is 1.
+#[inline(always)]
 #[tactic(auto, using(crate::proofs::BitReading::bit_is))]
 pub fn bit_of(bytes: &[u8], i: u64) -> bool
     requires { i / 8 < length bytes.now }
@@ -48,3 +99,6 @@ pub fn bit_of(bytes: &[u8], i: u64) -> bool
     let byte = bytes[(i / 8) as usize];
     byte >> (i % 8) & 1 == 1
 }
+
+#[cfg(test)]
+mod tests;

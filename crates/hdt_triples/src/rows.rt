@@ -49,13 +49,14 @@ fn entry_stands(
     range: Reason,
     ascent: Reason,
     i: u64,
+    entry: u64,
     before: u64,
 ) -> Result<(), Fault>
     requires within { i < length (numbers_of xs.now) }
+    requires entry_is { entry ≡ slice_index (numbers_of xs.now) i }
     requires before_is { before ≡ earlier (bits_of marks.now) (numbers_of xs.now) i }
     ensures { result ≡ entry_row (bits_of marks.now) (numbers_of xs.now) (numbers_places xs.now) count range ascent i }
 {
-    let entry = xs.get(i);
     demand(
         1 <= entry && entry <= count,
         xs.entry_place(i) as usize,
@@ -71,11 +72,13 @@ fn pair_stands(
     my: &Bits<'_>,
     ys: &Numbers<'_>,
     q: u64,
+    predicate: u64,
     subject: u64,
     before: u64,
 ) -> Result<(), Fault>
     requires within { q < length (numbers_of ys.now) }
     requires marked { q < length (bits_of my.now) }
+    requires predicate_is { predicate ≡ slice_index (numbers_of ys.now) q }
     requires subject_is { subject ≡ marks_before (bits_of my.now) q + 1 }
     requires before_is { before ≡ earlier (bits_of my.now) (numbers_of ys.now) q }
     ensures is { result ≡ pair_row (counts_of counts.now) (bits_of my.now) (bits_places my.now) (numbers_of ys.now) (numbers_places ys.now) q }
@@ -93,6 +96,7 @@ fn pair_stands(
         Reason::PredicateRange,
         Reason::PredicatesNotAscending,
         q,
+        predicate,
         before,
     )
 }
@@ -107,12 +111,13 @@ fn pairs_stand(counts: &Counts, my: &Bits<'_>, ys: &Numbers<'_>) -> Result<(), F
     let mut subject: u64 = 1;
     let mut before: u64 = 0;
     'pairs: for q in 0..ys.len() {
-        pair_stands(counts, my, ys, q, subject, before)?;
+        let predicate = ys.get(q);
+        pair_stands(counts, my, ys, q, predicate, subject, before)?;
         if my.get(q) {
             subject += 1;
             before = 0;
         } else {
-            before = ys.get(q);
+            before = predicate;
         }
     }
     Ok(())
@@ -126,6 +131,7 @@ fn objects_stand(mz: &Bits<'_>, zs: &Numbers<'_>, count: u64) -> Result<(), Faul
 {
     let mut before: u64 = 0;
     'objects: for j in 0..zs.len() {
+        let object = zs.get(j);
         entry_stands(
             mz,
             zs,
@@ -133,12 +139,13 @@ fn objects_stand(mz: &Bits<'_>, zs: &Numbers<'_>, count: u64) -> Result<(), Faul
             Reason::ObjectRange,
             Reason::ObjectsNotAscending,
             j,
+            object,
             before,
         )?;
         if mz.get(j) {
             before = 0;
         } else {
-            before = zs.get(j);
+            before = object;
         }
     }
     Ok(())

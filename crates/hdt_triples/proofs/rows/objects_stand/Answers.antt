@@ -31,7 +31,7 @@ objects-preserved c =
         left = sym passed ∙ l.invariant.left;
       }
       | else-get w ↦ record {
-        before_is = w.before-is ∙ w.get-before.ensures ∙ sym (earlier_unmarked mz zs l.j (c.get.ensures ∙ ap Some w.if-get.false));
+        before_is = w.before-is ∙ c.get-object.ensures ∙ sym (earlier_unmarked mz zs l.j (c.get.ensures ∙ ap Some w.if-get.false));
         left = sym passed ∙ l.invariant.left;
       }
     ]

@@ -35,7 +35,7 @@ pairs-preserved c =
       }
       | else-get w ↦ record {
         subject_is = omega (arith, w.subject-is, l.invariant.subject_is, marks_unmarked my l.q (c.get.ensures ∙ ap Some w.if-get.false));
-        before_is = w.before-is ∙ w.get-before.ensures ∙ sym (earlier_unmarked my ys l.q (c.get.ensures ∙ ap Some w.if-get.false));
+        before_is = w.before-is ∙ c.get-predicate.ensures ∙ sym (earlier_unmarked my ys l.q (c.get.ensures ∙ ap Some w.if-get.false));
         left = sym passed ∙ l.invariant.left;
       }
     ]
