@@ -1,4 +1,4 @@
-//! Entries of packed bytes, each joined from the nine bytes at most that hold it.
+//! Entries of packed bytes: by one load where eight bytes hold them whole, else joined from nine bytes at most.
 ghost use Rattle.std.specs.Prelude.{◌≡◌, ◌≤◌, ◌<◌, ◌+◌, ◌*◌, ◌/◌, ◌%◌, ◌^◌, length};
 ghost use Rattle.hdt_seq.specs.Little.{little, entry, bit};
 
