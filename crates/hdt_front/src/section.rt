@@ -28,8 +28,7 @@ pub struct Section<'a> {
 /// The law that what is lent as bytes is bytes.
 fn are_bytes(bytes: &[u8])
     ensures { IsBytes bytes.now }
-{
-}
+{}
 
 impl<'a> Section<'a> {
     ghost use Rattle.hdt_front.specs.Strings.{strings_of, blocks_of, block_size};

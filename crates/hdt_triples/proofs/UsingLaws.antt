@@ -32,9 +32,11 @@ pair_used f q marked lt =
 pub used_at : (f : BitmapTriples) (role : Role) (j : ℕ) → j < length f.zs → Uses (triples_of f) role (part role (triple_at f j))
 used_at f role j lt =
     let long = length-triples f in
-    let n = part role (triple_at f j) in
-    (j, omega (arith, lt, long, length-map (triples_of f) (part role)),
-     get_or-map (part role) (triples_of f) j (0, 0, 0) n (omega (arith, lt, long)) ∙ ap (part role) (triple_is f j lt))
+    let n = part role (triple_at f j) in (
+      j,
+      omega (arith, lt, long, length-map (triples_of f) (part role)),
+      get_or-map (part role) (triples_of f) j (0, 0, 0) n (omega (arith, lt, long)) ∙ ap (part role) (triple_is f j lt),
+    )
 
 pub used_by : (f : BitmapTriples) (role : Role) (n : ℕ) → Uses (triples_of f) role n → (j : ℕ) × (j < length f.zs) × (part role (triple_at f j) ≡ n)
 used_by f role n h =
@@ -60,7 +62,7 @@ subject_is f s marked from =
     same (leb s (marks_before f.my (length f.my))) (uses (triples_of f) Subject s)
     (λ h. uses_only (triples_of f) Subject s (subject_used f s marked from (leb-true _ _ h)))
     (λ h. let j = used_by f Subject s (uses_found (triples_of f) Subject s h) in
-        le-leb _ _ (omega (arith, j.2, subject_above f j.0 marked j.1)))
+    le-leb _ _ (omega (arith, j.2, subject_above f j.0 marked j.1)))
 
 pub no_subject : (f : BitmapTriples) (s : ℕ) → s < 1 → leb 1 s ≡ uses (triples_of f) Subject s
 no_subject f s none =
@@ -82,15 +84,15 @@ pub predicate_is : (f : BitmapTriples) (p : ℕ) (qs : List ℕ) → IsMarked f 
 predicate_is f p qs marked is =
     same (not (eqb (length qs) 0)) (uses (triples_of f) Predicate p)
     (λ h. let q = some_of f.ys p qs is h in
-        let j = pair_used f q.0 marked q.1 in
-        uses_only (triples_of f) Predicate p (subst (λ (n : ℕ). Uses (triples_of f) Predicate n) (ap (slice_index f.ys) j.2 ∙ q.2) (used_at f Predicate j.0 j.1)))
+    let j = pair_used f q.0 marked q.1 in
+    uses_only (triples_of f) Predicate p (subst (λ (n : ℕ). Uses (triples_of f) Predicate n) (ap (slice_index f.ys) j.2 ∙ q.2) (used_at f Predicate j.0 j.1)))
     (λ h. let j = used_by f Predicate p (uses_found (triples_of f) Predicate p h) in
-        one_of f.ys p qs is (pair_of f j.0) (pair_within f marked j.0 j.1) j.2)
+    one_of f.ys p qs is (pair_of f j.0) (pair_within f marked j.0 j.1) j.2)
 
 pub object_is : (f : BitmapTriples) (o : ℕ) (qs : List ℕ) → qs ≡ places_of f.zs o → not (eqb (length qs) 0) ≡ uses (triples_of f) Object o
 object_is f o qs is =
     same (not (eqb (length qs) 0)) (uses (triples_of f) Object o)
     (λ h. let j = some_of f.zs o qs is h in
-        uses_only (triples_of f) Object o (subst (λ (n : ℕ). Uses (triples_of f) Object n) j.2 (used_at f Object j.0 j.1)))
+    uses_only (triples_of f) Object o (subst (λ (n : ℕ). Uses (triples_of f) Object n) j.2 (used_at f Object j.0 j.1)))
     (λ h. let j = used_by f Object o (uses_found (triples_of f) Object o h) in
-        one_of f.zs o qs is j.0 j.1 j.2)
+    one_of f.zs o qs is j.0 j.1 j.2)
