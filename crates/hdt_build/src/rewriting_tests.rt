@@ -210,9 +210,11 @@ fn many_unused_strings(rt: HostRuntime) -> Result<(), Fail> {
     let lines = lines_of(alloc, &file)?;
     for block_size in [1, 16, 1_000] {
         let (bytes, told) = rewritten_of(alloc, &file, block_size)?;
-        assert!(rt; lines_of(alloc, &bytes)?.as_slice() == lines.as_slice());
         let (built, said) = made_of(alloc, &lines, block_size)?;
         assert!(rt; behind_header(&bytes)? == behind_header(&built)?);
+        // The same lines, if perhaps in another order: a string that is no longer shared has another number.
+        let (same, _) = made_of(alloc, &lines_of(alloc, &bytes)?, block_size)?;
+        assert!(rt; same.as_slice() == built.as_slice());
         assert_eq!(rt; told.triples, said.triples);
         let tight = verify_tight(alloc, &bytes)?;
         assert_eq!(rt;
