@@ -1,7 +1,7 @@
 //! Worked rows of files that are rewritten, writers that fail, large files with strings that no triple uses.
 use super::*;
-use crate::tests::{ALL, LINES, THREE, V1, lines_of, made_of, options, report, sink_of};
-use hdt_file::{open, open_tight, read_dictionary, read_head, verify_tight};
+use crate::tests::{ALL, LINES, THREE, V1, made_of, options, report, sink_of};
+use hdt_file::{graph_text, open, open_tight, read_dictionary, read_head, verify_tight};
 use hdt_triples::{Pattern, are_writable, put_triples};
 use std::alloc::{AllocError, Global};
 use std::test::Fail;
@@ -17,6 +17,13 @@ const UNUSED_OBJECT: &[u8] =
 /// The same with a triple that has this object, so that its shared string is a subject alone.
 const USED_ONCE: &[u8] =
     b"\x80\x80\x90h\x01\x01\x81\xF0\x00QS}R\x00\x00\x00\x00\x02\x81\x8A\x90\x81\x01\x04\x82\xB8\xA0\xF7\xE66\xF0http://a/\x00\xF4\x81z\xD4\x02\x81\x84\x90W\x01\x03\x82\xD3 \x8F\xDD\xC0ru:x\x00\xB4\xD7r\xBF$HDT\x04<http://purl.org/HDT/hdt#triplesBitmap>\x00order=1;\x00Y\xE9\x01\x81\x9B\x01R\xD0\x16\xA0\x01\x81\x9B\x01R\xD0\x16\xA0\x01\x01\x81\xF0\x01R\xD0\x16\xA0\x01\x02\x81\xCF\x02\xA6#F\xB3";
+
+/// The pattern that gives nothing.
+const ANY: Pattern = Pattern {
+    s: None,
+    p: None,
+    o: None,
+};
 
 /// Where these three files differ from [`V1`].
 const FRONT: usize = 306;
@@ -35,6 +42,15 @@ fn file_of(alloc: Global, rest: &[u8]) -> Result<Vec<u8>, Fail> {
     let mut bytes = Vec::from_slice(alloc, V1.get(..FRONT).unwrap_or(&[]))?;
     bytes.extend_from_slice(rest)?;
     Ok(bytes)
+}
+
+/// The lines of a file's triples.
+fn text_of(alloc: Global, bytes: &[u8]) -> Result<Vec<u8>, Fail> {
+    let graph = open(alloc, bytes)?;
+    match graph_text(alloc, &graph, Some(ANY)) {
+        Ok(text) => Ok(text),
+        Err(fault) => Err(fault)?,
+    }
 }
 
 /// What is rewritten of a file; of the options the base is not looked at.
@@ -70,7 +86,7 @@ fn a_shared_string_that_is_a_subject_alone(rt: HostRuntime) -> Result<(), Fail> 
     assert_eq!(rt; told, report(1, 0, 1, 1, 1, 463));
     assert_eq!(rt; bytes.len(), 463);
     assert_eq!(rt; verify_tight(alloc, &bytes)?, [1, 0, 1, 1, 1]);
-    assert!(rt; lines_of(alloc, &bytes)?.as_slice() == lines_of(alloc, &file)?.as_slice());
+    assert!(rt; text_of(alloc, &bytes)?.as_slice() == text_of(alloc, &file)?.as_slice());
     Ok(())
 }
 
@@ -120,7 +136,7 @@ fn block_sizes(rt: HostRuntime) -> Result<(), Fail> {
     for block_size in [1, 2, 65_535] {
         let (bytes, told) = rewritten_of(alloc, THREE, block_size)?;
         assert_eq!(rt; told, report(3, 2, 0, 2, 1, bytes.len() as u64));
-        assert!(rt; lines_of(alloc, &bytes)?.as_slice() == LINES);
+        assert!(rt; text_of(alloc, &bytes)?.as_slice() == LINES);
     }
     Ok(())
 }
@@ -155,11 +171,7 @@ fn thinned(alloc: Global, bytes: &[u8]) -> Result<Vec<u8>, Fail> {
     let graph = open(alloc, bytes)?;
     let last = graph.count(hdt_dict::Role::Subject) / 10 * 9;
     let mut kept = Vec::new(alloc);
-    let mut triples = graph.search(Pattern {
-        s: None,
-        p: None,
-        o: None,
-    });
+    let mut triples = graph.search(ANY);
     for _ in 0..graph.len() {
         match triples.next() {
             Some((s, p, o)) if s <= last && o % 10 != 0 => kept.push((s, p, o))?,
@@ -182,20 +194,46 @@ fn behind_header(bytes: &[u8]) -> Result<&[u8], Fail> {
     }
 }
 
+/// Appends five digits.
+fn put_digits(n: u32, out: &mut Vec<u8>) -> Result<(), AllocError> {
+    for power in [10_000, 1_000, 100, 10, 1] {
+        out.push(b'0' + (n / power % 10) as u8)?;
+    }
+    Ok(())
+}
+
+/// The predicates of such a document: web addresses as objects, plain literals, literals with a tag.
+static PREDICATES: [&[u8]; 11] = [
+    b"> <u:p0> <http://example.org/",
+    b"> <u:p1> <http://example.org/",
+    b"> <u:p2> <http://example.org/",
+    b"> <u:p3> <http://example.org/",
+    b"> <u:p4> \"",
+    b"> <u:p5> \"",
+    b"> <u:p6> \"",
+    b"> <u:p7> \"",
+    b"> <u:p8> \"8",
+    b"> <u:p9> \"9",
+    b"> <u:pa> \"a",
+];
+
 /// A document of so many subjects with eleven triples each: shared strings, literals, web addresses.
 fn many(alloc: Global, subjects: u32) -> Result<Vec<u8>, AllocError> {
     let mut text = Vec::new(alloc);
     for s in 0..subjects {
-        for k in 0..11_u32 {
-            let o = s.wrapping_mul(7).wrapping_add(k * 131) % 4_000;
-            let line = match k {
-                0..4 => format!(in alloc;
-                    "<http://example.org/{s:05}> <u:p{k}> <http://example.org/{o:05}> .\n"
-                )?,
-                4..8 => format!(in alloc; "<http://example.org/{s:05}> <u:p{k}> \"{o}\" .\n")?,
-                _ => format!(in alloc; "<http://example.org/{s:05}> <u:p{k}> \"{s} {k}\"@en .\n")?,
-            };
-            text.extend_from_slice(line.as_bytes())?;
+        for (k, predicate) in PREDICATES.iter().enumerate() {
+            text.extend_from_slice(b"<http://example.org/")?;
+            put_digits(s, &mut text)?;
+            text.extend_from_slice(predicate)?;
+            put_digits(
+                s.wrapping_mul(7).wrapping_add(k as u32 * 131) % 4_000,
+                &mut text,
+            )?;
+            text.extend_from_slice(match k {
+                0..4 => b"> .\n",
+                4..8 => b"\" .\n",
+                _ => b"\"@en .\n",
+            })?;
         }
     }
     Ok(text)
@@ -207,13 +245,13 @@ fn many_unused_strings(rt: HostRuntime) -> Result<(), Fail> {
     let (whole, _) = made_of(alloc, &many(alloc, 500)?, 16)?;
     let file = thinned(alloc, &whole)?;
     assert!(rt; open_tight(alloc, &file).is_err());
-    let lines = lines_of(alloc, &file)?;
+    let lines = text_of(alloc, &file)?;
     for block_size in [1, 16, 1_000] {
         let (bytes, told) = rewritten_of(alloc, &file, block_size)?;
         let (built, said) = made_of(alloc, &lines, block_size)?;
         assert!(rt; behind_header(&bytes)? == behind_header(&built)?);
         // The same lines, if perhaps in another order: a string that is no longer shared has another number.
-        let (same, _) = made_of(alloc, &lines_of(alloc, &bytes)?, block_size)?;
+        let (same, _) = made_of(alloc, &text_of(alloc, &bytes)?, block_size)?;
         assert!(rt; same.as_slice() == built.as_slice());
         assert_eq!(rt; told.triples, said.triples);
         let tight = verify_tight(alloc, &bytes)?;

@@ -513,7 +513,7 @@ fn put_string(
 }
 
 /// The lines of a file's triples.
-pub(crate) fn lines_of(alloc: Global, bytes: &[u8]) -> Result<Vec<u8>, Fail> {
+fn lines_of(alloc: Global, bytes: &[u8]) -> Result<Vec<u8>, Fail> {
     let graph = open(alloc, bytes)?;
     let mut text = Vec::new(alloc);
     let mut found = graph.search(Pattern {
