@@ -1,4 +1,5 @@
-//! The builder of HDT files (HDT format version 1): N-Triples in, the canonical file of their graph out.
+//! The builder of HDT files (HDT format version 1): N-Triples in, the canonical file of their graph out; or a file of any
+//! origin in, the canonical file of the same graph out.
 //!
 //! The layer's promise: what is built is the canonical file of the document's graph, byte for byte, whatever the order of
 //! its lines and however often they repeat. `open` of hdt_file accepts it, and the graph that it denotes lists exactly the
@@ -10,10 +11,18 @@
 //! let graph = open(alloc, &bytes)?; // report.triples triples
 //! ```
 //!
+//! The second promise: what is rewritten of a graph is the canonical file of exactly what it denotes, with its header body.
+//!
+//! ```text
+//! let graph = open(alloc, bytes)?;
+//! let (canonical, report) = rewrite_bytes(alloc, &graph, &options)?; // without the strings that no triple uses
+//! ```
+//!
 //! In reading order: `options`, `report` and `fault`, what is asked for and what is answered; `interner`, strings
 //! kept once, and where they stand; `document`, triples as places of strings, and `lists`, the strings alone;
-//! `reading`, the lines of an input; `keys` and `placed`, the strings in order; `numbers`, `triples` and `form`, the four
-//! sections and triples as numbers; `header` and `file`, the bytes; `building`, all of it; `laws`.
+//! `reading`, the lines of an input; `keys`, `merging` and `placed`, the strings in order; `numbers`, `triples` and `form`, the four
+//! sections and triples as numbers; `header` and `file`, the bytes; `building`, all of it; `laws`. For rewriting `used`, the
+//! strings that triples use, stands in place of the first ones, and `rewriting` in place of the last; `rewriting_laws`.
 #![tactic(auto)]
 
 mod building;
