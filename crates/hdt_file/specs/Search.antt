@@ -3,12 +3,12 @@ use Rattle.std.specs.Prelude.{◌≡◌, ℕ, ◌+◌, List, Option, Some, None,
 use Rattle.hdt_dict.specs.Numbered.{numbered}
 use Rattle.hdt_dict.specs.Strings.{Lent}
 use Rattle.hdt_dict.specs.Views.{role_looks}
+use Rattle.hdt_dict.specs.declared.dictionary.Dictionary.{Dictionary}
 use Rattle.hdt_wire.specs.declared.role.Role.{Role}
 use Rattle.hdt_wire.specs.declared.role.Role.TheVariants.{Subject, Predicate, Object}
 use Rattle.hdt_triples.specs.declared.pattern.Pattern.{Pattern}
 use Rattle.hdt_file.specs.File.{GraphParts}
 use Rattle.hdt_file.specs.Views.{strings_in}
-use Rattle.hdt_file.specs.declared.graph.Graph.{Graph}
 
 -- a part of a pattern: any where no string is given, else the number of the string in the role's list
 abbrev pub IsPart : List (List ℕ) → Option Lent → Option ℕ → Type 0
@@ -28,10 +28,10 @@ pub record IsPattern (g : GraphParts) (given : List (Option Lent)) (p : Pattern)
   pub object : IsPart (strings_in g Object) (part_given given 2) p.o
 
 -- the most looks for a part
-abbrev pub part_looks : Graph → Role → Option Lent → ℕ
-part_looks g role None = 0
-part_looks g role (Some x) = role_looks g.dictionary role
+abbrev pub part_looks : Dictionary → Role → Option Lent → ℕ
+part_looks d role None = 0
+part_looks d role (Some x) = role_looks d role
 
 -- and for all three
-abbrev pub given_looks : Graph → List (Option Lent) → ℕ
-given_looks g given = part_looks g Subject (part_given given 0) + part_looks g Predicate (part_given given 1) + part_looks g Object (part_given given 2)
+abbrev pub given_looks : Dictionary → List (Option Lent) → ℕ
+given_looks d given = part_looks d Subject (part_given given 0) + part_looks d Predicate (part_given given 1) + part_looks d Object (part_given given 2)

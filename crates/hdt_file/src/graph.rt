@@ -5,6 +5,7 @@ ghost use Rattle.hdt_triples.specs.ListedViews.{roles_of, triples_listed};
 ghost use Rattle.hdt_file.specs.File.{counts_in};
 
 use crate::head::Head;
+use crate::layout::Layout;
 use hdt_dict::{Dictionary, Role, Strings};
 use hdt_seq::Steps;
 use hdt_triples::ListedTriples;
@@ -29,6 +30,7 @@ impl<'a> Graph<'a> {
     ghost use Rattle.hdt_triples.specs.ListedViews.{directories_held, lists_held};
     ghost use Rattle.hdt_triples.specs.Uses.{Uses};
     ghost use Rattle.hdt_file.specs.Graph.{IsGraph, counts_of};
+    ghost use Rattle.hdt_file.specs.LayoutView.{layout_seen};
     ghost use Rattle.hdt_file.specs.Views.{bitmap_of_graph, graph_seen, strings_in};
 
     /// The law that this is a graph: sections of ascending UTF-8 strings without zero bytes, no string in two of shared,
@@ -46,6 +48,19 @@ impl<'a> Graph<'a> {
         ensures { result.now ≡ (graph_seen self.now).header }
     {
         self.head.body()
+    }
+
+    /// The same file without the directories and the lists.
+    #[tactic(auto, unfolding(crate::specs::Views::graph_seen, crate::specs::LayoutView::layout_seen))]
+    pub fn layout(&self) -> Layout<'a>
+        ensures seen { layout_seen result ≡ graph_seen self.now }
+        ensures dictionary { result.dictionary ≡ self.now.dictionary }
+    {
+        Layout {
+            head: self.head,
+            dictionary: self.dictionary,
+            triples: *self.triples.triples(),
+        }
     }
 
     /// How many triples there are.

@@ -1,13 +1,12 @@
 //! Searching a graph, by numbers and by strings.
-ghost use Rattle.std.specs.Prelude.{◌≡◌, ◌↔◌, ◌≤◌, ◌<◌, ◌+◌, ◌^◌, ℕ, List, [], Option, Some, length};
+ghost use Rattle.std.specs.Prelude.{◌≡◌, ◌↔◌, ◌≤◌, ◌<◌, ◌+◌, ◌^◌, [], Some, length};
 ghost use Rattle.hdt_triples.specs.Bounds.{most_steps};
 ghost use Rattle.hdt_triples.specs.Left.{left_of, limit_of};
 ghost use Rattle.hdt_triples.specs.Patterns.{matches};
-ghost use Rattle.hdt_file.specs.Search.{IsPart, IsPattern, given_looks, part_looks};
-ghost use Rattle.hdt_file.specs.Views.{bitmap_of_graph, graph_seen, strings_in};
+ghost use Rattle.hdt_file.specs.Search.{IsPattern, given_looks};
+ghost use Rattle.hdt_file.specs.Views.{bitmap_of_graph, graph_seen};
 
 use crate::graph::Graph;
-use hdt_dict::Role;
 use hdt_seq::Steps;
 use hdt_triples::{Matches, Pattern};
 
@@ -24,32 +23,15 @@ impl<'a> Graph<'a> {
         self.triples.find(pattern)
     }
 
-    /// The number of a string in a role, or any where none is given; None where the role has no such string.
-    fn part(&self, role: Role, given: Option<&[u8]>, steps: &mut Steps) -> Option<Option<u64>>
-        ensures exact { (n : Option ℕ) → (result ≡ Some n) ↔ IsPart (strings_in (graph_seen self.now) role) given.entry n }
-        ensures cost { steps.new ≤ steps.old + part_looks self.now role given.entry }
-        ensures more { steps.old ≤ steps.new }
-    {
-        match given {
-            None => Some(None),
-            Some(x) => Some(Some(self.number_of(role, x, steps)?)),
-        }
-    }
-
     /// The pattern of the numbers of strings: subject, predicate, object, each in its role; None where one of them isn't
     /// a string of its role. Each is looked up once, and it takes no memory.
     pub fn pattern(&self, given: [Option<&[u8]>; 3], steps: &mut Steps) -> Option<Pattern>
         // It is p exactly where p has the numbers of the strings that are given.
         ensures exact { (p : Pattern) → (result ≡ Some p) ↔ IsPattern (graph_seen self.now) given.entry p }
-        ensures cost { steps.new ≤ steps.old + given_looks self.now given.entry }
+        ensures cost { steps.new ≤ steps.old + given_looks self.now.dictionary given.entry }
         ensures more { steps.old ≤ steps.new }
     {
-        let [s, p, o] = given;
-        Some(Pattern {
-            s: self.part(Role::Subject, s, steps)?,
-            p: self.part(Role::Predicate, p, steps)?,
-            o: self.part(Role::Object, o, steps)?,
-        })
+        self.layout().pattern(given, steps)
     }
 
     /// The triples that have each string that is given in its role, as [`Graph::search`] gives them; none where a string
@@ -61,7 +43,7 @@ impl<'a> Graph<'a> {
         // Where a string isn't in its role there are none.
         ensures none { ((p : Pattern) → IsPattern (graph_seen self.now) given.entry p → ⊥) → left_of result ≡ [] }
         ensures fits { length (left_of result) < 2 ^ 64 }
-        ensures cost { steps.new ≤ steps.old + given_looks self.now given.entry }
+        ensures cost { steps.new ≤ steps.old + given_looks self.now.dictionary given.entry }
         // The steps of the items are at most the table's number, apart from those of the look-ups; none where there are none.
         ensures few { (p : Pattern) → IsPattern (graph_seen self.now) given.entry p → limit_of result ≡ most_steps (bitmap_of_graph self.now) p }
         ensures idle { ((p : Pattern) → IsPattern (graph_seen self.now) given.entry p → ⊥) → limit_of result ≡ 0 }

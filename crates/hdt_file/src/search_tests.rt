@@ -82,6 +82,57 @@ fn searches_by_numbers(rt: HostRuntime) -> Result<(), Fail> {
     Ok(())
 }
 
+/// A layout answers what the graph does, and so does that of the graph.
+#[test]
+fn layouts_search_alike(rt: HostRuntime) -> Result<(), Fail> {
+    let alloc = rt.alloc();
+    let graph = open(alloc, THREE)?;
+    for layout in [Layout::read(alloc, THREE)?, graph.layout()] {
+        for s in GIVEN {
+            for p in GIVEN {
+                for o in GIVEN {
+                    let pattern = Pattern { s, p, o };
+                    let found = layout
+                        .search(pattern)
+                        .collect::<Vec<(u64, u64, u64)>>(alloc)?;
+                    assert_eq!(rt; found, filtered(alloc, pattern)?, "{pattern:?}");
+                }
+            }
+        }
+        for (s, p, o, wanted) in &NAMED {
+            assert_eq!(rt; layout.pattern([*s, *p, *o], &mut Steps::new()), *wanted);
+        }
+    }
+    Ok(())
+}
+
+/// The strings of each role, by each of the look-ups, and the numbers of the whole.
+#[test]
+fn layouts_look_up_alike(rt: HostRuntime) -> Result<(), Fail> {
+    let alloc = rt.alloc();
+    let graph = open(alloc, THREE)?;
+    let layout = Layout::read(alloc, THREE)?;
+    assert_eq!(rt; layout.lens(), [3, 2, 0, 2, 1]);
+    assert_eq!(rt; layout.header(), graph.header());
+    assert!(rt; layout.header().len() == 150);
+    for role in [Role::Subject, Role::Predicate, Role::Object] {
+        assert_eq!(rt; layout.count(role), graph.count(role));
+        let mut strings = layout.strings(alloc, role);
+        let mut string = Vec::new(alloc);
+        'strings: while let Some(n) = strings.next()? {
+            string.clear();
+            assert!(rt; layout.string_of(role, n, &mut string, &mut Steps::new())?);
+            assert_eq!(rt; string.as_slice(), strings.last());
+            assert_eq!(rt; layout.number_of(role, &string, &mut Steps::new()), Some(n));
+            assert_eq!(rt; graph.number_of(role, &string, &mut Steps::new()), Some(n));
+        }
+        let past = layout.count(role) + 1;
+        assert!(rt; !layout.string_of(role, past, &mut string, &mut Steps::new())?);
+        assert_eq!(rt; layout.number_of(role, b"u:z", &mut Steps::new()), None);
+    }
+    Ok(())
+}
+
 /// Each string of the file is used, so it is tight.
 #[test]
 fn uses_what_stands_in_its_triples(rt: HostRuntime) -> Result<(), Fail> {

@@ -6,10 +6,10 @@ ghost use Rattle.hdt_terms.specs.declared.fault.StringFault.TheVariants as Strin
 ghost use Rattle.hdt_file.specs.Denoted.{string_of};
 ghost use Rattle.hdt_file.specs.Text.{FitsRole, HasNoTerm};
 ghost use Rattle.hdt_file.specs.TextWriting.{AppendsLine, AppendsTerm, KeepsFront, TellsFirstOf, TellsString};
-ghost use Rattle.hdt_file.specs.Views.{graph_seen};
+ghost use Rattle.hdt_file.specs.LayoutView.{layout_seen};
 
 use crate::fault::DumpFault;
-use crate::graph::Graph;
+use crate::layout::Layout;
 use hdt_dict::Role;
 use hdt_seq::Steps;
 use hdt_terms::{Kind, StringFault, put_string};
@@ -43,7 +43,7 @@ pub fn put_role_term(role: Role, string: &[u8], out: &mut Vec<u8>) -> Result<(),
     Ok(())
 }
 
-/// Spells the triples of a graph, one line after another: a string that was unfolded, and the front of the last line,
+/// Spells the triples of a layout, one line after another: a string that was unfolded, and the front of the last line,
 /// which serves the lines after it that have the same subject and predicate.
 #[derive(Drop)]
 pub struct Speller {
@@ -67,17 +67,17 @@ impl Speller {
 
 /// Appends the term that string n of a role is. `string` is a buffer for the string.
 fn append_term(
-    graph: &Graph<'_>,
+    layout: &Layout<'_>,
     role: Role,
     n: u64,
     string: &mut Vec<u8>,
     out: &mut Vec<u8>,
 ) -> Result<(), DumpFault>
-    ensures ok { OnOk result (AppendsTerm role (string_of (graph_seen graph.now) role n) out.old.items out.new.items) }
-    ensures err { IfErr result (TellsString role n (string_of (graph_seen graph.now) role n)) }
+    ensures ok { OnOk result (AppendsTerm role (string_of (layout_seen layout.now) role n) out.old.items out.new.items) }
+    ensures err { IfErr result (TellsString role n (string_of (layout_seen layout.now) role n)) }
 {
     string.clear();
-    graph.string_of(role, n, string, &mut Steps::new())?;
+    layout.string_of(role, n, string, &mut Steps::new())?;
     match put_role_term(role, string, out) {
         Ok(()) => Ok(()),
         Err(StringFault::NotATerm) => Err(DumpFault::NotATerm(role, n)),
@@ -87,14 +87,14 @@ fn append_term(
 
 /// Spells the front of a triple's line, where the line before has another.
 fn spell_front(
-    graph: &Graph<'_>,
+    layout: &Layout<'_>,
     triple: (u64, u64, u64),
     speller: &mut Speller,
 ) -> Result<(), DumpFault>
-    requires { KeepsFront (graph_seen graph.now) speller.old.pair speller.old.front.items }
-    ensures ok { OnOk result (KeepsFront (graph_seen graph.now) (Some (triple.0, triple.1)) speller.new.front.items) }
+    requires { KeepsFront (layout_seen layout.now) speller.old.pair speller.old.front.items }
+    ensures ok { OnOk result (KeepsFront (layout_seen layout.now) (Some (triple.0, triple.1)) speller.new.front.items) }
     ensures pair { OnOk result (speller.new.pair ≡ Some (triple.0, triple.1)) }
-    ensures err { IfErr result (TellsFirstOf (graph_seen graph.now) triple) }
+    ensures err { IfErr result (TellsFirstOf (layout_seen layout.now) triple) }
 {
     let (subject, predicate, _) = triple;
     if speller.pair == Some((subject, predicate)) {
@@ -107,9 +107,9 @@ fn spell_front(
     } = speller;
     *pair = None;
     front.clear();
-    append_term(graph, Role::Subject, subject, string, front)?;
+    append_term(layout, Role::Subject, subject, string, front)?;
     front.push(b' ')?;
-    append_term(graph, Role::Predicate, predicate, string, front)?;
+    append_term(layout, Role::Predicate, predicate, string, front)?;
     front.push(b' ')?;
     *pair = Some((subject, predicate));
     Ok(())
@@ -117,19 +117,19 @@ fn spell_front(
 
 /// Appends the line of a triple.
 pub fn append_line(
-    graph: &Graph<'_>,
+    layout: &Layout<'_>,
     triple: (u64, u64, u64),
     speller: &mut Speller,
     out: &mut Vec<u8>,
 ) -> Result<(), DumpFault>
-    requires { KeepsFront (graph_seen graph.now) speller.old.pair speller.old.front.items }
-    ensures kept { OnOk result (KeepsFront (graph_seen graph.now) speller.new.pair speller.new.front.items) }
-    ensures ok { OnOk result (AppendsLine (graph_seen graph.now) triple out.old.items out.new.items) }
-    ensures err { IfErr result (TellsFirstOf (graph_seen graph.now) triple) }
+    requires { KeepsFront (layout_seen layout.now) speller.old.pair speller.old.front.items }
+    ensures kept { OnOk result (KeepsFront (layout_seen layout.now) speller.new.pair speller.new.front.items) }
+    ensures ok { OnOk result (AppendsLine (layout_seen layout.now) triple out.old.items out.new.items) }
+    ensures err { IfErr result (TellsFirstOf (layout_seen layout.now) triple) }
 {
-    spell_front(graph, triple, speller)?;
+    spell_front(layout, triple, speller)?;
     out.extend_from_slice(&speller.front)?;
-    append_term(graph, Role::Object, triple.2, &mut speller.string, out)?;
+    append_term(layout, Role::Object, triple.2, &mut speller.string, out)?;
     out.extend_from_slice(b" .\n")?;
     Ok(())
 }

@@ -3,10 +3,11 @@ ghost use Rattle.std.specs.Prelude.{◌≡◌, ℕ, List, IfOk, IfErr, OnOk, OnE
 ghost use Rattle.hdt_file.specs.File.{GraphParts};
 ghost use Rattle.hdt_file.specs.Spellings.{AreSpellings, AreTables, IsSpelling, spelling_in};
 ghost use Rattle.hdt_file.specs.TextWriting.{AppendsLine, AppendsTerm, TellsFirstOf, TellsString};
-ghost use Rattle.hdt_file.specs.Views.{graph_seen, strings_in};
+ghost use Rattle.hdt_file.specs.LayoutView.{layout_seen};
+ghost use Rattle.hdt_file.specs.Views.{strings_in};
 
 use crate::fault::DumpFault;
-use crate::graph::Graph;
+use crate::layout::Layout;
 use crate::spelling::put_role_term;
 use hdt_dict::{Arena, Role};
 use hdt_terms::StringFault;
@@ -33,12 +34,12 @@ fn spell(role: Role, string: &[u8], out: &mut Vec<u8>) -> Result<(), AllocError>
 }
 
 /// The spellings of all strings of a role, each of which is unfolded once.
-fn spellings_of(alloc: Global, graph: &Graph<'_>, role: Role) -> Result<Arena, AllocError>
-    ensures { IfOk result (λ arena. AreSpellings role (strings_in (graph_seen graph.now) role) arena) }
+fn spellings_of(alloc: Global, layout: &Layout<'_>, role: Role) -> Result<Arena, AllocError>
+    ensures { IfOk result (λ arena. AreSpellings role (strings_in (layout_seen layout.now) role) arena) }
 {
     let mut arena = Arena::new(alloc)?;
     let mut spelling = Vec::new(alloc);
-    let mut strings = graph.strings(alloc, role);
+    let mut strings = layout.strings(alloc, role);
     'strings: while let Some(_) = strings.next()? {
         spell(role, strings.last(), &mut spelling)?;
         arena.push(&spelling)?;
@@ -47,13 +48,13 @@ fn spellings_of(alloc: Global, graph: &Graph<'_>, role: Role) -> Result<Arena, A
 }
 
 /// The spellings of all strings of a graph.
-pub fn tables_of(alloc: Global, graph: &Graph<'_>) -> Result<Tables, AllocError>
-    ensures { IfOk result (AreTables (graph_seen graph.now)) }
+pub fn tables_of(alloc: Global, layout: &Layout<'_>) -> Result<Tables, AllocError>
+    ensures { IfOk result (AreTables (layout_seen layout.now)) }
 {
     Ok(Tables {
-        subjects: spellings_of(alloc, graph, Role::Subject)?,
-        predicates: spellings_of(alloc, graph, Role::Predicate)?,
-        objects: spellings_of(alloc, graph, Role::Object)?,
+        subjects: spellings_of(alloc, layout, Role::Subject)?,
+        predicates: spellings_of(alloc, layout, Role::Predicate)?,
+        objects: spellings_of(alloc, layout, Role::Object)?,
     })
 }
 

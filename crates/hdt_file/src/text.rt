@@ -3,47 +3,66 @@ ghost use Rattle.std.specs.Prelude.{◌≡◌, ◌≢◌, ◌+◌, ◌⊎◌, �
 ghost use Rattle.hdt_wire.specs.Counted.{inner, failures};
 ghost use Rattle.hdt_wire.specs.declared.role.Role.{Role};
 ghost use Rattle.hdt_triples.specs.Counting.{Triple};
+ghost use Rattle.hdt_triples.specs.Left.{left_of};
 ghost use Rattle.hdt_file.specs.Denoted.{StringTriple, denoted};
 ghost use Rattle.hdt_file.specs.File.{GraphParts};
+ghost use Rattle.hdt_file.specs.LayoutView.{layout_seen};
 ghost use Rattle.hdt_file.specs.Text.{IsFirstIn, IsTextOf};
 ghost use Rattle.hdt_file.specs.TextWriting.{TellsFirstIn, WritesPart, WritesText, chosen};
 ghost use Rattle.hdt_file.specs.Views.{graph_seen};
 
 use crate::fault::DumpFault;
 use crate::graph::Graph;
+use crate::layout::Layout;
 use crate::spelling::{Speller, append_line};
 use crate::tables::{append_line_of, tables_of};
-use hdt_triples::Pattern;
+use hdt_triples::{Matches, Pattern};
 use hdt_wire::Counted;
 use std::alloc::Global;
 use std::io::Write;
 
-/// The text of the matches of a pattern, each string of which is looked up: for few matches.
-fn matches_text(alloc: Global, graph: &Graph<'_>, pattern: Pattern) -> Result<Vec<u8>, DumpFault>
-    ensures ok { IfOk result (λ text. IsTextOf (denoted (graph_seen graph.now) (chosen (graph_seen graph.now) (Some pattern))) text.items) }
-    ensures err { IfErr result (TellsFirstIn (graph_seen graph.now) (chosen (graph_seen graph.now) (Some pattern))) }
+/// The text of triples, each string of which is looked up: for few of them.
+fn matches_text(alloc: Global, layout: &Layout<'_>, found: Matches<'_>) -> Result<Vec<u8>, DumpFault>
+    ensures ok { IfOk result (λ text. IsTextOf (denoted (layout_seen layout.now) (left_of found.entry)) text.items) }
+    ensures err { IfErr result (TellsFirstIn (layout_seen layout.now) (left_of found.entry)) }
 {
+    let mut matches = found;
     let mut speller = Speller::new(alloc);
     let mut text = Vec::new(alloc);
-    let mut matches = graph.search(pattern);
     'triples: while let Some(triple) = matches.next() {
-        append_line(graph, triple, &mut speller, &mut text)?;
+        append_line(layout, triple, &mut speller, &mut text)?;
     }
     Ok(text)
 }
 
-/// The same by tables in which all strings of the graph were spelled once: for many matches.
-fn tabled_text(alloc: Global, graph: &Graph<'_>, pattern: Pattern) -> Result<Vec<u8>, DumpFault>
-    ensures ok { IfOk result (λ text. IsTextOf (denoted (graph_seen graph.now) (chosen (graph_seen graph.now) (Some pattern))) text.items) }
-    ensures err { IfErr result (TellsFirstIn (graph_seen graph.now) (chosen (graph_seen graph.now) (Some pattern))) }
+/// The same by tables in which all strings of the graph were spelled once: for many triples.
+fn tabled_text(alloc: Global, layout: &Layout<'_>, found: Matches<'_>) -> Result<Vec<u8>, DumpFault>
+    ensures ok { IfOk result (λ text. IsTextOf (denoted (layout_seen layout.now) (left_of found.entry)) text.items) }
+    ensures err { IfErr result (TellsFirstIn (layout_seen layout.now) (left_of found.entry)) }
 {
-    let tables = tables_of(alloc, graph)?;
+    let tables = tables_of(alloc, layout)?;
+    let mut matches = found;
     let mut text = Vec::new(alloc);
-    let mut matches = graph.search(pattern);
     'triples: while let Some(triple) = matches.next() {
         append_line_of(&tables, triple, &mut text)?;
     }
     Ok(text)
+}
+
+/// The text of the triples that agree with a pattern: by tables where it gives nothing.
+fn found_text(
+    alloc: Global,
+    layout: &Layout<'_>,
+    pattern: Pattern,
+    found: Matches<'_>,
+) -> Result<Vec<u8>, DumpFault>
+    ensures ok { IfOk result (λ text. IsTextOf (denoted (layout_seen layout.now) (left_of found.entry)) text.items) }
+    ensures err { IfErr result (TellsFirstIn (layout_seen layout.now) (left_of found.entry)) }
+{
+    if pattern.s.is_none() && pattern.p.is_none() && pattern.o.is_none() {
+        return tabled_text(alloc, layout, found);
+    }
+    matches_text(alloc, layout, found)
 }
 
 /// The N-Triples text of the matches of a pattern, or of nothing: a line a triple, in order.
@@ -65,10 +84,22 @@ pub fn graph_text(
     ensures err { IfErr result (TellsFirstIn (graph_seen graph.now) (chosen (graph_seen graph.now) pattern)) }
 {
     match pattern {
-        Some(pattern) if pattern.s.is_none() && pattern.p.is_none() && pattern.o.is_none() => {
-            tabled_text(alloc, graph, pattern)
-        }
-        Some(pattern) => matches_text(alloc, graph, pattern),
+        Some(pattern) => found_text(alloc, &graph.layout(), pattern, graph.search(pattern)),
+        None => Ok(Vec::new(alloc)),
+    }
+}
+
+/// The same of a layout, all of whose triples are walked over: [`graph_text`] says what is answered.
+pub fn layout_text(
+    alloc: Global,
+    layout: &Layout<'_>,
+    pattern: Option<Pattern>,
+) -> Result<Vec<u8>, DumpFault>
+    ensures ok { IfOk result (λ text. IsTextOf (denoted (layout_seen layout.now) (chosen (layout_seen layout.now) pattern)) text.items) }
+    ensures err { IfErr result (TellsFirstIn (layout_seen layout.now) (chosen (layout_seen layout.now) pattern)) }
+{
+    match pattern {
+        Some(pattern) => found_text(alloc, layout, pattern, layout.search(pattern)),
         None => Ok(Vec::new(alloc)),
     }
 }

@@ -112,16 +112,20 @@ fn writes_the_matches_of_each_pattern(rt: HostRuntime) -> Result<(), Fail> {
     let alloc = rt.alloc();
     let bytes = file_with(alloc, THREE, &TRIPLES)?;
     let graph = open(alloc, &bytes)?;
+    let layout = Layout::read(alloc, &bytes)?;
     for s in GIVEN {
         for p in GIVEN {
             for o in GIVEN {
                 let pattern = Pattern { s, p, o };
                 let text = graph_text(alloc, &graph, Some(pattern))?;
                 assert_eq!(rt; text, lines_of(alloc, pattern)?, "{pattern:?}");
+                let same = layout_text(alloc, &layout, Some(pattern))?;
+                assert_eq!(rt; same, text, "{pattern:?}");
             }
         }
     }
     assert!(rt; graph_text(alloc, &graph, None)?.is_empty());
+    assert!(rt; layout_text(alloc, &layout, None)?.is_empty());
     Ok(())
 }
 
@@ -351,5 +355,8 @@ fn writes_many_triples(rt: HostRuntime) -> Result<(), Fail> {
     let graph = open(alloc, &bytes)?;
     assert!(rt; graph_text(alloc, &graph, Some(ALL))? == text);
     assert!(rt; graph_text(alloc, &graph, Some(of_subject(1)))? == text);
+    let layout = graph.layout();
+    assert!(rt; layout_text(alloc, &layout, Some(ALL))? == text);
+    assert!(rt; layout_text(alloc, &layout, Some(of_subject(1)))? == text);
     Ok(())
 }

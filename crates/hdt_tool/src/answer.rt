@@ -11,7 +11,7 @@ use crate::printed_triples::triples_text;
 use crate::printed_verdict::verdict;
 use crate::request::Action;
 use hdt_dict::Role;
-use hdt_file::{open, read_head, verify, verify_tight};
+use hdt_file::{Layout, read_head, verify, verify_tight};
 use std::alloc::Global;
 
 /// The text of `strings`.
@@ -19,8 +19,8 @@ fn strings_of(alloc: Global, bytes: &[u8], role: Role) -> Result<Vec<u8>, ToolFa
     ensures ok { IfOk result (λ text. Consults bytes.now role (λ strings. text.items ≡ string_lines 1 strings)) }
     ensures err { IfErr result (λ e. IsTold (Action.Strings role) bytes.now e) }
 {
-    let graph = open(alloc, bytes)?;
-    Ok(strings_text(alloc, &graph, role)?)
+    let layout = Layout::read(alloc, bytes)?;
+    Ok(strings_text(alloc, &layout, role)?)
 }
 
 /// The text of `string`.
@@ -28,8 +28,8 @@ fn string_of(alloc: Global, bytes: &[u8], role: Role, number: u64) -> Result<Vec
     ensures ok { IfOk result (λ text. Consults bytes.now role (λ strings. PrintsString strings number text.items)) }
     ensures err { IfErr result (λ e. IsTold (Action.Nth role number) bytes.now e) }
 {
-    let graph = open(alloc, bytes)?;
-    string_text(alloc, &graph, role, number)
+    let layout = Layout::read(alloc, bytes)?;
+    string_text(alloc, &layout, role, number)
 }
 
 /// The text of `number`.
@@ -42,8 +42,8 @@ fn number_of(
     ensures ok { IfOk result (λ text. Consults bytes.now role (λ strings. PrintsNumber strings string.now.items text.items)) }
     ensures err { IfErr result (λ e. IsTold (Action.Number role string.now) bytes.now e) }
 {
-    let graph = open(alloc, bytes)?;
-    number_text(alloc, &graph, role, string)
+    let layout = Layout::read(alloc, bytes)?;
+    number_text(alloc, &layout, role, string)
 }
 
 /// The text of `find`.
@@ -56,8 +56,8 @@ fn triples_of(
     ensures ok { IfOk result (λ text. Opens bytes.now (λ graph. PrintsFound graph given.now numbers text.items)) }
     ensures err { IfErr result (λ e. IsTold (Action.Find given.now numbers) bytes.now e) }
 {
-    let graph = open(alloc, bytes)?;
-    triples_text(alloc, &graph, given, numbers)
+    let layout = Layout::read(alloc, bytes)?;
+    triples_text(alloc, &layout, given, numbers)
 }
 
 /// The text of `head`.

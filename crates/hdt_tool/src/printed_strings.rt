@@ -2,14 +2,15 @@
 ghost use Rattle.std.specs.Prelude.{◌≡◌, ◌+◌, ◌∷◌, ◌++◌, ◌≢◌, ◌⊎◌, ℕ, [], OnOk, IfOk, IfErr, None, Some};
 ghost use Rattle.std.specs.Fmt.{decimal};
 ghost use Rattle.hdt_dict.specs.Numbered.{numbered};
-ghost use Rattle.hdt_file.specs.Views.{graph_seen, strings_in};
+ghost use Rattle.hdt_file.specs.LayoutView.{layout_seen};
+ghost use Rattle.hdt_file.specs.Views.{strings_in};
 ghost use Rattle.hdt_tool.specs.Escaping.{escaped};
 ghost use Rattle.hdt_tool.specs.StringsText.{string_line, string_lines, PrintsString, PrintsNumber};
 
 use crate::escaping::put_escaped;
 use crate::fault::ToolFault;
 use hdt_dict::Role;
-use hdt_file::Graph;
+use hdt_file::Layout;
 use hdt_seq::Steps;
 use std::alloc::{AllocError, Global};
 
@@ -32,11 +33,11 @@ fn put_string_line(number: u64, string: &[u8], out: &mut Vec<u8>) -> Result<(), 
 }
 
 /// The lines of all strings of a role.
-pub fn strings_text(alloc: Global, graph: &Graph<'_>, role: Role) -> Result<Vec<u8>, AllocError>
-    ensures { IfOk result (λ text. text.items ≡ string_lines 1 (strings_in (graph_seen graph.now) role)) }
+pub fn strings_text(alloc: Global, layout: &Layout<'_>, role: Role) -> Result<Vec<u8>, AllocError>
+    ensures { IfOk result (λ text. text.items ≡ string_lines 1 (strings_in (layout_seen layout.now) role)) }
 {
     let mut text = Vec::new(alloc);
-    let mut strings = graph.strings(alloc, role);
+    let mut strings = layout.strings(alloc, role);
     'strings: while let Some(number) = strings.next()? {
         put_string_line(number, strings.last(), &mut text)?;
     }
@@ -46,16 +47,16 @@ pub fn strings_text(alloc: Global, graph: &Graph<'_>, role: Role) -> Result<Vec<
 /// The line of the string of a role that has this number.
 pub fn string_text(
     alloc: Global,
-    graph: &Graph<'_>,
+    layout: &Layout<'_>,
     role: Role,
     number: u64,
 ) -> Result<Vec<u8>, ToolFault>
-    ensures ok { IfOk result (λ text. PrintsString (strings_in (graph_seen graph.now) role) number text.items) }
+    ensures ok { IfOk result (λ text. PrintsString (strings_in (layout_seen layout.now) role) number text.items) }
     ensures err { IfErr result (λ e. (e ≡ ToolFault.OutOfMemory)
-        ⊎ ((e ≡ ToolFault.NoSuchNumber) × (numbered (strings_in (graph_seen graph.now) role) number ≡ None))) }
+        ⊎ ((e ≡ ToolFault.NoSuchNumber) × (numbered (strings_in (layout_seen layout.now) role) number ≡ None))) }
 {
     let mut string = Vec::new(alloc);
-    if !graph.string_of(role, number, &mut string, &mut Steps::new())? {
+    if !layout.string_of(role, number, &mut string, &mut Steps::new())? {
         return Err(ToolFault::NoSuchNumber);
     }
     let mut text = Vec::new(alloc);
@@ -67,15 +68,15 @@ pub fn string_text(
 /// The line of a string's number in a role.
 pub fn number_text(
     alloc: Global,
-    graph: &Graph<'_>,
+    layout: &Layout<'_>,
     role: Role,
     string: &[u8],
 ) -> Result<Vec<u8>, ToolFault>
-    ensures ok { IfOk result (λ text. PrintsNumber (strings_in (graph_seen graph.now) role) string.now text.items) }
+    ensures ok { IfOk result (λ text. PrintsNumber (strings_in (layout_seen layout.now) role) string.now text.items) }
     ensures err { IfErr result (λ e. (e ≡ ToolFault.OutOfMemory)
-        ⊎ ((e ≡ ToolFault.NoSuchTerm) × ((n : ℕ) → numbered (strings_in (graph_seen graph.now) role) n ≢ Some string.now))) }
+        ⊎ ((e ≡ ToolFault.NoSuchTerm) × ((n : ℕ) → numbered (strings_in (layout_seen layout.now) role) n ≢ Some string.now))) }
 {
-    let Some(number) = graph.number_of(role, string, &mut Steps::new()) else {
+    let Some(number) = layout.number_of(role, string, &mut Steps::new()) else {
         return Err(ToolFault::NoSuchTerm);
     };
     let mut text = Vec::new(alloc);

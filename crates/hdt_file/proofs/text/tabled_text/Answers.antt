@@ -2,15 +2,14 @@ use Rattle.std.proofs.Common.{List, subst}
 use Rattle.std.proofs.lemmas.Result.{err_from_is_err_and}
 use Rattle.hdt_triples.specs.Counting.{Triple}
 use Rattle.hdt_triples.specs.Left.{left_of}
-use Rattle.hdt_triples.specs.Patterns.{matches}
-use Rattle.hdt_file.specs.Views.{graph_seen}
+use Rattle.hdt_file.specs.LayoutView.{layout_seen}
 use Rattle.hdt_file.proofs.Texts.{GoesOn, SameFirst, goes_on, same_first, ends, stops}
 use Rattle.hdt_file.proofs.text.tabled_text.Goals as goal
 
 pub triples-preserved : goal.triples-preserved
 triples-preserved c =
-    let g = graph_seen c.args.graph.now in
-    let all = matches c.args.pattern g.triples in
+    let g = layout_seen c.args.layout.now in
+    let all = left_of c.args.found in
     let rest = left_of c.next.new.self in
     let old = c.triples.text.items in
     let new = c.append_line_of.new.out.items in
@@ -28,16 +27,16 @@ returns-in_err-append_line_of-clause-ok c =
 
 pub returns-in_err-append_line_of-clause-err : goal.returns-in_err-append_line_of-clause-err
 returns-in_err-append_line_of-clause-err c =
-    let g = graph_seen c.args.graph.now in
-    let all = matches c.args.pattern g.triples in
+    let g = layout_seen c.args.layout.now in
+    let all = left_of c.args.found in
     let first = subst (λ (left : List Triple). SameFirst g all left) c.in-Some.ensures.steps.0 c.triples.invariant.first in
     let p = err_from_is_err_and c.from_residual-in_err-append_line_of.result c.from_residual-in_err-append_line_of.ensures.1 in
     rw (p.1, p.2) (stops g all (left_of c.next.new.self) c.in-Some.triple c.in_err-append_line_of.field-0.0 first (c.in_err-append_line_of.ensures.err g c.triples.invariant.tables))
 
 pub returns-clause-ok : goal.returns-clause-ok
 returns-clause-ok c =
-    let g = graph_seen c.args.graph.now in
-    let all = matches c.args.pattern g.triples in
+    let g = layout_seen c.args.layout.now in
+    let all = left_of c.args.found in
     ends g all c.triples.text.items (subst (λ (left : List Triple). GoesOn g all left c.triples.text.items) c.in_default.ensures.steps.0.0 c.triples.invariant.goes_on)
 
 pub returns-clause-err : goal.returns-clause-err

@@ -1,15 +1,14 @@
 use Rattle.std.proofs.Common.{length}
 use Rattle.hdt_triples.specs.Left.{left_of}
-use Rattle.hdt_triples.specs.Patterns.{matches}
 use Rattle.hdt_file.specs.Spellings.{AreTables}
-use Rattle.hdt_file.specs.Views.{graph_seen}
+use Rattle.hdt_file.specs.LayoutView.{layout_seen}
 use Rattle.hdt_file.proofs.Texts.{GoesOn, SameFirst}
 use Rattle.hdt_file.proofs.text.tabled_text.Given as goal
 
 abbrev pub invariant-triples : goal.invariant-triples
 invariant-triples l =
-    let g = graph_seen l.graph in
-    let all = matches l.fn.pattern g.triples in
+    let g = layout_seen l.layout in
+    let all = left_of l.fn.found in
     record {
       tables : AreTables g l.tables;
       goes_on : GoesOn g all (left_of l.matches) l.text.items;

@@ -1,7 +1,8 @@
 use Rattle.std.proofs.Common.{◌≡◌, ◌≢◌, ◌⊎◌, ℕ, List, Some, subst}
 use Rattle.std.proofs.lemmas.Result.{IfOk-weaker, IfErr-weaker}
 use Rattle.hdt_dict.specs.Numbered.{numbered}
-use Rattle.hdt_file.specs.Views.{graph_seen, strings_in}
+use Rattle.hdt_file.specs.LayoutView.{layout_seen}
+use Rattle.hdt_file.specs.Views.{strings_in}
 use Rattle.hdt_tool.specs.declared.fault.ToolFault.TheVariants.{OutOfMemory, NoSuchTerm}
 use Rattle.hdt_tool.specs.StringsText.{PrintsNumber}
 use Rattle.hdt_tool.proofs.Told.{no_term}
@@ -9,18 +10,18 @@ use Rattle.hdt_tool.proofs.answer.number_of.Goals as goal
 
 pub returns-clause-ok : goal.returns-clause-ok
 returns-clause-ok c =
-    let front = graph_seen c.in_ok-graph.graph in
+    let front = layout_seen c.in_ok-layout.layout in
     IfOk-weaker c.number_text.result _ _
     (λ text h. record {
       graph = front;
-      stands = c.in_ok-graph.ensures.found;
+      stands = c.in_ok-layout.ensures.found;
       holds = subst (λ (x : List ℕ). PrintsNumber (strings_in front c.args.role) x text.items) c.deref.ensures.value h;
     })
     c.number_text.ensures.ok
 
 pub returns-clause-err : goal.returns-clause-err
 returns-clause-err c =
-    let front = graph_seen c.in_ok-graph.graph in
+    let front = layout_seen c.in_ok-layout.layout in
     IfErr-weaker c.number_text.result _ _
-    (λ e h. no_term c.args.role c.args.string.now c.args.bytes.now front e c.in_ok-graph.ensures.found
+    (λ e h. no_term c.args.role c.args.string.now c.args.bytes.now front e c.in_ok-layout.ensures.found
     (subst (λ (x : List ℕ). (e ≡ OutOfMemory) ⊎ ((e ≡ NoSuchTerm) × ((n : ℕ) → numbered (strings_in front c.args.role) n ≢ Some x))) c.deref.ensures.value h)) c.number_text.ensures.err

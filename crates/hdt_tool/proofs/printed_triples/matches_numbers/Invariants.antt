@@ -1,12 +1,12 @@
 use Rattle.std.proofs.Common.{◌≡◌, ◌++◌, length}
 use Rattle.hdt_triples.specs.Left.{left_of}
 use Rattle.hdt_triples.specs.Patterns.{matches}
-use Rattle.hdt_file.specs.Views.{graph_seen}
+use Rattle.hdt_file.specs.LayoutView.{layout_seen}
 use Rattle.hdt_tool.specs.TriplesText.{numbers_lines}
 use Rattle.hdt_tool.proofs.printed_triples.matches_numbers.Given as goal
 
 abbrev pub invariant-triples : goal.invariant-triples
-invariant-triples l = l.text.items ++ numbers_lines (left_of l.triple-iterator) ≡ numbers_lines (matches l.fn.pattern (graph_seen l.graph).triples)
+invariant-triples l = l.text.items ++ numbers_lines (left_of l.triple-iterator) ≡ numbers_lines (matches l.fn.pattern (layout_seen l.layout).triples)
 
 abbrev pub decreases-triples : goal.decreases-triples
 decreases-triples l = length (left_of l.triple-iterator)
