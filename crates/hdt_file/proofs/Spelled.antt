@@ -1,5 +1,5 @@
 -- Spellings of all strings of a role, and lines made of them.
-use Rattle.std.proofs.Common.{◌≡◌, ◌⊎◌, ℕ, zero, suc, ◌+◌, List, [], ◌∷◌, ◌++◌, length, true, Option, Some, None, refl, sym, ap, ◌∙◌, append_assoc, append-nil, subst, inl, inr, arith}
+use Rattle.std.proofs.Common.{◌≡◌, ℕ, zero, suc, ◌+◌, List, [], ◌∷◌, ◌++◌, length, true, Option, Some, refl, sym, ap, ◌∙◌, append_assoc, append-nil, subst, inl, inr, arith}
 use Rattle.std.specs.Option.{unwrap_or}
 use Rattle.hdt_dict.specs.Numbered.{numbered}
 use Rattle.hdt_dict.specs.Walking.{Progress, stepped_by, next_number}
@@ -15,7 +15,7 @@ use Rattle.hdt_file.specs.File.{GraphParts}
 use Rattle.hdt_triples.specs.Uses.{part}
 use Rattle.hdt_file.specs.Denoted.{string_of, strings_of}
 use Rattle.hdt_file.specs.Spellings.{IsSpelling, AreSpellings, AreTables, spelling_in}
-use Rattle.hdt_file.specs.Text.{IsTermOf, HasTerm, HasNoTerm, IsBefore, IsFirstOf, line_front}
+use Rattle.hdt_file.specs.Text.{HasTerm, HasNoTerm, IsBefore, IsFirstOf, line_front}
 use Rattle.hdt_file.specs.TextWriting.{AppendsTerm, AppendsLine, IsFront, TellsString, TellsFirstOf}
 use Rattle.hdt_file.specs.declared.fault.DumpFault.{DumpFault}
 use Rattle.hdt_file.specs.declared.fault.DumpFault.TheVariants.{NotATerm, Write, OutOfMemory}

@@ -1,6 +1,7 @@
 -- The text of triples, line by line.
 use Rattle.std.proofs.Common.{◌≡◌, ℕ, List, [], ◌∷◌, ◌++◌, refl, sym, ap, ◌∙◌, append_assoc, append-nil, subst, inl, inr}
 use Rattle.std.specs.List.{flat_map}
+use Rattle.std.proofs.lemmas.Grind.{flat_map-append}
 use Rattle.hdt_terms.specs.Writing.{written}
 use Rattle.hdt_wire.specs.declared.role.Role.{Role}
 use Rattle.hdt_wire.specs.declared.role.Role.TheVariants.{Subject, Predicate, Object}
@@ -8,8 +9,8 @@ use Rattle.hdt_triples.specs.Counting.{Triple}
 use Rattle.hdt_file.specs.File.{GraphParts}
 use Rattle.hdt_triples.specs.Uses.{part}
 use Rattle.hdt_file.specs.Denoted.{string_of, strings_of, denoted}
-use Rattle.hdt_file.specs.Text.{TermTriple, IsTermOf, AreTermsOf, HasTerm, IsBefore, IsFirstOf, IsFirstIn, IsTextOf, line, line_front}
-use Rattle.hdt_file.specs.TextWriting.{AppendsTerm, AppendsLine, IsFront, TellsString, TellsFirstOf, TellsFirstIn}
+use Rattle.hdt_file.specs.Text.{TermTriple, IsTermOf, AreTermsOf, HasTerm, IsBefore, IsFirstOf, IsFirstIn, IsTextOf, Pairwise, line}
+use Rattle.hdt_file.specs.TextWriting.{AppendsTerm, AppendsLine, AppendsText, IsFront, TellsString, TellsFirstOf, TellsFirstIn}
 use Rattle.hdt_file.specs.declared.fault.DumpFault.{DumpFault}
 use Rattle.hdt_file.specs.declared.fault.DumpFault.TheVariants.{NotATerm, Write, OutOfMemory}
 
@@ -94,3 +95,67 @@ pub stops : (g : GraphParts) (all ts : List Triple) (t : Triple) (e : DumpFault)
 stops g all ts t (NotATerm role n) h told = h role n (inl told)
 stops g all ts t (Write k) h told = told
 stops g all ts t OutOfMemory h told = tt
+
+-- ---- the text of some triples, behind which the rest goes on
+
+-- a line, and behind it the text of the rest
+pub line_and_text : (g : GraphParts) (t : Triple) (ts : List Triple) (old between new : List ℕ) → AppendsLine g t old between → AppendsText g ts between new → AppendsText g (t ∷ ts) old new
+line_and_text g t ts old between new a h =
+    record {
+      text = line a.terms ++ h.text;
+      is = with_line g t ts a.terms h.text a.are h.is;
+      grown = h.grown ∙ ap (λ (x : List ℕ). x ++ h.text) a.grown ∙ append_assoc old (line a.terms) h.text;
+    }
+
+pub no_text : (g : GraphParts) (text : List ℕ) → AppendsText g [] text text
+no_text g text = record { text = []; is = record { terms = []; each = tt; whole = refl }; grown = sym (append-nil text) }
+
+-- a triple of terms is passed over
+pub tells_behind : (g : GraphParts) (t : Triple) (ts : List Triple) (old new : List ℕ) (e : DumpFault) → AppendsLine g t old new → TellsFirstIn g ts e → TellsFirstIn g (t ∷ ts) e
+tells_behind g t ts old new (NotATerm role n) a h = inr ((λ (other : Role). (part other a.terms, a.are other)), h)
+tells_behind g t ts old new (Write k) a h = h
+tells_behind g t ts old new OutOfMemory a h = tt
+
+pub tells_here : (g : GraphParts) (t : Triple) (ts : List Triple) (e : DumpFault) → TellsFirstOf g t e → TellsFirstIn g (t ∷ ts) e
+tells_here g t ts (NotATerm role n) h = inl h
+tells_here g t ts (Write k) h = h
+tells_here g t ts OutOfMemory h = tt
+
+joined_terms : (g : GraphParts) (xs ys : List Triple) (ts us : List TermTriple) → Pairwise AreTermsOf (denoted g xs) ts → Pairwise AreTermsOf (denoted g ys) us
+    → Pairwise AreTermsOf (denoted g (xs ++ ys)) (ts ++ us)
+joined_terms g [] ys [] us h k = k
+joined_terms g [] ys (t ∷ ts) us h k = absurd h
+joined_terms g (x ∷ xs) ys [] us h k = absurd h
+joined_terms g (x ∷ xs) ys (t ∷ ts) us h k = (h.0, joined_terms g xs ys ts us h.1 k)
+
+joined : (g : GraphParts) (xs ys : List Triple) (a b : List ℕ) → IsTextOf (denoted g xs) a → IsTextOf (denoted g ys) b → IsTextOf (denoted g (xs ++ ys)) (a ++ b)
+joined g xs ys a b h k =
+    record {
+      terms = h.terms ++ k.terms;
+      each = joined_terms g xs ys h.terms k.terms h.each k.each;
+      whole = ap (λ (x : List ℕ). x ++ b) h.whole ∙ ap (λ (x : List ℕ). flat_map line h.terms ++ x) k.whole ∙ sym (flat_map-append line h.terms k.terms);
+    }
+
+pub text_goes_on : (g : GraphParts) (all xs rest : List Triple) (old new : List ℕ) → GoesOn g all (xs ++ rest) old → AppendsText g xs old new → GoesOn g all rest new
+text_goes_on g all xs rest old new h a more is =
+    let whole : old ++ (a.text ++ more) ≡ new ++ more = sym (append_assoc old a.text more) ∙ ap (λ (x : List ℕ). x ++ more) (sym a.grown) in
+    subst (IsTextOf (denoted g all)) whole (h (a.text ++ more) (joined g xs rest a.text more a.is is))
+
+past_terms : (g : GraphParts) (xs rest : List Triple) (ts : List TermTriple) (role : Role) (n : ℕ) → Pairwise AreTermsOf (denoted g xs) ts → IsFirstIn g rest role n
+    → IsFirstIn g (xs ++ rest) role n
+past_terms g [] rest ts role n h is = is
+past_terms g (x ∷ xs) rest [] role n h is = absurd h
+past_terms g (x ∷ xs) rest (t ∷ ts) role n h is = inr ((λ (other : Role). (part other t, h.0 other)), past_terms g xs rest ts role n h.1 is)
+
+pub first_goes_on : (g : GraphParts) (all xs rest : List Triple) (old new : List ℕ) → SameFirst g all (xs ++ rest) → AppendsText g xs old new → SameFirst g all rest
+first_goes_on g all xs rest old new h a role n is = h role n (past_terms g xs rest a.is.terms role n a.is.each is)
+
+first_within : (g : GraphParts) (xs rest : List Triple) (role : Role) (n : ℕ) → IsFirstIn g xs role n → IsFirstIn g (xs ++ rest) role n
+first_within g [] rest role n is = absurd is
+first_within g (x ∷ xs) rest role n (inl is) = inl is
+first_within g (x ∷ xs) rest role n (inr is) = inr (is.0, first_within g xs rest role n is.1)
+
+pub text_stops : (g : GraphParts) (all xs rest : List Triple) (e : DumpFault) → SameFirst g all (xs ++ rest) → TellsFirstIn g xs e → TellsFirstIn g all e
+text_stops g all xs rest (NotATerm role n) h told = h role n (first_within g xs rest role n told)
+text_stops g all xs rest (Write k) h told = told
+text_stops g all xs rest OutOfMemory h told = tt

@@ -1,9 +1,9 @@
 -- The rows of a file are exact; a file is of one graph, and every input is one or has one fault.
-use Rattle.std.proofs.Common.{◌≡◌, ◌⊎◌, ℕ, ◌<◌, ◌^◌, List, length, eqb, true, Result, Ok, refl, ap}
+use Rattle.std.proofs.Common.{◌≡◌, ◌⊎◌, ℕ, ◌<◌, ◌^◌, List, length, eqb, true, Ok, refl, ap}
 use Rattle.std.proofs.lemmas.Bool.{eqb-true}
 use Rattle.std.proofs.lemmas.Bool.Decides.{Decides-eqb}
 use Rattle.hdt_wire.specs.declared.fault.Reason.TheVariants.{TrailingBytes}
-use Rattle.hdt_wire.specs.Rows.{◌>>=◌, IsBytes, demand}
+use Rattle.hdt_wire.specs.Rows.{IsBytes}
 use Rattle.hdt_wire.specs.RowLaws.{bound, held}
 use Rattle.hdt_wire.specs.Exact.{Exactly, OneValue, OneFault}
 use Rattle.hdt_wire.specs.ExactLaws.{ok_is, answered, one_value, value_or_fault}

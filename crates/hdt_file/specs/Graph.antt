@@ -1,6 +1,6 @@
 -- What a layout is of: sections of strings, no string in two of shared, subjects and objects, and at least one triple,
 -- each in range, in ascending order.
-use Rattle.std.specs.Prelude.{ℕ, ◌<◌, ◌++◌, length}
+use Rattle.std.specs.Prelude.{◌<◌, ◌++◌, length}
 use Rattle.hdt_front.specs.Section.{AreStrings}
 use Rattle.hdt_dict.specs.Dictionary.{AreApart}
 use Rattle.hdt_triples.specs.Counting.{Counts}

@@ -1,5 +1,5 @@
 -- A layout is of a graph: ascending, disjoint sections, and an ascending triple list in range.
-use Rattle.std.proofs.Common.{ℕ, List, length, subst, arith}
+use Rattle.std.proofs.Common.{ℕ, List, subst, arith}
 use Rattle.hdt_triples.specs.CountingLaws.{length-triples}
 use Rattle.hdt_triples.specs.OrderLaws.{triples_ascend, triples_in_range}
 use Rattle.hdt_triples.specs.Triples.{bitmap_of}

@@ -7,7 +7,7 @@ use Rattle.hdt_wire.specs.Exact.{seen}
 use Rattle.hdt_triples.specs.Triples.{TripleParts, triples_at}
 use Rattle.hdt_triples.specs.Views.{parts_read, triples_in}
 use Rattle.hdt_file.specs.Dictionary.{HeadAndDictionary, dictionary_after_head}
-use Rattle.hdt_file.specs.File.{FileParts, GraphParts, counts_in, file_at_start, graph_in}
+use Rattle.hdt_file.specs.File.{FileParts, counts_in, file_at_start, graph_in}
 use Rattle.hdt_file.specs.Parts.{Parts, parts_from, parts_in, graph_from, tight_from, tight_rows}
 use Rattle.hdt_file.specs.Tight.{tight_in}
 

@@ -56,6 +56,12 @@ TellsFirstOf g t (NotATerm role n) = IsFirstOf (strings_of g t) role × (n ≡ p
 TellsFirstOf g t (Write k) = ⊥
 TellsFirstOf g t OutOfMemory = ⊤
 
+-- the text has grown by the text of triples
+pub record AppendsText (g : GraphParts) (ts : List Triple) (old new : List ℕ) : Type 0 where
+  pub text : List ℕ
+  pub is : IsTextOf (denoted g ts) text
+  pub grown : new ≡ old ++ text
+
 -- the first such string of the first such triple is told
 abbrev pub TellsFirstIn : GraphParts → List Triple → DumpFault → Type 0
 TellsFirstIn g ts (NotATerm role n) = IsFirstIn g ts role n

@@ -1,6 +1,6 @@
 -- Tight files: triples use each string of the dictionary in its role, and so each shared string both as subject and as
 -- object.
-use Rattle.std.specs.Prelude.{◌≡◌, ℕ, zero, suc, ◌+◌, ◌≤◌, ◌&&◌, Bool, List, length, Result, Ok}
+use Rattle.std.specs.Prelude.{ℕ, zero, suc, ◌+◌, ◌≤◌, ◌&&◌, Bool, List, length, Result, Ok}
 use Rattle.hdt_wire.specs.declared.fault.Fault.{Fault}
 use Rattle.hdt_wire.specs.declared.fault.Reason.TheVariants.{Unused}
 use Rattle.hdt_wire.specs.declared.role.Role.{Role}
@@ -12,7 +12,7 @@ use Rattle.hdt_dict.specs.Dictionary.{DictionaryParts, section_number}
 use Rattle.hdt_triples.specs.Counting.{Triple, triples_of}
 use Rattle.hdt_triples.specs.Triples.{bitmap_of}
 use Rattle.hdt_triples.specs.Uses.{Uses, uses}
-use Rattle.hdt_file.specs.File.{FileParts, GraphParts, IsLayout, file_at_start, graph_of}
+use Rattle.hdt_file.specs.File.{GraphParts, IsLayout, file_at_start, graph_of}
 use Rattle.hdt_file.specs.Views.{strings_in}
 
 -- each number of each role, from 1 to how many strings the role has, stands in that role in a triple

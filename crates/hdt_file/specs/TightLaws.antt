@@ -1,15 +1,14 @@
 -- The rows of a tight file are exact: those of its strings hold where triples use each of them, and only there.
-use Rattle.std.proofs.Common.{◌≡◌, ◌∙◌, ℕ, zero, suc, ◌+◌, ◌-◌, ◌<◌, ◌≤◌, ◌^◌, ◌&&◌, ◌⊎◌, inl, inr, ◌++◌, Bool, true, false, List, length, Result, Ok, Err, refl, ap, sym, subst, arith}
+use Rattle.std.proofs.Common.{◌≡◌, ◌∙◌, ℕ, ◌+◌, ◌-◌, ◌<◌, ◌≤◌, ◌^◌, ◌&&◌, ◌⊎◌, inl, inr, Bool, true, false, List, length, Result, Ok, Err, refl, ap, sym, subst, arith}
 use Rattle.std.proofs.lemmas.Bool.{cases_lt}
 use Rattle.std.proofs.lemmas.List.{length-append}
 use Rattle.hdt_wire.specs.declared.fault.Fault.{Fault}
 use Rattle.hdt_wire.specs.declared.fault.Reason.TheVariants.{Unused}
 use Rattle.hdt_wire.specs.declared.role.Role.{Role}
 use Rattle.hdt_wire.specs.declared.role.Role.TheVariants.{Subject, Predicate, Object}
-use Rattle.hdt_wire.specs.Rows.{◌>>=◌, IsBytes, demand}
+use Rattle.hdt_wire.specs.Rows.{◌>>=◌, IsBytes}
 use Rattle.hdt_wire.specs.RowLaws.{bound}
 use Rattle.hdt_wire.specs.Exact.{Exactly, OneValue, OneFault}
-use Rattle.hdt_wire.specs.ExactItems.{rows_from}
 use Rattle.hdt_wire.specs.ExactLaws.{ok_is, each_row, all_rows, last_held, holds_on, value_or_fault}
 use Rattle.hdt_front.specs.Section.{string_place}
 use Rattle.hdt_dict.specs.Dictionary.{DictionaryParts, section_number, terms}

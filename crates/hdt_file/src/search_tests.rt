@@ -119,13 +119,15 @@ fn layouts_look_up_alike(rt: HostRuntime) -> Result<(), Fail> {
         assert_eq!(rt; layout.count(role), graph.count(role));
         let mut strings = layout.strings(alloc, role);
         let mut string = Vec::new(alloc);
-        'strings: while let Some(n) = strings.next()? {
+        for n in 1..=layout.count(role) {
+            assert_eq!(rt; strings.next()?, Some(n));
             string.clear();
             assert!(rt; layout.string_of(role, n, &mut string, &mut Steps::new())?);
             assert_eq!(rt; string.as_slice(), strings.last());
             assert_eq!(rt; layout.number_of(role, &string, &mut Steps::new()), Some(n));
             assert_eq!(rt; graph.number_of(role, &string, &mut Steps::new()), Some(n));
         }
+        assert_eq!(rt; strings.next()?, None);
         let past = layout.count(role) + 1;
         assert!(rt; !layout.string_of(role, past, &mut string, &mut Steps::new())?);
         assert_eq!(rt; layout.number_of(role, b"u:z", &mut Steps::new()), None);

@@ -2,7 +2,7 @@
 ghost use Rattle.std.specs.Prelude.{◌≡◌, ℕ, List, IfOk, IfErr, OnOk, OnErr};
 ghost use Rattle.hdt_file.specs.File.{GraphParts};
 ghost use Rattle.hdt_file.specs.Spellings.{AreSpellings, AreTables, IsSpelling, spelling_in};
-ghost use Rattle.hdt_file.specs.TextWriting.{AppendsLine, AppendsTerm, TellsFirstOf, TellsString};
+ghost use Rattle.hdt_file.specs.TextWriting.{AppendsLine, AppendsTerm, AppendsText, TellsFirstIn, TellsFirstOf, TellsString};
 ghost use Rattle.hdt_file.specs.LayoutView.{layout_seen};
 ghost use Rattle.hdt_file.specs.Views.{strings_in};
 
@@ -80,7 +80,7 @@ fn append_spelling(role: Role, n: u64, spelling: &[u8], out: &mut Vec<u8>) -> Re
 }
 
 /// Appends the line of a triple.
-pub fn append_line_of(
+fn append_line_of(
     tables: &Tables,
     triple: (u64, u64, u64),
     out: &mut Vec<u8>,
@@ -95,5 +95,54 @@ pub fn append_line_of(
     out.push(b' ')?;
     append_spelling(Role::Object, o, spelling_in(&tables.objects, o), out)?;
     out.extend_from_slice(b" .\n")?;
+    Ok(())
+}
+
+/// How many bytes the line of a triple takes, or none where its object is no term.
+fn room_of(tables: &Tables, triple: (u64, u64, u64)) -> usize {
+    let (s, p, o) = triple;
+    let object = spelling_in(&tables.objects, o);
+    // No spelling begins so.
+    if object.first().is_none_or(|first| *first == 0) {
+        return 0;
+    }
+    spelling_in(&tables.subjects, s)
+        .len()
+        .saturating_add(spelling_in(&tables.predicates, p).len())
+        .saturating_add(object.len())
+        .saturating_add(b"   .\n".len())
+}
+
+/// Makes room for the lines of triples. The spellings of their objects lie anywhere: all are looked at before the first is
+/// copied, so that they wait for memory together and not one after another.
+fn make_room(
+    tables: &Tables,
+    triples: &[(u64, u64, u64)],
+    out: &mut Vec<u8>,
+) -> Result<(), AllocError>
+    ensures { out.new.items ≡ out.old.items }
+{
+    let mut room: usize = 0;
+    'triples: for triple in triples {
+        room = room.saturating_add(room_of(tables, *triple));
+    }
+    out.reserve(room)
+}
+
+/// Appends the lines of triples.
+pub fn append_lines(
+    tables: &Tables,
+    triples: &[(u64, u64, u64)],
+    out: &mut Vec<u8>,
+) -> Result<(), DumpFault>
+    ensures ok { OnOk result ((g : GraphParts) → AreTables g tables.now → AppendsText g triples.now out.old.items out.new.items) }
+    ensures err { IfErr result (λ e. (g : GraphParts) → AreTables g tables.now → TellsFirstIn g triples.now e) }
+{
+    make_room(tables, triples, out)?;
+    let mut left = triples;
+    'triples: while let Some((triple, rest)) = left.split_first() {
+        append_line_of(tables, *triple, out)?;
+        left = rest;
+    }
     Ok(())
 }

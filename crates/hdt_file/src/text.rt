@@ -1,5 +1,5 @@
 //! The N-Triples text of a graph.
-ghost use Rattle.std.specs.Prelude.{◌≡◌, ◌≢◌, ◌+◌, ◌⊎◌, ℕ, List, Option, OnOk, IfOk, IfErr, Some, IsOk};
+ghost use Rattle.std.specs.Prelude.{◌≡◌, ◌≢◌, ◌<◌, ◌+◌, ◌++◌, ◌⊎◌, ℕ, List, [], Option, OnOk, IfOk, IfErr, Some, IsOk, true, false, length};
 ghost use Rattle.hdt_wire.specs.Counted.{inner, failures};
 ghost use Rattle.hdt_wire.specs.declared.role.Role.{Role};
 ghost use Rattle.hdt_triples.specs.Counting.{Triple};
@@ -15,10 +15,10 @@ use crate::fault::DumpFault;
 use crate::graph::Graph;
 use crate::layout::Layout;
 use crate::spelling::{Speller, append_line};
-use crate::tables::{append_line_of, tables_of};
+use crate::tables::{append_lines, tables_of};
 use hdt_triples::{Matches, Pattern};
 use hdt_wire::Counted;
-use std::alloc::Global;
+use std::alloc::{AllocError, Global};
 use std::io::Write;
 
 /// The text of triples, each string of which is looked up: for few of them.
@@ -35,6 +35,28 @@ fn matches_text(alloc: Global, layout: &Layout<'_>, found: Matches<'_>) -> Resul
     Ok(text)
 }
 
+/// How many triples' lines are made at a time.
+const BLOCK: usize = 64;
+
+/// Takes the next triples into `block`, of which nothing else is left: true; or false where none are left.
+fn take_block(
+    matches: &mut Matches<'_>,
+    block: &mut Vec<(u64, u64, u64)>,
+) -> Result<bool, AllocError>
+    ensures taken { OnOk result (left_of matches.old ≡ block.new.items ++ left_of matches.new) }
+    ensures some { IfOk result (λ some. some ≡ true → 0 < length block.new.items) }
+    ensures ended { IfOk result (λ some. some ≡ false → left_of matches.old ≡ []) }
+{
+    block.clear();
+    'triples: while block.len() < BLOCK {
+        let Some(triple) = matches.next() else {
+            return Ok(!block.is_empty());
+        };
+        block.push(triple)?;
+    }
+    Ok(true)
+}
+
 /// The same by tables in which all strings of the graph were spelled once: for many triples.
 fn tabled_text(alloc: Global, layout: &Layout<'_>, found: Matches<'_>) -> Result<Vec<u8>, DumpFault>
     ensures ok { IfOk result (λ text. IsTextOf (denoted (layout_seen layout.now) (left_of found.entry)) text.items) }
@@ -42,9 +64,10 @@ fn tabled_text(alloc: Global, layout: &Layout<'_>, found: Matches<'_>) -> Result
 {
     let tables = tables_of(alloc, layout)?;
     let mut matches = found;
+    let mut block = Vec::new(alloc);
     let mut text = Vec::new(alloc);
-    'triples: while let Some(triple) = matches.next() {
-        append_line_of(&tables, triple, &mut text)?;
+    'runs: while take_block(&mut matches, &mut block)? {
+        append_lines(&tables, &block, &mut text)?;
     }
     Ok(text)
 }

@@ -1,4 +1,3 @@
-use Rattle.std.proofs.Common.{◌∙◌, sym}
 use Rattle.hdt_file.proofs.graph.Graph.find.Goals as goal
 
 pub returns-in-Some-clause-none : goal.returns-in-Some-clause-none

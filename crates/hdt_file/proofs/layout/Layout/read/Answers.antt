@@ -6,7 +6,7 @@ use Rattle.hdt_file.specs.Faults.{fault_of}
 use Rattle.hdt_file.specs.File.{GraphParts, IsLayout, graph_in}
 use Rattle.hdt_file.specs.FileLaws.{layout_exact}
 use Rattle.hdt_file.specs.LayoutView.{layout_seen}
-use Rattle.hdt_file.specs.Parts.{Parts, graph_from, parts_in}
+use Rattle.hdt_file.specs.Parts.{Parts, parts_in}
 use Rattle.hdt_file.specs.PartsLaws.{rows_are, graph_is}
 use Rattle.hdt_file.specs.PartsViews.{layout_parts}
 use Rattle.hdt_file.proofs.Parts.{seen_gives}

@@ -1,4 +1,4 @@
-use Rattle.std.proofs.Common.{◌≡◌, ◌≤◌, ℕ, length, ap, arith, subst, sym}
+use Rattle.std.proofs.Common.{ap, arith}
 use Rattle.hdt_wire.specs.declared.role.Role.TheVariants.{Subject, Predicate, Object}
 use Rattle.hdt_triples.specs.Counting.{Counts}
 use Rattle.hdt_file.proofs.layout.Layout.read_rows.Goals as goal
