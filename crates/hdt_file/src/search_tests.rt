@@ -128,7 +128,7 @@ fn layouts_look_up_alike(rt: HostRuntime) -> Result<(), Fail> {
             assert_eq!(rt; graph.number_of(role, &string, &mut Steps::new()), Some(n));
         }
         assert_eq!(rt; strings.next()?, None);
-        let past = layout.count(role) + 1;
+        let past = layout.count(role).saturating_add(1);
         assert!(rt; !layout.string_of(role, past, &mut string, &mut Steps::new())?);
         assert_eq!(rt; layout.number_of(role, b"u:z", &mut Steps::new()), None);
     }
