@@ -106,10 +106,10 @@ pub fn graph_text(
     ensures ok { IfOk result (λ text. IsTextOf (denoted (graph_seen graph.now) (chosen (graph_seen graph.now) pattern)) text.items) }
     ensures err { IfErr result (TellsFirstIn (graph_seen graph.now) (chosen (graph_seen graph.now) pattern)) }
 {
-    match pattern {
-        Some(pattern) => found_text(alloc, &graph.layout(), pattern, graph.search(pattern)),
-        None => Ok(Vec::new(alloc)),
-    }
+    let Some(pattern) = pattern else {
+        return Ok(Vec::new(alloc));
+    };
+    found_text(alloc, &graph.layout(), pattern, graph.search(pattern))
 }
 
 /// The same of a layout, all of whose triples are walked over: [`graph_text`] says what is answered.
