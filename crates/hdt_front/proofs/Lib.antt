@@ -2,6 +2,7 @@ pub mod Order
 pub mod Rows
 pub mod Halving
 pub mod AgreeLaws
+pub mod Between
 pub mod Ascent
 pub mod Lies
 pub mod Strings

@@ -115,6 +115,25 @@ pub fn common_prefix(a: &[u8], b: &[u8]) -> usize
     least - LANES + lanes_agree(a, b, least - LANES)
 }
 
+/// How far two strings agree that agree so far at least. Where little of the shorter one is left, one load at its end tells.
+#[inline(always)]
+#[tactic(auto, using(crate::proofs::Loads::agreed_least))]
+fn common_from(a: &[u8], b: &[u8], from: usize) -> usize
+    requires so_far { from ≤ common_prefix_len nat_eq a.now b.now }
+    ensures greatest { result ≡ common_prefix_len nat_eq a.now b.now }
+    ensures within { (result ≤ length a.now) × (result ≤ length b.now) }
+{
+    let least = a.len().min(b.len());
+    if least >= HALF && least - HALF <= from {
+        return least - HALF + half_agrees(a, b, least - HALF);
+    }
+    if least >= LANES && least - LANES <= from {
+        let at = least - LANES;
+        return at + lanes_agree(a, b, at);
+    }
+    common_prefix(a, b)
+}
+
 /// How a string lies to another one, and how far they agree: the first bytes that differ decide, else the lengths.
 #[tactic(auto, using(crate::proofs::AgreeLaws::bytes_decide, crate::proofs::AgreeLaws::lengths_decide))]
 pub(crate) fn compared(a: &[u8], b: &[u8]) -> (Ordering, usize)
@@ -137,14 +156,15 @@ fn byte_or_zero(x: &[u8], at: usize) -> u8
     if at < x.len() { x[at] } else { 0 }
 }
 
-/// How the text up to the first zero byte lies to a string without zero bytes, and how far they agree. Its end isn't
-/// sought: the zero byte there differs.
-pub(crate) fn compared_stored(stored: &[u8], x: &[u8]) -> (Ordering, usize)
+/// How the text up to the first zero byte lies to a string without zero bytes, and how far they agree, which is so far
+/// at least. Its end isn't sought: the zero byte there differs.
+pub(crate) fn compared_stored(stored: &[u8], x: &[u8], from: usize) -> (Ordering, usize)
     requires ends { zero_in stored.now < length stored.now }
     requires sought { zero_in x.now ≡ length x.now }
+    requires so_far { from ≤ agreed (take (zero_in stored.now) stored.now) x.now }
     ensures order { result.0 ≡ order (take (zero_in stored.now) stored.now) x.now }
     ensures same { result.1 ≡ agreed (take (zero_in stored.now) stored.now) x.now }
 {
-    let same = common_prefix(stored, x);
+    let same = common_from(stored, x, from);
     (stored[same].cmp(&byte_or_zero(x, same)), same)
 }

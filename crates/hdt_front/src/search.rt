@@ -47,10 +47,18 @@ impl<'a> Section<'a> {
     ghost use Rattle.hdt_front.specs.Numbering.{place};
     ghost use Rattle.hdt_front.specs.Halving.{digits};
 
-    /// A look at the head of a block: how it lies to the sought string, how far they agree, and the bytes from it on.
-    fn look_at_head(&self, block: u64, x: &[u8], steps: &mut Steps) -> (Ordering, usize, &'a [u8])
+    /// A look at the head of a block, which agrees with the sought string so far at least: how it lies to that, how far
+    /// they agree, and the bytes from it on.
+    fn look_at_head(
+        &self,
+        block: u64,
+        x: &[u8],
+        from: usize,
+        steps: &mut Steps,
+    ) -> (Ordering, usize, &'a [u8])
         requires block { block < blocks_of self.now }
         requires sought { zero_in x.now ≡ length x.now }
+        requires so_far { from ≤ agreed (get_or (strings_of self.now) (block * self.now.packed.block) []) x.now }
         ensures order { result.0 ≡ order (get_or (strings_of self.now) (block * self.now.packed.block) []) x.now }
         ensures same { result.1 ≡ agreed (get_or (strings_of self.now) (block * self.now.packed.block) []) x.now }
         ensures ends { zero_in result.2.now < length result.2.now }
@@ -59,11 +67,12 @@ impl<'a> Section<'a> {
     {
         steps.tick();
         let head = self.from_head(block);
-        let (order, same) = compared_stored(head, x);
+        let (order, same) = compared_stored(head, x, from);
         (order, same, head)
     }
 
-    /// The last block whose head isn't greater than the sought string, by halving.
+    /// The last block whose head isn't greater than the sought string, by halving. The heads between two agree with it
+    /// as far as both of these do.
     #[tactic(auto, using(crate::proofs::Halving::digits_less))]
     fn block_of(&self, x: &[u8], steps: &mut Steps) -> Landed<'a>
         requires some { 0 < blocks_of self.now }
@@ -75,10 +84,12 @@ impl<'a> Section<'a> {
         let mut low = 0;
         let mut high = self.blocks();
         let mut same = 0;
+        let mut above = 0;
         let mut last = self.packed.bytes;
         while low < high {
             let middle = low + (high - low) / 2;
-            let (order, agreed, head) = self.look_at_head(middle, x, steps);
+            let from = same.min(above);
+            let (order, agreed, head) = self.look_at_head(middle, x, from, steps);
             match order {
                 Ordering::Equal => return Landed::Head(middle),
                 Ordering::Less => {
@@ -86,7 +97,10 @@ impl<'a> Section<'a> {
                     same = agreed;
                     last = head;
                 }
-                Ordering::Greater => high = middle,
+                Ordering::Greater => {
+                    high = middle;
+                    above = agreed;
+                }
             }
         }
         if low == 0 {

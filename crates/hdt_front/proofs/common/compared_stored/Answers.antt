@@ -3,20 +3,25 @@ use Rattle.std.specs.Ordering.{nat_cmp}
 use Rattle.hdt_front.proofs.AgreeLaws.{stored_lies}
 use Rattle.hdt_front.proofs.common.compared_stored.Goals as goal
 
+pub common_from-same-requires : goal.common_from-same-requires
+common_from-same-requires c =
+    let lies = stored_lies c.args.stored.now c.args.x.now c.requires.ends c.requires.sought in
+    omega (arith, lies.same, c.requires.so_far)
+
 pub bounds-stored-same : goal.bounds-stored-same
 bounds-stored-same c =
     let lies = stored_lies c.args.stored.now c.args.x.now c.requires.ends c.requires.sought in
-    omega (arith, lies.inside, c.common_prefix-same.ensures.greatest, c.requires.ends)
+    omega (arith, lies.inside, c.common_from-same.ensures.greatest, c.requires.ends)
 
 pub returns-clause-order : goal.returns-clause-order
 returns-clause-order c =
     let lies = stored_lies c.args.stored.now c.args.x.now c.requires.ends c.requires.sought in
     let stored = c.args.stored.now in
-    let same = c.common_prefix-same.ensures.greatest in
-    c.cmp.ensures ∙ ap (λ (b : ℕ). nat_cmp (get_or stored c.common_prefix-same.result 0) b) c.byte_or_zero.ensures
+    let same = c.common_from-same.ensures.greatest in
+    c.cmp.ensures ∙ ap (λ (b : ℕ). nat_cmp (get_or stored c.common_from-same.result 0) b) c.byte_or_zero.ensures
     ∙ ap (λ (k : ℕ). nat_cmp (get_or stored k 0) (get_or c.args.x.now k 0)) same ∙ sym lies.order
 
 pub returns-clause-same : goal.returns-clause-same
 returns-clause-same c =
     let lies = stored_lies c.args.stored.now c.args.x.now c.requires.ends c.requires.sought in
-    c.common_prefix-same.ensures.greatest ∙ lies.same
+    c.common_from-same.ensures.greatest ∙ lies.same

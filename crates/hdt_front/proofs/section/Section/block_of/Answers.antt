@@ -1,6 +1,14 @@
-use Rattle.std.proofs.Common.{arith, ◌-◌}
+use Rattle.std.proofs.Common.{arith, ◌+◌, ◌-◌, ◌/◌}
+use Rattle.hdt_front.proofs.Between.{heads_between, least}
 use Rattle.hdt_front.proofs.Halving.{digits_less}
 use Rattle.hdt_front.proofs.section.Section.block_of.Goals as goal
+
+pub look_at_head-order-requires-clause-so_far : goal.look_at_head-order-requires-clause-so_far
+look_at_head-order-requires-clause-so_far c =
+    let l = c.loop-low in
+    let v = l.invariant in
+    let far = heads_between c.args.self.now c.args.x.now l.low (l.low + (l.high - l.low) / 2) l.high l.same l.above (omega arith) (omega (arith, c.loop-low-test)) v.inside v.some_low v.less v.some_high v.above in
+    omega (arith, c.min-from.ensures, least l.same l.above, far)
 
 pub returns-in-Equal-clause-cost : goal.returns-in-Equal-clause-cost
 returns-in-Equal-clause-cost c =
