@@ -2,7 +2,7 @@
 ghost use Rattle.std.specs.Prelude.{◌≡◌, ◌≤◌, ◌+◌, ◌^◌, ◌<◌, ◌∷◌, length, false, ◌++◌, encode_utf8, IfSome, IfOk, IfErr, OnOk, OnErr};
 ghost use Rattle.std.specs.Prelude.{ℕ, true, slice_index};
 ghost use Rattle.hdt_terms.specs.Chars.{echar};
-ghost use Rattle.hdt_terms.specs.Spelling.{is_raw};
+ghost use Rattle.hdt_terms.specs.Spelling.{close, is_raw};
 ghost use Rattle.hdt_terms.specs.Reading.{Gives, escaped, uchar, echar_at, iri_item, string_item, item, skip_of, inside, with_front};
 ghost use Rattle.hdt_terms.specs.Appending.{Appends, itself};
 ghost use Rattle.hdt_terms.specs.Writing.{Extends};
@@ -134,6 +134,16 @@ fn next_item(token: Token, first: u8, rest: &[u8]) -> Result<Item, ReadError>
     }
 }
 
+/// The byte that ends the token.
+pub fn close(token: Token) -> u8
+    ensures { result ≡ close token }
+{
+    match token {
+        Token::Iri => b'>',
+        Token::Quoted => b'"',
+    }
+}
+
 /// Whether a byte stands in a token as it is.
 pub fn is_raw(token: Token, byte: u8) -> bool
     ensures { result ≡ is_raw token byte }
@@ -178,13 +188,14 @@ fn append_char(c: char, out: &mut Vec<u8>) -> Result<(), AllocError>
     out.extend_from_slice(c.encode_utf8(&mut buffer).as_bytes())
 }
 
-/// Appends what stands inside a token, its escapes resolved, and answers the bytes after its end.
-#[inline(always)]
-pub fn inside<'a>(token: Token, bytes: &'a [u8], out: &mut Vec<u8>) -> Result<&'a [u8], ReadError>
+/// Appends what stands inside a token, its escapes resolved, and answers the bytes after its end: item by item, for
+/// tokens with escapes, which few have.
+#[inline(never)]
+fn inside_by_items<'a>(token: Token, bytes: &'a [u8], out: &mut Vec<u8>) -> Result<&'a [u8], ReadError>
     ensures reads { Appends itself out.old.items out.new.items (λ rest. rest.now) result (inside token 0 bytes.now) }
     ensures kept { Extends out.old.items out.new.items }
 {
-    let mut rest = append_plain(token, bytes, out)?;
+    let mut rest = bytes;
     'items: while let Some((first, tail)) = rest.split_first() {
         match next_item(token, *first, tail)? {
             Item::End => return Ok(tail),
@@ -201,11 +212,36 @@ pub fn inside<'a>(token: Token, bytes: &'a [u8], out: &mut Vec<u8>) -> Result<&'
     refuse(LineReason::Syntax, 0)
 }
 
-/// What stands inside a token, its escapes resolved, and the bytes after its end.
+/// The same, at once where the end stands here.
+#[inline(always)]
+fn inside_at_end<'a>(token: Token, bytes: &'a [u8], out: &mut Vec<u8>) -> Result<&'a [u8], ReadError>
+    ensures reads { Appends itself out.old.items out.new.items (λ rest. rest.now) result (inside token 0 bytes.now) }
+    ensures kept { Extends out.old.items out.new.items }
+{
+    match bytes.split_first() {
+        Some((first, tail)) if *first == close(token) => Ok(tail),
+        _ => inside_by_items(token, bytes, out),
+    }
+}
+
+/// Appends what stands inside a token, its escapes resolved, and answers the bytes after its end.
+#[inline(always)]
+pub fn inside<'a>(token: Token, bytes: &'a [u8], out: &mut Vec<u8>) -> Result<&'a [u8], ReadError>
+    ensures reads { Appends itself out.old.items out.new.items (λ rest. rest.now) result (inside token 0 bytes.now) }
+    ensures kept { Extends out.old.items out.new.items }
+{
+    let rest = append_plain(token, bytes, out)?;
+    inside_at_end(token, rest, out)
+}
+
+/// What stands inside a token, its escapes resolved, and the bytes after its end. Without escapes it takes no more
+/// memory than its bytes.
+#[inline(always)]
 pub fn read_inside(alloc: Global, token: Token, bytes: &[u8]) -> Result<(Vec<u8>, &[u8]), ReadError>
     ensures { Gives (λ x. (x.0.items, x.1.now)) result (inside token 0 bytes.now) }
 {
-    let mut value = Vec::new(alloc);
-    let rest = inside(token, bytes, &mut value)?;
+    let (plain, rest) = bytes.split_at(plain_len(token, bytes));
+    let mut value = Vec::from_slice(alloc, plain)?;
+    let rest = inside_at_end(token, rest, &mut value)?;
     Ok((value, rest))
 }
