@@ -44,3 +44,4 @@ pub mod Running
 pub mod LineAgain
 pub mod LineLaws
 pub mod WrittenLines
+pub mod Swizzles

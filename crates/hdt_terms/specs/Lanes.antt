@@ -1,5 +1,5 @@
 -- Runs of bytes that pass a test, by places.
-use Rattle.std.specs.Prelude.{◌≡◌, ℕ, ◌+◌, ◌<◌, ◌≤◌, Bool, true, false, not, ◌&&◌, ◌==◌, if◌then◌else◌, List, slice_index}
+use Rattle.std.specs.Prelude.{◌≡◌, ℕ, ◌+◌, ◌/◌, ◌<◌, ◌≤◌, Bool, true, false, not, ◌&&◌, ◌==◌, if◌then◌else◌, List, [], ◌∷◌, slice_index, bit_and}
 use Rattle.std.specs.Char.{is_ascii}
 use Rattle.std.specs.Int.{w64, trailing_zeros}
 use Rattle.hdt_terms.specs.declared.lanes.Class.{Class}
@@ -27,3 +27,11 @@ pub record IsRun (test : ℕ → Bool) (bytes : List ℕ) (at n run : ℕ) : Typ
 -- the place of the lowest bit that is set, or n
 abbrev pub first_set : ℕ → ℕ → ℕ
 first_set mask n = if mask == 0 then n else trailing_zeros w64 mask
+
+-- which characters an IRI excludes that have the low four bits of this byte, a bit for each value of the high four, and the bit of
+-- this byte's: none beyond ASCII
+abbrev pub excluded_by_low : ℕ → ℕ
+excluded_by_low x = slice_index (71 ∷ 3 ∷ 7 ∷ 3 ∷ 3 ∷ 3 ∷ 3 ∷ 3 ∷ 3 ∷ 3 ∷ 3 ∷ 131 ∷ 171 ∷ 131 ∷ 43 ∷ 3 ∷ []) (bit_and x 15)
+
+abbrev pub bit_by_high : ℕ → ℕ
+bit_by_high x = slice_index (1 ∷ 2 ∷ 4 ∷ 8 ∷ 16 ∷ 32 ∷ 64 ∷ 128 ∷ 0 ∷ 0 ∷ 0 ∷ 0 ∷ 0 ∷ 0 ∷ 0 ∷ 0 ∷ []) (x / 16)

@@ -1,9 +1,9 @@
 //! How many bytes from the first on are of one class, 16 at a time.
-ghost use Rattle.std.specs.Prelude.{◌≡◌, ◌+◌, ◌<◌, ◌≤◌, false, length, slice_index};
+ghost use Rattle.std.specs.Prelude.{◌≡◌, ◌+◌, ◌<◌, ◌≤◌, false, length, map, slice_index};
 ghost use Rattle.hdt_terms.specs.declared.pieces.Token.TheVariants.{Iri, Quoted};
 ghost use Rattle.hdt_terms.specs.declared.lanes.Class.TheVariants.{Inside, Ascii, AsciiText, Text};
 ghost use Rattle.hdt_terms.specs.Chars.{is_end};
-ghost use Rattle.hdt_terms.specs.Lanes.{IsRun, PassBetween, first_set, passes};
+ghost use Rattle.hdt_terms.specs.Lanes.{IsRun, PassBetween, bit_by_high, excluded_by_low, first_set, passes};
 
 use crate::chars::is_end;
 use crate::pieces::{Token, is_raw};
@@ -37,21 +37,39 @@ fn first_set(mask: u64) -> usize
     }
 }
 
-/// How many bytes from here on an IRI may hold as they are: `<` and `>` differ in one bit, as `\` and `^` do.
+/// Which characters an IRI excludes, at the low four bits of their codes: a bit for each value of the high four.
+const EXCLUDED: [u8; 16] = [
+    0x47, 3, 7, 3, 3, 3, 3, 3, 3, 3, 3, 0x83, 0xAB, 0x83, 0x2B, 3,
+];
+
+/// The bit for each value of the high four bits. No byte beyond ASCII is excluded.
+const ROWS: [u8; 16] = [1, 2, 4, 8, 16, 32, 64, 128, 0, 0, 0, 0, 0, 0, 0, 0];
+
+/// The first table at each lane.
+#[inline(always)]
+fn excluded_by_low(v: u8x16) -> u8x16
+    ensures { result ≡ map excluded_by_low v }
+{
+    u8x16::from_array(EXCLUDED).swizzle_dyn(v & u8x16::splat(15))
+}
+
+/// The second table at each lane.
+#[inline(always)]
+fn bit_by_high(v: u8x16) -> u8x16
+    ensures { result ≡ map bit_by_high v }
+{
+    u8x16::from_array(ROWS).swizzle_dyn(v >> u8x16::splat(4))
+}
+
+/// How many bytes from here on an IRI may hold as they are, by two tables of 16.
 #[inline(always)]
 fn iri_run(bytes: &[u8], at: usize) -> usize
     requires { at + LANES ≤ length bytes.now }
     ensures { IsRun (passes (Inside Iri)) bytes.now at LANES result }
 {
     let v = u8x16::from_slice(&bytes[at..]);
-    let paired = v & u8x16::splat(0xFD);
-    let stops = v.simd_lt(u8x16::splat(b'!'))
-        | paired.simd_eq(u8x16::splat(b'<'))
-        | paired.simd_eq(u8x16::splat(b'\\'))
-        | (v - u8x16::splat(b'{')).simd_lt(u8x16::splat(3))
-        | v.simd_eq(u8x16::splat(b'"'))
-        | v.simd_eq(u8x16::splat(b'`'));
-    first_set(stops.to_bitmask())
+    let excluded = excluded_by_low(v) & bit_by_high(v);
+    first_set(excluded.simd_ne(u8x16::splat(0)).to_bitmask())
 }
 
 /// How many bytes from here on a string may hold as they are.

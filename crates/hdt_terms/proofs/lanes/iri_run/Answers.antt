@@ -1,5 +1,5 @@
 use Rattle.std.proofs.Common.{ℕ, refl, arith}
-use Rattle.std.proofs.lemmas.Simd.{zip2_splat, zip2_of_maps, splat_is_map, length-chunk}
+use Rattle.std.proofs.lemmas.Simd.{zip2_of_maps, splat_is_map, length-chunk}
 use lib.Lanes.{chunk}
 use Rattle.hdt_terms.specs.declared.pieces.Token.TheVariants.{Iri}
 use Rattle.hdt_terms.specs.declared.lanes.Class.TheVariants.{Inside}
@@ -11,12 +11,5 @@ pub returns : goal.returns
 returns c =
     let v = chunk c.args.at 16 c.args.bytes.now in
     let long = length-chunk c.args.at 16 c.args.bytes.now c.requires in
-    let paired = zip2_splat {Y = ℕ} _ v 16 _ long in
     run_of (passes (Inside Iri)) c.args.bytes.now c.args.at 16 _ _ c.requires (omega arith) c.type_inv.bytes c.first_set.ensures _
-    (zip2_of_maps _ _ _ v (zip2_of_maps _ _ _ v (zip2_of_maps _ _ _ v (zip2_of_maps _ _ _ v (zip2_of_maps _ _ _ v
-    (zip2_splat _ v 16 _ long)
-    (zip2_of_maps _ _ _ v paired (splat_is_map v 16 _ long)))
-    (zip2_of_maps _ _ _ v paired (splat_is_map v 16 _ long)))
-    (zip2_of_maps _ _ _ v (zip2_splat {Y = ℕ} _ v 16 _ long) (splat_is_map v 16 _ long)))
-    (zip2_splat _ v 16 _ long))
-    (zip2_splat _ v 16 _ long)) refl
+    (zip2_of_maps _ _ _ v (zip2_of_maps _ _ _ v c.excluded_by_low.ensures c.bit_by_high.ensures) (splat_is_map v 16 _ long)) refl
