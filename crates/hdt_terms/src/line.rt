@@ -68,7 +68,6 @@ fn read_end(bytes: &[u8]) -> Result<(), ReadError>
 }
 
 /// The term of the role that begins here, and the bytes after it.
-#[inline(never)]
 #[tactic(auto, unfolding(crate::specs::LineReading::role_here))]
 fn read_here(alloc: Global, role: Role, bytes: &[u8]) -> Result<(Term, &[u8]), ReadError>
     requires { IsUtf8 bytes.now }

@@ -20,7 +20,6 @@ use crate::text::Text;
 use std::alloc::Global;
 
 /// The term that begins here, and the bytes after it.
-#[inline(always)]
 #[tactic(auto, unfolding(crate::specs::Reading::term_at))]
 pub fn read_term(alloc: Global, bytes: &[u8]) -> Result<(Term, &[u8]), ReadError>
     requires { IsUtf8 bytes.now }

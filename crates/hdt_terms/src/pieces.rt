@@ -191,7 +191,11 @@ fn append_char(c: char, out: &mut Vec<u8>) -> Result<(), AllocError>
 /// Appends what stands inside a token, its escapes resolved, and answers the bytes after its end: item by item, for
 /// tokens with escapes, which few have.
 #[inline(never)]
-fn inside_by_items<'a>(token: Token, bytes: &'a [u8], out: &mut Vec<u8>) -> Result<&'a [u8], ReadError>
+fn inside_by_items<'a>(
+    token: Token,
+    bytes: &'a [u8],
+    out: &mut Vec<u8>,
+) -> Result<&'a [u8], ReadError>
     ensures reads { Appends itself out.old.items out.new.items (λ rest. rest.now) result (inside token 0 bytes.now) }
     ensures kept { Extends out.old.items out.new.items }
 {
@@ -214,7 +218,11 @@ fn inside_by_items<'a>(token: Token, bytes: &'a [u8], out: &mut Vec<u8>) -> Resu
 
 /// The same, at once where the end stands here.
 #[inline(always)]
-fn inside_at_end<'a>(token: Token, bytes: &'a [u8], out: &mut Vec<u8>) -> Result<&'a [u8], ReadError>
+fn inside_at_end<'a>(
+    token: Token,
+    bytes: &'a [u8],
+    out: &mut Vec<u8>,
+) -> Result<&'a [u8], ReadError>
     ensures reads { Appends itself out.old.items out.new.items (λ rest. rest.now) result (inside token 0 bytes.now) }
     ensures kept { Extends out.old.items out.new.items }
 {
