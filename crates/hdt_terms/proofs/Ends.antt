@@ -5,7 +5,8 @@ use Rattle.std.proofs.lemmas.List.Elements.{All-append, All-from_get_or}
 use Rattle.std.proofs.KnownBytes.{Consumes-trans}
 use Rattle.std.proofs.Math.Seq.{take-add}
 use Rattle.std.proofs.lemmas.Bool.{not-true, not-false}
-use Rattle.hdt_terms.specs.declared.lanes.Class.TheVariants.{Text}
+use Rattle.hdt_terms.proofs.Bools.{and_first}
+use Rattle.hdt_terms.specs.declared.lanes.Class.TheVariants.{Text, AsciiLine}
 use Rattle.hdt_terms.specs.Chars.{is_end}
 use Rattle.hdt_terms.specs.Lanes.{PassBetween, passes}
 use Rattle.hdt_terms.specs.Lines.{NoEnd}
@@ -44,6 +45,15 @@ module _ (bytes rest : List ℕ) (from n : ℕ) (le : from ≤ length bytes) (no
 
   pub no_end_found : length bytes ≤ from + n → NoEnd bytes
   no_end_found le' = subst NoEnd (take_all (from + n) bytes le') front_no_end
+
+-- ---- ASCII that ends no line
+
+module _ (bytes : List ℕ) (n : ℕ) (within : n ≤ length bytes) (run : PassBetween (passes AsciiLine) bytes 0 n) where
+  pub ascii_no_end : NoEnd (take n bytes)
+  ascii_no_end =
+      All-from_get_or (λ c. is_end c ≡ false) (take n bytes) 0
+      (λ i l. let below : i < n = omega (arith, length-take-le n bytes within) in
+      rw get_or-take (not-true _ (and_first _ _ (run i (omega arith) below))))
 
 pub found_front : (bytes : List ℕ) (n : ℕ) (after : Option (List ℕ)) → FoundEnd bytes (Some n) → LineFront n bytes after
 found_front bytes n after f = record { no_end = f.2; end = inl (f.0, f.1) }

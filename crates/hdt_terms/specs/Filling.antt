@@ -47,3 +47,8 @@ Filled (Err Read) old new before after most = Grew old new before after × NoEnd
 Filled (Err OutOfMemory) old new before after most = Grew old new before after × (length new ≤ most)
 Filled (Err TooLong) old new before after most = GrewPast old new before after × NoEnd new × (length new ≡ most)
 Filled (Err other) old new before after most = ⊥
+
+-- how many bytes the text of a line has, where with it stands whether it is known as UTF-8
+abbrev pub text_len : Result (ℕ × Bool) LineReason → Result ℕ LineReason
+text_len (Ok x) = Ok x.0
+text_len (Err reason) = Err reason

@@ -3,16 +3,16 @@ use Rattle.std.specs.Prelude.{◌≡◌, ℕ, ◌+◌, ◌/◌, ◌<◌, ◌≤�
 use Rattle.std.specs.Char.{is_ascii}
 use Rattle.std.specs.Int.{w64, trailing_zeros}
 use Rattle.hdt_terms.specs.declared.lanes.Class.{Class}
-use Rattle.hdt_terms.specs.declared.lanes.Class.TheVariants.{Inside, Ascii, AsciiText, Text}
+use Rattle.hdt_terms.specs.declared.lanes.Class.TheVariants.{Inside, AsciiText, Text, AsciiLine}
 use Rattle.hdt_terms.specs.Chars.{is_end}
 use Rattle.hdt_terms.specs.Spelling.{is_raw}
 
 -- whether a byte is of the class
 abbrev pub passes : Class → ℕ → Bool
 passes (Inside token) c = is_raw token c
-passes Ascii c = is_ascii c
 passes AsciiText c = not (c == 0) && is_ascii c
 passes Text c = not (is_end c)
+passes AsciiLine c = not (is_end c) && is_ascii c
 
 -- the bytes from at up to end pass the test
 abbrev pub PassBetween : (ℕ → Bool) → List ℕ → ℕ → ℕ → Type 0

@@ -7,11 +7,11 @@ ghost use Rattle.hdt_terms.specs.Table.{not_utf8_at};
 use crate::fault::{LineReason, TermFault};
 use crate::lanes::{Class, run_len};
 
-/// Whether each byte is ASCII, as in most texts.
+/// Whether each byte is ASCII but U+0000, as in most texts.
 fn is_ascii(bytes: &[u8]) -> bool
     ensures { IsTrue result → IsAscii bytes.now }
 {
-    run_len(Class::Ascii, bytes) == bytes.len()
+    run_len(Class::AsciiText, bytes) == bytes.len()
 }
 
 /// Refuses a text with other characters, which few have, as [`check_utf8`] does.

@@ -1,11 +1,12 @@
 //! Reading until a line is held.
-ghost use Rattle.std.specs.Prelude.{◌≡◌, ◌≢◌, IfErr, ◌+◌, ◌≤◌, take, length, OnOk, IsErrOf};
+ghost use Rattle.std.specs.Prelude.{◌≡◌, ◌≢◌, IfOk, IfErr, ◌+◌, ◌≤◌, true, take, length, Some, OnOk, IsErrOf, IsUtf8};
 ghost use Rattle.hdt_wire.specs.Counted.{inner, failures};
-ghost use Rattle.hdt_terms.specs.Filling.{FoundEnd, ReadMore, Filled};
+ghost use Rattle.hdt_terms.specs.Filling.{FoundEnd, ReadMore, Filled, text_len};
 ghost use Rattle.hdt_terms.specs.Lines.{NoEnd};
 ghost use Rattle.hdt_terms.specs.declared.fault.LineReason.TheVariants.{Read};
 
 use crate::buffer::Buffer;
+use crate::chars::is_end;
 use crate::fault::LineReason;
 use crate::lanes::{Class, run_len};
 use hdt_wire::{Counted, Failed};
@@ -79,20 +80,40 @@ fn fill<R: Read>(
     }
 }
 
-/// How many bytes the text of the first line has, which is held or read.
+/// How many bytes at the front are ASCII and end no line, and whether a line end follows them.
+#[inline(always)]
+fn ascii_front(bytes: &[u8]) -> (usize, bool)
+    ensures within { result.0 ≤ length bytes.now }
+    ensures none { NoEnd (take result.0 bytes.now) }
+    ensures utf8 { IsUtf8 (take result.0 bytes.now) }
+    ensures end { result.1 ≡ true → FoundEnd bytes.now (Some result.0) }
+{
+    let n = run_len(Class::AsciiLine, bytes);
+    (n, n < bytes.len() && is_end(bytes[n]))
+}
+
+/// How many bytes the text of the first line has, which is held or read, and whether it was seen that they are UTF-8.
 pub fn first_line<R: Read>(
     held: &mut Buffer,
     most: usize,
     input: &mut Counted<R>,
-) -> Result<usize, LineReason>
+) -> Result<(usize, bool), LineReason>
     requires room { length held.old ≤ most }
-    ensures does { Filled result held.old held.new (R.remaining (inner input.old)) (R.remaining (inner input.new)) most }
+    ensures does { Filled (text_len result) held.old held.new (R.remaining (inner input.old)) (R.remaining (inner input.new)) most }
+    ensures utf8 { IfOk result (λ x. x.1 ≡ true → IsUtf8 (take x.0 held.new)) }
     ensures count { OnOk result (failures input.new ≡ failures input.old) }
     ensures failed { IsErrOf result Read → failures input.new ≡ failures input.old + 1 }
     ensures still { IfErr result (λ reason. reason ≢ Read → failures input.new ≡ failures input.old) }
 {
-    if let Some(place) = line_end(held.as_slice(), 0) {
-        return Ok(place);
+    let (n, ended) = ascii_front(held.as_slice());
+    if ended {
+        return Ok((n, true));
     }
-    fill(held, most, input)
+    if let Some(place) = line_end(held.as_slice(), n) {
+        return Ok((place, false));
+    }
+    match fill(held, most, input) {
+        Ok(n) => Ok((n, false)),
+        Err(reason) => Err(reason),
+    }
 }

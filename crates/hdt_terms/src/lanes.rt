@@ -1,7 +1,7 @@
 //! How many bytes from the first on are of one class, 16 at a time.
 ghost use Rattle.std.specs.Prelude.{◌≡◌, ◌+◌, ◌<◌, ◌≤◌, false, length, map, slice_index};
 ghost use Rattle.hdt_terms.specs.declared.pieces.Token.TheVariants.{Iri, Quoted};
-ghost use Rattle.hdt_terms.specs.declared.lanes.Class.TheVariants.{Inside, Ascii, AsciiText, Text};
+ghost use Rattle.hdt_terms.specs.declared.lanes.Class.TheVariants.{Inside, AsciiText, Text, AsciiLine};
 ghost use Rattle.hdt_terms.specs.Chars.{is_end};
 ghost use Rattle.hdt_terms.specs.Lanes.{IsRun, PassBetween, bit_by_high, excluded_by_low, first_set, passes};
 
@@ -14,12 +14,12 @@ use std::simd::prelude::*;
 pub enum Class {
     /// Those that stand in the token as they are.
     Inside(Token),
-    /// Those below 128.
-    Ascii,
     /// Those below 128 but 0.
     AsciiText,
     /// Those that end no line.
     Text,
+    /// Those below 128 that end no line.
+    AsciiLine,
 }
 
 /// The bytes of one load.
@@ -87,16 +87,6 @@ fn string_run(bytes: &[u8], at: usize) -> usize
     first_set(stops.to_bitmask())
 }
 
-/// How many bytes from here on are ASCII.
-#[inline(always)]
-fn ascii_run(bytes: &[u8], at: usize) -> usize
-    requires { at + LANES ≤ length bytes.now }
-    ensures { IsRun (passes Ascii) bytes.now at LANES result }
-{
-    let stops = u8x16::from_slice(&bytes[at..]).simd_ge(u8x16::splat(0x80));
-    first_set(stops.to_bitmask())
-}
-
 /// How many bytes from here on are ASCII but U+0000.
 #[inline(always)]
 fn ascii_text_run(bytes: &[u8], at: usize) -> usize
@@ -119,6 +109,19 @@ fn text_run(bytes: &[u8], at: usize) -> usize
     first_set(stops.to_bitmask())
 }
 
+/// How many bytes from here on are ASCII and end no line.
+#[inline(always)]
+fn ascii_line_run(bytes: &[u8], at: usize) -> usize
+    requires { at + LANES ≤ length bytes.now }
+    ensures { IsRun (passes AsciiLine) bytes.now at LANES result }
+{
+    let v = u8x16::from_slice(&bytes[at..]);
+    let stops = v.simd_eq(u8x16::splat(b'\n'))
+        | v.simd_eq(u8x16::splat(b'\r'))
+        | v.simd_ge(u8x16::splat(0x80));
+    first_set(stops.to_bitmask())
+}
+
 /// How many bytes from here on are of the class.
 #[inline(always)]
 fn load_run(class: Class, bytes: &[u8], at: usize) -> usize
@@ -128,9 +131,9 @@ fn load_run(class: Class, bytes: &[u8], at: usize) -> usize
     match class {
         Class::Inside(Token::Iri) => iri_run(bytes, at),
         Class::Inside(Token::Quoted) => string_run(bytes, at),
-        Class::Ascii => ascii_run(bytes, at),
         Class::AsciiText => ascii_text_run(bytes, at),
         Class::Text => text_run(bytes, at),
+        Class::AsciiLine => ascii_line_run(bytes, at),
     }
 }
 
@@ -140,9 +143,9 @@ fn passes(class: Class, byte: u8) -> bool
 {
     match class {
         Class::Inside(token) => is_raw(token, byte),
-        Class::Ascii => byte.is_ascii(),
         Class::AsciiText => byte != 0 && byte.is_ascii(),
         Class::Text => !is_end(byte),
+        Class::AsciiLine => !is_end(byte) && byte.is_ascii(),
     }
 }
 
@@ -152,10 +155,14 @@ fn short_run(class: Class, bytes: &[u8]) -> usize
     ensures run { PassBetween (passes class) bytes.now 0 result }
     ensures longest { result < length bytes.now → passes class (slice_index bytes.now result) ≡ false }
 {
-    bytes
-        .iter()
-        .position(|byte| !passes(class, *byte))
-        .unwrap_or(bytes.len())
+    let mut at = 0;
+    'bytes: while at < bytes.len() {
+        if !passes(class, bytes[at]) {
+            return at;
+        }
+        at += 1;
+    }
+    at
 }
 
 /// How many bytes at the front are of the class: the longest run of them.

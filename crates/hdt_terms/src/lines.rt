@@ -2,7 +2,7 @@
 ghost use Rattle.std.specs.Prelude.{◌≡◌, ◌≢◌, ◌+◌, ◌-◌, ◌==◌, ◌&&◌, if◌then◌else◌, take, slice_index, nat_lt, ◌^◌, ◌<◌, ◌≤◌, true, false, [], length, IfOk, OnOk, OnErr, IfErr, IsErrOf, IsUtf8, None, Some, Ok, Err, IfSome};
 ghost use Rattle.hdt_wire.specs.Counted.{inner, failures};
 ghost use Rattle.hdt_terms.specs.Chars.{is_end};
-ghost use Rattle.hdt_terms.specs.Filling.{Filled};
+ghost use Rattle.hdt_terms.specs.Filling.{Filled, text_len};
 ghost use Rattle.hdt_terms.specs.Lines.{NoEnd};
 ghost use Rattle.hdt_terms.specs.declared.fault.LineReason.TheVariants.{Read};
 
@@ -101,10 +101,12 @@ impl Lines {
         self.ended
     }
 
-    /// Reads until the text of the next line is held, and answers how many bytes it has.
-    fn hold_line<R: Read>(&mut self, input: &mut Counted<R>) -> Result<usize, LineReason>
-        ensures does { Filled result self.old.held self.new.held (R.remaining (inner input.old)) (R.remaining (inner input.new))
+    /// Reads until the text of the next line is held, and answers how many bytes it has, and whether it was seen that they
+    /// are UTF-8.
+    fn hold_line<R: Read>(&mut self, input: &mut Counted<R>) -> Result<(usize, bool), LineReason>
+        ensures does { Filled (text_len result) self.old.held self.new.held (R.remaining (inner input.old)) (R.remaining (inner input.new))
             (self.old.limit - self.old.taken) }
+        ensures utf8 { IfOk result (λ x. x.1 ≡ true → IsUtf8 (take x.0 self.new.held)) }
         ensures others { self.new ≡ record self.old { held = self.new.held } }
         ensures within { self.old.taken + length self.new.held ≤ self.old.limit }
         ensures room { self.old.taken ≤ self.old.limit }
@@ -134,13 +136,17 @@ impl Lines {
         self.failed = Some(fault);
     }
 
-    /// Whether the line of n bytes at the front is bare; refuses one that is not UTF-8.
-    fn look(&self, n: usize) -> Result<bool, LineFault>
+    /// Whether the line of n bytes at the front is bare; refuses one that is not UTF-8, which may be seen already.
+    fn look(&self, n: usize, is_text: bool) -> Result<bool, LineFault>
         requires within { n ≤ length self.now.held }
+        requires utf8 { is_text ≡ true → IsUtf8 (take n self.now.held) }
         requires text { NoEnd (take n self.now.held) }
         ensures { Looked result self.now (take n self.now.held) }
     {
         let text = &self.held.as_slice()[..n];
+        if is_text {
+            return Ok(is_bare(text));
+        }
         match check_utf8(text) {
             Ok(()) => Ok(is_bare(text)),
             Err(TermFault { column, reason }) => Err(self.fault(column, reason)),
@@ -230,11 +236,11 @@ impl Lines {
         // What holds of every reader of lines is known from here on.
         let _ = &self.alloc;
         'lines: loop {
-            let n = match self.hold_line(input) {
-                Ok(n) => n,
+            let (n, is_text) = match self.hold_line(input) {
+                Ok(found) => found,
                 Err(reason) => return Err(self.fault(0, reason)),
             };
-            match self.look(n) {
+            match self.look(n, is_text) {
                 Ok(true) => {}
                 Ok(false) => return Ok(Some(n)),
                 Err(fault) => return Err(fault),

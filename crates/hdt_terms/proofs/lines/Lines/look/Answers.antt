@@ -5,10 +5,15 @@ use Rattle.hdt_terms.specs.Taking.{State}
 use Rattle.hdt_terms.proofs.Looking.{looked, not_text}
 use Rattle.hdt_terms.proofs.lines.Lines.look.Goals as goal
 
+pub returns-then-is_text : goal.returns-then-is_text
+returns-then-is_text c =
+    let text_is = ap (take c.args.n) (c.as_slice.ensures ∙ ap (λ (s : State). s.held) c.self.view_is) in
+    looked c.args.self.now (take c.args.n c.args.self.now.held) c.is_bare.result (c.requires.utf8 c.if-is_text.true) (c.is_bare.ensures ∙ ap is_bare text_is)
+
 pub returns-in-Ok : goal.returns-in-Ok
 returns-in-Ok c =
     let text_is = ap (take c.args.n) (c.as_slice.ensures ∙ ap (λ (s : State). s.held) c.self.view_is) in
-    looked c.args.self.now (take c.args.n c.args.self.now.held) c.is_bare.result (subst IsUtf8 text_is c.in-Ok.ensures) (c.is_bare.ensures ∙ ap is_bare text_is)
+    looked c.args.self.now (take c.args.n c.args.self.now.held) c.is_bare-in-Ok.result (subst IsUtf8 text_is c.in-Ok.ensures) (c.is_bare-in-Ok.ensures ∙ ap is_bare text_is)
 
 pub returns-in-Err : goal.returns-in-Err
 returns-in-Err c =
