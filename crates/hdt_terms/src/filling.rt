@@ -114,6 +114,6 @@ pub fn first_line<R: Read>(
     }
     match fill(held, most, input) {
         Ok(n) => Ok((n, false)),
-        Err(reason) => Err(reason),
+        Err(why) => Err(why),
     }
 }
