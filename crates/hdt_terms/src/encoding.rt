@@ -14,9 +14,9 @@ fn is_ascii(bytes: &[u8]) -> bool
     run_len(Class::AsciiText, bytes) == bytes.len()
 }
 
-/// Refuses a text with other characters, which few have, as [`check_utf8`] does.
+/// Refuses a text that is not UTF-8, at its first byte that is not: for texts with other characters, which few have.
 #[inline(never)]
-fn check_beyond_ascii(text: &[u8]) -> Result<(), TermFault>
+pub fn check_beyond_ascii(text: &[u8]) -> Result<(), TermFault>
     ensures { MatchResult result (λ _. IsUtf8 text.now) (λ fault. ¬ (IsUtf8 text.now) × (fault ≡ not_utf8_at (utf8_valid_len text.now))) }
 {
     match simdutf8::compat::from_utf8(text) {
@@ -28,7 +28,7 @@ fn check_beyond_ascii(text: &[u8]) -> Result<(), TermFault>
     }
 }
 
-/// Refuses a text that is not UTF-8, at its first byte that is not.
+/// The same, fast where the text is ASCII.
 #[inline(always)]
 pub fn check_utf8(text: &[u8]) -> Result<(), TermFault>
     ensures { MatchResult result (λ _. IsUtf8 text.now) (λ fault. ¬ (IsUtf8 text.now) × (fault ≡ not_utf8_at (utf8_valid_len text.now))) }

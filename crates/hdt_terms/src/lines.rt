@@ -7,7 +7,7 @@ ghost use Rattle.hdt_terms.specs.Lines.{NoEnd};
 ghost use Rattle.hdt_terms.specs.declared.fault.LineReason.TheVariants.{Read};
 
 use crate::buffer::Buffer;
-use crate::encoding::check_utf8;
+use crate::encoding::check_beyond_ascii;
 use crate::fault::{LineFault, LineReason, TermFault};
 use crate::filling::first_line;
 use crate::line::{is_bare, put_triple, read_triple};
@@ -147,7 +147,7 @@ impl Lines {
         if is_text {
             return Ok(is_bare(text));
         }
-        match check_utf8(text) {
+        match check_beyond_ascii(text) {
             Ok(()) => Ok(is_bare(text)),
             Err(TermFault { column, reason }) => Err(self.fault(column, reason)),
         }
