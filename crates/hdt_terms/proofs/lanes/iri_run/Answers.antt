@@ -1,4 +1,4 @@
-use Rattle.std.proofs.Common.{ℕ, refl, arith}
+use Rattle.std.proofs.Common.{refl, arith}
 use Rattle.std.proofs.lemmas.Simd.{zip2_of_maps, splat_is_map, length-chunk}
 use lib.Lanes.{chunk}
 use Rattle.hdt_terms.specs.declared.pieces.Token.TheVariants.{Iri}
