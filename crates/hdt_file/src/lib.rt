@@ -14,6 +14,10 @@
 //! for (subject, predicate, object) in graph.find([Some(b"http://a/"), None, None], &mut Steps::new()) {
 //!     // each triple of that subject, in order
 //! }
+//!
+//! // one look at a file, for which nothing is grown
+//! let layout = Layout::read(alloc, bytes)?;
+//! let text = layout_text(alloc, &layout, layout.pattern([Some(b"http://a/"), None, None], &mut Steps::new()))?;
 //! ```
 #![tactic(auto)]
 

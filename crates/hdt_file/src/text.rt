@@ -22,7 +22,11 @@ use std::alloc::{AllocError, Global};
 use std::io::Write;
 
 /// The text of triples, each string of which is looked up: for few of them.
-fn matches_text(alloc: Global, layout: &Layout<'_>, found: Matches<'_>) -> Result<Vec<u8>, DumpFault>
+fn matches_text(
+    alloc: Global,
+    layout: &Layout<'_>,
+    found: Matches<'_>,
+) -> Result<Vec<u8>, DumpFault>
     ensures ok { IfOk result (λ text. IsTextOf (denoted (layout_seen layout.now) (left_of found.entry)) text.items) }
     ensures err { IfErr result (TellsFirstIn (layout_seen layout.now) (left_of found.entry)) }
 {

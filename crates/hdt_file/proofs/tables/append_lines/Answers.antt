@@ -14,7 +14,7 @@ triples-preserved c =
     let split = c.in-Some.ensures.cases.0 in
     record {
       text = λ g more are h. l.invariant.text g more are
-        (subst (λ (ts : List Triple). AppendsText g ts old more) (sym split) (line_and_text g t rest old new more (c.in_ok-append_line_of.ensures.ok g are) h));
+          (subst (λ (ts : List Triple). AppendsText g ts old more) (sym split) (line_and_text g t rest old new more (c.in_ok-append_line_of.ensures.ok g are) h));
       first = λ g e are h. l.invariant.first g e are
-        (subst (λ (ts : List Triple). TellsFirstIn g ts e) (sym split) (tells_behind g t rest old new e (c.in_ok-append_line_of.ensures.ok g are) h));
+          (subst (λ (ts : List Triple). TellsFirstIn g ts e) (sym split) (tells_behind g t rest old new e (c.in_ok-append_line_of.ensures.ok g are) h));
     }
