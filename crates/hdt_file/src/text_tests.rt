@@ -355,7 +355,7 @@ fn writes_many_triples(rt: HostRuntime) -> Result<(), Fail> {
     let graph = open(alloc, &bytes)?;
     assert!(rt; graph_text(alloc, &graph, Some(ALL))? == text);
     assert!(rt; graph_text(alloc, &graph, Some(of_subject(1)))? == text);
-    let layout = graph.layout();
+    let layout = Layout::read(alloc, &bytes)?;
     assert!(rt; layout_text(alloc, &layout, Some(ALL))? == text);
     assert!(rt; layout_text(alloc, &layout, Some(of_subject(1)))? == text);
     Ok(())
