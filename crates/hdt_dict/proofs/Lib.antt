@@ -6,4 +6,3 @@ pub mod Rows
 pub mod Numbering
 pub mod Dictionaries
 pub mod Steps
-mod ArenaLaws

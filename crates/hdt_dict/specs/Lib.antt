@@ -16,3 +16,4 @@ pub mod SplitLaws
 pub mod Writing
 pub mod WritingLaws
 pub mod Arena
+pub mod ArenaLaws

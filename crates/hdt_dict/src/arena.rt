@@ -50,6 +50,14 @@ impl Arena {
         })
     }
 
+    /// An arena of bytes that were put one after another, with the place where each string begins and the last one ends.
+    pub fn of(bytes: Vec<u8>, starts: Vec<usize>) -> Arena
+        requires { AreStarts bytes.items starts.items }
+        ensures { result ≡ texts bytes.items starts.items }
+    {
+        Arena { bytes, starts }
+    }
+
     /// How many strings there are.
     pub fn len(&self) -> usize
         ensures { result ≡ length self.now }

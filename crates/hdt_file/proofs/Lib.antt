@@ -3,4 +3,4 @@ mod Reading
 mod Texts
 mod Documents
 mod Parts
-mod Spelled
+mod Lines

@@ -28,7 +28,7 @@ grown old s p o =
     ∙ append_assoc old (s ++ 32 ∷ (p ++ 32 ∷ [])) (o ++ 32 ∷ 46 ∷ 10 ∷ [])
     ∙ ap (λ (t : List ℕ). old ++ t) (line_parts s p o)
 
-are_terms : (g : GraphParts) (t : Triple) (terms : TermTriple) → IsTermOf Subject (string_of g Subject t.0) terms.0 → IsTermOf Predicate (string_of g Predicate t.1) terms.1
+pub are_terms : (g : GraphParts) (t : Triple) (terms : TermTriple) → IsTermOf Subject (string_of g Subject t.0) terms.0 → IsTermOf Predicate (string_of g Predicate t.1) terms.1
     → IsTermOf Object (string_of g Object t.2) terms.2 → AreTermsOf (strings_of g t) terms
 are_terms g t terms s p o Subject = s
 are_terms g t terms s p o Predicate = p

@@ -16,7 +16,7 @@ pub mod Parts
 pub mod PartsLaws
 pub mod PartsViews
 pub mod Search
-pub mod Spellings
+pub mod Pieces
 pub mod Text
 pub mod TextLaws
 pub mod TextWriting

@@ -1,8 +1,8 @@
-//! All strings of a graph as terms, each spelled once: what a dump takes its lines from.
+//! All strings of a graph as pieces of lines, each made once: what a dump takes its lines from.
 ghost use Rattle.std.specs.Prelude.{◌≡◌, ℕ, List, IfOk, IfErr, OnOk, OnErr};
 ghost use Rattle.hdt_file.specs.File.{GraphParts};
-ghost use Rattle.hdt_file.specs.Spellings.{AreSpellings, AreTables, IsSpelling, spelling_in};
-ghost use Rattle.hdt_file.specs.TextWriting.{AppendsLine, AppendsTerm, AppendsText, TellsFirstIn, TellsFirstOf, TellsString};
+ghost use Rattle.hdt_file.specs.Pieces.{ArePieces, AreTables, AppendsPiece, GrowsByPiece, IsPiece, behind, piece_in};
+ghost use Rattle.hdt_file.specs.TextWriting.{AppendsLine, AppendsText, TellsFirstIn, TellsFirstOf, TellsString};
 ghost use Rattle.hdt_file.specs.LayoutView.{layout_seen};
 ghost use Rattle.hdt_file.specs.Views.{strings_in};
 
@@ -13,8 +13,8 @@ use hdt_dict::{Arena, Role};
 use hdt_terms::StringFault;
 use std::alloc::{AllocError, Global};
 
-/// The N-Triples spellings of the strings of each role, in the order of their numbers; that of a string that is no term
-/// of its role is empty.
+/// What the strings of each role are in a line, in the order of their numbers: a term with what follows it there, or
+/// nothing where a string is no term of its role.
 #[derive(Drop)]
 pub struct Tables {
     subjects: Arena,
@@ -22,61 +22,72 @@ pub struct Tables {
     objects: Arena,
 }
 
-/// Makes the spelling of a string in `out`, of which nothing else is left.
-fn spell(role: Role, string: &[u8], out: &mut Vec<u8>) -> Result<(), AllocError>
-    ensures { OnOk result (IsSpelling role string.now out.new.items) }
+/// What follows the term of a role in a line.
+fn behind(role: Role) -> &'static [u8]
+    ensures { result.now ≡ behind role }
 {
-    out.clear();
+    match role {
+        Role::Subject | Role::Predicate => b" ",
+        Role::Object => b" .\n",
+    }
+}
+
+/// Appends the piece of a line that a string is in its role, or nothing where it is no term of it.
+fn put_piece(role: Role, string: &[u8], out: &mut Vec<u8>) -> Result<(), AllocError>
+    ensures { OnOk result (GrowsByPiece role string.now out.old.items out.new.items) }
+{
     match put_role_term(role, string, out) {
-        Ok(()) | Err(StringFault::NotATerm) => Ok(()),
+        Ok(()) => out.extend_from_slice(behind(role)),
+        Err(StringFault::NotATerm) => Ok(()),
         Err(StringFault::OutOfMemory) => Err(AllocError),
     }
 }
 
-/// The spellings of all strings of a role, each of which is unfolded once.
-fn spellings_of(alloc: Global, layout: &Layout<'_>, role: Role) -> Result<Arena, AllocError>
-    ensures { IfOk result (λ arena. AreSpellings role (strings_in (layout_seen layout.now) role) arena) }
+/// The pieces of all strings of a role, each of which is unfolded once.
+fn pieces_of(alloc: Global, layout: &Layout<'_>, role: Role) -> Result<Arena, AllocError>
+    ensures { IfOk result (λ arena. ArePieces role (strings_in (layout_seen layout.now) role) arena) }
 {
-    let mut arena = Arena::new(alloc)?;
-    let mut spelling = Vec::new(alloc);
+    let mut bytes = Vec::new(alloc);
+    let mut starts = Vec::new(alloc);
     let mut strings = layout.strings(alloc, role);
+    starts.push(0)?;
     'strings: while let Some(_) = strings.next()? {
-        spell(role, strings.last(), &mut spelling)?;
-        arena.push(&spelling)?;
+        put_piece(role, strings.last(), &mut bytes)?;
+        starts.push(bytes.len())?;
     }
-    Ok(arena)
+    Ok(Arena::of(bytes, starts))
 }
 
-/// The spellings of all strings of a graph.
+/// The pieces of all strings of a graph.
 pub fn tables_of(alloc: Global, layout: &Layout<'_>) -> Result<Tables, AllocError>
     ensures { IfOk result (AreTables (layout_seen layout.now)) }
 {
     Ok(Tables {
-        subjects: spellings_of(alloc, layout, Role::Subject)?,
-        predicates: spellings_of(alloc, layout, Role::Predicate)?,
-        objects: spellings_of(alloc, layout, Role::Object)?,
+        subjects: pieces_of(alloc, layout, Role::Subject)?,
+        predicates: pieces_of(alloc, layout, Role::Predicate)?,
+        objects: pieces_of(alloc, layout, Role::Object)?,
     })
 }
 
-/// The spelling of string n, from 1, or nothing.
-fn spelling_in(spellings: &Arena, n: u64) -> &[u8]
-    ensures { result.now ≡ spelling_in spellings.now n }
+/// The piece of string n, from 1, or nothing.
+fn piece_in(pieces: &Arena, n: u64) -> &[u8]
+    ensures { result.now ≡ piece_in pieces.now n }
 {
-    if n == 0 || n > spellings.len() as u64 {
+    if n == 0 || n > pieces.len() as u64 {
         return &[];
     }
-    spellings.get((n - 1) as usize)
+    pieces.get((n - 1) as usize)
 }
 
-/// Appends a spelling; nothing is that of a string that is no term.
-fn append_spelling(role: Role, n: u64, spelling: &[u8], out: &mut Vec<u8>) -> Result<(), DumpFault>
-    ensures ok { OnOk result ((string : List ℕ) → IsSpelling role string spelling.now → AppendsTerm role string out.old.items out.new.items) }
-    ensures err { IfErr result (λ e. (string : List ℕ) → IsSpelling role string spelling.now → TellsString role n string e) }
+/// Appends a piece; nothing is that of a string that is no term.
+fn append_piece(role: Role, n: u64, piece: &[u8], out: &mut Vec<u8>) -> Result<(), DumpFault>
+    ensures ok { OnOk result ((string : List ℕ) → IsPiece role string piece.now → AppendsPiece role string out.old.items out.new.items) }
+    ensures err { IfErr result (λ e. (string : List ℕ) → IsPiece role string piece.now → TellsString role n string e) }
 {
-    if spelling.is_empty() {
+    if piece.is_empty() {
         return Err(DumpFault::NotATerm(role, n));
     }
-    Ok(out.extend_from_slice(spelling)?)
+    Ok(out.extend_from_slice(piece)?)
 }
 
 /// Appends the line of a triple.
@@ -89,31 +100,27 @@ fn append_line_of(
     ensures err { IfErr result (λ e. (g : GraphParts) → AreTables g tables.now → TellsFirstOf g triple e) }
 {
     let (s, p, o) = triple;
-    append_spelling(Role::Subject, s, spelling_in(&tables.subjects, s), out)?;
-    out.push(b' ')?;
-    append_spelling(Role::Predicate, p, spelling_in(&tables.predicates, p), out)?;
-    out.push(b' ')?;
-    append_spelling(Role::Object, o, spelling_in(&tables.objects, o), out)?;
-    out.extend_from_slice(b" .\n")?;
+    append_piece(Role::Subject, s, piece_in(&tables.subjects, s), out)?;
+    append_piece(Role::Predicate, p, piece_in(&tables.predicates, p), out)?;
+    append_piece(Role::Object, o, piece_in(&tables.objects, o), out)?;
     Ok(())
 }
 
-/// How many bytes the line of a triple takes, or none where its object is no term.
+/// How many bytes the line of a triple takes, unless its object's piece begins or ends with zero, which none does: so its
+/// first and its last byte are looked at.
 fn room_of(tables: &Tables, triple: (u64, u64, u64)) -> usize {
     let (s, p, o) = triple;
-    let object = spelling_in(&tables.objects, o);
-    // No spelling begins so.
-    if object.first().is_none_or(|first| *first == 0) {
+    let object = piece_in(&tables.objects, o);
+    if object.first() == Some(&0) || object.last() == Some(&0) {
         return 0;
     }
-    spelling_in(&tables.subjects, s)
+    piece_in(&tables.subjects, s)
         .len()
-        .saturating_add(spelling_in(&tables.predicates, p).len())
+        .saturating_add(piece_in(&tables.predicates, p).len())
         .saturating_add(object.len())
-        .saturating_add(b"   .\n".len())
 }
 
-/// Makes room for the lines of triples. The spellings of their objects lie anywhere: all are looked at before the first is
+/// Makes room for the lines of triples. The pieces of their objects lie anywhere: all are looked at before the first is
 /// copied, so that they wait for memory together and not one after another.
 fn make_room(
     tables: &Tables,

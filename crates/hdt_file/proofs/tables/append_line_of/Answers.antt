@@ -1,35 +1,34 @@
 use Rattle.std.proofs.lemmas.Result.{err_from_is_err_and}
-use Rattle.hdt_file.proofs.Spelled.{subject_at, predicate_at, object_at, line_made, subject_told, predicate_told, object_told}
+use Rattle.hdt_file.proofs.Lines.{subject_at, predicate_at, object_at, line_made, subject_told, predicate_told, object_told}
 use Rattle.hdt_file.proofs.tables.append_line_of.Goals as goal
 
-pub returns-in_err-append_spelling-clause-err : goal.returns-in_err-append_spelling-clause-err
-returns-in_err-append_spelling-clause-err c =
+pub returns-in_err-append_piece-clause-err : goal.returns-in_err-append_piece-clause-err
+returns-in_err-append_piece-clause-err c =
     let t = c.args.triple in
     let p = err_from_is_err_and c.from_residual.result c.from_residual.ensures.1 in
-    rw (p.1, p.2) (λ g h. subject_told g t c.in_err-append_spelling.field-0.0 (c.in_err-append_spelling.ensures.err _ (subject_at g c.args.tables.now t.0 _ h c.spelling_in.ensures)))
+    rw (p.1, p.2) (λ g h. subject_told g t c.in_err-append_piece.field-0.0 (c.in_err-append_piece.ensures.err _ (subject_at g c.args.tables.now t.0 _ h c.piece_in.ensures)))
 
-pub returns-in_err-append_spelling-2-clause-err : goal.returns-in_err-append_spelling-2-clause-err
-returns-in_err-append_spelling-2-clause-err c =
+pub returns-in_err-append_piece-2-clause-err : goal.returns-in_err-append_piece-2-clause-err
+returns-in_err-append_piece-2-clause-err c =
     let t = c.args.triple in
-    let p = err_from_is_err_and c.from_residual-in_err-append_spelling-2.result c.from_residual-in_err-append_spelling-2.ensures.1 in
+    let p = err_from_is_err_and c.from_residual-in_err-append_piece-2.result c.from_residual-in_err-append_piece-2.ensures.1 in
     rw (p.1, p.2)
-    (λ g h. predicate_told g t _ _ c.in_err-append_spelling-2.field-0.0 (c.in_ok-append_spelling.ensures.ok _ (subject_at g c.args.tables.now t.0 _ h c.spelling_in.ensures))
-    (c.in_err-append_spelling-2.ensures.err _ (predicate_at g c.args.tables.now t.1 _ h c.spelling_in-2.ensures)))
+    (λ g h. predicate_told g t _ _ c.in_err-append_piece-2.field-0.0 (c.in_ok-append_piece.ensures.ok _ (subject_at g c.args.tables.now t.0 _ h c.piece_in.ensures))
+    (c.in_err-append_piece-2.ensures.err _ (predicate_at g c.args.tables.now t.1 _ h c.piece_in-2.ensures)))
 
-pub returns-in_err-append_spelling-3-clause-err : goal.returns-in_err-append_spelling-3-clause-err
-returns-in_err-append_spelling-3-clause-err c =
+pub returns-in_err-append_piece-3-clause-err : goal.returns-in_err-append_piece-3-clause-err
+returns-in_err-append_piece-3-clause-err c =
     let t = c.args.triple in
-    let p = err_from_is_err_and c.from_residual-in_err-append_spelling-3.result c.from_residual-in_err-append_spelling-3.ensures.1 in
+    let p = err_from_is_err_and c.from_residual-in_err-append_piece-3.result c.from_residual-in_err-append_piece-3.ensures.1 in
     rw (p.1, p.2)
-    (λ g h. object_told g t _ _ _ _ c.in_err-append_spelling-3.field-0.0 (c.in_ok-append_spelling.ensures.ok _ (subject_at g c.args.tables.now t.0 _ h c.spelling_in.ensures))
-    (c.in_ok-append_spelling-2.ensures.ok _ (predicate_at g c.args.tables.now t.1 _ h c.spelling_in-2.ensures))
-    (c.in_err-append_spelling-3.ensures.err _ (object_at g c.args.tables.now t.2 _ h c.spelling_in-3.ensures)))
+    (λ g h. object_told g t _ _ _ _ c.in_err-append_piece-3.field-0.0 (c.in_ok-append_piece.ensures.ok _ (subject_at g c.args.tables.now t.0 _ h c.piece_in.ensures))
+    (c.in_ok-append_piece-2.ensures.ok _ (predicate_at g c.args.tables.now t.1 _ h c.piece_in-2.ensures))
+    (c.in_err-append_piece-3.ensures.err _ (object_at g c.args.tables.now t.2 _ h c.piece_in-3.ensures)))
 
 pub returns-clause-ok : goal.returns-clause-ok
 returns-clause-ok c =
     let t = c.args.triple in
-    λ g h. line_made g t c.args.out.now.items c.append_spelling.new.out.items c.push.new.self.items c.append_spelling-2.new.out.items c.push-2.new.self.items c.append_spelling-3.new.out.items
-    c.extend_from_slice.new.self.items
-    (c.in_ok-append_spelling.ensures.ok _ (subject_at g c.args.tables.now t.0 _ h c.spelling_in.ensures)) c.in_ok-push.ensures.items
-    (c.in_ok-append_spelling-2.ensures.ok _ (predicate_at g c.args.tables.now t.1 _ h c.spelling_in-2.ensures)) c.in_ok-push-2.ensures.items
-    (c.in_ok-append_spelling-3.ensures.ok _ (object_at g c.args.tables.now t.2 _ h c.spelling_in-3.ensures)) c.in_ok-extend_from_slice.ensures.items
+    λ g h. line_made g t c.args.out.now.items c.append_piece.new.out.items c.append_piece-2.new.out.items c.append_piece-3.new.out.items
+    (c.in_ok-append_piece.ensures.ok _ (subject_at g c.args.tables.now t.0 _ h c.piece_in.ensures))
+    (c.in_ok-append_piece-2.ensures.ok _ (predicate_at g c.args.tables.now t.1 _ h c.piece_in-2.ensures))
+    (c.in_ok-append_piece-3.ensures.ok _ (object_at g c.args.tables.now t.2 _ h c.piece_in-3.ensures))

@@ -1,7 +1,7 @@
 use Rattle.std.proofs.Common.{length}
 use Rattle.hdt_triples.specs.Left.{left_of}
 use Rattle.hdt_file.specs.LayoutView.{layout_seen}
-use Rattle.hdt_file.specs.Spellings.{AreTables}
+use Rattle.hdt_file.specs.Pieces.{AreTables}
 use Rattle.hdt_file.proofs.Texts.{GoesOn, SameFirst}
 use Rattle.hdt_file.proofs.text.tabled_text.Given as goal
 

@@ -14,6 +14,7 @@ pub text_is : (bytes starts : List ℕ) (i : ℕ) → i + 1 < length starts → 
 unfolding texts
 text_is bytes starts i below = get_or-map-range_with_len (text_at bytes starts) 0 (length starts - 1) i i [] (omega arith) (omega arith)
 
+-- no bytes and the one start 0 are no strings
 pub none : texts [] (0 ∷ []) ≡ []
 unfolding texts
 none = refl
@@ -32,6 +33,7 @@ map_range f g n same =
     same_lists _ _ (long ∙ sym (length-map-range_with_len g 0 n))
     (λ k d below. let lt : k < n = omega arith in get_or-map-range_with_len f 0 n k k d lt (omega arith) ∙ same k lt ∙ sym (get_or-map-range_with_len g 0 n k k d lt (omega arith)))
 
+-- bytes behind the last string, and the place where they end, are one string more
 module _ (bytes starts x : List ℕ) (e : ℕ) (h : AreStarts bytes starts) (end : e ≡ length bytes + length x) where
   front : (i : ℕ) → i < length starts → get_or (starts ++ e ∷ []) i 0 ≡ get_or starts i 0
   front i below = get_or_append_left starts (e ∷ []) 0 i below
