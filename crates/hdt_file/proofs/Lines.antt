@@ -1,7 +1,7 @@
 -- Pieces of lines of all strings of a role, and lines made of them.
-use Rattle.std.proofs.Common.{◌≡◌, ℕ, zero, suc, ◌+◌, List, [], ◌∷◌, ◌++◌, length, true, Option, Some, refl, sym, ap, ◌∙◌, append_assoc, append-nil, subst, inl, inr, arith}
+use Rattle.std.proofs.Common.{◌≡◌, ℕ, zero, suc, ◌+◌, List, [], ◌∷◌, ◌++◌, ◌<◌, length, map, get_or, true, Option, Some, refl, sym, ap, ◌∙◌, append_assoc, append-nil, subst, inl, inr, arith}
 use Rattle.std.specs.Option.{unwrap_or}
-use Rattle.std.proofs.lemmas.List.{length-append}
+use Rattle.std.proofs.lemmas.List.{get_or-map, length-append, length-map}
 use Rattle.hdt_dict.specs.Arena.{AreStarts, texts}
 use Rattle.hdt_dict.specs.ArenaLaws.{none, none_starts, starts_push, texts_push}
 use Rattle.hdt_dict.specs.Numbered.{numbered}
@@ -9,7 +9,6 @@ use Rattle.hdt_dict.specs.Walking.{Progress, stepped_by, next_number}
 use Rattle.hdt_wire.specs.declared.role.Role.{Role}
 use Rattle.hdt_wire.specs.declared.role.Role.TheVariants.{Subject, Predicate, Object}
 use Rattle.hdt_terms.specs.Chars.{is_absolute}
-use Rattle.hdt_terms.specs.declared.term.Term.{Term}
 use Rattle.hdt_terms.specs.declared.term.Term.TheVariants.{Iri, Blank, Literal}
 use Rattle.hdt_terms.specs.Terms.{str}
 use Rattle.hdt_terms.specs.Writing.{written}
@@ -18,7 +17,7 @@ use Rattle.hdt_file.specs.File.{GraphParts}
 use Rattle.hdt_triples.specs.Uses.{part}
 use Rattle.hdt_file.specs.Denoted.{string_of, strings_of}
 use Rattle.hdt_file.specs.Pieces.{behind, IsPiece, ArePieces, AreTables, AppendsPiece, GrowsByPiece, piece_in, piece_of}
-use Rattle.hdt_file.specs.Text.{HasTerm, HasNoTerm, IsBefore, IsFirstOf, line}
+use Rattle.hdt_file.specs.Text.{HasTerm, HasNoTerm, IsBefore, IsFirstOf}
 use Rattle.hdt_file.specs.TextWriting.{AppendsTerm, AppendsLine, TellsString, TellsFirstOf}
 use Rattle.hdt_file.specs.declared.fault.DumpFault.{DumpFault}
 use Rattle.hdt_file.specs.declared.fault.DumpFault.TheVariants.{NotATerm, Write, OutOfMemory}
@@ -81,6 +80,13 @@ predicate_at g tables n piece h e = subst (IsPiece Predicate (string_of g Predic
 
 pub object_at : (g : GraphParts) (tables : Tables) (n : ℕ) (piece : List ℕ) → AreTables g tables → piece ≡ piece_in tables.objects n → IsPiece Object (string_of g Object n) piece
 object_at g tables n piece h e = subst (IsPiece Object (string_of g Object n)) (sym e) (at Object _ tables.objects n h.objects)
+
+-- the piece that stands at the place of a triple, where each triple's stands at its place
+pub found_at : {B : Type 0} (now : B → List ℕ) (piece : Triple → List ℕ) (pieces : List B) (ts : List Triple) (i : ℕ) (b : B) (t : Triple) → map now pieces ≡ map piece ts → i < length ts
+    → b ≡ get_or pieces i b → now b ≡ piece (get_or ts i t)
+found_at now piece pieces ts i b t e below read =
+    let long : length pieces ≡ length ts = sym (length-map pieces now) ∙ ap length e ∙ length-map ts piece in
+    ap now read ∙ sym (get_or-map now pieces i b (now b) (omega (arith, long, below))) ∙ ap (λ (l : List (List ℕ)). get_or l i (now b)) e ∙ get_or-map piece ts i t (now b) below
 
 -- ---- one line
 
@@ -176,5 +182,5 @@ given w new k [] e step = absurd cc
 given w new k (x ∷ xs) e step = ap (λ (p : Progress). p.last ∷ p.ahead) (sym step)
 
 pub ended : (w : Progress) (xs : List (List ℕ)) (r : Option ℕ) → r ≡ next_number w xs → ((k : ℕ) → r ≡ Some k → ⊥) → xs ≡ []
-ended w [] r e none = refl
-ended w (x ∷ xs) r e none = absurd (none (w.given + 1) e)
+ended w [] r e nothing = refl
+ended w (x ∷ xs) r e nothing = absurd (nothing (w.given + 1) e)

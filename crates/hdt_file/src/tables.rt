@@ -1,5 +1,5 @@
 //! All strings of a graph as pieces of lines, each made once: what a dump takes its lines from.
-ghost use Rattle.std.specs.Prelude.{◌≡◌, ℕ, List, IfOk, IfErr, OnOk, OnErr};
+ghost use Rattle.std.specs.Prelude.{◌≡◌, ℕ, List, map, IfOk, IfErr, OnOk};
 ghost use Rattle.hdt_file.specs.File.{GraphParts};
 ghost use Rattle.hdt_file.specs.Pieces.{ArePieces, AreTables, AppendsPiece, GrowsByPiece, IsPiece, behind, piece_in};
 ghost use Rattle.hdt_file.specs.TextWriting.{AppendsLine, AppendsText, TellsFirstIn, TellsFirstOf, TellsString};
@@ -90,54 +90,54 @@ fn append_piece(role: Role, n: u64, piece: &[u8], out: &mut Vec<u8>) -> Result<(
     Ok(out.extend_from_slice(piece)?)
 }
 
-/// Appends the line of a triple.
+/// Appends the line of a triple, whose object's piece was found.
 fn append_line_of(
     tables: &Tables,
     triple: (u64, u64, u64),
+    object: &[u8],
     out: &mut Vec<u8>,
 ) -> Result<(), DumpFault>
-    ensures ok { OnOk result ((g : GraphParts) → AreTables g tables.now → AppendsLine g triple out.old.items out.new.items) }
-    ensures err { IfErr result (λ e. (g : GraphParts) → AreTables g tables.now → TellsFirstOf g triple e) }
+    ensures ok { OnOk result ((g : GraphParts) → AreTables g tables.now → object.now ≡ piece_in tables.now.objects triple.2 → AppendsLine g triple out.old.items out.new.items) }
+    ensures err { IfErr result (λ e. (g : GraphParts) → AreTables g tables.now → object.now ≡ piece_in tables.now.objects triple.2 → TellsFirstOf g triple e) }
 {
     let (s, p, o) = triple;
     append_piece(Role::Subject, s, piece_in(&tables.subjects, s), out)?;
     append_piece(Role::Predicate, p, piece_in(&tables.predicates, p), out)?;
-    append_piece(Role::Object, o, piece_in(&tables.objects, o), out)?;
+    append_piece(Role::Object, o, object, out)?;
     Ok(())
 }
 
-/// How many bytes the line of a triple takes, unless its object's piece begins or ends with zero, which none does: so its
-/// first and its last byte are looked at.
-fn room_of(tables: &Tables, triple: (u64, u64, u64)) -> usize {
-    let (s, p, o) = triple;
-    let object = piece_in(&tables.objects, o);
-    if object.first() == Some(&0) || object.last() == Some(&0) {
-        return 0;
-    }
-    piece_in(&tables.subjects, s)
-        .len()
-        .saturating_add(piece_in(&tables.predicates, p).len())
-        .saturating_add(object.len())
-}
-
-/// Makes room for the lines of triples. The pieces of their objects lie anywhere: all are looked at before the first is
-/// copied, so that they wait for memory together and not one after another.
-fn make_room(
-    tables: &Tables,
+/// The pieces of the objects of triples. They lie anywhere, and none of their bytes is looked at yet.
+fn objects_of<'t>(
+    alloc: Global,
+    tables: &'t Tables,
     triples: &[(u64, u64, u64)],
-    out: &mut Vec<u8>,
-) -> Result<(), AllocError>
-    ensures { out.new.items ≡ out.old.items }
+) -> Result<Vec<&'t [u8]>, AllocError>
+    ensures { IfOk result (λ made. map (λ x. x.now) made.items ≡ map (λ t. piece_in tables.now.objects t.2) triples.now) }
 {
-    let mut room: usize = 0;
+    let mut made = Vec::with_capacity(alloc, triples.len())?;
     'triples: for triple in triples {
-        room = room.saturating_add(room_of(tables, *triple));
+        made.push(piece_in(&tables.objects, triple.2))?;
     }
-    out.reserve(room)
+    Ok(made)
 }
 
-/// Appends the lines of triples.
+/// How many bytes pieces have that neither begin nor end with zero, as none does: so the first and the last byte of each are
+/// looked at, one piece soon after another, and they wait for memory together.
+fn looked_at(pieces: &[&[u8]]) -> usize {
+    let mut bytes: usize = 0;
+    for piece in pieces {
+        if piece.first() != Some(&0) && piece.last() != Some(&0) {
+            bytes = bytes.saturating_add(piece.len());
+        }
+    }
+    bytes
+}
+
+/// Appends the lines of triples. Where the objects' pieces begin is found for all of them first, then all are looked at, and then
+/// they are copied.
 pub fn append_lines(
+    alloc: Global,
     tables: &Tables,
     triples: &[(u64, u64, u64)],
     out: &mut Vec<u8>,
@@ -145,11 +145,10 @@ pub fn append_lines(
     ensures ok { OnOk result ((g : GraphParts) → AreTables g tables.now → AppendsText g triples.now out.old.items out.new.items) }
     ensures err { IfErr result (λ e. (g : GraphParts) → AreTables g tables.now → TellsFirstIn g triples.now e) }
 {
-    make_room(tables, triples, out)?;
-    let mut left = triples;
-    'triples: while let Some((triple, rest)) = left.split_first() {
-        append_line_of(tables, *triple, out)?;
-        left = rest;
+    let objects = objects_of(alloc, tables, triples)?;
+    out.reserve(looked_at(&objects))?;
+    'triples: for at in 0..triples.len() {
+        append_line_of(tables, triples[at], objects[at], out)?;
     }
     Ok(())
 }

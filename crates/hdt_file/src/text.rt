@@ -71,7 +71,7 @@ fn tabled_text(alloc: Global, layout: &Layout<'_>, found: Matches<'_>) -> Result
     let mut block = Vec::new(alloc);
     let mut text = Vec::new(alloc);
     'runs: while take_block(&mut matches, &mut block)? {
-        append_lines(&tables, &block, &mut text)?;
+        append_lines(alloc, &tables, &block, &mut text)?;
     }
     Ok(text)
 }

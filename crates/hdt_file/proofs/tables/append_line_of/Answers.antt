@@ -6,14 +6,14 @@ pub returns-in_err-append_piece-clause-err : goal.returns-in_err-append_piece-cl
 returns-in_err-append_piece-clause-err c =
     let t = c.args.triple in
     let p = err_from_is_err_and c.from_residual.result c.from_residual.ensures.1 in
-    rw (p.1, p.2) (λ g h. subject_told g t c.in_err-append_piece.field-0.0 (c.in_err-append_piece.ensures.err _ (subject_at g c.args.tables.now t.0 _ h c.piece_in.ensures)))
+    rw (p.1, p.2) (λ g h object. subject_told g t c.in_err-append_piece.field-0.0 (c.in_err-append_piece.ensures.err _ (subject_at g c.args.tables.now t.0 _ h c.piece_in.ensures)))
 
 pub returns-in_err-append_piece-2-clause-err : goal.returns-in_err-append_piece-2-clause-err
 returns-in_err-append_piece-2-clause-err c =
     let t = c.args.triple in
     let p = err_from_is_err_and c.from_residual-in_err-append_piece-2.result c.from_residual-in_err-append_piece-2.ensures.1 in
     rw (p.1, p.2)
-    (λ g h. predicate_told g t _ _ c.in_err-append_piece-2.field-0.0 (c.in_ok-append_piece.ensures.ok _ (subject_at g c.args.tables.now t.0 _ h c.piece_in.ensures))
+    (λ g h object. predicate_told g t _ _ c.in_err-append_piece-2.field-0.0 (c.in_ok-append_piece.ensures.ok _ (subject_at g c.args.tables.now t.0 _ h c.piece_in.ensures))
     (c.in_err-append_piece-2.ensures.err _ (predicate_at g c.args.tables.now t.1 _ h c.piece_in-2.ensures)))
 
 pub returns-in_err-append_piece-3-clause-err : goal.returns-in_err-append_piece-3-clause-err
@@ -21,14 +21,14 @@ returns-in_err-append_piece-3-clause-err c =
     let t = c.args.triple in
     let p = err_from_is_err_and c.from_residual-in_err-append_piece-3.result c.from_residual-in_err-append_piece-3.ensures.1 in
     rw (p.1, p.2)
-    (λ g h. object_told g t _ _ _ _ c.in_err-append_piece-3.field-0.0 (c.in_ok-append_piece.ensures.ok _ (subject_at g c.args.tables.now t.0 _ h c.piece_in.ensures))
+    (λ g h object. object_told g t _ _ _ _ c.in_err-append_piece-3.field-0.0 (c.in_ok-append_piece.ensures.ok _ (subject_at g c.args.tables.now t.0 _ h c.piece_in.ensures))
     (c.in_ok-append_piece-2.ensures.ok _ (predicate_at g c.args.tables.now t.1 _ h c.piece_in-2.ensures))
-    (c.in_err-append_piece-3.ensures.err _ (object_at g c.args.tables.now t.2 _ h c.piece_in-3.ensures)))
+    (c.in_err-append_piece-3.ensures.err _ (object_at g c.args.tables.now t.2 _ h object)))
 
 pub returns-clause-ok : goal.returns-clause-ok
 returns-clause-ok c =
     let t = c.args.triple in
-    λ g h. line_made g t c.args.out.now.items c.append_piece.new.out.items c.append_piece-2.new.out.items c.append_piece-3.new.out.items
+    λ g h object. line_made g t c.args.out.now.items c.append_piece.new.out.items c.append_piece-2.new.out.items c.append_piece-3.new.out.items
     (c.in_ok-append_piece.ensures.ok _ (subject_at g c.args.tables.now t.0 _ h c.piece_in.ensures))
     (c.in_ok-append_piece-2.ensures.ok _ (predicate_at g c.args.tables.now t.1 _ h c.piece_in-2.ensures))
-    (c.in_ok-append_piece-3.ensures.ok _ (object_at g c.args.tables.now t.2 _ h c.piece_in-3.ensures))
+    (c.in_ok-append_piece-3.ensures.ok _ (object_at g c.args.tables.now t.2 _ h object))

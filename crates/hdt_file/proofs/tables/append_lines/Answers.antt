@@ -1,20 +1,46 @@
-use Rattle.std.proofs.Common.{List, sym, subst}
+use Rattle.std.proofs.Common.{◌≡◌, ◌+◌, ◌∷◌, List, drop, get_or, subst, sym, arith}
+use Rattle.std.proofs.lemmas.List.{drop_all, drop_more}
+use Rattle.std.proofs.lemmas.Result.{err_from_is_err_and}
 use Rattle.hdt_triples.specs.Counting.{Triple}
+use Rattle.hdt_file.specs.Pieces.{piece_in}
 use Rattle.hdt_file.specs.TextWriting.{AppendsText, TellsFirstIn}
-use Rattle.hdt_file.proofs.Texts.{line_and_text, tells_behind}
+use Rattle.hdt_file.proofs.Lines.{found_at}
+use Rattle.hdt_file.proofs.Texts.{line_and_text, no_text, tells_behind, tells_here}
 use Rattle.hdt_file.proofs.tables.append_lines.Goals as goal
 
 pub triples-preserved : goal.triples-preserved
 triples-preserved c =
     let l = c.triples in
-    let t = c.in-Some.triple.now in
-    let rest = c.in-Some.rest.now in
+    let ts = c.args.triples.now in
+    let t = get_or ts l.at (0, 0, 0) in
+    let rest = drop (l.at + 1) ts in
     let old = l.out.items in
     let new = c.append_line_of.new.out.items in
-    let split = c.in-Some.ensures.cases.0 in
+    let split : drop l.at ts ≡ t ∷ rest = drop_more ts l.at (0, 0, 0) c.triples-test.true in
+    let object = found_at (λ x. x.now) (λ u. piece_in c.args.tables.now.objects u.2) c.in_ok-objects.objects.items ts l.at c.index.result.now (0, 0, 0) c.in_ok-objects.ensures c.triples-test.true c.index.ensures in
     record {
       text = λ g more are h. l.invariant.text g more are
-          (subst (λ (ts : List Triple). AppendsText g ts old more) (sym split) (line_and_text g t rest old new more (c.in_ok-append_line_of.ensures.ok g are) h));
+          (subst (λ (us : List Triple). AppendsText g us old more) (sym split) (line_and_text g t rest old new more (c.in_ok-append_line_of.ensures.ok g are object) h));
       first = λ g e are h. l.invariant.first g e are
-          (subst (λ (ts : List Triple). TellsFirstIn g ts e) (sym split) (tells_behind g t rest old new e (c.in_ok-append_line_of.ensures.ok g are) h));
+          (subst (λ (us : List Triple). TellsFirstIn g us e) (sym split) (tells_behind g t rest old new e (c.in_ok-append_line_of.ensures.ok g are object) h));
     }
+
+pub returns-in_err-append_line_of-clause-err : goal.returns-in_err-append_line_of-clause-err
+returns-in_err-append_line_of-clause-err c =
+    let l = c.triples in
+    let ts = c.args.triples.now in
+    let t = get_or ts l.at (0, 0, 0) in
+    let rest = drop (l.at + 1) ts in
+    let e = c.in_err-append_line_of.field-0.0 in
+    let split : drop l.at ts ≡ t ∷ rest = drop_more ts l.at (0, 0, 0) c.triples-test.true in
+    let object = found_at (λ x. x.now) (λ u. piece_in c.args.tables.now.objects u.2) c.in_ok-objects.objects.items ts l.at c.index.result.now (0, 0, 0) c.in_ok-objects.ensures c.triples-test.true c.index.ensures in
+    let p = err_from_is_err_and c.from_residual-in_err-append_line_of.result c.from_residual-in_err-append_line_of.ensures.1 in
+    rw (p.1, p.2)
+    (λ g are. l.invariant.first g e are
+    (subst (λ (us : List Triple). TellsFirstIn g us e) (sym split) (tells_here g t rest e (c.in_err-append_line_of.ensures.err g are object))))
+
+pub returns-clause-ok : goal.returns-clause-ok
+returns-clause-ok c =
+    let l = c.triples in
+    let ts = c.args.triples.now in
+    λ g are. l.invariant.text g l.out.items are (subst (λ (us : List Triple). AppendsText g us l.out.items l.out.items) (sym (drop_all l.at ts (omega (arith, c.triples-test.false)))) (no_text g l.out.items))

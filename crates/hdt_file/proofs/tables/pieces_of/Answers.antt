@@ -1,4 +1,4 @@
-use Rattle.std.proofs.Common.{List, ℕ, [], ◌∷◌, ◌++◌, ◌∙◌, ap, length, subst, sym, arith}
+use Rattle.std.proofs.Common.{List, ℕ, ◌∙◌, ap, length, subst, sym, arith}
 use Rattle.hdt_dict.specs.Arena.{texts}
 use Rattle.hdt_file.specs.LayoutView.{layout_seen}
 use Rattle.hdt_file.specs.Pieces.{ArePieces, GrowsByPiece}
