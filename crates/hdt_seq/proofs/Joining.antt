@@ -25,12 +25,9 @@ nine bs small size =
     let all : little bs < 2 ^ 72 = little_small bs 9 small (omega (arith, size)) in
     omega (arith, low, high, all)
 
--- so many bits of a number by a mask, made in a word of so many bits
-masked_in : (word n s w : ℕ) → w < word → bit_and (n / 2 ^ s) (1 * 2 ^ w % 2 ^ word - 1) ≡ n / 2 ^ s % 2 ^ w
-masked_in word n s w h = ap (λ m. bit_and (n / 2 ^ s) (m - 1)) (one_shl w word h) ∙ and_mask (n / 2 ^ s) w
-
+-- so many bits of a number by a mask
 pub masked : (n s w : ℕ) → w ≤ 64 → bit_and (n / 2 ^ s) (1 * 2 ^ w % 2 ^ 128 - 1) ≡ n / 2 ^ s % 2 ^ w
-masked n s w h = masked_in 128 n s w (omega (arith, h))
+masked n s w h = ap (λ m. bit_and (n / 2 ^ s) (m - 1)) (one_shl w 128 (omega (arith, h))) ∙ and_mask (n / 2 ^ s) w
 
 -- bits that lie below bit j
 low_bits : (n j s w : ℕ) → s + w ≤ j → n % 2 ^ j / 2 ^ s % 2 ^ w ≡ n / 2 ^ s % 2 ^ w
@@ -38,13 +35,11 @@ low_bits n j s w h =
     let split : j ≡ (j - s) + s = omega (arith, h) in
     ap (λ m. n % 2 ^ m / 2 ^ s % 2 ^ w) split ∙ ap (λ m. m % 2 ^ w) (field_of n (j - s) s) ∙ mod_less (n / 2 ^ s) (j - s) w (omega (arith, h))
 
--- bits that the first eight bytes hold whole, wherever in the first one they begin
-pub of_eight : (bs : List ℕ) (s w : ℕ) → IsBytes bs → 8 ≤ length bs → s < 8 → w ≤ 57 → bit_and (little_number 8 bs / 2 ^ s) (1 * 2 ^ w % 2 ^ 64 - 1) ≡ little bs / 2 ^ s % 2 ^ w
-of_eight bs s w small size first narrow =
+-- bits that the first eight bytes hold whole
+pub of_eight : (bs : List ℕ) (s w : ℕ) → IsBytes bs → 8 ≤ length bs → s + w ≤ 64 → little_number 8 bs / 2 ^ s % 2 ^ w ≡ little bs / 2 ^ s % 2 ^ w
+of_eight bs s w small size h =
     let low : little_number 8 bs ≡ little bs % 2 ^ 64 = front 8 bs size ∙ little-take bs 8 small in
-    masked_in 64 (little_number 8 bs) s w (omega (arith, narrow))
-    ∙ ap (λ n. n / 2 ^ s % 2 ^ w) low
-    ∙ low_bits (little bs) 64 s w (omega (arith, first, narrow))
+    ap (λ n. n / 2 ^ s % 2 ^ w) low ∙ low_bits (little bs) 64 s w h
 
 -- bits from a place in the first byte on lie in the first nine bytes
 pub of_nine : (bs near : List ℕ) (s w : ℕ) → IsBytes bs → near ≡ take 9 bs → s < 8 → w ≤ 64 → little near / 2 ^ s % 2 ^ w ≡ little bs / 2 ^ s % 2 ^ w

@@ -1,4 +1,4 @@
-//! Entries of packed bytes: by one load where eight bytes hold them wherever they begin, else joined from nine bytes at most.
+//! Entries of packed bytes: by one load where eight bytes hold them whole, else joined from nine bytes at most.
 ghost use Rattle.std.specs.Prelude.{◌≡◌, ◌≤◌, ◌<◌, ◌+◌, ◌*◌, ◌/◌, ◌%◌, ◌^◌, length};
 ghost use Rattle.hdt_seq.specs.Little.{little, entry, bit};
 
@@ -28,17 +28,16 @@ fn bits_between(number: u128, shift: u8, width: u8) -> u64
     ((number >> shift) & ((1 << width) - 1)) as u64
 }
 
-/// So many bits from a place in the first byte on, out of the first eight bytes: at most 57 of them are whole there,
-/// wherever they begin.
+/// So many bits from a place in the first byte on, out of the first eight bytes, which hold them whole.
 #[inline(always)]
 #[tactic(auto, using(crate::proofs::Joining::of_eight))]
 fn loaded_bits(rest: &[u8], shift: u8, width: u8) -> u64
     requires first { shift < 8 }
-    requires narrow { width ≤ 57 }
+    requires whole { shift + width ≤ 64 }
     requires within { 8 ≤ length rest.now }
     ensures { result ≡ little rest.now / 2 ^ shift % 2 ^ width }
 {
-    (LittleEndian::read_u64(rest) >> shift) & ((1 << width) - 1)
+    bits_between(u128::from(LittleEndian::read_u64(rest)), shift, width)
 }
 
 /// So many bits from a place in the first byte on, out of the first nine bytes or all.
@@ -53,14 +52,15 @@ fn joined_bits(rest: &[u8], shift: u8, width: u8) -> u64
     bits_between(joined(near), shift, width)
 }
 
-/// So many bits from a place in the first byte on.
+/// So many bits from a place in the first byte on. At most 56 bits are whole in eight bytes, wherever they begin: that is
+/// asked first, since it is the same for all entries of a width.
 #[inline(always)]
 fn bits_from(rest: &[u8], shift: u8, width: u8) -> u64
     requires first { shift < 8 }
     requires narrow { width ≤ 64 }
     ensures { result ≡ little rest.now / 2 ^ shift % 2 ^ width }
 {
-    if width <= 57 && rest.len() >= 8 {
+    if rest.len() >= 8 && (width <= 56 || shift + width <= 64) {
         loaded_bits(rest, shift, width)
     } else {
         joined_bits(rest, shift, width)
