@@ -40,6 +40,11 @@ returns-in_err-bytes-clause-count g c =
     let p = err_from_is_err_and c.from_residual.result c.from_residual.ensures.1 in
     rw p.1 tt
 
+pub returns-in_err-bytes-clause-write : goal.returns-in_err-bytes-clause-write
+returns-in_err-bytes-clause-write g c =
+    let p = err_from_is_err_and c.from_residual.result c.from_residual.ensures.1 in
+    rw (p.1, p.2) (λ n is. absurd (rw is at (c.in_err-bytes.ensures.told (λ bad. cc))))
+
 pub returns-in_err-bytes-clause-well : goal.returns-in_err-bytes-clause-well
 returns-in_err-bytes-clause-well g c =
     let p = err_from_is_err_and c.from_residual.result c.from_residual.ensures.1 in
