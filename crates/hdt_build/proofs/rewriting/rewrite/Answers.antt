@@ -16,13 +16,16 @@ pub returns-clause-write : goal.returns-clause-write
 returns-clause-write g c = λ n is.
     let same : n ≡ c.in-Err.count = cc in
     let part = rw c.as_slice.ensures.value at c.in-Err.ensures.part in
-    rw same (c.in-Err.ensures.failed, record {
-      bytes = c.in_ok-bytes.bytes.items;
-      report = c.in_ok-bytes.report;
-      rewritten = c.in_ok-bytes.ensures.made;
-      part = part.0;
-      written = part.1;
-    })
+    rw same (
+      c.in-Err.ensures.failed,
+      record {
+        bytes = c.in_ok-bytes.bytes.items;
+        report = c.in_ok-bytes.report;
+        rewritten = c.in_ok-bytes.ensures.made;
+        part = part.0;
+        written = part.1;
+      },
+    )
 
 pub returns-clause-unwritten : goal.returns-clause-unwritten
 returns-clause-unwritten g c = λ other. absurd (other c.in-Err.count refl)
