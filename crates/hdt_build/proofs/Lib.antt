@@ -21,4 +21,5 @@ mod Using
 mod Keeping
 mod TightForm
 mod Again
+mod Appending
 mod TwoRuns

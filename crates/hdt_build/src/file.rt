@@ -16,7 +16,7 @@ use hdt_wire::{Kind, put_control};
 use std::alloc::{AllocError, Global};
 
 /// Appends the head of a file with this header body: the global block, the header block and the body.
-#[tactic(auto, using(std::proofs::Common::append_assoc, crate::proofs::Heads::length_no_zero), unfolding(crate::specs::Canonical::canonical_head))]
+#[tactic(auto, using(crate::proofs::Heads::length_no_zero))]
 fn put_head(alloc: Global, header: &[u8], out: &mut Vec<u8>) -> Result<(), AllocError>
     ensures { OnOk result (out.new.items ≡ out.old.items ++ canonical_head header.now) }
 {
@@ -28,7 +28,6 @@ fn put_head(alloc: Global, header: &[u8], out: &mut Vec<u8>) -> Result<(), Alloc
 
 /// The canonical file of a header body, the four sections and the number triples of a graph, and a block size. The sections are
 /// let go before the triples are written.
-#[tactic(auto, using(std::proofs::Common::append_assoc), unfolding(crate::specs::Canonical::canonical_file))]
 fn canonical_file(
     alloc: Global,
     header: &[u8],

@@ -21,7 +21,6 @@ fn put_number(number: u64, out: &mut Vec<u8>) -> Result<(), AllocError>
 }
 
 /// Appends the line that tells what the file is.
-#[tactic(auto, using(std::proofs::Common::append_assoc), unfolding(crate::specs::Header::type_line))]
 fn put_type(base: &[u8], out: &mut Vec<u8>) -> Result<(), AllocError>
     ensures { OnOk result (out.new.items ≡ out.old.items ++ type_line base.now) }
 {
