@@ -1,6 +1,6 @@
 -- What a status says of the outcome that it was made of.
-use Rattle.std.proofs.Common.{◌≡◌, ◌≢◌, ◌⊎◌, ℕ, refl, inl, inr}
-use Rattle.std.specs.Prelude.{List, Result, Ok, Err, MatchResult, IfOk, IfErr}
+use Rattle.std.proofs.Common.{◌≡◌, ◌≢◌, ◌⊎◌, ◌∙◌, ℕ, refl, inl, inr}
+use Rattle.std.specs.Prelude.{List, Result, Ok, Err, MatchResult, IfOk, IfErr, OnOk}
 use Rattle.clap.specs.Words.{Text}
 use Rattle.hdt_tool.specs.declared.fault.ToolFault.{ToolFault}
 use Rattle.hdt_tool.specs.declared.fault.ToolFault.TheVariants.{File, Input, NoTriples, NoSuchTerm, NoSuchNumber, NotATerm, BadOptions, Read, Write, OutOfMemory}
@@ -29,6 +29,32 @@ pub command_status : (outcome : Result (Unit {0}) ToolFault) (status : ℕ)
 command_status (Ok done) status h = inl h
 command_status (Err fault) status (inl h) = inr (fault, h)
 command_status (Err fault) status (inr h) = inr (OutOfMemory, h)
+
+-- no fault ends with 0
+not_done : (fault : ToolFault) (status : ℕ) → (status ≡ fault_status fault) ⊎ (status ≡ 4) → status ≡ 0 → ⊥
+not_done (File fault) status (inl h) is = absurd cc
+not_done (Input fault) status (inl h) is = absurd cc
+not_done NoTriples status (inl h) is = absurd cc
+not_done BadOptions status (inl h) is = absurd cc
+not_done NoSuchTerm status (inl h) is = absurd cc
+not_done NoSuchNumber status (inl h) is = absurd cc
+not_done (NotATerm role n) status (inl h) is = absurd cc
+not_done Read status (inl h) is = absurd cc
+not_done (Write n) status (inl h) is = absurd cc
+not_done OutOfMemory status (inl h) is = absurd cc
+not_done fault status (inr h) is = absurd cc
+
+-- where the status is 0, what is so of a command that was done is so
+pub if_done : {A : Type 0} (outcome : Result (Unit {0}) ToolFault) (status : ℕ) → MatchResult outcome (λ _. status ≡ 0) (λ fault. (status ≡ fault_status fault) ⊎ (status ≡ 4))
+    → OnOk outcome A → status ≡ 0 → A
+if_done (Ok done) status of ok is = ok
+if_done (Err fault) status of ok is = absurd (not_done fault status of is)
+
+-- the status that stands with the line of a fault, where there is memory for it
+pub told_status : {S E : Type 0} (fault : ToolFault) (line : Result (ℕ × S) E) (status : ℕ) → IfOk line (λ said. said.0 ≡ fault_status fault)
+    → MatchResult line (λ said. status ≡ said.0) (λ _. status ≡ 4) → (status ≡ fault_status fault) ⊎ (status ≡ 4)
+told_status fault (Ok said) status is h = inl (h ∙ is)
+told_status fault (Err e) status is h = inr h
 
 -- where the status is not 0, nothing was written or the writer failed
 pub stopped : {A B : Type 0} (outcome : Result (Unit {0}) ToolFault) (status : ℕ) → MatchResult outcome (λ _. status ≡ 0) (λ fault. (status ≡ fault_status fault) ⊎ (status ≡ 4))

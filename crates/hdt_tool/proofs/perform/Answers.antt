@@ -1,8 +1,29 @@
-use Rattle.std.proofs.Common.{IfOk, MatchResult, sym, subst}
-use Rattle.std.proofs.lemmas.Result.{IfErr-weaker}
+use Rattle.std.proofs.Common.{IfOk, MatchResult, refl, sym, subst}
+use Rattle.std.proofs.lemmas.Result.{IfErr-weaker, on_ok_weaker}
 use Rattle.hdt_wire.specs.Counted.{inner}
-use Rattle.hdt_tool.specs.Answer.{Begins, Reports, Stops, Tells}
+use Rattle.hdt_tool.specs.Answer.{Answers, Begins, Performs, Reports, Stops, Tells}
 use Rattle.hdt_tool.proofs.perform.Goals as goal
+
+pub returns-in-Err-clause-unwritten : goal.returns-in-Err-clause-unwritten
+returns-in-Err-clause-unwritten g c = λ _. refl
+
+pub returns-clause-ok : goal.returns-clause-ok
+returns-clause-ok g c =
+    let left = g.R.Read.remaining in
+    let action = c.args.request.now.action in
+    let after = left (inner c.run.new.input) in
+    let old = g.W.Write.contents (inner c.args.out.now) in
+    let new = g.W.Write.contents (inner c.run.new.out) in
+    let made = c.args.made.now.items in
+    let more = c.run.new.made.items in
+    on_ok_weaker c.run.result (λ h. subst (λ file. MatchResult file (λ input. Performs action (left input) old new made more) (λ _. ⊥)) (sym c.in-Ok.is)
+    (record { after = after; answers = subst (λ input. Answers action (left input) after old new made more) c.new-input.ensures.inner h })) c.run.ensures.ok
+
+pub returns-clause-writer_well : goal.returns-clause-writer_well
+returns-clause-writer_well g c = c.run.ensures.writer_well
+
+pub returns-clause-unwritten : goal.returns-clause-unwritten
+returns-clause-unwritten g c = c.run.ensures.unwritten
 
 pub returns-clause-told : goal.returns-clause-told
 returns-clause-told g c =
