@@ -63,11 +63,11 @@ found_front bytes n after f = record { no_end = f.2; end = inl (f.0, f.1) }
 
 -- ---- one more read into bytes that end no line
 
-pub filled_end : (old held new : List ℕ) (a b c : Option (List ℕ)) (most : ℕ) → Grew old held a b → NoEnd held → length held ≤ most → ReadMore (Ok false) held new b c most
-    → Filled (Ok (length held)) old new a c most
-filled_end old held new a b c most grew none le p = (
+pub filled_end : (n : ℕ) (old held new : List ℕ) (a b c : Option (List ℕ)) (most : ℕ) → n ≡ length held → Grew old held a b → NoEnd held → length held ≤ most
+    → ReadMore (Ok false) held new b c most → Filled (Ok n) old new a c most
+filled_end n old held new a b c most is grew none le p = (
   Grew-trans old held new a b c grew p.0,
-  subst (λ l. LineFront (length held) l c) (sym p.1) (record { no_end = subst NoEnd (sym (take_all (length held) held (omega arith))) none; end = inr (refl, p.2) }),
+  subst (λ l. LineFront n l c) (sym p.1) (record { no_end = subst NoEnd (sym (take_all n held (omega (arith, is)))) none; end = inr (is, p.2) }),
   omega (arith, ap length p.1),
 )
 

@@ -5,7 +5,7 @@ use Rattle.hdt_terms.proofs.filling.fill.Goals as goal
 pub returns-in-Ok-false-clause-does : goal.returns-in-Ok-false-clause-does
 returns-in-Ok-false-clause-does g c =
     let ended = rw c.in-Ok-false.field-0-test at c.in-Ok-false.ensures.does in
-    rw c.len-searched.ensures (filled_end _ c.fill.held _ _ _ _ _ c.fill.invariant.grew c.fill.invariant.no_end c.fill.invariant.room ended)
+    filled_end c.len-searched.result _ c.fill.held _ _ _ _ _ c.len-searched.ensures c.fill.invariant.grew c.fill.invariant.no_end c.fill.invariant.room ended
 
 pub returns-in-Ok-false-clause-count : goal.returns-in-Ok-false-clause-count
 returns-in-Ok-false-clause-count g c = c.in-Ok-false.ensures.count ∙ c.fill.invariant.count
