@@ -14,7 +14,7 @@ use Rattle.hdt_terms.specs.Chars.{is_end}
 use Rattle.hdt_terms.specs.Filling.{Grew, LineFront, Filled}
 use Rattle.hdt_terms.specs.LineReading.{is_bare}
 use Rattle.hdt_terms.specs.Lines.{NoEnd, Line, BareLines}
-use Rattle.hdt_terms.specs.Taking.{State, left, take_of, take_line, Takes, OneLine, WholeLine, StandsInLine, Stands, FaultOfTriple, Looked}
+use Rattle.hdt_terms.specs.Taking.{State, left, take_of, take_line, Takes, OneLine, WholeLine, StandsInLine, Stands, FaultOfTriple, Looked, Finds}
 use Rattle.hdt_terms.proofs.LineFound.{line_fault}
 
 -- ---- what is left
@@ -211,3 +211,11 @@ module _ (a s held new : State) (before given given' : Option (List ℕ)) (n mos
   held_taken going is =
       subst (λ (t : State). LineTaken s t (take n held.held) (left s given) (left t given')) (sym (is ∙ ap (λ (x : State). take_line x n) others))
       (line_taken s held.held n given given' filled.0 filled.1 within going)
+
+  pub held_ready : s.ended ≡ false → Looked (Ok false) held (take n held.held) → Finds (Ok (Some n)) a held before (left held given') given'
+  held_ready going seen = (
+    front,
+    subst (λ (t : State). Takes a t before (left t given') front) (sym others) (takes_held a s held.held before given given' front takes filled.0 within),
+    bare,
+    record { front = filled.1; utf8 = seen.0; triple = seen.1; going = ap (λ (x : State). x.ended) others ∙ going },
+  )

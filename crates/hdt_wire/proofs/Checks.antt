@@ -96,3 +96,7 @@ pub entry32 : (register byte : ℕ) → byte < 256 → bit_xor (register / 256) 
 unfolding take32
 entry32 register byte lt =
     by_entry 0x82F63B78 register byte _ lt (row_of (iterate (shift_right 0x82F63B78) 8) AFTER_8 (bit_xor (register % 256) byte) after_8_holds (xor_lt 8 (register % 256) byte (omega arith) lt))
+
+-- the place of a byte in its table
+pub low_fits : (register byte : ℕ) → byte < 256 → bit_xor (register % 256) byte < 256
+low_fits register byte lt = xor_lt 8 (register % 256) byte (omega arith) lt
