@@ -1,5 +1,5 @@
 -- The number before an entry in its group.
-use Rattle.std.proofs.Common.{List, Bool, true, false, cond, add-one, slice_index, ◌≡◌, ℕ, ◌+◌, suc, refl, ap, ◌∙◌, slice_get, Some}
+use Rattle.std.proofs.Common.{List, Bool, true, false, cond, add-one, slice_index, ◌≡◌, ℕ, ◌+◌, refl, ap, ◌∙◌, slice_get, Some}
 use Rattle.std.proofs.lemmas.Option.{get_or_from_slice_get}
 use Rattle.hdt_triples.specs.Triples.{earlier}
 

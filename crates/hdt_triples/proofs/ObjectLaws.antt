@@ -1,5 +1,5 @@
 -- The triples at an object's places.
-use Rattle.std.proofs.Common.{◌≡◌, ◌≢◌, ℕ, ◌+◌, ◌-◌, ◌<◌, ◌≤◌, ◌==◌, ◌&&◌, List, [], ◌∷◌, length, map, filter, drop, refl, ap, sym, ◌∙◌, arith, Bool, true, false, cond, Some, slice_index, subst, eq-eqb}
+use Rattle.std.proofs.Common.{◌≡◌, ◌≢◌, ℕ, ◌+◌, ◌<◌, ◌≤◌, ◌==◌, ◌&&◌, List, [], ◌∷◌, length, map, filter, drop, refl, ap, sym, ◌∙◌, arith, Bool, true, false, cond, Some, slice_index, subst, eq-eqb}
 use Rattle.std.proofs.lemmas.Bool.{ne_eqb, eqb-true}
 use Rattle.std.proofs.lemmas.List.{nil_from_length}
 use Rattle.std.proofs.lemmas.List.Elements.{filter_passes, All-filter, All-from_get_or, All-rest}
@@ -7,7 +7,6 @@ use Rattle.std.proofs.lemmas.List.FromFn.{length-range_with_len, get_or-range_wi
 use Rattle.std.specs.List.{All, range_with_len}
 use Rattle.hdt_triples.specs.declared.pattern.Pattern.{Pattern}
 use Rattle.hdt_triples.specs.Counting.{BitmapTriples, Triple, triple_at, triples_of}
-use Rattle.hdt_triples.specs.Walking.{triples_from}
 use Rattle.hdt_triples.specs.Patterns.{agrees, admits, matches}
 use Rattle.hdt_triples.specs.Bounds.{of_object, object_price, Pays, limit}
 use Rattle.hdt_triples.specs.Lists.{places_of, IsPlaceOf}

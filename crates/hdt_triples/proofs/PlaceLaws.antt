@@ -1,46 +1,48 @@
 -- A place, and the place after it.
-use Rattle.std.proofs.Common.{◌≡◌, ℕ, ◌+◌, ◌-◌, ◌<◌, ◌≤◌, length, ap, sym, ◌∙◌, arith, true, false, slice_get, Some}
+use Rattle.std.proofs.Common.{◌≡◌, ℕ, ◌+◌, ◌-◌, ◌<◌, ◌≤◌, length, ap, arith, Bool, true, false, ◌&&◌, slice_get, Some}
+use Rattle.std.specs.Int.{from_bool}
 use Rattle.std.proofs.lemmas.Option.{slice_get_within}
 use Rattle.hdt_seq.specs.Marks.{marks_before}
 use Rattle.hdt_seq.specs.MarksLaws.{marks_marked, marks_unmarked}
-use Rattle.hdt_triples.specs.Counting.{BitmapTriples, Counts, IsMarked, AreTriples, pair_of, subject_at}
+use Rattle.hdt_triples.specs.Counting.{BitmapTriples, Counts, IsMarked, AreTriples}
 use Rattle.hdt_triples.specs.OrderLaws.{pair_within}
 use Rattle.hdt_triples.specs.Walking.{Stands}
 use Rattle.hdt_triples.specs.declared.place.Place.{Place}
-
--- the pair goes on
-pub goes_on : (f : BitmapTriples) (p : Place) → Stands f p → p.at < length f.zs → slice_get f.mz p.at ≡ Some false
-    → Stands f (record { at = p.at + 1; pair = p.pair; subject = p.subject })
-goes_on f p s h mark = record {
-  within = omega (arith, h);
-  pair_is = s.pair_is ∙ sym (marks_unmarked f.mz p.at mark);
-  subject_is = s.subject_is;
-}
-
-next_pair : (f : BitmapTriples) (p : Place) → Stands f p → slice_get f.mz p.at ≡ Some true → p.pair + 1 ≡ pair_of f (p.at + 1)
-next_pair f p s mark = omega (arith, s.pair_is, marks_marked f.mz p.at mark)
 
 -- its pair is there
 pub within_pairs : (f : BitmapTriples) (p : Place) → IsMarked f → Stands f p → p.at < length f.zs → p.pair < length f.ys
 within_pairs f p m s h = omega (arith, s.pair_is, pair_within f m p.at h)
 
--- the pair ends, and the subject goes on
-pub pair_ends : (f : BitmapTriples) (p : Place) → Stands f p → p.at < length f.zs → slice_get f.mz p.at ≡ Some true → slice_get f.my p.pair ≡ Some false
-    → Stands f (record { at = p.at + 1; pair = p.pair + 1; subject = p.subject })
-pair_ends f p s h mark more = record {
-  within = omega (arith, h);
-  pair_is = next_pair f p s mark;
-  subject_is = s.subject_is ∙ ap (λ n. n + 1) (sym (marks_unmarked f.my p.pair more));
-}
+-- the place after it, as the mark at its triple and the one at its pair say
+pub goes_on : (f : BitmapTriples) (p : Place) (ends_pair marked : Bool) (pairs subjects : ℕ) → Stands f p → p.at < length f.zs
+    → slice_get f.mz p.at ≡ Some ends_pair → slice_get f.my p.pair ≡ Some marked → pairs ≡ from_bool ends_pair → subjects ≡ from_bool (ends_pair && marked)
+    → Stands f (record { at = p.at + 1; pair = p.pair + pairs; subject = p.subject + subjects })
+goes_on f p false marked pairs subjects s h mark _ none same =
+    let stays : p.pair ≡ p.pair + pairs = omega (arith, none) in
+    record {
+      within = omega (arith, h);
+      pair_is = omega (arith, s.pair_is, marks_unmarked f.mz p.at mark, none);
+      subject_is = omega (arith, s.subject_is, same, ap (marks_before f.my) stays);
+    }
+goes_on f p true false pairs subjects s h mark more one same =
+    let next : p.pair + 1 ≡ p.pair + pairs = omega (arith, one) in
+    record {
+      within = omega (arith, h);
+      pair_is = omega (arith, s.pair_is, marks_marked f.mz p.at mark, one);
+      subject_is = omega (arith, s.subject_is, same, marks_unmarked f.my p.pair more, ap (marks_before f.my) next);
+    }
+goes_on f p true true pairs subjects s h mark last one more =
+    let next : p.pair + 1 ≡ p.pair + pairs = omega (arith, one) in
+    record {
+      within = omega (arith, h);
+      pair_is = omega (arith, s.pair_is, marks_marked f.mz p.at mark, one);
+      subject_is = omega (arith, s.subject_is, more, marks_marked f.my p.pair last, ap (marks_before f.my) next);
+    }
 
--- the subject ends
-pub subject_ends : (f : BitmapTriples) (p : Place) → Stands f p → p.at < length f.zs → slice_get f.mz p.at ≡ Some true → slice_get f.my p.pair ≡ Some true
-    → Stands f (record { at = p.at + 1; pair = p.pair + 1; subject = p.subject + 1 })
-subject_ends f p s h mark last = record {
-  within = omega (arith, h);
-  pair_is = next_pair f p s mark;
-  subject_is = omega (arith, s.subject_is, marks_marked f.my p.pair last);
-}
+-- a mark is one at most
+pub at_most_one : (mark : Bool) (n : ℕ) → n ≡ from_bool mark → n ≤ 1
+at_most_one true n is = omega (arith, is)
+at_most_one false n is = omega (arith, is)
 
 -- no more subjects than the count
 pub subjects_few : (counts : Counts) (f : BitmapTriples) → AreTriples counts f → marks_before f.my (length f.my) ≤ counts.subjects

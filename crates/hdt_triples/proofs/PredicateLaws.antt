@@ -4,7 +4,7 @@ use Rattle.std.proofs.lemmas.Bool.{ne_eqb, cases_lt}
 use Rattle.hdt_seq.specs.Width.{digits}
 use Rattle.hdt_seq.specs.Directory.{groups}
 use Rattle.hdt_seq.specs.Marks.{marks_before}
-use Rattle.hdt_triples.specs.Counting.{BitmapTriples, IsMarked, Triple, triple_at, triples_of, subject_at, pair_of}
+use Rattle.hdt_triples.specs.Counting.{BitmapTriples, IsMarked, Triple, triple_at, subject_at, pair_of}
 use Rattle.hdt_triples.specs.Walking.{triples_from}
 use Rattle.hdt_triples.specs.Patterns.{agrees, matches}
 use Rattle.hdt_triples.specs.Bounds.{of_predicate, predicate_price, Pays, limit, counting, jump}

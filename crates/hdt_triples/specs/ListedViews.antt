@@ -3,7 +3,6 @@ use Rattle.std.specs.Prelude.{ℕ, ◌+◌, length}
 use Rattle.hdt_seq.specs.Directory.{groups}
 use Rattle.hdt_triples.specs.Counting.{BitmapTriples, Counts}
 use Rattle.hdt_triples.specs.CountsView.{counts_of}
-use Rattle.hdt_triples.specs.Views.{bitmap_read}
 use Rattle.hdt_triples.specs.declared.triples.Triples.{Triples}
 use Rattle.hdt_triples.specs.declared.indexed.IndexedTriples.{IndexedTriples}
 use Rattle.hdt_triples.specs.declared.listed.ListedTriples.{ListedTriples}

@@ -3,7 +3,7 @@ use Rattle.std.proofs.Common.{◌≡◌, ◌⊎◌, ℕ, ◌+◌, ◌<◌, Bool,
 use Rattle.std.proofs.lemmas.Option.{slice_get-get_or}
 use Rattle.hdt_seq.specs.Marks.{marks_before}
 use Rattle.hdt_seq.specs.MarksLaws.{marks_marked, marks_unmarked, marks_before_last}
-use Rattle.hdt_triples.specs.Counting.{BitmapTriples, Counts, Triple, subject_at, pair_of, triple_at, triples_of, IsMarked, AreGrouped, AreTriples}
+use Rattle.hdt_triples.specs.Counting.{BitmapTriples, Counts, subject_at, pair_of, triple_at, triples_of, IsMarked, AreGrouped, AreTriples}
 use Rattle.hdt_triples.specs.CountingLaws.{length-triples, triple_is}
 use Rattle.hdt_triples.specs.Order.{TripleLess, AreAscending, IsInRange, AreInRange}
 

@@ -1,6 +1,6 @@
 -- The triples (HDT submission, triples; rdfhdt.org, "HDT binary format", Bitmap Triples): a control block whose
 -- property `order` is 1, two bit sequences and two number sequences, by which the triples are counted.
-use Rattle.std.specs.Prelude.{◌≡◌, ℕ, ◌+◌, ◌-◌, ◌<◌, ◌≤◌, ◌==◌, ◌&&◌, Bool, false, nat_le, nat_lt, List, codes, length, slice_index, slice_index_or, Option, Some, None, Result, Ok, zero, suc, if◌then◌else◌}
+use Rattle.std.specs.Prelude.{◌≡◌, ℕ, ◌+◌, ◌-◌, ◌==◌, ◌&&◌, Bool, false, nat_le, nat_lt, List, codes, length, slice_index, slice_index_or, Option, Some, None, Result, Ok, zero, suc, if◌then◌else◌}
 use Rattle.std.specs.Str.{bytes_eq}
 use Rattle.hdt_wire.specs.declared.fault.Fault.{Fault}
 use Rattle.hdt_wire.specs.declared.fault.Reason.{Reason}

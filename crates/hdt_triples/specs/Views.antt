@@ -1,8 +1,7 @@
 -- Triples that were read, as the layout sees them.
-use Rattle.std.specs.Prelude.{ℕ, List, Bool, Result}
+use Rattle.std.specs.Prelude.{ℕ, List, Result}
 use Rattle.hdt_wire.specs.declared.fault.Fault.{Fault}
 use Rattle.hdt_wire.specs.Exact.{seen}
-use Rattle.hdt_seq.specs.Sequence.{Sequence, Places}
 use Rattle.hdt_seq.specs.Numbers.{numbers_of}
 use Rattle.hdt_seq.specs.Bits.{bits_of}
 use Rattle.hdt_triples.specs.Counting as counting

@@ -1,7 +1,6 @@
 -- The four sequences of triples that can be written fit together, their triples by counting are those triples, and
 -- their bytes are read again, whatever stands around them.
-use Rattle.std.proofs.Common.{◌≡◌, ◌⊎◌, ℕ, ◌+◌, ◌<◌, ◌≤◌, ◌^◌, ◌&&◌, Bool, true, false, nat_eq, List, [], ◌∷◌, ◌++◌, length, get_or, slice_index, map, codes, Ok, Some, inl, inr, refl, ap, sym, ◌∙◌, subst, arith, eqb, not}
-use Rattle.std.specs.List.{dedup, range_with_len}
+use Rattle.std.proofs.Common.{◌≡◌, ℕ, ◌+◌, ◌<◌, ◌≤◌, ◌^◌, ◌&&◌, Bool, true, false, nat_eq, List, [], ◌∷◌, ◌++◌, length, get_or, map, codes, Ok, Some, inl, inr, refl, ap, sym, ◌∙◌, subst, arith, eqb, not}
 use Rattle.std.proofs.lemmas.Bool.{cases_lt, and_parts, eqb-true, eq-eqb, eqb-false}
 use Rattle.std.proofs.lemmas.List.{get_or-map, get_or_past, length-map, get_or_default, same_lists}
 use Rattle.std.proofs.lemmas.List.FromFn.{length-map-range_with_len, get_or-map-range_with_len}
@@ -24,7 +23,7 @@ use Rattle.hdt_seq.specs.ExactSequences.{IsNumberSequence, IsBitSequence}
 use Rattle.hdt_triples.specs.Counting.{Triple, BitmapTriples, Counts, triple_at, triples_of, IsMarked, AreGrouped, AreTriples}
 use Rattle.hdt_triples.specs.Order.{triple_in, TripleLess, AreFew, AreWithin, AreWritable}
 use Rattle.hdt_triples.specs.Groups.{last_marks}
-use Rattle.hdt_triples.specs.GroupLaws.{length-last_marks, last_is_marked, mark_inside, group_at, group_within, groups, linked_groups, first_group, counted, all_groups, get_or-map_any}
+use Rattle.hdt_triples.specs.GroupLaws.{length-last_marks, last_is_marked, group_at, group_within, groups, linked_groups, first_group, counted, all_groups, get_or-map_any}
 use Rattle.hdt_triples.specs.Triples.{IsTriples, triples_at}
 use Rattle.hdt_triples.specs.TriplesLaws.{triples_exact}
 use Rattle.hdt_triples.specs.Writing.{pair_eq, all_pairs, pairs_of, sequences_of, ordered, canonical_sequences, sequences_parts, canonical_triples, canonical_triples_parts}

@@ -69,24 +69,13 @@ impl<'a> Triples<'a> {
         ensures cost { steps.new ≤ steps.old + 2 }
         ensures more { steps.old ≤ steps.new }
     {
-        let at = place.at + 1;
-        if mark(&self.mz, place.at, steps) {
-            let pair = place.pair + 1;
-            if mark(&self.my, place.pair, steps) {
-                Place {
-                    at,
-                    pair,
-                    subject: place.subject + 1,
-                }
-            } else {
-                Place {
-                    at,
-                    pair,
-                    subject: place.subject,
-                }
-            }
-        } else {
-            Place { at, ..place }
+        // By sums and no branch: which triples end a pair, and which pairs a subject, is not to be foreseen.
+        let ends_pair = mark(&self.mz, place.at, steps);
+        let ends_subject = ends_pair & mark(&self.my, place.pair, steps);
+        Place {
+            at: place.at + 1,
+            pair: place.pair + u64::from(ends_pair),
+            subject: place.subject + u64::from(ends_subject),
         }
     }
 }

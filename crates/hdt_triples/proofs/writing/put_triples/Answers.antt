@@ -1,4 +1,4 @@
-use Rattle.std.proofs.Common.{◌≡◌, ◌+◌, ◌++◌, ◌<◌, ◌^◌, length, map, arith, sym, ap, ◌∙◌, ℕ, List, [], append-nil, subst, Result, Ok, Err}
+use Rattle.std.proofs.Common.{◌≡◌, ◌+◌, ◌++◌, ◌<◌, ◌^◌, length, arith, sym, ap, ◌∙◌, ℕ, List, [], append-nil, subst, Result, Ok, Err}
 use Rattle.std.specs.Prelude.{OnOk}
 use Rattle.hdt_wire.specs.Rows.{Stands}
 use Rattle.hdt_wire.specs.RowLaws.{Stands-after}

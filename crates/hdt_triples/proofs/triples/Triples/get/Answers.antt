@@ -1,6 +1,4 @@
-use Rattle.std.proofs.Common.{◌≡◌, ◌<◌, length, arith}
-use Rattle.hdt_seq.specs.Bits.{bits_of}
-use Rattle.hdt_seq.specs.Numbers.{numbers_of}
+use Rattle.std.proofs.Common.{arith}
 use Rattle.hdt_seq.specs.BitsLaws.{bits_below}
 use Rattle.hdt_triples.specs.Views.{bitmap_read}
 use Rattle.hdt_triples.specs.OrderLaws.{pair_within}
