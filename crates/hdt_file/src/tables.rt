@@ -1,5 +1,5 @@
 //! All strings of a graph as pieces of lines, each made once: what a dump takes its lines from.
-ghost use Rattle.std.specs.Prelude.{◌≡◌, ℕ, List, map, IfOk, IfErr, OnOk};
+ghost use Rattle.std.specs.Prelude.{◌≡◌, ◌++◌, ℕ, List, map, IfOk, IfErr, OnOk};
 ghost use Rattle.hdt_file.specs.File.{GraphParts};
 ghost use Rattle.hdt_file.specs.Pieces.{ArePieces, AreTables, AppendsPiece, GrowsByPiece, IsPiece, behind, piece_in};
 ghost use Rattle.hdt_file.specs.TextWriting.{AppendsLine, AppendsText, TellsFirstIn, TellsFirstOf, TellsString};
@@ -22,13 +22,13 @@ pub struct Tables {
     objects: Arena,
 }
 
-/// What follows the term of a role in a line.
-fn behind(role: Role) -> &'static [u8]
-    ensures { result.now ≡ behind role }
+/// Appends what follows the term of a role in a line.
+fn append_behind(role: Role, out: &mut Vec<u8>) -> Result<(), AllocError>
+    ensures { OnOk result (out.new.items ≡ out.old.items ++ behind role) }
 {
     match role {
-        Role::Subject | Role::Predicate => b" ",
-        Role::Object => b" .\n",
+        Role::Subject | Role::Predicate => out.extend_from_slice(b" "),
+        Role::Object => out.extend_from_slice(b" .\n"),
     }
 }
 
@@ -37,7 +37,7 @@ fn put_piece(role: Role, string: &[u8], out: &mut Vec<u8>) -> Result<(), AllocEr
     ensures { OnOk result (GrowsByPiece role string.now out.old.items out.new.items) }
 {
     match put_role_term(role, string, out) {
-        Ok(()) => out.extend_from_slice(behind(role)),
+        Ok(()) => append_behind(role, out),
         Err(StringFault::NotATerm) => Ok(()),
         Err(StringFault::OutOfMemory) => Err(AllocError),
     }
