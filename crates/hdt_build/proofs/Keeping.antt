@@ -1,5 +1,5 @@
 -- What a graph denotes, over the strings that its triples use.
-use Rattle.std.proofs.Common.{◌≡◌, ◌∙◌, ℕ, ◌+◌, ◌-◌, ◌<◌, ◌≤◌, List, [], ◌∷◌, ◌++◌, map, length, get_or, slice_index, Option, None, Bool, true, refl, ap, sym, subst, inl, inr, arith}
+use Rattle.std.proofs.Common.{◌≡◌, ◌∙◌, ℕ, ◌+◌, ◌-◌, ◌<◌, ◌≤◌, List, [], ◌∷◌, ◌++◌, map, length, get_or, None, true, refl, ap, sym, subst, inl, inr, arith}
 use Rattle.std.specs.List.{All, Contains}
 use Rattle.std.proofs.lemmas.Bool.{cases_lt}
 use Rattle.std.proofs.lemmas.List.{get_or_append_left, get_or-append-add, get_or_default, length-append, length-map}
@@ -13,16 +13,18 @@ use Rattle.hdt_triples.specs.Counting.{Triple}
 use Rattle.hdt_triples.specs.Patterns.{agrees, matches}
 use Rattle.hdt_triples.specs.Uses.{part, Uses}
 use Rattle.hdt_triples.specs.declared.pattern.Pattern.{Pattern}
+use Rattle.hdt_file.specs.Denoted.{strings_of}
 use Rattle.hdt_file.specs.File.{GraphParts}
-use Rattle.hdt_file.specs.Graph.{IsGraph, counts_of}
+use Rattle.hdt_file.specs.Graph.{IsGraph}
 use Rattle.hdt_file.specs.Views.{strings_in}
 use Rattle.hdt_build.specs.Documents.{AreSound}
 use Rattle.hdt_build.specs.Graph.{StringTriple, subjects_of, predicates_of, objects_of, triple_at, triples_of}
-use Rattle.hdt_build.specs.Layouts.{named, denoted_by}
+use Rattle.hdt_build.specs.Layouts.{denoted_by}
 use Rattle.hdt_build.specs.Numbers.{term_at}
 use Rattle.hdt_build.specs.Reading.{AreTexts}
 use Rattle.hdt_build.specs.Used.{AreAllUsed, places_at}
 use Rattle.hdt_build.proofs.Denoting.{same_strings}
+use Rattle.hdt_build.proofs.Naming.{named, denoted_is}
 
 -- ---- the pattern that gives nothing
 
@@ -80,17 +82,28 @@ all_of g h k d lt =
     to t s p o Predicate = p
     to t s p o Object = o
 
-pub some_denoted : (g : GraphParts) → IsGraph g → 0 < length (denoted_by g)
-some_denoted g h = omega (arith, h.some, length-map g.triples (named g))
+abbrev named_all : GraphParts → List StringTriple
+named_all g = map (named g) g.triples
 
-pub denoted_texts : (g : GraphParts) → IsGraph g → AreTexts (denoted_by g)
-denoted_texts g h =
+denoted_named : (g : GraphParts) → IsGraph g → denoted_by g ≡ named_all g
+denoted_named g h =
+    let all = all_of g h in
+    denoted_is g g.triples (λ k d lt. let t = all k d lt in (t.from Subject, t.from Predicate, t.from Object))
+
+pub some_denoted : (g : GraphParts) → IsGraph g → 0 < length (denoted_by g)
+some_denoted g h = omega (arith, h.some, length-map g.triples (strings_of g))
+
+named_texts : (g : GraphParts) → IsGraph g → AreTexts (named_all g)
+named_texts g h =
     let all = all_of g h in
     record {
-      subjects_are = All-map IsText (λ (t : StringTriple). t.0) (denoted_by g) (All-map (λ (t : StringTriple). IsText t.0) (named g) g.triples (λ k d lt. let t = all k d lt in string_text g h Subject _ (t.from Subject) (t.to Subject)));
-      predicates_are = All-map IsText (λ (t : StringTriple). t.1) (denoted_by g) (All-map (λ (t : StringTriple). IsText t.1) (named g) g.triples (λ k d lt. let t = all k d lt in string_text g h Predicate _ (t.from Predicate) (t.to Predicate)));
-      objects_are = All-map IsText (λ (t : StringTriple). t.2) (denoted_by g) (All-map (λ (t : StringTriple). IsText t.2) (named g) g.triples (λ k d lt. let t = all k d lt in string_text g h Object _ (t.from Object) (t.to Object)));
+      subjects_are = All-map IsText (λ (t : StringTriple). t.0) (named_all g) (All-map (λ (t : StringTriple). IsText t.0) (named g) g.triples (λ k d lt. let t = all k d lt in string_text g h Subject _ (t.from Subject) (t.to Subject)));
+      predicates_are = All-map IsText (λ (t : StringTriple). t.1) (named_all g) (All-map (λ (t : StringTriple). IsText t.1) (named g) g.triples (λ k d lt. let t = all k d lt in string_text g h Predicate _ (t.from Predicate) (t.to Predicate)));
+      objects_are = All-map IsText (λ (t : StringTriple). t.2) (named_all g) (All-map (λ (t : StringTriple). IsText t.2) (named g) g.triples (λ k d lt. let t = all k d lt in string_text g h Object _ (t.from Object) (t.to Object)));
     }
+
+pub denoted_texts : (g : GraphParts) → IsGraph g → AreTexts (denoted_by g)
+denoted_texts g h = subst AreTexts (sym (denoted_named g h)) (named_texts g h)
 
 -- ---- the same triples over the strings that are used
 
@@ -105,29 +118,32 @@ module _ (g : GraphParts) (ss ps os : List (List ℕ)) (sp pp op : List ℕ) (s 
       let f = each_kept ts (All-tail (IsOf g) t ts h) in
       λ i. e i ∷ f i
 
+  all_kept : IsGraph g → triples_of ss ps os (map (places_at sp pp op) g.triples) ≡ named_all g
+  all_kept h = each_kept g.triples (all_of g h)
+
   pub graph_kept : IsGraph g → triples_of ss ps os (map (places_at sp pp op) g.triples) ≡ denoted_by g
-  graph_kept h = each_kept g.triples (all_of g h)
+  graph_kept h = all_kept h ∙ sym (denoted_named g h)
 
   -- a string that triples use is one of what they denote
-  subject_named : (x : List ℕ) (n : ℕ) → Uses g.triples Subject n → term_at (strings_in g Subject) n ≡ x → Contains (subjects_of (denoted_by g)) x
+  subject_named : (x : List ℕ) (n : ℕ) → Uses g.triples Subject n → term_at (strings_in g Subject) n ≡ x → Contains (subjects_of (named_all g)) x
   subject_named x n used is =
       let t = Contains-from_map (part Subject) g.triples n used in
-      subst (Contains (subjects_of (denoted_by g))) (ap (term_at (strings_in g Subject)) t.2 ∙ is) (Contains-map (λ (t : StringTriple). t.0) (denoted_by g) (named g t.0) (Contains-map (named g) g.triples t.0 t.1))
+      subst (Contains (subjects_of (named_all g))) (ap (term_at (strings_in g Subject)) t.2 ∙ is) (Contains-map (λ (t : StringTriple). t.0) (named_all g) (named g t.0) (Contains-map (named g) g.triples t.0 t.1))
 
-  predicate_named : (x : List ℕ) (n : ℕ) → Uses g.triples Predicate n → term_at (strings_in g Predicate) n ≡ x → Contains (predicates_of (denoted_by g)) x
+  predicate_named : (x : List ℕ) (n : ℕ) → Uses g.triples Predicate n → term_at (strings_in g Predicate) n ≡ x → Contains (predicates_of (named_all g)) x
   predicate_named x n used is =
       let t = Contains-from_map (part Predicate) g.triples n used in
-      subst (Contains (predicates_of (denoted_by g))) (ap (term_at (strings_in g Predicate)) t.2 ∙ is) (Contains-map (λ (t : StringTriple). t.1) (denoted_by g) (named g t.0) (Contains-map (named g) g.triples t.0 t.1))
+      subst (Contains (predicates_of (named_all g))) (ap (term_at (strings_in g Predicate)) t.2 ∙ is) (Contains-map (λ (t : StringTriple). t.1) (named_all g) (named g t.0) (Contains-map (named g) g.triples t.0 t.1))
 
-  object_named : (x : List ℕ) (n : ℕ) → Uses g.triples Object n → term_at (strings_in g Object) n ≡ x → Contains (objects_of (denoted_by g)) x
+  object_named : (x : List ℕ) (n : ℕ) → Uses g.triples Object n → term_at (strings_in g Object) n ≡ x → Contains (objects_of (named_all g)) x
   object_named x n used is =
       let t = Contains-from_map (part Object) g.triples n used in
-      subst (Contains (objects_of (denoted_by g))) (ap (term_at (strings_in g Object)) t.2 ∙ is) (Contains-map (λ (t : StringTriple). t.2) (denoted_by g) (named g t.0) (Contains-map (named g) g.triples t.0 t.1))
+      subst (Contains (objects_of (named_all g))) (ap (term_at (strings_in g Object)) t.2 ∙ is) (Contains-map (λ (t : StringTriple). t.2) (named_all g) (named g t.0) (Contains-map (named g) g.triples t.0 t.1))
 
   pub sound_kept : IsGraph g → AreSound ss ps os (map (places_at sp pp op) g.triples)
   sound_kept h =
       let all = all_of g h in
-      let same = sym (graph_kept h) in
+      let same = sym (all_kept h) in
       record {
         subjects_within = All-map (λ (t : Triple). t.0 < length ss) (places_at sp pp op) g.triples (λ k d lt. let t = all k d lt in s.within _ (t.from Subject) (t.to Subject) (t.used Subject));
         predicates_within = All-map (λ (t : Triple). t.1 < length ps) (places_at sp pp op) g.triples (λ k d lt. let t = all k d lt in p.within _ (t.from Predicate) (t.to Predicate) (t.used Predicate));

@@ -13,6 +13,7 @@ pub mod Numbering
 pub mod OneDocument
 pub mod Order
 pub mod Moving
+pub mod Naming
 pub mod Placing
 pub mod Ranking
 pub mod Runs

@@ -1,5 +1,5 @@
 -- The strings that triples use, one after another.
-use Rattle.std.proofs.Common.{◌≡◌, ◌∙◌, ℕ, ◌+◌, ◌-◌, ◌<◌, ◌≤◌, List, [], ◌∷◌, ◌++◌, length, drop, get_or, slice_index, Bool, true, false, Option, Some, None, refl, ap, sym, subst, inl, inr, arith}
+use Rattle.std.proofs.Common.{◌≡◌, ◌∙◌, ℕ, ◌+◌, ◌-◌, ◌<◌, ◌≤◌, List, [], ◌∷◌, ◌++◌, length, drop, get_or, slice_index, Bool, true, false, Option, Some, refl, ap, sym, subst, inl, inr, arith}
 use Rattle.std.proofs.lemmas.Bool.{cases_lt}
 use Rattle.std.proofs.lemmas.List.{get_or_push, get_or_append_left, length_push, get_or-drop, drop-drop, length-drop}
 use Rattle.hdt_wire.specs.declared.role.Role.{Role}
@@ -8,7 +8,7 @@ use Rattle.hdt_triples.specs.Uses.{Uses}
 use Rattle.hdt_file.specs.File.{GraphParts}
 use Rattle.hdt_file.specs.Views.{strings_in}
 use Rattle.hdt_build.specs.Numbers.{term_at}
-use Rattle.hdt_build.specs.Used.{AreUsed, AreAllUsed}
+use Rattle.hdt_build.specs.Used.{AreUsed}
 
 pub none_used : (g : GraphParts) (role : Role) → AreUsed g role 0 [] []
 none_used g role = record {

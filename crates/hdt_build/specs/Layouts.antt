@@ -1,22 +1,16 @@
 -- What a canonical file is, to those who read it.
-use Rattle.std.specs.Prelude.{◌≡◌, ◌≢◌, ℕ, ◌<◌, List, map, length, slice_index_or}
+use Rattle.std.specs.Prelude.{◌≡◌, ◌≢◌, ℕ, ◌<◌, List, length, slice_index_or}
 use Rattle.hdt_dict.specs.Split.{FourLists}
 use Rattle.hdt_dict.specs.Strings.{SameMembers}
-use Rattle.hdt_wire.specs.declared.role.Role.TheVariants.{Subject, Predicate, Object}
+use Rattle.hdt_file.specs.Denoted.{denoted}
 use Rattle.hdt_file.specs.File.{GraphParts, IsLayout}
 use Rattle.hdt_file.specs.Tight.{IsTight}
-use Rattle.hdt_file.specs.Views.{strings_in}
 use Rattle.hdt_triples.specs.Counting.{Triple}
 use Rattle.hdt_build.specs.Graph.{StringTriple}
-use Rattle.hdt_build.specs.Numbers.{term_at}
 
--- the string triple of a number triple of a file
-abbrev pub named : GraphParts → Triple → StringTriple
-named g t = (term_at (strings_in g Subject) t.0, term_at (strings_in g Predicate) t.1, term_at (strings_in g Object) t.2)
-
--- the graph that a file denotes: each of its triples with its numbers replaced by their strings
+-- the graph that a file denotes: all its triples, each number replaced by its string
 abbrev pub denoted_by : GraphParts → List StringTriple
-denoted_by g = map (named g) g.triples
+denoted_by g = denoted g g.triples
 
 -- no member stands at two places
 abbrev pub AreOnce : List StringTriple → Type 0

@@ -1,4 +1,3 @@
-use Rattle.std.proofs.Common.{◌≡◌}
 use Rattle.hdt_dict.specs.Split.{lent_lists_of}
 use Rattle.hdt_file.specs.Views.{graph_seen}
 use Rattle.hdt_build.specs.Graph.{IsForm}

@@ -1,5 +1,4 @@
-use Rattle.std.proofs.Common.{◌∙◌, ap, sym, subst, List}
-use Rattle.hdt_triples.specs.Counting.{Triple}
+use Rattle.std.proofs.Common.{◌∙◌, ap, sym, subst}
 use Rattle.hdt_file.specs.Views.{graph_seen}
 use Rattle.hdt_build.specs.Documents.{AreSound}
 use Rattle.hdt_build.specs.Graph.{triples_of}

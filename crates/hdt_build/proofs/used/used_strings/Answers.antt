@@ -1,8 +1,8 @@
-use Rattle.std.proofs.Common.{◌∙◌, ℕ, ◌+◌, List, arith, ap, sym, subst}
+use Rattle.std.proofs.Common.{◌∙◌, ℕ, sym, subst}
 use Rattle.hdt_triples.specs.Uses.{Uses}
 use Rattle.hdt_file.specs.Views.{graph_seen, strings_in}
 use Rattle.hdt_build.specs.Used.{AreUsed}
-use Rattle.hdt_build.proofs.Using.{none_used, used_taken, used_passed, goes, ended, not_both}
+use Rattle.hdt_build.proofs.Using.{used_taken, used_passed, goes, ended, not_both}
 use Rattle.hdt_build.proofs.used.used_strings.Goals as goal
 
 pub strings-preserved-in-Continue-branch-5 : goal.strings-preserved-in-Continue-branch-5
