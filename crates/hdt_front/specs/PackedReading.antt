@@ -1,7 +1,8 @@
 -- What was read above the strings, as the rows see it.
 use Rattle.std.specs.Prelude.{ℕ}
+use Rattle.hdt_front.specs.declared.reading.Head.{Head}
 use Rattle.hdt_seq.specs.Numbers.{numbers_of, numbers_places}
-use Rattle.hdt_front.specs.Section.{PackedParts}
+use Rattle.hdt_front.specs.Section.{HeadParts, PackedParts}
 use Rattle.hdt_front.specs.declared.packed.Packed.{Packed}
 
 unfoldable pub parts_read : Packed × ℕ → PackedParts
@@ -12,3 +13,6 @@ parts_read r = record {
   packed = r.0.bytes.now;
   end = r.1;
 }
+
+unfoldable pub head_read : Head → HeadParts
+head_read h = record { count = h.count; size = h.size; block_size = h.block; starts_place = h.starts_at }

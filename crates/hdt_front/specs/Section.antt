@@ -103,9 +103,17 @@ pub record PackedParts : Type 0 where
   pub packed : List ℕ
   pub end : ℕ
 
--- the rows above those of the strings, from top to bottom
-unfoldable pub packed_parts_at : List ℕ → ℕ → Result PackedParts Fault
-packed_parts_at bytes at = do
+-- what the head of a section says: how many strings, packed into how many bytes, in blocks of how many, and the place
+-- of the starts
+pub record HeadParts : Type 0 where
+  pub count : ℕ
+  pub size : ℕ
+  pub block_size : ℕ
+  pub starts_place : ℕ
+
+-- the rows of the head, from top to bottom
+unfoldable pub head_at : List ℕ → ℕ → Result HeadParts Fault
+head_at bytes at = do
   kind ← byte_at bytes at
   _ ← demand (kind.0 == 2) at SectionKind
   count ← vbyte_at bytes kind.1
@@ -114,11 +122,17 @@ packed_parts_at bytes at = do
   start ← code8_at bytes at block.1
   _ ← demand (count.0 == 0 || nat_lt 0 block.0) size.1 BlockSize
   _ ← demand (not (count.0 == 0) || size.0 == 0) count.1 PackedLength
-  starts ← numbers_at bytes start
-  _ ← demand (starts_counted count.0 block.0 (length starts.items)) starts.places.count BlockCount
-  _ ← demand (not (count.0 == 0) || slice_index starts.items 0 == 0) (place_of_entry starts.places 0) BlockPlace
-  packed ← packed_at (8 * size.0) bytes starts.end
-  Ok (record { count = count.0; block_size = block.0; starts = starts; packed = packed.0; end = packed.1 })
+  Ok (record { count = count.0; size = size.0; block_size = block.0; starts_place = start })
+
+-- the rows above those of the strings, from top to bottom
+unfoldable pub packed_parts_at : List ℕ → ℕ → Result PackedParts Fault
+packed_parts_at bytes at = do
+  head ← head_at bytes at
+  starts ← numbers_at bytes head.starts_place
+  _ ← demand (starts_counted head.count head.block_size (length starts.items)) starts.places.count BlockCount
+  _ ← demand (not (head.count == 0) || slice_index starts.items 0 == 0) (place_of_entry starts.places 0) BlockPlace
+  packed ← packed_at (8 * head.size) bytes starts.end
+  Ok (record { count = head.count; block_size = head.block_size; starts = starts; packed = packed.0; end = packed.1 })
 
 -- the section that packed bytes unfold to
 abbrev pub unfolded_section : PackedParts → SectionParts

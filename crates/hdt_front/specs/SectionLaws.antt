@@ -25,7 +25,7 @@ use Rattle.hdt_front.specs.StringSteps.{length-unfolded}
 use Rattle.hdt_front.specs.StringsFound.{found_from}
 use Rattle.hdt_front.specs.StringsOnly.{rows_only}
 use Rattle.hdt_front.specs.FoldingLaws.{folded_found, folded_only, strings_are, strings_ascend}
-use Rattle.hdt_front.specs.Section.{AreStrings, SectionParts, PackedParts, HasStarts, IsSection, starts_counted, packing_with, packed_parts_at, section_at}
+use Rattle.hdt_front.specs.Section.{AreStrings, SectionParts, HeadParts, PackedParts, HasStarts, IsSection, starts_counted, packing_with, head_at, packed_parts_at, section_at}
 
 -- ---- the rows about counts
 
@@ -75,19 +75,59 @@ strings_found p n packed size bs e = found_from p n 0 0 [] packed (omega (arith,
 pub strings_ascend_in : (p : Packing) (n : ℕ) (packed : List ℕ) → p.size ≡ length packed → IsBytes packed → strings_at p n 0 [] packed ≡ Ok tt → AreStrings (unfolded p.block n 0 [] packed)
 strings_ascend_in p n packed size bs e = strings_are (unfolded p.block n 0 [] packed) (strings_found p n packed size bs e).1
 
--- what the rows above those of the strings leave
-pub record AreParts (p : PackedParts) (bytes : List ℕ) (at : ℕ) : Type 0 where
+-- what the rows of the head leave
+pub record IsHead (h : HeadParts) (bytes : List ℕ) (at : ℕ) : Type 0 where
   pub size_place : ℕ
   pub block_place : ℕ
   pub code_place : ℕ
-  pub starts_place : ℕ
   pub kind : Stands bytes at (2 ∷ []) (at + 1)
-  pub count : IsNumber p.count bytes (at + 1) size_place
-  pub size : IsNumber (length p.packed) bytes size_place block_place
-  pub block : IsNumber p.block_size bytes block_place code_place
-  pub code : Stands bytes code_place (code8 (slice_range bytes at code_place) ∷ []) starts_place
-  pub some : 0 < p.count → 0 < p.block_size
-  pub none : (not (eqb p.count 0) || eqb (length p.packed) 0) ≡ true
+  pub count : IsNumber h.count bytes (at + 1) size_place
+  pub size : IsNumber h.size bytes size_place block_place
+  pub block : IsNumber h.block_size bytes block_place code_place
+  pub code : Stands bytes code_place (code8 (slice_range bytes at code_place) ∷ []) h.starts_place
+  pub some : 0 < h.count → 0 < h.block_size
+  pub none : (not (eqb h.count 0) || eqb h.size 0) ≡ true
+
+head_exact : (bytes : List ℕ) (at : ℕ) → IsBytes bytes → Exactly (head_at bytes at) (λ h. IsHead h bytes at)
+unfolding head_at
+head_exact bytes at fits = record {
+  found = λ h e.
+      bound (byte_at bytes at) _ _ e (λ kind e1 e. held (eqb kind.0 2) at SectionKind _ _ e (λ h1 e.
+      bound (vbyte_at bytes kind.1) _ _ e (λ count e2 e.
+      bound (vbyte_at bytes count.1) _ _ e (λ size e3 e.
+      bound (vbyte_at bytes size.1) _ _ e (λ block e4 e.
+      bound (code8_at bytes at block.1) _ _ e (λ start e5 e.
+      held (eqb count.0 0 || ltb 0 block.0) size.1 BlockSize _ _ e (λ h2 e.
+      held (not (eqb count.0 0) || eqb size.0 0) count.1 PackedLength _ _ e (λ h3 e.
+      let k0 = (byte_exact bytes at).found kind e1 in
+      let k1 : kind.1 ≡ at + 1 = k0.end_is in
+      let k : Stands bytes at (2 ∷ []) (at + 1) = subst (λ (y : ℕ × ℕ). Stands bytes at (y.0 ∷ []) y.1) (ap (λ (b : ℕ). (b, kind.1)) (eqb-true _ _ h1) ∙ ap (λ (i : ℕ). (2, i)) k1) k0 in
+      answered (λ (h : HeadParts). IsHead h bytes at) _ _ e (record {
+        size_place = count.1;
+        block_place = size.1;
+        code_place = block.1;
+        kind = k;
+        count = rw (← k1) ((number_exact bytes kind.1 fits).found count e2);
+        size = (number_exact bytes count.1 fits).found size e3;
+        block = (number_exact bytes size.1 fits).found block e4;
+        code = (code8_exact bytes at block.1).found start e5;
+        some = some_found count.0 block.0 h2;
+        none = h3;
+      })))))))));
+  only = λ p h.
+      let r1 = (byte_exact bytes at).only (2, at + 1) h.kind in
+      let r2 = (number_exact bytes (at + 1) fits).only (p.count, h.size_place) h.count in
+      let r3 = (number_exact bytes h.size_place fits).only (p.size, h.block_place) h.size in
+      let r4 = (number_exact bytes h.block_place fits).only (p.block_size, h.code_place) h.block in
+      let r5 = (code8_exact bytes at h.code_place).only p.starts_place h.code in
+      let t1 = some_only p.count p.block_size h.some in
+      rw (r1, r2, r3, r4, r5, t1, h.none) refl;
+}
+
+-- what the rows above those of the strings leave
+pub record AreParts (p : PackedParts) (bytes : List ℕ) (at : ℕ) : Type 0 where
+  pub starts_place : ℕ
+  pub head : IsHead (record { count = p.count; size = length p.packed; block_size = p.block_size; starts_place = starts_place }) bytes at
   pub starts_stand : IsNumberSequence p.starts bytes starts_place
   pub started : HasStarts p.count p.block_size p.starts.items
   pub packed : Stands bytes p.starts.end (p.packed ++ little_bytes 4 (code32 p.packed)) p.end
@@ -96,49 +136,25 @@ parts_exact : (bytes : List ℕ) (at : ℕ) → IsBytes bytes → Exactly (packe
 unfolding packed_parts_at
 parts_exact bytes at fits = record {
   found = λ p e.
-      bound (byte_at bytes at) _ _ e (λ kind e1 e. held (eqb kind.0 2) at SectionKind _ _ e (λ h1 e.
-      bound (vbyte_at bytes kind.1) _ _ e (λ count e2 e.
-      bound (vbyte_at bytes count.1) _ _ e (λ size e3 e.
-      bound (vbyte_at bytes size.1) _ _ e (λ block e4 e.
-      bound (code8_at bytes at block.1) _ _ e (λ start e5 e.
-      held (eqb count.0 0 || ltb 0 block.0) size.1 BlockSize _ _ e (λ h2 e.
-      held (not (eqb count.0 0) || eqb size.0 0) count.1 PackedLength _ _ e (λ h3 e.
-      bound (numbers_at bytes start) _ _ e (λ starts e6 e.
-      held (starts_counted count.0 block.0 (length starts.items)) starts.places.count BlockCount _ _ e (λ h4 e.
-      held (not (eqb count.0 0) || eqb (slice_index starts.items 0) 0) (place_of_entry starts.places 0) BlockPlace _ _ e (λ h5 e.
-      bound (packed_at (8 * size.0) bytes starts.end) _ _ e (λ packed e7 e.
-      let p = (packed_exact size.0 bytes starts.end fits).found packed e7 in
-      let k0 = (byte_exact bytes at).found kind e1 in
-      let k1 : kind.1 ≡ at + 1 = k0.end_is in
-      let k : Stands bytes at (2 ∷ []) (at + 1) = subst (λ (y : ℕ × ℕ). Stands bytes at (y.0 ∷ []) y.1) (ap (λ (b : ℕ). (b, kind.1)) (eqb-true _ _ h1) ∙ ap (λ (i : ℕ). (2, i)) k1) k0 in
+      bound (head_at bytes at) _ _ e (λ head e1 e.
+      bound (numbers_at bytes head.starts_place) _ _ e (λ starts e2 e.
+      held (starts_counted head.count head.block_size (length starts.items)) starts.places.count BlockCount _ _ e (λ h1 e.
+      held (not (eqb head.count 0) || eqb (slice_index starts.items 0) 0) (place_of_entry starts.places 0) BlockPlace _ _ e (λ h2 e.
+      bound (packed_at (8 * head.size) bytes starts.end) _ _ e (λ packed e3 e.
+      let p = (packed_exact head.size bytes starts.end fits).found packed e3 in
       answered (λ (p : PackedParts). AreParts p bytes at) _ _ e (record {
-        size_place = count.1;
-        block_place = size.1;
-        code_place = block.1;
-        starts_place = start;
-        kind = k;
-        count = rw (← k1) ((number_exact bytes kind.1 fits).found count e2);
-        size = rw p.1 ((number_exact bytes count.1 fits).found size e3);
-        block = (number_exact bytes size.1 fits).found block e4;
-        code = (code8_exact bytes at block.1).found start e5;
-        some = some_found count.0 block.0 h2;
-        none = rw p.1 h3;
-        starts_stand = (numbers_exact bytes start fits).found starts e6;
-        started = starts_found count.0 block.0 starts.items h4 h5;
+        starts_place = head.starts_place;
+        head = rw p.1 ((head_exact bytes at fits).found head e1);
+        starts_stand = (numbers_exact bytes head.starts_place fits).found starts e2;
+        started = starts_found head.count head.block_size starts.items h1 h2;
         packed = p.0;
-      })))))))))))));
+      }))))));
   only = λ p h.
-      let n : ℕ = p.count in
-      let r1 = (byte_exact bytes at).only (2, at + 1) h.kind in
-      let r2 = (number_exact bytes (at + 1) fits).only (n, h.size_place) h.count in
-      let r3 = (number_exact bytes h.size_place fits).only (length p.packed, h.block_place) h.size in
-      let r4 = (number_exact bytes h.block_place fits).only (p.block_size, h.code_place) h.block in
-      let r5 = (code8_exact bytes at h.code_place).only h.starts_place h.code in
-      let t1 = some_only n p.block_size h.some in
-      let r6 = (numbers_exact bytes h.starts_place fits).only p.starts h.starts_stand in
-      let t3 = starts_only n p.block_size p.starts.items h.started in
-      let r7 = (packed_exact (length p.packed) bytes p.starts.end fits).only (p.packed, p.end) (h.packed, refl) in
-      rw (r1, r2, r3, r4, r5, t1, h.none, r6, t3.0, t3.1, r7) refl;
+      let r1 = (head_exact bytes at fits).only _ h.head in
+      let r2 = (numbers_exact bytes h.starts_place fits).only p.starts h.starts_stand in
+      let t = starts_only p.count p.block_size p.starts.items h.started in
+      let r3 = (packed_exact (length p.packed) bytes p.starts.end fits).only (p.packed, p.end) (h.packed, refl) in
+      rw (r1, r2, t.0, t.1, r3) refl;
 }
 
 pub section_exact : (bytes : List ℕ) (at : ℕ) → IsBytes bytes → Exactly (section_at bytes at) (λ s. IsSection s bytes at)
@@ -151,17 +167,17 @@ section_exact bytes at fits = record {
       let n : length (unfolded p.block_size p.count 0 [] p.packed) ≡ p.count = length-unfolded p.block_size p.count 0 [] p.packed in
       let f = strings_found (packing_with p.starts p.block_size (length p.packed)) p.count p.packed refl (stands_bytes bytes p.starts.end p.packed _ fits (Stands-front bytes p.starts.end p.packed _ p.end h.packed)) e2 in
       answered (λ (s : SectionParts). IsSection s bytes at) _ _ e (record {
-        size_place = h.size_place;
-        block_place = h.block_place;
-        code_place = h.code_place;
+        size_place = h.head.size_place;
+        block_place = h.head.block_place;
+        code_place = h.head.code_place;
         starts_place = h.starts_place;
         starts = p.starts;
-        kind = h.kind;
-        count = rw n h.count;
-        size = h.size;
-        block = h.block;
-        code = h.code;
-        some = rw n h.some;
+        kind = h.head.kind;
+        count = rw n h.head.count;
+        size = h.head.size;
+        block = h.head.block;
+        code = h.head.code;
+        some = rw n h.head.some;
         starts_stand = h.starts_stand;
         started = rw n h.started;
         place = refl;
@@ -173,17 +189,19 @@ section_exact bytes at fits = record {
       let folds = folded_only s.block_size s.strings s.packed h.starts.items h.folded in
       let p : PackedParts = record { count = length s.strings; block_size = s.block_size; starts = h.starts; packed = s.packed; end = s.end } in
       let r1 = (parts_exact bytes at fits).only p (record {
-        size_place = h.size_place;
-        block_place = h.block_place;
-        code_place = h.code_place;
         starts_place = h.starts_place;
-        kind = h.kind;
-        count = h.count;
-        size = h.size;
-        block = h.block;
-        code = h.code;
-        some = h.some;
-        none = nothing_packed s.block_size 0 s.strings s.packed h.starts.items folds;
+        head = record {
+          size_place = h.size_place;
+          block_place = h.block_place;
+          code_place = h.code_place;
+          kind = h.kind;
+          count = h.count;
+          size = h.size;
+          block = h.block;
+          code = h.code;
+          some = h.some;
+          none = nothing_packed s.block_size 0 s.strings s.packed h.starts.items folds;
+        };
         starts_stand = h.starts_stand;
         started = h.started;
         packed = subst (λ (i : ℕ). Stands bytes i (s.packed ++ little_bytes 4 (code32 s.packed)) s.end) h.place h.packed;

@@ -4,10 +4,10 @@ ghost use Rattle.hdt_wire.specs.declared.fault.Reason.TheVariants.{BlockPlace as
 ghost use Rattle.hdt_wire.specs.declared.fault.Fault.{Fault as FaultIs};
 ghost use Rattle.hdt_wire.specs.Rows.{demand as demand_is, Gives, Reads};
 ghost use Rattle.hdt_front.specs.declared.fault.ReadFault.TheVariants.{Fault as FaultOf};
-ghost use Rattle.hdt_front.specs.PackedReading.{parts_read};
+ghost use Rattle.hdt_front.specs.PackedReading.{head_read, parts_read};
 ghost use Rattle.hdt_seq.specs.Numbers.{numbers_of, numbers_places};
 ghost use Rattle.hdt_seq.specs.Sequence.{place_of_entry};
-ghost use Rattle.hdt_front.specs.Section.{SectionParts, IsSection, packed_parts_at, section_at, starts_counted};
+ghost use Rattle.hdt_front.specs.Section.{SectionParts, IsSection, head_at, packed_parts_at, section_at, starts_counted};
 
 use crate::fault::ReadFault;
 use crate::packed::Packed;
@@ -42,33 +42,59 @@ fn starts_at_zero(count: u64, starts: &Numbers<'_>) -> Result<(), Fault>
     Ok(())
 }
 
-/// The rows above those of the strings: they take no memory.
-#[tactic(auto, unfolding(crate::specs::Section::packed_parts_at, crate::specs::PackedReading::parts_read))]
-fn read_packed<'a>(bytes: &'a [u8], at: usize) -> Result<(Packed<'a>, usize), Fault>
-    ensures exact { Reads parts_read result (packed_parts_at bytes.now at) }
-    ensures end { IfOk result (λ r. (at + length r.0.bytes.now < r.1) × (r.1 ≤ length bytes.now)) }
+/// What the head of a section says: how many strings, packed into how many bytes, in blocks of how many, and the place
+/// of the starts.
+#[derive(Clone, Copy)]
+struct Head {
+    count: u64,
+    size: u64,
+    block: u64,
+    starts_at: usize,
+}
+
+/// The rows of the head.
+#[tactic(auto, unfolding(crate::specs::Section::head_at, crate::specs::PackedReading::head_read))]
+fn read_head(bytes: &[u8], at: usize) -> Result<Head, Fault>
+    ensures exact { Reads head_read result (head_at bytes.now at) }
+    ensures some { IfOk result (λ h. 0 < h.count → 0 < h.block) }
+    ensures end { IfOk result (λ h. (at < h.starts_at) × (h.starts_at ≤ length bytes.now)) }
 {
     let (kind, count_at) = byte_at(bytes, at)?;
     demand(kind == 2, at, Reason::SectionKind)?;
     let (count, size_at) = read_vbyte(bytes, count_at)?;
     let (size, block_at) = read_vbyte(bytes, size_at)?;
     let (block, code_at) = read_vbyte(bytes, block_at)?;
-    let start = code8_at(bytes, at, code_at)?;
+    let starts_at = code8_at(bytes, at, code_at)?;
     demand(count == 0 || 0 < block, block_at, Reason::BlockSize)?;
     demand(!(count == 0) || size == 0, size_at, Reason::PackedLength)?;
-    let (starts, base) = Numbers::read(bytes, start)?;
+    Ok(Head {
+        count,
+        size,
+        block,
+        starts_at,
+    })
+}
+
+/// The rows above those of the strings: they take no memory.
+#[tactic(auto, unfolding(crate::specs::Section::packed_parts_at, crate::specs::PackedReading::head_read, crate::specs::PackedReading::parts_read))]
+fn read_packed<'a>(bytes: &'a [u8], at: usize) -> Result<(Packed<'a>, usize), Fault>
+    ensures exact { Reads parts_read result (packed_parts_at bytes.now at) }
+    ensures end { IfOk result (λ r. (at + length r.0.bytes.now < r.1) × (r.1 ≤ length bytes.now)) }
+{
+    let head = read_head(bytes, at)?;
+    let (starts, base) = Numbers::read(bytes, head.starts_at)?;
     demand(
-        starts_counted(count, block, starts.len()),
+        starts_counted(head.count, head.block, starts.len()),
         starts.count_place() as usize,
         Reason::BlockCount,
     )?;
-    starts_at_zero(count, &starts)?;
-    let (packed, end) = packed_at(bytes, base, 8 * u128::from(size))?;
+    starts_at_zero(head.count, &starts)?;
+    let (packed, end) = packed_at(bytes, base, 8 * u128::from(head.size))?;
     let packed = Packed {
         bytes: packed,
         starts,
-        count,
-        block,
+        count: head.count,
+        block: head.block,
         base,
     };
     Ok((packed, end))
