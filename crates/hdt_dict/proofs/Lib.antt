@@ -6,3 +6,4 @@ pub mod Rows
 pub mod Numbering
 pub mod Dictionaries
 pub mod Steps
+pub mod Turning

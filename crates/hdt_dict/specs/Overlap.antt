@@ -1,12 +1,13 @@
 -- Strings that stand in two sections, as they are looked for along both.
-use Rattle.std.specs.Prelude.{ℕ, List, [], ◌∷◌, Bool, cond, Option, Some, None, Result, Ok, Err}
+use Rattle.std.specs.Prelude.{◌≡◌, ◌<◌, ◌≤◌, ℕ, List, [], ◌∷◌, Bool, cond, Option, Some, None, Result, Ok, Err}
 use Rattle.std.specs.List.{list_any}
 use Rattle.std.specs.Str.{bytes_eq}
 use Rattle.std.specs.Ordering.{is_eq}
+use Rattle.std.specs.declared.cmp.Ordering.{Ordering}
 use Rattle.hdt_wire.specs.declared.fault.Fault.{Fault}
 use Rattle.hdt_wire.specs.declared.fault.Reason.TheVariants.{SectionsOverlap}
 use Rattle.hdt_front.specs.StringRows.{precedes}
-use Rattle.hdt_front.specs.Walking.{Placed, strings, first_order}
+use Rattle.hdt_front.specs.Walking.{Placed, strings, first_order, first_agreed}
 
 -- whether a string is one of a list
 abbrev pub is_in : List (List ℕ) → List ℕ → Bool
@@ -33,3 +34,12 @@ not_less x (p ∷ ps) = cond (precedes p.string x) (not_less x ps) (p ∷ ps)
 -- the string is the first one
 abbrev pub is_first : List ℕ → List Placed → Bool
 is_first x items = is_eq (first_order items x)
+
+-- how the first string lies to another one, and how far they agree
+abbrev pub Lies : Ordering × ℕ → List Placed → List ℕ → Type 0
+Lies lie items x = (lie.0 ≡ first_order items x) × (lie.1 ≡ first_agreed items x)
+
+-- what was found of two strings, of which one gave way to a string that keeps so many bytes of it, still tells:
+-- where that keeps more than agreed, all, else that the two agree as far as it keeps
+abbrev pub Turns : ℕ → Ordering × ℕ → List Placed → List ℕ → Type 0
+Turns kept lie items x = (lie.1 < kept → Lies lie items x) × (kept ≤ lie.1 → kept ≤ first_agreed items x)

@@ -1,21 +1,43 @@
 //! Strings that stand in two sections, found by walking the sections side by side.
 ghost use Rattle.std.specs.Prelude.{◌≡◌, ◌||◌, List, Bool, ℕ, OnOk, IfOk};
-ghost use Rattle.hdt_dict.specs.Overlap.{is_among, first_place, not_less, is_first};
+ghost use Rattle.hdt_dict.specs.Overlap.{is_among, first_place, not_less, Lies, Turns};
 ghost use Rattle.hdt_front.specs.Walking.{Ascends};
 
 use hdt_front::Cursor;
 use std::alloc::AllocError;
 use std::cmp::Ordering;
 
-/// Passes the strings that are less than another one; whether that one comes next.
-fn reaches(cursor: &mut Cursor<'_>, x: &[u8]) -> Result<bool, AllocError>
-    ensures found { IfOk result (λ b. b ≡ is_first x.now cursor.new) }
+/// How the string that a cursor stands on lies to another one, and how far they agree, after one of the two gave way to
+/// a string that keeps so many bytes of it. Where it keeps more than agreed, nothing changes; else the two are compared
+/// from there on: only with bytes that stand in its piece.
+fn turned(cursor: &Cursor<'_>, x: &[u8], kept: usize, lie: (Ordering, usize)) -> (Ordering, usize)
+    requires { Turns kept lie cursor.now x.now }
+    ensures { Lies result cursor.now x.now }
+{
+    if kept > lie.1 {
+        return lie;
+    }
+    cursor.compared(x, kept)
+}
+
+/// Passes the strings that are less than another one, and answers how the one that comes next lies to it. Each piece is
+/// compared once at most.
+fn reaches(
+    cursor: &mut Cursor<'_>,
+    x: &[u8],
+    kept: usize,
+    lie: (Ordering, usize),
+) -> Result<(Ordering, usize), AllocError>
+    requires { Turns kept lie cursor.old x.now }
+    ensures lies { IfOk result (λ r. Lies r cursor.new x.now) }
     ensures left { OnOk result (cursor.new ≡ not_less x.now cursor.old) }
 {
-    while cursor.order(x) == Ordering::Less {
-        cursor.pass()?;
+    let mut lie = turned(cursor, x, kept, lie);
+    while lie.0 == Ordering::Less {
+        let kept = cursor.pass_kept()?;
+        lie = turned(cursor, x, kept, lie);
     }
-    Ok(cursor.order(x) == Ordering::Equal)
+    Ok(lie)
 }
 
 /// The place of the first string of a list that is in another one.
@@ -27,11 +49,14 @@ pub(crate) fn first_in(
     requires other { Ascends other.old }
     ensures { IfOk result (λ r. r ≡ first_place (is_among other.old) list.old) }
 {
+    let mut kept = 0;
+    let mut lie = (Ordering::Less, 0);
     while let Some(x) = list.string() {
-        if reaches(other, x)? {
+        lie = reaches(other, x, kept, lie)?;
+        if lie.0 == Ordering::Equal {
             return Ok(list.place());
         }
-        list.pass()?;
+        kept = list.pass_kept()?;
     }
     Ok(None)
 }
@@ -47,13 +72,16 @@ pub(crate) fn first_in_two(
     requires two { Ascends two.old }
     ensures { IfOk result (λ r. r ≡ first_place (λ x. is_among one.old x || is_among two.old x) list.old) }
 {
+    let mut kept = 0;
+    let mut first = (Ordering::Less, 0);
+    let mut second = (Ordering::Less, 0);
     while let Some(x) = list.string() {
-        let in_one = reaches(one, x)?;
-        let in_two = reaches(two, x)?;
-        if in_one || in_two {
+        first = reaches(one, x, kept, first)?;
+        second = reaches(two, x, kept, second)?;
+        if first.0 == Ordering::Equal || second.0 == Ordering::Equal {
             return Ok(list.place());
         }
-        list.pass()?;
+        kept = list.pass_kept()?;
     }
     Ok(None)
 }

@@ -156,3 +156,22 @@ stored_lies stored x ends sought =
       same = same;
       inside = omega (arith, same, (common_prefix_len-le nat_eq text x).0, length-take-le (zero_in stored) stored (omega (arith, ends)));
     }
+
+-- strings that agree so far are compared from there on
+pub drop_decides : (k : ℕ) (a b : List ℕ) → k ≤ agreed a b → (order a b ≡ order (drop k a) (drop k b)) × (agreed a b ≡ k + agreed (drop k a) (drop k b))
+drop_decides zero a b fits = (refl, omega arith)
+drop_decides (suc k) [] b fits = absurd (omega (arith, fits))
+drop_decides (suc k) (x ∷ a) [] fits = absurd (omega (arith, fits))
+drop_decides (suc k) (x ∷ a) (y ∷ b) fits =
+    rest_step (nat_lt x y) (nat_eq x y) (apart x y) (order (drop k a) (drop k b)) (order a b) (agreed a b) (agreed a b) (agreed (drop k a) (drop k b)) k
+    (λ h. drop_decides k a b h) fits
+
+itself : (b : ℕ) → nat_eq b b ≡ true
+itself b = grind (arith, nat_tests)
+
+-- a string agrees with the one before it as far as it keeps that
+pub keeps_agree : (k : ℕ) (last text : List ℕ) → k ≤ length last → k ≤ agreed (take k last ++ text) last
+keeps_agree zero last text fits = omega arith
+keeps_agree (suc k) [] text fits = absurd (omega (arith, fits))
+keeps_agree (suc k) (b ∷ last) text fits =
+    omega (arith, keeps_agree k last text (omega (arith, fits)), ap (λ (t : Bool). cond t (1 + agreed (take k last ++ text) last) 0) (itself b))

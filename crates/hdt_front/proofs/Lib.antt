@@ -13,3 +13,4 @@ pub mod Inside
 pub mod Following
 pub mod Inverse
 pub mod PlainLaws
+pub mod Keeping

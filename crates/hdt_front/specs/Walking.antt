@@ -1,7 +1,8 @@
 -- The strings of a section, in order, each with its place.
-use Rattle.std.specs.Prelude.{◌≡◌, true, ℕ, zero, suc, ◌+◌, List, [], ◌∷◌, map, Option, Some, None}
+use Rattle.std.specs.Prelude.{◌≡◌, true, ℕ, zero, suc, ◌+◌, List, [], ◌∷◌, map, nat_eq, Option, Some, None}
 use Rattle.std.specs.declared.cmp.Ordering.{Ordering}
 use Rattle.std.specs.declared.cmp.Ordering.TheVariants.{Greater}
+use Rattle.std.specs.List.{common_prefix_len}
 use Rattle.std.specs.Ordering.{nat_cmp}
 use Rattle.std.specs.Cmp.Lexicographic.{slice_cmp}
 use Rattle.hdt_front.specs.Unfolding.{is_head, string_of_piece, after_piece}
@@ -64,3 +65,13 @@ first_string (p ∷ ps) = Some p.string
 abbrev pub first_order : List Placed → List ℕ → Ordering
 first_order [] x = Greater
 first_order (p ∷ ps) x = slice_cmp nat_cmp p.string x
+
+-- how far the first string agrees with another one; the end agrees with none
+abbrev pub first_agreed : List Placed → List ℕ → ℕ
+first_agreed [] x = 0
+first_agreed (p ∷ ps) x = common_prefix_len nat_eq p.string x
+
+-- how far the next string agrees with the first one
+abbrev pub next_agreed : List Placed → ℕ
+next_agreed [] = 0
+next_agreed (p ∷ ps) = first_agreed ps p.string

@@ -148,6 +148,16 @@ pub(crate) fn compared(a: &[u8], b: &[u8]) -> (Ordering, usize)
     (a.len().cmp(&b.len()), same)
 }
 
+/// How a string lies to another one, and how far they agree, which is so far at least: no byte before is looked at.
+pub(crate) fn compared_from(a: &[u8], b: &[u8], from: usize) -> (Ordering, usize)
+    requires so_far { from ≤ agreed a.now b.now }
+    ensures order { result.0 ≡ order a.now b.now }
+    ensures same { result.1 ≡ agreed a.now b.now }
+{
+    let (order, same) = compared(a.split_at(from).1, b.split_at(from).1);
+    (order, from + same)
+}
+
 /// The byte at a place, 0 behind the end.
 #[inline(always)]
 fn byte_or_zero(x: &[u8], at: usize) -> u8

@@ -1,8 +1,9 @@
 //! A cursor over the strings of a section: it stands on one, and is moved on.
-ghost use Rattle.std.specs.Prelude.{◌≡◌, ◌<◌, [], length, Ok, OnOk, OnErr, IfOk, drop, option_copied};
+ghost use Rattle.std.specs.Prelude.{◌≡◌, ◌≤◌, ◌<◌, [], length, Ok, OnOk, OnErr, IfOk, drop, option_copied};
 ghost use Rattle.hdt_front.specs.Walks.{placed_of};
-ghost use Rattle.hdt_front.specs.Walking.{first_string, first_order, next_place, Ascends};
+ghost use Rattle.hdt_front.specs.Walking.{first_string, first_order, first_agreed, next_agreed, next_place, Ascends};
 
+use crate::common::compared_from;
 use crate::section::Section;
 use crate::walk::Walk;
 use std::alloc::{AllocError, Global};
@@ -64,14 +65,40 @@ impl<'a> Cursor<'a> {
         }
     }
 
+    /// How the string that it stands on lies to another one, and how far they agree. They agree so far at least: the bytes
+    /// before aren't looked at. The end lies after all, and agrees with none.
+    pub fn compared(&self, x: &[u8], from: usize) -> (Ordering, usize)
+        requires so_far { from ≤ first_agreed self.now x.now }
+        ensures order { result.0 ≡ first_order self.now x.now }
+        ensures same { result.1 ≡ first_agreed self.now x.now }
+    {
+        match self.string() {
+            Some(string) => compared_from(string, x, from),
+            None => (Ordering::Greater, 0),
+        }
+    }
+
     /// Moves on to the next string. Where memory is refused, nothing moves.
     pub fn pass(&mut self) -> Result<(), AllocError>
         ensures ok { OnOk result (self.new ≡ drop 1 self.old) }
         ensures err { OnErr result (self.new ≡ self.old) }
     {
-        if self.place.is_some() {
-            self.place = self.walk.next()?;
-        }
+        self.pass_kept()?;
         Ok(())
+    }
+
+    /// Moves on as [`pass`](Cursor::pass), and answers how many bytes at its front the next string keeps of the one
+    /// before: they agree so far at least. At the end that is 0.
+    pub fn pass_kept(&mut self) -> Result<usize, AllocError>
+        ensures ok { OnOk result (self.new ≡ drop 1 self.old) }
+        ensures kept { IfOk result (λ k. k ≤ next_agreed self.old) }
+        ensures err { OnErr result (self.new ≡ self.old) }
+    {
+        if self.place.is_none() {
+            return Ok(0);
+        }
+        let (place, kept) = self.walk.next_kept()?;
+        self.place = place;
+        Ok(kept)
     }
 }

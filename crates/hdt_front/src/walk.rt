@@ -3,7 +3,7 @@ ghost use Rattle.std.specs.Prelude.{◌≡◌, ◌≤◌, ◌<◌, ◌+◌, ◌-
 ghost use Rattle.hdt_wire.specs.Rows.{zero_in};
 ghost use Rattle.hdt_front.specs.Unfolding.{kept, text_from, text_of, after_piece};
 ghost use Rattle.hdt_front.specs.Walks.{placed_of};
-ghost use Rattle.hdt_front.specs.Walking.{further, next_place};
+ghost use Rattle.hdt_front.specs.Walking.{further, next_place, first_agreed};
 
 use crate::packed::Packed;
 use crate::piece::piece_of;
@@ -70,8 +70,20 @@ impl<'a> Walk<'a> {
         ensures ok { OnOk result (self.new ≡ further self.old) }
         ensures err { OnErr result (self.new ≡ self.old) }
     {
+        let (place, _) = self.next_kept()?;
+        Ok(place)
+    }
+
+    /// Unfolds the next string as [`next`](Walk::next), and answers with its place how many bytes at its front it keeps
+    /// of the string before: it agrees with that so far at least. At the end that is 0.
+    pub(crate) fn next_kept(&mut self) -> Result<(Option<usize>, usize), AllocError>
+        ensures place { IfOk result (λ r. r.0 ≡ next_place self.old.ahead) }
+        ensures kept { IfOk result (λ r. r.1 ≤ first_agreed self.old.ahead self.old.last) }
+        ensures ok { OnOk result (self.new ≡ further self.old) }
+        ensures err { OnErr result (self.new ≡ self.old) }
+    {
         if self.next == self.packed.count {
-            return Ok(None);
+            return Ok((None, 0));
         }
         let head = self.next % self.packed.block == 0;
         let place = self.packed.place(self.rest);
@@ -79,6 +91,6 @@ impl<'a> Walk<'a> {
         unfold(&mut self.last, kept as usize, text)?;
         self.rest = after;
         self.next += 1;
-        Ok(Some(place))
+        Ok((Some(place), kept as usize))
     }
 }

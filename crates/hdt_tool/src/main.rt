@@ -350,6 +350,30 @@ fn status_of(rt: &HostRuntime, words: io::Result<Vec<String>>) -> u8
     answered(rt, asked(rt.alloc(), words))
 }
 
+/// Three handles of the root folder, each on the lowest descriptor that was free. While they are held none of the
+/// descriptors 0, 1 and 2 is free, so no file that is opened can be taken for standard input, output or error where these
+/// were closed: reading from, or writing to, a closed one fails.
+#[derive(Drop)]
+struct Held {
+    _first: File,
+    _second: File,
+    _third: File,
+}
+
+impl Held {
+    fn new(rt: &HostRuntime) -> io::Result<Held> {
+        Ok(Held {
+            _first: File::open(rt, "/")?,
+            _second: File::open(rt, "/")?,
+            _third: File::open(rt, "/")?,
+        })
+    }
+}
+
 fn main(rt: HostRuntime) -> ExitCode {
-    ExitCode::from(status_of(&rt, words_of(rt.alloc(), env::args(&rt))))
+    let status = match Held::new(&rt) {
+        Ok(_held) => status_of(&rt, words_of(rt.alloc(), env::args(&rt))),
+        Err(error) => done(&rt, Err(open_fault(&error))),
+    };
+    ExitCode::from(status)
 }

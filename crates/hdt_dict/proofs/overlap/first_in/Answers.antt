@@ -1,21 +1,30 @@
-use Rattle.std.proofs.Common.{sym, ◌∙◌}
+use Rattle.std.proofs.Common.{true, false, sym, ◌∙◌}
 use Rattle.hdt_dict.specs.Overlap.{is_among}
-use Rattle.hdt_dict.proofs.Overlaps.{meets, turned, reached, among_after, ascends_after, ascends_passed}
+use Rattle.hdt_dict.proofs.Overlaps.{meets, turned, among_after, ascends_after, ascends_passed}
+use Rattle.hdt_dict.proofs.Turning.{first_turns, list_turned, is_met}
 use Rattle.hdt_dict.proofs.overlap.first_in.Goals as goal
 
-pub returns-then-branch : goal.returns-then-branch
-returns-then-branch c =
+pub reaches-requires : goal.reaches-requires
+reaches-requires c =
     let l = c.loop-x in
-    let among = reached c.in-Some.x.now l.other c.reaches.new.cursor _ l.invariant.2 c.in_ok-reaches.ensures.found c.in_ok-reaches.ensures.left in
-    c.place.ensures ∙ meets l.list c.in-Some.x.now (is_among l.other) (sym c.in-Some.ensures) (sym among ∙ c.if-branch.true) ∙ l.invariant.0
+    first_turns l.kept l.lie l.other l.list c.in-Some.x.now l.invariant.3 (sym c.in-Some.ensures)
+
+pub returns-then-eq : goal.returns-then-eq
+returns-then-eq c =
+    let l = c.loop-x in
+    let x = c.in-Some.x.now in
+    let met = is_met x l.other c.reaches.new.cursor c.in_ok-lie.lie true l.invariant.2 c.in_ok-lie.ensures.lies c.in_ok-lie.ensures.left c.if-eq.ensures in
+    c.place.ensures ∙ meets l.list x (is_among l.other) (sym c.in-Some.ensures) met ∙ l.invariant.0
 
 pub loop-x-preserved : goal.loop-x-preserved
 loop-x-preserved c =
     let l = c.loop-x in
-    let left = c.in_ok-reaches.ensures.left in
-    let among = reached c.in-Some.x.now l.other c.reaches.new.cursor _ l.invariant.2 c.in_ok-reaches.ensures.found c.in_ok-reaches.ensures.left in (
-      turned l.list c.pass.new.self c.in-Some.x.now (is_among l.other) (is_among c.reaches.new.cursor) (sym c.in-Some.ensures) l.invariant.1 c.in_ok-pass.ensures.ok (sym among ∙ c.if-branch.false)
-          (among_after c.in-Some.x.now l.other c.reaches.new.cursor left) ∙ l.invariant.0,
-      ascends_passed l.list c.pass.new.self l.invariant.1 c.in_ok-pass.ensures.ok,
-      ascends_after c.in-Some.x.now l.other c.reaches.new.cursor l.invariant.2 left,
+    let x = c.in-Some.x.now in
+    let left = c.in_ok-lie.ensures.left in
+    let none = is_met x l.other c.reaches.new.cursor c.in_ok-lie.lie false l.invariant.2 c.in_ok-lie.ensures.lies left c.if-eq.ensures in (
+      turned l.list c.pass_kept.new.self x (is_among l.other) (is_among c.reaches.new.cursor) (sym c.in-Some.ensures) l.invariant.1 c.in_ok-kept.ensures.ok none
+          (among_after x l.other c.reaches.new.cursor left) ∙ l.invariant.0,
+      ascends_passed l.list c.pass_kept.new.self l.invariant.1 c.in_ok-kept.ensures.ok,
+      ascends_after x l.other c.reaches.new.cursor l.invariant.2 left,
+      list_turned c.in_ok-kept.kept c.in_ok-lie.lie c.reaches.new.cursor l.list c.pass_kept.new.self x (sym c.in-Some.ensures) c.in_ok-lie.ensures.lies c.in_ok-kept.ensures.kept c.in_ok-kept.ensures.ok,
     )

@@ -3,7 +3,8 @@ use Rattle.hdt_front.specs.Packed.{packing_of}
 use Rattle.hdt_front.specs.Unfolding.{is_head}
 use Rattle.hdt_front.specs.Walking.{Way, next_place}
 use Rattle.hdt_front.specs.WalkSteps.{ended, stays, moves, goes, same_rows, string_made}
-use Rattle.hdt_front.proofs.walk.Walk.next.Goals as goal
+use Rattle.hdt_front.proofs.Keeping.{kept_first}
+use Rattle.hdt_front.proofs.walk.Walk.next_kept.Goals as goal
 
 pub returns-then-self-clause-place : goal.returns-then-self-clause-place
 returns-then-self-clause-place c =
@@ -43,3 +44,9 @@ returns-clause-ok c =
     let m = moves (packing_of s.packed) s.packed.count s.next s.last.items s.rest.now c.self.invariant.0 c.if-self.false c.self.invariant.2 in
     let made = string_made (is_head s.packed.block s.next) s.last.items s.rest.now c.unfold.new.string.items c.piece_of-kept.result.1.now c.piece_of-kept.result.0 c.in_ok-unfold.ensures.ok c.piece_of-kept.ensures.kept c.piece_of-kept.ensures.text in
     goes (packing_of s.packed) s.packed.count s.next s.last.items s.rest.now _ _ c.args.self.now m made c.piece_of-kept.ensures.rest (ap (λ (w : Way). w.ahead) c.self.view_is)
+
+pub returns-clause-kept : goal.returns-clause-kept
+returns-clause-kept c =
+    let s = c.self.inside in
+    let m = moves (packing_of s.packed) s.packed.count s.next s.last.items s.rest.now c.self.invariant.0 c.if-self.false c.self.invariant.2 in
+    kept_first (packing_of s.packed) s.packed.count s.next s.last.items s.rest.now c.args.self.now _ m c.self.view_is c.piece_of-kept.ensures.kept

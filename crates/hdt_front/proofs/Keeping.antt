@@ -1,0 +1,19 @@
+-- How far the next string of a walk agrees with the last one.
+use Rattle.std.proofs.Common.{◌≡◌, ◌≤◌, ◌-◌, Bool, ℕ, List, length, sym, subst}
+use Rattle.hdt_front.specs.Unfolding.{is_head, kept, text_of, string_of_piece}
+use Rattle.hdt_front.specs.StringRows.{Packing}
+use Rattle.hdt_front.specs.Walking.{Placed, Way, placed_from, first_agreed}
+use Rattle.hdt_front.specs.WalkSteps.{Moves}
+use Rattle.hdt_front.proofs.AgreeLaws.{agreed, keeps_agree}
+
+front_kept : (h : Bool) (last rest : List ℕ) → kept h rest ≤ length last → kept h rest ≤ agreed (string_of_piece h last rest) last
+unfolding string_of_piece
+front_kept h last rest fits = keeps_agree (kept h rest) last (text_of h rest) fits
+
+-- as far as it keeps that
+pub kept_first : (p : Packing) (count i : ℕ) (last rest : List ℕ) (w : Way) (k : ℕ) → Moves p count i last rest
+    → (let before : Way = record { last = last; ahead = placed_from p (count - i) i last rest } in before) ≡ w → k ≡ kept (is_head p.block i) rest → k ≤ first_agreed w.ahead w.last
+kept_first p count i last rest w k m view e =
+    subst (λ (w : Way). k ≤ first_agreed w.ahead w.last) view
+    (subst (λ (l : List Placed). k ≤ first_agreed l last) (sym m.ahead)
+    (subst (λ n. n ≤ agreed (string_of_piece (is_head p.block i) last rest) last) (sym e) (front_kept (is_head p.block i) last rest m.row.fits)))
