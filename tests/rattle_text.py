@@ -1,0 +1,172 @@
+"""Finds the functions of a Rattle file, so that the bodies of several edits can be put together, and the names that a check has for them."""
+
+import re
+
+# A comment, a string, a character, a lifetime, a word, blanks, or one other sign.
+TOKEN = re.compile(
+    r"""//[^\n]*|/\*|[bc]?r(\#*)".*?"\1|[bc]?"(?:[^"\\]|\\.)*"|'(?=\\)(?:[^'\\\n]|\\[^\n])*'|'[^\n\\']'|'[A-Za-z_]\w*|r\#[A-Za-z_]\w*|\w+|\s+|.""",
+    re.S | re.A,
+)
+# The words before a brace that opens a clause or another text of the logic.
+CLAUSE = re.compile(r"(?:(?:requires|ensures)(?: \*)?(?: \w+)?|ghost \w+ : .*)$", re.S)
+WORD = re.compile(r"[A-Za-z_]\w*$")
+
+
+def end_of_comment(text, at):
+    """The place behind the comment, with those inside it, that begins at `at`."""
+    depth, end = 1, at + 2
+    while depth and end < len(text):
+        opens, closes = text.startswith("/*", end), text.startswith("*/", end)
+        depth += opens - closes
+        end += 2 if opens or closes else 1
+    return end
+
+
+def tokens(text):
+    """The places and tokens of all but blanks and comments."""
+    found, at = [], 0
+    while at < len(text):
+        token = TOKEN.match(text, at)[0]
+        if token == "/*":
+            at = end_of_comment(text, at)
+            continue
+        if not token.isspace() and not token.startswith("//"):
+            found.append((at, token))
+        at += len(token)
+    return found
+
+
+def after_block(items, i):
+    """The index behind the bracket that matches the one at i."""
+    depth = 0
+    while i < len(items):
+        depth += (items[i][1] in ("(", "[", "{")) - (items[i][1] in (")", "]", "}"))
+        i += 1
+        if not depth:
+            return i
+    raise ValueError("a bracket is not closed")
+
+
+def body_of(items, i):
+    """The index of the brace that opens the body of the function whose name stands before i, or that of its `;`, where it has none."""
+    words = []
+    while items[i][1] != ";":
+        token = items[i][1]
+        if token == "{" and not CLAUSE.search(" ".join(words)):
+            return i
+        if token in ("(", "[", "{"):
+            i, words = after_block(items, i), []
+        else:
+            words.append(token)
+            i += 1
+    return i
+
+
+def functions(text):
+    """The functions that have a body, outermost ones: name with its impl's type, start of the body, its end.
+
+    A `const fn` is left out: what it gives can stand in a type or a constant, which other functions read."""
+    items, found = tokens(text), []
+
+    def function(i, owner):
+        start = body_of(items, i + 2)
+        if items[start][1] == ";":
+            return start + 1
+        end = after_block(items, start)
+        if "const" not in (items[i - 1][1], items[i - 2][1]):
+            found.append((f"{owner}{items[i + 1][1]}", items[start][0], items[end - 1][0] + 1))
+        return end
+
+    def block(i, owner):
+        head = next(j for j in range(i + 1, len(items)) if items[j][1] in ("{", ";"))
+        if items[head][1] == ";":
+            return head + 1
+        end = after_block(items, head)
+        walk(head + 1, end - 1, f"{owner}{' '.join(it for _, it in items[i:head])}/")
+        return end
+
+    def walk(i, end, owner):
+        while i < end:
+            token = items[i][1]
+            if token == "fn" and i + 1 < end and WORD.match(items[i + 1][1]):
+                i = function(i, owner)
+            elif token in ("impl", "trait", "mod"):
+                i = block(i, owner)
+            elif token in ("(", "[", "{"):
+                i = after_block(items, i)
+            else:
+                i += 1
+
+    walk(0, len(items), "")
+    return found
+
+
+def split(text):
+    """The text with each body taken out, and the bodies by the number and name of their function."""
+    rest, bodies, at = [], {}, 0
+    for number, (name, start, end) in enumerate(functions(text)):
+        rest.append(text[at:start])
+        bodies[number, name] = text[start:end]
+        at = end
+    return "\0".join([*rest, text[at:]]), bodies
+
+
+def joined(rest, bodies):
+    """The text that `split` took apart, with these bodies."""
+    return "".join(a + b for a, b in zip(rest.split("\0"), [*bodies.values(), ""]))
+
+
+def without_parameters(words):
+    """The words of a type or a trait without what stands in its angle brackets."""
+    depth, plain = 0, []
+    for word in words:
+        depth += (word == "<") - (word == ">")
+        if depth == 0 and word != ">":
+            plain.append(word)
+    return plain
+
+
+def inside(words, name):
+    """The words in the angle brackets right behind the last part of a trait's name, as `hdt_wire`, `Fault` of `From<hdt_wire::Fault>`."""
+    found, depth = [], 0
+    for word in words[words.index(name) + 1 :]:
+        depth += (word == "<") - (word == ">")
+        if depth == 0:
+            break
+        if depth == 1 and WORD.match(word):
+            found.append(word)
+    return found
+
+
+def owner_of(words):
+    """How a check names the type or impl of these words of a head (`impl` and `trait` left out): the usual name, and that with the trait's parameters."""
+    words = words[: words.index("where")] if "where" in words else words
+    plain = without_parameters(words)
+    if "for" not in plain:
+        return next((it for it in plain if WORD.match(it)), ""), ""
+    at = plain.index("for")
+    trait = [it for it in plain[:at] if WORD.match(it)][-1]
+    own = [it for it in plain[at + 1 :] if WORD.match(it) and it not in ("mut", "dyn")][-1]
+    # `impl From<hdt_wire::Fault> for Fault` is FaultFromHdt_wireFault
+    return f"{own}{trait}", own + trait + "".join(it[0].upper() + it[1:] for it in inside(words, trait))
+
+
+def names_of(crate, path, name, told):
+    """The names, of those that a check told, that this function of a file, named as `functions` names it, can have."""
+    *owners, last = name.split("/")
+    module = [it for it in path.removeprefix("src/").removesuffix(".rt").split("/") if it not in ("lib", "main", "mod")]
+    of = exact = ""
+    for owner in owners:
+        kind, *words = owner.split(" ")
+        if kind == "mod":
+            module += words[:1]
+        else:
+            of, exact = owner_of(words)
+    for owner in (exact, of):
+        whole = "::".join([crate, *module, *([owner] if owner else []), last])
+        if whole in told:
+            return [whole]
+    # An impl may stand in another file than its type, by whose module the check calls it.
+    found = [it for it in told if of and it.endswith(f"::{of}::{last}") and "::fn::" not in it]
+    start = "::".join([crate, *module, of])
+    return found or [it for it in told if of and it.startswith(start) and it.endswith(f"::{last}") and "::fn::" not in it]
