@@ -8,7 +8,7 @@ use super::*;
 use crate::parts::lend;
 use hdt_front::ReadFault;
 use hdt_seq::{Steps, put_numbers};
-use hdt_wire::{Reason, check8, check32, put_vbyte};
+use hdt_wire::{Fault, Reason, check8, check32, put_vbyte};
 use std::alloc::{AllocError, Global};
 use std::test::Fail;
 
@@ -18,56 +18,85 @@ const CONTROL: &[u8] = b"$HDT\x03<http://purl.org/HDT/hdt#dictionaryFour>\0mappi
 /// The place of the dictionary in the sample file.
 const AT: usize = 218;
 
-/// Appends a section whose strings keep nothing of the one before.
+/// The strings of a section, packed; each keeps nothing of the one before.
+fn pack(alloc: Global, strings: &[&[u8]], block: u64) -> Result<Vec<u8>, AllocError> {
+    let mut packed = Vec::new(alloc);
+    let mut i = 0_u64;
+    for string in strings {
+        if i.checked_rem(block) != Some(0) {
+            put_vbyte(0, &mut packed)?;
+        }
+        packed.extend_from_slice(*string)?;
+        packed.push(0)?;
+        i = i.wrapping_add(1);
+    }
+    Ok(packed)
+}
+
+/// Where each block of packed strings begins, and where the last one ends.
+fn starts_of(alloc: Global, strings: &[&[u8]], block: u64) -> Result<Vec<u64>, AllocError> {
+    let mut starts = Vec::new(alloc);
+    let mut i = 0_u64;
+    let mut at = 0_u64;
+    for string in strings {
+        if i.checked_rem(block) == Some(0) {
+            starts.push(at)?;
+        } else {
+            at = at.wrapping_add(1);
+        }
+        at = at.wrapping_add(string.len() as u64).wrapping_add(1);
+        i = i.wrapping_add(1);
+    }
+    starts.push(at)?;
+    Ok(starts)
+}
+
+/// Appends the head of a section of so many strings.
+fn append_head(count: u64, len: u64, block: u64, out: &mut Vec<u8>) -> Result<(), AllocError> {
+    let at = out.len();
+    out.push(2)?;
+    put_vbyte(count, out)?;
+    put_vbyte(len, out)?;
+    put_vbyte(block, out)?;
+    let code = check8(out.get(at..).unwrap_or(&[]));
+    out.push(code)?;
+    Ok(())
+}
+
+/// Appends a section of these strings.
 fn append_section(
     alloc: Global,
     strings: &[&[u8]],
     block: u64,
     out: &mut Vec<u8>,
 ) -> Result<(), AllocError> {
-    let mut packed = Vec::new(alloc);
-    let mut starts = Vec::new(alloc);
-    let mut in_block = 0u64;
-    for string in strings {
-        if in_block == 0 {
-            starts.push(packed.len() as u64)?;
-        } else {
-            put_vbyte(0, &mut packed)?;
-        }
-        packed.extend_from_slice(*string)?;
-        packed.push(0)?;
-        let next = in_block.saturating_add(1);
-        in_block = if next < block { next } else { 0 };
-    }
-    starts.push(packed.len() as u64)?;
-    let at = out.len();
-    out.push(2)?;
-    put_vbyte(strings.len() as u64, out)?;
-    put_vbyte(packed.len() as u64, out)?;
-    put_vbyte(block, out)?;
-    let code = check8(out.as_slice().split_at(at).1);
-    out.push(code)?;
+    let packed = pack(alloc, strings, block)?;
+    let starts = starts_of(alloc, strings, block)?;
+    append_head(strings.len() as u64, packed.len() as u64, block, out)?;
     put_numbers(&starts, out)?;
     out.extend_from_slice(&packed)?;
     out.extend_from_slice(&check32(&packed).to_le_bytes())
 }
 
-/// A dictionary at the place that it has in the sample file, and bytes that follow it.
-fn dictionary_with(
-    alloc: Global,
-    shared: &[&[u8]],
-    subjects: &[&[u8]],
-    predicates: &[&[u8]],
-    objects: &[&[u8]],
-    block: u64,
-) -> Result<Vec<u8>, AllocError> {
+/// What stands before the sections: bytes up to the place in the sample file, and the control block.
+fn before_sections(alloc: Global) -> Result<Vec<u8>, AllocError> {
     let mut out = Vec::new(alloc);
     out.resize(AT, 0)?;
     out.extend_from_slice(CONTROL)?;
-    append_section(alloc, shared, block, &mut out)?;
-    append_section(alloc, subjects, block, &mut out)?;
-    append_section(alloc, predicates, block, &mut out)?;
-    append_section(alloc, objects, block, &mut out)?;
+    Ok(out)
+}
+
+/// A dictionary of sections shared, subjects, predicates and objects, at the place that it has in the sample file, and
+/// bytes that follow it.
+fn dictionary_with(
+    alloc: Global,
+    sections: &[&[&[u8]]],
+    block: u64,
+) -> Result<Vec<u8>, AllocError> {
+    let mut out = before_sections(alloc)?;
+    for strings in sections {
+        append_section(alloc, strings, block, &mut out)?;
+    }
     out.extend_from_slice(b"$HDT")?;
     Ok(out)
 }
@@ -115,37 +144,60 @@ static OVERLAPS: [([&[&[u8]]; 4], u64, Option<u64>); 16] = [
     ([&[b"a"], &[b"b"], &[b"a", b"b", b"c"], &[b"c"]], 16, None),
 ];
 
-/// The place of the overlap that is answered; None where the dictionary is accepted and ends before the last four bytes.
-fn overlap_in(alloc: Global, bytes: &[u8]) -> Result<Option<u64>, Fail> {
+/// The place of the overlap that is answered, if one is.
+fn overlap_in(alloc: Global, bytes: &[u8]) -> Result<Option<u64>, AllocError> {
     match Dictionary::read(alloc, bytes, AT) {
-        Ok((_, end)) if end.saturating_add(4) == bytes.len() => Ok(None),
-        Ok(_) => Err("another end")?,
-        Err(ReadFault::Fault(fault)) if fault.reason == Reason::SectionsOverlap => {
-            Ok(Some(fault.place))
+        Ok(_) => Ok(None),
+        Err(ReadFault::OutOfMemory) => Err(AllocError),
+        Err(ReadFault::Fault(Fault { place, reason })) => {
+            Ok(if reason == Reason::SectionsOverlap {
+                Some(place)
+            } else {
+                None
+            })
         }
-        Err(ReadFault::Fault(_)) => Err("another fault")?,
-        Err(ReadFault::OutOfMemory) => Err(Fail::from(AllocError)),
+    }
+}
+
+/// Whether a dictionary is accepted, and ends before the last four bytes.
+fn is_accepted(alloc: Global, bytes: &[u8]) -> Result<bool, AllocError> {
+    match Dictionary::read(alloc, bytes, AT) {
+        Ok((_, end)) => Ok(end.saturating_add(4) == bytes.len()),
+        Err(ReadFault::OutOfMemory) => Err(AllocError),
+        Err(ReadFault::Fault(_)) => Ok(false),
+    }
+}
+
+/// The dictionary in the bytes, if it is accepted and ends before the last four.
+fn read_at<'a>(alloc: Global, bytes: &'a [u8]) -> Result<Option<Dictionary<'a>>, AllocError> {
+    match Dictionary::read(alloc, bytes, AT) {
+        Ok((dictionary, end)) => {
+            Ok(if end.saturating_add(4) == bytes.len() {
+                Some(dictionary)
+            } else {
+                None
+            })
+        }
+        Err(ReadFault::OutOfMemory) => Err(AllocError),
+        Err(ReadFault::Fault(_)) => Ok(None),
+    }
+}
+
+/// Whether a dictionary has its first overlap at the place, or is accepted where there is none.
+fn overlaps_at(alloc: Global, bytes: &[u8], place: Option<u64>) -> Result<bool, AllocError> {
+    match place {
+        Some(_) => Ok(overlap_in(alloc, bytes)? == place),
+        None => is_accepted(alloc, bytes),
     }
 }
 
 #[test]
 fn overlaps(rt: HostRuntime) -> Result<(), Fail> {
     for (sections, block, place) in &OVERLAPS {
-        let [shared, subjects, predicates, objects] = *sections;
-        let bytes = dictionary_with(rt.alloc(), shared, subjects, predicates, objects, *block)?;
-        assert_eq!(rt; overlap_in(rt.alloc(), &bytes)?, *place);
+        let bytes = dictionary_with(rt.alloc(), sections, *block)?;
+        assert!(rt; overlaps_at(rt.alloc(), &bytes, *place)?, "{place:?}");
     }
     Ok(())
-}
-
-/// The dictionary in the bytes, which ends before the last four.
-fn read_at<'a>(alloc: Global, bytes: &'a [u8]) -> Result<Dictionary<'a>, Fail> {
-    match Dictionary::read(alloc, bytes, AT) {
-        Ok((dictionary, end)) if end + 4 == bytes.len() => Ok(dictionary),
-        Ok(_) => Err("another end")?,
-        Err(ReadFault::OutOfMemory) => Err(Fail::from(AllocError)),
-        Err(ReadFault::Fault(_)) => Err("refused")?,
-    }
 }
 
 /// Whether a role has this string under this number, looked up both ways.
@@ -177,13 +229,10 @@ fn has_no_number(
     Ok(!found && out.as_slice() == b"before".as_slice())
 }
 
-/// The dictionary of three triples: the strings of each role in the order of their numbers.
-static SHARED: [&[u8]; 2] = [b"u:a", b"u:b"];
+/// The sections of the dictionary of three triples.
+static THREE: [&[&[u8]]; 4] = [&[b"u:a", b"u:b"], &[], &[b"u:p", b"u:q"], &[b"\"x\""]];
 
-static PREDICATES_OF: [&[u8]; 2] = [b"u:p", b"u:q"];
-
-static OBJECTS_OF: [&[u8]; 1] = [b"\"x\""];
-
+/// The strings of each role in the order of their numbers, and others.
 static ROLES: [(Role, &[&[u8]], &[&[u8]]); 3] = [
     (Role::Subject, &[b"u:a", b"u:b"], &[b"u:p", b"u:", b"\"x\""]),
     (Role::Predicate, &[b"u:p", b"u:q"], &[b"u:a", b"", b"u:q "]),
@@ -194,51 +243,88 @@ static ROLES: [(Role, &[&[u8]], &[&[u8]]); 3] = [
     ),
 ];
 
-/// Whether a role has these strings under the numbers from 1 on, and none of the others.
-fn has_alone(
+/// Whether a role has these strings under the numbers from 1 on, and no more.
+fn has_strings(
     alloc: Global,
     dictionary: &Dictionary<'_>,
     role: Role,
     strings: &[&[u8]],
-    others: &[&[u8]],
 ) -> Result<bool, AllocError> {
-    let mut n = 0u64;
+    let mut n = 0_u64;
+    let mut good = dictionary.count(role) == strings.len() as u64;
     for string in strings {
-        n = n.saturating_add(1);
-        if !is_numbered(alloc, dictionary, role, n, *string)? {
-            return Ok(false);
-        }
+        n = n.wrapping_add(1);
+        good = good && is_numbered(alloc, dictionary, role, n, *string)?;
     }
+    Ok(good)
+}
+
+/// Whether a role has none of these strings.
+fn has_none_of(dictionary: &Dictionary<'_>, role: Role, others: &[&[u8]]) -> bool {
+    let mut good = true;
     for other in others {
-        let number = dictionary.number_of(role, *other, &mut Steps::new());
-        if number.is_some() {
-            return Ok(false);
-        }
+        good = good
+            && dictionary
+                .number_of(role, *other, &mut Steps::new())
+                .is_none();
     }
-    let past = n.saturating_add(1);
+    good
+}
+
+/// Whether a role has no string of number 0, of the number past its last one, and of the greatest.
+fn has_no_others(
+    alloc: Global,
+    dictionary: &Dictionary<'_>,
+    role: Role,
+) -> Result<bool, AllocError> {
+    let past = dictionary.count(role).wrapping_add(1);
     Ok(
-        dictionary.count(role) == n
-            && has_no_number(alloc, dictionary, role, 0)?
+        has_no_number(alloc, dictionary, role, 0)?
             && has_no_number(alloc, dictionary, role, past)?
             && has_no_number(alloc, dictionary, role, u64::MAX)?,
     )
 }
 
-/// Whether the walk gives these strings next, each with the number that it has in the role.
+/// Whether the walk gives this string next, with the number that it has in the role.
+fn gives(
+    walk: &mut Strings<'_>,
+    dictionary: &Dictionary<'_>,
+    role: Role,
+    string: &[u8],
+) -> Result<bool, AllocError> {
+    let number = walk.next()?;
+    let looked_up = dictionary.number_of(role, string, &mut Steps::new());
+    Ok(walk.last() == string && looked_up == number)
+}
+
+/// Whether the walk gives these strings next.
 fn goes_through(
     walk: &mut Strings<'_>,
     dictionary: &Dictionary<'_>,
     role: Role,
     strings: &[&[u8]],
 ) -> Result<bool, AllocError> {
+    let mut good = true;
     for string in strings {
-        let number = walk.next()?;
-        let looked_up = dictionary.number_of(role, *string, &mut Steps::new());
-        if walk.last() != *string || looked_up != number {
-            return Ok(false);
-        }
+        good = good && gives(walk, dictionary, role, *string)?;
     }
-    Ok(true)
+    Ok(good)
+}
+
+/// Whether the walk of a role gives these strings, first those that it shares, and then ends.
+fn is_walked(
+    alloc: Global,
+    dictionary: &Dictionary<'_>,
+    role: Role,
+    shared: &[&[u8]],
+    own: &[&[u8]],
+) -> Result<bool, AllocError> {
+    let mut walk = dictionary.strings(alloc, role);
+    Ok(
+        goes_through(&mut walk, dictionary, role, shared)?
+            && goes_through(&mut walk, dictionary, role, own)?
+            && walk.next()?.is_none(),
+    )
 }
 
 /// Whether the sections are so long.
@@ -248,45 +334,55 @@ fn has_lens(dictionary: &Dictionary<'_>, lens: &[u64]) -> bool {
 
 static THREE_LENS: [u64; 4] = [2, 0, 2, 1];
 
+/// Whether each role has its strings alone, looked up and walked.
+fn roles_are_so(alloc: Global, dictionary: &Dictionary<'_>) -> Result<bool, AllocError> {
+    let mut good = has_lens(dictionary, &THREE_LENS);
+    for (role, strings, others) in &ROLES {
+        good = good
+            && is_walked(alloc, dictionary, *role, strings, &[])?
+            && has_strings(alloc, dictionary, *role, strings)?
+            && has_none_of(dictionary, *role, others)
+            && has_no_others(alloc, dictionary, *role)?;
+    }
+    Ok(good)
+}
+
 #[test]
 fn looked_up(rt: HostRuntime) -> Result<(), Fail> {
-    let alloc = rt.alloc();
-    let bytes = dictionary_with(alloc, &SHARED, &[], &PREDICATES_OF, &OBJECTS_OF, 16)?;
-    let dictionary = read_at(alloc, &bytes)?;
-    assert!(rt; has_lens(&dictionary, &THREE_LENS));
-    for (role, strings, others) in &ROLES {
-        let mut walk = dictionary.strings(alloc, *role);
-        let walked = goes_through(&mut walk, &dictionary, *role, *strings)?;
-        let ended = walk.next()?.is_none();
-        let alone = has_alone(alloc, &dictionary, *role, *strings, *others)?;
-        assert!(rt; walked && ended && alone);
-    }
+    let bytes = dictionary_with(rt.alloc(), &THREE, 16)?;
+    let dictionary = read_at(rt.alloc(), &bytes)?.ok_or("refused")?;
+    assert!(rt; roles_are_so(rt.alloc(), &dictionary)?);
     Ok(())
 }
 
-static FIRST: [&[u8]; 2] = [b"ab", b"abc"];
+/// Sections whose strings lie at the places that `starts_are_so` says.
+static PLACED: [&[&[u8]]; 4] = [
+    &[b"ab", b"abc"],
+    &[b"a", b"b"],
+    &[b"p"],
+    &[b"\"x\n\"", b"c\\\r"],
+];
 
-static SECOND: [&[u8]; 2] = [b"a", b"b"];
-
-static THIRD: [&[u8]; 1] = [b"p"];
-
-static FOURTH: [&[u8]; 2] = [b"\"x\n\"", b"c\\\r"];
+/// Whether strings of each section start at their places.
+fn starts_are_so(dictionary: &Dictionary<'_>) -> bool {
+    let [shared, subjects, predicates, objects] = dictionary.section_lens();
+    shared == 2
+        && subjects == 2
+        && predicates == 1
+        && objects == 2
+        && dictionary.string_start(0, 1) == 291
+        && dictionary.string_start(0, 2) == 294
+        && dictionary.string_start(1, 2) == 319
+        && dictionary.string_start(2, 1) == 340
+        && dictionary.string_start(3, 2) == 365
+}
 
 #[test]
 fn string_starts(rt: HostRuntime) -> Result<(), Fail> {
-    let bytes = dictionary_with(rt.alloc(), &FIRST, &SECOND, &THIRD, &FOURTH, 2)?;
-    let dictionary = read_at(rt.alloc(), &bytes)?;
-    let [shared, subjects, predicates, objects] = dictionary.section_lens();
-    if shared == 2 && subjects == 2 && predicates == 1 && objects == 2 {
-        let right = dictionary.string_start(0, 1) == 291
-            && dictionary.string_start(0, 2) == 294
-            && dictionary.string_start(1, 2) == 319
-            && dictionary.string_start(2, 1) == 340
-            && dictionary.string_start(3, 2) == 365;
-        assert!(rt; right);
-        return Ok(());
-    }
-    Err("other counts")?
+    let bytes = dictionary_with(rt.alloc(), &PLACED, 2)?;
+    let dictionary = read_at(rt.alloc(), &bytes)?.ok_or("refused")?;
+    assert!(rt; starts_are_so(&dictionary));
+    Ok(())
 }
 
 /// A value that owns no memory can be copied.
@@ -294,41 +390,74 @@ fn copied<T: Copy>(x: T) -> (T, T) {
     (x, x)
 }
 
-/// A string of 100,000 bytes, all the same.
-fn of_letter(alloc: Global, letter: u8) -> Result<Vec<u8>, AllocError> {
-    let mut text = Vec::new(alloc);
-    text.resize(100_000, letter)?;
-    Ok(text)
+/// The letters a, b, c and d, 100,000 times each.
+fn letters(alloc: Global) -> Result<Vec<u8>, AllocError> {
+    let mut texts = Vec::new(alloc);
+    for letter in b"abcd" {
+        texts.resize(texts.len().wrapping_add(100_000), *letter)?;
+    }
+    Ok(texts)
+}
+
+/// String i of 100,000 bytes, all the same letter.
+fn long(texts: &[u8], i: usize) -> &[u8] {
+    let at = i.wrapping_mul(100_000);
+    texts.get(at..at.wrapping_add(100_000)).unwrap_or(&[])
+}
+
+/// The dictionary of long strings a, b, c and, as object, the one of this number.
+fn long_dictionary(alloc: Global, texts: &[u8], object: usize) -> Result<Vec<u8>, AllocError> {
+    let mut out = before_sections(alloc)?;
+    for i in [0, 1, 2, object] {
+        append_section(alloc, &[long(texts, i)], 16, &mut out)?;
+    }
+    out.extend_from_slice(b"$HDT")?;
+    Ok(out)
+}
+
+/// Whether long strings are numbered, in a dictionary and in its copy.
+fn are_long(alloc: Global, dictionary: Dictionary<'_>, texts: &[u8]) -> Result<bool, AllocError> {
+    let (one, other) = copied(dictionary);
+    Ok(
+        is_numbered(alloc, &one, Role::Subject, 1, long(texts, 0))?
+            && is_numbered(alloc, &other, Role::Subject, 2, long(texts, 1))?
+            && is_numbered(alloc, &one, Role::Predicate, 1, long(texts, 2))?
+            && is_numbered(alloc, &one, Role::Object, 2, long(texts, 3))?,
+    )
 }
 
 #[test]
 fn long_strings(rt: HostRuntime) -> Result<(), Fail> {
-    let a = &of_letter(rt.alloc(), b'a')?;
-    let b = &of_letter(rt.alloc(), b'b')?;
-    let c = &of_letter(rt.alloc(), b'c')?;
-    let d = &of_letter(rt.alloc(), b'd')?;
-    let bytes = dictionary_with(rt.alloc(), &[a], &[b], &[c], &[d], 16)?;
-    let (dictionary, again) = copied(read_at(rt.alloc(), &bytes)?);
-    let found = is_numbered(rt.alloc(), &dictionary, Role::Subject, 1, a)?
-        && is_numbered(rt.alloc(), &again, Role::Subject, 2, b)?
-        && is_numbered(rt.alloc(), &dictionary, Role::Predicate, 1, c)?
-        && is_numbered(rt.alloc(), &dictionary, Role::Object, 2, d)?;
-    assert!(rt; found);
-    let overlapping = dictionary_with(rt.alloc(), &[a], &[b], &[c], &[b], 16)?;
-    assert!(rt; overlap_in(rt.alloc(), &overlapping)?.is_some());
+    let texts = letters(rt.alloc())?;
+    let bytes = long_dictionary(rt.alloc(), &texts, 3)?;
+    let dictionary = read_at(rt.alloc(), &bytes)?.ok_or("refused")?;
+    let good = are_long(rt.alloc(), dictionary, &texts)?;
+    let overlapping = long_dictionary(rt.alloc(), &texts, 1)?;
+    assert!(rt; good && overlap_in(rt.alloc(), &overlapping)?.is_some());
     Ok(())
 }
 
-/// The values of the places of a decimal number.
-static PLACES: [u32; 5] = [10_000, 1_000, 100, 10, 1];
+/// The last digit of a number.
+fn digit(i: u32) -> u8 {
+    b'0'.wrapping_add((i % 10) as u8)
+}
+
+/// The last five digits of a number.
+fn digits_of(i: u32) -> [u8; 5] {
+    [
+        digit(i / 10_000),
+        digit(i / 1_000),
+        digit(i / 100),
+        digit(i / 10),
+        digit(i),
+    ]
+}
 
 /// The texts `00000`, `00001` .. of so many numbers, one after another.
 fn numerals(alloc: Global, count: u32) -> Result<Vec<u8>, AllocError> {
-    let mut out = Vec::with_capacity(alloc, 5 * count as usize)?;
+    let mut out = Vec::with_capacity(alloc, (count as usize).wrapping_mul(5))?;
     for i in 0..count {
-        for place in &PLACES {
-            out.push(b'0' + (i / *place % 10) as u8)?;
-        }
+        out.extend_from_slice(&digits_of(i))?;
     }
     Ok(out)
 }
@@ -348,26 +477,38 @@ fn every_fourth<'a>(
     Ok(out)
 }
 
+/// The dictionary whose sections are every fourth numeral.
+fn many_dictionary(alloc: Global, texts: &[u8]) -> Result<Vec<u8>, AllocError> {
+    let mut out = before_sections(alloc)?;
+    for rest in 0..4 {
+        append_section(alloc, &every_fourth(alloc, texts, rest)?, 16, &mut out)?;
+    }
+    out.extend_from_slice(b"$HDT")?;
+    Ok(out)
+}
+
+/// Whether a role is walked through the shared numerals and its own.
+fn are_many_walked(
+    alloc: Global,
+    dictionary: &Dictionary<'_>,
+    role: Role,
+    texts: &[u8],
+    rest: usize,
+) -> Result<bool, AllocError> {
+    let shared = every_fourth(alloc, texts, 0)?;
+    let own = every_fourth(alloc, texts, rest)?;
+    is_walked(alloc, dictionary, role, &shared, &own)
+}
+
 #[test]
 fn many_strings(rt: HostRuntime) -> Result<(), Fail> {
-    let alloc = rt.alloc();
-    let texts = numerals(alloc, 20_000)?;
-    let shared = every_fourth(alloc, &texts, 0)?;
-    let subjects = every_fourth(alloc, &texts, 1)?;
-    let predicates = every_fourth(alloc, &texts, 2)?;
-    let objects = every_fourth(alloc, &texts, 3)?;
-    let bytes = dictionary_with(alloc, &shared, &subjects, &predicates, &objects, 16)?;
-    let dictionary = read_at(alloc, &bytes)?;
-    let mut walk = dictionary.strings(alloc, Role::Subject);
-    let right = goes_through(&mut walk, &dictionary, Role::Subject, &shared)?
-        && goes_through(&mut walk, &dictionary, Role::Subject, &subjects)?
-        && walk.next()?.is_none();
-    assert!(rt; right);
-    let mut walk = dictionary.strings(alloc, Role::Object);
-    let right = goes_through(&mut walk, &dictionary, Role::Object, &shared)?
-        && goes_through(&mut walk, &dictionary, Role::Object, &objects)?
-        && is_numbered(alloc, &dictionary, Role::Object, 10_000, b"19999")?;
-    assert!(rt; right);
+    let texts = numerals(rt.alloc(), 20_000)?;
+    let bytes = many_dictionary(rt.alloc(), &texts)?;
+    let dictionary = read_at(rt.alloc(), &bytes)?.ok_or("refused")?;
+    let good = are_many_walked(rt.alloc(), &dictionary, Role::Subject, &texts, 1)?
+        && are_many_walked(rt.alloc(), &dictionary, Role::Object, &texts, 3)?
+        && is_numbered(rt.alloc(), &dictionary, Role::Object, 10_000, b"19999")?;
+    assert!(rt; good);
     Ok(())
 }
 
@@ -429,23 +570,34 @@ fn hold(vectors: &[Vec<u8>], list: &[&[u8]]) -> bool {
             .all(|(v, x)| v.as_slice() == *x)
 }
 
+/// The parts of the strings of three roles.
+fn parts_of(
+    alloc: Global,
+    subjects: &[&[u8]],
+    predicates: &[&[u8]],
+    objects: &[&[u8]],
+) -> Result<Parts, AllocError> {
+    let subjects = owned(alloc, subjects)?;
+    let predicates = owned(alloc, predicates)?;
+    let objects = owned(alloc, objects)?;
+    split(alloc, &subjects, &predicates, &objects)
+}
+
+/// Whether the parts hold these sections.
+fn are_sections(parts: &Parts, sections: &[&[&[u8]]; 4]) -> bool {
+    let [shared, subjects, predicates, objects] = *sections;
+    hold(&parts.shared, shared)
+        && hold(&parts.subjects, subjects)
+        && hold(&parts.predicates, predicates)
+        && hold(&parts.objects, objects)
+}
+
 #[test]
 fn splits(rt: HostRuntime) -> Result<(), Fail> {
-    let alloc = rt.alloc();
     for (given, sections) in &SPLITS {
         let [subjects, predicates, objects] = *given;
-        let [shared, only_subjects, all_predicates, only_objects] = *sections;
-        let parts = split(
-            alloc,
-            &owned(alloc, subjects)?,
-            &owned(alloc, predicates)?,
-            &owned(alloc, objects)?,
-        )?;
-        let right = hold(&parts.shared, shared)
-            && hold(&parts.subjects, only_subjects)
-            && hold(&parts.predicates, all_predicates)
-            && hold(&parts.objects, only_objects);
-        assert!(rt; right);
+        let parts = parts_of(rt.alloc(), subjects, predicates, objects)?;
+        assert!(rt; are_sections(&parts, sections));
     }
     Ok(())
 }
@@ -458,14 +610,16 @@ fn hold_texts(alloc: Global, list: &[Vec<u8>]) -> Result<bool, AllocError>
     Ok(are_texts(slices.as_slice()))
 }
 
-/// Strings of three roles, and the canonical sections that they make in blocks of two.
+/// Strings of three roles, and the canonical dictionary that they make in blocks of two, behind other bytes.
 static SUBJECTS: [&[u8]; 5] = [b"abc", b"b", b"ab", b"a", b"abc"];
 
 static PREDICATES: [&[u8]; 2] = [b"p", b"p"];
 
 static OBJECTS: [&[u8]; 4] = [b"c\\\r", b"abc", b"\"x\n\"", b"ab"];
 
-static CANONICAL: [&[u8]; 4] = [
+static CANONICAL: [&[u8]; 6] = [
+    b"before ",
+    CONTROL,
     b"\x02\x82\x86\x82\xBE\x01\x03\x82\xD30\xE0\x1A\x9Ebab\x00\x82c\x00\x85\xF2\x02\x1F",
     b"\x02\x82\x85\x82\x81\x01\x03\x82\xD3(@\x85\x19\xF8a\x00\x80b\x00\xCB\xA4d}",
     b"\x02\x81\x82\x82W\x01\x02\x82\xC6\x08\x9E\x0B\xA4\xD8p\x00U\xA38N",
@@ -522,85 +676,94 @@ fn write_owned(
     Ok(())
 }
 
-#[test]
-fn written(rt: HostRuntime) -> Result<(), Fail> {
-    let alloc = rt.alloc();
-    let mut wanted = Vec::from_slice(alloc, b"before ")?;
-    wanted.extend_from_slice(CONTROL)?;
-    for section in CANONICAL {
-        wanted.extend_from_slice(section)?;
+/// Whether the bytes are these, one after another.
+fn are_joined(bytes: &[u8], wanted: &[&[u8]]) -> bool {
+    let mut rest = bytes;
+    let mut good = true;
+    for part in wanted {
+        good = good && rest.starts_with(part);
+        rest = rest.get(part.len()..).unwrap_or(&[]);
     }
+    good && rest.is_empty()
+}
+
+/// The dictionary of lent strings, behind other bytes.
+fn lent_written(alloc: Global) -> Result<Vec<u8>, Fail> {
     let mut out = Vec::from_slice(alloc, b"before ")?;
     write_lent(alloc, &SUBJECTS, &PREDICATES, &OBJECTS, 2, &mut out)?;
-    assert!(rt; out == wanted);
-    out.truncate(7);
-    write_owned(
-        alloc,
-        &owned(alloc, &SUBJECTS)?,
-        &owned(alloc, &PREDICATES)?,
-        &owned(alloc, &OBJECTS)?,
-        2,
-        &mut out,
-    )?;
-    assert!(rt; out == wanted);
+    Ok(out)
+}
+
+/// The same of strings in vectors.
+fn owned_written(alloc: Global) -> Result<Vec<u8>, Fail> {
+    let subjects = owned(alloc, &SUBJECTS)?;
+    let predicates = owned(alloc, &PREDICATES)?;
+    let objects = owned(alloc, &OBJECTS)?;
+    let mut out = Vec::from_slice(alloc, b"before ")?;
+    write_owned(alloc, &subjects, &predicates, &objects, 2, &mut out)?;
+    Ok(out)
+}
+
+#[test]
+fn written(rt: HostRuntime) -> Result<(), Fail> {
+    let lent = lent_written(rt.alloc())?;
+    let owned = owned_written(rt.alloc())?;
+    assert!(rt; are_joined(&lent, &CANONICAL) && are_joined(&owned, &CANONICAL));
     Ok(())
 }
 
 static LARGE_LENS: [u64; 4] = [25_000, 75_000, 25_000, 0];
 
+/// All numerals, the last one first.
+fn backwards<'a>(alloc: Global, texts: &'a [u8]) -> Result<Vec<&'a [u8]>, AllocError> {
+    let mut numerals = Vec::new(alloc);
+    for numeral in texts.chunks_exact(5) {
+        numerals.push(numeral)?;
+    }
+    numerals.reverse();
+    Ok(numerals)
+}
+
+/// The dictionary of all numerals as subjects, and of every fourth as predicates and objects.
+fn large_dictionary(alloc: Global, texts: &[u8]) -> Result<Vec<u8>, Fail> {
+    let subjects = backwards(alloc, texts)?;
+    let others = every_fourth(alloc, texts, 2)?;
+    let mut out = vec![in alloc; 0; AT]?;
+    write_lent(alloc, &subjects, &others, &others, 16, &mut out)?;
+    out.extend_from_slice(b"$HDT")?;
+    Ok(out)
+}
+
 #[test]
 fn written_large(rt: HostRuntime) -> Result<(), Fail> {
-    let alloc = rt.alloc();
-    let texts = numerals(alloc, 100_000)?;
-    let mut subjects = Vec::new(alloc);
-    for numeral in texts.chunks_exact(5) {
-        subjects.push(numeral)?;
-    }
-    subjects.reverse();
-    let objects = every_fourth(alloc, &texts, 2)?;
-    let mut out = Vec::new(alloc);
-    out.resize(AT, 0)?;
-    write_lent(alloc, &subjects, &objects, &objects, 16, &mut out)?;
-    out.extend_from_slice(b"$HDT")?;
-    let dictionary = read_at(alloc, &out)?;
-    let right = has_lens(&dictionary, &LARGE_LENS)
-        && is_numbered(alloc, &dictionary, Role::Subject, 1, b"00002")?
-        && is_numbered(alloc, &dictionary, Role::Subject, 25_001, b"00000")?
-        && is_numbered(alloc, &dictionary, Role::Object, 25_000, b"99998")?;
-    assert!(rt; right);
+    let texts = numerals(rt.alloc(), 100_000)?;
+    let bytes = large_dictionary(rt.alloc(), &texts)?;
+    let dictionary = read_at(rt.alloc(), &bytes)?.ok_or("refused")?;
+    let good = has_lens(&dictionary, &LARGE_LENS)
+        && is_numbered(rt.alloc(), &dictionary, Role::Subject, 1, b"00002")?
+        && is_numbered(rt.alloc(), &dictionary, Role::Subject, 25_001, b"00000")?
+        && is_numbered(rt.alloc(), &dictionary, Role::Object, 25_000, b"99998")?;
+    assert!(rt; good);
     Ok(())
+}
+
+/// The dictionary of the long strings b and a as subjects, and b as an object, written.
+fn long_written(alloc: Global, texts: &[u8]) -> Result<Vec<u8>, Fail> {
+    let subjects = owned(alloc, &[long(texts, 1), long(texts, 0)])?;
+    let objects = owned(alloc, &[long(texts, 1)])?;
+    let mut out = vec![in alloc; 0; AT]?;
+    write_owned(alloc, &subjects, &[], &objects, 16, &mut out)?;
+    out.extend_from_slice(b"$HDT")?;
+    Ok(out)
 }
 
 #[test]
 fn written_long(rt: HostRuntime) -> Result<(), Fail> {
-    let alloc = rt.alloc();
-    let mut subjects = Vec::new(alloc);
-    subjects.push(of_letter(alloc, b'b')?)?;
-    subjects.push(of_letter(alloc, b'a')?)?;
-    let mut objects = Vec::new(alloc);
-    objects.push(of_letter(alloc, b'b')?)?;
-    let mut out = Vec::new(alloc);
-    out.resize(AT, 0)?;
-    write_owned(alloc, &subjects, &[], &objects, 16, &mut out)?;
-    out.extend_from_slice(b"$HDT")?;
-    let dictionary = read_at(alloc, &out)?;
-    assert!(rt;
-        is_numbered(
-            alloc,
-            &dictionary,
-            Role::Object,
-            1,
-            &of_letter(alloc, b'b')?
-        )?
-    );
-    assert!(rt;
-        is_numbered(
-            alloc,
-            &dictionary,
-            Role::Subject,
-            2,
-            &of_letter(alloc, b'a')?
-        )?
-    );
+    let texts = letters(rt.alloc())?;
+    let bytes = long_written(rt.alloc(), &texts)?;
+    let dictionary = read_at(rt.alloc(), &bytes)?.ok_or("refused")?;
+    let good = is_numbered(rt.alloc(), &dictionary, Role::Object, 1, long(&texts, 1))?
+        && is_numbered(rt.alloc(), &dictionary, Role::Subject, 2, long(&texts, 0))?;
+    assert!(rt; good);
     Ok(())
 }

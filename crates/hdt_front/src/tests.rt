@@ -3,7 +3,6 @@ use crate::writing::lent;
 use hdt_seq::{Numbers, Steps};
 use hdt_wire::{Fault, Reason, read_vbyte};
 use std::alloc::{AllocError, Global};
-use std::process::Abort;
 use std::test::Fail;
 
 /// Sections in their canonical form: the size of their blocks, their strings and their bytes.
@@ -453,151 +452,281 @@ static OTHERS: [&[u8]; 14] = [
 /// What stands before a section in these tests.
 static BEFORE: [u8; 3] = [0xFF, 0x02, 0x80];
 
-fn read<'a>(alloc: Global, bytes: &'a [u8], at: usize) -> Result<(Section<'a>, usize), Fail> {
+/// The section at a place and the place after it; none where it is refused.
+fn read<'a>(
+    alloc: Global,
+    bytes: &'a [u8],
+    at: usize,
+) -> Result<Option<(Section<'a>, usize)>, AllocError> {
     match Section::read(alloc, bytes, at) {
-        Ok(read) => Ok(read),
-        Err(ReadFault::OutOfMemory) => Err("OutOfMemory")?,
-        Err(ReadFault::Fault(_)) => Err("refused")?,
+        Ok(read) => Ok(Some(read)),
+        Err(ReadFault::OutOfMemory) => Err(AllocError),
+        Err(ReadFault::Fault(_)) => Ok(None),
     }
 }
 
-/// The strings of a section, all unfolded into one vector, with the end and the place of each.
+/// What the head of a section says: how many strings, how many of them in a block, and the place of the first.
+#[derive(Drop)]
+struct Head {
+    count: u64,
+    block: u64,
+    packed_at: usize,
+}
+
+/// The head of the section at a place; none where a number is none.
+fn head_at(bytes: &[u8], at: usize) -> Option<Head> {
+    let (count, size_at) = read_vbyte(bytes, at.wrapping_add(1)).ok()?;
+    let (_, block_at) = read_vbyte(bytes, size_at).ok()?;
+    let (block, code_at) = read_vbyte(bytes, block_at).ok()?;
+    let (_, packed_at) = Numbers::read(bytes, code_at.wrapping_add(1)).ok()?;
+    Some(Head {
+        count,
+        block,
+        packed_at,
+    })
+}
+
+/// What is packed of a string: how much it keeps of the one before, its own text, and the place after it.
+#[derive(Drop)]
+struct Piece<'a> {
+    kept: usize,
+    text: &'a [u8],
+    end: usize,
+}
+
+/// The bytes before the first that is 0.
+fn until_zero(bytes: &[u8]) -> Option<&[u8]> {
+    let len = bytes.iter().position(|&byte| byte == 0)?;
+    bytes.get(..len)
+}
+
+/// The piece at a place: the first of a block says nothing of what it keeps.
+fn piece_at(bytes: &[u8], place: usize, first: bool) -> Option<Piece<'_>> {
+    let (kept, text_at) = if first {
+        (0, place)
+    } else {
+        read_vbyte(bytes, place).ok()?
+    };
+    let text = until_zero(bytes.get(text_at..)?)?;
+    Some(Piece {
+        kept: kept as usize,
+        text,
+        end: text_at.wrapping_add(text.len()).wrapping_add(1),
+    })
+}
+
+/// The place of a string, and where it stands among those unfolded.
+#[derive(Drop)]
+struct Span {
+    place: usize,
+    from: usize,
+    end: usize,
+}
+
+/// The strings of a section, all unfolded into one vector, and the span of each.
 #[derive(Drop)]
 struct Unfolded {
     bytes: Vec<u8>,
-    ends: Vec<(usize, usize)>,
+    spans: Vec<Span>,
+}
+
+impl Unfolded {
+    /// The string of a span.
+    fn string(&self, span: &Span) -> &[u8] {
+        self.bytes.get(span.from..span.end).unwrap_or(&[])
+    }
+
+    /// Unfolds one string more over the last one.
+    fn push(&mut self, piece: &Piece<'_>, place: usize) -> Result<(), AllocError> {
+        let from = self.bytes.len();
+        let last = self.spans.last().map_or(0, |span| span.from);
+        let kept = last.wrapping_add(piece.kept);
+        if last <= kept && kept <= from {
+            self.bytes.extend_from_within(last..kept)?;
+        }
+        self.bytes.extend_from_slice(piece.text)?;
+        let end = self.bytes.len();
+        self.spans.push(Span { place, from, end })?;
+        Ok(())
+    }
 }
 
 /// Unfolds a whole section piece by piece, as the format says it.
-fn unfold_all(alloc: Global, bytes: &[u8], at: usize) -> Result<Unfolded, Fail> {
-    let number = |place: usize| read_vbyte(bytes, place).ok().ok_or("no number");
-    let (count, size_at) = number(at.wrapping_add(1))?;
-    let (_, block_at) = number(size_at)?;
-    let (block, code_at) = number(block_at)?;
-    let starts = Numbers::read(bytes, code_at.wrapping_add(1));
-    let (_, mut place) = starts.ok().ok_or("no starts")?;
-    let mut made = Unfolded {
+fn unfold_all(alloc: Global, bytes: &[u8], head: &Head) -> Result<Unfolded, AllocError> {
+    let mut plain = Unfolded {
         bytes: Vec::new(alloc),
-        ends: Vec::new(alloc),
+        spans: Vec::new(alloc),
     };
-    let mut last = Vec::new(alloc);
-    for i in 0..count {
-        let (kept, text_at) = if i.checked_rem(block) == Some(0) {
-            (0, place)
-        } else {
-            number(place)?
+    let mut place = head.packed_at;
+    for i in 0..head.count {
+        let first = i.checked_rem(head.block) == Some(0);
+        let Some(piece) = piece_at(bytes, place, first) else {
+            break;
         };
-        let rest = bytes.get(text_at..).ok_or("no text")?;
-        let len = rest.iter().position(|&byte| byte == 0).ok_or("no end")?;
-        last.truncate(kept as usize);
-        last.extend_from_slice(rest.get(..len).ok_or("no text")?)?;
-        made.bytes.extend_from_slice(&last)?;
-        made.ends.push((made.bytes.len(), place))?;
-        place = text_at.wrapping_add(len).wrapping_add(1);
+        plain.push(&piece, place)?;
+        place = piece.end;
     }
-    Ok(made)
+    Ok(plain)
 }
 
-/// Number, place and bytes of each string of a section, through each call, against the plain unfolding.
-fn compare(
-    rt: &impl Abort,
+/// Whether string n starts at a place, and is found.
+fn is_found(section: &Section<'_>, n: u64, string: &[u8], place: usize) -> bool {
+    n > 0
+        && n <= section.len()
+        && section.string_start(n) == place as u64
+        && section.place_of(string, &mut Steps::new()) == Some(n)
+}
+
+/// Whether string n is appended to what stands before; `out` may have another string behind that.
+fn is_appended(
+    section: &Section<'_>,
+    n: u64,
+    string: &[u8],
+    out: &mut Vec<u8>,
+) -> Result<bool, AllocError> {
+    if n == 0 || n > section.len() {
+        return Ok(false);
+    }
+    out.truncate(BEFORE.len());
+    section.string(n, out, &mut Steps::new())?;
+    Ok(out.strip_prefix(BEFORE.as_slice()) == Some(string))
+}
+
+/// Whether the strings of a section are looked up under their numbers, and these under the strings.
+fn are_looked_up(
     alloc: Global,
-    name: &str,
+    section: &Section<'_>,
+    plain: &Unfolded,
+) -> Result<bool, AllocError> {
+    let mut out = BEFORE.to_vec(alloc)?;
+    let mut n = 0_u64;
+    let mut good = true;
+    for span in &plain.spans {
+        let string = plain.string(span);
+        n = n.wrapping_add(1);
+        good = good
+            && is_found(section, n, string, span.place)
+            && is_appended(section, n, string, &mut out)?;
+    }
+    Ok(good)
+}
+
+/// Whether a walk goes through the strings of a section.
+fn are_walked(alloc: Global, section: &Section<'_>, plain: &Unfolded) -> Result<bool, AllocError> {
+    let mut walk = Walk::new(alloc, section);
+    let mut good = true;
+    for span in &plain.spans {
+        good = good && walk.next()? == Some(span.place) && walk.last() == plain.string(span);
+    }
+    Ok(good && walk.next()?.is_none())
+}
+
+/// Whether a cursor goes through the strings of a section.
+fn are_passed(alloc: Global, section: &Section<'_>, plain: &Unfolded) -> Result<bool, AllocError> {
+    let mut cursor = Cursor::new(alloc, section)?;
+    let mut good = true;
+    for span in &plain.spans {
+        good = good
+            && cursor.place() == Some(span.place)
+            && cursor.string() == Some(plain.string(span));
+        cursor.pass()?;
+    }
+    Ok(good && cursor.place().is_none())
+}
+
+/// Whether number, place and bytes of each string, through each call, are those of the plain unfolding.
+fn agrees(
+    alloc: Global,
+    section: &Section<'_>,
     bytes: &[u8],
     at: usize,
-) -> Result<u64, Fail> {
-    let plain = unfold_all(alloc, bytes, at)?;
-    let (section, _) = read(alloc, bytes, at)?;
-    assert_eq!(rt; section.len(), plain.ends.len() as u64, "length of {name}");
-    let mut steps = Steps::new();
-    let mut walk = Walk::new(alloc, &section);
-    let mut cursor = Cursor::new(alloc, &section)?;
-    let mut out = BEFORE.to_vec(alloc)?;
-    let mut from = 0;
-    for n in 1..=section.len() {
-        let (end, place) = *plain.ends.get((n - 1) as usize).ok_or("no end")?;
-        let string = plain.bytes.get(from..end).ok_or("no string")?;
-        out.truncate(BEFORE.len());
-        section.string(n, &mut out, &mut steps)?;
-        assert!(rt;
-            out.strip_prefix(BEFORE.as_slice()) == Some(string),
-            "string {n} of {name}"
-        );
-        assert_eq!(rt;
-            section.place_of(string, &mut steps),
-            Some(n),
-            "place {n} of {name}"
-        );
-        assert_eq!(rt;
-            section.string_start(n),
-            place as u64,
-            "start {n} of {name}"
-        );
-        assert_eq!(rt; walk.next()?, Some(place), "step {n} of {name}");
-        assert!(rt; walk.last() == string, "walk at {n} of {name}");
-        assert_eq!(rt; cursor.place(), Some(place), "cursor at {n} of {name}");
-        assert!(rt;
-            cursor.string() == Some(string),
-            "cursor's string {n} of {name}"
-        );
-        cursor.pass()?;
-        from = end;
-    }
-    assert_eq!(rt;
-        (walk.next()?, cursor.place()),
-        (None, None),
-        "end of {name}"
-    );
-    Ok(section.blocks())
+) -> Result<bool, AllocError> {
+    let Some(head) = head_at(bytes, at) else {
+        return Ok(false);
+    };
+    let plain = unfold_all(alloc, bytes, &head)?;
+    Ok(
+        section.len() == plain.spans.len() as u64
+            && are_looked_up(alloc, section, &plain)?
+            && are_walked(alloc, section, &plain)?
+            && are_passed(alloc, section, &plain)?,
+    )
 }
 
 /// Whether the strings of a section are these.
-fn holds(rt: &impl Abort, name: &str, section: &Section<'_>, strings: &[&[u8]]) {
-    let mut steps = Steps::new();
-    assert_eq!(rt; section.len(), strings.len() as u64, "length of {name}");
-    for (place, string) in strings.iter().enumerate() {
-        let n = (place as u64).wrapping_add(1);
-        assert_eq!(rt;
-            section.place_of(string, &mut steps),
-            Some(n),
-            "{n} of {name}"
-        );
+fn has_strings(section: &Section<'_>, strings: &[&[u8]]) -> bool {
+    let mut n = 0_u64;
+    let mut good = section.len() == strings.len() as u64;
+    for string in strings {
+        n = n.wrapping_add(1);
+        good = good && section.place_of(string, &mut Steps::new()) == Some(n);
     }
+    good
+}
+
+/// Whether a section of these strings has none of the others.
+fn has_no_others(section: &Section<'_>, strings: &[&[u8]]) -> bool {
+    let mut good = true;
     for string in &OTHERS {
-        if !strings.contains(string) {
-            assert_eq!(rt; section.place_of(string, &mut steps), None, "not in {name}");
-        }
+        good = good
+            && (strings.contains(string) || section.place_of(string, &mut Steps::new()).is_none());
     }
+    good
+}
+
+/// How many blocks the section at a place has, if it ends there and each call answers these strings.
+fn blocks_read(
+    alloc: Global,
+    bytes: &[u8],
+    at: usize,
+    end: usize,
+    strings: &[&[u8]],
+) -> Result<Option<u64>, AllocError> {
+    let Some((section, stop)) = read(alloc, bytes, at)? else {
+        return Ok(None);
+    };
+    let good = stop == end
+        && has_strings(&section, strings)
+        && has_no_others(&section, strings)
+        && agrees(alloc, &section, bytes, at)?;
+    Ok(if good { Some(section.blocks()) } else { None })
+}
+
+/// What stands before, the section of these strings, and a byte after it.
+fn written(alloc: Global, strings: &[&[u8]], block_size: u32) -> Result<Vec<u8>, AllocError> {
+    let mut out = BEFORE.to_vec(alloc)?;
+    if are_strings(strings) && block_size > 0 {
+        put_lent_section(alloc, strings, block_size, &mut out)?;
+    }
+    out.push(0x55)?;
+    Ok(out)
+}
+
+/// Whether strings are written so, and are read again.
+fn is_written(
+    alloc: Global,
+    strings: &[&[u8]],
+    block_size: u32,
+    spelling: &[u8],
+) -> Result<bool, AllocError> {
+    let out = written(alloc, strings, block_size)?;
+    let end = out.len().wrapping_sub(1);
+    let blocks = strings.len().div_ceil(block_size.max(1) as usize) as u64;
+    Ok(
+        out.get(BEFORE.len()..end) == Some(spelling)
+            && blocks_read(alloc, &out, BEFORE.len(), end, strings)? == Some(blocks),
+    )
 }
 
 #[test]
 fn writes_and_reads_again(rt: HostRuntime) -> Result<(), Fail> {
-    let alloc = rt.alloc();
     for (name, size, strings, bytes) in &SECTIONS {
-        let block_size = *size;
-        let mut out = BEFORE.to_vec(alloc)?;
-        assert!(rt; are_strings(strings) && block_size > 0, "strings of {name}");
-        put_lent_section(alloc, strings, block_size, &mut out)?;
-        assert!(rt;
-            out.strip_prefix(BEFORE.as_slice()) == Some(bytes),
-            "{name}"
-        );
-        let end = out.len();
-        out.push(0x55)?;
-        let (section, stop) = read(alloc, &out, BEFORE.len())?;
-        assert_eq!(rt; stop, end, "end of {name}");
-        holds(&rt, name, &section, strings);
-        let blocks = compare(&rt, alloc, name, &out, BEFORE.len())?;
-        assert_eq!(rt;
-            blocks,
-            strings.len().div_ceil(block_size as usize) as u64,
-            "{name}"
-        );
+        assert!(rt; is_written(rt.alloc(), strings, *size, bytes)?, "{name}");
     }
     Ok(())
 }
 
-/// Writes owned strings that a section can hold.
+/// Writes owned strings if a section can hold them.
 fn put_owned(alloc: Global, strings: &[Vec<u8>], out: &mut Vec<u8>) -> Result<bool, AllocError> {
     let slices = lent(alloc, strings)?;
     if !are_strings(&slices) {
@@ -607,50 +736,62 @@ fn put_owned(alloc: Global, strings: &[Vec<u8>], out: &mut Vec<u8>) -> Result<bo
     Ok(true)
 }
 
-#[test]
-fn writes_owned_strings(rt: HostRuntime) -> Result<(), Fail> {
-    let alloc = rt.alloc();
-    let (_, _, strings, bytes) = &SECTIONS[1];
+/// The strings in vectors.
+fn owned(alloc: Global, strings: &[&[u8]]) -> Result<Vec<Vec<u8>>, AllocError> {
     let mut owned = Vec::new(alloc);
-    for string in *strings {
+    for string in strings {
         owned.push(string.to_vec(alloc)?)?;
     }
+    Ok(owned)
+}
+
+/// Whether owned strings are written so.
+fn are_put(alloc: Global, strings: &[Vec<u8>], spelling: &[u8]) -> Result<bool, AllocError> {
     let mut out = BEFORE.to_vec(alloc)?;
-    assert!(rt; put_owned(alloc, &owned, &mut out)?);
-    assert!(rt; out.strip_prefix(BEFORE.as_slice()) == Some(*bytes));
-    owned.push(b"http://a".to_vec(alloc)?)?;
-    assert!(rt; !put_owned(alloc, &owned, &mut out)?);
+    Ok(
+        put_owned(alloc, strings, &mut out)?
+            && out.strip_prefix(BEFORE.as_slice()) == Some(spelling),
+    )
+}
+
+/// Whether no section can hold these owned strings.
+fn are_refused(alloc: Global, strings: &[Vec<u8>]) -> Result<bool, AllocError> {
+    let mut out = Vec::new(alloc);
+    Ok(!put_owned(alloc, strings, &mut out)?)
+}
+
+#[test]
+fn writes_owned_strings(rt: HostRuntime) -> Result<(), Fail> {
+    let (_, _, strings, bytes) = &SECTIONS[1];
+    let mut strings = owned(rt.alloc(), strings)?;
+    let good = are_put(rt.alloc(), &strings, bytes)?;
+    strings.push(b"http://a".to_vec(rt.alloc())?)?;
+    assert!(rt; good && are_refused(rt.alloc(), &strings)?);
     Ok(())
 }
 
 #[test]
 fn reads_other_forms(rt: HostRuntime) -> Result<(), Fail> {
     for (name, strings, bytes) in &FORMS {
-        let (section, end) = read(rt.alloc(), bytes, 0)?;
-        assert_eq!(rt; end, bytes.len(), "end of {name}");
-        holds(&rt, name, &section, strings);
-        compare(&rt, rt.alloc(), name, bytes, 0)?;
+        let blocks = blocks_read(rt.alloc(), bytes, 0, bytes.len(), strings)?;
+        assert!(rt; blocks.is_some(), "{name}");
     }
     Ok(())
+}
+
+/// Whether the bytes are refused with this fault.
+fn is_refused(alloc: Global, bytes: &[u8], place: u64, reason: Reason) -> Result<bool, AllocError> {
+    match Section::read(alloc, bytes, 0) {
+        Ok(_) => Ok(false),
+        Err(ReadFault::OutOfMemory) => Err(AllocError),
+        Err(ReadFault::Fault(fault)) => Ok(fault == Fault { place, reason }),
+    }
 }
 
 #[test]
 fn refuses(rt: HostRuntime) -> Result<(), Fail> {
     for (name, bytes, place, reason) in &FAULTS {
-        match Section::read(rt.alloc(), bytes, 0) {
-            Ok(_) => Err("read")?,
-            Err(ReadFault::OutOfMemory) => Err("OutOfMemory")?,
-            Err(ReadFault::Fault(fault)) => {
-                assert_eq!(rt;
-                    fault,
-                    Fault {
-                        place: *place,
-                        reason: *reason
-                    },
-                    "{name}"
-                );
-            }
-        }
+        assert!(rt; is_refused(rt.alloc(), bytes, *place, *reason)?, "{name}");
     }
     Ok(())
 }
@@ -660,52 +801,81 @@ fn twice<T: Copy>(x: T) -> (T, T) {
     (x, x)
 }
 
+/// Whether the head of each block of 16 is the string that it begins with.
+fn lends_heads(section: &Section<'_>, strings: &[&[u8]]) -> bool {
+    let mut good = true;
+    for block in 0..section.blocks() {
+        let first = strings.get(block.wrapping_mul(16) as usize);
+        good = good && Some(&section.head(block)) == first;
+    }
+    good
+}
+
 #[test]
 fn is_copied_and_lends_heads(rt: HostRuntime) -> Result<(), Fail> {
     let (_, _, strings, bytes) = &SECTIONS[6];
-    let (one, other) = twice(read(rt.alloc(), bytes, 0)?.0);
-    assert_eq!(rt; (one.len(), other.blocks()), (17, 2));
-    for block in 0..one.blocks() {
-        let first = strings.get(block.wrapping_mul(16) as usize).copied();
-        assert!(rt; Some(one.head(block)) == first, "head {block}");
-    }
+    let (section, _) = read(rt.alloc(), bytes, 0)?.ok_or("refused")?;
+    let (one, other) = twice(section);
+    assert!(rt; one.len() == 17 && other.blocks() == 2 && lends_heads(&one, strings));
     Ok(())
 }
 
-/// Three thousand strings, one of them of 100,000 bytes and more, in one vector, and the end of each.
-fn many(alloc: Global) -> Result<(Vec<u8>, Vec<usize>), Fail> {
-    let mut bytes = Vec::new(alloc);
-    let mut ends = Vec::with_capacity(alloc, 3000)?;
+/// The last digit of a number.
+fn digit(i: u32) -> u8 {
+    b'0'.wrapping_add((i % 10) as u8)
+}
+
+/// The last four digits of a number.
+fn digits_of(i: u32) -> [u8; 4] {
+    [digit(i / 1000), digit(i / 100), digit(i / 10), digit(i)]
+}
+
+/// The digits of the numbers below 3,000, one after another.
+fn numerals(alloc: Global) -> Result<Vec<u8>, AllocError> {
+    let mut bytes = Vec::with_capacity(alloc, 12_000)?;
     for i in 0..3000_u32 {
-        let digits = [i / 1000 % 10, i / 100 % 10, i / 10 % 10, i % 10];
-        for digit in digits {
-            bytes.push((digit as u8).wrapping_add(b'0'))?;
-        }
-        if i == 1500 {
-            bytes.resize(bytes.len().wrapping_add(100_000), b'x')?;
-        }
-        ends.push(bytes.len())?;
+        bytes.extend_from_slice(&digits_of(i))?;
     }
-    Ok((bytes, ends))
+    Ok(bytes)
+}
+
+/// A string of 100,000 bytes and more that lies between the numerals of 1500 and 1501.
+fn long_string(alloc: Global) -> Result<Vec<u8>, AllocError> {
+    let mut bytes = b"1500".to_vec(alloc)?;
+    bytes.resize(100_004, b'x')?;
+    Ok(bytes)
+}
+
+/// Three thousand strings: the numerals, with the long string in place of that of 1500.
+fn many<'a>(
+    alloc: Global,
+    numerals: &'a [u8],
+    long: &'a [u8],
+) -> Result<Vec<&'a [u8]>, AllocError> {
+    let mut strings = Vec::with_capacity(alloc, 3000)?;
+    for numeral in numerals.chunks_exact(4) {
+        strings.push(if long.starts_with(numeral) {
+            long
+        } else {
+            numeral
+        })?;
+    }
+    Ok(strings)
+}
+
+/// Whether many strings are written in 188 blocks of 16, and are read again.
+fn are_held(alloc: Global, strings: &[&[u8]]) -> Result<bool, AllocError> {
+    let out = written(alloc, strings, 16)?;
+    let end = out.len().wrapping_sub(1);
+    Ok(strings.len() == 3000 && blocks_read(alloc, &out, BEFORE.len(), end, strings)? == Some(188))
 }
 
 #[test]
 fn holds_many_strings(rt: HostRuntime) -> Result<(), Fail> {
-    let alloc = rt.alloc();
-    let (bytes, ends) = many(alloc)?;
-    let mut strings = Vec::with_capacity(alloc, ends.len())?;
-    let mut from = 0;
-    for end in &ends {
-        strings.push(bytes.get(from..*end).ok_or("no string")?)?;
-        from = *end;
-    }
-    let mut out = Vec::new(alloc);
-    assert!(rt; are_strings(&strings));
-    put_lent_section(alloc, &strings, 16, &mut out)?;
-    let (section, end) = read(alloc, &out, 0)?;
-    assert_eq!(rt; (end, section.blocks()), (out.len(), 188));
-    holds(&rt, "many", &section, &strings);
-    compare(&rt, alloc, "many", &out, 0)?;
+    let numerals = numerals(rt.alloc())?;
+    let long = long_string(rt.alloc())?;
+    let strings = many(rt.alloc(), &numerals, &long)?;
+    assert!(rt; are_held(rt.alloc(), &strings)?);
     Ok(())
 }
 
@@ -723,22 +893,32 @@ fn mixed(alloc: Global, len: usize) -> Result<Vec<u8>, AllocError> {
     Ok(bytes)
 }
 
+/// Whether a string agrees with a copy up to the place where the copy is changed; past the end it is not changed.
+fn agrees_up_to(alloc: Global, a: &[u8], place: usize) -> Result<bool, AllocError> {
+    let mut b = a.to_vec(alloc)?;
+    if let Some(byte) = b.get_mut(place) {
+        *byte = !*byte;
+    }
+    Ok(common_prefix(a, &b) == place)
+}
+
+/// Whether a string of this length agrees up to each place with a copy changed there, and wholly with an equal one.
+fn agree_everywhere(alloc: Global, len: usize) -> Result<bool, AllocError> {
+    let a = mixed(alloc, len)?;
+    let mut good = true;
+    for place in 0..=a.len() {
+        good = good && agrees_up_to(alloc, &a, place)?;
+    }
+    Ok(good)
+}
+
 #[test]
 fn finds_common_prefixes(rt: HostRuntime) -> Result<(), Fail> {
-    let alloc = rt.alloc();
     for len in &LENGTHS {
-        let a = mixed(alloc, *len)?;
-        let same = a.clone()?;
-        assert_eq!(rt; common_prefix(&a, &same), *len, "equal strings of {len}");
-        for place in 0..a.len() {
-            let mut b = a.clone()?;
-            b[place] = !b[place];
-            assert_eq!(rt; common_prefix(&a, &b), place, "{place} of {len}");
-        }
+        assert!(rt; agree_everywhere(rt.alloc(), *len)?, "length {len}");
     }
-    let a = mixed(alloc, 33)?;
-    let front = mixed(alloc, 32)?;
-    assert_eq!(rt; common_prefix(&a, &front), 32);
-    assert_eq!(rt; common_prefix(&front, &a), 32);
+    let a = mixed(rt.alloc(), 33)?;
+    let front = mixed(rt.alloc(), 32)?;
+    assert!(rt; common_prefix(&a, &front) == 32 && common_prefix(&front, &a) == 32);
     Ok(())
 }

@@ -5,7 +5,6 @@ ghost use Rattle.hdt_seq.specs.Directory.{IsDirectoryOf};
 
 use super::*;
 use hdt_wire::{check8, check32, put_vbyte};
-use std::process::Abort;
 use std::test::Fail;
 
 /// A bit sequence of so many bits, over bytes that hold them.
@@ -157,21 +156,53 @@ static CASES: [Case; 12] = [
     },
 ];
 
+/// Whether a directory has these ranks of places.
+fn has_ranks(directory: &Directory, bits: &Bits<'_>, ranks: &[(u64, u64)]) -> bool
+    requires { IsDirectoryOf directory.now (bits_of bits.now) }
+{
+    let mut good = true;
+    for (i, before) in ranks {
+        good = good && rank(directory, bits, *i) == Some(*before);
+    }
+    good
+}
+
+/// Whether a directory has these places of marks.
+fn has_places(directory: &Directory, bits: &Bits<'_>, places: &[(u64, u64)]) -> bool
+    requires { IsDirectoryOf directory.now (bits_of bits.now) }
+{
+    let mut good = true;
+    for (k, place) in places {
+        good = good && select(directory, bits, *k) == Some(*place);
+    }
+    good
+}
+
+/// Whether the directory of a sequence answers as a case says.
+fn answers(alloc: Global, bytes: &[u8], case: &Case) -> Result<bool, AllocError> {
+    let Ok((bits, _)) = Bits::read(bytes, 0) else {
+        return Ok(false);
+    };
+    let directory = Directory::new(alloc, &bits)?;
+    Ok(
+        directory.held() == case.held
+            && has_ranks(&directory, &bits, case.ranks)
+            && has_places(&directory, &bits, case.places),
+    )
+}
+
+/// The sequence of a case.
+fn sequence_of(alloc: Global, case: &Case) -> Result<Vec<u8>, AllocError> {
+    let mut packed = vec![in alloc; 0; case.zeros]?;
+    packed.extend_from_slice(case.rest)?;
+    sequence(alloc, case.count, &packed)
+}
+
 #[test]
 fn counts_marks(rt: HostRuntime) -> Result<(), Fail> {
     for case in &CASES {
-        let mut packed = vec![in rt.alloc(); 0; case.zeros]?;
-        packed.extend_from_slice(case.rest)?;
-        let bytes = sequence(rt.alloc(), case.count, &packed)?;
-        let (bits, _) = Bits::read(&bytes, 0).ok().ok_or("refused")?;
-        let directory = Directory::new(rt.alloc(), &bits)?;
-        assert_eq!(rt; directory.held(), case.held, "{} bits", case.count);
-        for (i, before) in case.ranks {
-            assert_eq!(rt; rank(&directory, &bits, *i), Some(*before), "rank of {i}");
-        }
-        for (k, place) in case.places {
-            assert_eq!(rt; select(&directory, &bits, *k), Some(*place), "place of {k}");
-        }
+        let bytes = sequence_of(rt.alloc(), case)?;
+        assert!(rt; answers(rt.alloc(), &bytes, case)?, "{} bits", case.count);
     }
     Ok(())
 }
@@ -189,28 +220,36 @@ fn mixed(alloc: Global, count: usize) -> Result<Vec<u8>, AllocError> {
     Ok(bytes)
 }
 
-/// Compares the answers at each place and for each mark with a plain count.
-fn compare(rt: &impl Abort, directory: &Directory, bits: &Bits<'_>)
+/// Whether the answers at each place and for each mark are those of a plain count.
+fn agrees(directory: &Directory, bits: &Bits<'_>) -> bool
     requires { IsDirectoryOf directory.now (bits_of bits.now) }
 {
     let mut marks = 0_u64;
+    let mut good = true;
     for i in 0..bits.len() {
-        assert_eq!(rt; rank(directory, bits, i), Some(marks), "rank of {i}");
+        good = good && rank(directory, bits, i) == Some(marks);
         if bits.get(i) {
             marks = marks.wrapping_add(1);
-            assert_eq!(rt; select(directory, bits, marks), Some(i), "place of {marks}");
+            good = good && select(directory, bits, marks) == Some(i);
         }
     }
-    assert_eq!(rt; rank(directory, bits, bits.len()), Some(marks), "all marks");
+    good && rank(directory, bits, bits.len()) == Some(marks)
+}
+
+/// Whether the directory of a sequence agrees so.
+fn directory_agrees(alloc: Global, bytes: &[u8]) -> Result<bool, AllocError> {
+    let Ok((bits, _)) = Bits::read(bytes, 0) else {
+        return Ok(false);
+    };
+    let directory = Directory::new(alloc, &bits)?;
+    Ok(agrees(&directory, &bits))
 }
 
 #[test]
 fn agrees_with_a_plain_count(rt: HostRuntime) -> Result<(), Fail> {
     let packed = mixed(rt.alloc(), 12_501)?;
     let bytes = sequence(rt.alloc(), 100_003, &packed)?;
-    let (bits, _) = Bits::read(&bytes, 0).ok().ok_or("refused")?;
-    let directory = Directory::new(rt.alloc(), &bits)?;
-    compare(&rt, &directory, &bits);
+    assert!(rt; directory_agrees(rt.alloc(), &bytes)?);
     Ok(())
 }
 
@@ -224,29 +263,47 @@ fn first_of_two_groups(directory: &Directory, bits: &Bits<'_>, steps: &mut Steps
     directory.select(bits, 1, steps)
 }
 
+/// The place of the only mark of a sequence of 1,024 bits; none in other sequences.
+fn place_of_only_mark(alloc: Global, bytes: &[u8]) -> Result<Option<u64>, AllocError> {
+    let Ok((bits, _)) = Bits::read(bytes, 0) else {
+        return Ok(None);
+    };
+    let directory = Directory::new(alloc, &bits)?;
+    let mut steps = Steps::new();
+    if bits.len() != 1024 || directory.rank(&bits, bits.len(), &mut steps) != 1 {
+        return Ok(None);
+    }
+    Ok(Some(first_of_two_groups(&directory, &bits, &mut steps)))
+}
+
 #[test]
 fn finds_a_mark_of_two_groups_in_ten_steps(rt: HostRuntime) -> Result<(), Fail> {
-    let mut packed = vec![in rt.alloc(); 0; 127]?;
-    packed.push(0x80)?;
+    let mut packed = [0; 128];
+    packed[127] = 0x80;
     let bytes = sequence(rt.alloc(), 1024, &packed)?;
-    let (bits, _) = Bits::read(&bytes, 0).ok().ok_or("refused")?;
-    let directory = Directory::new(rt.alloc(), &bits)?;
-    let mut steps = Steps::new();
-    let marks = directory.rank(&bits, bits.len(), &mut steps);
-    assert!(rt; bits.len() == 1024 && marks == 1);
-    let place = first_of_two_groups(&directory, &bits, &mut steps);
-    assert_eq!(rt; place, 1023);
+    assert!(rt; place_of_only_mark(rt.alloc(), &bytes)? == Some(1023));
     Ok(())
 }
 
-/// All that a directory keeps: with another field this pattern does not compile.
+/// Whether a directory keeps these counts and nothing else: with another field this pattern does not compile.
+fn keeps(directory: &Directory, wanted: &[u64]) -> bool {
+    let Directory { counts }: &Directory = directory;
+    let counts: &Vec<u64> = counts;
+    counts.as_slice() == wanted
+}
+
+/// Whether the directory of a sequence keeps these counts.
+fn directory_keeps(alloc: Global, bytes: &[u8], wanted: &[u64]) -> Result<bool, AllocError> {
+    let Ok((bits, _)) = Bits::read(bytes, 0) else {
+        return Ok(false);
+    };
+    let directory = Directory::new(alloc, &bits)?;
+    Ok(keeps(&directory, wanted))
+}
+
 #[test]
 fn fields(rt: HostRuntime) -> Result<(), Fail> {
     let bytes = sequence(rt.alloc(), 3, &[0x06])?;
-    let (bits, _) = Bits::read(&bytes, 0).ok().ok_or("refused")?;
-    let directory = Directory::new(rt.alloc(), &bits)?;
-    let Directory { counts }: &Directory = &directory;
-    let counts: &Vec<u64> = counts;
-    assert_eq!(rt; counts.as_slice(), [0, 2].as_slice());
+    assert!(rt; directory_keeps(rt.alloc(), &bytes, &[0, 2])?);
     Ok(())
 }

@@ -2,11 +2,9 @@
 ghost use Rattle.std.specs.Prelude.{◌≤◌, ◌<◌, ◌*◌, ◌/◌, length};
 
 use super::*;
-use std::process::Abort;
-use std::test::Fail;
 
 /// Bytes whose bits are mixed.
-const BYTES: [u8; 20] = [
+static BYTES: [u8; 20] = [
     0x8D, 0xF3, 0x00, 0xFF, 0x5A, 0xC7, 0x91, 0x2E, 0xB8, 0x64, 0xFF, 0xFF, 0x80, 0x01, 0xD9, 0x36,
     0x7F, 0xA2, 0xE1, 0x9B,
 ];
@@ -26,31 +24,46 @@ fn bit_by_bit(bytes: &[u8], at: u64, width: u8) -> u64 {
     bits
 }
 
-/// Compares the window at a place with its bits one by one, and each way that can be taken with the window.
-fn compare(rt: &impl Abort, bytes: &[u8], at: u64, width: u8)
+/// Whether the window at a place is its bits one by one, and each way that can be taken gives the window.
+fn agrees(bytes: &[u8], at: u64, width: u8) -> bool
     requires narrow { width ≤ 64 }
     requires within { at ≤ 8 * length bytes.now }
 {
     let bits = window(bytes, u128::from(at), width);
-    let case = (bytes.len(), at, width);
-    assert_eq!(rt; bits, bit_by_bit(bytes, at, width), "{case:?}");
     let rest = &bytes[(at / 8) as usize..];
     let shift = (at % 8) as u8;
-    assert_eq!(rt; joined_bits(rest, shift, width), bits, "joined {case:?}");
+    let good = bits == bit_by_bit(bytes, at, width) && joined_bits(rest, shift, width) == bits;
     if rest.len() >= 8 && shift + width <= 64 {
-        assert_eq!(rt; loaded_bits(rest, shift, width), bits, "loaded {case:?}");
+        return good && loaded_bits(rest, shift, width) == bits;
     }
+    good
+}
+
+/// Whether windows of each width agree at a place.
+fn agree_at(bytes: &[u8], at: u64) -> bool
+    requires { at ≤ 8 * length bytes.now }
+{
+    let mut good = true;
+    for width in 0..=64 {
+        good = good && agrees(bytes, at, width);
+    }
+    good
+}
+
+/// Whether windows agree at each place of few bytes.
+fn agree(bytes: &[u8]) -> bool
+    requires { length bytes.now ≤ 20 }
+{
+    let mut good = true;
+    for at in 0..=8 * bytes.len() as u64 {
+        good = good && agree_at(bytes, at);
+    }
+    good
 }
 
 #[test]
-fn each_window_by_each_way(rt: HostRuntime) -> Result<(), Fail> {
+fn each_window_by_each_way(rt: HostRuntime) {
     for len in 0..=BYTES.len() {
-        let bytes = &BYTES[..len];
-        for at in 0..=8 * len as u64 {
-            for width in 0..=64 {
-                compare(&rt, bytes, at, width);
-            }
-        }
+        assert!(rt; agree(&BYTES[..len]), "{len} bytes");
     }
-    Ok(())
 }
