@@ -1,8 +1,8 @@
 use super::*;
 use hdt_dict::{Dictionary, Role};
 use hdt_seq::Steps;
-use hdt_triples::{ListedTriples, Pattern};
-use std::alloc::Global;
+use hdt_triples::{ListedTriples, Matches, Pattern};
+use std::alloc::{AllocError, Global};
 use std::test::Fail;
 
 /// A file of the three triples
@@ -12,7 +12,7 @@ use std::test::Fail;
 /// <u:a> <u:q> "x" .
 /// <u:b> <u:p> <u:a> .
 /// ```
-const THREE: &[u8] = &[
+static THREE: &[u8] = &[
     0x24, 0x48, 0x44, 0x54, 0x01, 0x3C, 0x68, 0x74, 0x74, 0x70, 0x3A, 0x2F, 0x2F, 0x70, 0x75, 0x72,
     0x6C, 0x2E, 0x6F, 0x72, 0x67, 0x2F, 0x48, 0x44, 0x54, 0x2F, 0x68, 0x64, 0x74, 0x23, 0x48, 0x44,
     0x54, 0x76, 0x31, 0x3E, 0x00, 0x00, 0x76, 0x35, 0x24, 0x48, 0x44, 0x54, 0x02, 0x6E, 0x74, 0x72,
@@ -45,108 +45,209 @@ const THREE: &[u8] = &[
 ];
 
 /// Its triples as numbers: u:a and u:b are 1 and 2, u:p and u:q are 1 and 2, "x" is 3.
-const TRIPLES: [(u64, u64, u64); 3] = [(1, 1, 2), (1, 2, 3), (2, 1, 1)];
+static TRIPLES: [(u64, u64, u64); 3] = [(1, 1, 2), (1, 2, 3), (2, 1, 1)];
 
 /// What may be given: nothing, numbers that are there, 0, the counts, and one more.
-const GIVEN: [Option<u64>; 6] = [None, Some(0), Some(1), Some(2), Some(3), Some(4)];
+static GIVEN: [Option<u64>; 6] = [None, Some(0), Some(1), Some(2), Some(3), Some(4)];
 
-/// The triples that agree, by a plain filter.
-fn filtered(alloc: Global, pattern: Pattern) -> Result<Vec<(u64, u64, u64)>, Fail> {
-    let mut wanted = Vec::new(alloc);
-    for triple in TRIPLES {
-        if pattern.s.is_none_or(|n| n == triple.0)
-            && pattern.p.is_none_or(|n| n == triple.1)
-            && pattern.o.is_none_or(|n| n == triple.2)
-        {
-            wanted.push(triple)?;
+/// How many patterns have what may be given in each part.
+const PATTERNS: usize = 6 * 6 * 6;
+
+/// The pattern of this number.
+fn pattern_at(i: usize) -> Pattern {
+    Pattern {
+        s: GIVEN[i / 36 % 6],
+        p: GIVEN[i / 6 % 6],
+        o: GIVEN[i % 6],
+    }
+}
+
+/// Whether a part of a pattern admits a number.
+fn admits(given: Option<u64>, number: u64) -> bool {
+    match given {
+        Some(wanted) => wanted == number,
+        None => true,
+    }
+}
+
+/// Whether matches are the triples that agree with a pattern, by a plain filter.
+fn are_filtered(matches: Matches<'_>, pattern: Pattern) -> bool {
+    let mut matches = matches;
+    for (s, p, o) in &TRIPLES {
+        if admits(pattern.s, *s) && admits(pattern.p, *p) && admits(pattern.o, *o) {
+            if matches.next() != Some((*s, *p, *o)) {
+                return false;
+            }
         }
     }
-    Ok(wanted)
+    matches.next() == None
+}
+
+/// The first pattern at which a graph doesn't answer what a plain filter gives.
+fn wrong_in_graph(graph: &Graph<'_>) -> Option<Pattern> {
+    for i in 0..PATTERNS {
+        let pattern = pattern_at(i);
+        if !are_filtered(graph.search(pattern), pattern) {
+            return Some(pattern);
+        }
+    }
+    None
 }
 
 #[test]
 fn searches_by_numbers(rt: HostRuntime) -> Result<(), Fail> {
-    let alloc = rt.alloc();
-    let graph = open(alloc, THREE)?;
-    for s in GIVEN {
-        for p in GIVEN {
-            for o in GIVEN {
-                let pattern = Pattern { s, p, o };
-                let found = graph
-                    .search(pattern)
-                    .collect::<Vec<(u64, u64, u64)>>(alloc)?;
-                assert_eq!(rt; found, filtered(alloc, pattern)?, "{pattern:?}");
-            }
+    let graph = open(rt.alloc(), THREE)?;
+    assert_eq!(rt; wrong_in_graph(&graph), None);
+    Ok(())
+}
+
+/// The same of a layout.
+fn wrong_in_layout(layout: &Layout<'_>) -> Option<Pattern> {
+    for i in 0..PATTERNS {
+        let pattern = pattern_at(i);
+        if !are_filtered(layout.search(pattern), pattern) {
+            return Some(pattern);
         }
     }
-    Ok(())
+    None
+}
+
+/// Whether a layout has the pattern of each of the strings that are named.
+fn names_patterns(layout: &Layout<'_>) -> bool {
+    let mut good = true;
+    for (s, p, o, wanted) in &NAMED {
+        good = good && layout.pattern([*s, *p, *o], &mut Steps::new()) == *wanted;
+    }
+    good
 }
 
 /// A layout answers what the graph does, and so does that of the graph.
 #[test]
 fn layouts_search_alike(rt: HostRuntime) -> Result<(), Fail> {
-    let alloc = rt.alloc();
-    let graph = open(alloc, THREE)?;
-    for layout in [Layout::read(alloc, THREE)?, graph.layout()] {
-        for s in GIVEN {
-            for p in GIVEN {
-                for o in GIVEN {
-                    let pattern = Pattern { s, p, o };
-                    let found = layout
-                        .search(pattern)
-                        .collect::<Vec<(u64, u64, u64)>>(alloc)?;
-                    assert_eq!(rt; found, filtered(alloc, pattern)?, "{pattern:?}");
-                }
-            }
-        }
-        for (s, p, o, wanted) in &NAMED {
-            assert_eq!(rt; layout.pattern([*s, *p, *o], &mut Steps::new()), *wanted);
+    let layout = Layout::read(rt.alloc(), THREE)?;
+    assert_eq!(rt; wrong_in_layout(&layout), None);
+    let graph = open(rt.alloc(), THREE)?;
+    assert_eq!(rt; wrong_in_layout(&graph.layout()), None);
+    assert!(rt; names_patterns(&layout) && names_patterns(&graph.layout()));
+    Ok(())
+}
+
+/// Whether a layout has the header of the graph, and the counts of the three triples.
+fn is_whole(layout: &Layout<'_>, graph: &Graph<'_>) -> bool {
+    layout.lens().as_slice() == [3, 2, 0, 2, 1].as_slice()
+        && layout.header() == graph.header()
+        && layout.header().len() == 150
+}
+
+/// Whether a number in a role is that of a string, by each of the look-ups.
+fn is_string(
+    alloc: Global,
+    layout: &Layout<'_>,
+    graph: &Graph<'_>,
+    role: Role,
+    n: u64,
+    wanted: &[u8],
+) -> Result<bool, AllocError> {
+    let mut string = Vec::new(alloc);
+    let found = layout.string_of(role, n, &mut string, &mut Steps::new())?;
+    Ok(
+        found
+            && string.as_slice() == wanted
+            && layout.number_of(role, wanted, &mut Steps::new()) == Some(n)
+            && graph.number_of(role, wanted, &mut Steps::new()) == Some(n),
+    )
+}
+
+/// Whether the walk over the strings of a role gives each that is looked up.
+fn walks_alike(
+    alloc: Global,
+    layout: &Layout<'_>,
+    graph: &Graph<'_>,
+    role: Role,
+) -> Result<bool, AllocError> {
+    let mut strings = layout.strings(alloc, role);
+    for n in 1..=graph.count(role) {
+        if strings.next()? != Some(n)
+            || !is_string(alloc, layout, graph, role, n, strings.last())?
+        {
+            return Ok(false);
         }
     }
-    Ok(())
+    Ok(strings.next()? == None)
+}
+
+/// Whether a role of a layout has no string past its count, and not `u:z`.
+fn has_no_other(alloc: Global, layout: &Layout<'_>, role: Role) -> Result<bool, AllocError> {
+    let mut string = Vec::new(alloc);
+    let past = layout.count(role).saturating_add(1);
+    let found = layout.string_of(role, past, &mut string, &mut Steps::new())?;
+    Ok(!found && layout.number_of(role, b"u:z", &mut Steps::new()) == None)
+}
+
+/// Whether a role of a layout has the strings of the graph.
+fn looks_up_alike(
+    alloc: Global,
+    layout: &Layout<'_>,
+    graph: &Graph<'_>,
+    role: Role,
+) -> Result<bool, AllocError> {
+    Ok(
+        layout.count(role) == graph.count(role)
+            && walks_alike(alloc, layout, graph, role)?
+            && has_no_other(alloc, layout, role)?,
+    )
+}
+
+/// Whether a layout has the strings of the graph in each role, and the numbers of the whole.
+fn is_alike(alloc: Global, layout: &Layout<'_>, graph: &Graph<'_>) -> Result<bool, AllocError> {
+    Ok(
+        is_whole(layout, graph)
+            && looks_up_alike(alloc, layout, graph, Role::Subject)?
+            && looks_up_alike(alloc, layout, graph, Role::Predicate)?
+            && looks_up_alike(alloc, layout, graph, Role::Object)?,
+    )
 }
 
 /// The strings of each role, by each of the look-ups, and the numbers of the whole.
 #[test]
 fn layouts_look_up_alike(rt: HostRuntime) -> Result<(), Fail> {
-    let alloc = rt.alloc();
-    let graph = open(alloc, THREE)?;
-    let layout = Layout::read(alloc, THREE)?;
-    assert_eq!(rt; layout.lens(), [3, 2, 0, 2, 1]);
-    assert_eq!(rt; layout.header(), graph.header());
-    assert!(rt; layout.header().len() == 150);
-    for role in [Role::Subject, Role::Predicate, Role::Object] {
-        assert_eq!(rt; layout.count(role), graph.count(role));
-        let mut strings = layout.strings(alloc, role);
-        let mut string = Vec::new(alloc);
-        for n in 1..=layout.count(role) {
-            assert_eq!(rt; strings.next()?, Some(n));
-            string.clear();
-            assert!(rt; layout.string_of(role, n, &mut string, &mut Steps::new())?);
-            assert_eq!(rt; string.as_slice(), strings.last());
-            assert_eq!(rt; layout.number_of(role, &string, &mut Steps::new()), Some(n));
-            assert_eq!(rt; graph.number_of(role, &string, &mut Steps::new()), Some(n));
-        }
-        assert_eq!(rt; strings.next()?, None);
-        let past = layout.count(role).saturating_add(1);
-        assert!(rt; !layout.string_of(role, past, &mut string, &mut Steps::new())?);
-        assert_eq!(rt; layout.number_of(role, b"u:z", &mut Steps::new()), None);
-    }
+    let graph = open(rt.alloc(), THREE)?;
+    let layout = Layout::read(rt.alloc(), THREE)?;
+    assert!(rt; is_alike(rt.alloc(), &layout, &graph)?);
     Ok(())
+}
+
+/// Whether a triple has a number in a role.
+fn stands_in(role: Role, n: u64) -> bool {
+    let mut stands = false;
+    for (s, p, o) in &TRIPLES {
+        let number = match role {
+            Role::Subject => *s,
+            Role::Predicate => *p,
+            Role::Object => *o,
+        };
+        stands = stands || number == n;
+    }
+    stands
+}
+
+/// The first number of which a role of a graph doesn't tell whether it is used.
+fn wrong_use(graph: &Graph<'_>, role: Role) -> Option<u64> {
+    for n in &[0, 1, 2, 3, 4, u64::MAX] {
+        if graph.uses(role, *n) != stands_in(role, *n) {
+            return Some(*n);
+        }
+    }
+    None
 }
 
 /// Each string of the file is used, so it is tight.
 #[test]
 fn uses_what_stands_in_its_triples(rt: HostRuntime) -> Result<(), Fail> {
     let graph = open_tight(rt.alloc(), THREE)?;
-    for n in [0, 1, 2, 3, 4, u64::MAX] {
-        let subject = TRIPLES.iter().any(|triple| triple.0 == n);
-        let predicate = TRIPLES.iter().any(|triple| triple.1 == n);
-        let object = TRIPLES.iter().any(|triple| triple.2 == n);
-        assert_eq!(rt; graph.uses(Role::Subject, n), subject, "subject {n}");
-        assert_eq!(rt; graph.uses(Role::Predicate, n), predicate, "predicate {n}");
-        assert_eq!(rt; graph.uses(Role::Object, n), object, "object {n}");
-    }
+    assert_eq!(rt; wrong_use(&graph, Role::Subject), None);
+    assert_eq!(rt; wrong_use(&graph, Role::Predicate), None);
+    assert_eq!(rt; wrong_use(&graph, Role::Object), None);
     Ok(())
 }
 
@@ -296,20 +397,38 @@ static NAMED: [Named; 19] = [
     (Some(b""), None, None, None),
 ];
 
+/// Whether matches are those of a pattern, or none where there is no pattern.
+fn are_of(matches: Matches<'_>, wanted: Option<Pattern>) -> bool {
+    match wanted {
+        Some(pattern) => are_filtered(matches, pattern),
+        None => {
+            let mut matches = matches;
+            matches.next() == None
+        }
+    }
+}
+
+/// Whether the strings that are named have their pattern, and its matches are found.
+fn is_found(graph: &Graph<'_>, named: &Named) -> bool {
+    let (s, p, o, wanted) = *named;
+    let given = [s, p, o];
+    graph.pattern(given, &mut Steps::new()) == wanted
+        && are_of(graph.find(given, &mut Steps::new()), wanted)
+}
+
+/// The first of the named strings' patterns that is wrong, or whose matches are.
+fn wrong_name(graph: &Graph<'_>) -> Option<Option<Pattern>> {
+    for named in &NAMED {
+        if !is_found(graph, named) {
+            return Some(named.3);
+        }
+    }
+    None
+}
+
 #[test]
 fn searches_by_strings(rt: HostRuntime) -> Result<(), Fail> {
-    let alloc = rt.alloc();
-    let graph = open(alloc, THREE)?;
-    for (s, p, o, wanted) in &NAMED {
-        let given = [*s, *p, *o];
-        assert_eq!(rt; graph.pattern(given, &mut Steps::new()), *wanted);
-        let matches = graph.find(given, &mut Steps::new());
-        let found = matches.collect::<Vec<(u64, u64, u64)>>(alloc)?;
-        let expected = match *wanted {
-            Some(pattern) => filtered(alloc, pattern)?,
-            None => Vec::new(alloc),
-        };
-        assert_eq!(rt; found, expected, "{wanted:?}");
-    }
+    let graph = open(rt.alloc(), THREE)?;
+    assert_eq!(rt; wrong_name(&graph), None);
     Ok(())
 }

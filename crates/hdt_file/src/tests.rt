@@ -8,7 +8,6 @@ use hdt_seq::Steps;
 use hdt_triples::{are_writable, put_triples};
 use hdt_wire::{Control, Fault, Kind, Reason, put_control};
 use std::alloc::{AllocError, Global};
-use std::process::Abort;
 use std::test::Fail;
 
 /// The blocks of the sample file V1, and its header body.
@@ -40,65 +39,86 @@ fn says(
         && block.end() == end
 }
 
+/// Whether the head of a file is that of V1.
+fn has_head_of_v1(file: &[u8]) -> bool {
+    let Ok(head) = read_head(file) else {
+        return false;
+    };
+    let format = b"<http://purl.org/HDT/hdt#HDTv1>";
+    says(&head.global(), format, b"", 37, 40)
+        && says(&head.header(), b"ntriples", b"length=150;", 54, 68)
+        && head.body() == BODY
+        && head.end() == 218
+}
+
+/// What follows a head.
+static FOLLOWING: [&[u8]; 3] = [b"", b"$HDT\x03", b"\x00\xFF"];
+
 #[test]
 fn reads_a_head_whatever_follows_it(rt: HostRuntime) -> Result<(), Fail> {
-    for rest in [b"".as_slice(), b"$HDT\x03", b"\x00\xFF"] {
+    for rest in &FOLLOWING {
         let file = file(rt.alloc(), rest)?;
-        let head = match read_head(&file) {
-            Ok(head) => head,
-            Err(fault) => return Err(Fail::from(fault)),
-        };
-        assert!(rt;
-            says(
-                &head.global(),
-                b"<http://purl.org/HDT/hdt#HDTv1>",
-                b"",
-                37,
-                40
-            )
-        );
-        assert!(rt; says(&head.header(), b"ntriples", b"length=150;", 54, 68));
-        assert!(rt; head.body() == BODY);
-        assert_eq!(rt; head.end(), 218);
+        assert!(rt; has_head_of_v1(&file));
     }
     Ok(())
 }
 
+/// How many bytes a large body has.
+const LARGE: usize = 1 << 20;
+
+/// Properties that are longer than a large body, and say its length.
+fn large_properties(alloc: Global) -> Result<Vec<u8>, AllocError> {
+    let mut properties = vec![in alloc; b'x'; LARGE]?;
+    properties.extend_from_slice(b"=;length=1048576;")?;
+    Ok(properties)
+}
+
+/// A head of these properties and this body, and what follows it.
+fn head_of(alloc: Global, properties: &[u8], body: &[u8]) -> Result<Vec<u8>, Fail> {
+    if properties.contains(&0) {
+        return Err("no such properties")?;
+    }
+    let mut file = Vec::new(alloc);
+    put_control(Kind::Global, b"", &mut file)?;
+    put_control(Kind::Header, properties, &mut file)?;
+    file.extend_from_slice(body)?;
+    file.extend_from_slice(b"what follows")?;
+    Ok(file)
+}
+
+/// Whether the head of a file has these properties and this body, and ends here.
+fn has_head(file: &[u8], properties: &[u8], body: &[u8], end: usize) -> bool {
+    let Ok(head) = read_head(file) else {
+        return false;
+    };
+    head.header().properties() == properties && head.body() == body && head.end() == end
+}
+
 #[test]
 fn reads_a_large_head(rt: HostRuntime) -> Result<(), Fail> {
-    const LARGE: usize = 1 << 20;
-    let mut properties = vec![in rt.alloc(); b'x'; LARGE]?;
-    properties.extend_from_slice(b"=;length=1048576;")?;
-    assert!(rt; !properties.contains(&0));
-    let mut file = Vec::new(rt.alloc());
-    put_control(Kind::Global, b"", &mut file)?;
-    put_control(Kind::Header, &properties, &mut file)?;
-    let body = vec![in rt.alloc(); b'y'; LARGE]?;
-    file.extend_from_slice(&body)?;
-    file.extend_from_slice(b"what follows")?;
-    let head = read_head(&file).ok().ok_or("refused")?;
-    assert!(rt; head.header().properties() == properties.as_slice());
-    assert!(rt; head.body() == body.as_slice());
     // The global block, the cookie, the kind and the format, the properties and a zero byte, the code, the body.
-    assert_eq!(rt; head.end(), 40 + 14 + properties.len() + 1 + 2 + LARGE);
+    const END: usize = 40 + 14 + (LARGE + 17) + 1 + 2 + LARGE;
+    let properties = large_properties(rt.alloc())?;
+    let body = vec![in rt.alloc(); b'y'; LARGE]?;
+    let file = head_of(rt.alloc(), &properties, &body)?;
+    assert!(rt; has_head(&file, &properties, &body, END));
     Ok(())
+}
+
+/// Whether a file that is cut off behind so many bytes is told to be, at its body.
+fn is_cut_off(file: &[u8], len: usize) -> bool {
+    let fault = read_head(file.get(..len).unwrap_or(&[])).err();
+    fault
+        == Some(Fault {
+            place: 68,
+            reason: Reason::Truncated,
+        })
 }
 
 #[test]
 fn refuses_a_body_that_is_cut_off(rt: HostRuntime) -> Result<(), Fail> {
     let file = file(rt.alloc(), b"")?;
-    for len in [68, 100, 217] {
-        let cut = file.get(..len).unwrap_or(&[]);
-        let fault = read_head(cut).err();
-        assert_eq!(rt;
-            fault,
-            Some(Fault {
-                place: 68,
-                reason: Reason::Truncated
-            }),
-            "{len} bytes"
-        );
-    }
+    assert!(rt; is_cut_off(&file, 68) && is_cut_off(&file, 100) && is_cut_off(&file, 217));
     Ok(())
 }
 
@@ -138,38 +158,54 @@ static DICTIONARIES: [([&[u8]; 5], [u64; 4], usize, Option<Fault>); 5] = [
     ),
 ];
 
+/// The head of V1, the dictionary's control block and these sections.
+fn with_sections(alloc: Global, sections: &[&[u8]]) -> Result<Vec<u8>, AllocError> {
+    let mut bytes = file(alloc, CONTROL)?;
+    for section in sections {
+        bytes.extend_from_slice(section)?;
+    }
+    Ok(bytes)
+}
+
+/// Whether a dictionary with these section lengths is read up to this place, or this fault is told. Want of memory ends
+/// the test.
+fn reads_dictionary(
+    alloc: Global,
+    bytes: &[u8],
+    lens: &[u64; 4],
+    end: usize,
+    fault: Option<Fault>,
+) -> Result<bool, AllocError> {
+    match read_dictionary(alloc, bytes) {
+        Ok((head, dictionary, place)) => Ok(
+            fault.is_none()
+                && head.end() == 218
+                && head.body() == BODY
+                && dictionary.section_lens().as_slice() == lens.as_slice()
+                && place == end,
+        ),
+        Err(OpenFault::Fault(found)) => Ok(fault == Some(found)),
+        Err(OpenFault::OutOfMemory) => Err(AllocError),
+    }
+}
+
 #[test]
 fn reads_the_dictionary_after_the_head(rt: HostRuntime) -> Result<(), Fail> {
     for (sections, lens, end, fault) in &DICTIONARIES {
-        let mut bytes = file(rt.alloc(), CONTROL)?;
-        for section in *sections {
-            bytes.extend_from_slice(section)?;
-        }
-        match read_dictionary(rt.alloc(), &bytes) {
-            Ok((head, dictionary, place)) => {
-                assert_eq!(rt; *fault, None);
-                assert_eq!(rt; head.end(), 218);
-                assert!(rt; head.body() == BODY);
-                assert!(rt; dictionary.section_lens().as_slice() == lens.as_slice());
-                assert_eq!(rt; place, *end);
-            }
-            Err(OpenFault::Fault(found)) => assert_eq!(rt; Some(found), *fault),
-            Err(OpenFault::OutOfMemory) => return Err(Fail::from(AllocError)),
-        }
+        let bytes = with_sections(rt.alloc(), sections)?;
+        assert!(rt; reads_dictionary(rt.alloc(), &bytes, lens, *end, *fault)?);
     }
     Ok(())
 }
 
 #[test]
 fn refuses_a_fault_of_the_head_first(rt: HostRuntime) {
-    let fault = read_dictionary(rt.alloc(), BLOCKS).err();
-    assert_eq!(rt;
-        fault,
-        Some(OpenFault::Fault(Fault {
-            place: 68,
-            reason: Reason::Truncated
-        }))
-    );
+    let fault = Fault {
+        place: 68,
+        reason: Reason::Truncated,
+    };
+    let found = read_dictionary(rt.alloc(), BLOCKS).err();
+    assert!(rt; found == Some(OpenFault::Fault(fault)));
 }
 
 #[test]
@@ -193,67 +229,139 @@ fn replaced(alloc: Global, at: usize, old: usize, new: &[u8]) -> Result<Vec<u8>,
     Ok(bytes)
 }
 
-/// The verdict on a file; want of memory is an `Err`.
-fn verdict(alloc: Global, bytes: &[u8]) -> Result<Result<[u64; 5], Fault>, Fail> {
-    match verify(alloc, bytes) {
-        Ok(lens) => Ok(Ok(lens)),
-        Err(OpenFault::Fault(fault)) => Ok(Err(fault)),
-        Err(OpenFault::OutOfMemory) => Err(Fail::from(AllocError)),
+/// Whether opening or verifying gave this answer. Want of memory ends the test.
+fn is_answer(
+    answer: Result<[u64; 5], OpenFault>,
+    wanted: Result<[u64; 5], Fault>,
+) -> Result<bool, AllocError> {
+    match answer {
+        Ok(lens) => Ok(wanted == Ok(lens)),
+        Err(OpenFault::Fault(fault)) => Ok(wanted == Err(fault)),
+        Err(OpenFault::OutOfMemory) => Err(AllocError),
     }
+}
+
+/// Whether a graph keeps so many numbers, and has one triple and the header and the sections of V1.
+fn is_sample(graph: &Graph<'_>) -> bool {
+    graph.held() == 10
+        && graph.header() == BODY
+        && graph.len() == 1
+        && graph.section_lens().as_slice() == [1, 0, 1, 0].as_slice()
+}
+
+/// Whether a role has one string, with a number, and a beginning of it has none.
+fn numbers_one(graph: &Graph<'_>, role: Role) -> bool {
+    let mut steps = Steps::new();
+    graph.count(role) == 1
+        && graph.number_of(role, b"http://a/", &mut steps) == Some(1)
+        && graph.number_of(role, b"http://a", &mut steps) == None
+}
+
+/// Whether string 1 of a role is appended, and no string 2.
+fn appends_one(alloc: Global, graph: &Graph<'_>, role: Role) -> Result<bool, AllocError> {
+    let mut steps = Steps::new();
+    let mut string = b"x".to_vec(alloc)?;
+    let first = graph.string_of(role, 1, &mut string, &mut steps)?;
+    let second = graph.string_of(role, 2, &mut string, &mut steps)?;
+    Ok(first && !second && string.as_slice() == b"xhttp://a/".as_slice())
+}
+
+/// Whether the walk over the strings of a role gives one.
+fn walks_one(alloc: Global, graph: &Graph<'_>, role: Role) -> Result<bool, AllocError> {
+    let mut strings = graph.strings(alloc, role);
+    Ok(strings.next()? == Some(1) && strings.next()? == None)
+}
+
+/// Whether the one string of a role is found in each way.
+fn has_one(alloc: Global, graph: &Graph<'_>, role: Role) -> Result<bool, AllocError> {
+    Ok(
+        numbers_one(graph, role)
+            && appends_one(alloc, graph, role)?
+            && walks_one(alloc, graph, role)?,
+    )
+}
+
+/// Whether the graph of the sample is as it should be, with one string in each role.
+fn opens_sample(alloc: Global, bytes: &[u8]) -> Result<bool, Fail> {
+    let graph = open(alloc, bytes)?;
+    Ok(
+        is_sample(&graph)
+            && has_one(alloc, &graph, Role::Subject)?
+            && has_one(alloc, &graph, Role::Predicate)?
+            && has_one(alloc, &graph, Role::Object)?,
+    )
 }
 
 #[test]
 fn opens_the_sample(rt: HostRuntime) -> Result<(), Fail> {
-    let alloc = rt.alloc();
-    let bytes = file(alloc, REST)?;
-    assert_eq!(rt; bytes.len(), 459);
-    assert_eq!(rt; verdict(alloc, &bytes)?, Ok([1, 1, 0, 1, 0]));
-    let graph = open(alloc, &bytes)?;
-    assert_eq!(rt; graph.held(), 10);
-    assert!(rt; graph.header() == BODY);
-    assert_eq!(rt; (graph.len(), graph.section_lens()), (1, [1, 0, 1, 0]));
-    let mut steps = Steps::new();
-    for role in [Role::Subject, Role::Predicate, Role::Object] {
-        assert_eq!(rt; graph.count(role), 1);
-        assert_eq!(rt; graph.number_of(role, b"http://a/", &mut steps), Some(1));
-        assert_eq!(rt; graph.number_of(role, b"http://a", &mut steps), None);
-        let mut string = b"x".to_vec(alloc)?;
-        assert!(rt; graph.string_of(role, 1, &mut string, &mut steps)?);
-        assert!(rt; string.as_slice() == b"xhttp://a/".as_slice());
-        assert!(rt; !graph.string_of(role, 2, &mut string, &mut steps)?);
-        let mut strings = graph.strings(alloc, role);
-        assert_eq!(rt; strings.next()?, Some(1));
-        assert_eq!(rt; strings.next()?, None);
-    }
+    let bytes = file(rt.alloc(), REST)?;
+    let verdict = verify(rt.alloc(), &bytes);
+    assert!(rt; bytes.len() == 459 && is_answer(verdict, Ok([1, 1, 0, 1, 0]))?);
+    assert!(rt; opens_sample(rt.alloc(), &bytes)?);
     Ok(())
+}
+
+/// Whether bytes are told to be cut off. Want of memory ends the test.
+fn is_truncated(alloc: Global, bytes: &[u8]) -> Result<bool, AllocError> {
+    match verify(alloc, bytes) {
+        Ok(_) => Ok(false),
+        Err(OpenFault::Fault(fault)) => Ok(fault.reason == Reason::Truncated),
+        Err(OpenFault::OutOfMemory) => Err(AllocError),
+    }
 }
 
 #[test]
 fn refuses_every_proper_beginning(rt: HostRuntime) -> Result<(), Fail> {
     let bytes = file(rt.alloc(), REST)?;
     for len in 0..bytes.len() {
-        let fault = verdict(rt.alloc(), bytes.get(..len).unwrap_or(&[]))?.err();
-        let reason = fault.map(|fault| fault.reason);
-        assert_eq!(rt; reason, Some(Reason::Truncated), "{len} bytes");
+        let beginning = bytes.get(..len).unwrap_or(&[]);
+        assert!(rt; is_truncated(rt.alloc(), beginning)?, "{len} bytes");
     }
     Ok(())
+}
+
+/// Whether bytes are accepted. Want of memory ends the test.
+fn is_accepted(alloc: Global, bytes: &[u8]) -> Result<bool, AllocError> {
+    match verify(alloc, bytes) {
+        Ok(_) => Ok(true),
+        Err(OpenFault::Fault(_)) => Ok(false),
+        Err(OpenFault::OutOfMemory) => Err(AllocError),
+    }
+}
+
+/// Alters the bits of a byte that the mask has.
+fn alter(bytes: &mut [u8], at: usize, mask: u8) {
+    if let Some(byte) = bytes.get_mut(at) {
+        *byte ^= mask;
+    }
+}
+
+/// Whether bytes with any bit of a byte altered are accepted exactly where they may be.
+fn are_accepted(
+    alloc: Global,
+    bytes: &mut [u8],
+    at: usize,
+    wanted: bool,
+) -> Result<bool, AllocError> {
+    let mut good = true;
+    for bit in 0..8_u32 {
+        let mask = 1_u8.rotate_left(bit);
+        alter(bytes, at, mask);
+        good = good && is_accepted(alloc, bytes)? == wanted;
+        alter(bytes, at, mask);
+    }
+    Ok(good)
 }
 
 #[test]
 fn accepts_an_altered_bit_in_the_header_body_alone(rt: HostRuntime) -> Result<(), Fail> {
     let mut bytes = file(rt.alloc(), REST)?;
     for at in 0..bytes.len() {
-        for bit in 0..8_u32 {
-            let mask = 1_u8.rotate_left(bit);
-            if let Some(byte) = bytes.get_mut(at) {
-                *byte ^= mask;
-            }
-            let accepted = verdict(rt.alloc(), &bytes)?.is_ok();
-            assert_eq!(rt; accepted, (68..218).contains(&at), "bit {bit} of {at}");
-            if let Some(byte) = bytes.get_mut(at) {
-                *byte ^= mask;
-            }
-        }
+        let in_body = 68 <= at && at < 218;
+        assert!(rt;
+            are_accepted(rt.alloc(), &mut bytes, at, in_body)?,
+            "byte {at}"
+        );
     }
     Ok(())
 }
@@ -293,12 +401,20 @@ static DAMAGED: [(usize, usize, &[u8], Result<[u64; 5], (u64, Reason)>); 10] = [
     (351, 18, UX, Ok([1, 1, 0, 1, 1])),
 ];
 
+/// What is answered of a damaged file.
+fn answer_of(wanted: Result<[u64; 5], (u64, Reason)>) -> Result<[u64; 5], Fault> {
+    match wanted {
+        Ok(lens) => Ok(lens),
+        Err((place, reason)) => Err(Fault { place, reason }),
+    }
+}
+
 #[test]
 fn tells_damage_at_its_place(rt: HostRuntime) -> Result<(), Fail> {
     for (at, old, new, wanted) in &DAMAGED {
         let bytes = replaced(rt.alloc(), *at, *old, new)?;
-        let wanted = wanted.map_err(|(place, reason)| Fault { place, reason });
-        assert_eq!(rt; verdict(rt.alloc(), &bytes)?, wanted, "at {at}");
+        let verdict = verify(rt.alloc(), &bytes);
+        assert!(rt; is_answer(verdict, answer_of(*wanted))?, "at {at}");
     }
     Ok(())
 }
@@ -380,65 +496,73 @@ static LOOSE: [([&[u8]; 4], &[u8], [u64; 5], Option<u64>); 14] = [
     ([A, NONE, AX, X], ONE, [1, 1, 0, 2, 1], Some(347)),
 ];
 
-/// An answer of opening or verifying; want of memory is an `Err`.
-fn told(answer: Result<[u64; 5], OpenFault>) -> Result<Result<[u64; 5], Fault>, Fail> {
-    match answer {
-        Ok(lens) => Ok(Ok(lens)),
-        Err(OpenFault::Fault(fault)) => Ok(Err(fault)),
-        Err(OpenFault::OutOfMemory) => Err(Fail::from(AllocError)),
-    }
+/// The counts of a graph.
+fn counts(graph: &Graph<'_>) -> [u64; 5] {
+    let [shared, subjects, predicates, objects] = graph.section_lens();
+    [graph.len(), shared, subjects, predicates, objects]
 }
 
 /// The counts of a graph that is opened.
-fn opened(alloc: Global, bytes: &[u8], tight: bool) -> Result<[u64; 5], OpenFault> {
-    let graph = if tight {
-        open_tight(alloc, bytes)?
-    } else {
-        open(alloc, bytes)?
-    };
-    let [shared, subjects, predicates, objects] = graph.section_lens();
-    Ok([graph.len(), shared, subjects, predicates, objects])
+fn opened(alloc: Global, bytes: &[u8]) -> Result<[u64; 5], OpenFault> {
+    Ok(counts(&open(alloc, bytes)?))
 }
 
-/// Opening and verifying give this answer, and tight reading that one.
+/// The same where each string has to be used.
+fn opened_tight(alloc: Global, bytes: &[u8]) -> Result<[u64; 5], OpenFault> {
+    Ok(counts(&open_tight(alloc, bytes)?))
+}
+
+/// Whether opening and verifying give this answer, and tight reading that one. Want of memory ends the test.
 fn answers(
-    rt: &impl Abort,
     alloc: Global,
     bytes: &[u8],
     wanted: Result<[u64; 5], Fault>,
     tight: Result<[u64; 5], Fault>,
-) -> Result<(), Fail> {
-    assert_eq!(rt; told(opened(alloc, bytes, false))?, wanted);
-    assert_eq!(rt; told(verify(alloc, bytes))?, wanted);
-    assert_eq!(rt; told(opened(alloc, bytes, true))?, tight);
-    assert_eq!(rt; told(verify_tight(alloc, bytes))?, tight);
-    Ok(())
+) -> Result<bool, AllocError> {
+    Ok(
+        is_answer(opened(alloc, bytes), wanted)?
+            && is_answer(verify(alloc, bytes), wanted)?
+            && is_answer(opened_tight(alloc, bytes), tight)?
+            && is_answer(verify_tight(alloc, bytes), tight)?,
+    )
+}
+
+/// The file of four sections and of triples.
+fn loose_file(alloc: Global, sections: &[&[u8]], triples: &[u8]) -> Result<Vec<u8>, AllocError> {
+    let mut bytes = with_sections(alloc, sections)?;
+    bytes.extend_from_slice(TRIPLES)?;
+    bytes.extend_from_slice(triples)?;
+    Ok(bytes)
+}
+
+/// What tight reading answers where the first unused string stands at this place, if there is one.
+fn tight_answer(lens: [u64; 5], place: Option<u64>) -> Result<[u64; 5], Fault> {
+    match place {
+        Some(place) => Err(Fault {
+            place,
+            reason: Reason::Unused,
+        }),
+        None => Ok(lens),
+    }
+}
+
+/// Whether a byte behind a file is told, before all that isn't used in it.
+fn tells_trailing_byte(alloc: Global, bytes: &mut Vec<u8>) -> Result<bool, AllocError> {
+    let trailing = Fault {
+        place: bytes.len() as u64,
+        reason: Reason::TrailingBytes,
+    };
+    bytes.push(0)?;
+    answers(alloc, bytes, Err(trailing), Err(trailing))
 }
 
 #[test]
 fn refuses_what_no_triple_uses(rt: HostRuntime) -> Result<(), Fail> {
     for (sections, triples, lens, place) in &LOOSE {
-        let mut bytes = file(rt.alloc(), CONTROL)?;
-        for section in *sections {
-            bytes.extend_from_slice(section)?;
-        }
-        bytes.extend_from_slice(TRIPLES)?;
-        bytes.extend_from_slice(triples)?;
-        let tight = match *place {
-            Some(place) => Err(Fault {
-                place,
-                reason: Reason::Unused,
-            }),
-            None => Ok(*lens),
-        };
-        answers(&rt, rt.alloc(), &bytes, Ok(*lens), tight)?;
-        // What follows the file is told first.
-        let trailing = Fault {
-            place: bytes.len() as u64,
-            reason: Reason::TrailingBytes,
-        };
-        bytes.push(0)?;
-        answers(&rt, rt.alloc(), &bytes, Err(trailing), Err(trailing))?;
+        let mut bytes = loose_file(rt.alloc(), sections, triples)?;
+        let tight = tight_answer(*lens, *place);
+        assert!(rt; answers(rt.alloc(), &bytes, Ok(*lens), tight)?, "{place:?}");
+        assert!(rt; tells_trailing_byte(rt.alloc(), &mut bytes)?);
     }
     Ok(())
 }
@@ -446,11 +570,12 @@ fn refuses_what_no_triple_uses(rt: HostRuntime) -> Result<(), Fail> {
 #[test]
 fn tells_damage_before_what_is_unused(rt: HostRuntime) -> Result<(), Fail> {
     for (at, old, new, wanted) in &DAMAGED {
+        let wanted = answer_of(*wanted);
         let bytes = replaced(rt.alloc(), *at, *old, new)?;
-        if let Err((place, reason)) = *wanted {
-            let fault = Fault { place, reason };
-            answers(&rt, rt.alloc(), &bytes, Err(fault), Err(fault))?;
-        }
+        assert!(rt;
+            wanted.is_ok() || answers(rt.alloc(), &bytes, wanted, wanted)?,
+            "at {at}"
+        );
     }
     Ok(())
 }
@@ -466,18 +591,11 @@ fn numerals(alloc: Global) -> Result<Vec<u8>, AllocError> {
     Ok(out)
 }
 
-/// Some of these texts.
-fn texts_between(
-    alloc: Global,
-    numerals: &[u8],
-    from: usize,
-    to: usize,
-) -> Result<Vec<&[u8]>, AllocError> {
+/// Each of these texts.
+fn texts_of(alloc: Global, numerals: &[u8]) -> Result<Vec<&[u8]>, AllocError> {
     let mut out = Vec::new(alloc);
-    for (i, numeral) in numerals.chunks_exact(5).enumerate() {
-        if from <= i && i < to {
-            out.push(numeral)?;
-        }
+    for numeral in numerals.chunks_exact(5) {
+        out.push(numeral)?;
     }
     Ok(out)
 }
@@ -537,28 +655,47 @@ fn sixty_thousand(alloc: Global, last_object: u64) -> Result<Vec<(u64, u64, u64)
 /// The counts of 60,000 triples of 100,100 strings: `00000` to `59999` are subjects, `40000` to `99999` objects.
 const SIXTY_THOUSAND: [u64; 5] = [60_000, 20_000, 40_000, 100, 40_000];
 
+/// A file of all these strings, up to its triples.
+fn before_sixty_thousand(alloc: Global) -> Result<Vec<u8>, Fail> {
+    let numerals = numerals(alloc)?;
+    let texts = texts_of(alloc, &numerals)?;
+    let subjects = texts.get(..60_000).unwrap_or(&[]);
+    let predicates = texts.get(..100).unwrap_or(&[]);
+    let objects = texts.get(40_000..).unwrap_or(&[]);
+    with_strings(alloc, subjects, predicates, objects)
+}
+
+/// These bytes and the triples behind them.
+fn with_triples(alloc: Global, before: &[u8], list: &[(u64, u64, u64)]) -> Result<Vec<u8>, Fail> {
+    if !are_writable(list) {
+        return Err(Fail::from("not writable"));
+    }
+    let mut bytes = before.to_vec(alloc)?;
+    put_triples(alloc, list, &mut bytes)?;
+    Ok(bytes)
+}
+
+/// Whether tight reading gives this answer where the last of 60,000 triples has this object.
+fn answers_of_sixty_thousand(
+    alloc: Global,
+    before: &[u8],
+    last_object: u64,
+    tight: Result<[u64; 5], Fault>,
+) -> Result<bool, Fail> {
+    let list = sixty_thousand(alloc, last_object)?;
+    let bytes = with_triples(alloc, before, &list)?;
+    Ok(answers(alloc, &bytes, Ok(SIXTY_THOUSAND), tight)?)
+}
+
 #[test]
 fn tells_tightness_of_a_large_file(rt: HostRuntime) -> Result<(), Fail> {
-    let alloc = rt.alloc();
-    let numerals = numerals(alloc)?;
-    let subjects = texts_between(alloc, &numerals, 0, 60_000)?;
-    let predicates = texts_between(alloc, &numerals, 0, 100)?;
-    let objects = texts_between(alloc, &numerals, 40_000, 100_000)?;
-    let mut bytes = with_strings(alloc, &subjects, &predicates, &objects)?;
-    let end = bytes.len();
+    let before = before_sixty_thousand(rt.alloc())?;
     // The last object, `99999`, is the last of its block: a number, its last byte and a zero byte, before four bytes of code.
     let unused = Fault {
-        place: (end as u64).wrapping_sub(7),
+        place: (before.len() as u64).wrapping_sub(7),
         reason: Reason::Unused,
     };
-    for (last_object, tight) in [(60_000, Ok(SIXTY_THOUSAND)), (1, Err(unused))] {
-        let list = sixty_thousand(alloc, last_object)?;
-        if !are_writable(&list) {
-            return Err(Fail::from("not writable"));
-        }
-        bytes.truncate(end);
-        put_triples(alloc, &list, &mut bytes)?;
-        answers(&rt, alloc, &bytes, Ok(SIXTY_THOUSAND), tight)?;
-    }
+    assert!(rt; answers_of_sixty_thousand(rt.alloc(), &before, 60_000, Ok(SIXTY_THOUSAND))?);
+    assert!(rt; answers_of_sixty_thousand(rt.alloc(), &before, 1, Err(unused))?);
     Ok(())
 }

@@ -3,7 +3,7 @@ use hdt_dict::Role;
 use hdt_front::{are_strings, put_lent_section};
 use hdt_triples::{Pattern, are_writable, put_triples};
 use hdt_wire::{Counted, Kind, put_control};
-use std::alloc::Global;
+use std::alloc::{AllocError, Global};
 use std::io::{self, Write};
 use std::test::Fail;
 
@@ -54,10 +54,10 @@ fn file_with(
 }
 
 /// The fault of an answer, if it is one. Want of memory ends the test.
-fn fault_of<T: Drop>(answer: Result<T, DumpFault>) -> Result<Option<DumpFault>, Fail> {
+fn fault_of<T: Drop>(answer: Result<T, DumpFault>) -> Result<Option<DumpFault>, AllocError> {
     match answer {
         Ok(_) => Ok(None),
-        Err(DumpFault::OutOfMemory) => Err(DumpFault::OutOfMemory)?,
+        Err(DumpFault::OutOfMemory) => Err(AllocError),
         Err(fault) => Ok(Some(fault)),
     }
 }
@@ -81,7 +81,7 @@ fn of_subject(number: u64) -> Pattern {
 /// The sections and the triples of the three lines, which are those of [`LINES`].
 static THREE: Sections = [&[b"u:a", b"u:b"], &[], &[b"u:p", b"u:q"], &[b"\"x\""]];
 
-const TRIPLES: [(u64, u64, u64); 3] = [(1, 1, 2), (1, 2, 3), (2, 1, 1)];
+static TRIPLES: [(u64, u64, u64); 3] = [(1, 1, 2), (1, 2, 3), (2, 1, 1)];
 
 static LINES: [&[u8]; 3] = [
     b"<u:a> <u:p> <u:b> .\n",
@@ -90,42 +90,99 @@ static LINES: [&[u8]; 3] = [
 ];
 
 /// What may be given: nothing, numbers that are there, 0, the counts, and one more.
-const GIVEN: [Option<u64>; 6] = [None, Some(0), Some(1), Some(2), Some(3), Some(4)];
+static GIVEN: [Option<u64>; 6] = [None, Some(0), Some(1), Some(2), Some(3), Some(4)];
 
-fn admits(given: Option<u64>, number: u64) -> bool {
-    given.is_none_or(|n| n == number)
+/// How many patterns have what may be given in each part.
+const PATTERNS: usize = 6 * 6 * 6;
+
+/// The pattern of this number.
+fn pattern_at(i: usize) -> Pattern {
+    Pattern {
+        s: GIVEN[i / 36 % 6],
+        p: GIVEN[i / 6 % 6],
+        o: GIVEN[i % 6],
+    }
 }
 
-/// The lines of the triples that agree, by a plain filter.
-fn lines_of(alloc: Global, pattern: Pattern) -> Result<Vec<u8>, Fail> {
+/// Whether a part of a pattern admits a number.
+fn admits(given: Option<u64>, number: u64) -> bool {
+    match given {
+        Some(wanted) => wanted == number,
+        None => true,
+    }
+}
+
+/// Whether a triple of the three agrees with a pattern, by a plain filter.
+fn agrees(pattern: Pattern, i: usize) -> bool {
+    let (s, p, o) = TRIPLES[i % 3];
+    admits(pattern.s, s) && admits(pattern.p, p) && admits(pattern.o, o)
+}
+
+/// The lines of the triples that agree.
+fn lines_of(alloc: Global, pattern: Pattern) -> Result<Vec<u8>, AllocError> {
     let mut out = Vec::new(alloc);
-    for ((s, p, o), line) in TRIPLES.iter().zip(LINES) {
-        if admits(pattern.s, *s) && admits(pattern.p, *p) && admits(pattern.o, *o) {
-            out.extend_from_slice(line)?;
+    for i in 0..3 {
+        if agrees(pattern, i) {
+            out.extend_from_slice(LINES[i])?;
         }
     }
     Ok(out)
 }
 
-#[test]
-fn writes_the_matches_of_each_pattern(rt: HostRuntime) -> Result<(), Fail> {
-    let alloc = rt.alloc();
-    let bytes = file_with(alloc, THREE, &TRIPLES)?;
-    let graph = open(alloc, &bytes)?;
-    let layout = Layout::read(alloc, &bytes)?;
-    for s in GIVEN {
-        for p in GIVEN {
-            for o in GIVEN {
-                let pattern = Pattern { s, p, o };
-                let text = graph_text(alloc, &graph, Some(pattern))?;
-                assert_eq!(rt; text, lines_of(alloc, pattern)?, "{pattern:?}");
-                let same = layout_text(alloc, &layout, Some(pattern))?;
-                assert_eq!(rt; same, text, "{pattern:?}");
-            }
+/// Whether the text of a graph's matches is this.
+fn graph_tells(
+    alloc: Global,
+    graph: &Graph<'_>,
+    pattern: Option<Pattern>,
+    wanted: &[u8],
+) -> Result<bool, DumpFault> {
+    Ok(graph_text(alloc, graph, pattern)?.as_slice() == wanted)
+}
+
+/// The same of a layout.
+fn layout_tells(
+    alloc: Global,
+    layout: &Layout<'_>,
+    pattern: Option<Pattern>,
+    wanted: &[u8],
+) -> Result<bool, DumpFault> {
+    Ok(layout_text(alloc, layout, pattern)?.as_slice() == wanted)
+}
+
+/// Whether both write this of the matches of a pattern.
+fn both_tell(
+    alloc: Global,
+    graph: &Graph<'_>,
+    layout: &Layout<'_>,
+    pattern: Option<Pattern>,
+    wanted: &[u8],
+) -> Result<bool, DumpFault> {
+    Ok(graph_tells(alloc, graph, pattern, wanted)? && layout_tells(alloc, layout, pattern, wanted)?)
+}
+
+/// The first pattern of which not both write the lines.
+fn wrong_pattern(
+    alloc: Global,
+    graph: &Graph<'_>,
+    layout: &Layout<'_>,
+) -> Result<Option<Pattern>, DumpFault> {
+    for i in 0..PATTERNS {
+        let pattern = pattern_at(i);
+        let wanted = lines_of(alloc, pattern)?;
+        if !both_tell(alloc, graph, layout, Some(pattern), &wanted)? {
+            return Ok(Some(pattern));
         }
     }
-    assert!(rt; graph_text(alloc, &graph, None)?.is_empty());
-    assert!(rt; layout_text(alloc, &layout, None)?.is_empty());
+    Ok(None)
+}
+
+#[test]
+fn writes_the_matches_of_each_pattern(rt: HostRuntime) -> Result<(), Fail> {
+    let bytes = file_with(rt.alloc(), THREE, &TRIPLES)?;
+    let graph = open(rt.alloc(), &bytes)?;
+    let layout = Layout::read(rt.alloc(), &bytes)?;
+    assert_eq!(rt; wrong_pattern(rt.alloc(), &graph, &layout)?, None);
+    assert!(rt; both_tell(rt.alloc(), &graph, &layout, None, b"")?);
     Ok(())
 }
 
@@ -152,37 +209,55 @@ impl Write for Sink {
     }
 }
 
-#[test]
-fn a_writer_that_fails_at_each_call(rt: HostRuntime) -> Result<(), Fail> {
-    let alloc = rt.alloc();
-    let bytes = file_with(alloc, THREE, &TRIPLES)?;
-    let graph = open(alloc, &bytes)?;
-    let text = lines_of(alloc, ALL)?;
-    assert_eq!(rt; text.len(), 58);
-    for calls in 0..=58 {
-        let sink = Sink {
-            taken: [0; 64],
-            len: 0,
-            calls,
-        };
-        let mut out = Counted::new(sink);
-        let answer = write_graph(alloc, &graph, Some(ALL), &mut out);
-        let written = fault_of(answer)?;
-        let wanted = if calls < 58 {
-            Some(DumpFault::Write(calls as u64))
-        } else {
-            None
-        };
-        assert_eq!(rt; written, wanted);
-        let sink = out.into_inner();
-        assert_eq!(rt; sink.taken.get(..sink.len), text.get(..calls));
-    }
-    let mut none = Counted::new(Sink {
+/// A writer that fails after so many calls.
+fn sink_of(calls: usize) -> Counted<Sink> {
+    Counted::new(Sink {
         taken: [0; 64],
         len: 0,
-        calls: 0,
-    });
-    assert_eq!(rt; write_graph(alloc, &graph, None, &mut none)?, 0);
+        calls,
+    })
+}
+
+/// What a writer that takes so many of 58 bytes makes of the text.
+fn fault_after(calls: usize) -> Option<DumpFault> {
+    if calls < 58 {
+        Some(DumpFault::Write(calls as u64))
+    } else {
+        None
+    }
+}
+
+/// Whether a sink has taken exactly these bytes.
+fn has_taken(out: Counted<Sink>, wanted: Option<&[u8]>) -> bool {
+    let sink = out.into_inner();
+    sink.taken.get(..sink.len) == wanted
+}
+
+/// Whether a writer that fails after so many calls has taken so many bytes of the text, and is told.
+fn fails_after(
+    alloc: Global,
+    graph: &Graph<'_>,
+    text: &[u8],
+    calls: usize,
+) -> Result<bool, AllocError> {
+    let mut out = sink_of(calls);
+    let fault = fault_of(write_graph(alloc, graph, Some(ALL), &mut out))?;
+    Ok(fault == fault_after(calls) && has_taken(out, text.get(..calls)))
+}
+
+#[test]
+fn a_writer_that_fails_at_each_call(rt: HostRuntime) -> Result<(), Fail> {
+    let bytes = file_with(rt.alloc(), THREE, &TRIPLES)?;
+    let graph = open(rt.alloc(), &bytes)?;
+    let text = lines_of(rt.alloc(), ALL)?;
+    assert!(rt; text.len() == 58);
+    for calls in 0..=58 {
+        assert!(rt;
+            fails_after(rt.alloc(), &graph, &text, calls)?,
+            "{calls} calls"
+        );
+    }
+    assert!(rt; write_graph(rt.alloc(), &graph, None, &mut sink_of(0))? == 0);
     Ok(())
 }
 
@@ -223,17 +298,26 @@ static TEXTS: [(Sections, &[(u64, u64, u64)], &[u8]); 3] = [
     ),
 ];
 
+/// The text of the triples of subject 1, and then of subject 2.
+fn text_by_subjects(alloc: Global, graph: &Graph<'_>) -> Result<Vec<u8>, DumpFault> {
+    let mut text = graph_text(alloc, graph, Some(of_subject(1)))?;
+    let second = graph_text(alloc, graph, Some(of_subject(2)))?;
+    text.extend_from_slice(&second)?;
+    Ok(text)
+}
+
+/// Whether the graph of a file is written so, as a whole and subject by subject.
+fn is_spelled(alloc: Global, bytes: &[u8], text: &[u8]) -> Result<bool, Fail> {
+    let graph = open(alloc, bytes)?;
+    let good = graph_tells(alloc, &graph, Some(ALL), text)?;
+    Ok(good && text_by_subjects(alloc, &graph)?.as_slice() == text)
+}
+
 #[test]
 fn spells_all_kinds_of_terms(rt: HostRuntime) -> Result<(), Fail> {
-    let alloc = rt.alloc();
     for (sections, triples, text) in &TEXTS {
-        let bytes = file_with(alloc, *sections, *triples)?;
-        let graph = open(alloc, &bytes)?;
-        assert_eq!(rt; graph_text(alloc, &graph, Some(ALL))?.as_slice(), *text);
-        let mut by_subjects = graph_text(alloc, &graph, Some(of_subject(1)))?;
-        let second = graph_text(alloc, &graph, Some(of_subject(2)))?;
-        by_subjects.extend_from_slice(&second)?;
-        assert_eq!(rt; by_subjects.as_slice(), *text);
+        let bytes = file_with(rt.alloc(), *sections, triples)?;
+        assert!(rt; is_spelled(rt.alloc(), &bytes, text)?);
     }
     Ok(())
 }
@@ -279,44 +363,52 @@ static NO_TERMS: [(Sections, &[(u64, u64, u64)], Role, u64); 6] = [
     ),
 ];
 
+/// Whether a writer is told this fault, and nothing is written.
+fn writes_nothing(alloc: Global, graph: &Graph<'_>, wanted: DumpFault) -> Result<bool, AllocError> {
+    let mut out = sink_of(64);
+    let fault = fault_of(write_graph(alloc, graph, Some(ALL), &mut out))?;
+    Ok(fault == Some(wanted) && out.into_inner().len == 0)
+}
+
+/// Whether the text has this fault where the triples of predicate 1, which are all, are looked up.
+fn finds_no_term(alloc: Global, graph: &Graph<'_>, wanted: DumpFault) -> Result<bool, AllocError> {
+    let first = Pattern {
+        s: None,
+        p: Some(1),
+        o: None,
+    };
+    Ok(fault_of(graph_text(alloc, graph, Some(first)))? == Some(wanted))
+}
+
+/// Whether this fault of the graph of a file is told in both ways.
+fn tells_no_term(alloc: Global, bytes: &[u8], wanted: DumpFault) -> Result<bool, Fail> {
+    let graph = open(alloc, bytes)?;
+    Ok(writes_nothing(alloc, &graph, wanted)? && finds_no_term(alloc, &graph, wanted)?)
+}
+
+/// Sections and triples of which subject 2 uses terms alone.
+static LATER: Sections = [&[], &[b"rel", b"u:s"], &[b"u:p"], &[b"u:o"]];
+
+/// Whether a string that no match uses is nothing to tell.
+fn writes_later_subject(alloc: Global) -> Result<bool, Fail> {
+    let bytes = file_with(alloc, LATER, &[(1, 1, 1), (2, 1, 1)])?;
+    let graph = open(alloc, &bytes)?;
+    Ok(graph_tells(alloc, &graph, Some(of_subject(2)), b"<u:s> <u:p> <u:o> .\n")?)
+}
+
 #[test]
 fn tells_the_first_string_that_is_no_term(rt: HostRuntime) -> Result<(), Fail> {
-    let alloc = rt.alloc();
     for (sections, triples, role, number) in &NO_TERMS {
-        let bytes = file_with(alloc, *sections, *triples)?;
-        let graph = open(alloc, &bytes)?;
-        let sink = Sink {
-            taken: [0; 64],
-            len: 0,
-            calls: 64,
-        };
-        let mut out = Counted::new(sink);
-        let fault = fault_of(write_graph(alloc, &graph, Some(ALL), &mut out))?;
-        assert_eq!(rt; fault, Some(DumpFault::NotATerm(*role, *number)));
-        assert_eq!(rt; out.into_inner().len, 0);
-        // Looked up: all triples have predicate 1.
-        let first = Pattern {
-            s: None,
-            p: Some(1),
-            o: None,
-        };
-        let fault = fault_of(graph_text(alloc, &graph, Some(first)))?;
-        assert_eq!(rt; fault, Some(DumpFault::NotATerm(*role, *number)));
+        let bytes = file_with(rt.alloc(), *sections, triples)?;
+        let wanted = DumpFault::NotATerm(*role, *number);
+        assert!(rt; tells_no_term(rt.alloc(), &bytes, wanted)?);
     }
-    // A string that no match uses is nothing to tell.
-    let bytes = file_with(
-        alloc,
-        [&[], &[b"rel", b"u:s"], &[b"u:p"], &[b"u:o"]],
-        &[(1, 1, 1), (2, 1, 1)],
-    )?;
-    let graph = open(alloc, &bytes)?;
-    let text = graph_text(alloc, &graph, Some(of_subject(2)))?;
-    assert_eq!(rt; text.as_slice(), b"<u:s> <u:p> <u:o> .\n".as_slice());
+    assert!(rt; writes_later_subject(rt.alloc())?);
     Ok(())
 }
 
 /// The triple of a predicate and an object, as a line.
-fn append_line_of(predicate: &[u8], object: &[u8], out: &mut Vec<u8>) -> Result<(), Fail> {
+fn append_line_of(predicate: &[u8], object: &[u8], out: &mut Vec<u8>) -> Result<(), AllocError> {
     out.extend_from_slice(b"<u:s> <")?;
     out.extend_from_slice(predicate)?;
     out.extend_from_slice(b"> ")?;
@@ -325,38 +417,90 @@ fn append_line_of(predicate: &[u8], object: &[u8], out: &mut Vec<u8>) -> Result<
     Ok(())
 }
 
-#[test]
-fn writes_many_triples(rt: HostRuntime) -> Result<(), Fail> {
-    let alloc = rt.alloc();
-    let mut long = vec![in alloc; b'x'; 100_002]?;
-    long[0] = b'"';
-    long[100_001] = b'"';
-    let mut arena = Vec::new(alloc);
+/// A text of 100,000 characters.
+fn long_text(alloc: Global) -> Result<Vec<u8>, AllocError> {
+    let mut text = vec![in alloc; b'x'; 100_002]?;
+    text[0] = b'"';
+    text[100_001] = b'"';
+    Ok(text)
+}
+
+/// The predicates `u:1000` to `u:3499`, one after another.
+fn predicate_bytes(alloc: Global) -> Result<Vec<u8>, AllocError> {
+    let mut bytes = Vec::new(alloc);
     for number in 1_000..3_500_u64 {
-        arena.extend_from_slice(b"u:")?;
-        arena.extend_from_slice(number.to_string(alloc)?.as_bytes())?;
+        bytes.extend_from_slice(b"u:")?;
+        bytes.extend_from_slice(number.to_string(alloc)?.as_bytes())?;
     }
+    Ok(bytes)
+}
+
+/// Each of these predicates.
+fn predicates_of(alloc: Global, bytes: &[u8]) -> Result<Vec<&[u8]>, AllocError> {
     let mut predicates = Vec::new(alloc);
-    let mut triples = Vec::new(alloc);
-    let mut text = Vec::new(alloc);
-    triples.push((1, 1, 1))?;
-    for (p, predicate) in (1..=2_500_u64).zip(arena.chunks(6)) {
+    for predicate in bytes.chunks(6) {
         predicates.push(predicate)?;
-        triples.push((1, p, 2))?;
-        triples.push((1, p, 3))?;
-        if p == 1 {
-            append_line_of(predicate, &long, &mut text)?;
-        }
+    }
+    Ok(predicates)
+}
+
+/// The triples of one subject: of its first predicate the first object, and of each predicate the two others.
+fn triples_of_one(alloc: Global) -> Result<Vec<(u64, u64, u64)>, AllocError> {
+    let mut triples = Vec::new(alloc);
+    triples.push((1, 1, 1))?;
+    for predicate in 1..=2_500_u64 {
+        triples.push((1, predicate, 2))?;
+        triples.push((1, predicate, 3))?;
+    }
+    Ok(triples)
+}
+
+/// The lines of these triples.
+fn text_of_one(alloc: Global, predicates: &[&[u8]], long: &[u8]) -> Result<Vec<u8>, AllocError> {
+    let mut text = Vec::new(alloc);
+    append_line_of(b"u:1000", long, &mut text)?;
+    for predicate in predicates {
         append_line_of(predicate, b"_:o", &mut text)?;
         append_line_of(predicate, b"<u:o>", &mut text)?;
     }
-    let objects: [&[u8]; 3] = [long.as_slice(), b"_:o", b"u:o"];
-    let bytes = file_of(alloc, &[], &[b"u:s"], &predicates, &objects, &triples)?;
-    let graph = open(alloc, &bytes)?;
-    assert!(rt; graph_text(alloc, &graph, Some(ALL))? == text);
-    assert!(rt; graph_text(alloc, &graph, Some(of_subject(1)))? == text);
-    let layout = Layout::read(alloc, &bytes)?;
-    assert!(rt; layout_text(alloc, &layout, Some(ALL))? == text);
-    assert!(rt; layout_text(alloc, &layout, Some(of_subject(1)))? == text);
+    Ok(text)
+}
+
+/// The file of these triples.
+fn file_of_one(alloc: Global, predicates: &[&[u8]], long: &[u8]) -> Result<Vec<u8>, Fail> {
+    let triples = triples_of_one(alloc)?;
+    file_of(
+        alloc,
+        &[],
+        &[b"u:s"],
+        predicates,
+        &[long, b"_:o", b"u:o"],
+        &triples,
+    )
+}
+
+/// Whether a graph and a layout are written so, as a whole and by their one subject.
+fn is_written(alloc: Global, bytes: &[u8], text: &[u8]) -> Result<bool, Fail> {
+    let graph = open(alloc, bytes)?;
+    let layout = Layout::read(alloc, bytes)?;
+    Ok(
+        both_tell(alloc, &graph, &layout, Some(ALL), text)?
+            && both_tell(alloc, &graph, &layout, Some(of_subject(1)), text)?,
+    )
+}
+
+/// Whether a graph with these predicates and this object is written as its lines.
+fn one_is_written(alloc: Global, predicates: &[&[u8]], long: &[u8]) -> Result<bool, Fail> {
+    let bytes = file_of_one(alloc, predicates, long)?;
+    let text = text_of_one(alloc, predicates, long)?;
+    is_written(alloc, &bytes, &text)
+}
+
+#[test]
+fn writes_many_triples(rt: HostRuntime) -> Result<(), Fail> {
+    let long = long_text(rt.alloc())?;
+    let bytes = predicate_bytes(rt.alloc())?;
+    let predicates = predicates_of(rt.alloc(), &bytes)?;
+    assert!(rt; one_is_written(rt.alloc(), &predicates, &long)?);
     Ok(())
 }
