@@ -1,16 +1,12 @@
-//! Worked rows of built files, readers and writers in pieces and those that fail, large documents.
+//! Worked rows of built files, readers and writers in pieces and those that fail. What the program builds of larger documents, and
+//! of each kind of term, stands in tests/run.
 use super::*;
 use crate::interner::Interner;
-use hdt_dict::Role;
-use hdt_file::{Graph, open, verify};
-use hdt_seq::Steps;
-use hdt_terms::{LineFault, LineReason, put_term, string_term};
-use hdt_triples::Pattern;
+use hdt_terms::{LineFault, LineReason};
 use hdt_wire::Counted;
 use std::alloc::{AllocError, Global};
 use std::io;
 use std::io::{Read, Write};
-use std::process::Abort;
 use std::test::Fail;
 
 /// The file of `<http://a/> <http://a/> <http://a/> .` with the base `http://a/`.
@@ -22,7 +18,7 @@ pub(crate) const THREE: &[u8] =
     b"$HDT\x01<http://purl.org/HDT/hdt#HDTv1>\x00\x00v5$HDT\x02ntriples\x00length=150;\x00\x0EM<http://a/> <http://www.w3.org/1999/02/22-rdf-syntax-ns#type> <http://purl.org/HDT/hdt#Dataset> .\n<http://a/> <http://rdfs.org/ns/void#triples> \"3\" .\n$HDT\x03<http://purl.org/HDT/hdt#dictionaryFour>\x00mapping=1;\x00\x82\xB8\x02\x82\x87\x90\xD5\x01\x03\x82\xD38/BG\xE8u:a\x00\x82b\x00\x89\xE3a$\x02\x80\x80\x90h\x01\x01\x81\xF0\x00QS}R\x00\x00\x00\x00\x02\x82\x87\x90\xD5\x01\x03\x82\xD38/BG\xE8u:p\x00\x82q\x00\xEE\xB4p\x98\x02\x81\x84\x90W\x01\x03\x82\xD3 \x8F\xDD\xC0r\"x\"\x00\xA3\x979\x16$HDT\x04<http://purl.org/HDT/hdt#triplesBitmap>\x00order=1;\x00Y\xE9\x01\x83\x95\x06\xB9\xB4\xDCt\x01\x83\x95\x07\xBA7\xB7\x86\x01\x02\x83\xC1\x19\xF2O\x91:\x01\x02\x83\xC1\x1E\x19+[\xEE";
 
 /// Three triples: two strings are subjects and objects.
-pub(crate) const LINES: &[u8] = b"<u:a> <u:p> <u:b> .\n<u:a> <u:q> \"x\" .\n<u:b> <u:p> <u:a> .\n";
+const LINES: &[u8] = b"<u:a> <u:p> <u:b> .\n<u:a> <u:q> \"x\" .\n<u:b> <u:p> <u:a> .\n";
 
 /// The line of V1.
 const LINE: &[u8] = b"<http://a/> <http://a/> <http://a/> .\n";
@@ -115,449 +111,245 @@ pub(crate) fn options(alloc: Global, block_size: u32, base: &[u8]) -> Result<Opt
     })
 }
 
-/// What is answered, where it is not want of memory, which is an `Err`.
-fn seen<T>(answer: Result<T, BuildFault>) -> Result<Result<T, BuildFault>, Fail> {
+/// What a build is told by, where it is not want of memory, which is an `Err`.
+fn told_of<T: Drop>(answer: Result<T, BuildFault>) -> Result<Option<BuildFault>, Fail> {
     match answer {
         Err(BuildFault::OutOfMemory) => Err(AllocError)?,
-        Ok(made) => Ok(Ok(made)),
-        Err(fault) => Ok(Err(fault)),
+        Err(fault) => Ok(Some(fault)),
+        Ok(_) => Ok(None),
     }
 }
 
-/// What is built of a text with the base `http://a/`.
-pub(crate) fn made_of(
+/// The report on [`V1`], and that on [`THREE`].
+pub(crate) const OF_V1: Report = Report {
+    triples: 1,
+    shared: 1,
+    subjects: 0,
+    predicates: 1,
+    objects: 0,
+    bytes: 459,
+};
+
+const OF_THREE: Report = Report {
+    triples: 3,
+    shared: 2,
+    subjects: 0,
+    predicates: 2,
+    objects: 1,
+    bytes: 457,
+};
+
+/// Documents, the files that are built of them, and the reports: first of [`LINE`], and then [`LINES`] in several words.
+static BUILT: [(&[u8], &[u8], Report); 6] = [
+    (LINE, V1, OF_V1),
+    (LINES, THREE, OF_THREE),
+    (
+        b"<u:b> <u:p> <u:a> .\n<u:a> <u:q> \"x\" .\n<u:a> <u:p> <u:b> .\n",
+        THREE,
+        OF_THREE,
+    ),
+    (
+        b"# note\n<u:a> <u:q> \"x\" . # behind\n\n<u:b> <u:p> <u:a> .\r\n\t\n<u:a> <u:p> <u:b> .\r\n# end",
+        THREE,
+        OF_THREE,
+    ),
+    (
+        b"<u:a> <u:p> <u:b> .\r<u:a> <u:p> <u:b> .\r\n<u:b>\t<u:p> <u:a>.\n<u:a><u:q>\"x\".",
+        THREE,
+        OF_THREE,
+    ),
+    (
+        b"<u:a> <u:q> \"x\" .\n<u:a> <u:q> \"\\u0078\" .\n<u:b> <u:p> <u:\\u0061> .\n<u:a> <u:p> <u:b> .\n<u:b> <u:p> <u:a> .",
+        THREE,
+        OF_THREE,
+    ),
+];
+
+/// How many bytes are given a call.
+static STEPS: [usize; 4] = [1, 2, 7, ALL];
+
+/// Whether a file is built with the base `http://a/` of a document in pieces of one size.
+fn is_built(
     alloc: Global,
     text: &[u8],
-    block_size: u32,
-) -> Result<(Vec<u8>, Report), Fail> {
-    let options = options(alloc, block_size, b"http://a/")?;
-    match build_bytes(alloc, &mut input_of(text, ALL, ALL), &options) {
-        Ok(made) => Ok(made),
+    step: usize,
+    file: &[u8],
+    report: &Report,
+) -> Result<bool, Fail> {
+    let options = options(alloc, 16, b"http://a/")?;
+    match build_bytes(alloc, &mut input_of(text, step, ALL), &options) {
+        Ok((bytes, told)) => Ok(bytes.as_slice() == file && told == *report),
         Err(fault) => Err(fault)?,
     }
 }
 
-/// Why nothing is built of a text.
-fn fault_of(alloc: Global, text: &[u8], block_size: u32, base: &[u8]) -> Result<BuildFault, Fail> {
-    let options = options(alloc, block_size, base)?;
-    match build_bytes(alloc, &mut input_of(text, ALL, ALL), &options) {
-        Ok(_) => Err("built")?,
-        Err(BuildFault::OutOfMemory) => Err(AllocError)?,
-        Err(fault) => Ok(fault),
+/// Whether it is built of the document of a row in pieces of each size.
+fn is_built_in_pieces(alloc: Global, at: usize) -> Result<bool, Fail> {
+    let Some((text, file, report)) = BUILT.get(at) else {
+        return Ok(false);
+    };
+    let mut good = true;
+    for step in &STEPS {
+        good = is_built(alloc, text, *step, file, report)? && good;
     }
+    Ok(good)
 }
-
-pub(crate) fn report(
-    triples: u64,
-    shared: u64,
-    subjects: u64,
-    predicates: u64,
-    objects: u64,
-    bytes: u64,
-) -> Report {
-    Report {
-        triples,
-        shared,
-        subjects,
-        predicates,
-        objects,
-        bytes,
-    }
-}
-
-#[test]
-fn one_triple(rt: HostRuntime) -> Result<(), Fail> {
-    let (bytes, told) = made_of(rt.alloc(), LINE, 16)?;
-    assert!(rt; bytes.as_slice() == V1);
-    assert_eq!(rt; told, report(1, 1, 0, 1, 0, 459));
-    Ok(())
-}
-
-#[test]
-fn three_triples(rt: HostRuntime) -> Result<(), Fail> {
-    let (bytes, told) = made_of(rt.alloc(), LINES, 16)?;
-    assert!(rt; bytes.as_slice() == THREE);
-    assert_eq!(rt; told, report(3, 2, 0, 2, 1, 457));
-    assert_eq!(rt; verify(rt.alloc(), &bytes)?, [3, 2, 0, 2, 1]);
-    Ok(())
-}
-
-/// The same three triples, in other words.
-const OTHER: &[&[u8]] = &[
-    b"<u:b> <u:p> <u:a> .\n<u:a> <u:q> \"x\" .\n<u:a> <u:p> <u:b> .\n",
-    b"# note\n<u:a> <u:q> \"x\" . # behind\n\n<u:b> <u:p> <u:a> .\r\n\t\n<u:a> <u:p> <u:b> .\r\n# end",
-    b"<u:a> <u:p> <u:b> .\r<u:a> <u:p> <u:b> .\r\n<u:b>\t<u:p> <u:a>.\n<u:a><u:q>\"x\".",
-    b"<u:a> <u:q> \"x\" .\n<u:a> <u:q> \"\\u0078\" .\n<u:b> <u:p> <u:\\u0061> .\n<u:a> <u:p> <u:b> .\n<u:b> <u:p> <u:a> .",
-];
 
 #[test]
 fn the_same_graph_in_other_words(rt: HostRuntime) -> Result<(), Fail> {
-    for text in OTHER {
-        let (bytes, told) = made_of(rt.alloc(), text, 16)?;
-        assert!(rt; bytes.as_slice() == THREE);
-        assert_eq!(rt; told.triples, 3);
+    for at in 0..BUILT.len() {
+        assert!(rt; is_built_in_pieces(rt.alloc(), at)?, "row {at}");
     }
     Ok(())
+}
+
+const NO_DOT: BuildFault = BuildFault::Line(LineFault {
+    line: 2,
+    column: 12,
+    reason: LineReason::Syntax,
+});
+
+const RELATIVE: BuildFault = BuildFault::Line(LineFault {
+    line: 1,
+    column: 1,
+    reason: LineReason::RelativeIri,
+});
+
+/// Documents, block sizes and bases of which nothing is built, why, and whether the document is read.
+static REFUSED: [(&[u8], u32, &[u8], BuildFault, bool); 11] = [
+    (b"", 16, b"http://a/", BuildFault::NoTriples, true),
+    (b"# nothing", 16, b"http://a/", BuildFault::NoTriples, true),
+    (b"\n\r\n \n", 16, b"http://a/", BuildFault::NoTriples, true),
+    (b"<u:a> <u:p> <u:b> .\n<u:a> <u:p>", 16, b"u:", NO_DOT, true),
+    (b"<rel> <u:p> <u:b> .", 16, b"u:", RELATIVE, true),
+    (LINES, 0, b"http://a/", BuildFault::BadOptions, false),
+    (LINES, 65_536, b"http://a/", BuildFault::BadOptions, false),
+    (LINES, 16, b"rel", BuildFault::BadOptions, false),
+    (LINES, 16, b"u:a b", BuildFault::BadOptions, false),
+    (LINES, 16, b"u:\xFF", BuildFault::BadOptions, false),
+    (LINES, 16, b"", BuildFault::BadOptions, false),
+];
+
+/// Whether building bytes is refused.
+fn is_refused(
+    alloc: Global,
+    text: &[u8],
+    options: &Options,
+    fault: BuildFault,
+) -> Result<bool, Fail> {
+    let mut input = input_of(text, ALL, ALL);
+    Ok(told_of(build_bytes(alloc, &mut input, options))? == Some(fault))
+}
+
+/// Whether building into a writer is refused, and whether anything was read; nothing was written.
+fn is_refused_unwritten(
+    alloc: Global,
+    text: &[u8],
+    options: &Options,
+    fault: BuildFault,
+    read: bool,
+) -> Result<bool, Fail> {
+    let mut input = input_of(text, ALL, ALL);
+    let mut out = sink_of(ALL, ALL);
+    let told = told_of(build(alloc, &mut input, &mut out, options))?;
+    let unwritten = out.into_inner().len == 0;
+    Ok(told == Some(fault) && unwritten && (input.into_inner().calls > 0) == read)
+}
+
+/// Whether a row's document is refused by either.
+fn is_refused_by_both(alloc: Global, at: usize) -> Result<bool, Fail> {
+    let Some((text, block_size, base, fault, read)) = REFUSED.get(at) else {
+        return Ok(false);
+    };
+    let options = options(alloc, *block_size, base)?;
+    Ok(
+        is_refused(alloc, text, &options, *fault)?
+            && is_refused_unwritten(alloc, text, &options, *fault, *read)?,
+    )
 }
 
 #[test]
-fn a_string_with_its_datatype(rt: HostRuntime) -> Result<(), Fail> {
-    let (bytes, told) = made_of(
-        rt.alloc(),
-        b"<u:s> <u:p> \"x\" .\n<u:s> <u:p> \"x\"^^<http://www.w3.org/2001/XMLSchema#string> .\n",
-        16,
-    )?;
-    assert_eq!(rt; told.triples, 1);
-    let graph = open(rt.alloc(), &bytes)?;
-    assert_eq!(rt;
-        graph.number_of(Role::Object, b"\"x\"", &mut Steps::new()),
-        Some(1)
-    );
-    Ok(())
-}
-
-#[test]
-fn an_escaped_literal(rt: HostRuntime) -> Result<(), Fail> {
-    let (bytes, _) = made_of(rt.alloc(), b"<u:s> <u:p> \"a\\\"b\\\\c\\n\\\"@en\" .\n", 16)?;
-    let graph = open(rt.alloc(), &bytes)?;
-    let mut string = Vec::new(rt.alloc());
-    assert!(rt; graph.string_of(Role::Object, 1, &mut string, &mut Steps::new())?);
-    assert!(rt; string.as_slice() == b"\"a\"b\\c\n\"@en\"".as_slice());
-    Ok(())
-}
-
-#[test]
-fn no_triples(rt: HostRuntime) -> Result<(), Fail> {
-    for text in [b"".as_slice(), b"# nothing", b"\n\r\n \n"] {
-        assert_eq!(rt;
-            fault_of(rt.alloc(), text, 16, b"http://a/")?,
-            BuildFault::NoTriples
-        );
-    }
-    // A last line without its end has its triple.
-    let (_, told) = made_of(rt.alloc(), b"<u:a> <u:p> <u:b> .", 16)?;
-    assert_eq!(rt; told.triples, 1);
-    Ok(())
-}
-
-#[test]
-fn bad_options(rt: HostRuntime) -> Result<(), Fail> {
-    for (block_size, base) in [
-        (0, b"http://a/".as_slice()),
-        (65_536, b"http://a/"),
-        (16, b"rel"),
-        (16, b"u:a b"),
-        (16, b"u:\xFF"),
-        (16, b""),
-    ] {
-        let options = options(rt.alloc(), block_size, base)?;
-        let mut input = input_of(LINES, ALL, ALL);
-        let mut out = sink_of(ALL, ALL);
-        assert_eq!(rt;
-            build(rt.alloc(), &mut input, &mut out, &options),
-            Err(BuildFault::BadOptions)
-        );
-        assert_eq!(rt; input.into_inner().calls, 0);
-        assert_eq!(rt; out.into_inner().len, 0);
-    }
-    for block_size in [1, 2, 65_535] {
-        let (bytes, _) = made_of(rt.alloc(), LINES, block_size)?;
-        assert_eq!(rt; verify(rt.alloc(), &bytes)?, [3, 2, 0, 2, 1]);
+fn bad_documents_and_options(rt: HostRuntime) -> Result<(), Fail> {
+    for at in 0..REFUSED.len() {
+        assert!(rt; is_refused_by_both(rt.alloc(), at)?, "row {at}");
     }
     Ok(())
 }
 
-#[test]
-fn faults_of_lines(rt: HostRuntime) -> Result<(), Fail> {
-    assert_eq!(rt;
-        fault_of(rt.alloc(), b"<u:a> <u:p> <u:b> .\n<u:a> <u:p>", 16, b"u:")?,
-        BuildFault::Line(LineFault {
-            line: 2,
-            column: 12,
-            reason: LineReason::Syntax
-        })
-    );
-    assert_eq!(rt;
-        fault_of(rt.alloc(), b"<rel> <u:p> <u:b> .", 16, b"u:")?,
-        BuildFault::Line(LineFault {
-            line: 1,
-            column: 1,
-            reason: LineReason::RelativeIri
-        })
-    );
-    Ok(())
+/// The line of [`LINES`] in which a reader fails that fails after so many bytes.
+fn line_at(fails: usize) -> u64 {
+    match fails {
+        0..20 => 1,
+        20..38 => 2,
+        _ => 3,
+    }
 }
 
-/// A document of blocks of any size holds the same strings.
-fn holds(rt: &impl Abort, alloc: Global, block_size: u32) -> Result<(), Fail> {
-    let mut text = Vec::new(alloc);
-    for i in 1..=20_u32 {
-        let line = format!(in alloc; "<u:s{i}> <u:p> \"o{i}\" .\n")?;
-        text.extend_from_slice(line.as_bytes())?;
-    }
-    let (bytes, told) = made_of(alloc, &text, block_size)?;
-    let graph = open(alloc, &bytes)?;
-    assert_eq!(rt; told, report(20, 0, 20, 1, 20, bytes.len() as u64));
-    for i in 1..=20_u32 {
-        let subject = format!(in alloc; "u:s{i}")?;
-        let object = format!(in alloc; "\"o{i}\"")?;
-        let mut steps = Steps::new();
-        let mut found = graph.find(
-            [Some(subject.as_bytes()), None, Some(object.as_bytes())],
-            &mut steps,
-        );
-        assert!(rt; found.next().is_some());
-        assert!(rt; found.next().is_none());
-    }
-    Ok(())
-}
-
-#[test]
-fn blocks_of_any_size(rt: HostRuntime) -> Result<(), Fail> {
-    let (one, _) = made_of(rt.alloc(), LINES, 1)?;
-    assert!(rt; one.as_slice() != THREE);
-    for block_size in [1, 2, 65_535] {
-        holds(&rt, rt.alloc(), block_size)?;
-    }
-    Ok(())
-}
-
-#[test]
-fn readers_in_pieces(rt: HostRuntime) -> Result<(), Fail> {
-    let options = options(rt.alloc(), 16, b"http://a/")?;
-    for step in [1, 2, 7] {
-        let (bytes, _) = match build_bytes(rt.alloc(), &mut input_of(LINES, step, ALL), &options) {
-            Ok(made) => made,
-            Err(fault) => return Err(fault)?,
-        };
-        assert!(rt; bytes.as_slice() == THREE);
-    }
-    Ok(())
+/// Whether a reader that fails after so many bytes is told in its line, with nothing written.
+fn is_unread(alloc: Global, options: &Options, fails: usize) -> Result<bool, Fail> {
+    let mut input = input_of(LINES, ALL, fails);
+    let mut out = sink_of(ALL, ALL);
+    let told = told_of(build(alloc, &mut input, &mut out, options))?;
+    let fault = BuildFault::Line(LineFault {
+        line: line_at(fails),
+        column: 0,
+        reason: LineReason::Read,
+    });
+    Ok(told == Some(fault) && out.into_inner().len == 0)
 }
 
 #[test]
 fn readers_that_fail(rt: HostRuntime) -> Result<(), Fail> {
     let options = options(rt.alloc(), 16, b"http://a/")?;
     for fails in 0..LINES.len() {
-        let line = if fails < 20 {
-            1
-        } else if fails < 38 {
-            2
-        } else {
-            3
-        };
-        let mut out = sink_of(ALL, ALL);
-        let answer = build(
-            rt.alloc(),
-            &mut input_of(LINES, ALL, fails),
-            &mut out,
-            &options,
-        );
-        assert_eq!(rt;
-            seen(answer)?,
-            Err(BuildFault::Line(LineFault {
-                line,
-                column: 0,
-                reason: LineReason::Read
-            })),
-            "after {fails}"
-        );
-        assert_eq!(rt; out.into_inner().len, 0);
+        assert!(rt; is_unread(rt.alloc(), &options, fails)?, "after {fails}");
     }
     Ok(())
+}
+
+/// Whether a writer that fails after so many bytes is told with them, and has taken the front of the file.
+fn is_unwritten(alloc: Global, options: &Options, calls: usize) -> Result<bool, Fail> {
+    let mut out = sink_of(1, calls);
+    let told = told_of(build(alloc, &mut input_of(LINE, ALL, ALL), &mut out, options))?;
+    let taken = out.into_inner();
+    Ok(
+        told == Some(BuildFault::Write(calls as u64))
+            && taken.text() == V1.get(..calls).unwrap_or(&[]),
+    )
+}
+
+/// How many bytes a writer takes a call, and how many calls take [`V1`].
+pub(crate) static PIECES: [(usize, usize); 3] = [(1, 459), (100, 5), (ALL, 1)];
+
+/// Whether a writer in pieces takes the file, and no call after the last one that is wanted is made.
+fn is_written(alloc: Global, options: &Options, step: usize, calls: usize) -> Result<bool, Fail> {
+    let mut out = sink_of(step, calls);
+    let told = match build(alloc, &mut input_of(LINE, ALL, ALL), &mut out, options) {
+        Ok(told) => told,
+        Err(fault) => return Err(fault)?,
+    };
+    let taken = out.into_inner();
+    Ok(told == OF_V1 && taken.text() == V1 && taken.calls == 0)
 }
 
 #[test]
 fn writers_that_fail(rt: HostRuntime) -> Result<(), Fail> {
     let options = options(rt.alloc(), 16, b"http://a/")?;
     for calls in 0..V1.len() {
-        let mut out = sink_of(1, calls);
-        let answer = build(
-            rt.alloc(),
-            &mut input_of(LINE, ALL, ALL),
-            &mut out,
-            &options,
+        assert!(rt; is_unwritten(rt.alloc(), &options, calls)?, "after {calls}");
+    }
+    Ok(())
+}
+
+#[test]
+fn writers_in_pieces(rt: HostRuntime) -> Result<(), Fail> {
+    let options = options(rt.alloc(), 16, b"http://a/")?;
+    for (step, calls) in &PIECES {
+        assert!(rt;
+            is_written(rt.alloc(), &options, *step, *calls)?,
+            "by {step}"
         );
-        assert_eq!(rt; seen(answer)?, Err(BuildFault::Write(calls as u64)));
-        assert!(rt; out.into_inner().text() == V1.get(..calls).unwrap_or(&[]));
     }
-    // A call after the last one that is wanted isn't made.
-    for step in [1, 100, ALL] {
-        let mut out = sink_of(step, V1.len().div_ceil(step));
-        let answer = build(
-            rt.alloc(),
-            &mut input_of(LINE, ALL, ALL),
-            &mut out,
-            &options,
-        );
-        assert_eq!(rt; seen(answer)?, Ok(report(1, 1, 0, 1, 0, 459)));
-        let out = out.into_inner();
-        assert!(rt; out.text() == V1);
-        assert_eq!(rt; out.calls, 0);
-    }
-    Ok(())
-}
-
-#[test]
-fn many_objects(rt: HostRuntime) -> Result<(), Fail> {
-    let alloc = rt.alloc();
-    let mut text = Vec::new(alloc);
-    for i in 1..=513_u32 {
-        let line = format!(in alloc; "<u:s1> <u:p> <u:o{i:04}> .\n")?;
-        text.extend_from_slice(line.as_bytes())?;
-    }
-    text.extend_from_slice(b"<u:s2> <u:p> <u:o0001> .\n")?;
-    let (bytes, told) = made_of(alloc, &text, 16)?;
-    assert_eq!(rt; told.triples, 514);
-    let graph = open(alloc, &bytes)?;
-    let mut found = graph.search(Pattern {
-        s: Some(2),
-        p: None,
-        o: None,
-    });
-    assert_eq!(rt; found.next(), Some((2, 1, 1)));
-    assert_eq!(rt; found.next(), None);
-    Ok(())
-}
-
-/// A number that follows another, as if drawn.
-fn drawn(seed: u64) -> u64 {
-    seed.wrapping_mul(6_364_136_223_846_793_005)
-        .wrapping_add(1_442_695_040_888_963_407)
-}
-
-/// The lines in another order, some of them twice.
-fn shuffled(alloc: Global, lines: &[&[u8]], seed: u64) -> Result<Vec<u8>, AllocError> {
-    let mut order = Vec::from_slice(alloc, lines)?;
-    let mut seed = drawn(seed);
-    for i in 0..order.len() {
-        seed = drawn(seed);
-        let other = ((seed >> 33) % order.len().max(1) as u64) as usize;
-        order.swap(i, other);
-    }
-    let mut text = Vec::new(alloc);
-    for line in &order {
-        seed = drawn(seed);
-        text.extend_from_slice(*line)?;
-        if seed >> 62 == 0 {
-            text.extend_from_slice(*line)?;
-        }
-    }
-    Ok(text)
-}
-
-#[test]
-fn any_order_of_lines(rt: HostRuntime) -> Result<(), Fail> {
-    let lines: [&[u8]; 8] = [
-        b"<u:a> <u:p> <u:b> .\n",
-        b"<u:b> <u:p> <u:a> .\n",
-        b"<u:p> <u:p> <u:p> .\n",
-        b"_:x <u:q> \"1\"@en .\n",
-        b"_:x <u:q> _:y .\n",
-        b"<u:c> <u:q> \"1\" .\n",
-        b"<u:c> <u:q> \"\"^^<u:d> .\n",
-        b"<u:c> <u:p> <u:c> .\n",
-    ];
-    let mut text = Vec::new(rt.alloc());
-    for line in lines {
-        text.extend_from_slice(line)?;
-    }
-    let (wanted, _) = made_of(rt.alloc(), &text, 2)?;
-    for seed in 0..10_u64 {
-        let text = shuffled(rt.alloc(), &lines, seed)?;
-        let (bytes, _) = made_of(rt.alloc(), &text, 2)?;
-        assert!(rt; bytes.as_slice() == wanted.as_slice());
-    }
-    Ok(())
-}
-
-/// Line i of a document with every kind of term.
-fn line_of(alloc: Global, i: u32) -> Result<String, AllocError> {
-    let s = i / 3;
-    match i % 8 {
-        0 => format!(in alloc; "<http://example.org/resource/{s}> <u:name> \"n{i}\" .\n"),
-        1 => format!(in alloc;
-            "<http://example.org/resource/{s}> <u:label> \"l\\u00E9\\n{i}\"@en-GB .\n"
-        ),
-        2 => format!(in alloc;
-            "<http://example.org/resource/{s}> <u:size> \"{i}\"^^<http://www.w3.org/2001/XMLSchema#integer> .\n"
-        ),
-        3 => format!(in alloc; "_:b{s} <u:next> _:b{i} .\n"),
-        4 => format!(in alloc;
-            "<http://example.org/resource/{s}> <u:next> <http://example.org/resource/{i}> .\n"
-        ),
-        5 => format!(in alloc; "<http://example.org/resource/{s}> <u:next> <u:name> .\n"),
-        6 => format!(in alloc; "<u:name> <u:is> \"\\\"{s}\\\\\" .\n"),
-        _ => format!(in alloc;
-            "<http://example.org/resource/1> <u:next> <http://example.org/resource/2> .\n"
-        ),
-    }
-}
-
-/// Appends the string of a number, as a term of N-Triples.
-fn put_string(
-    alloc: Global,
-    graph: &Graph<'_>,
-    role: Role,
-    number: u64,
-    out: &mut Vec<u8>,
-) -> Result<(), Fail> {
-    let mut string = Vec::new(alloc);
-    if !graph.string_of(role, number, &mut string, &mut Steps::new())? {
-        return Err("no such string")?;
-    }
-    let term = string_term(alloc, &string)?;
-    put_term(&term, out)?;
-    out.push(b' ')?;
-    Ok(())
-}
-
-/// The lines of a file's triples.
-fn lines_of(alloc: Global, bytes: &[u8]) -> Result<Vec<u8>, Fail> {
-    let graph = open(alloc, bytes)?;
-    let mut text = Vec::new(alloc);
-    let mut found = graph.search(Pattern {
-        s: None,
-        p: None,
-        o: None,
-    });
-    for _ in 0..graph.len() {
-        let Some((s, p, o)) = found.next() else {
-            break;
-        };
-        put_string(alloc, &graph, Role::Subject, s, &mut text)?;
-        put_string(alloc, &graph, Role::Predicate, p, &mut text)?;
-        put_string(alloc, &graph, Role::Object, o, &mut text)?;
-        text.extend_from_slice(b".\n")?;
-    }
-    Ok(text)
-}
-
-#[test]
-fn a_large_document(rt: HostRuntime) -> Result<(), Fail> {
-    let alloc = rt.alloc();
-    let mut text = Vec::new(alloc);
-    for i in 0..20_000_u32 {
-        text.extend_from_slice(line_of(alloc, i)?.as_bytes())?;
-    }
-    text.extend_from_slice(b"<u:long> <u:name> \"")?;
-    text.extend_from_slice(vec![in alloc; b'x'; 100_000]?.as_slice())?;
-    text.extend_from_slice(b"\" .\n")?;
-    let (bytes, told) = made_of(alloc, &text, 16)?;
-    assert_eq!(rt;
-        verify(alloc, &bytes)?,
-        [
-            told.triples,
-            told.shared,
-            told.subjects,
-            told.predicates,
-            told.objects
-        ]
-    );
-    let again = lines_of(alloc, &bytes)?;
-    let (same, said) = made_of(alloc, &again, 16)?;
-    assert_eq!(rt; said, told);
-    assert!(rt; same.as_slice() == bytes.as_slice());
     Ok(())
 }
 
@@ -568,18 +360,29 @@ fn put_colliding(n: u64, out: &mut Vec<u8>) -> Result<(), AllocError> {
     out.extend_from_slice(&0x9e37_79b9_7f4a_7c15_u64.to_le_bytes())
 }
 
-#[test]
-fn strings_of_one_hash(rt: HostRuntime) -> Result<(), Fail> {
-    let alloc = rt.alloc();
-    let mut strings = Interner::new(alloc)?;
+/// Puts that many of these strings.
+fn put_all(alloc: Global, strings: &mut Interner, count: u64) -> Result<(), AllocError> {
     let mut text = Vec::new(alloc);
-    for n in 0..200_000_u64 {
+    for n in 0..count {
         put_colliding(n, &mut text)?;
         strings.place_of(alloc, &text)?;
     }
-    // The cache has lost nearly all of them, and one of them is put once more.
+    Ok(())
+}
+
+/// Whether the first of them is put once more, and stands at its place.
+fn is_put_again(alloc: Global, strings: &mut Interner) -> Result<bool, AllocError> {
+    let mut text = Vec::new(alloc);
     put_colliding(0, &mut text)?;
     let at = strings.place_of(alloc, &text)?;
-    assert!(rt; strings.list().get(at) == text.as_slice());
+    Ok(strings.list().get(at) == text.as_slice())
+}
+
+#[test]
+fn strings_of_one_hash(rt: HostRuntime) -> Result<(), Fail> {
+    let mut strings = Interner::new(rt.alloc())?;
+    put_all(rt.alloc(), &mut strings, 200_000)?;
+    // The cache has lost nearly all of them.
+    assert!(rt; is_put_again(rt.alloc(), &mut strings)?, "not put again");
     Ok(())
 }
