@@ -160,3 +160,24 @@ def lasts(items, size):
     """For each item the last of those that begin with the same `size` numbers."""
     last = {item[:size]: item for item in items}
     return [last[item[:size]] for item in items]
+
+
+def folded(prefix, tails):
+    """A section of one block, in which each string keeps a prefix of the one before."""
+    packed_bytes = bytearray(prefix + tails[0] + b"\0")
+    for tail in tails[1:]:
+        packed_bytes += number(len(prefix)) + tail + b"\0"
+    head = b"\x02" + number(len(tails)) + number(len(packed_bytes)) + number(1 << 40)
+    return head + code8(head) + numbers([0, len(packed_bytes)]) + bytes(packed_bytes) + code32(packed_bytes)
+
+
+def long_fronts(kinds, length, count):
+    """A file whose subjects and objects, or with 3 kinds also shared strings, share a front of so many bytes and take turns
+    in their order, so many strings each; and the counts of its verdict."""
+    prefix = b"http://a/" + b"x" * length
+    tails = [[b"%07d" % (kinds * i + kind) for i in range(count)] for kind in range(kinds)]
+    shared, subjects, objects = ([] if kinds == 2 else tails[0]), tails[-2], tails[-1]
+    sections = [folded(prefix, shared) if shared else section([]), folded(prefix, subjects), section([b"u:p"]), folded(prefix, objects)]
+    data = head() + control(3, b"<http://purl.org/HDT/hdt#dictionaryFour>", b"mapping=1;") + b"".join(sections)
+    used = len(shared) + count
+    return data + triples([(i, 1, i) for i in range(1, used + 1)]), (used, len(shared), count, 1, count)
