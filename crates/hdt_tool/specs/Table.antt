@@ -100,12 +100,14 @@ abbrev pub empty_table : App
 empty_table = let app = new_app (codes "hdt") in record app { top = record app.top { subcommand_required = true } }
 
 -- the commands on a whole file, and on the strings of a role
-abbrev pub first_commands : Names → App
-first_commands names =
-    with_subcommand (with_subcommand (with_subcommand (with_subcommand empty_table head_command.top) verify_command.top) (strings_command names).top)
-    (string_command names).top
+abbrev pub first_commands : App
+first_commands = with_subcommand (with_subcommand empty_table head_command.top) verify_command.top
+
+abbrev pub look_up_commands : Names → App
+look_up_commands names = with_subcommand (with_subcommand (with_subcommand first_commands (strings_command names).top) (string_command names).top) (number_command names).top
+
+abbrev pub text_commands : Names → App
+text_commands names = with_subcommand (with_subcommand (look_up_commands names) find_command.top) dump_command.top
 
 abbrev pub table : Names → App
-table names =
-    with_subcommand (with_subcommand (with_subcommand (with_subcommand (with_subcommand (first_commands names) (number_command names).top)
-    find_command.top) dump_command.top) build_command.top) rewrite_command.top
+table names = with_subcommand (with_subcommand (text_commands names) build_command.top) rewrite_command.top

@@ -2,7 +2,7 @@
 ghost use Rattle.std.specs.Prelude.{◌≡◌, IfOk, false};
 ghost use Rattle.clap.specs.Words.{app_of, rule_of, with_rule, with_subcommand};
 ghost use Rattle.clap.specs.declared.builder.command.Command.TheViews.{out-Command as fields_of};
-ghost use Rattle.hdt_tool.specs.Table.{word_named, flag_named, option_named, role_word, base_option, block_size_option, build_command, rewrite_command, number_word, file_command, head_command, verify_command, strings_command, string_command, number_command, find_command, dump_command, empty_table, first_commands, table};
+ghost use Rattle.hdt_tool.specs.Table.{word_named, flag_named, option_named, role_word, base_option, block_size_option, build_command, rewrite_command, number_word, file_command, head_command, verify_command, strings_command, string_command, number_command, find_command, dump_command, empty_table, first_commands, look_up_commands, text_commands, table};
 
 use clap::{Arg, ArgAction, Command, value_parser};
 use std::alloc::{AllocError, Global};
@@ -349,25 +349,39 @@ fn with_command<'a>(program: Command<'a>, command: Command<'a>) -> Result<Comman
     program.subcommand(command)
 }
 
-/// The program with the first commands. (All of them in one function would take the prover minutes.)
-fn first_commands<'a>(alloc: Global, roles: &'a [&'a str]) -> Result<Command<'a>, AllocError>
-    ensures { IfOk result (λ c. app_of c ≡ first_commands roles.entry) }
+/// The program with the commands that tell of a file. (All commands in one function would take the prover minutes.)
+fn first_commands<'a>(alloc: Global) -> Result<Command<'a>, AllocError>
+    ensures { IfOk result (λ c. app_of c ≡ first_commands) }
 {
     let program = program(alloc)?;
     let program = with_command(program, head_of(alloc)?)?;
-    let program = with_command(program, verify_of(alloc)?)?;
+    with_command(program, verify_of(alloc)?)
+}
+
+/// The program with those that look up, too.
+fn look_up_commands<'a>(alloc: Global, roles: &'a [&'a str]) -> Result<Command<'a>, AllocError>
+    ensures { IfOk result (λ c. app_of c ≡ look_up_commands roles.entry) }
+{
+    let program = first_commands(alloc)?;
     let program = with_command(program, strings_of(alloc, roles)?)?;
-    with_command(program, string_of(alloc, roles)?)
+    let program = with_command(program, string_of(alloc, roles)?)?;
+    with_command(program, number_of(alloc, roles)?)
+}
+
+/// The program with those that print triples, too.
+fn text_commands<'a>(alloc: Global, roles: &'a [&'a str]) -> Result<Command<'a>, AllocError>
+    ensures { IfOk result (λ c. app_of c ≡ text_commands roles.entry) }
+{
+    let program = look_up_commands(alloc, roles)?;
+    let program = with_command(program, find_of(alloc)?)?;
+    with_command(program, dump_of(alloc)?)
 }
 
 /// All the commands; the words for the roles are lent.
 pub fn table_of<'a>(alloc: Global, roles: &'a [&'a str]) -> Result<Command<'a>, AllocError>
     ensures { IfOk result (λ c. app_of c ≡ table roles.entry) }
 {
-    let program = first_commands(alloc, roles)?;
-    let program = with_command(program, number_of(alloc, roles)?)?;
-    let program = with_command(program, find_of(alloc)?)?;
-    let program = with_command(program, dump_of(alloc)?)?;
+    let program = text_commands(alloc, roles)?;
     let program = with_command(program, build_of(alloc)?)?;
     with_command(program, rewrite_of(alloc)?)
 }

@@ -6,6 +6,4 @@ use Rattle.hdt_tool.proofs.commands.first_commands.Goals as goal
 pub returns : goal.returns
 returns c =
     let one = c.in_ok-program-2.ensures ∙ grown c.in_ok-program.ensures c.in_ok-head_of.ensures.shape in
-    let two = c.in_ok-program-3.ensures ∙ grown one c.in_ok-verify_of.ensures.shape in
-    let three = c.in_ok-program-4.ensures ∙ grown two c.in_ok-strings_of.ensures.shape in
-    IfOk-weaker c.with_command-4.result _ _ (λ r h. h ∙ grown three c.in_ok-string_of.ensures.shape) c.with_command-4.ensures
+    IfOk-weaker c.with_command-2.result _ _ (λ r h. h ∙ grown one c.in_ok-verify_of.ensures.shape) c.with_command-2.ensures
