@@ -21,14 +21,10 @@ ghost use Rattle.hdt_tool.specs.Lines.{fault_status};
 ghost use Rattle.hdt_tool.specs.Status.{Ends, IsCommandStatus, IsRefusalStatus};
 
 mod answer;
-#[cfg(test)]
-mod build_tests;
 mod commands;
 mod entries;
 mod escaping;
 mod fault;
-#[cfg(test)]
-mod find_tests;
 mod lines;
 mod printed_built;
 mod printed_head;
@@ -36,16 +32,10 @@ mod printed_strings;
 mod printed_triples;
 mod printed_verdict;
 mod request;
-#[cfg(test)]
-mod rewrite_tests;
 mod run;
 #[cfg(test)]
 mod tests;
-#[cfg(test)]
-mod tight_tests;
 mod words;
-#[cfg(test)]
-mod words_tests;
 
 use crate::fault::{ToolFault, UsageFault};
 use crate::lines::{fault_line, usage_line};

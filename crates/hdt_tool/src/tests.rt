@@ -1,85 +1,131 @@
+//! The engine with readers that give pieces or fail and with writers that take pieces or fail, what each leaves behind, and the
+//! texts of faults. What the commands print of files, and what is told of command lines, stands in tests/run.
 use crate::fault::ToolFault;
+use crate::lines::fault_line;
 use crate::request::{Action, Request};
 use crate::run::run;
+use hdt_build::Options;
 use hdt_dict::Role;
-use hdt_wire::{Counted, Fault, Reason, check16};
+use hdt_terms::{LineFault, LineReason};
+use hdt_wire::{Counted, Fault, Reason};
 use std::alloc::{AllocError, Global};
 use std::io::{self, Read, Write};
 use std::test::Fail;
 
-/// The blocks of the sample file V1, its header body, and what follows.
-pub(crate) const BLOCKS: &[u8] =
-    b"$HDT\x01<http://purl.org/HDT/hdt#HDTv1>\x00\x00\x76\x35$HDT\x02ntriples\x00length=150;\x00\x0E\x4D";
+/// The sample file V1, whose blocks and header body are its first 218 bytes.
+const V1: &[u8] =
+    b"$HDT\x01<http://purl.org/HDT/hdt#HDTv1>\x00\x00\x76\x35$HDT\x02ntriples\x00length=150;\x00\x0E\x4D<http://a/> <http://www.w3.org/1999/02/22-rdf-syntax-ns#type> <http://purl.org/HDT/hdt#Dataset> .\n<http://a/> <http://rdfs.org/ns/void#triples> \"1\" .\n$HDT\x03<http://purl.org/HDT/hdt#dictionaryFour>\x00mapping=1;\x00\x82\xB8\x02\x81\x8A\x90\x81\x01\x04\x82\xB8\xA0\xF7\xE66\xF0http://a/\x00\xF4\x81z\xD4\x02\x80\x80\x90h\x01\x01\x81\xF0\x00QS}R\x00\x00\x00\x00\x02\x81\x8A\x90\x81\x01\x04\x82\xB8\xA0\xF7\xE66\xF0http://a/\x00\xF4\x81z\xD4\x02\x80\x80\x90h\x01\x01\x81\xF0\x00QS}R\x00\x00\x00\x00$HDT\x04<http://purl.org/HDT/hdt#triplesBitmap>\x00order=1;\x00Y\xE9\x01\x81\x9B\x01R\xD0\x16\xA0\x01\x81\x9B\x01R\xD0\x16\xA0\x01\x01\x81\xF0\x01R\xD0\x16\xA0\x01\x01\x81\xF0\x01R\xD0\x16\xA0";
 
-pub(crate) const BODY: &[u8] =
-    b"<http://a/> <http://www.w3.org/1999/02/22-rdf-syntax-ns#type> <http://purl.org/HDT/hdt#Dataset> .\n<http://a/> <http://rdfs.org/ns/void#triples> \"1\" .\n";
+/// What `hdt head` prints of V1.
+const HEAD: &[u8] =
+    b"global <http://purl.org/HDT/hdt#HDTv1>\nproperties \nheader ntriples\nproperties length=150;\nlength 150\n<http://a/> <http://www.w3.org/1999/02/22-rdf-syntax-ns#type> <http://purl.org/HDT/hdt#Dataset> .\n<http://a/> <http://rdfs.org/ns/void#triples> \"1\" .\n";
 
-pub(crate) const REST: &[u8] =
-    b"$HDT\x03<http://purl.org/HDT/hdt#dictionaryFour>\x00mapping=1;\x00\x82\xB8\x02\x81\x8A\x90\x81\x01\x04\x82\xB8\xA0\xF7\xE66\xF0http://a/\x00\xF4\x81z\xD4\x02\x80\x80\x90h\x01\x01\x81\xF0\x00QS}R\x00\x00\x00\x00\x02\x81\x8A\x90\x81\x01\x04\x82\xB8\xA0\xF7\xE66\xF0http://a/\x00\xF4\x81z\xD4\x02\x80\x80\x90h\x01\x01\x81\xF0\x00QS}R\x00\x00\x00\x00$HDT\x04<http://purl.org/HDT/hdt#triplesBitmap>\x00order=1;\x00Y\xE9\x01\x81\x9B\x01R\xD0\x16\xA0\x01\x81\x9B\x01R\xD0\x16\xA0\x01\x01\x81\xF0\x01R\xD0\x16\xA0\x01\x01\x81\xF0\x01R\xD0\x16\xA0";
+/// The document of V1.
+const LINE: &[u8] = b"<http://a/> <http://a/> <http://a/> .\n";
 
-/// The lines that `hdt head` prints of V1, before the header body.
-const LINES: &[u8] =
-    b"global <http://purl.org/HDT/hdt#HDTv1>\nproperties \nheader ntriples\nproperties length=150;\nlength 150\n";
+/// A file of three triples.
+const THREE: &[u8] =
+    b"$HDT\x01<http://purl.org/HDT/hdt#HDTv1>\x00\x00\x76\x35$HDT\x02ntriples\x00length=150;\x00\x0E\x4D<http://a/> <http://www.w3.org/1999/02/22-rdf-syntax-ns#type> <http://purl.org/HDT/hdt#Dataset> .\n<http://a/> <http://rdfs.org/ns/void#triples> \"3\" .\n$HDT\x03<http://purl.org/HDT/hdt#dictionaryFour>\x00mapping=1;\x00\x82\xB8\x02\x82\x87\x90\xD5\x01\x03\x82\xD38/BG\xE8u:a\x00\x82b\x00\x89\xE3a$\x02\x80\x80\x90h\x01\x01\x81\xF0\x00QS}R\x00\x00\x00\x00\x02\x82\x87\x90\xD5\x01\x03\x82\xD38/BG\xE8u:p\x00\x82q\x00\xEE\xB4p\x98\x02\x81\x84\x90W\x01\x03\x82\xD3 \x8F\xDD\xC0r\"x\"\x00\xA3\x979\x16$HDT\x04<http://purl.org/HDT/hdt#triplesBitmap>\x00order=1;\x00Y\xE9\x01\x83\x95\x06\xB9\xB4\xDCt\x01\x83\x95\x07\xBA7\xB7\x86\x01\x02\x83\xC1\x19\xF2O\x91:\x01\x02\x83\xC1\x1E\x19+[\xEE";
 
-const GLOBAL_FORMAT: &[u8] = b"<http://purl.org/HDT/hdt#HDTv1>";
+/// Its document.
+const THREE_LINES: &[u8] = b"<u:a> <u:p> <u:b> .\n<u:a> <u:q> \"x\" .\n<u:b> <u:p> <u:a> .\n";
 
-/// Gives its bytes, at most `step` a call, and then ends; where it fails, it does so once, and ends at the next call.
-#[derive(Drop)]
-pub(crate) struct Source<'a> {
-    pub(crate) bytes: &'a [u8],
-    pub(crate) step: usize,
-    pub(crate) fails: bool,
+/// What was made before a command.
+const BEFORE: &[u8] = b"made";
+
+/// More than any reader gives or any writer takes.
+const ALL: usize = usize::MAX;
+
+/// A command of these tests.
+#[derive(Clone, Copy)]
+enum Command {
+    Head,
+    Verify,
+    Tight,
+    Dump,
+    Build(&'static [u8], u32),
+    Rewrite(u32),
 }
 
-impl<'a> Read for Source<'a> {
-    fn read(&mut self, buf: &mut [u8]) -> io::Result<usize> {
-        if self.bytes.is_empty() && self.fails {
-            self.fails = false;
-            return Err(io::Error::from(io::ErrorKind::BrokenPipe));
-        }
-        let count = self.bytes.len().min(self.step).min(buf.len());
-        let (given, rest) = self.bytes.split_at(count);
-        buf[..count].copy_from_slice(given);
-        self.bytes = rest;
-        Ok(count)
+/// What a command is to do.
+fn action_of(alloc: Global, command: Command) -> Result<Action, AllocError> {
+    match command {
+        Command::Head => Ok(Action::Head),
+        Command::Verify => Ok(Action::Verify),
+        Command::Tight => Ok(Action::VerifyTight),
+        Command::Dump => Ok(Action::Find {
+            given: [None, None, None],
+            numbers: false,
+        }),
+        Command::Build(base, block_size) => Ok(Action::Build(Options {
+            block_size,
+            base: base.to_vec(alloc)?,
+        })),
+        Command::Rewrite(block_size) => Ok(Action::Rewrite(block_size)),
     }
 }
 
-/// Gives its bytes, at most `step` a call, and then ends, once: it counts the calls behind its end, and fails at each.
+/// Gives its bytes, at most `step` a call, and then ends, or fails once. It counts the calls behind that, and fails at them where
+/// it had ended, and ends where it had failed.
 #[derive(Drop)]
-struct Ending<'a> {
+struct Source<'a> {
     bytes: &'a [u8],
     step: usize,
+    fails: bool,
     ended: bool,
     late: usize,
 }
 
-impl<'a> Read for Ending<'a> {
+impl<'a> Read for Source<'a> {
     fn read(&mut self, buf: &mut [u8]) -> io::Result<usize> {
-        if self.ended {
-            self.late = self.late.saturating_add(1);
+        if self.bytes.is_empty() && self.fails != self.ended {
+            self.late = self.late.saturating_add(usize::from(self.ended));
+            self.ended = true;
             return Err(io::Error::from(io::ErrorKind::BrokenPipe));
         }
         let count = self.bytes.len().min(self.step).min(buf.len());
         let (given, rest) = self.bytes.split_at(count);
         buf[..count].copy_from_slice(given);
         self.bytes = rest;
+        self.late = self.late.saturating_add(usize::from(self.ended));
         self.ended = count == 0;
         Ok(count)
     }
 }
 
+/// A source that gives so many bytes a call, and then ends.
+fn source_of(bytes: &[u8], step: usize) -> Source<'_> {
+    Source {
+        bytes,
+        step,
+        fails: false,
+        ended: false,
+        late: 0,
+    }
+}
+
+/// A source that gives the first bytes, so many of them, and then fails.
+fn failing(bytes: &[u8], len: usize, step: usize) -> Source<'_> {
+    Source {
+        bytes: bytes.get(..len).unwrap_or(bytes),
+        step,
+        fails: true,
+        ended: false,
+        late: 0,
+    }
+}
+
 /// Takes at most `step` bytes a call, and fails after so many calls.
 #[derive(Drop)]
-pub(crate) struct Sink {
+struct Sink {
     taken: [u8; 512],
-    pub(crate) len: usize,
+    len: usize,
     step: usize,
     calls: usize,
 }
 
 impl Sink {
-    pub(crate) fn new(step: usize, calls: usize) -> Sink {
+    fn new(step: usize, calls: usize) -> Sink {
         Sink {
             taken: [0; 512],
             len: 0,
@@ -88,7 +134,7 @@ impl Sink {
         }
     }
 
-    pub(crate) fn text(&self) -> &[u8] {
+    fn text(&self) -> &[u8] {
         self.taken.get(..self.len).unwrap_or(&[])
     }
 }
@@ -110,483 +156,570 @@ impl Write for Sink {
     }
 }
 
-/// Compares what it takes with the bytes that are wanted.
+/// What a command answers, what it printed and made, and its source after it.
 #[derive(Drop)]
-struct Compared<'a> {
-    wanted: &'a [u8],
-    same: bool,
+struct Outcome<'a> {
+    answer: Result<(), ToolFault>,
+    sink: Sink,
+    made: Vec<u8>,
+    source: Source<'a>,
 }
 
-impl<'a> Write for Compared<'a> {
-    fn write(&mut self, buf: &[u8]) -> io::Result<usize> {
-        let (front, rest) = self.wanted.split_at(buf.len().min(self.wanted.len()));
-        self.same = self.same && front == buf;
-        self.wanted = rest;
-        Ok(buf.len())
-    }
-
-    fn flush(&mut self) -> io::Result<()> {
-        Ok(())
-    }
-}
-
-/// What a command answers on a source, and the sink after it. Want of memory is an `Err`.
-pub(crate) fn command_on(
+/// What a command answers after something was made. Want of memory is an `Err`.
+fn outcome_of<'a>(
     alloc: Global,
     action: Action,
-    source: Source<'_>,
+    source: Source<'a>,
     sink: Sink,
-) -> Result<(Result<(), ToolFault>, Sink), Fail> {
+) -> Result<Outcome<'a>, Fail> {
     let request = Request {
         action,
         file: String::new(alloc),
         out: None,
     };
+    let mut made = BEFORE.to_vec(alloc)?;
     let mut input = Counted::new(source);
     let mut out = Counted::new(sink);
-    let mut made = Vec::new(alloc);
     let answer = run(alloc, &request, &mut input, &mut out, &mut made);
     if answer == Err(ToolFault::OutOfMemory) {
         return Err(Fail::from(AllocError));
     }
-    if !made.is_empty() {
-        return Err(Fail::from("something was built"));
+    Ok(Outcome {
+        answer,
+        sink: out.into_inner(),
+        made,
+        source: input.into_inner(),
+    })
+}
+
+/// What was made behind what was made before.
+fn file_of<'a>(seen: &'a Outcome<'_>) -> &'a [u8] {
+    seen.made.get(BEFORE.len()..).unwrap_or(&[])
+}
+
+/// Whether a command is done, with all read and not asked for again, this text printed, and this file made.
+fn is_done(seen: &Outcome<'_>, text: &[u8], file: &[u8]) -> bool {
+    seen.answer == Ok(())
+        && seen.source.ended
+        && seen.source.late == 0
+        && seen.sink.text() == text
+        && seen.made.starts_with(BEFORE)
+        && file_of(seen) == file
+}
+
+/// Whether a command was stopped by a fault, with nothing asked for behind an end, so many bytes of the text printed, and what was
+/// made before as it was.
+fn is_stopped(seen: &Outcome<'_>, fault: ToolFault, text: &[u8], len: usize) -> bool {
+    seen.answer == Err(fault)
+        && seen.source.late == 0
+        && seen.sink.len == len
+        && text.starts_with(seen.sink.text())
+        && seen.made.as_slice() == BEFORE
+}
+
+/// Commands that are done.
+struct Done {
+    name: &'static str,
+    command: Command,
+    /// What is read.
+    input: &'static [u8],
+    /// What is printed.
+    text: &'static [u8],
+    /// What is made.
+    file: &'static [u8],
+}
+
+static DONE: [Done; 8] = [
+    Done {
+        name: "head",
+        command: Command::Head,
+        input: V1,
+        text: HEAD,
+        file: b"",
+    },
+    Done {
+        name: "verify",
+        command: Command::Verify,
+        input: THREE,
+        text: b"ok 3 2 0 2 1\n",
+        file: b"",
+    },
+    Done {
+        name: "verify --tight",
+        command: Command::Tight,
+        input: V1,
+        text: b"ok 1 1 0 1 0\n",
+        file: b"",
+    },
+    Done {
+        name: "verify --tight of three triples",
+        command: Command::Tight,
+        input: THREE,
+        text: b"ok 3 2 0 2 1\n",
+        file: b"",
+    },
+    Done {
+        name: "dump",
+        command: Command::Dump,
+        input: THREE,
+        text: THREE_LINES,
+        file: b"",
+    },
+    Done {
+        name: "build",
+        command: Command::Build(b"http://a/", 16),
+        input: LINE,
+        text: b"built 1 1 0 1 0 459\n",
+        file: V1,
+    },
+    Done {
+        name: "build of three triples",
+        command: Command::Build(b"http://a/", 16),
+        input: THREE_LINES,
+        text: b"built 3 2 0 2 1 457\n",
+        file: THREE,
+    },
+    Done {
+        name: "rewrite",
+        command: Command::Rewrite(16),
+        input: V1,
+        text: b"rewritten 1 1 0 1 0 459\n",
+        file: V1,
+    },
+];
+
+/// How many bytes are given or taken a call.
+static STEPS: [usize; 8] = [1, 2, 5, 7, 9, 50, 200, ALL];
+
+/// Whether a command is done that reads and writes in pieces of one size.
+fn is_done_by(alloc: Global, row: &Done, step: usize) -> Result<bool, Fail> {
+    let action = action_of(alloc, row.command)?;
+    let seen = outcome_of(
+        alloc,
+        action,
+        source_of(row.input, step),
+        Sink::new(step, ALL),
+    )?;
+    Ok(is_done(&seen, row.text, row.file))
+}
+
+/// Whether a command is done that reads and writes in pieces of each size.
+fn is_done_in_pieces(alloc: Global, row: &Done) -> Result<bool, Fail> {
+    let mut good = true;
+    for step in &STEPS {
+        good = is_done_by(alloc, row, *step)? && good;
     }
-    Ok((answer, out.into_inner()))
-}
-
-/// What `hdt head` answers on a source, and the sink after it.
-fn head_of(
-    alloc: Global,
-    source: Source<'_>,
-    sink: Sink,
-) -> Result<(Result<(), ToolFault>, Sink), Fail> {
-    command_on(alloc, Action::Head, source, sink)
-}
-
-/// What `hdt head` answers on the bytes, and the sink after it.
-fn head_on(alloc: Global, bytes: &[u8], sink: Sink) -> Result<(Result<(), ToolFault>, Sink), Fail> {
-    let source = Source {
-        bytes,
-        step: usize::MAX,
-        fails: false,
-    };
-    head_of(alloc, source, sink)
-}
-
-/// The same with a sink that takes all.
-fn head_of_bytes(alloc: Global, bytes: &[u8]) -> Result<(Result<(), ToolFault>, Sink), Fail> {
-    head_on(alloc, bytes, Sink::new(usize::MAX, usize::MAX))
-}
-
-/// The parts, one after another.
-pub(crate) fn joined(alloc: Global, parts: &[&[u8]]) -> Result<Vec<u8>, AllocError> {
-    let mut all = Vec::new(alloc);
-    for part in parts {
-        all.extend_from_slice(part)?;
-    }
-    Ok(all)
-}
-
-/// The first bytes, so many of them.
-fn front(bytes: &[u8], len: usize) -> &[u8] {
-    bytes.get(..len).unwrap_or(bytes)
-}
-
-/// A control block of these texts.
-fn block(alloc: Global, kind: u8, format: &[u8], properties: &[u8]) -> Result<Vec<u8>, AllocError> {
-    let mut block = joined(alloc, &[b"$HDT", &[kind], format, &[0], properties, &[0]])?;
-    let code = check16(&block);
-    block.push((code % 256) as u8)?;
-    block.push((code / 256) as u8)?;
-    Ok(block)
-}
-
-fn file_fault(place: u64, reason: Reason) -> Result<(), ToolFault> {
-    Err(ToolFault::File(Fault { place, reason }))
-}
-
-#[test]
-fn prints_the_head(rt: HostRuntime) -> Result<(), Fail> {
-    let text = joined(rt.alloc(), &[LINES, BODY])?;
-    for rest in [&[], REST] {
-        let file = joined(rt.alloc(), &[BLOCKS, BODY, rest])?;
-        let (answer, sink) = head_of_bytes(rt.alloc(), &file)?;
-        assert_eq!(rt; answer, Ok(()));
-        assert!(rt; sink.text() == text.as_slice());
-    }
-    Ok(())
+    Ok(good)
 }
 
 #[test]
 fn reads_and_writes_in_any_pieces(rt: HostRuntime) -> Result<(), Fail> {
-    let file = joined(rt.alloc(), &[BLOCKS, BODY, REST])?;
-    let text = joined(rt.alloc(), &[LINES, BODY])?;
-    for step in [1, 2, 7, 200] {
-        let source = Source {
-            bytes: &file,
-            step,
-            fails: false,
-        };
-        let (answer, sink) = head_of(rt.alloc(), source, Sink::new(step, usize::MAX))?;
-        assert_eq!(rt; answer, Ok(()), "in pieces of {step}");
-        assert!(rt; sink.text() == text.as_slice(), "in pieces of {step}");
+    for row in &DONE {
+        assert!(rt; is_done_in_pieces(rt.alloc(), row)?, "{}", row.name);
     }
     Ok(())
 }
 
-#[test]
-fn prints_a_large_head(rt: HostRuntime) -> Result<(), Fail> {
-    let alloc = rt.alloc();
-    let body = vec![in alloc; b'y'; 1 << 20]?;
-    let padding = vec![in alloc; b'x'; 100_000]?;
-    let properties = joined(alloc, &[&padding, b"=\\;length=1048576"])?;
-    let global = block(alloc, 1, GLOBAL_FORMAT, b"")?;
-    let header = block(alloc, 2, b"ntriples", &properties)?;
-    let file = joined(alloc, &[&global, &header, &body, REST])?;
-    let lines: &[u8] =
-        b"global <http://purl.org/HDT/hdt#HDTv1>\nproperties \nheader ntriples\nproperties ";
-    let rest: &[u8] = b"=\\\\;length=1048576\nlength 1048576\n";
-    let text = joined(alloc, &[lines, &padding, rest, &body])?;
-    let request = Request {
-        action: Action::Head,
-        file: String::new(alloc),
-        out: None,
-    };
-    let mut input = Counted::new(Source {
-        bytes: &file,
-        step: 7_000,
-        fails: false,
-    });
-    let mut out = Counted::new(Compared {
-        wanted: &text,
-        same: true,
-    });
-    let mut made = Vec::new(alloc);
-    run(alloc, &request, &mut input, &mut out, &mut made)?;
-    let compared = out.into_inner();
-    assert!(rt; compared.same && compared.wanted.is_empty());
-    Ok(())
+/// Whether a command is stopped by a reader that fails after so many bytes.
+fn is_unread(alloc: Global, row: &Done, len: usize, step: usize) -> Result<bool, Fail> {
+    let action = action_of(alloc, row.command)?;
+    let seen = outcome_of(
+        alloc,
+        action,
+        failing(row.input, len, step),
+        Sink::new(ALL, ALL),
+    )?;
+    Ok(is_stopped(&seen, ToolFault::Read, b"", 0))
+}
+
+/// Whether a command is stopped by a reader that fails after any number of bytes.
+fn is_unread_anywhere(alloc: Global, row: &Done) -> Result<bool, Fail> {
+    let mut good = true;
+    for len in 0..=row.input.len() {
+        good = is_unread(alloc, row, len, 1)? && is_unread(alloc, row, len, ALL)? && good;
+    }
+    Ok(good)
 }
 
 #[test]
 fn a_failing_reader_is_told_and_nothing_is_written(rt: HostRuntime) -> Result<(), Fail> {
-    let file = joined(rt.alloc(), &[BLOCKS, BODY])?;
-    for given in 0..=file.len() {
-        for step in [1, usize::MAX] {
-            let source = Source {
-                bytes: front(&file, given),
-                step,
-                fails: true,
-            };
-            let (answer, sink) = head_of(rt.alloc(), source, Sink::new(usize::MAX, usize::MAX))?;
-            assert_eq!(rt; answer, Err(ToolFault::Read), "after {given} bytes");
-            assert!(rt; sink.text().is_empty(), "after {given} bytes");
-        }
+    for row in &DONE {
+        assert!(rt; is_unread_anywhere(rt.alloc(), row)?, "{}", row.name);
     }
     Ok(())
 }
 
-/// What `hdt head` answers on a reader that is not to be asked behind its end, and the sink after it. What was made
-/// before is to be kept.
-fn head_of_ending(
+/// Whether a command is stopped by a writer that takes at most `step` bytes a call and fails after so many calls, and has then
+/// taken so many bytes.
+fn is_unwritten(
     alloc: Global,
-    bytes: &[u8],
+    row: &Done,
     step: usize,
-    sink: Sink,
-) -> Result<(Result<(), ToolFault>, Sink), Fail> {
-    let request = Request {
-        action: Action::Head,
-        file: String::new(alloc),
-        out: None,
-    };
-    let mut input = Counted::new(Ending {
-        bytes,
-        step,
-        ended: false,
-        late: 0,
-    });
-    let mut out = Counted::new(sink);
-    let mut made = b"x".to_vec(alloc)?;
-    let answer = run(alloc, &request, &mut input, &mut out, &mut made);
-    if answer == Err(ToolFault::OutOfMemory) {
-        return Err(Fail::from(AllocError));
-    }
-    let source = input.into_inner();
-    if !source.ended || source.late > 0 || made.as_slice() != b"x".as_slice() {
-        return Err(Fail::from("not asked to the end, or behind it, or not kept"));
-    }
-    Ok((answer, out.into_inner()))
+    calls: usize,
+    taken: usize,
+) -> Result<bool, Fail> {
+    let action = action_of(alloc, row.command)?;
+    let seen = outcome_of(
+        alloc,
+        action,
+        source_of(row.input, 50),
+        Sink::new(step, calls),
+    )?;
+    Ok(is_stopped(&seen, ToolFault::Write(taken as u64), row.text, taken))
 }
 
-#[test]
-fn a_reader_is_not_asked_behind_its_end(rt: HostRuntime) -> Result<(), Fail> {
-    let alloc = rt.alloc();
-    let mut file = joined(alloc, &[BLOCKS, BODY])?;
-    let text = joined(alloc, &[LINES, BODY])?;
-    // Lengths below, at and above that of the engine's buffer.
-    for len in [file.len(), 65_535, 65_536, 65_537] {
-        file.resize(len, b'x')?;
-        for step in [7, 200, 65_536, usize::MAX] {
-            let all = Sink::new(usize::MAX, usize::MAX);
-            let (answer, sink) = head_of_ending(alloc, &file, step, all)?;
-            assert_eq!(rt; answer, Ok(()), "{len} bytes in pieces of {step}");
-            assert!(rt;
-                sink.text() == text.as_slice(),
-                "{len} bytes in pieces of {step}"
-            );
-            let (answer, sink) = head_of_ending(alloc, &file, step, Sink::new(7, 35))?;
-            assert_eq!(rt;
-                answer,
-                Err(ToolFault::Write(245)),
-                "{len} bytes in pieces of {step}"
-            );
-            assert!(rt;
-                text.starts_with(sink.text()),
-                "{len} bytes in pieces of {step}"
-            );
-        }
+/// Whether a command is stopped by a writer that fails after any number of bytes of the text, and is done by one that takes them all.
+fn is_unwritten_anywhere(alloc: Global, row: &Done) -> Result<bool, Fail> {
+    let mut good = true;
+    for calls in 0..row.text.len() {
+        good = is_unwritten(alloc, row, 1, calls, calls)? && good;
     }
-    for len in [0, 3] {
-        let all = Sink::new(usize::MAX, usize::MAX);
-        let (answer, sink) = head_of_ending(alloc, front(&file, len), 1, all)?;
-        assert_eq!(rt; answer, file_fault(0, Reason::Truncated), "{len} bytes");
-        assert!(rt; sink.text().is_empty(), "{len} bytes");
+    let action = action_of(alloc, row.command)?;
+    let whole = Sink::new(1, row.text.len());
+    let seen = outcome_of(alloc, action, source_of(row.input, 50), whole)?;
+    Ok(good && is_done(&seen, row.text, row.file))
+}
+
+/// Writers that fail behind a part of the head: the bytes a call, the calls, and the bytes that are taken.
+static PARTS: [(usize, usize, usize); 3] = [(7, 35, 245), (250, 1, 250), (0, 9, 0)];
+
+/// Whether a command is stopped by each of these writers.
+fn is_unwritten_in_parts(alloc: Global, row: &Done) -> Result<bool, Fail> {
+    let mut good = true;
+    for (step, calls, taken) in &PARTS {
+        good = is_unwritten(alloc, row, *step, *calls, *taken)? && good;
     }
-    Ok(())
+    Ok(good)
 }
 
 #[test]
 fn a_failing_writer_is_told_with_what_it_took(rt: HostRuntime) -> Result<(), Fail> {
-    let file = joined(rt.alloc(), &[BLOCKS, BODY])?;
-    let text = joined(rt.alloc(), &[LINES, BODY])?;
-    for calls in 0..text.len() {
-        let (answer, sink) = head_on(rt.alloc(), &file, Sink::new(1, calls))?;
-        assert_eq!(rt;
-            answer,
-            Err(ToolFault::Write(calls as u64)),
-            "{calls} calls of 1"
-        );
-        assert_eq!(rt; sink.len, calls);
-        assert!(rt; text.starts_with(sink.text()), "{calls} calls of 1");
+    for row in &DONE {
+        assert!(rt; is_unwritten_anywhere(rt.alloc(), row)?, "{}", row.name);
     }
-    for (step, calls, taken) in [(7, 35, 245), (250, 1, 250), (0, 9, 0)] {
-        let (answer, sink) = head_on(rt.alloc(), &file, Sink::new(step, calls))?;
-        assert_eq!(rt;
-            answer,
-            Err(ToolFault::Write(taken)),
-            "{calls} calls of {step}"
-        );
-        assert_eq!(rt; sink.len as u64, taken);
-        assert!(rt; text.starts_with(sink.text()), "{calls} calls of {step}");
-    }
+    assert!(rt; is_unwritten_in_parts(rt.alloc(), &DONE[0])?, "in parts");
     Ok(())
+}
+
+/// The head of V1 with so many bytes in all.
+fn padded(alloc: Global, len: usize) -> Result<Vec<u8>, AllocError> {
+    let mut file = V1.get(..218).unwrap_or(V1).to_vec(alloc)?;
+    file.resize(len, b'x')?;
+    Ok(file)
+}
+
+/// Whether the head of a file is printed that comes in pieces of one size.
+fn is_head(alloc: Global, file: &[u8], step: usize) -> Result<bool, Fail> {
+    let seen = outcome_of(
+        alloc,
+        Action::Head,
+        source_of(file, step),
+        Sink::new(ALL, ALL),
+    )?;
+    Ok(is_done(&seen, HEAD, b""))
+}
+
+/// Whether a writer that fails behind a part of that head stops it.
+fn is_head_cut(alloc: Global, file: &[u8], step: usize) -> Result<bool, Fail> {
+    let seen = outcome_of(alloc, Action::Head, source_of(file, step), Sink::new(7, 35))?;
+    Ok(is_stopped(&seen, ToolFault::Write(245), HEAD, 245))
+}
+
+/// Whether that is so of a file of this length, whatever pieces it comes in.
+fn is_head_of_long(alloc: Global, len: usize) -> Result<bool, Fail> {
+    let file = padded(alloc, len)?;
+    let mut good = true;
+    for step in [7, 200, 65_536, ALL] {
+        good = is_head(alloc, &file, step)? && is_head_cut(alloc, &file, step)? && good;
+    }
+    Ok(good)
 }
 
 #[test]
-fn a_head_that_is_cut_off_is_truncated(rt: HostRuntime) -> Result<(), Fail> {
-    let file = joined(rt.alloc(), &[BLOCKS, BODY])?;
-    // Where the part begins that each beginning cuts off, and after how many bytes the next one begins.
-    let parts = [
-        (0, 4),
-        (4, 5),
-        (5, 37),
-        (37, 38),
-        (38, 40),
-        (40, 44),
-        (44, 45),
-        (45, 54),
-        (54, 66),
-        (66, 68),
-        (68, 218),
-    ];
-    for (begin, end) in parts {
-        for len in begin..end {
-            let (answer, sink) = head_of_bytes(rt.alloc(), front(&file, len))?;
-            assert_eq!(rt;
-                answer,
-                file_fault(begin as u64, Reason::Truncated),
-                "{len} bytes"
-            );
-            assert!(rt; sink.text().is_empty());
-        }
+fn a_reader_is_not_asked_behind_its_end(rt: HostRuntime) -> Result<(), Fail> {
+    // Lengths below, at and above that of the engine's buffer.
+    for len in [218, 65_535, 65_536, 65_537] {
+        assert!(rt; is_head_of_long(rt.alloc(), len)?, "{len} bytes");
     }
     Ok(())
 }
 
-#[test]
-fn a_changed_byte_is_told_at_its_part(rt: HostRuntime) -> Result<(), Fail> {
-    for (at, byte, place, reason) in [
-        (3, b'U', 0, Reason::NotHdt),
-        (4, 2, 4, Reason::WrongKind),
-        (38, 0x77, 38, Reason::Check16),
-        (39, 0x36, 38, Reason::Check16),
-        (43, b'U', 40, Reason::NotHdt),
-        (44, 3, 44, Reason::WrongKind),
-        (60, b'2', 66, Reason::Check16),
-        (66, 0x0F, 66, Reason::Check16),
-    ] {
-        let mut file = joined(rt.alloc(), &[BLOCKS, BODY])?;
-        if let Some(changed) = file.get_mut(at) {
-            *changed = byte;
-        }
-        let (answer, sink) = head_of_bytes(rt.alloc(), &file)?;
-        assert_eq!(rt; answer, file_fault(place, reason), "{byte} at {at}");
-        assert!(rt; sink.text().is_empty());
-    }
-    Ok(())
-}
+/// Faults of files and documents.
+const CUT_OFF: ToolFault = ToolFault::File(Fault {
+    place: 0,
+    reason: Reason::Truncated,
+});
 
-#[test]
-fn another_format_is_told_at_its_text(rt: HostRuntime) -> Result<(), Fail> {
-    let other_global = block(rt.alloc(), 1, b"<http://purl.org/HDT/hdt#HDTv2>", b"")?;
-    let global = block(rt.alloc(), 1, GLOBAL_FORMAT, b"")?;
-    let header = block(rt.alloc(), 2, b"ntriples", b"length=150;")?;
-    let other_header = block(rt.alloc(), 2, b"turtle", b"length=150;")?;
-    for (global, header, place) in [(&other_global, &header, 5), (&global, &other_header, 45)] {
-        let file = joined(rt.alloc(), &[global, header, BODY])?;
-        let (answer, _) = head_of_bytes(rt.alloc(), &file)?;
-        assert_eq!(rt; answer, file_fault(place, Reason::WrongFormat));
-    }
-    Ok(())
-}
+const NOT_HDT: ToolFault = ToolFault::File(Fault {
+    place: 0,
+    reason: Reason::NotHdt,
+});
 
-#[test]
-fn the_length_is_the_last_one_in_decimal(rt: HostRuntime) -> Result<(), Fail> {
-    let alloc = rt.alloc();
-    for properties in [
-        "length=150",
-        "length=00000000000000000000150;",
-        "length=5;x;length=150",
-        "a=b;length=150;length",
-    ] {
-        let header = block(alloc, 2, b"ntriples", properties.as_bytes())?;
-        let global = block(alloc, 1, GLOBAL_FORMAT, b"")?;
-        let file = joined(alloc, &[&global, &header, BODY, REST])?;
-        let (answer, sink) = head_of_bytes(alloc, &file)?;
-        assert_eq!(rt; answer, Ok(()), "{properties}");
-        let lines = format!(in alloc;
-            "global <http://purl.org/HDT/hdt#HDTv1>\nproperties \nheader ntriples\nproperties {properties}\nlength 150\n"
-        )?;
-        let text = joined(alloc, &[lines.as_bytes(), BODY])?;
-        assert!(rt; sink.text() == text.as_slice(), "{properties}");
-    }
-    Ok(())
-}
+const NO_DOT: ToolFault = ToolFault::Input(LineFault {
+    line: 2,
+    column: 18,
+    reason: LineReason::Syntax,
+});
 
-#[test]
-fn a_length_that_is_no_number_is_told(rt: HostRuntime) -> Result<(), Fail> {
-    let alloc = rt.alloc();
-    for properties in [
-        "",
-        "length",
-        "length=",
-        "length=15a",
-        "length=a50",
-        "length=+150",
-        "length= 150",
-        "length=-1",
-        "Length=150",
-        "length=18446744073709551616",
-        "length=100000000000000000000000000",
-        "length=150;length=",
-    ] {
-        let header = block(alloc, 2, b"ntriples", properties.as_bytes())?;
-        let global = block(alloc, 1, GLOBAL_FORMAT, b"")?;
-        let file = joined(alloc, &[&global, &header, BODY])?;
-        let (answer, _) = head_of_bytes(alloc, &file)?;
-        assert_eq!(rt;
-            answer,
-            file_fault(54, Reason::HeaderLength),
-            "{properties}"
-        );
-    }
-    let header = block(alloc, 2, b"ntriples", b"length=18446744073709551615")?;
-    let global = block(alloc, 1, GLOBAL_FORMAT, b"")?;
-    let file = joined(alloc, &[&global, &header, BODY])?;
-    let (answer, _) = head_of_bytes(alloc, &file)?;
-    assert_eq!(rt; answer, file_fault(84, Reason::Truncated));
-    Ok(())
-}
+const RELATIVE: ToolFault = ToolFault::Input(LineFault {
+    line: 1,
+    column: 13,
+    reason: LineReason::RelativeIri,
+});
 
-#[test]
-fn properties_are_printed_on_one_line(rt: HostRuntime) -> Result<(), Fail> {
-    let alloc = rt.alloc();
-    let global = block(alloc, 1, GLOBAL_FORMAT, b"a\\b=\xFF\n\r;")?;
-    let header = block(alloc, 2, b"ntriples", b"length=3")?;
-    let file = joined(alloc, &[&global, &header, b"\\\n\r"])?;
-    let (answer, sink) = head_of_bytes(alloc, &file)?;
-    assert_eq!(rt; answer, Ok(()));
-    let text =
-        b"global <http://purl.org/HDT/hdt#HDTv1>\nproperties a\\\\b=\xFF\\n\\r;\nheader ntriples\nproperties length=3\nlength 3\n\\\n\r";
-    assert!(rt; sink.text() == text.as_slice());
-    Ok(())
-}
+const BLANK_PREDICATE: ToolFault = ToolFault::Input(LineFault {
+    line: 2,
+    column: 7,
+    reason: LineReason::Syntax,
+});
 
-/// What a command answers on the sample file V1, and the sink after it.
-fn on_sample(alloc: Global, action: Action) -> Result<(Result<(), ToolFault>, Sink), Fail> {
-    let file = joined(alloc, &[BLOCKS, BODY, REST])?;
-    let source = Source {
-        bytes: &file,
-        step: usize::MAX,
-        fails: false,
+const ZERO: ToolFault = ToolFault::Input(LineFault {
+    line: 1,
+    column: 14,
+    reason: LineReason::ZeroCharacter,
+});
+
+/// A build as the samples are built.
+const BUILD: Command = Command::Build(b"http://a/", 16);
+
+/// Commands that are refused: what they read, why, and what they leave of it, where that is looked at.
+static REFUSED: [(Command, &[u8], ToolFault, Option<&[u8]>); 18] = [
+    (Command::Head, b"", CUT_OFF, Some(b"")),
+    (Command::Head, b"$HD", CUT_OFF, Some(b"")),
+    (
+        Command::Build(b"http://a/", 0),
+        LINE,
+        ToolFault::BadOptions,
+        Some(LINE),
+    ),
+    (
+        Command::Build(b"http://a/", 65_536),
+        LINE,
+        ToolFault::BadOptions,
+        Some(LINE),
+    ),
+    (
+        Command::Build(b"http://a/", u32::MAX),
+        LINE,
+        ToolFault::BadOptions,
+        Some(LINE),
+    ),
+    (
+        Command::Build(b"rel", 16),
+        LINE,
+        ToolFault::BadOptions,
+        Some(LINE),
+    ),
+    (
+        Command::Build(b"", 16),
+        LINE,
+        ToolFault::BadOptions,
+        Some(LINE),
+    ),
+    (BUILD, b"", ToolFault::NoTriples, Some(b"")),
+    (BUILD, b"# nothing", ToolFault::NoTriples, Some(b"")),
+    (BUILD, b"\n<u:a> <u:p> <u:o>\n", NO_DOT, None),
+    (BUILD, b"<u:a> <u:p> <o> .\n", RELATIVE, None),
+    (
+        BUILD,
+        b"<u:a> <u:p> <u:o> .\n<u:a> _:p <u:o> .\n",
+        BLANK_PREDICATE,
+        None,
+    ),
+    (BUILD, b"<u:a> <u:p> \"\\u0000\" .\n", ZERO, None),
+    (Command::Rewrite(0), V1, ToolFault::BadOptions, Some(b"")),
+    (
+        Command::Rewrite(65_536),
+        V1,
+        ToolFault::BadOptions,
+        Some(b""),
+    ),
+    (
+        Command::Rewrite(u32::MAX),
+        V1,
+        ToolFault::BadOptions,
+        Some(b""),
+    ),
+    (Command::Rewrite(0), b"", CUT_OFF, Some(b"")),
+    (Command::Rewrite(16), b"$hDT", NOT_HDT, Some(b"")),
+];
+
+/// Whether the command of a row is refused so, with nothing printed and what was made before as it was.
+fn is_refused(alloc: Global, at: usize) -> Result<bool, Fail> {
+    let Some((command, input, fault, left)) = REFUSED.get(at) else {
+        return Ok(false);
     };
-    command_on(alloc, action, source, Sink::new(usize::MAX, usize::MAX))
-}
-
-#[test]
-fn the_sample_is_accepted(rt: HostRuntime) -> Result<(), Fail> {
-    let (answer, sink) = on_sample(rt.alloc(), Action::Verify)?;
-    assert_eq!(rt; answer, Ok(()));
-    assert!(rt; sink.text() == b"ok 1 1 0 1 0\n".as_slice());
-    Ok(())
-}
-
-#[test]
-fn what_was_made_before_is_kept(rt: HostRuntime) -> Result<(), Fail> {
-    let alloc = rt.alloc();
-    let file = joined(alloc, &[BLOCKS, BODY, REST])?;
-    let request = Request {
-        action: Action::Head,
-        file: String::new(alloc),
-        out: None,
+    let action = action_of(alloc, *command)?;
+    let seen = outcome_of(alloc, action, source_of(input, 4), Sink::new(ALL, ALL))?;
+    let is_left = match left {
+        Some(left) => *left == seen.source.bytes,
+        None => true,
     };
-    let mut input = Counted::new(Source {
-        bytes: &file,
-        step: usize::MAX,
-        fails: false,
-    });
-    let mut out = Counted::new(Sink::new(usize::MAX, usize::MAX));
-    let mut made = b"x".to_vec(alloc)?;
-    run(alloc, &request, &mut input, &mut out, &mut made)?;
-    assert!(rt; made.as_slice() == b"x".as_slice());
-    Ok(())
+    Ok(is_left && is_stopped(&seen, *fault, b"", 0))
 }
 
 #[test]
-fn strings_are_listed_and_looked_up(rt: HostRuntime) -> Result<(), Fail> {
-    let alloc = rt.alloc();
-    for role in [Role::Subject, Role::Predicate, Role::Object] {
-        let (answer, sink) = on_sample(alloc, Action::Strings(role))?;
-        assert_eq!(rt; answer, Ok(()), "{role:?}");
-        assert!(rt; sink.text() == b"1\thttp://a/\n".as_slice(), "{role:?}");
-        let (answer, sink) = on_sample(alloc, Action::Nth(role, 1))?;
-        assert_eq!(rt; answer, Ok(()), "{role:?}");
-        assert!(rt; sink.text() == b"http://a/\n".as_slice(), "{role:?}");
-        for number in [0, 2, u64::MAX] {
-            let (answer, sink) = on_sample(alloc, Action::Nth(role, number))?;
-            assert_eq!(rt; answer, Err(ToolFault::NoSuchNumber), "{role:?} {number}");
-            assert!(rt; sink.text().is_empty(), "{role:?} {number}");
-        }
-        let there = b"http://a/".to_vec(alloc)?;
-        let (answer, sink) = on_sample(alloc, Action::Number(role, there))?;
-        assert_eq!(rt; answer, Ok(()), "{role:?}");
-        assert!(rt; sink.text() == b"1\n".as_slice(), "{role:?}");
-        for string in [b"u:z".as_slice(), b"", b"http://a", b"http://a/b"] {
-            let (answer, sink) = on_sample(alloc, Action::Number(role, string.to_vec(alloc)?))?;
-            assert_eq!(rt; answer, Err(ToolFault::NoSuchTerm), "{role:?} {string:?}");
-            assert!(rt; sink.text().is_empty(), "{role:?} {string:?}");
-        }
+fn a_refused_command_makes_nothing(rt: HostRuntime) -> Result<(), Fail> {
+    for at in 0..REFUSED.len() {
+        assert!(rt; is_refused(rt.alloc(), at)?, "row {at}");
+    }
+    Ok(())
+}
+
+/// A literal that no command line can hold, between what stands before and behind it.
+fn with_large(alloc: Global, before: &[u8], behind: &[u8]) -> Result<Vec<u8>, AllocError> {
+    let mut text = before.to_vec(alloc)?;
+    text.resize(before.len().saturating_add(150_000), b'x')?;
+    text.extend_from_slice(behind)?;
+    Ok(text)
+}
+
+/// What is built of a line with that literal.
+fn large_build(alloc: Global) -> Result<Vec<u8>, Fail> {
+    let line = with_large(alloc, b"<u:a> <u:p> \"", b"\" .\n")?;
+    let action = action_of(alloc, Command::Build(b"u:base", 65_535))?;
+    let seen = outcome_of(alloc, action, source_of(&line, 7_000), Sink::new(ALL, ALL))?;
+    if seen.answer != Ok(()) {
+        return Err(Fail::from("not built"));
+    }
+    Ok(file_of(&seen).to_vec(alloc)?)
+}
+
+/// Whether the literal is found in a file, and its triple's numbers are printed.
+fn is_large_found(alloc: Global, file: &[u8]) -> Result<bool, Fail> {
+    let action = Action::Find {
+        given: [None, None, Some(with_large(alloc, b"\"", b"\"")?)],
+        numbers: true,
+    };
+    let seen = outcome_of(alloc, action, source_of(file, 7_000), Sink::new(ALL, ALL))?;
+    Ok(is_done(&seen, b"1 1 1\n", b""))
+}
+
+#[test]
+fn a_large_literal_is_built_and_found(rt: HostRuntime) -> Result<(), Fail> {
+    let file = large_build(rt.alloc())?;
+    assert!(rt; is_large_found(rt.alloc(), &file)?, "not found");
+    Ok(())
+}
+
+const TRUNCATED: Fault = Fault {
+    place: 68,
+    reason: Reason::Truncated,
+};
+
+const TRAILING: Fault = Fault {
+    place: u64::MAX,
+    reason: Reason::TrailingBytes,
+};
+
+const UNUSED: Fault = Fault {
+    place: 319,
+    reason: Reason::Unused,
+};
+
+const NO_END: LineFault = LineFault {
+    line: 20,
+    column: 7,
+    reason: LineReason::Syntax,
+};
+
+/// Faults, and what is told of each: its status, its line, and the text that it has as an error of a library.
+static FAULTS_TOLD: [(ToolFault, u8, &str, &str); 14] = [
+    (
+        ToolFault::File(TRUNCATED),
+        1,
+        "hdt: fault 1 Truncated at 68",
+        "the file has a fault: Truncated at 68",
+    ),
+    (
+        ToolFault::File(TRAILING),
+        1,
+        "hdt: fault 33 TrailingBytes at 18446744073709551615",
+        "the file has a fault: TrailingBytes at 18446744073709551615",
+    ),
+    (
+        ToolFault::File(UNUSED),
+        1,
+        "hdt: fault 34 Unused at 319",
+        "the file has a fault: Unused at 319",
+    ),
+    (
+        ToolFault::Input(NO_END),
+        1,
+        "hdt: line 20 column 7: 1 Syntax",
+        "the input has a fault: Syntax at line 20 column 7",
+    ),
+    (ToolFault::NoTriples, 1, "hdt: no triples", "no triples"),
+    (
+        ToolFault::NoSuchTerm,
+        1,
+        "hdt: no such term",
+        "no such term",
+    ),
+    (
+        ToolFault::NoSuchNumber,
+        1,
+        "hdt: no such number",
+        "no such number",
+    ),
+    (
+        ToolFault::NotATerm(Role::Subject, 1),
+        1,
+        "hdt: subject 1 is not a term",
+        "a string that is not a term: Subject 1",
+    ),
+    (
+        ToolFault::NotATerm(Role::Predicate, u64::MAX),
+        1,
+        "hdt: predicate 18446744073709551615 is not a term",
+        "a string that is not a term: Predicate 18446744073709551615",
+    ),
+    (
+        ToolFault::NotATerm(Role::Object, 20),
+        1,
+        "hdt: object 20 is not a term",
+        "a string that is not a term: Object 20",
+    ),
+    (ToolFault::BadOptions, 2, "hdt: bad options", "bad options"),
+    (ToolFault::Read, 3, "hdt: reading failed", "reading failed"),
+    (
+        ToolFault::Write(7),
+        3,
+        "hdt: writing failed",
+        "writing failed after 7 bytes",
+    ),
+    (
+        ToolFault::OutOfMemory,
+        4,
+        "hdt: out of memory",
+        "out of memory",
+    ),
+];
+
+/// Whether a fault has this status and this line.
+fn is_told(alloc: Global, fault: &ToolFault, status: u8, line: &str) -> Result<bool, AllocError> {
+    let (told_status, told) = fault_line(alloc, fault)?;
+    Ok(told_status == status && told.as_str() == line)
+}
+
+#[test]
+fn faults_are_told_in_a_line(rt: HostRuntime) -> Result<(), Fail> {
+    for (fault, status, line, _) in &FAULTS_TOLD {
+        assert!(rt; is_told(rt.alloc(), fault, *status, line)?, "{line}");
+    }
+    Ok(())
+}
+
+/// Whether a fault has this text as an error of a library.
+fn is_printed(alloc: Global, fault: &ToolFault, text: &str) -> Result<bool, AllocError> {
+    let printed = fault.to_string(alloc)?;
+    Ok(printed.as_str() == text)
+}
+
+#[test]
+fn faults_print_for_a_library(rt: HostRuntime) -> Result<(), Fail> {
+    for (fault, _, _, text) in &FAULTS_TOLD {
+        assert!(rt; is_printed(rt.alloc(), fault, text)?, "{text}");
     }
     Ok(())
 }
