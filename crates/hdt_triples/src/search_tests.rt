@@ -5,7 +5,6 @@ ghost use Rattle.hdt_triples.specs.Views.{bitmap_read};
 
 use super::*;
 use std::alloc::{AllocError, Global};
-use std::process::Abort;
 use std::test::Fail;
 
 /// The matches, collected.
@@ -52,35 +51,71 @@ fn some_of_sixty(alloc: Global) -> Result<Vec<(u64, u64, u64)>, AllocError> {
 }
 
 /// What may be given: nothing, numbers that are there, 0, the count, and one more.
-const GIVEN: [Option<u64>; 6] = [None, Some(0), Some(1), Some(3), Some(5), Some(6)];
+static GIVEN: [Option<u64>; 6] = [None, Some(0), Some(1), Some(3), Some(5), Some(6)];
 
-/// Compares the matches of each pattern with a plain filter.
-fn compare(
-    rt: &impl Abort,
+/// How many patterns have what may be given in each part.
+const PATTERNS: usize = 6 * 6 * 6;
+
+/// The pattern of this number.
+fn pattern_at(i: usize) -> Pattern {
+    Pattern {
+        s: GIVEN[i / 36 % 6],
+        p: GIVEN[i / 6 % 6],
+        o: GIVEN[i % 6],
+    }
+}
+
+/// Whether nothing is given, or this number.
+fn is_given(given: Option<u64>, number: u64) -> bool {
+    match given {
+        Some(wanted) => wanted == number,
+        None => true,
+    }
+}
+
+/// The triples of a list that agree with a pattern, by a plain filter.
+fn filtered(
+    alloc: Global,
+    pattern: Pattern,
+    list: &[(u64, u64, u64)],
+) -> Result<Vec<(u64, u64, u64)>, AllocError> {
+    let mut wanted = Vec::new(alloc);
+    for (s, p, o) in list {
+        if is_given(pattern.s, *s) && is_given(pattern.p, *p) && is_given(pattern.o, *o) {
+            wanted.push((*s, *p, *o))?;
+        }
+    }
+    Ok(wanted)
+}
+
+/// Whether the matches of a pattern are these, collected, one after another and counted.
+fn are_found(
+    alloc: Global,
+    triples: &Triples<'_>,
+    pattern: Pattern,
+    wanted: &[(u64, u64, u64)],
+) -> Result<bool, AllocError> {
+    Ok(
+        collected(alloc, triples, pattern)?.as_slice() == wanted
+            && gathered(alloc, triples, pattern)?.as_slice() == wanted
+            && triples.find(pattern).count() == wanted.len(),
+    )
+}
+
+/// The first pattern whose matches are not those of a plain filter.
+fn wrong_pattern(
     alloc: Global,
     triples: &Triples<'_>,
     list: &[(u64, u64, u64)],
-) -> Result<(), Fail> {
-    for s in GIVEN {
-        for p in GIVEN {
-            for o in GIVEN {
-                let mut wanted = Vec::new(alloc);
-                for triple in list {
-                    if s.is_none_or(|n| n == triple.0)
-                        && p.is_none_or(|n| n == triple.1)
-                        && o.is_none_or(|n| n == triple.2)
-                    {
-                        wanted.push(*triple)?;
-                    }
-                }
-                let pattern = Pattern { s, p, o };
-                assert_eq!(rt; collected(alloc, triples, pattern)?, wanted, "{pattern:?}");
-                assert_eq!(rt; gathered(alloc, triples, pattern)?, wanted, "{pattern:?}");
-                assert_eq!(rt; triples.find(pattern).count(), wanted.len(), "{pattern:?}");
-            }
+) -> Result<Option<Pattern>, AllocError> {
+    for i in 0..PATTERNS {
+        let pattern = pattern_at(i);
+        let wanted = filtered(alloc, pattern, list)?;
+        if !are_found(alloc, triples, pattern, &wanted)? {
+            return Ok(Some(pattern));
         }
     }
-    Ok(())
+    Ok(None)
 }
 
 /// Triples behind nothing, over so many strings a role.
@@ -105,20 +140,29 @@ fn read(bytes: &[u8], count: u64) -> Result<Triples<'_>, Fail> {
     Ok(triples)
 }
 
-#[test]
-fn finds_by_every_pattern(rt: HostRuntime) -> Result<(), Fail> {
-    let alloc = rt.alloc();
-    let list = some_of_sixty(alloc)?;
-    let bytes = written(alloc, &list)?;
-    compare(&rt, alloc, &read(&bytes, 5)?, &list)?;
-    let three = [(1, 1, 2), (1, 2, 3), (2, 1, 1)];
-    let bytes = written(alloc, &three)?;
-    compare(&rt, alloc, &read(&bytes, 3)?, &three)
+/// The same of triples that are written and read again, over so many strings a role.
+fn wrong_when_read(
+    alloc: Global,
+    list: &[(u64, u64, u64)],
+    count: u64,
+) -> Result<Option<Pattern>, Fail> {
+    let bytes = written(alloc, list)?;
+    Ok(wrong_pattern(alloc, &read(&bytes, count)?, list)?)
 }
 
+/// Three triples.
+static THREE: [(u64, u64, u64); 3] = [(1, 1, 2), (1, 2, 3), (2, 1, 1)];
+
 #[test]
-fn finds_among_many(rt: HostRuntime) -> Result<(), Fail> {
-    let alloc = rt.alloc();
+fn finds_by_every_pattern(rt: HostRuntime) -> Result<(), Fail> {
+    let list = some_of_sixty(rt.alloc())?;
+    assert_eq!(rt; wrong_when_read(rt.alloc(), &list, 5)?, None);
+    assert_eq!(rt; wrong_when_read(rt.alloc(), &THREE, 3)?, None);
+    Ok(())
+}
+
+/// 2,000 subjects, each with 5 predicates, each with 12 objects.
+fn many(alloc: Global) -> Result<Vec<(u64, u64, u64)>, AllocError> {
     let mut list = Vec::new(alloc);
     for subject in 1..=2_000_u64 {
         for predicate in 1..=5_u64 {
@@ -127,26 +171,53 @@ fn finds_among_many(rt: HostRuntime) -> Result<(), Fail> {
             }
         }
     }
-    let bytes = written(alloc, &list)?;
+    Ok(list)
+}
+
+/// The pattern that gives nothing.
+const ANY: Pattern = Pattern {
+    s: None,
+    p: None,
+    o: None,
+};
+
+/// Whether the matches of a pattern, collected, are these.
+fn are_collected(
+    alloc: Global,
+    triples: &Triples<'_>,
+    pattern: Pattern,
+    wanted: &[(u64, u64, u64)],
+) -> Result<bool, AllocError> {
+    Ok(collected(alloc, triples, pattern)?.as_slice() == wanted)
+}
+
+#[test]
+fn finds_among_many(rt: HostRuntime) -> Result<(), Fail> {
+    let list = many(rt.alloc())?;
+    let bytes = written(rt.alloc(), &list)?;
     let triples = read(&bytes, 2_000)?;
-    let any = Pattern {
-        s: None,
-        p: None,
-        o: None,
-    };
-    assert!(rt; collected(alloc, &triples, any)? == list, "all");
-    let of_one = Pattern { p: Some(3), ..any };
-    assert_eq!(rt; triples.find(of_one).count(), 24_000);
+    assert!(rt; are_collected(rt.alloc(), &triples, ANY, &list)?, "all");
+    let of_one = Pattern { p: Some(3), ..ANY };
+    assert!(rt; triples.find(of_one).count() == 24_000);
     let last = Pattern {
         s: Some(2_000),
         p: Some(5),
         o: Some(12),
     };
-    assert_eq!(rt;
-        collected(alloc, &triples, last)?.as_slice(),
-        [(2_000, 5, 12)].as_slice()
+    assert!(rt;
+        are_collected(rt.alloc(), &triples, last, &[(2_000, 5, 12)])?,
+        "one"
     );
     Ok(())
+}
+
+/// Whether there is no match, however often it is asked.
+fn are_none(matches: &mut Matches<'_>) -> bool {
+    let mut good = true;
+    for _ in 0..3_u32 {
+        good = good && matches.next().is_none();
+    }
+    good
 }
 
 #[test]
@@ -159,13 +230,7 @@ fn stays_at_its_end(rt: HostRuntime) -> Result<(), Fail> {
         o: None,
     };
     let mut matches = triples.find(of_one);
-    assert_eq!(rt; matches.next(), Some((1, 2, 3)));
-    for _ in 0..3_u32 {
-        assert_eq!(rt; matches.next(), None);
-    }
-    let mut matches = Matches::Empty;
-    for _ in 0..3_u32 {
-        assert_eq!(rt; matches.next(), None);
-    }
+    assert!(rt; matches.next() == Some((1, 2, 3)) && are_none(&mut matches));
+    assert!(rt; are_none(&mut Matches::Empty));
     Ok(())
 }

@@ -2,7 +2,6 @@ use super::*;
 use hdt_seq::{put_bits, put_numbers};
 use hdt_wire::{Fault, Kind, Reason, put_control};
 use std::alloc::{AllocError, Global};
-use std::process::Abort;
 use std::test::Fail;
 
 /// Four sequences, and how many strings each role has.
@@ -73,12 +72,13 @@ fn opened<'a>(bytes: &'a [u8], counts: [u64; 3]) -> Result<(Triples<'a>, usize),
     Ok(read(bytes, counts).ok().ok_or("refused")?)
 }
 
-/// The triples of these indexes are these.
-fn has_rows(rt: &impl Abort, triples: &Triples<'_>, rows: &[(u64, (u64, u64, u64))]) {
+/// Whether the triples of these indexes are these.
+fn has_rows(triples: &Triples<'_>, rows: &[(u64, (u64, u64, u64))]) -> bool {
+    let mut good = true;
     for (j, triple) in rows {
-        assert!(rt; *j < triples.len(), "{j}");
-        assert_eq!(rt; triples.get(*j), *triple, "triple {j}");
+        good = good && *j < triples.len() && triples.get(*j) == *triple;
     }
+    good
 }
 
 /// The triples of [`THREE`], by their indexes.
@@ -88,9 +88,8 @@ static ROWS: [(u64, (u64, u64, u64)); 3] = [(0, (1, 1, 2)), (1, (1, 2, 3)), (2, 
 fn reads_three_triples(rt: HostRuntime) -> Result<(), Fail> {
     let bytes = spelled(rt.alloc(), ORDER, &THREE)?;
     let (triples, end) = opened(&bytes, THREE.counts)?;
-    assert_eq!(rt; Some(end), bytes.len().checked_sub(1));
-    assert_eq!(rt; triples.len(), 3);
-    has_rows(&rt, &triples, &ROWS);
+    assert!(rt; Some(end) == bytes.len().checked_sub(1) && triples.len() == 3);
+    assert!(rt; has_rows(&triples, &ROWS));
     Ok(())
 }
 
@@ -328,30 +327,31 @@ static REFUSED: [(&str, Case, Reason, u64); 19] = [
     ),
 ];
 
+/// Whether the triples of a case, behind these properties, have this fault.
+fn is_refused(
+    alloc: Global,
+    properties: &[u8],
+    case: &Case,
+    reason: Reason,
+    place: u64,
+) -> Result<bool, Fail> {
+    let bytes = spelled(alloc, properties, case)?;
+    Ok(read(&bytes, case.counts).err() == Some(Fault { place, reason }))
+}
+
+/// Properties of which none says the one order.
+static OTHER_ORDERS: [&[u8]; 3] = [b"", b"order=2;", b"order=1;order=01"];
+
 #[test]
 fn refuses_each_row_at_its_place(rt: HostRuntime) -> Result<(), Fail> {
     for (name, case, reason, place) in &REFUSED {
-        let bytes = spelled(rt.alloc(), ORDER, case)?;
-        let fault = read(&bytes, case.counts).err();
-        assert_eq!(rt;
-            fault,
-            Some(Fault {
-                place: *place,
-                reason: *reason
-            }),
+        assert!(rt;
+            is_refused(rt.alloc(), ORDER, case, *reason, *place)?,
             "{name}"
         );
     }
-    for properties in [b"".as_slice(), b"order=2;", b"order=1;order=01"] {
-        let bytes = spelled(rt.alloc(), properties, &THREE)?;
-        let fault = read(&bytes, THREE.counts).err();
-        assert_eq!(rt;
-            fault,
-            Some(Fault {
-                place: 45,
-                reason: Reason::TripleOrder
-            })
-        );
+    for properties in &OTHER_ORDERS {
+        assert!(rt; is_refused(rt.alloc(), properties, &THREE, Reason::TripleOrder, 45)?);
     }
     Ok(())
 }
@@ -381,15 +381,17 @@ static ACCEPTED: [Case; 3] = [
     },
 ];
 
+/// Whether the triples of a case are read, as many as its objects, up to the byte after them.
+fn is_accepted(alloc: Global, case: &Case) -> Result<bool, Fail> {
+    let bytes = spelled(alloc, b"order=2;order=1", case)?;
+    let (triples, end) = opened(&bytes, case.counts)?;
+    Ok(triples.len() == case.zs.len() as u64 && end == bytes.len().wrapping_sub(1))
+}
+
 #[test]
 fn accepts_what_ascends_in_its_group(rt: HostRuntime) -> Result<(), Fail> {
     for case in &ACCEPTED {
-        let bytes = spelled(rt.alloc(), b"order=2;order=1", case)?;
-        let (triples, end) = opened(&bytes, case.counts)?;
-        assert_eq!(rt;
-            (triples.len(), end),
-            (case.zs.len() as u64, bytes.len().wrapping_sub(1))
-        );
+        assert!(rt; is_accepted(rt.alloc(), case)?);
     }
     Ok(())
 }
@@ -444,18 +446,25 @@ static TOO_FEW: [([u64; 3], Reason); 3] = [
     ([100, 10, 99], Reason::ObjectRange),
 ];
 
+/// Whether these triples are refused over each of the counts that are too few.
+fn are_too_few(bytes: &[u8]) -> bool {
+    let mut good = true;
+    for (counts, reason) in &TOO_FEW {
+        good = good
+            && match read(bytes, *counts) {
+                Ok(_) => false,
+                Err(fault) => fault.reason == *reason,
+            };
+    }
+    good
+}
+
 #[test]
 fn reads_many_triples(rt: HostRuntime) -> Result<(), Fail> {
     let bytes = many(rt.alloc())?;
     let (triples, end) = opened(&bytes, [100, 10, 100])?;
-    assert_eq!(rt; (triples.len(), end), (100_000, bytes.len()));
-    has_rows(&rt, &triples, &MANY_ROWS);
-    for (counts, reason) in &TOO_FEW {
-        assert_eq!(rt;
-            read(&bytes, *counts).err().map(|fault| fault.reason),
-            Some(*reason)
-        );
-    }
+    assert!(rt; triples.len() == 100_000 && end == bytes.len());
+    assert!(rt; has_rows(&triples, &MANY_ROWS) && are_too_few(&bytes));
     Ok(())
 }
 
@@ -468,6 +477,6 @@ fn copied<T: Copy>(value: &T) -> T {
 fn triples_are_copied(rt: HostRuntime) -> Result<(), Fail> {
     let bytes = spelled(rt.alloc(), ORDER, &THREE)?;
     let (triples, _) = opened(&bytes, THREE.counts)?;
-    assert_eq!(rt; copied(&triples).len(), 3);
+    assert!(rt; copied(&triples).len() == 3);
     Ok(())
 }

@@ -1,8 +1,7 @@
 use super::*;
 use hdt_seq::{Bits, Numbers};
 use hdt_wire::{Kind, put_control};
-use std::alloc::Global;
-use std::process::Abort;
+use std::alloc::{AllocError, Global};
 use std::test::Fail;
 
 /// What stands before the triples in these tests.
@@ -60,45 +59,43 @@ fn read_again(bytes: &[u8], most: u64) -> Result<(Triples<'_>, usize), Fail> {
     Ok(read.ok().ok_or("refused")?)
 }
 
-/// Compares triples that were read with a list.
-fn compare(rt: &impl Abort, triples: &Triples<'_>, list: &[(u64, u64, u64)]) {
-    assert_eq!(rt; triples.len(), list.len() as u64);
-    for (j, triple) in list.iter().enumerate() {
-        if (j as u64) < triples.len() {
-            assert_eq!(rt; triples.get(j as u64), *triple, "triple {j}");
-        }
+/// Whether triples that were read are those of a list.
+fn are_listed(triples: &Triples<'_>, list: &[(u64, u64, u64)]) -> bool {
+    let mut good = triples.len() == list.len() as u64;
+    for j in 0..triples.len() {
+        good = good && Some(triples.get(j)) == list.get(j as usize).copied();
     }
+    good
 }
 
-/// These triples are written as these sequences behind the block, and are read again.
+/// Whether bytes are these sequences behind the block.
+fn is_spelled(alloc: Global, bytes: &[u8], sequences: &[u8]) -> Result<bool, Fail> {
+    let mut block = BEFORE.to_vec(alloc)?;
+    put_control(Kind::Triples, b"order=1;", &mut block)?;
+    Ok(
+        bytes.strip_prefix(block.as_slice()) == Some(sequences)
+            && block.as_slice().strip_prefix(BEFORE.as_slice()) == Some(BLOCK),
+    )
+}
+
+/// Whether triples are written as these sequences behind the block, and are read again before another byte.
 fn writes_sample(
-    rt: &impl Abort,
     alloc: Global,
-    block: &[u8],
     triples: &[(u64, u64, u64)],
     sequences: &[u8],
-    name: &str,
-) -> Result<(), Fail> {
+) -> Result<bool, Fail> {
     let mut out = written(alloc, triples)?;
-    assert!(rt; out.strip_prefix(block) == Some(sequences), "{name}");
+    let spelled = is_spelled(alloc, &out, sequences)?;
     let end = out.len();
     out.push(0x55)?;
     let (again, stop) = read_again(&out, 3)?;
-    assert_eq!(rt; stop, end, "end of {name}");
-    compare(rt, &again, triples);
-    Ok(())
+    Ok(spelled && stop == end && are_listed(&again, triples))
 }
 
 #[test]
 fn writes_the_samples(rt: HostRuntime) -> Result<(), Fail> {
-    let mut block = BEFORE.to_vec(rt.alloc())?;
-    put_control(Kind::Triples, b"order=1;", &mut block)?;
-    assert!(rt;
-        block.strip_prefix(BEFORE.as_slice()) == Some(BLOCK),
-        "the block"
-    );
     for (name, triples, sequences) in &SAMPLES {
-        writes_sample(&rt, rt.alloc(), &block, triples, sequences, name)?;
+        assert!(rt; writes_sample(rt.alloc(), triples, sequences)?, "{name}");
     }
     Ok(())
 }
@@ -112,28 +109,24 @@ static WIDE: [(u64, u64, u64); 5] = [
     (2, 1, 1),
 ];
 
-/// The bits at this place are these. Where they end.
-fn has_bits(rt: &impl Abort, bytes: &[u8], at: usize, wanted: &[bool]) -> Result<usize, Fail> {
-    let (bits, end) = Bits::read(bytes, at).ok().ok_or("bits")?;
-    assert_eq!(rt; bits.len(), wanted.len() as u64);
-    for (i, mark) in wanted.iter().enumerate() {
-        if (i as u64) < bits.len() {
-            assert_eq!(rt; bits.get(i as u64), *mark, "mark {i} at {at}");
-        }
+/// Where the bits at this place end, if they are these.
+fn end_of_bits(bytes: &[u8], at: usize, wanted: &[bool]) -> Option<usize> {
+    let (bits, end) = Bits::read(bytes, at).ok()?;
+    let mut good = bits.len() == wanted.len() as u64;
+    for i in 0..bits.len() {
+        good = good && Some(bits.get(i)) == wanted.get(i as usize).copied();
     }
-    Ok(end)
+    if good { Some(end) } else { None }
 }
 
-/// The numbers at this place are these. Where they end.
-fn has_numbers(rt: &impl Abort, bytes: &[u8], at: usize, wanted: &[u64]) -> Result<usize, Fail> {
-    let (numbers, end) = Numbers::read(bytes, at).ok().ok_or("numbers")?;
-    assert_eq!(rt; numbers.len(), wanted.len() as u64);
-    for (i, number) in wanted.iter().enumerate() {
-        if (i as u64) < numbers.len() {
-            assert_eq!(rt; numbers.get(i as u64), *number, "number {i} at {at}");
-        }
+/// Where the numbers at this place end, if they are these.
+fn end_of_numbers(bytes: &[u8], at: usize, wanted: &[u64]) -> Option<usize> {
+    let (numbers, end) = Numbers::read(bytes, at).ok()?;
+    let mut good = numbers.len() == wanted.len() as u64;
+    for i in 0..numbers.len() {
+        good = good && Some(numbers.get(i)) == wanted.get(i as usize).copied();
     }
-    Ok(end)
+    if good { Some(end) } else { None }
 }
 
 /// The sequences of [`WIDE`]: the marks of its pairs and of its triples, its predicates and its objects.
@@ -145,15 +138,18 @@ static PREDICATES: [u64; 4] = [1, u64::MAX - 1, u64::MAX, 1];
 
 static OBJECTS: [u64; 5] = [u64::MAX, 1, u64::MAX - 1, u64::MAX, 1];
 
+/// Where these sequences end, if they stand behind the block.
+fn end_of_wide(bytes: &[u8]) -> Option<usize> {
+    let at = end_of_bits(bytes, BEFORE.len() + BLOCK.len(), &PAIR_MARKS)?;
+    let at = end_of_bits(bytes, at, &TRIPLE_MARKS)?;
+    let at = end_of_numbers(bytes, at, &PREDICATES)?;
+    end_of_numbers(bytes, at, &OBJECTS)
+}
+
 #[test]
 fn writes_wide_numbers(rt: HostRuntime) -> Result<(), Fail> {
     let out = written(rt.alloc(), &WIDE)?;
-    let at = BEFORE.len() + BLOCK.len();
-    let at = has_bits(&rt, &out, at, &PAIR_MARKS)?;
-    let at = has_bits(&rt, &out, at, &TRIPLE_MARKS)?;
-    let at = has_numbers(&rt, &out, at, &PREDICATES)?;
-    let end = has_numbers(&rt, &out, at, &OBJECTS)?;
-    assert_eq!(rt; end, out.len());
+    assert!(rt; end_of_wide(&out) == Some(out.len()));
     Ok(())
 }
 
@@ -188,63 +184,101 @@ fn tells_what_can_be_written(rt: HostRuntime) -> Result<(), Fail> {
     Ok(())
 }
 
-#[test]
-fn writes_many_triples(rt: HostRuntime) -> Result<(), Fail> {
-    let alloc = rt.alloc();
-    // 1,000 subjects, each with 1 to 11 predicates, each with 1 to 37 objects.
-    let mut list = Vec::new(alloc);
-    for subject in 1..=1_000_u64 {
-        for predicate in 1..=subject % 11 + 1 {
-            for object in 1..=subject.wrapping_add(predicate) % 37 + 1 {
-                list.push((subject, predicate, object))?;
-            }
+/// Appends the triples of a subject: 1 to 11 predicates, each with 1 to 37 objects.
+fn append_subject(subject: u64, list: &mut Vec<(u64, u64, u64)>) -> Result<(), AllocError> {
+    for predicate in 1..=subject % 11 + 1 {
+        for object in 1..=subject.wrapping_add(predicate) % 37 + 1 {
+            list.push((subject, predicate, object))?;
         }
     }
-    let out = written(alloc, &list)?;
-    let (triples, end) = read_again(&out, 1_000)?;
-    assert_eq!(rt; end, out.len());
-    assert!(rt; list.len() > 100_000, "many");
-    assert_eq!(rt; triples.len(), list.len() as u64);
+    Ok(())
+}
+
+/// The triples of 1,000 subjects.
+fn many(alloc: Global) -> Result<Vec<(u64, u64, u64)>, AllocError> {
+    let mut list = Vec::new(alloc);
+    for subject in 1..=1_000_u64 {
+        append_subject(subject, &mut list)?;
+    }
+    Ok(list)
+}
+
+/// Whether all triples that were read, collected, are those of a list.
+fn are_collected(
+    alloc: Global,
+    triples: &Triples<'_>,
+    list: &[(u64, u64, u64)],
+) -> Result<bool, AllocError> {
     let any = Pattern {
         s: None,
         p: None,
         o: None,
     };
     let again = triples.find(any).collect::<Vec<(u64, u64, u64)>>(alloc)?;
-    assert!(rt; again == list, "read again");
-    Ok(())
+    Ok(again.as_slice() == list)
 }
 
 #[test]
-fn writes_a_subject_each(rt: HostRuntime) -> Result<(), Fail> {
-    let alloc = rt.alloc();
-    // As many pairs as triples, and subjects as triples; behind what is large already.
+fn writes_many_triples(rt: HostRuntime) -> Result<(), Fail> {
+    let list = many(rt.alloc())?;
+    let out = written(rt.alloc(), &list)?;
+    let (triples, end) = read_again(&out, 1_000)?;
+    assert!(rt; end == out.len() && list.len() > 100_000, "many");
+    assert!(rt; triples.len() == list.len() as u64, "as many");
+    assert!(rt; are_collected(rt.alloc(), &triples, &list)?, "read again");
+    Ok(())
+}
+
+/// As many pairs as triples, and subjects as triples.
+fn a_subject_each(alloc: Global) -> Result<Vec<(u64, u64, u64)>, AllocError> {
     let mut list = Vec::new(alloc);
     for subject in 1..=300_000_u64 {
         list.push((subject, subject % 7 + 1, subject % 1_000 + 1))?;
     }
-    assert!(rt; are_writable(&list));
-    let mut out = vec![in alloc; 0x55; 100_000]?;
-    if are_writable(&list) {
-        put_triples(alloc, &list, &mut out)?;
+    Ok(list)
+}
+
+/// Triples behind 100,000 bytes.
+fn written_behind(alloc: Global, list: &[(u64, u64, u64)]) -> Result<Vec<u8>, Fail> {
+    if !are_writable(list) {
+        return Err(Fail::from("not writable"));
     }
-    let most = out.len() as u64;
+    let mut out = vec![in alloc; 0x55; 100_000]?;
+    put_triples(alloc, list, &mut out)?;
+    Ok(out)
+}
+
+/// Whether bytes are all what was there.
+fn are_as_before(bytes: &[u8]) -> bool {
+    for byte in bytes {
+        if *byte != 0x55 {
+            return false;
+        }
+    }
+    true
+}
+
+/// Reads triples behind 100,000 bytes.
+fn read_behind(bytes: &[u8]) -> Result<(Triples<'_>, usize), Fail> {
+    let most = bytes.len() as u64;
     let counts = Counts {
         subjects: most.min(300_000),
         predicates: most.min(7),
         objects: most.min(1_000),
     };
-    let (triples, end) = Triples::read(&out, 100_000, counts).ok().ok_or("refused")?;
-    assert_eq!(rt; end, out.len());
-    let any = Pattern {
-        s: None,
-        p: None,
-        o: None,
-    };
-    let again = triples.find(any).collect::<Vec<(u64, u64, u64)>>(alloc)?;
-    assert!(rt; again == list, "read again");
+    let read = Triples::read(bytes, 100_000, counts);
+    Ok(read.ok().ok_or("refused")?)
+}
+
+#[test]
+fn writes_a_subject_each(rt: HostRuntime) -> Result<(), Fail> {
+    let list = a_subject_each(rt.alloc())?;
+    let out = written_behind(rt.alloc(), &list)?;
+    let (triples, end) = read_behind(&out)?;
+    assert!(rt; end == out.len());
+    assert!(rt; are_collected(rt.alloc(), &triples, &list)?, "read again");
     assert!(rt;
-        out.iter().take(100_000).all(|byte| *byte == 0x55),
+        are_as_before(out.get(..100_000).unwrap_or(&[])),
         "what was there"
     );
     Ok(())
