@@ -6,7 +6,6 @@ use hdt_wire::Counted;
 use std::alloc::{AllocError, Global};
 use std::io;
 use std::io::Read;
-use std::process::Abort;
 use std::test::*;
 
 /// Gives at most `first` bytes at the first call and `step` at each later one, and fails once `fails` bytes are given.
@@ -146,82 +145,123 @@ fn next_by_strings(
     }
 }
 
-/// The dictionary strings of each triple, a line each, and then the end or the fault, which later calls answer again.
-fn strings_told(alloc: Global, limit: u64, input: &mut Counted<Pieces<'_>>) -> Result<Vec<u8>, Fail>
+/// Whether the next call tells this again, which is no triple.
+fn are_strings_told_again(
+    alloc: Global,
+    lines: &mut Lines,
+    input: &mut Counted<Pieces<'_>>,
+    three: &mut Three,
+    told: &[u8],
+) -> Result<bool, Fail> {
+    let mut again = Vec::new(alloc);
+    let is_line = next_by_strings(alloc, lines, input, three, &mut again)?;
+    Ok(!is_line && again.as_slice() == told)
+}
+
+/// Tells the dictionary strings of each triple, a line each, and then the end or the fault. Whether a later call answers
+/// that again.
+fn tell_strings(
+    alloc: Global,
+    lines: &mut Lines,
+    input: &mut Counted<Pieces<'_>>,
+    three: &mut Three,
+    out: &mut Vec<u8>,
+) -> Result<bool, Fail> {
+    for _ in 0..100_u8 {
+        let before = out.len();
+        if !next_by_strings(alloc, lines, input, three, out)? {
+            let told = out.get(before..).unwrap_or(&[]);
+            return are_strings_told_again(alloc, lines, input, three, told);
+        }
+    }
+    Ok(false)
+}
+
+/// Whether this is told of the bytes by dictionary strings.
+fn strings_tell(
+    alloc: Global,
+    limit: u64,
+    input: &mut Counted<Pieces<'_>>,
+    expected: &[u8],
+) -> Result<bool, Fail>
     requires { limit < 2 ^ 63 }
 {
     let mut lines = Lines::new(alloc, limit)?;
     let mut three = three_buffers(alloc)?;
     let mut out = Vec::new(alloc);
-    for _ in 0..100_u8 {
-        let before = out.len();
-        if !next_by_strings(alloc, &mut lines, input, &mut three, &mut out)? {
-            let mut again = Vec::new(alloc);
-            let is_line = next_by_strings(alloc, &mut lines, input, &mut three, &mut again)?;
-            return told_again(out, before, is_line, &again);
-        }
-    }
-    Err("no end")?
+    let told = tell_strings(alloc, &mut lines, input, &mut three, &mut out)?;
+    Ok(told && out.as_slice() == expected)
 }
 
-/// The same by terms.
-fn terms_told(alloc: Global, limit: u64, input: &mut Counted<Pieces<'_>>) -> Result<Vec<u8>, Fail>
+/// Whether the next call, by terms, tells this again, which is no triple.
+fn are_terms_told_again(
+    alloc: Global,
+    lines: &mut Lines,
+    input: &mut Counted<Pieces<'_>>,
+    told: &[u8],
+) -> Result<bool, Fail> {
+    let mut again = Vec::new(alloc);
+    let is_line = next_by_terms(alloc, lines, input, &mut again)?;
+    Ok(!is_line && again.as_slice() == told)
+}
+
+/// Tells the same by terms.
+fn tell_terms(
+    alloc: Global,
+    lines: &mut Lines,
+    input: &mut Counted<Pieces<'_>>,
+    out: &mut Vec<u8>,
+) -> Result<bool, Fail> {
+    for _ in 0..100_u8 {
+        let before = out.len();
+        if !next_by_terms(alloc, lines, input, out)? {
+            let told = out.get(before..).unwrap_or(&[]);
+            return are_terms_told_again(alloc, lines, input, told);
+        }
+    }
+    Ok(false)
+}
+
+/// Whether this is told of the bytes by terms.
+fn terms_tell(
+    alloc: Global,
+    limit: u64,
+    input: &mut Counted<Pieces<'_>>,
+    expected: &[u8],
+) -> Result<bool, Fail>
     requires { limit < 2 ^ 63 }
 {
     let mut lines = Lines::new(alloc, limit)?;
     let mut out = Vec::new(alloc);
-    for _ in 0..100_u8 {
-        let before = out.len();
-        if !next_by_terms(alloc, &mut lines, input, &mut out)? {
-            let mut again = Vec::new(alloc);
-            let is_line = next_by_terms(alloc, &mut lines, input, &mut again)?;
-            return told_again(out, before, is_line, &again);
-        }
-    }
-    Err("no end")?
+    let told = tell_terms(alloc, &mut lines, input, &mut out)?;
+    Ok(told && out.as_slice() == expected)
 }
 
-/// What was told, where its last part, behind so many bytes, is the one that was told again.
-fn told_again(out: Vec<u8>, before: usize, is_line: bool, again: &[u8]) -> Result<Vec<u8>, Fail> {
-    if is_line || out.as_slice().get(before..) != Some(again) {
-        return Err("it is not told again")?;
-    }
-    Ok(out)
-}
-
-/// Both calls tell this of the bytes, in pieces of these sizes.
+/// Whether both calls tell this of the bytes, in pieces of these sizes.
 fn tells(
-    rt: &impl Abort,
     alloc: Global,
     limit: u64,
     bytes: &[u8],
     first: usize,
     step: usize,
     fails: usize,
-    expected: &str,
-) -> Result<(), Fail>
+    expected: &[u8],
+) -> Result<bool, Fail>
     requires { limit < 2 ^ 63 }
 {
-    let strings = strings_told(alloc, limit, &mut input_of(bytes, first, step, fails))?;
-    assert_eq!(rt;
-        strings.as_slice(),
-        expected.as_bytes(),
-        "{first} {step} {expected}"
-    );
-    let terms = terms_told(alloc, limit, &mut input_of(bytes, first, step, fails))?;
-    assert_eq!(rt;
-        terms.as_slice(),
-        expected.as_bytes(),
-        "by terms, {first} {step} {expected}"
-    );
-    Ok(())
+    let mut input = input_of(bytes, first, step, fails);
+    let mut again = input_of(bytes, first, step, fails);
+    Ok(
+        strings_tell(alloc, limit, &mut input, expected)?
+            && terms_tell(alloc, limit, &mut again, expected)?,
+    )
 }
 
 /// Three triples: 58 bytes with their three ends.
 const THREE: &[u8] = b"<u:a> <u:p> <u:b> .\n<u:a> <u:q> \"x\" .\n<u:b> <u:p> <u:a> .\n";
 
 /// Documents, their limits, and what is told of them.
-static DOCUMENTS: [(&[u8], u32, &str); 54] = [
+static DOCUMENTS: [Document; 54] = [
     (b"", 0, "end"),
     (b"\n", 0, "TooLong at line 1 column 0"),
     (b"# nothing", 100, "end"),
@@ -359,7 +399,7 @@ static DOCUMENTS: [(&[u8], u32, &str); 54] = [
 ];
 
 /// Documents that are cut at every place, between CR and LF and within characters too.
-static CUT: [(&[u8], u32, &str); 4] = [
+static CUT: [Document; 4] = [
     (THREE, 58, "u:a u:p u:b\nu:a u:q \"x\"\nu:b u:p u:a\nend"),
     (
         b"<u:b> <u:p> <u:a> .\r\n# note\r\n\r\n<u:a>\t<u:q> \"x\". # x\n \t\n<u:a> <u:p> <u:b> .\r<u:a> <u:p> <u:b> .",
@@ -374,52 +414,69 @@ static CUT: [(&[u8], u32, &str); 4] = [
     ),
 ];
 
+/// A text, the limit of its lines, and what is told of it.
+type Document = (&'static [u8], u32, &'static str);
+
+/// Whether a document is told so in pieces of this size.
+fn is_told(alloc: Global, document: &Document, step: usize) -> Result<bool, Fail> {
+    let (bytes, limit, expected) = *document;
+    tells(
+        alloc,
+        u64::from(limit),
+        bytes,
+        step,
+        step,
+        ALL,
+        expected.as_bytes(),
+    )
+}
+
 #[test]
 fn documents(rt: HostRuntime) -> Result<(), Fail> {
-    for (bytes, limit, expected) in &DOCUMENTS {
-        for step in [1, ALL] {
-            tells(
-                &rt,
-                rt.alloc(),
-                u64::from(*limit),
-                bytes,
-                step,
-                step,
-                ALL,
-                expected,
-            )?;
-        }
+    for document in &DOCUMENTS {
+        let told = is_told(rt.alloc(), document, 1)? && is_told(rt.alloc(), document, ALL)?;
+        assert!(rt; told, "{}", document.2);
     }
     Ok(())
 }
 
-#[test]
-fn cut_documents(rt: HostRuntime) -> Result<(), Fail> {
-    for (bytes, limit, expected) in &CUT {
-        for step in [1, 2, 3, 7, ALL] {
-            tells(
-                &rt,
-                rt.alloc(),
-                u64::from(*limit),
-                bytes,
-                step,
-                step,
-                ALL,
-                expected,
-            )?;
-        }
-        for first in 1..bytes.len() {
-            tells(
-                &rt,
-                rt.alloc(),
-                u64::from(*limit),
+/// Whether a document is told so in pieces of each of these sizes.
+fn is_told_by_pieces(alloc: Global, document: &Document) -> Result<bool, Fail> {
+    let mut good = true;
+    for step in &[1, 2, 3, 7, ALL] {
+        good = good && is_told(alloc, document, *step)?;
+    }
+    Ok(good)
+}
+
+/// Whether a document is told so where it is cut at any one place.
+fn is_told_when_cut(alloc: Global, document: &Document) -> Result<bool, Fail> {
+    let (bytes, limit, expected) = *document;
+    let mut good = true;
+    for first in 1..bytes.len() {
+        good = good
+            && tells(
+                alloc,
+                u64::from(limit),
                 bytes,
                 first,
                 ALL,
                 ALL,
-                expected,
+                expected.as_bytes(),
             )?;
-        }
+    }
+    Ok(good)
+}
+
+#[test]
+fn cut_documents(rt: HostRuntime) -> Result<(), Fail> {
+    for document in &CUT {
+        assert!(rt; is_told_by_pieces(rt.alloc(), document)?, "{}", document.2);
+        assert!(rt;
+            is_told_when_cut(rt.alloc(), document)?,
+            "cut, {}",
+            document.2
+        );
     }
     Ok(())
 }
@@ -438,12 +495,22 @@ static FAILING: [(usize, &str); 7] = [
     ),
 ];
 
+/// Whether this is told of a reader that fails once so many bytes are given, in pieces of each of these sizes.
+fn is_told_of_failing(alloc: Global, fails: usize, expected: &str) -> Result<bool, Fail> {
+    let mut good = true;
+    for step in &[1, 2, 7, ALL] {
+        good = good && tells(alloc, 100, THREE, *step, *step, fails, expected.as_bytes())?;
+    }
+    Ok(good)
+}
+
 #[test]
 fn failing_readers(rt: HostRuntime) -> Result<(), Fail> {
     for (fails, expected) in &FAILING {
-        for step in [1, 2, 7, ALL] {
-            tells(&rt, rt.alloc(), 100, THREE, step, step, *fails, expected)?;
-        }
+        assert!(rt;
+            is_told_of_failing(rt.alloc(), *fails, expected)?,
+            "{fails} bytes"
+        );
     }
     Ok(())
 }
@@ -463,58 +530,81 @@ fn three_read(alloc: Global, limit: u64, step: usize) -> Result<Vec<Triple>, Lin
     read_document(alloc, limit, &mut input_of(THREE, step, step, ALL))
 }
 
-/// The subjects of these triples have these strings. The triples, copied.
-fn copied(
-    rt: &impl Abort,
+/// Whether the subjects of these triples have these strings.
+fn have_subjects(
     alloc: Global,
     triples: &[Triple],
     subjects: &[&[u8]],
-) -> Result<Vec<Triple>, AllocError> {
-    let mut again = Vec::new(alloc);
+) -> Result<bool, AllocError> {
+    let mut good = triples.len() == subjects.len();
     for (subject, triple) in subjects.iter().zip(triples) {
-        assert_eq!(rt; term_string(alloc, &triple.s)?.as_slice(), *subject);
+        good = good && term_string(alloc, &triple.s)?.as_slice() == *subject;
+    }
+    Ok(good)
+}
+
+/// The triples, copied.
+fn copied(alloc: Global, triples: &[Triple]) -> Result<Vec<Triple>, AllocError> {
+    let mut again = Vec::new(alloc);
+    for triple in triples {
         again.push(triple.clone()?)?;
     }
     Ok(again)
 }
 
+/// Whether their copies equal the triples, and the last doesn't equal the first.
+fn are_compared(alloc: Global, triples: &[Triple]) -> Result<bool, AllocError> {
+    let again = copied(alloc, triples)?;
+    Ok(again.as_slice() == triples && triples.first() != triples.last())
+}
+
 /// The subjects of [`THREE`].
 static SUBJECTS: [&[u8]; 3] = [b"u:a", b"u:a", b"u:b"];
 
-/// The triples of [`THREE`].
-fn whole_document(rt: &impl Abort, alloc: Global, step: usize) -> Result<(), Fail> {
+/// Whether the triples of [`THREE`] are read in pieces of this size.
+fn is_read_whole(alloc: Global, step: usize) -> Result<bool, Fail> {
     let triples = three_read(alloc, 58, step)?;
-    assert_eq!(rt; triples.len(), 3);
-    let again = copied(rt, alloc, &triples, &SUBJECTS)?;
-    assert!(rt; again == triples);
-    assert!(rt; triples.first() != triples.last());
-    Ok(())
+    Ok(have_subjects(alloc, &triples, &SUBJECTS)? && are_compared(alloc, &triples)?)
+}
+
+/// Whether [`THREE`] is too long for a limit of a byte less.
+fn is_too_long(alloc: Global, step: usize) -> Result<bool, Fail> {
+    let fault = but_memory(three_read(alloc, 57, step).err())?;
+    let wanted = LineFault {
+        line: 3,
+        column: 0,
+        reason: LineReason::TooLong,
+    };
+    Ok(fault == Some(wanted))
 }
 
 #[test]
 fn whole_documents(rt: HostRuntime) -> Result<(), Fail> {
-    for step in [1, 3, ALL] {
-        whole_document(&rt, rt.alloc(), step)?;
-        let fault = but_memory(three_read(rt.alloc(), 57, step).err())?;
-        let wanted = LineFault {
-            line: 3,
-            column: 0,
-            reason: LineReason::TooLong,
-        };
-        assert_eq!(rt; fault, Some(wanted));
+    for step in &[1, 3, ALL] {
+        assert!(rt; is_read_whole(rt.alloc(), *step)?, "pieces of {step}");
+        assert!(rt;
+            is_too_long(rt.alloc(), *step)?,
+            "too long in pieces of {step}"
+        );
     }
     Ok(())
 }
 
-#[test]
-fn many_triples(rt: HostRuntime) -> Result<(), Fail> {
-    let alloc = rt.alloc();
+/// [`THREE`] 2,000 times.
+fn three_repeated(alloc: Global) -> Result<Vec<u8>, AllocError> {
     let mut bytes = Vec::new(alloc);
     for _ in 0..2_000_u16 {
         bytes.extend_from_slice(THREE)?;
     }
-    let triples = read_document(alloc, 10_000_000, &mut input_of(&bytes, ALL, ALL, ALL))?;
-    assert_eq!(rt; triples.len(), 6_000);
+    Ok(bytes)
+}
+
+#[test]
+fn many_triples(rt: HostRuntime) -> Result<(), Fail> {
+    let bytes = three_repeated(rt.alloc())?;
+    let mut input = input_of(&bytes, ALL, ALL, ALL);
+    let triples = read_document(rt.alloc(), 10_000_000, &mut input)?;
+    assert!(rt; triples.len() == 6_000);
     Ok(())
 }
 
@@ -543,24 +633,29 @@ static LARGE: [(&[u8], &[u8], &[u8], &[u8]); 6] = [
     (b"\"\\u00e9", b"\\t\"", b"\"\xC3\xA9", b"\t\""),
 ];
 
-/// The text spells the term of the string, which is spelled again and copied.
-fn large_term(rt: &impl Abort, alloc: Global, text: &[u8], string: &[u8]) -> Result<(), Fail> {
-    let term = parse_term(alloc, text)?;
-    assert!(rt; term_string(alloc, &term)?.as_slice() == string);
-    assert!(rt; string_term(alloc, string)? == term);
-    assert!(rt; term.clone()? == term);
-    let mut spelled = Vec::new(alloc);
-    put_term(&term, &mut spelled)?;
-    assert!(rt; parse_term(alloc, &spelled)? == term);
-    Ok(())
+/// Whether a term has this string, and the string that term.
+fn is_large_string(alloc: Global, term: &Term, string: &[u8]) -> Result<bool, Fail> {
+    Ok(term_string(alloc, term)?.as_slice() == string && string_term(alloc, string)? == *term)
 }
 
-/// The text spells the term of the string, with no term on the way.
-fn large_string(rt: &impl Abort, alloc: Global, text: &[u8], string: &[u8]) -> Result<(), Fail> {
+/// Whether a term is copied, and read again as it is spelled.
+fn is_large_again(alloc: Global, term: &Term) -> Result<bool, Fail> {
+    let mut spelled = Vec::new(alloc);
+    put_term(term, &mut spelled)?;
+    Ok(parse_term(alloc, &spelled)? == *term && term.clone()? == *term)
+}
+
+/// Whether the text spells the term of the string.
+fn is_large_term(alloc: Global, text: &[u8], string: &[u8]) -> Result<bool, Fail> {
+    let term = parse_term(alloc, text)?;
+    Ok(is_large_string(alloc, &term, string)? && is_large_again(alloc, &term)?)
+}
+
+/// Whether the text spells the term of the string, with no term on the way.
+fn is_large_text(alloc: Global, text: &[u8], string: &[u8]) -> Result<bool, Fail> {
     let mut out = Vec::new(alloc);
     parse_string(text, &mut out)?;
-    assert!(rt; out.as_slice() == string);
-    Ok(())
+    Ok(out.as_slice() == string)
 }
 
 /// One line of 100,000 bytes and more, with the text as its object, and one behind it.
@@ -578,34 +673,29 @@ fn large_told(alloc: Global, string: &[u8]) -> Result<Vec<u8>, AllocError> {
     Ok(told)
 }
 
-/// Both calls tell this of the lines, in pieces of this size.
-fn large_lines_told(
-    rt: &impl Abort,
-    alloc: Global,
-    lines: &[u8],
-    told: &[u8],
-    step: usize,
-) -> Result<(), Fail> {
-    let strings = strings_told(alloc, 1_000_000, &mut input_of(lines, step, step, ALL))?;
-    assert!(rt; strings.as_slice() == told, "{step}");
-    let terms = terms_told(alloc, 1_000_000, &mut input_of(lines, step, step, ALL))?;
-    assert!(rt; terms.as_slice() == told, "by terms, {step}");
-    Ok(())
+/// Whether both calls tell this of the lines, in pieces of each of these sizes.
+fn are_large_lines(alloc: Global, lines: &[u8], told: &[u8]) -> Result<bool, Fail> {
+    Ok(
+        tells(alloc, 1_000_000, lines, 1000, 1000, ALL, told)?
+            && tells(alloc, 1_000_000, lines, ALL, ALL, ALL, told)?,
+    )
+}
+
+/// Whether lines with the text are told, where it spells the term of the string.
+fn is_large_line(alloc: Global, text: &[u8], string: &[u8]) -> Result<bool, Fail> {
+    let lines = large_lines(alloc, text)?;
+    let told = large_told(alloc, string)?;
+    are_large_lines(alloc, &lines, &told)
 }
 
 #[test]
 fn large_terms(rt: HostRuntime) -> Result<(), Fail> {
-    let alloc = rt.alloc();
     for (front, back, string_front, string_back) in &LARGE {
-        let text = repeated(alloc, front, b'b', 100_000, back)?;
-        let string = repeated(alloc, string_front, b'b', 100_000, string_back)?;
-        large_term(&rt, alloc, &text, &string)?;
-        large_string(&rt, alloc, &text, &string)?;
-        let lines = large_lines(alloc, &text)?;
-        let told = large_told(alloc, &string)?;
-        for step in [1000, ALL] {
-            large_lines_told(&rt, alloc, &lines, &told, step)?;
-        }
+        let text = repeated(rt.alloc(), front, b'b', 100_000, back)?;
+        let string = repeated(rt.alloc(), string_front, b'b', 100_000, string_back)?;
+        assert!(rt; is_large_term(rt.alloc(), &text, &string)?, "by a term");
+        assert!(rt; is_large_text(rt.alloc(), &text, &string)?, "with no term");
+        assert!(rt; is_large_line(rt.alloc(), &text, &string)?, "in a line");
     }
     Ok(())
 }
@@ -645,35 +735,54 @@ fn column_of(text: &[u8], out: &mut Vec<u8>) -> Result<Option<u64>, TermFault> {
     }
 }
 
-/// A run of this length gives a term whose string has this end, or a fault right behind the run.
-fn plain_run(
-    rt: &impl Abort,
+/// Whether the buffer has the string of a term with this front and this end, with a run of this length between them.
+fn is_run(
+    alloc: Global,
+    out: &[u8],
+    front: &[u8],
+    times: u8,
+    end: &[u8],
+) -> Result<bool, AllocError> {
+    let string = repeated(alloc, begin_of(front), b'b', usize::from(times), end)?;
+    Ok(out == string.as_slice())
+}
+
+/// Whether a run of this length gives a term whose string has this end, or a fault right behind the run.
+fn is_plain_run(
     alloc: Global,
     front: &[u8],
     back: &[u8],
     end: Option<&[u8]>,
     times: u8,
-) -> Result<(), Fail> {
+) -> Result<bool, Fail> {
     let text = repeated(alloc, front, b'b', usize::from(times), back)?;
     let mut out = Vec::new(alloc);
     let column = column_of(&text, &mut out)?;
     match end {
-        Some(end) => {
-            let string = repeated(alloc, begin_of(front), b'b', usize::from(times), end)?;
-            assert_eq!(rt; column, None, "{times}");
-            assert!(rt; out == string, "{times}");
-        }
-        None => assert_eq!(rt; column, Some(4 + u64::from(times)), "{times}"),
+        Some(end) => Ok(column.is_none() && is_run(alloc, &out, front, times, end)?),
+        None => Ok(column == Some(4 + u64::from(times))),
     }
-    Ok(())
+}
+
+/// The first length of a run at which it does not.
+fn wrong_run(
+    alloc: Global,
+    front: &[u8],
+    back: &[u8],
+    end: Option<&[u8]>,
+) -> Result<Option<u8>, Fail> {
+    for times in 0..=70_u8 {
+        if !is_plain_run(alloc, front, back, end, times)? {
+            return Ok(Some(times));
+        }
+    }
+    Ok(None)
 }
 
 #[test]
 fn plain_runs(rt: HostRuntime) -> Result<(), Fail> {
     for (front, back, end) in &RUNS {
-        for times in 0..=70_u8 {
-            plain_run(&rt, rt.alloc(), front, back, *end, times)?;
-        }
+        assert_eq!(rt; wrong_run(rt.alloc(), front, back, *end)?, None);
     }
     Ok(())
 }
