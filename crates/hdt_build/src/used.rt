@@ -9,6 +9,7 @@ ghost use Rattle.hdt_build.specs.Used.{AreAllUsed, places_at};
 use crate::lists::Lists;
 use hdt_dict::{Arena, Role};
 use hdt_file::Graph;
+use hdt_seq::Steps;
 use hdt_triples::Pattern;
 use std::alloc::{AllocError, Global};
 
@@ -31,9 +32,10 @@ fn used_strings(
     let mut used = Arena::new(alloc)?;
     let mut places = Vec::new(alloc);
     let mut strings = graph.strings(alloc, role);
+    let mut steps = Steps::new();
     'strings: while let Some(number) = strings.next()? {
         places.push(used.len() as u64)?;
-        if graph.uses(role, number) {
+        if graph.uses(role, number, &mut steps) {
             used.push(strings.last())?;
         }
     }

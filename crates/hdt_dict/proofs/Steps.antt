@@ -26,6 +26,10 @@ empty w r b e f g = ended_by w.ahead r e (f ∙ ap not g)
 pub stays : (w v : Way) → w.ahead ≡ [] → v ≡ further w → v ≡ w
 stays w v e f = f ∙ ap (further_by w) e
 
+pub no_strings : (ps : List Placed) → strings ps ≡ [] → ps ≡ []
+no_strings [] e = refl
+no_strings (p ∷ ps) e = absurd cc
+
 -- ---- the section behind it
 
 pub behind : (w u : Way) (s : Section) → w.ahead ≡ [] → u ≡ record { last = []; ahead = placed_of s } → strings w.ahead ++ strings_of s ≡ strings u.ahead

@@ -9,7 +9,7 @@ use Rattle.hdt_wire.specs.declared.control.Kind.TheVariants as kinds
 use Rattle.hdt_wire.specs.Rows.{◌>>=◌, demand}
 use Rattle.hdt_wire.specs.Control.{Block, IsBlock, control_at}
 use Rattle.hdt_wire.specs.ExactItems.{rows_from}
-use Rattle.hdt_front.specs.Section.{SectionParts, IsSection, string_place, section_at}
+use Rattle.hdt_front.specs.Section.{SectionParts, IsSection, string_place, section_at, PackedParts, packed_parts_at}
 use Rattle.hdt_dict.specs.Strings.{has}
 use Rattle.hdt_wire.specs.declared.role.Role.{Role}
 use Rattle.hdt_wire.specs.declared.role.Role.TheVariants.{Subject, Predicate, Object}
@@ -71,3 +71,9 @@ dictionary_at bytes at = do
   _ ← apart_at shared.strings subjects
   _ ← apart_at (shared.strings ++ subjects.strings) objects
   Ok (record { shared = shared; subjects = subjects; predicates = predicates; objects = objects })
+
+-- those of them that stand above all strings: the control block, and the first section down to its strings
+unfoldable pub rows_above_strings : List ℕ → ℕ → Result PackedParts Fault
+rows_above_strings bytes at = do
+  control ← control_at kinds.Dictionary bytes at
+  packed_parts_at bytes control.end

@@ -1,6 +1,7 @@
 -- What a `Dictionary` stands for.
-use Rattle.std.specs.Prelude.{ℕ, ◌+◌, max}
-use Rattle.hdt_front.specs.Strings.{section_of, looks, block_size}
+use Rattle.std.specs.Prelude.{ℕ, ◌+◌, ◌-◌, ◌&&◌, nat_le, cond, length, max}
+use Rattle.hdt_front.specs.Strings.{strings_of, section_of, looks, block_size, block_bytes}
+use Rattle.hdt_front.specs.declared.section.Section.{Section}
 use Rattle.hdt_wire.specs.declared.role.Role.{Role}
 use Rattle.hdt_wire.specs.declared.role.Role.TheVariants.{Subject, Predicate, Object}
 use Rattle.hdt_dict.specs.declared.dictionary.Dictionary.{Dictionary}
@@ -23,3 +24,18 @@ unfoldable pub role_block : Dictionary → Role → ℕ
 role_block d Subject = max (block_size d.shared) (block_size d.subjects)
 role_block d Predicate = block_size d.predicates
 role_block d Object = max (block_size d.shared) (block_size d.objects)
+
+-- ---- what looking a string up reads
+
+-- how many packed bytes the block of string n has, from 1; where there is no such string, none
+abbrev pub string_block : Section → ℕ → ℕ
+string_block s n = cond (nat_le 1 n && nat_le n (length (strings_of s))) (block_bytes s (n - 1)) 0
+
+-- the same of two sections, one after the other
+abbrev pub string_block_of_two : Section → Section → ℕ → ℕ
+string_block_of_two a b n = cond (nat_le n (length (strings_of a))) (string_block a n) (string_block b (n - length (strings_of a)))
+
+unfoldable pub role_string_block : Dictionary → Role → ℕ → ℕ
+role_string_block d Subject n = string_block_of_two d.shared d.subjects n
+role_string_block d Predicate n = string_block d.predicates n
+role_string_block d Object n = string_block_of_two d.shared d.objects n

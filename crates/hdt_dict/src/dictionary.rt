@@ -1,16 +1,18 @@
 //! A dictionary that was read: four sections, and the numbers of their strings by role.
-ghost use Rattle.std.specs.Prelude.{◌≡◌, ◌<◌, ◌≤◌, ◌+◌, ◌-◌, ◌^◌, ◌↔◌, ◌++◌, ◌∷◌, [], ℕ, length, Ok, Some, None, IsOk, OnErr, IfOk};
+ghost use Rattle.std.specs.Prelude.{◌≡◌, ◌<◌, ◌≤◌, ◌+◌, ◌-◌, ◌^◌, ◌↔◌, ◌++◌, ◌∷◌, [], ℕ, length, Ok, Err, Some, None, IsOk, OnErr, IfOk};
 ghost use Rattle.hdt_wire.specs.Rows.{Gives};
+ghost use Rattle.hdt_wire.specs.declared.fault.Fault.{Fault as FaultIs};
+ghost use Rattle.hdt_front.specs.declared.fault.ReadFault.TheVariants.{Fault as FaultOf};
 ghost use Rattle.hdt_front.specs.Faults.{fault_of};
 ghost use Rattle.hdt_front.specs.Numbering.{place};
 ghost use Rattle.hdt_front.specs.Strings.{strings_of, section_of};
 ghost use Rattle.hdt_front.specs.Section.{AreStrings, string_place};
-ghost use Rattle.hdt_dict.specs.Dictionary.{AreApart, DictionaryParts, IsDictionary, terms, section_number, apart_at, dictionary_at};
+ghost use Rattle.hdt_dict.specs.Dictionary.{AreApart, DictionaryParts, IsDictionary, terms, section_number, apart_at, dictionary_at, rows_above_strings};
 ghost use Rattle.hdt_dict.specs.Numbered.{numbered, Appends};
 ghost use Rattle.hdt_wire.specs.declared.role.Role.{Role};
 
 use crate::apart::{check_objects, check_subjects};
-use crate::two::{number_in_two, string_in_one, string_in_two};
+use crate::two::{block_in_one, block_in_two, number_in_two, string_in_one, string_in_two};
 use hdt_front::{ReadFault, Section};
 use hdt_seq::Steps;
 use hdt_wire::{Kind, Role, read_control};
@@ -36,16 +38,17 @@ pub struct Dictionary<'a> {
 }
 
 impl<'a> Dictionary<'a> {
-    ghost use Rattle.hdt_dict.specs.Views.{dictionary_of, role_looks, role_block};
+    ghost use Rattle.hdt_dict.specs.Views.{dictionary_of, role_looks, role_block, role_string_block};
 
     /// Reads by rows.
-    #[tactic(auto, unfolding(crate::specs::Dictionary::dictionary_at, crate::specs::Views::dictionary_of, hdt_front::specs::Strings::section_of, hdt_wire::specs::Control::block_of))]
+    #[tactic(auto, unfolding(crate::specs::Dictionary::dictionary_at, crate::specs::Dictionary::rows_above_strings, crate::specs::Views::dictionary_of, hdt_front::specs::Strings::section_of, hdt_wire::specs::Control::block_of))]
     fn read_rows(
         alloc: Global,
         bytes: &'a [u8],
         at: usize,
     ) -> Result<(Dictionary<'a>, usize), ReadFault>
         ensures exact { Gives fault_of (λ r. dictionary_of r.0) result (dictionary_at bytes.now at) }
+        ensures without_memory { (f : FaultIs) → rows_above_strings bytes.now at ≡ Err f → result ≡ Err (FaultOf f) }
         ensures next { IfOk result (λ r. r.1 ≡ (dictionary_of r.0).objects.end) }
         ensures few { IfOk result (λ r. (role : Role) → length (terms (dictionary_of r.0) role) ≤ length bytes.now) }
         ensures end { IfOk result (λ r. (at < r.1) × (r.1 ≤ length bytes.now)) }
@@ -85,6 +88,8 @@ impl<'a> Dictionary<'a> {
         ensures only { (d : DictionaryParts) → IsDictionary d bytes.now at → Gives fault_of (λ r. dictionary_of r.0) result (Ok d) }
         // Otherwise it is the one fault that stands.
         ensures exact { Gives fault_of (λ r. dictionary_of r.0) result (dictionary_at bytes.now at) }
+        // A fault that stands above all strings is answered without memory.
+        ensures without_memory { (f : FaultIs) → rows_above_strings bytes.now at ≡ Err f → result ≡ Err (FaultOf f) }
         ensures next { IfOk result (λ r. r.1 ≡ (dictionary_of r.0).objects.end) }
         // A role has at most as many strings as the input has bytes.
         ensures few { IfOk result (λ r. (role : Role) → length (terms (dictionary_of r.0) role) ≤ length bytes.now) }
@@ -185,6 +190,19 @@ impl<'a> Dictionary<'a> {
             Role::Subject => string_in_two(&self.shared, &self.subjects, n, out, steps),
             Role::Predicate => string_in_one(&self.predicates, n, out, steps),
             Role::Object => string_in_two(&self.shared, &self.objects, n, out, steps),
+        }
+    }
+
+    /// How many packed bytes the block of string n of a role has, numbers from 1: looking the string up reads so many at
+    /// most. Where there is no such string it is 0. It takes two looks, and no memory.
+    #[tactic(auto, unfolding(crate::specs::Views::role_string_block))]
+    pub fn block_len(&self, role: Role, n: u64) -> u64
+        ensures { result ≡ role_string_block self.now role n }
+    {
+        match role {
+            Role::Subject => block_in_two(&self.shared, &self.subjects, n),
+            Role::Predicate => block_in_one(&self.predicates, n),
+            Role::Object => block_in_two(&self.shared, &self.objects, n),
         }
     }
 

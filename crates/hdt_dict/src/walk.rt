@@ -1,5 +1,5 @@
 //! The strings of a role, given one after another.
-ghost use Rattle.std.specs.Prelude.{◌≡◌, [], OnOk, OnErr, IfOk};
+ghost use Rattle.std.specs.Prelude.{◌≡◌, [], IsOk, OnOk, OnErr, IfOk};
 ghost use Rattle.hdt_dict.specs.Dictionary.{terms};
 ghost use Rattle.hdt_dict.specs.Views.{dictionary_of};
 ghost use Rattle.hdt_dict.specs.Walking.{stepped, next_number};
@@ -65,11 +65,13 @@ impl<'a> Strings<'a> {
         self.walk.last()
     }
 
-    /// Unfolds the next string, and answers its number; at the end None. Where memory is refused, nothing moves.
+    /// Unfolds the next string, and answers its number; at the end None, which takes no memory. Where memory is refused,
+    /// nothing moves.
     pub fn next(&mut self) -> Result<Option<u64>, AllocError>
         ensures number { IfOk result (λ r. r ≡ next_number self.old self.old.ahead) }
         ensures ok { OnOk result (self.new ≡ stepped self.old) }
         ensures err { OnErr result (self.new ≡ self.old) }
+        ensures ended { self.old.ahead ≡ [] → IsOk result }
     {
         if self.walk.next()?.is_some() {
             self.given += 1;

@@ -1,7 +1,7 @@
 -- Pieces of lines of all strings of a role, and lines made of them.
-use Rattle.std.proofs.Common.{◌≡◌, ℕ, zero, suc, ◌+◌, List, [], ◌∷◌, ◌++◌, ◌<◌, length, map, get_or, true, Option, Some, refl, sym, ap, ◌∙◌, append_assoc, append-nil, subst, inl, inr, arith}
+use Rattle.std.proofs.Common.{◌≡◌, ℕ, zero, suc, ◌+◌, ◌<◌, ◌≤◌, Bool, true, List, [], ◌∷◌, ◌++◌, length, map, set, get_or, take, drop, Option, Some, refl, sym, ap, ◌∙◌, append_assoc, append-nil, subst, inl, inr, arith}
 use Rattle.std.specs.Option.{unwrap_or}
-use Rattle.std.proofs.lemmas.List.{get_or-map, length-append, length-map}
+use Rattle.std.proofs.lemmas.List.{get_or-drop, get_or-map, get_or-take, length-append, length-drop, length-map, length-take}
 use Rattle.hdt_dict.specs.Arena.{AreStarts, texts}
 use Rattle.hdt_dict.specs.ArenaLaws.{none, none_starts, starts_push, texts_push}
 use Rattle.hdt_dict.specs.Numbered.{numbered}
@@ -16,7 +16,7 @@ use Rattle.hdt_triples.specs.Counting.{Triple}
 use Rattle.hdt_file.specs.File.{GraphParts}
 use Rattle.hdt_triples.specs.Uses.{part}
 use Rattle.hdt_file.specs.Denoted.{string_of, strings_of}
-use Rattle.hdt_file.specs.Pieces.{behind, IsPiece, ArePieces, AreTables, AppendsPiece, GrowsByPiece, piece_in, piece_of}
+use Rattle.hdt_file.specs.Pieces.{behind, is_marked, IsPiece, ArePieces, ArePiecesFor, AreTables, AppendsPiece, GrowsByMarked, GrowsByPiece, HasPieces, piece_in, piece_of}
 use Rattle.hdt_file.specs.Text.{HasTerm, HasNoTerm, IsBefore, IsFirstOf}
 use Rattle.hdt_file.specs.TextWriting.{AppendsTerm, AppendsLine, TellsString, TellsFirstOf}
 use Rattle.hdt_file.specs.declared.fault.DumpFault.{DumpFault}
@@ -63,23 +63,71 @@ pub piece_appended : (role : Role) (string piece old new : List ℕ) → (length
 piece_appended role string piece old new some (inl h) e = record { term = h.0; is = h.1; grown = e ∙ ap (λ (x : List ℕ). old ++ x) h.2 }
 piece_appended role string piece old new some (inr h) e = absurd (some (ap length h.0))
 
--- the piece of string n
-at : (role : Role) (strings pieces : List (List ℕ)) (n : ℕ) → ArePieces role strings pieces → IsPiece role (unwrap_or (numbered strings n) []) (piece_in pieces n)
-at role strings pieces zero h = inr (refl, empty_none role)
-at role [] [] (suc i) h = inr (refl, empty_none role)
-at role [] (y ∷ ys) (suc i) h = absurd h
-at role (x ∷ xs) [] (suc i) h = absurd h
-at role (x ∷ xs) (y ∷ ys) (suc zero) h = h.0
-at role (x ∷ xs) (y ∷ ys) (suc (suc i)) h = at role xs ys (suc i) h.1
+-- the piece of string n, where its number is marked; the numbers of the strings go on from m
+at_from : (role : Role) (marks : List Bool) (m : ℕ) (strings pieces : List (List ℕ)) (i : ℕ) → ArePieces role marks m strings pieces → is_marked marks (m + i) ≡ true
+    → IsPiece role (unwrap_or (numbered strings (suc i)) []) (piece_in pieces (suc i))
+at_from role marks m [] [] i h marked = inr (refl, empty_none role)
+at_from role marks m [] (y ∷ ys) i h marked = absurd h
+at_from role marks m (x ∷ xs) [] i h marked = absurd h
+at_from role marks m (x ∷ xs) (y ∷ ys) zero h marked = let here : m + 0 ≡ m = omega arith in h.0 (subst (λ k. is_marked marks k ≡ true) here marked)
+at_from role marks m (x ∷ xs) (y ∷ ys) (suc i) h marked = let next : m + suc i ≡ m + 1 + i = omega arith in at_from role marks (m + 1) xs ys i h.1 (subst (λ k. is_marked marks k ≡ true) next marked)
 
-pub subject_at : (g : GraphParts) (tables : Tables) (n : ℕ) (piece : List ℕ) → AreTables g tables → piece ≡ piece_in tables.subjects n → IsPiece Subject (string_of g Subject n) piece
-subject_at g tables n piece h e = subst (IsPiece Subject (string_of g Subject n)) (sym e) (at Subject _ tables.subjects n h.subjects)
+pub at : (role : Role) (marks : List Bool) (strings pieces : List (List ℕ)) (n : ℕ) → ArePieces role marks 1 strings pieces → is_marked marks n ≡ true
+    → IsPiece role (unwrap_or (numbered strings n) []) (piece_in pieces n)
+at role marks strings pieces zero h marked = inr (refl, empty_none role)
+at role marks strings pieces (suc i) h marked = let next : suc i ≡ 1 + i = omega arith in at_from role marks 1 strings pieces i h (subst (λ k. is_marked marks k ≡ true) next marked)
 
-pub predicate_at : (g : GraphParts) (tables : Tables) (n : ℕ) (piece : List ℕ) → AreTables g tables → piece ≡ piece_in tables.predicates n → IsPiece Predicate (string_of g Predicate n) piece
-predicate_at g tables n piece h e = subst (IsPiece Predicate (string_of g Predicate n)) (sym e) (at Predicate _ tables.predicates n h.predicates)
+-- the pieces of one of the triples, of the first n and of those behind them
+pub pieces_at : (g : GraphParts) (ts : List Triple) (tables : Tables) (i : ℕ) → AreTables g ts tables → i < length ts → HasPieces g tables (get_or ts i (0, 0, 0))
+pieces_at g ts tables i h below = record { subject = h.subjects i below; predicate = h.predicates i below; object = h.objects i below }
 
-pub object_at : (g : GraphParts) (tables : Tables) (n : ℕ) (piece : List ℕ) → AreTables g tables → piece ≡ piece_in tables.objects n → IsPiece Object (string_of g Object n) piece
-object_at g tables n piece h e = subst (IsPiece Object (string_of g Object n)) (sym e) (at Object _ tables.objects n h.objects)
+piece_taken : (g : GraphParts) (role : Role) (ts : List Triple) (pieces : List (List ℕ)) (n : ℕ) → ArePiecesFor g role ts pieces → ArePiecesFor g role (take n ts) pieces
+piece_taken g role ts pieces n h i below =
+    let inside : i < length ts = omega (arith, below, length-take n ts) in
+    let first : i < n = omega (arith, below, length-take n ts) in
+    subst (λ (t : Triple). IsPiece role (string_of g role (part role t)) (piece_in pieces (part role t))) (sym (get_or-take n ts i (0, 0, 0) first)) (h i inside)
+
+piece_behind : (g : GraphParts) (role : Role) (ts : List Triple) (pieces : List (List ℕ)) (n : ℕ) → ArePiecesFor g role ts pieces → ArePiecesFor g role (drop n ts) pieces
+piece_behind g role ts pieces n h i below =
+    let inside : n + i < length ts = omega (arith, below, length-drop n ts) in
+    subst (λ (t : Triple). IsPiece role (string_of g role (part role t)) (piece_in pieces (part role t))) (sym (get_or-drop n ts i (0, 0, 0))) (h (n + i) inside)
+
+pub pieces_taken : (g : GraphParts) (ts : List Triple) (tables : Tables) (n : ℕ) → AreTables g ts tables → AreTables g (take n ts) tables
+pieces_taken g ts tables n h = record {
+  subjects = piece_taken g Subject ts tables.subjects n h.subjects;
+  predicates = piece_taken g Predicate ts tables.predicates n h.predicates;
+  objects = piece_taken g Object ts tables.objects n h.objects;
+}
+
+pub pieces_behind : (g : GraphParts) (ts : List Triple) (tables : Tables) (n : ℕ) → AreTables g ts tables → AreTables g (drop n ts) tables
+pieces_behind g ts tables n h = record {
+  subjects = piece_behind g Subject ts tables.subjects n h.subjects;
+  predicates = piece_behind g Predicate ts tables.predicates n h.predicates;
+  objects = piece_behind g Object ts tables.objects n h.objects;
+}
+
+pub stands : (role : Role) (string p q : List ℕ) → p ≡ q → IsPiece role string q → IsPiece role string p
+stands role string p q e h = subst (IsPiece role string) (sym e) h
+
+-- ---- marks
+
+-- a mark more leaves those that are there, and marks its number; a number past the marks counts as marked
+pub more_marked : (marks : List Bool) (number n : ℕ) → is_marked marks n ≡ true → is_marked (set marks number true) n ≡ true
+more_marked [] number n h = h
+more_marked (x ∷ xs) zero zero h = refl
+more_marked (x ∷ xs) zero (suc n) h = h
+more_marked (x ∷ xs) (suc k) zero h = h
+more_marked (x ∷ xs) (suc k) (suc n) h = more_marked xs k n h
+
+pub now_marked : (marks : List Bool) (n : ℕ) → is_marked (set marks n true) n ≡ true
+now_marked [] n = refl
+now_marked (x ∷ xs) zero = refl
+now_marked (x ∷ xs) (suc n) = now_marked xs n
+
+pub past_marks : (marks : List Bool) (n : ℕ) → length marks ≤ n → is_marked marks n ≡ true
+past_marks [] n h = refl
+past_marks (x ∷ xs) zero h = absurd (omega (arith, h))
+past_marks (x ∷ xs) (suc n) h = past_marks xs n (omega (arith, h))
 
 -- the piece that stands at the place of a triple, where each triple's stands at its place
 pub found_at : {B : Type 0} (now : B → List ℕ) (piece : Triple → List ℕ) (pieces : List B) (ts : List Triple) (i : ℕ) (b : B) (t : Triple) → map now pieces ≡ map piece ts → i < length ts
@@ -148,38 +196,42 @@ object_told g t a b c d OutOfMemory s p h = tt
 
 -- ---- pieces, one after another
 
--- whatever pieces the strings ahead have, behind those that were made they are those of all
-abbrev pub GoOn : Role → List (List ℕ) → List (List ℕ) → List (List ℕ) → Type 0
-GoOn role all ahead made = (more : List (List ℕ)) → ArePieces role ahead more → ArePieces role all (made ++ more)
+-- whatever pieces the strings ahead have, whose numbers go on from n, behind those that were made they are those of all
+abbrev pub GoOn : Role → List Bool → List (List ℕ) → ℕ → List (List ℕ) → List (List ℕ) → Type 0
+GoOn role marks all n ahead made = (more : List (List ℕ)) → ArePieces role marks n ahead more → ArePieces role marks 1 all (made ++ more)
 
 -- bytes, and where the pieces among them begin, up to the strings ahead
-pub record PiecesTo (role : Role) (all ahead : List (List ℕ)) (bytes starts : List ℕ) : Type 0 where
+pub record PiecesTo (role : Role) (marks : List Bool) (all : List (List ℕ)) (n : ℕ) (ahead : List (List ℕ)) (bytes starts : List ℕ) : Type 0 where
   pub are : AreStarts bytes starts
-  pub go_on : GoOn role all ahead (texts bytes starts)
+  pub go_on : GoOn role marks all n ahead (texts bytes starts)
 
-pub begins : (role : Role) (all : List (List ℕ)) → PiecesTo role all all [] (0 ∷ [])
-begins role all = record { are = none_starts; go_on = λ more are. subst (λ (made : List (List ℕ)). ArePieces role all (made ++ more)) (sym none) are }
+pub begins : (role : Role) (marks : List Bool) (all : List (List ℕ)) → PiecesTo role marks all 1 all [] (0 ∷ [])
+begins role marks all = record { are = none_starts; go_on = λ more are. subst (λ (made : List (List ℕ)). ArePieces role marks 1 all (made ++ more)) (sym none) are }
 
-pub one_more : (role : Role) (all xs : List (List ℕ)) (x bytes starts new : List ℕ) (end : ℕ) → PiecesTo role all (x ∷ xs) bytes starts → GrowsByPiece role x bytes new
-    → end ≡ length new → PiecesTo role all xs new (starts ++ end ∷ [])
-one_more role all xs x bytes starts new end h grows long =
+pub one_more : (role : Role) (marks : List Bool) (all xs : List (List ℕ)) (n : ℕ) (x bytes starts new : List ℕ) (end : ℕ) → PiecesTo role marks all n (x ∷ xs) bytes starts
+    → GrowsByMarked (is_marked marks n) role x bytes new → end ≡ length new → PiecesTo role marks all (n + 1) xs new (starts ++ end ∷ [])
+one_more role marks all xs n x bytes starts new end h grows long =
     let piece = grows.piece in
     let wide : end ≡ length bytes + length piece = long ∙ ap length grows.grown ∙ length-append bytes piece in
     let made : texts new (starts ++ end ∷ []) ≡ texts bytes starts ++ piece ∷ [] =
     ap (λ (b : List ℕ). texts b (starts ++ end ∷ [])) grows.grown ∙ texts_push bytes starts piece end h.are wide in
     record {
       are = subst (λ (b : List ℕ). AreStarts b (starts ++ end ∷ [])) (sym grows.grown) (starts_push bytes starts piece end h.are wide);
-      go_on = λ more are. subst (λ (m : List (List ℕ)). ArePieces role all (m ++ more)) (sym made)
-          (subst (ArePieces role all) (sym (append_assoc (texts bytes starts) (piece ∷ []) more)) (h.go_on (piece ∷ more) (grows.is, are)));
+      go_on = λ more are. subst (λ (m : List (List ℕ)). ArePieces role marks 1 all (m ++ more)) (sym made)
+          (subst (ArePieces role marks 1 all) (sym (append_assoc (texts bytes starts) (piece ∷ []) more)) (h.go_on (piece ∷ more) (grows.is, are)));
     }
 
-pub all_made : (role : Role) (all made : List (List ℕ)) → GoOn role all [] made → ArePieces role all made
-all_made role all made h = subst (ArePieces role all) (append-nil made) (h [] tt)
+pub all_made : (role : Role) (marks : List Bool) (all : List (List ℕ)) (n : ℕ) (made : List (List ℕ)) → GoOn role marks all n [] made → ArePieces role marks 1 all made
+all_made role marks all n made h = subst (ArePieces role marks 1 all) (append-nil made) (h [] tt)
 
--- where a walk gives a string, it stands ahead; where it gives none, nothing is ahead
+-- where a walk gives a string, it stands ahead, and its number is the next one; where it gives none, nothing is ahead
 pub given : (w new : Progress) (k : ℕ) (xs : List (List ℕ)) → next_number w xs ≡ Some k → new ≡ stepped_by w xs → xs ≡ new.last ∷ new.ahead
 given w new k [] e step = absurd cc
 given w new k (x ∷ xs) e step = ap (λ (p : Progress). p.last ∷ p.ahead) (sym step)
+
+pub numbered_next : (w new : Progress) (k : ℕ) (xs : List (List ℕ)) → next_number w xs ≡ Some k → new ≡ stepped_by w xs → (k ≡ w.given + 1) × (new.given ≡ w.given + 1)
+numbered_next w new k [] e step = absurd cc
+numbered_next w new k (x ∷ xs) e step = (cc, ap (λ (p : Progress). p.given) step)
 
 pub ended : (w : Progress) (xs : List (List ℕ)) (r : Option ℕ) → r ≡ next_number w xs → ((k : ℕ) → r ≡ Some k → ⊥) → xs ≡ []
 ended w [] r e nothing = refl

@@ -1,5 +1,5 @@
 -- The text of triples, line by line.
-use Rattle.std.proofs.Common.{◌≡◌, ℕ, List, [], ◌∷◌, ◌++◌, refl, sym, ap, ◌∙◌, append_assoc, append-nil, subst, inl, inr}
+use Rattle.std.proofs.Common.{◌≡◌, ℕ, List, [], ◌∷◌, ◌++◌, length, refl, sym, ap, ◌∙◌, append_assoc, append-nil, subst, inl, inr, arith}
 use Rattle.std.specs.List.{flat_map}
 use Rattle.std.proofs.lemmas.Grind.{flat_map-append}
 use Rattle.hdt_terms.specs.Writing.{written}
@@ -95,6 +95,10 @@ pub stops : (g : GraphParts) (all ts : List Triple) (t : Triple) (e : DumpFault)
 stops g all ts t (NotATerm role n) h told = h role n (inl told)
 stops g all ts t (Write k) h told = told
 stops g all ts t OutOfMemory h told = tt
+
+pub none_left : (ts : List Triple) → length ts ≡ 0 → ts ≡ []
+none_left [] h = refl
+none_left (t ∷ ts) h = absurd (omega (arith, h))
 
 -- ---- the text of some triples, behind which the rest goes on
 

@@ -100,12 +100,13 @@ impl<'a> Graph<'a> {
         self.dictionary.strings(alloc, role)
     }
 
-    /// Whether a triple has the number n, from 1, in the role: one that no string of the role has isn't used. It takes a look
-    /// or two, and no memory.
-    pub fn uses(&self, role: Role, n: u64) -> bool
-        ensures { IsTrue result ↔ Uses (graph_seen self.now).triples role n }
+    /// Whether a triple has the number n, from 1, in the role: one that no string of the role has isn't used. It takes two
+    /// looks at most, and no memory.
+    pub fn uses(&self, role: Role, n: u64, steps: &mut Steps) -> bool
+        ensures exact { IsTrue result ↔ Uses (graph_seen self.now).triples role n }
+        ensures cost { steps.new ≤ steps.old + 2 }
     {
-        self.triples.uses(role, n)
+        self.triples.uses(role, n, steps)
     }
 
     /// The number of a string in a role, from 1; None where the role has no such string. It takes no memory, and

@@ -234,7 +234,7 @@ fn stands_in(role: Role, n: u64) -> bool {
 /// The first number of which a role of a graph doesn't tell whether it is used.
 fn wrong_use(graph: &Graph<'_>, role: Role) -> Option<u64> {
     for n in &[0, 1, 2, 3, 4, u64::MAX] {
-        if graph.uses(role, *n) != stands_in(role, *n) {
+        if graph.uses(role, *n, &mut Steps::new()) != stands_in(role, *n) {
             return Some(*n);
         }
     }

@@ -1,7 +1,8 @@
-//! All strings of a graph as pieces of lines, each made once: what a dump takes its lines from.
+//! The strings that triples have as pieces of lines, each made once: what many lines are put together of.
 ghost use Rattle.std.specs.Prelude.{◌≡◌, ◌++◌, ℕ, List, map, IfOk, IfErr, OnOk};
 ghost use Rattle.hdt_file.specs.File.{GraphParts};
-ghost use Rattle.hdt_file.specs.Pieces.{ArePieces, AreTables, AppendsPiece, GrowsByPiece, IsPiece, behind, piece_in};
+ghost use Rattle.hdt_triples.specs.Uses.{part};
+ghost use Rattle.hdt_file.specs.Pieces.{AreMarked, ArePieces, ArePiecesFor, AreTables, AppendsPiece, GrowsByMarked, GrowsByPiece, HasPieces, IsPiece, behind, is_marked, piece_in};
 ghost use Rattle.hdt_file.specs.TextWriting.{AppendsLine, AppendsText, TellsFirstIn, TellsFirstOf, TellsString};
 ghost use Rattle.hdt_file.specs.LayoutView.{layout_seen};
 ghost use Rattle.hdt_file.specs.Views.{strings_in};
@@ -14,7 +15,7 @@ use hdt_terms::StringFault;
 use std::alloc::{AllocError, Global};
 
 /// What the strings of each role are in a line, in the order of their numbers: a term with what follows it there, or
-/// nothing where a string is no term of its role.
+/// nothing where a string is no term of its role, or none that is asked for.
 #[derive(Drop)]
 pub struct Tables {
     subjects: Arena,
@@ -43,29 +44,102 @@ fn put_piece(role: Role, string: &[u8], out: &mut Vec<u8>) -> Result<(), AllocEr
     }
 }
 
-/// The pieces of all strings of a role, each of which is unfolded once.
-fn pieces_of(alloc: Global, layout: &Layout<'_>, role: Role) -> Result<Arena, AllocError>
-    ensures { IfOk result (λ arena. ArePieces role (strings_in (layout_seen layout.now) role) arena) }
+/// The number that a triple has in a role.
+fn number_in(role: Role, triple: (u64, u64, u64)) -> u64
+    ensures { result ≡ part role triple }
+{
+    match role {
+        Role::Subject => triple.0,
+        Role::Predicate => triple.1,
+        Role::Object => triple.2,
+    }
+}
+
+/// Marks the numbers that triples have in a role, up to the count of its strings.
+fn marks_of(
+    alloc: Global,
+    count: u64,
+    role: Role,
+    triples: &[(u64, u64, u64)],
+) -> Result<Vec<bool>, AllocError>
+    ensures { IfOk result (λ marks. AreMarked role marks.items triples.now) }
+{
+    let mut marks = vec![in alloc; false; (count as usize).saturating_add(1)]?;
+    'triples: for at in 0..triples.len() {
+        let number = number_in(role, triples[at]) as usize;
+        if number < marks.len() {
+            marks[number] = true;
+        }
+    }
+    Ok(marks)
+}
+
+/// Whether a number is marked; one that has no mark counts as marked.
+fn is_marked(marks: &[bool], number: u64) -> bool
+    ensures { result ≡ is_marked marks.now number }
+{
+    match marks.get(number as usize) {
+        Some(mark) => *mark,
+        None => true,
+    }
+}
+
+/// Appends the piece of a string whose number is marked, and nothing for another one.
+fn put_marked(marked: bool, role: Role, string: &[u8], out: &mut Vec<u8>) -> Result<(), AllocError>
+    ensures { OnOk result (GrowsByMarked marked role string.now out.old.items out.new.items) }
+{
+    if marked {
+        put_piece(role, string, out)?;
+    }
+    Ok(())
+}
+
+/// The pieces of the strings of a role whose numbers are marked, each made once. The walk to them unfolds each string over
+/// the one before.
+fn pieces_of(
+    alloc: Global,
+    layout: &Layout<'_>,
+    role: Role,
+    marks: &[bool],
+) -> Result<Arena, AllocError>
+    ensures { IfOk result (λ arena. ArePieces role marks.now 1 (strings_in (layout_seen layout.now) role) arena) }
 {
     let mut bytes = Vec::new(alloc);
     let mut starts = Vec::new(alloc);
     let mut strings = layout.strings(alloc, role);
     starts.push(0)?;
-    'strings: while let Some(_) = strings.next()? {
-        put_piece(role, strings.last(), &mut bytes)?;
+    'strings: while let Some(number) = strings.next()? {
+        put_marked(is_marked(marks, number), role, strings.last(), &mut bytes)?;
         starts.push(bytes.len())?;
     }
     Ok(Arena::of(bytes, starts))
 }
 
-/// The pieces of all strings of a graph.
-pub fn tables_of(alloc: Global, layout: &Layout<'_>) -> Result<Tables, AllocError>
-    ensures { IfOk result (AreTables (layout_seen layout.now)) }
+/// The pieces of the strings that triples have in a role.
+fn pieces_for(
+    alloc: Global,
+    layout: &Layout<'_>,
+    role: Role,
+    triples: &[(u64, u64, u64)],
+) -> Result<Arena, AllocError>
+    ensures { IfOk result (ArePiecesFor (layout_seen layout.now) role triples.now) }
+{
+    let marks = marks_of(alloc, layout.count(role), role, triples)?;
+    Ok(pieces_of(alloc, layout, role, &marks)?)
+}
+
+/// The pieces of the strings that triples have: in time in proportion to the dictionary, these strings and the triples.
+pub fn tables_of(
+    alloc: Global,
+    layout: &Layout<'_>,
+    triples: &[(u64, u64, u64)],
+) -> Result<Tables, AllocError>
+    ensures { IfOk result (AreTables (layout_seen layout.now) triples.now) }
 {
     Ok(Tables {
-        subjects: pieces_of(alloc, layout, Role::Subject)?,
-        predicates: pieces_of(alloc, layout, Role::Predicate)?,
-        objects: pieces_of(alloc, layout, Role::Object)?,
+        subjects: pieces_for(alloc, layout, Role::Subject, triples)?,
+        predicates: pieces_for(alloc, layout, Role::Predicate, triples)?,
+        objects: pieces_for(alloc, layout, Role::Object, triples)?,
     })
 }
 
@@ -97,8 +171,8 @@ fn append_line_of(
     object: &[u8],
     out: &mut Vec<u8>,
 ) -> Result<(), DumpFault>
-    ensures ok { OnOk result ((g : GraphParts) → AreTables g tables.now → object.now ≡ piece_in tables.now.objects triple.2 → AppendsLine g triple out.old.items out.new.items) }
-    ensures err { IfErr result (λ e. (g : GraphParts) → AreTables g tables.now → object.now ≡ piece_in tables.now.objects triple.2 → TellsFirstOf g triple e) }
+    ensures ok { OnOk result ((g : GraphParts) → HasPieces g tables.now triple → object.now ≡ piece_in tables.now.objects triple.2 → AppendsLine g triple out.old.items out.new.items) }
+    ensures err { IfErr result (λ e. (g : GraphParts) → HasPieces g tables.now triple → object.now ≡ piece_in tables.now.objects triple.2 → TellsFirstOf g triple e) }
 {
     let (s, p, o) = triple;
     append_piece(Role::Subject, s, piece_in(&tables.subjects, s), out)?;
@@ -142,8 +216,8 @@ pub fn append_lines(
     triples: &[(u64, u64, u64)],
     out: &mut Vec<u8>,
 ) -> Result<(), DumpFault>
-    ensures ok { OnOk result ((g : GraphParts) → AreTables g tables.now → AppendsText g triples.now out.old.items out.new.items) }
-    ensures err { IfErr result (λ e. (g : GraphParts) → AreTables g tables.now → TellsFirstIn g triples.now e) }
+    ensures ok { OnOk result ((g : GraphParts) → AreTables g triples.now tables.now → AppendsText g triples.now out.old.items out.new.items) }
+    ensures err { IfErr result (λ e. (g : GraphParts) → AreTables g triples.now tables.now → TellsFirstIn g triples.now e) }
 {
     let objects = objects_of(alloc, tables, triples)?;
     out.reserve(looked_at(&objects))?;

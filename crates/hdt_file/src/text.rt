@@ -16,25 +16,62 @@ use crate::graph::Graph;
 use crate::layout::Layout;
 use crate::spelling::{Speller, append_line};
 use crate::tables::{append_lines, tables_of};
+use hdt_dict::Role;
 use hdt_triples::{Matches, Pattern};
 use hdt_wire::Counted;
 use std::alloc::{AllocError, Global};
 use std::io::Write;
 
-/// The text of triples, each string of which is looked up: for few of them.
-fn matches_text(
-    alloc: Global,
-    layout: &Layout<'_>,
-    found: Matches<'_>,
-) -> Result<Vec<u8>, DumpFault>
-    ensures ok { IfOk result (λ text. IsTextOf (denoted (layout_seen layout.now) (left_of found.entry)) text.items) }
-    ensures err { IfErr result (TellsFirstIn (layout_seen layout.now) (left_of found.entry)) }
+/// The matches, in a list.
+fn listed(alloc: Global, found: Matches<'_>) -> Result<Vec<(u64, u64, u64)>, AllocError>
+    ensures { IfOk result (λ triples. triples.items ≡ left_of found.entry) }
 {
     let mut matches = found;
+    let mut triples = Vec::new(alloc);
+    'triples: while let Some(triple) = matches.next() {
+        triples.push(triple)?;
+    }
+    Ok(triples)
+}
+
+/// How many bytes of blocks may be read for each string of the dictionary, before one walk along all strings is cheaper.
+const READ_FOR_A_STRING: u64 = 32;
+
+/// Whether looking up the strings of triples one by one reads fewer bytes than a walk along the dictionary takes time for.
+fn are_few(layout: &Layout<'_>, triples: &[(u64, u64, u64)]) -> bool {
+    let dictionary = &layout.dictionary;
+    let [_, shared, subjects, predicates, objects] = layout.lens();
+    let mut left = shared
+        .saturating_add(subjects)
+        .saturating_add(predicates)
+        .saturating_add(objects)
+        .saturating_mul(READ_FOR_A_STRING);
+    for (subject, predicate, object) in triples {
+        let read = dictionary
+            .block_len(Role::Subject, *subject)
+            .saturating_add(dictionary.block_len(Role::Predicate, *predicate))
+            .saturating_add(dictionary.block_len(Role::Object, *object));
+        if left < read {
+            return false;
+        }
+        left -= read;
+    }
+    true
+}
+
+/// The text of triples, each string of which is looked up: for few of them.
+fn looked_up_text(
+    alloc: Global,
+    layout: &Layout<'_>,
+    triples: &[(u64, u64, u64)],
+) -> Result<Vec<u8>, DumpFault>
+    ensures ok { IfOk result (λ text. IsTextOf (denoted (layout_seen layout.now) triples.now) text.items) }
+    ensures err { IfErr result (TellsFirstIn (layout_seen layout.now) triples.now) }
+{
     let mut speller = Speller::new(alloc);
     let mut text = Vec::new(alloc);
-    'triples: while let Some(triple) = matches.next() {
-        append_line(layout, triple, &mut speller, &mut text)?;
+    'triples: for at in 0..triples.len() {
+        append_line(layout, triples[at], &mut speller, &mut text)?;
     }
     Ok(text)
 }
@@ -42,61 +79,45 @@ fn matches_text(
 /// How many triples' lines are made at a time.
 const BLOCK: usize = 64;
 
-/// Takes the next triples into `block`, of which nothing else is left: true; or false where none are left.
-fn take_block(
-    matches: &mut Matches<'_>,
-    block: &mut Vec<(u64, u64, u64)>,
-) -> Result<bool, AllocError>
-    ensures taken { OnOk result (left_of matches.old ≡ block.new.items ++ left_of matches.new) }
-    ensures some { IfOk result (λ some. some ≡ true → 0 < length block.new.items) }
-    ensures ended { IfOk result (λ some. some ≡ false → left_of matches.old ≡ []) }
+/// The same by tables in which the strings of the triples were spelled once: for many of them.
+fn tabled_text(
+    alloc: Global,
+    layout: &Layout<'_>,
+    triples: &[(u64, u64, u64)],
+) -> Result<Vec<u8>, DumpFault>
+    ensures ok { IfOk result (λ text. IsTextOf (denoted (layout_seen layout.now) triples.now) text.items) }
+    ensures err { IfErr result (TellsFirstIn (layout_seen layout.now) triples.now) }
 {
-    block.clear();
-    'triples: while block.len() < BLOCK {
-        let Some(triple) = matches.next() else {
-            return Ok(!block.is_empty());
-        };
-        block.push(triple)?;
-    }
-    Ok(true)
-}
-
-/// The same by tables in which all strings of the graph were spelled once: for many triples.
-fn tabled_text(alloc: Global, layout: &Layout<'_>, found: Matches<'_>) -> Result<Vec<u8>, DumpFault>
-    ensures ok { IfOk result (λ text. IsTextOf (denoted (layout_seen layout.now) (left_of found.entry)) text.items) }
-    ensures err { IfErr result (TellsFirstIn (layout_seen layout.now) (left_of found.entry)) }
-{
-    let tables = tables_of(alloc, layout)?;
-    let mut matches = found;
-    let mut block = Vec::new(alloc);
+    let tables = tables_of(alloc, layout, triples)?;
+    let mut rest = triples;
     let mut text = Vec::new(alloc);
-    'runs: while take_block(&mut matches, &mut block)? {
-        append_lines(alloc, &tables, &block, &mut text)?;
+    'lines: while !rest.is_empty() {
+        let (block, after) = rest.split_at(rest.len().min(BLOCK));
+        append_lines(alloc, &tables, block, &mut text)?;
+        rest = after;
     }
     Ok(text)
 }
 
-/// The text of the triples that agree with a pattern: by tables where it gives nothing.
-fn found_text(
-    alloc: Global,
-    layout: &Layout<'_>,
-    pattern: Pattern,
-    found: Matches<'_>,
-) -> Result<Vec<u8>, DumpFault>
+/// The text of matches, in time in proportion to the dictionary, the matches and the text, whatever the blocks are.
+fn found_text(alloc: Global, layout: &Layout<'_>, found: Matches<'_>) -> Result<Vec<u8>, DumpFault>
     ensures ok { IfOk result (λ text. IsTextOf (denoted (layout_seen layout.now) (left_of found.entry)) text.items) }
     ensures err { IfErr result (TellsFirstIn (layout_seen layout.now) (left_of found.entry)) }
 {
-    if pattern.s.is_none() && pattern.p.is_none() && pattern.o.is_none() {
-        return tabled_text(alloc, layout, found);
+    let triples = listed(alloc, found)?;
+    if are_few(layout, &triples) {
+        return looked_up_text(alloc, layout, &triples);
     }
-    matches_text(alloc, layout, found)
+    tabled_text(alloc, layout, &triples)
 }
 
 /// The N-Triples text of the matches of a pattern, or of nothing: a line a triple, in order.
 ///
-/// Where something is given, each match costs the unfolding of one block of objects, and the front of its line where it
-/// is not that of the match before. Where nothing is given, each string of the graph is spelled once, and a line costs
-/// the copying of its bytes.
+/// Each match costs the unfolding of one block of objects, and the front of its line where it is not that of the match
+/// before. Where so much would be read again that a walk along the dictionary is cheaper, each string of the matches is
+/// spelled once on such a walk, and a line costs the copying of its bytes. So the time is in proportion to the dictionary,
+/// the matches and the text at most, however the strings are folded, and the memory to the matches and the text, with a
+/// byte for each string of the dictionary.
 ///
 /// # Errors
 ///
@@ -113,7 +134,7 @@ pub fn graph_text(
     let Some(pattern) = pattern else {
         return Ok(Vec::new(alloc));
     };
-    found_text(alloc, &graph.layout(), pattern, graph.search(pattern))
+    found_text(alloc, &graph.layout(), graph.search(pattern))
 }
 
 /// The same of a layout, all of whose triples are walked over: [`graph_text`] says what is answered.
@@ -126,7 +147,7 @@ pub fn layout_text(
     ensures err { IfErr result (TellsFirstIn (layout_seen layout.now) (chosen (layout_seen layout.now) pattern)) }
 {
     match pattern {
-        Some(pattern) => found_text(alloc, layout, pattern, layout.search(pattern)),
+        Some(pattern) => found_text(alloc, layout, layout.search(pattern)),
         None => Ok(Vec::new(alloc)),
     }
 }

@@ -18,6 +18,7 @@ use crate::graph::Graph;
 use crate::layout::Layout;
 use crate::opening::with_lists;
 use hdt_dict::Role;
+use hdt_seq::Steps;
 use hdt_wire::{Fault, Reason};
 use std::alloc::Global;
 
@@ -31,11 +32,14 @@ fn is_used(graph: &Graph<'_>, section: usize, n: u64) -> bool
 {
     let [shared, _, _, _] = graph.section_lens();
     let triples = &graph.triples;
+    let mut steps = Steps::new();
     match section {
-        0 => triples.uses(Role::Subject, n) && triples.uses(Role::Object, n),
-        1 => triples.uses(Role::Subject, shared + n),
-        2 => triples.uses(Role::Predicate, n),
-        _ => triples.uses(Role::Object, shared + n),
+        0 => {
+            triples.uses(Role::Subject, n, &mut steps) && triples.uses(Role::Object, n, &mut steps)
+        }
+        1 => triples.uses(Role::Subject, shared + n, &mut steps),
+        2 => triples.uses(Role::Predicate, n, &mut steps),
+        _ => triples.uses(Role::Object, shared + n, &mut steps),
     }
 }
 

@@ -1,6 +1,5 @@
 pub mod Order
 pub mod Rows
-pub mod Halving
 pub mod AgreeLaws
 pub mod Between
 pub mod Ascent

@@ -13,7 +13,7 @@ use Rattle.hdt_front.specs.StringSteps.{row_at, string_is, rest_is, length-unfol
 use Rattle.hdt_front.proofs.Ascent.{Ascends}
 use Rattle.hdt_front.specs.declared.section.Section.{Section}
 use Rattle.hdt_front.specs.Strings.{blocks_of, looks}
-use Rattle.hdt_front.specs.Halving.{digits}
+use Rattle.hdt_seq.specs.Width.{digits}
 
 -- where there is a block, its size is at least 1
 pub some_block : (n b q : ℕ) → q < (n + (b - 1)) / b → 1 ≤ b

@@ -17,7 +17,6 @@ pub mod Canonical
 pub mod CanonicalLaws
 pub mod Faults
 pub mod Numbering
-pub mod Halving
 pub mod Strings
 pub mod StringsLaws
 pub mod Reaching

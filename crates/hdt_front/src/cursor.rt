@@ -1,5 +1,5 @@
 //! A cursor over the strings of a section: it stands on one, and is moved on.
-ghost use Rattle.std.specs.Prelude.{◌≡◌, ◌≤◌, ◌<◌, [], length, Ok, OnOk, OnErr, IfOk, drop, option_copied};
+ghost use Rattle.std.specs.Prelude.{◌≡◌, ◌≤◌, ◌<◌, [], length, Ok, IsOk, OnOk, OnErr, IfOk, drop, option_copied};
 ghost use Rattle.hdt_front.specs.Walks.{placed_of};
 ghost use Rattle.hdt_front.specs.Walking.{first_string, first_order, first_agreed, next_agreed, next_place, Ascends};
 
@@ -78,10 +78,11 @@ impl<'a> Cursor<'a> {
         }
     }
 
-    /// Moves on to the next string. Where memory is refused, nothing moves.
+    /// Moves on to the next string; at the end nothing moves, and no memory is taken. Where memory is refused, nothing moves.
     pub fn pass(&mut self) -> Result<(), AllocError>
         ensures ok { OnOk result (self.new ≡ drop 1 self.old) }
         ensures err { OnErr result (self.new ≡ self.old) }
+        ensures ended { self.old ≡ [] → IsOk result }
     {
         self.pass_kept()?;
         Ok(())
@@ -93,6 +94,7 @@ impl<'a> Cursor<'a> {
         ensures ok { OnOk result (self.new ≡ drop 1 self.old) }
         ensures kept { IfOk result (λ k. k ≤ next_agreed self.old) }
         ensures err { OnErr result (self.new ≡ self.old) }
+        ensures ended { self.old ≡ [] → IsOk result }
     {
         if self.place.is_none() {
             return Ok(0);

@@ -45,7 +45,7 @@ fn lie(kept: u64, text: &[u8], same: usize, x: &[u8]) -> Lie
 impl<'a> Section<'a> {
     ghost use Rattle.hdt_front.specs.Strings.{strings_of, blocks_of, looks};
     ghost use Rattle.hdt_front.specs.Numbering.{place};
-    ghost use Rattle.hdt_front.specs.Halving.{digits};
+    ghost use Rattle.hdt_seq.specs.Width.{digits};
 
     /// A look at the head of a block, which agrees with the sought string so far at least: how it lies to that, how far
     /// they agree, and the bytes from it on.
@@ -73,7 +73,7 @@ impl<'a> Section<'a> {
 
     /// The last block whose head isn't greater than the sought string, by halving. The heads between two agree with it
     /// as far as both of these do.
-    #[tactic(auto, using(crate::proofs::Halving::digits_less))]
+    #[tactic(auto, using(hdt_seq::specs::WidthLaws::digits_split))]
     fn block_of(&self, x: &[u8], steps: &mut Steps) -> Landed<'a>
         requires some { 0 < blocks_of self.now }
         requires sought { zero_in x.now ≡ length x.now }

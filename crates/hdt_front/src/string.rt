@@ -35,7 +35,7 @@ fn append_string(
 }
 
 impl<'a> Section<'a> {
-    ghost use Rattle.hdt_front.specs.Strings.{section_of};
+    ghost use Rattle.hdt_front.specs.Strings.{block_bytes, section_of};
     ghost use Rattle.hdt_front.specs.Section.{string_place};
 
     /// Appends string n, counted from 1; the caller shows that there is one. It unfolds one block at most, in as many
@@ -54,6 +54,19 @@ impl<'a> Section<'a> {
             out.truncate(start);
         }
         appended
+    }
+
+    /// How many packed bytes the block of string n has, counted from 1: unfolding the string reads so many at most. The
+    /// caller shows that there is such a string. It takes two looks, and no memory.
+    #[tactic(auto, unfolding(crate::specs::Strings::block_bytes))]
+    pub fn block_len(&self, n: u64) -> u64
+        requires from_one { 1 ≤ n }
+        requires within { n ≤ length (strings_of self.now) }
+        ensures { result ≡ block_bytes self.now (n - 1) }
+    {
+        let block = (n - 1) / self.packed.block;
+        let start = self.packed.starts.get(block);
+        self.packed.starts.get(block + 1).saturating_sub(start)
     }
 
     /// The place of string n, counted from 1, in bytes from the start of the input: where its piece begins, which is

@@ -1,5 +1,5 @@
 //! A walk over the strings of a section, in order.
-ghost use Rattle.std.specs.Prelude.{◌≡◌, ◌≤◌, ◌<◌, ◌+◌, ◌-◌, ◌++◌, ◌==◌, Bool, length, take, [], Ok, OnOk, OnErr, IfOk};
+ghost use Rattle.std.specs.Prelude.{◌≡◌, ◌≤◌, ◌<◌, ◌+◌, ◌-◌, ◌++◌, ◌==◌, Bool, length, take, [], Ok, IsOk, OnOk, OnErr, IfOk};
 ghost use Rattle.hdt_wire.specs.Rows.{zero_in};
 ghost use Rattle.hdt_front.specs.Unfolding.{kept, text_from, text_of, after_piece};
 ghost use Rattle.hdt_front.specs.Walks.{placed_of};
@@ -63,12 +63,13 @@ impl<'a> Walk<'a> {
         &self.last
     }
 
-    /// Unfolds the next string, and answers its place, in bytes from the start of the input; at the end None. Where
-    /// memory is refused, nothing moves.
+    /// Unfolds the next string, and answers its place, in bytes from the start of the input; at the end None, which takes
+    /// no memory. Where memory is refused, nothing moves.
     pub fn next(&mut self) -> Result<Option<usize>, AllocError>
         ensures place { IfOk result (λ r. r ≡ next_place self.old.ahead) }
         ensures ok { OnOk result (self.new ≡ further self.old) }
         ensures err { OnErr result (self.new ≡ self.old) }
+        ensures ended { self.old.ahead ≡ [] → IsOk result }
     {
         let (place, _) = self.next_kept()?;
         Ok(place)
@@ -81,6 +82,7 @@ impl<'a> Walk<'a> {
         ensures kept { IfOk result (λ r. r.1 ≤ first_agreed self.old.ahead self.old.last) }
         ensures ok { OnOk result (self.new ≡ further self.old) }
         ensures err { OnErr result (self.new ≡ self.old) }
+        ensures ended { self.old.ahead ≡ [] → IsOk result }
     {
         if self.next == self.packed.count {
             return Ok((None, 0));

@@ -401,7 +401,7 @@ static USED: [(Role, u64, bool); 16] = [
 /// The first role and number of which triples don't tell whether they are used.
 fn wrong_use(listed: &ListedTriples<'_>) -> Option<(Role, u64)> {
     for (role, n, wanted) in &USED {
-        if listed.uses(*role, *n) != *wanted {
+        if listed.uses(*role, *n, &mut Steps::new()) != *wanted {
             return Some((*role, *n));
         }
     }
@@ -491,7 +491,7 @@ fn used_up_to(
 ) -> Option<u64> {
     let mut used: u64 = 0;
     for n in 0..=last {
-        let uses = listed.uses(role, n);
+        let uses = listed.uses(role, n, &mut Steps::new());
         if uses != stands_in(list, role, n) {
             return None;
         }

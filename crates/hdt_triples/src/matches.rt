@@ -1,5 +1,5 @@
 //! The matches of a pattern.
-ghost use Rattle.std.specs.Prelude.{◌≡◌, ◌≤◌, ◌<◌, ◌*◌, ◌^◌, IsSome, length};
+ghost use Rattle.std.specs.Prelude.{◌≡◌, ◌≤◌, ◌<◌, ◌*◌, ◌^◌, IsSome, None, length};
 ghost use Rattle.hdt_triples.specs.Bounds.{most_steps};
 ghost use Rattle.hdt_triples.specs.Counting.{triples_of};
 ghost use Rattle.hdt_triples.specs.Patterns.{matches};
@@ -62,6 +62,8 @@ impl<'a> IndexedTriples<'a> {
         ensures fits { length (left_of result) < 2 ^ 64 }
         // With a subject, the steps of this call and of all its items are at most the table's number.
         ensures few { IsSome pattern.s → limit_of result ≡ most_steps (bitmap_read (triples_indexed self.now)) pattern }
+        // Without one, those of the walk.
+        ensures walked { pattern.s ≡ None → limit_of result ≡ 4 * length (bitmap_read (triples_indexed self.now)).zs }
     {
         match (pattern.s, pattern.p) {
             (Some(subject), Some(predicate)) => {

@@ -1,5 +1,5 @@
 //! Which numbers the triples use.
-ghost use Rattle.std.specs.Prelude.{◌≡◌, ◌↔◌, IsTrue};
+ghost use Rattle.std.specs.Prelude.{◌≡◌, ◌≤◌, ◌+◌, ◌↔◌, IsTrue};
 ghost use Rattle.hdt_wire.specs.declared.role.Role.TheVariants as roles;
 ghost use Rattle.hdt_triples.specs.Counting.{triples_of};
 ghost use Rattle.hdt_triples.specs.Uses.{Uses, uses};
@@ -13,35 +13,40 @@ impl<'a> ListedTriples<'a> {
     ghost use Rattle.hdt_triples.specs.ListedViews.{triples_listed};
 
     /// Whether a triple has this subject: the subjects are numbered without a gap.
-    fn uses_subject(&self, subject: u64) -> bool
-        ensures { result ≡ uses (triples_of (bitmap_read (triples_listed self.now))) roles.Subject subject }
+    fn uses_subject(&self, subject: u64, steps: &mut Steps) -> bool
+        ensures is { result ≡ uses (triples_of (bitmap_read (triples_listed self.now))) roles.Subject subject }
+        ensures cost { steps.new ≤ steps.old + 2 }
     {
-        1 <= subject && subject <= self.indexed.subjects(&mut Steps::new())
+        1 <= subject && subject <= self.indexed.subjects(steps)
     }
 
     /// Whether a triple has this predicate.
-    fn uses_predicate(&self, predicate: u64) -> bool
-        ensures { result ≡ uses (triples_of (bitmap_read (triples_listed self.now))) roles.Predicate predicate }
+    fn uses_predicate(&self, predicate: u64, steps: &mut Steps) -> bool
+        ensures is { result ≡ uses (triples_of (bitmap_read (triples_listed self.now))) roles.Predicate predicate }
+        ensures cost { steps.new ≤ steps.old + 2 }
     {
-        !self.pairs_of(predicate, &mut Steps::new()).is_empty()
+        !self.pairs_of(predicate, steps).is_empty()
     }
 
     /// Whether a triple has this object.
-    fn uses_object(&self, object: u64) -> bool
-        ensures { result ≡ uses (triples_of (bitmap_read (triples_listed self.now))) roles.Object object }
+    fn uses_object(&self, object: u64, steps: &mut Steps) -> bool
+        ensures is { result ≡ uses (triples_of (bitmap_read (triples_listed self.now))) roles.Object object }
+        ensures cost { steps.new ≤ steps.old + 2 }
     {
-        !self.places_of(object, &mut Steps::new()).is_empty()
+        !self.places_of(object, steps).is_empty()
     }
 
-    /// Whether a triple has the number n, from 1, in the role; no triple has 0. It takes a look or two, and no memory.
-    pub fn uses(&self, role: Role, n: u64) -> bool
+    /// Whether a triple has the number n, from 1, in the role; no triple has 0. It takes two looks at most, and no
+    /// memory.
+    pub fn uses(&self, role: Role, n: u64, steps: &mut Steps) -> bool
         ensures exact { IsTrue result ↔ Uses (triples_of (bitmap_read (triples_listed self.now))) role n }
         ensures is { result ≡ uses (triples_of (bitmap_read (triples_listed self.now))) role n }
+        ensures cost { steps.new ≤ steps.old + 2 }
     {
         match role {
-            Role::Subject => self.uses_subject(n),
-            Role::Predicate => self.uses_predicate(n),
-            Role::Object => self.uses_object(n),
+            Role::Subject => self.uses_subject(n, steps),
+            Role::Predicate => self.uses_predicate(n, steps),
+            Role::Object => self.uses_object(n, steps),
         }
     }
 }

@@ -11,7 +11,7 @@ strings-preserved-in-Continue-branch-5 c =
     let role = c.args.role in
     let w = c.strings.strings in
     let go = goes (strings_in g role) w c.next.new.self c.in-Some.number c.strings.invariant.stands (sym c.in_ok-number.ensures.number ∙ c.in-Some.is) c.in_ok-number.ensures.ok in
-    let used = subst (Uses g.triples role) go.number (c.uses.ensures.0 c.if-uses.true) in
+    let used = subst (Uses g.triples role) go.number (c.uses.ensures.exact.0 c.if-uses.true) in
     record {
       stands = go.stands;
       so_far = rw (go.given, c.in_ok-push-2.ensures.ok, c.in_ok-push.ensures.items, c.len.ensures, c.last.ensures)
@@ -28,7 +28,7 @@ strings-preserved c =
       stands = go.stands;
       so_far = rw (go.given, c.in_ok-push.ensures.items, c.len.ensures)
           (used_passed g role w.given c.strings.used c.strings.places.items c.strings.invariant.so_far
-          (λ used. absurd (not_both c.uses.result c.if-uses.false (c.uses.ensures.1 (subst (Uses g.triples role) (sym go.number) used)))));
+          (λ used. absurd (not_both c.uses.result c.if-uses.false (c.uses.ensures.exact.1 (subst (Uses g.triples role) (sym go.number) used)))));
     }
 
 pub returns : goal.returns

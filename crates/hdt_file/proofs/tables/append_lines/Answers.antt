@@ -4,7 +4,7 @@ use Rattle.std.proofs.lemmas.Result.{err_from_is_err_and}
 use Rattle.hdt_triples.specs.Counting.{Triple}
 use Rattle.hdt_file.specs.Pieces.{piece_in}
 use Rattle.hdt_file.specs.TextWriting.{AppendsText, TellsFirstIn}
-use Rattle.hdt_file.proofs.Lines.{found_at}
+use Rattle.hdt_file.proofs.Lines.{found_at, pieces_at}
 use Rattle.hdt_file.proofs.Texts.{line_and_text, no_text, tells_behind, tells_here}
 use Rattle.hdt_file.proofs.tables.append_lines.Goals as goal
 
@@ -20,9 +20,9 @@ triples-preserved c =
     let object = found_at (λ x. x.now) (λ u. piece_in c.args.tables.now.objects u.2) c.in_ok-objects.objects.items ts l.at c.index.result.now (0, 0, 0) c.in_ok-objects.ensures c.triples-test.true c.index.ensures in
     record {
       text = λ g more are h. l.invariant.text g more are
-          (subst (λ (us : List Triple). AppendsText g us old more) (sym split) (line_and_text g t rest old new more (c.in_ok-append_line_of.ensures.ok g are object) h));
+          (subst (λ (us : List Triple). AppendsText g us old more) (sym split) (line_and_text g t rest old new more (c.in_ok-append_line_of.ensures.ok g (pieces_at g ts c.args.tables.now l.at are c.triples-test.true) object) h));
       first = λ g e are h. l.invariant.first g e are
-          (subst (λ (us : List Triple). TellsFirstIn g us e) (sym split) (tells_behind g t rest old new e (c.in_ok-append_line_of.ensures.ok g are object) h));
+          (subst (λ (us : List Triple). TellsFirstIn g us e) (sym split) (tells_behind g t rest old new e (c.in_ok-append_line_of.ensures.ok g (pieces_at g ts c.args.tables.now l.at are c.triples-test.true) object) h));
     }
 
 pub returns-in_err-append_line_of-clause-err : goal.returns-in_err-append_line_of-clause-err
@@ -37,7 +37,7 @@ returns-in_err-append_line_of-clause-err c =
     let p = err_from_is_err_and c.from_residual-in_err-append_line_of.result c.from_residual-in_err-append_line_of.ensures.1 in
     rw (p.1, p.2)
     (λ g are. l.invariant.first g e are
-    (subst (λ (us : List Triple). TellsFirstIn g us e) (sym split) (tells_here g t rest e (c.in_err-append_line_of.ensures.err g are object))))
+    (subst (λ (us : List Triple). TellsFirstIn g us e) (sym split) (tells_here g t rest e (c.in_err-append_line_of.ensures.err g (pieces_at g ts c.args.tables.now l.at are c.triples-test.true) object))))
 
 pub returns-clause-ok : goal.returns-clause-ok
 returns-clause-ok c =

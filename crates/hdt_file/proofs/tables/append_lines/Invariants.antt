@@ -8,6 +8,6 @@ use Rattle.hdt_file.proofs.tables.append_lines.Given as goal
 abbrev pub invariant-triples : goal.invariant-triples
 invariant-triples l =
     record {
-      text : (g : GraphParts) (more : List ℕ) → AreTables g l.fn.tables → AppendsText g (drop l.at l.triples) l.out.items more → AppendsText g l.triples l.fn.out.items more;
-      first : (g : GraphParts) (e : DumpFault) → AreTables g l.fn.tables → TellsFirstIn g (drop l.at l.triples) e → TellsFirstIn g l.triples e;
+      text : (g : GraphParts) (more : List ℕ) → AreTables g l.triples l.fn.tables → AppendsText g (drop l.at l.triples) l.out.items more → AppendsText g l.triples l.fn.out.items more;
+      first : (g : GraphParts) (e : DumpFault) → AreTables g l.triples l.fn.tables → TellsFirstIn g (drop l.at l.triples) e → TellsFirstIn g l.triples e;
     }

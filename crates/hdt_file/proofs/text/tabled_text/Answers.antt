@@ -1,42 +1,51 @@
-use Rattle.std.proofs.Common.{List, subst}
+use Rattle.std.proofs.Common.{◌≡◌, ◌++◌, List, sym, subst, ◌∙◌}
+use Rattle.std.proofs.lemmas.Bool.{eqb-true}
+use Rattle.std.proofs.lemmas.List.{take-append-drop}
 use Rattle.std.proofs.lemmas.Result.{err_from_is_err_and}
 use Rattle.hdt_triples.specs.Counting.{Triple}
-use Rattle.hdt_triples.specs.Left.{left_of}
 use Rattle.hdt_file.specs.LayoutView.{layout_seen}
-use Rattle.hdt_file.specs.TextWriting.{AppendsText, TellsFirstIn}
-use Rattle.hdt_file.proofs.Texts.{GoesOn, SameFirst, text_goes_on, first_goes_on, text_stops, ends}
+use Rattle.hdt_file.specs.Pieces.{AreTables}
+use Rattle.hdt_file.proofs.Lines.{pieces_taken, pieces_behind}
+use Rattle.hdt_file.proofs.Texts.{GoesOn, SameFirst, text_goes_on, first_goes_on, text_stops, none_left, ends}
 use Rattle.hdt_file.proofs.text.tabled_text.Goals as goal
 
-pub runs-preserved : goal.runs-preserved
-runs-preserved c =
+pub lines-preserved : goal.lines-preserved
+lines-preserved c =
     let g = layout_seen c.args.layout.now in
-    let all = left_of c.args.found in
-    let l = c.runs in
-    let block = c.take_block.new.block.items in
-    let rest = left_of c.take_block.new.matches in
+    let ts = c.args.triples.now in
+    let l = c.lines in
+    let n = c.min.result in
+    let tables = c.in_ok-tables.tables in
+    let block = c.split_at.result.0.now in
+    let after = c.split_at.result.1.now in
     let new = c.append_lines.new.out.items in
-    let taken = c.in_ok-take_block.ensures.taken in
-    let grown = subst (λ (ts : List Triple). AppendsText g ts l.text.items new) c.deref.ensures.value (c.in_ok-append_lines.ensures.ok g l.invariant.tables) in
+    let split : l.rest.now ≡ block ++ after = rw (c.split_at.ensures.front, c.split_at.ensures.back) (sym (take-append-drop n l.rest.now)) in
+    let taken : AreTables g block tables = rw c.split_at.ensures.front (pieces_taken g l.rest.now tables n l.invariant.tables) in
+    let grown = c.in_ok-append_lines.ensures.ok g taken in
     record {
-      tables = l.invariant.tables;
-      goes_on = text_goes_on g all block rest l.text.items new (subst (λ (left : List Triple). GoesOn g all left l.text.items) taken l.invariant.goes_on) grown;
-      first = first_goes_on g all block rest l.text.items new (subst (SameFirst g all) taken l.invariant.first) grown;
+      tables = rw c.split_at.ensures.back (pieces_behind g l.rest.now tables n l.invariant.tables);
+      goes_on = text_goes_on g ts block after l.text.items new (subst (λ (left : List Triple). GoesOn g ts left l.text.items) split l.invariant.goes_on) grown;
+      first = first_goes_on g ts block after l.text.items new (subst (SameFirst g ts) split l.invariant.first) grown;
     }
 
 pub returns-in_err-append_lines-clause-err : goal.returns-in_err-append_lines-clause-err
 returns-in_err-append_lines-clause-err c =
     let g = layout_seen c.args.layout.now in
-    let all = left_of c.args.found in
-    let l = c.runs in
+    let ts = c.args.triples.now in
+    let l = c.lines in
+    let n = c.min.result in
+    let tables = c.in_ok-tables.tables in
+    let block = c.split_at.result.0.now in
+    let after = c.split_at.result.1.now in
     let e = c.in_err-append_lines.field-0.0 in
-    let told = subst (λ (ts : List Triple). TellsFirstIn g ts e) c.deref.ensures.value (c.in_err-append_lines.ensures.err g l.invariant.tables) in
-    let first = subst (SameFirst g all) c.in_ok-take_block.ensures.taken l.invariant.first in
+    let split : l.rest.now ≡ block ++ after = rw (c.split_at.ensures.front, c.split_at.ensures.back) (sym (take-append-drop n l.rest.now)) in
+    let taken : AreTables g block tables = rw c.split_at.ensures.front (pieces_taken g l.rest.now tables n l.invariant.tables) in
     let p = err_from_is_err_and c.from_residual-in_err-append_lines.result c.from_residual-in_err-append_lines.ensures.1 in
-    rw (p.1, p.2) (text_stops g all c.take_block.new.block.items (left_of c.take_block.new.matches) e first told)
+    rw (p.1, p.2) (text_stops g ts block after e (subst (SameFirst g ts) split l.invariant.first) (c.in_err-append_lines.ensures.err g taken))
 
 pub returns-clause-ok : goal.returns-clause-ok
 returns-clause-ok c =
     let g = layout_seen c.args.layout.now in
-    let all = left_of c.args.found in
-    let l = c.runs in
-    ends g all l.text.items (subst (λ (left : List Triple). GoesOn g all left l.text.items) (c.in_ok-take_block.ensures.ended c.if-branch.false) l.invariant.goes_on)
+    let ts = c.args.triples.now in
+    let l = c.lines in
+    ends g ts l.text.items (subst (λ (left : List Triple). GoesOn g ts left l.text.items) (none_left l.rest.now (eqb-true _ _ (sym c.is_empty.ensures ∙ c.lines-test.false))) l.invariant.goes_on)

@@ -1,8 +1,8 @@
-use Rattle.std.proofs.Common.{◌++◌, ap, ◌∙◌, arith}
+use Rattle.std.proofs.Common.{◌≡◌, ◌++◌, true, false, ap, sym, ◌∙◌, arith}
 use Rattle.hdt_front.specs.Walking.{strings}
 use Rattle.hdt_dict.specs.Following.{following}
 use Rattle.hdt_dict.specs.Walking.{Progress, stepped, next_number}
-use Rattle.hdt_dict.proofs.Steps.{ended, empty, stays, behind, no_next, unmoved, took}
+use Rattle.hdt_dict.proofs.Steps.{ended, empty, no_strings, stays, behind, no_next, unmoved, took}
 use Rattle.hdt_dict.proofs.walk.Strings.next.Goals as goal
 
 pub returns-then-is_none-clause-number : goal.returns-then-is_none-clause-number
@@ -59,3 +59,10 @@ returns-else-is_none-clause-ok c =
     let rest = ap (λ t. strings w.ahead ++ following t) c.in-Some.is ∙ behind w c.new-walk.result c.in-Some.section over c.new-walk.ensures in
     let t = took c.new-walk.result c.next-in-Some.new.self _ _ before c.in_ok-next-in-Some.ensures.place c.is_none.ensures c.if-is_none.false c.in_ok-next-in-Some.ensures.ok rest in
     t.new ∙ ap stepped c.self.view_is
+
+pub returns-in_err-next-in-Some-clause-ended : goal.returns-in_err-next-in-Some-clause-ended
+returns-in_err-next-in-Some-clause-ended c =
+    let w = c.self.inside.walk in
+    let over = ended w _ _ c.in_ok-next.ensures.place c.is_some.ensures c.if-is_some.false in
+    let rest = ap (λ t. strings w.ahead ++ following t) c.in-Some.is ∙ behind w c.new-walk.result c.in-Some.section over c.new-walk.ensures in
+    λ none. let k : false ≡ true = c.in_err-next-in-Some.ensures.ended (no_strings c.new-walk.result.ahead (sym rest ∙ ap (λ (p : Progress). p.ahead) c.self.view_is ∙ none)) in absurd (cc)

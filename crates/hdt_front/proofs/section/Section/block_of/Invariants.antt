@@ -2,7 +2,7 @@ use Rattle.std.proofs.Common.{◌≡◌, ◌≤◌, ◌<◌, ◌+◌, ◌-◌, �
 use Rattle.hdt_wire.specs.Rows.{zero_in}
 use Rattle.std.specs.declared.cmp.Ordering.TheVariants.{Greater}
 use Rattle.hdt_front.specs.Strings.{strings_of, blocks_of}
-use Rattle.hdt_front.specs.Halving.{digits}
+use Rattle.hdt_seq.specs.Width.{digits}
 use Rattle.hdt_front.specs.Facts.{rest_at}
 use Rattle.hdt_front.specs.Searching.{order, agreed, IsLess}
 use Rattle.hdt_front.proofs.section.Section.block_of.Given as goal

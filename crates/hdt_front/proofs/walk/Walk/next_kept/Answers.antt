@@ -50,3 +50,9 @@ returns-clause-kept c =
     let s = c.self.inside in
     let m = moves (packing_of s.packed) s.packed.count s.next s.last.items s.rest.now c.self.invariant.0 c.if-self.false c.self.invariant.2 in
     kept_first (packing_of s.packed) s.packed.count s.next s.last.items s.rest.now c.args.self.now _ m c.self.view_is c.piece_of-kept.ensures.kept
+
+pub returns-in_err-unfold-clause-ended : goal.returns-in_err-unfold-clause-ended
+returns-in_err-unfold-clause-ended c =
+    let s = c.self.inside in
+    let m = moves (packing_of s.packed) s.packed.count s.next s.last.items s.rest.now c.self.invariant.0 c.if-self.false c.self.invariant.2 in
+    λ none. absurd (omega (arith, ap length (sym (ap (λ (w : Way). w.ahead) c.self.view_is) ∙ m.ahead), ap length none))
