@@ -65,7 +65,7 @@ fn marks_of(
     ensures { IfOk result (λ marks. AreMarked role marks.items triples.now) }
 {
     let mut marks = vec![in alloc; false; (count as usize).saturating_add(1)]?;
-    'triples: for at in 0..triples.len() {
+    'marked: for at in 0..triples.len() {
         let number = number_in(role, triples[at]) as usize;
         if number < marks.len() {
             marks[number] = true;

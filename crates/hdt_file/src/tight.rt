@@ -32,14 +32,13 @@ fn is_used(graph: &Graph<'_>, section: usize, n: u64) -> bool
 {
     let [shared, _, _, _] = graph.section_lens();
     let triples = &graph.triples;
-    let mut steps = Steps::new();
+    let mut looks = Steps::new();
+    let steps = &mut looks;
     match section {
-        0 => {
-            triples.uses(Role::Subject, n, &mut steps) && triples.uses(Role::Object, n, &mut steps)
-        }
-        1 => triples.uses(Role::Subject, shared + n, &mut steps),
-        2 => triples.uses(Role::Predicate, n, &mut steps),
-        _ => triples.uses(Role::Object, shared + n, &mut steps),
+        0 => triples.uses(Role::Subject, n, steps) && triples.uses(Role::Object, n, steps),
+        1 => triples.uses(Role::Subject, shared + n, steps),
+        2 => triples.uses(Role::Predicate, n, steps),
+        _ => triples.uses(Role::Object, shared + n, steps),
     }
 }
 
