@@ -18,6 +18,7 @@ pub mod CanonicalLaws
 pub mod Faults
 pub mod Numbering
 pub mod Halving
+pub mod Looks
 pub mod Strings
 pub mod StringsLaws
 pub mod Reaching
