@@ -1,6 +1,7 @@
 pub mod Dictionary
 pub mod DictionaryLaws
 pub mod Numbered
+pub mod Looks
 pub mod Views
 pub mod Overlap
 pub mod Walking

@@ -38,7 +38,8 @@ pub struct Dictionary<'a> {
 }
 
 impl<'a> Dictionary<'a> {
-    ghost use Rattle.hdt_dict.specs.Views.{dictionary_of, role_looks, role_block, role_string_block};
+    ghost use Rattle.hdt_dict.specs.Looks.{role_looks, role_block};
+    ghost use Rattle.hdt_dict.specs.Views.{dictionary_of, role_string_block};
 
     /// Reads by rows.
     #[tactic(auto, unfolding(crate::specs::Dictionary::dictionary_at, crate::specs::Dictionary::rows_above_strings, crate::specs::Views::dictionary_of, hdt_front::specs::Strings::section_of, hdt_wire::specs::Control::block_of))]
@@ -142,10 +143,10 @@ impl<'a> Dictionary<'a> {
     }
 
     /// Looks for a string in the sections of a role.
-    #[tactic(auto, unfolding(crate::specs::Views::dictionary_of, crate::specs::Views::role_looks, hdt_front::specs::Strings::section_of))]
+    #[tactic(auto, unfolding(crate::specs::Views::dictionary_of, crate::specs::Looks::role_looks, hdt_front::specs::Strings::section_of))]
     fn place_in(&self, role: Role, x: &[u8], steps: &mut Steps) -> Option<u64>
         ensures place { result ≡ place (terms (dictionary_of self.now) role) x.now }
-        ensures cost { steps.new ≤ steps.old + role_looks self.now role }
+        ensures cost { steps.new ≤ steps.old + role_looks (dictionary_of self.now) role }
         ensures more { steps.old ≤ steps.new }
     {
         match role {
@@ -162,7 +163,7 @@ impl<'a> Dictionary<'a> {
         // It is n exactly where the string is number n.
         ensures exact { (n : ℕ) → (result ≡ Some n) ↔ (numbered (terms (dictionary_of self.now) role) n ≡ Some x.now) }
         ensures place { result ≡ place (terms (dictionary_of self.now) role) x.now }
-        ensures cost { steps.new ≤ steps.old + role_looks self.now role }
+        ensures cost { steps.new ≤ steps.old + role_looks (dictionary_of self.now) role }
         ensures more { steps.old ≤ steps.new }
     {
         self.place_in(role, x, steps)
@@ -172,7 +173,7 @@ impl<'a> Dictionary<'a> {
     /// memory is refused, `out` is as it was.
     ///
     /// It unfolds the string from the head of its block.
-    #[tactic(auto, unfolding(crate::specs::Views::dictionary_of, crate::specs::Views::role_block, hdt_front::specs::Strings::section_of))]
+    #[tactic(auto, unfolding(crate::specs::Views::dictionary_of, crate::specs::Looks::role_block, hdt_front::specs::Strings::section_of))]
     pub fn string_of(
         &self,
         role: Role,
@@ -182,7 +183,7 @@ impl<'a> Dictionary<'a> {
     ) -> Result<bool, AllocError>
         ensures ok { IfOk result (λ b. Appends (numbered (terms (dictionary_of self.now) role) n) b out.old.items out.new.items) }
         ensures err { OnErr result (out.new.items ≡ out.old.items) }
-        ensures cost { steps.new ≤ steps.old + role_block self.now role }
+        ensures cost { steps.new ≤ steps.old + role_block (dictionary_of self.now) role }
         ensures absent { numbered (terms (dictionary_of self.now) role) n ≡ None → IsOk result }
         ensures more { steps.old ≤ steps.new }
     {

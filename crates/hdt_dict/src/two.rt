@@ -1,6 +1,7 @@
 //! The strings of two sections, one after the other.
 ghost use Rattle.std.specs.Prelude.{◌≡◌, ◌<◌, ◌≤◌, ◌+◌, ◌^◌, ◌++◌, length, max, None, IsOk, OnErr, IfOk};
-ghost use Rattle.hdt_front.specs.Strings.{strings_of, looks, block_size};
+ghost use Rattle.hdt_front.specs.Looks.{section_looks};
+ghost use Rattle.hdt_front.specs.Strings.{strings_of, section_of, block_size};
 ghost use Rattle.hdt_front.specs.Numbering.{place};
 ghost use Rattle.hdt_dict.specs.Numbered.{numbered, Appends};
 ghost use Rattle.hdt_dict.specs.Views.{string_block, string_block_of_two};
@@ -18,7 +19,7 @@ pub(crate) fn number_in_two(
 ) -> Option<u64>
     requires { length (strings_of first.now) + length (strings_of second.now) < 2 ^ 64 }
     ensures place { result ≡ place (strings_of first.now ++ strings_of second.now) x.now }
-    ensures cost { steps.new ≤ steps.old + (looks first.now + looks second.now) }
+    ensures cost { steps.new ≤ steps.old + (section_looks (section_of first.now) + section_looks (section_of second.now)) }
     ensures more { steps.old ≤ steps.new }
 {
     match first.place_of(x, steps) {

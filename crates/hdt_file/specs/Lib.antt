@@ -16,6 +16,7 @@ pub mod Parts
 pub mod PartsLaws
 pub mod PartsViews
 pub mod Search
+pub mod StringTriples
 pub mod Pieces
 pub mod Text
 pub mod TextLaws

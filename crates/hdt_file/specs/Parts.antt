@@ -1,16 +1,30 @@
 -- The parts of a file as code keeps them: the head, the dictionary with its places, the sequences of the triples.
-use Rattle.std.specs.Prelude.{ℕ, List, Result, Ok}
+use Rattle.std.specs.Prelude.{ℕ, ◌+◌, List, Result, Ok}
 use Rattle.hdt_wire.specs.declared.fault.Fault.{Fault}
 use Rattle.hdt_wire.specs.Exact.{seen}
 use Rattle.hdt_wire.specs.Rows.{◌>>=◌}
+use Rattle.hdt_dict.specs.Dictionary.{DictionaryParts}
 use Rattle.hdt_triples.specs.Counting.{BitmapTriples, triples_of}
+use Rattle.hdt_triples.specs.ListedViews.{directories_held, lists_held}
 use Rattle.hdt_triples.specs.Triples.{bitmap_of}
 use Rattle.hdt_file.specs.Dictionary.{HeadAndDictionary}
-use Rattle.hdt_file.specs.File.{FileParts, GraphParts, file_at_start, sections_of}
+use Rattle.hdt_file.specs.File.{FileParts, GraphParts, counts_in, file_at_start, sections_of}
 use Rattle.hdt_file.specs.Tight.{strings_used}
 
 abbrev pub Parts : Type 0
 Parts = HeadAndDictionary × BitmapTriples
+
+-- the dictionary with its places, by which the costs of look-ups are told
+abbrev pub dictionary_in : Parts → DictionaryParts
+dictionary_in p = p.0.dictionary
+
+-- the sequences of the triples, by which the costs of searches are told
+abbrev pub bitmap_in : Parts → BitmapTriples
+bitmap_in p = p.1
+
+-- how many numbers of 8 bytes the directories and the lists of the triples take
+abbrev pub held_by : Parts → ℕ
+held_by p = directories_held (bitmap_in p) + lists_held (counts_in (dictionary_in p)) (bitmap_in p)
 
 abbrev pub parts_from : FileParts → Parts
 parts_from file = (record { head = file.head; dictionary = file.dictionary }, bitmap_of file.triples)

@@ -2,12 +2,12 @@
 use Rattle.std.specs.Prelude.{◌≡◌, ℕ, ◌+◌, List, Option, Some, None, ⊤, slice_index_or}
 use Rattle.hdt_dict.specs.Numbered.{numbered}
 use Rattle.hdt_dict.specs.Strings.{Lent}
-use Rattle.hdt_dict.specs.Views.{role_looks}
-use Rattle.hdt_dict.specs.declared.dictionary.Dictionary.{Dictionary}
+use Rattle.hdt_dict.specs.Dictionary.{DictionaryParts}
 use Rattle.hdt_wire.specs.declared.role.Role.{Role}
 use Rattle.hdt_wire.specs.declared.role.Role.TheVariants.{Subject, Predicate, Object}
 use Rattle.hdt_triples.specs.declared.pattern.Pattern.{Pattern}
 use Rattle.hdt_file.specs.File.{GraphParts}
+use Rattle.hdt_dict.specs.Looks.{role_looks}
 use Rattle.hdt_file.specs.Views.{strings_in}
 
 -- a part of a pattern: any where no string is given, else the number of the string in the role's list
@@ -28,10 +28,10 @@ pub record IsPattern (g : GraphParts) (given : List (Option Lent)) (p : Pattern)
   pub object : IsPart (strings_in g Object) (part_given given 2) p.o
 
 -- the most looks for a part
-abbrev pub part_looks : Dictionary → Role → Option Lent → ℕ
+abbrev pub part_looks : DictionaryParts → Role → Option Lent → ℕ
 part_looks d role None = 0
 part_looks d role (Some x) = role_looks d role
 
 -- and for all three
-abbrev pub given_looks : Dictionary → List (Option Lent) → ℕ
+abbrev pub given_looks : DictionaryParts → List (Option Lent) → ℕ
 given_looks d given = part_looks d Subject (part_given given 0) + part_looks d Predicate (part_given given 1) + part_looks d Object (part_given given 2)

@@ -26,12 +26,13 @@ impl<'a> Graph<'a> {
     ghost use Rattle.std.specs.Prelude.{◌∷◌, ◌↔◌, ◌≤◌, ◌+◌, [], Some, None, IsOk, OnErr, IsTrue};
     ghost use Rattle.hdt_front.specs.Numbering.{place};
     ghost use Rattle.hdt_dict.specs.Numbered.{numbered, Appends};
-    ghost use Rattle.hdt_dict.specs.Views.{role_block, role_looks};
-    ghost use Rattle.hdt_triples.specs.ListedViews.{directories_held, lists_held};
     ghost use Rattle.hdt_triples.specs.Uses.{Uses};
-    ghost use Rattle.hdt_file.specs.Graph.{IsGraph, counts_of};
+    ghost use Rattle.hdt_file.specs.Graph.{IsGraph};
     ghost use Rattle.hdt_file.specs.LayoutView.{layout_seen};
-    ghost use Rattle.hdt_file.specs.Views.{bitmap_of_graph, graph_seen, strings_in};
+    ghost use Rattle.hdt_dict.specs.Looks.{role_block, role_looks};
+    ghost use Rattle.hdt_file.specs.Parts.{dictionary_in, held_by};
+    ghost use Rattle.hdt_file.specs.PartsViews.{graph_parts, layout_parts};
+    ghost use Rattle.hdt_file.specs.Views.{graph_seen, strings_in};
 
     /// The law that this is a graph: sections of ascending UTF-8 strings without zero bytes, no string in two of shared,
     /// subjects and objects, and at least one triple; the triples strictly ascend, and each number is that of a string of its
@@ -51,10 +52,10 @@ impl<'a> Graph<'a> {
     }
 
     /// The same file without the directories and the lists.
-    #[tactic(auto, unfolding(crate::specs::Views::graph_seen, crate::specs::LayoutView::layout_seen))]
+    #[tactic(auto, unfolding(crate::specs::Views::graph_seen, crate::specs::LayoutView::layout_seen, crate::specs::PartsViews::graph_parts, crate::specs::PartsViews::layout_parts))]
     pub fn layout(&self) -> Layout<'a>
         ensures seen { layout_seen result ≡ graph_seen self.now }
-        ensures dictionary { result.dictionary ≡ self.now.dictionary }
+        ensures parts { layout_parts result ≡ graph_parts self.now }
     {
         Layout {
             head: self.head,
@@ -79,9 +80,9 @@ impl<'a> Graph<'a> {
     }
 
     /// How many numbers of 8 bytes the graph keeps beside the input.
-    #[tactic(auto, unfolding(crate::specs::Views::graph_seen, crate::specs::Views::bitmap_of_graph))]
+    #[tactic(auto, unfolding(crate::specs::PartsViews::graph_parts))]
     pub fn held(&self) -> u128
-        ensures { result ≡ directories_held (bitmap_of_graph self.now) + lists_held (counts_of (graph_seen self.now).dictionary) (bitmap_of_graph self.now) }
+        ensures { result ≡ held_by (graph_parts self.now) }
     {
         self.triples.held()
     }
@@ -111,9 +112,10 @@ impl<'a> Graph<'a> {
 
     /// The number of a string in a role, from 1; None where the role has no such string. It takes no memory, and
     /// halves the blocks of the role's sections.
+    #[tactic(auto, unfolding(crate::specs::Views::graph_seen, crate::specs::PartsViews::graph_parts))]
     pub fn number_of(&self, role: Role, x: &[u8], steps: &mut Steps) -> Option<u64>
         ensures exact { (n : ℕ) → (result ≡ Some n) ↔ (numbered (strings_in (graph_seen self.now) role) n ≡ Some x.now) }
-        ensures cost { steps.new ≤ steps.old + role_looks self.now.dictionary role }
+        ensures cost { steps.new ≤ steps.old + role_looks (dictionary_in (graph_parts self.now)) role }
         ensures more { steps.old ≤ steps.new }
     {
         self.dictionary.number_of(role, x, steps)
@@ -121,6 +123,7 @@ impl<'a> Graph<'a> {
 
     /// Appends string n of a role, numbers from 1: true; or false where there is none, with `out` unchanged. Where
     /// memory is refused, `out` is as it was. It unfolds the string from the head of its block.
+    #[tactic(auto, unfolding(crate::specs::Views::graph_seen, crate::specs::PartsViews::graph_parts))]
     pub fn string_of(
         &self,
         role: Role,
@@ -130,7 +133,7 @@ impl<'a> Graph<'a> {
     ) -> Result<bool, AllocError>
         ensures ok { IfOk result (λ appended. Appends (numbered (strings_in (graph_seen self.now) role) n) appended out.old.items out.new.items) }
         ensures err { OnErr result (out.new.items ≡ out.old.items) }
-        ensures cost { steps.new ≤ steps.old + role_block self.now.dictionary role }
+        ensures cost { steps.new ≤ steps.old + role_block (dictionary_in (graph_parts self.now)) role }
         ensures absent { numbered (strings_in (graph_seen self.now) role) n ≡ None → IsOk result }
         ensures more { steps.old ≤ steps.new }
     {

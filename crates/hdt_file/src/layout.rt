@@ -47,13 +47,13 @@ impl<'a> Layout<'a> {
     ghost use Rattle.std.specs.Prelude.{◌↔◌, ◌≤◌, ◌<◌, ◌+◌, ◌*◌, ◌^◌, ◌∷◌, [], Option, Some, None, IsOk, OnErr};
     ghost use Rattle.hdt_wire.specs.Rows.{Gives};
     ghost use Rattle.hdt_dict.specs.Numbered.{numbered, Appends};
-    ghost use Rattle.hdt_dict.specs.Views.{role_block, role_looks};
     ghost use Rattle.hdt_triples.specs.Left.{left_of, limit_of};
     ghost use Rattle.hdt_triples.specs.Patterns.{matches};
     ghost use Rattle.hdt_file.specs.Faults.{fault_of};
     ghost use Rattle.hdt_file.specs.File.{GraphParts, IsLayout, graph_in};
     ghost use Rattle.hdt_file.specs.LayoutView.{layout_seen};
-    ghost use Rattle.hdt_file.specs.Parts.{parts_in};
+    ghost use Rattle.hdt_dict.specs.Looks.{role_block, role_looks};
+    ghost use Rattle.hdt_file.specs.Parts.{dictionary_in, parts_in};
     ghost use Rattle.hdt_file.specs.PartsLaws.{parts_rows};
     ghost use Rattle.hdt_file.specs.PartsViews.{layout_parts};
     ghost use Rattle.hdt_file.specs.Search.{IsPart, IsPattern, given_looks, part_looks};
@@ -121,9 +121,10 @@ impl<'a> Layout<'a> {
 
     /// The number of a string in a role, from 1; None where the role has no such string. It takes no memory, and
     /// halves the blocks of the role's sections.
+    #[tactic(auto, unfolding(crate::specs::LayoutView::layout_seen, crate::specs::PartsViews::layout_parts))]
     pub fn number_of(&self, role: Role, x: &[u8], steps: &mut Steps) -> Option<u64>
         ensures exact { (n : ℕ) → (result ≡ Some n) ↔ (numbered (strings_in (layout_seen self.now) role) n ≡ Some x.now) }
-        ensures cost { steps.new ≤ steps.old + role_looks self.now.dictionary role }
+        ensures cost { steps.new ≤ steps.old + role_looks (dictionary_in (layout_parts self.now)) role }
         ensures more { steps.old ≤ steps.new }
     {
         self.dictionary.number_of(role, x, steps)
@@ -131,6 +132,7 @@ impl<'a> Layout<'a> {
 
     /// Appends string n of a role, numbers from 1: true; or false where there is none, with `out` unchanged. Where
     /// memory is refused, `out` is as it was. It unfolds the string from the head of its block.
+    #[tactic(auto, unfolding(crate::specs::LayoutView::layout_seen, crate::specs::PartsViews::layout_parts))]
     pub fn string_of(
         &self,
         role: Role,
@@ -140,7 +142,7 @@ impl<'a> Layout<'a> {
     ) -> Result<bool, AllocError>
         ensures ok { IfOk result (λ appended. Appends (numbered (strings_in (layout_seen self.now) role) n) appended out.old.items out.new.items) }
         ensures err { OnErr result (out.new.items ≡ out.old.items) }
-        ensures cost { steps.new ≤ steps.old + role_block self.now.dictionary role }
+        ensures cost { steps.new ≤ steps.old + role_block (dictionary_in (layout_parts self.now)) role }
         ensures absent { numbered (strings_in (layout_seen self.now) role) n ≡ None → IsOk result }
         ensures more { steps.old ≤ steps.new }
     {
@@ -150,7 +152,7 @@ impl<'a> Layout<'a> {
     /// The number of a string in a role, or any where none is given; None where the role has no such string.
     fn part(&self, role: Role, given: Option<&[u8]>, steps: &mut Steps) -> Option<Option<u64>>
         ensures exact { (n : Option ℕ) → (result ≡ Some n) ↔ IsPart (strings_in (layout_seen self.now) role) given.entry n }
-        ensures cost { steps.new ≤ steps.old + part_looks self.now.dictionary role given.entry }
+        ensures cost { steps.new ≤ steps.old + part_looks (dictionary_in (layout_parts self.now)) role given.entry }
         ensures more { steps.old ≤ steps.new }
     {
         match given {
@@ -164,7 +166,7 @@ impl<'a> Layout<'a> {
     pub fn pattern(&self, given: [Option<&[u8]>; 3], steps: &mut Steps) -> Option<Pattern>
         // It is p exactly where p has the numbers of the strings that are given.
         ensures exact { (p : Pattern) → (result ≡ Some p) ↔ IsPattern (layout_seen self.now) given.entry p }
-        ensures cost { steps.new ≤ steps.old + given_looks self.now.dictionary given.entry }
+        ensures cost { steps.new ≤ steps.old + given_looks (dictionary_in (layout_parts self.now)) given.entry }
         ensures more { steps.old ≤ steps.new }
     {
         let [s, p, o] = given;

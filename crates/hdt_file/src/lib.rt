@@ -24,11 +24,16 @@
 mod decimal;
 mod dictionary;
 mod fault;
+#[cfg(test)]
+mod fault_tests;
 mod graph;
 mod head;
+#[cfg(test)]
+mod large_tests;
 mod layout;
 mod opening;
 mod search;
+mod search_laws;
 #[cfg(test)]
 mod search_tests;
 mod spelling;
@@ -47,6 +52,7 @@ pub use graph::Graph;
 pub use head::{Head, one_head, read_head};
 pub use layout::Layout;
 pub use opening::{layouts_are_graphs, one_layout, open, verify};
+pub use search_laws::{answers_are_the_wanted, denoted_once};
 pub use text::{graph_text, layout_text, write_graph};
 pub use text_laws::{one_text, text_is_a_document};
 pub use tight::{one_tight_layout, open_tight, verify_tight};

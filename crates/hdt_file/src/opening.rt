@@ -6,6 +6,7 @@ ghost use Rattle.hdt_file.specs.Faults.{fault_of};
 ghost use Rattle.hdt_file.specs.File.{FileParts, IsFile, GraphParts, IsLayout, graph_in};
 ghost use Rattle.hdt_file.specs.Graph.{IsGraph};
 ghost use Rattle.hdt_file.specs.LayoutView.{layout_seen};
+ghost use Rattle.hdt_file.specs.Parts.{graph_from, parts_from, parts_in};
 ghost use Rattle.hdt_file.specs.PartsViews.{graph_parts, layout_parts};
 ghost use Rattle.hdt_file.specs.Views.{graph_seen, lens_of};
 
@@ -18,7 +19,7 @@ use std::alloc::Global;
 #[tactic(auto, unfolding(crate::specs::Views::graph_seen, crate::specs::PartsViews::graph_parts, crate::specs::LayoutView::layout_seen, crate::specs::PartsViews::layout_parts))]
 pub(crate) fn with_lists(alloc: Global, layout: Layout<'_>) -> Result<Graph<'_>, OpenFault>
     ensures seen { Gives fault_of graph_seen result (Ok (layout_seen layout.entry)) }
-    ensures parts { IfOk result (λ graph. graph_parts graph ≡ layout_parts layout.entry) }
+    ensures parts { Gives fault_of graph_parts result (Ok (layout_parts layout.entry)) }
 {
     let Ok(indexed) = layout.triples.with_directories(alloc) else {
         return Err(OpenFault::OutOfMemory);
@@ -35,7 +36,8 @@ pub(crate) fn with_lists(alloc: Global, layout: Layout<'_>) -> Result<Graph<'_>,
 
 /// Opens by rows.
 fn open_rows<'a>(alloc: Global, bytes: &'a [u8]) -> Result<Graph<'a>, OpenFault>
-    ensures { Gives fault_of graph_seen result (graph_in bytes.now) }
+    ensures seen { Gives fault_of graph_seen result (graph_in bytes.now) }
+    ensures parts { Gives fault_of graph_parts result (parts_in bytes.now) }
 {
     let layout = Layout::read(alloc, bytes)?;
     with_lists(alloc, layout)
@@ -57,6 +59,8 @@ pub fn open<'a>(alloc: Global, bytes: &'a [u8]) -> Result<Graph<'a>, OpenFault>
     ensures only { (graph : GraphParts) → IsLayout bytes.now graph → Gives fault_of graph_seen result (Ok graph) }
     // Otherwise it is the one fault that stands.
     ensures exact { Gives fault_of graph_seen result (graph_in bytes.now) }
+    // Its parts are as the bytes have them: by their block sizes and marks the costs of its calls are told.
+    ensures parts { Gives fault_of graph_parts result (parts_in bytes.now) }
 {
     open_rows(alloc, bytes)
 }
@@ -82,12 +86,14 @@ pub fn verify(alloc: Global, bytes: &[u8]) -> Result<[u64; 5], OpenFault>
     verify_rows(alloc, bytes)
 }
 
-/// Bytes are a layout of one graph at most, and one layout or one fault, never both.
+/// Bytes are a layout of one graph at most, and one layout or one fault, never both. The parts of a file are of its graph.
 pub fn one_layout()
     ensures exact { (bytes : List ℕ) → IsBytes bytes → length bytes < 2 ^ 64 → Exactly (graph_in bytes) (IsLayout bytes) }
     ensures one { (bytes : List ℕ) (g h : GraphParts) → IsBytes bytes → length bytes < 2 ^ 64 → IsLayout bytes g → IsLayout bytes h → g ≡ h }
     ensures file { (bytes : List ℕ) (a b : FileParts) → IsBytes bytes → length bytes < 2 ^ 64 → IsFile a bytes → IsFile b bytes → a ≡ b }
     ensures or_fault { (bytes : List ℕ) → IsBytes bytes → length bytes < 2 ^ 64 → OneValue (graph_in bytes) (IsLayout bytes) ⊎ OneFault (graph_in bytes) (IsLayout bytes) }
+    ensures of_parts { (bytes : List ℕ) → seen graph_from (parts_in bytes) ≡ graph_in bytes }
+    ensures file_parts { (bytes : List ℕ) (file : FileParts) → IsBytes bytes → length bytes < 2 ^ 64 → IsFile file bytes → parts_in bytes ≡ Ok (parts_from file) }
 {}
 
 /// The graph of a layout has sections of ascending UTF-8 strings without zero bytes, no string in two of shared,

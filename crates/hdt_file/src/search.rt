@@ -1,16 +1,20 @@
 //! Searching a graph, by numbers and by strings.
-ghost use Rattle.std.specs.Prelude.{◌≡◌, ◌↔◌, ◌≤◌, ◌<◌, ◌+◌, ◌^◌, [], Some, length};
+ghost use Rattle.std.specs.Prelude.{◌≡◌, ◌↔◌, ◌≤◌, ◌<◌, ◌+◌, ◌^◌, [], Some, filter, length};
 ghost use Rattle.hdt_triples.specs.Bounds.{most_steps};
 ghost use Rattle.hdt_triples.specs.Left.{left_of, limit_of};
 ghost use Rattle.hdt_triples.specs.Patterns.{matches};
+ghost use Rattle.hdt_file.specs.Denoted.{denoted};
+ghost use Rattle.hdt_file.specs.Parts.{bitmap_in, dictionary_in};
+ghost use Rattle.hdt_file.specs.PartsViews.{graph_parts};
 ghost use Rattle.hdt_file.specs.Search.{IsPattern, given_looks};
-ghost use Rattle.hdt_file.specs.Views.{bitmap_of_graph, graph_seen};
+ghost use Rattle.hdt_file.specs.StringTriples.{is_wanted};
+ghost use Rattle.hdt_file.specs.Views.{graph_seen};
 
 use crate::graph::Graph;
 use hdt_seq::Steps;
 use hdt_triples::{Matches, Pattern};
 
-#[tactic(auto, unfolding(crate::specs::Views::graph_seen, crate::specs::Views::bitmap_of_graph))]
+#[tactic(auto, unfolding(crate::specs::Views::graph_seen, crate::specs::PartsViews::graph_parts))]
 impl<'a> Graph<'a> {
     /// The triples that agree with each number that the pattern gives: exactly those, once each, in the order of the
     /// file's triples. It takes no memory, and few steps: those of the table.
@@ -18,7 +22,7 @@ impl<'a> Graph<'a> {
         ensures items { left_of result ≡ matches pattern (graph_seen self.now).triples }
         ensures fits { length (left_of result) < 2 ^ 64 }
         // The steps of this call and of all its items are at most the table's number.
-        ensures few { limit_of result ≡ most_steps (bitmap_of_graph self.now) pattern }
+        ensures few { limit_of result ≡ most_steps (bitmap_in (graph_parts self.now)) pattern }
     {
         self.triples.find(pattern)
     }
@@ -28,7 +32,7 @@ impl<'a> Graph<'a> {
     pub fn pattern(&self, given: [Option<&[u8]>; 3], steps: &mut Steps) -> Option<Pattern>
         // It is p exactly where p has the numbers of the strings that are given.
         ensures exact { (p : Pattern) → (result ≡ Some p) ↔ IsPattern (graph_seen self.now) given.entry p }
-        ensures cost { steps.new ≤ steps.old + given_looks self.now.dictionary given.entry }
+        ensures cost { steps.new ≤ steps.old + given_looks (dictionary_in (graph_parts self.now)) given.entry }
         ensures more { steps.old ≤ steps.new }
     {
         self.layout().pattern(given, steps)
@@ -36,19 +40,22 @@ impl<'a> Graph<'a> {
 
     /// The triples that have each string that is given in its role, as [`Graph::search`] gives them; none where a string
     /// isn't in its role. It takes no memory.
-    #[tactic(auto, unfolding(crate::specs::Views::graph_seen, crate::specs::Views::bitmap_of_graph, hdt_triples::specs::Left::left_of, hdt_triples::specs::Left::limit_of))]
+    #[tactic(auto, unfolding(crate::specs::Views::graph_seen, crate::specs::PartsViews::graph_parts, hdt_triples::specs::Left::left_of, hdt_triples::specs::Left::limit_of))]
     pub fn find(&self, given: [Option<&[u8]>; 3], steps: &mut Steps) -> Matches<'_>
+        // As triples of strings: exactly those of the denoted graph that have each given string in its role, in order.
+        ensures answers { denoted (graph_seen self.now) (left_of result) ≡ filter (is_wanted given.entry) (denoted (graph_seen self.now) (graph_seen self.now).triples) }
         // The matches of the pattern of the strings.
         ensures items { (p : Pattern) → IsPattern (graph_seen self.now) given.entry p → left_of result ≡ matches p (graph_seen self.now).triples }
         // Where a string isn't in its role there are none.
         ensures none { ((p : Pattern) → IsPattern (graph_seen self.now) given.entry p → ⊥) → left_of result ≡ [] }
         ensures fits { length (left_of result) < 2 ^ 64 }
-        ensures cost { steps.new ≤ steps.old + given_looks self.now.dictionary given.entry }
+        ensures cost { steps.new ≤ steps.old + given_looks (dictionary_in (graph_parts self.now)) given.entry }
         // The steps of the items are at most the table's number, apart from those of the look-ups; none where there are none.
-        ensures few { (p : Pattern) → IsPattern (graph_seen self.now) given.entry p → limit_of result ≡ most_steps (bitmap_of_graph self.now) p }
+        ensures few { (p : Pattern) → IsPattern (graph_seen self.now) given.entry p → limit_of result ≡ most_steps (bitmap_in (graph_parts self.now)) p }
         ensures idle { ((p : Pattern) → IsPattern (graph_seen self.now) given.entry p → ⊥) → limit_of result ≡ 0 }
         ensures more { steps.old ≤ steps.new }
     {
+        self.is_graph();
         match self.pattern(given, steps) {
             Some(pattern) => self.search(pattern),
             None => Matches::Empty,

@@ -12,7 +12,7 @@ use std::test::Fail;
 /// <u:a> <u:q> "x" .
 /// <u:b> <u:p> <u:a> .
 /// ```
-static THREE: &[u8] = &[
+pub(crate) static THREE: &[u8] = &[
     0x24, 0x48, 0x44, 0x54, 0x01, 0x3C, 0x68, 0x74, 0x74, 0x70, 0x3A, 0x2F, 0x2F, 0x70, 0x75, 0x72,
     0x6C, 0x2E, 0x6F, 0x72, 0x67, 0x2F, 0x48, 0x44, 0x54, 0x2F, 0x68, 0x64, 0x74, 0x23, 0x48, 0x44,
     0x54, 0x76, 0x31, 0x3E, 0x00, 0x00, 0x76, 0x35, 0x24, 0x48, 0x44, 0x54, 0x02, 0x6E, 0x74, 0x72,
@@ -70,10 +70,14 @@ fn admits(given: Option<u64>, number: u64) -> bool {
     }
 }
 
-/// Whether matches are the triples that agree with a pattern, by a plain filter.
-fn are_filtered(matches: Matches<'_>, pattern: Pattern) -> bool {
+/// Whether matches are the triples of a list that agree with a pattern, by a plain filter.
+pub(crate) fn are_filtered(
+    matches: Matches<'_>,
+    list: &[(u64, u64, u64)],
+    pattern: Pattern,
+) -> bool {
     let mut matches = matches;
-    for (s, p, o) in &TRIPLES {
+    for (s, p, o) in list {
         if admits(pattern.s, *s) && admits(pattern.p, *p) && admits(pattern.o, *o) {
             if matches.next() != Some((*s, *p, *o)) {
                 return false;
@@ -87,7 +91,7 @@ fn are_filtered(matches: Matches<'_>, pattern: Pattern) -> bool {
 fn wrong_in_graph(graph: &Graph<'_>) -> Option<Pattern> {
     for i in 0..PATTERNS {
         let pattern = pattern_at(i);
-        if !are_filtered(graph.search(pattern), pattern) {
+        if !are_filtered(graph.search(pattern), &TRIPLES, pattern) {
             return Some(pattern);
         }
     }
@@ -105,7 +109,7 @@ fn searches_by_numbers(rt: HostRuntime) -> Result<(), Fail> {
 fn wrong_in_layout(layout: &Layout<'_>) -> Option<Pattern> {
     for i in 0..PATTERNS {
         let pattern = pattern_at(i);
-        if !are_filtered(layout.search(pattern), pattern) {
+        if !are_filtered(layout.search(pattern), &TRIPLES, pattern) {
             return Some(pattern);
         }
     }
@@ -400,7 +404,7 @@ static NAMED: [Named; 19] = [
 /// Whether matches are those of a pattern, or none where there is no pattern.
 fn are_of(matches: Matches<'_>, wanted: Option<Pattern>) -> bool {
     match wanted {
-        Some(pattern) => are_filtered(matches, pattern),
+        Some(pattern) => are_filtered(matches, &TRIPLES, pattern),
         None => {
             let mut matches = matches;
             matches.next() == None

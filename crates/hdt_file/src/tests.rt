@@ -208,13 +208,6 @@ fn refuses_a_fault_of_the_head_first(rt: HostRuntime) {
     assert!(rt; found == Some(OpenFault::Fault(fault)));
 }
 
-#[test]
-fn says_why_a_file_is_not_opened(rt: HostRuntime) -> Result<(), Fail> {
-    let text = format!(in rt.alloc(); "{}", OpenFault::OutOfMemory)?;
-    assert!(rt; text.as_str() == "out of memory");
-    Ok(())
-}
-
 /// What follows the head of V1: the dictionary and the triples.
 const REST: &[u8] =
     b"$HDT\x03<http://purl.org/HDT/hdt#dictionaryFour>\x00mapping=1;\x00\x82\xB8\x02\x81\x8A\x90\x81\x01\x04\x82\xB8\xA0\xF7\xE66\xF0http://a/\x00\xF4\x81z\xD4\x02\x80\x80\x90h\x01\x01\x81\xF0\x00QS}R\x00\x00\x00\x00\x02\x81\x8A\x90\x81\x01\x04\x82\xB8\xA0\xF7\xE66\xF0http://a/\x00\xF4\x81z\xD4\x02\x80\x80\x90h\x01\x01\x81\xF0\x00QS}R\x00\x00\x00\x00$HDT\x04<http://purl.org/HDT/hdt#triplesBitmap>\x00order=1;\x00Y\xE9\x01\x81\x9B\x01R\xD0\x16\xA0\x01\x81\x9B\x01R\xD0\x16\xA0\x01\x01\x81\xF0\x01R\xD0\x16\xA0\x01\x01\x81\xF0\x01R\xD0\x16\xA0";
@@ -513,7 +506,7 @@ fn opened_tight(alloc: Global, bytes: &[u8]) -> Result<[u64; 5], OpenFault> {
 }
 
 /// Whether opening and verifying give this answer, and tight reading that one. Want of memory ends the test.
-fn answers(
+pub(crate) fn answers(
     alloc: Global,
     bytes: &[u8],
     wanted: Result<[u64; 5], Fault>,
@@ -666,7 +659,11 @@ fn before_sixty_thousand(alloc: Global) -> Result<Vec<u8>, Fail> {
 }
 
 /// These bytes and the triples behind them.
-fn with_triples(alloc: Global, before: &[u8], list: &[(u64, u64, u64)]) -> Result<Vec<u8>, Fail> {
+pub(crate) fn with_triples(
+    alloc: Global,
+    before: &[u8],
+    list: &[(u64, u64, u64)],
+) -> Result<Vec<u8>, Fail> {
     if !are_writable(list) {
         return Err(Fail::from("not writable"));
     }

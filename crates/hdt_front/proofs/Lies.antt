@@ -12,7 +12,9 @@ use Rattle.hdt_front.specs.Facts.{RowHolds, rest_at, before_at}
 use Rattle.hdt_front.specs.StringSteps.{row_at, string_is, rest_is, length-unfolded}
 use Rattle.hdt_front.proofs.Ascent.{Ascends}
 use Rattle.hdt_front.specs.declared.section.Section.{Section}
-use Rattle.hdt_front.specs.Strings.{blocks_of, looks}
+use Rattle.hdt_front.specs.Looks.{section_looks}
+use Rattle.hdt_front.specs.Strings.{blocks_of, section_of}
+use Rattle.hdt_front.specs.StringsLaws.{count_is}
 use Rattle.hdt_seq.specs.Width.{digits}
 
 -- where there is a block, its size is at least 1
@@ -133,6 +135,8 @@ looks_by : (n b d : ℕ) → 1 ≤ b → 0 < (n + (b - 1)) / b → cond (eqb n 0
 looks_by zero b d some h = let none : (0 + (b - 1)) / b ≡ 0 = ap (λ k. k / b) (zero-add (b - 1)) ∙ div-eq_of_lt (omega (arith, some)) in absurd (omega (arith, h, none))
 looks_by (suc n) b d some h = ap (λ t. cond t 0 d) (not_zero (suc n) (omega arith))
 
-pub some_looks : (s : Section) → 0 < blocks_of s → looks s ≡ digits (blocks_of s) + (s.packed.block - 1)
-unfolding looks blocks_of
-some_looks s h = looks_by s.packed.count s.packed.block _ (some_block s.packed.count s.packed.block 0 h) h
+pub some_looks : (s : Section) → 0 < blocks_of s → section_looks (section_of s) ≡ digits (blocks_of s) + (s.packed.block - 1)
+unfolding section_looks section_of blocks_of
+some_looks s h =
+    ap (λ n. cond (eqb n 0) 0 (digits ((n + (s.packed.block - 1)) / s.packed.block) + (s.packed.block - 1))) (count_is s)
+    ∙ looks_by s.packed.count s.packed.block _ (some_block s.packed.count s.packed.block 0 h) h

@@ -17,6 +17,7 @@ pub mod Canonical
 pub mod CanonicalLaws
 pub mod Faults
 pub mod Numbering
+pub mod Looks
 pub mod Strings
 pub mod StringsLaws
 pub mod Reaching

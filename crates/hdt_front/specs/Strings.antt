@@ -1,8 +1,7 @@
 -- A section that was read, as its contracts see it.
 use Rattle.std.specs.Prelude.{ℕ, List, [], ◌-◌, ◌+◌, ◌/◌}
-use Rattle.std.specs.Prelude.{nat_eq, cond, get_or}
+use Rattle.std.specs.Prelude.{get_or}
 use Rattle.hdt_seq.specs.Numbers.{numbers_of}
-use Rattle.hdt_seq.specs.Width.{digits}
 use Rattle.hdt_front.specs.Unfolding.{unfolded}
 use Rattle.hdt_front.specs.Section.{SectionParts}
 use Rattle.hdt_front.specs.declared.section.Section.{Section}
@@ -28,10 +27,6 @@ block_size s = s.packed.block
 -- how many blocks the strings take; without strings none
 unfoldable pub blocks_of : Section → ℕ
 blocks_of s = (s.packed.count + (s.packed.block - 1)) / s.packed.block
-
--- the most looks at pieces that a search takes: none without strings
-unfoldable pub looks : Section → ℕ
-looks s = cond (nat_eq s.packed.count 0) 0 (digits (blocks_of s) + (s.packed.block - 1))
 
 -- how many packed bytes the block of string i has, counted from 0: from its head to the next one, or to the end
 unfoldable pub block_bytes : Section → ℕ → ℕ

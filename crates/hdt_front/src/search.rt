@@ -43,7 +43,8 @@ fn lie(kept: u64, text: &[u8], same: usize, x: &[u8]) -> Lie
 }
 
 impl<'a> Section<'a> {
-    ghost use Rattle.hdt_front.specs.Strings.{strings_of, blocks_of, looks};
+    ghost use Rattle.hdt_front.specs.Looks.{section_looks};
+    ghost use Rattle.hdt_front.specs.Strings.{strings_of, section_of, blocks_of};
     ghost use Rattle.hdt_front.specs.Numbering.{place};
     ghost use Rattle.hdt_seq.specs.Width.{digits};
 
@@ -162,7 +163,7 @@ impl<'a> Section<'a> {
     /// block size; none in an empty section.
     pub fn place_of(&self, x: &[u8], steps: &mut Steps) -> Option<u64>
         ensures place { result ≡ place (strings_of self.now) x.now }
-        ensures cost { steps.new ≤ steps.old + looks self.now }
+        ensures cost { steps.new ≤ steps.old + section_looks (section_of self.now) }
         ensures more { steps.old ≤ steps.new }
     {
         if self.blocks() == 0 {
