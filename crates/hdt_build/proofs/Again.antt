@@ -1,23 +1,44 @@
 -- Files that are rewritten.
-use Rattle.std.proofs.Common.{◌≡◌, ℕ, ◌<◌, ◌^◌, List, length, arith, subst}
-use Rattle.hdt_file.specs.File.{GraphParts, IsLayout}
+use Rattle.std.proofs.Common.{◌≡◌, ◌∙◌, ℕ, ◌<◌, ◌^◌, List, length, Result, Ok, arith, ap, sym, subst}
+use Rattle.hdt_wire.specs.declared.fault.Fault.{Fault}
+use Rattle.hdt_wire.specs.Exact.{Exactly, seen}
+use Rattle.hdt_file.specs.File.{GraphParts, IsLayout, graph_in}
+use Rattle.hdt_file.specs.Tight.{IsTightLayout, tight_in}
+use Rattle.hdt_file.specs.Views.{lens_of}
 use Rattle.hdt_build.specs.declared.options.Options.{Options}
 use Rattle.hdt_build.specs.declared.report.Report.{Report}
-use Rattle.hdt_build.specs.Built.{IsBuilt, IsMade}
+use Rattle.hdt_build.specs.Built.{report_of, IsBuilt, IsMade}
 use Rattle.hdt_build.specs.Canonical.{IsCanonical}
-use Rattle.hdt_build.specs.Graph.{StringTriple}
-use Rattle.hdt_build.specs.Layouts.{denoted_by, IsLayoutOf}
+use Rattle.hdt_file.specs.Denoted.{StringTriple}
+use Rattle.hdt_build.specs.Layouts.{denoted_by, lens_told, IsLayoutOf, IsVerified}
 use Rattle.hdt_build.specs.Options.{AreRight, IsBlockSize}
 use Rattle.hdt_build.specs.Rewritten.{IsRewritten}
 use Rattle.hdt_build.proofs.BuiltLayout.{built_layout}
 use Rattle.hdt_build.proofs.Equal.{count_is, one_file}
-use Rattle.hdt_build.proofs.Layouts.{canonical_layout}
+use Rattle.hdt_build.proofs.Layouts.{canonical_layout, file_layout, file_tight}
 
 -- a file that is made is a layout
 made_layout : (header : List ℕ) (graph : List StringTriple) (b : ℕ) (bytes : List ℕ) (report : Report) → IsBlockSize b → IsMade header graph b bytes report → length bytes < 2 ^ 64 → report.triples < 2 ^ 64 → IsLayoutOf header graph bytes
 made_layout header graph b bytes report right h small few =
     let many = count_is h.file.dictionary h.file.triples bytes report h.report_is in
     canonical_layout header graph b bytes h.file right.0 (omega (arith, right.1)) small (omega (arith, many, few))
+
+-- the numbers of a file that is made are verified
+abbrev lens_answered : Report → Result (List ℕ) Fault
+lens_answered r = Ok (lens_told r)
+
+pub made_verified : (header : List ℕ) (graph : List StringTriple) (b : ℕ) (bytes : List ℕ) (report : Report) → IsBlockSize b → IsMade header graph b bytes report → length bytes < 2 ^ 64 → report.triples < 2 ^ 64
+    → Exactly (graph_in bytes) (IsLayout bytes) → Exactly (tight_in bytes) (IsTightLayout bytes) → IsVerified bytes report
+unfolding report_of
+made_verified header graph b bytes report right h small few exact tight =
+    let many = count_is h.file.dictionary h.file.triples bytes report h.report_is in
+    let laid = file_layout header graph b bytes h.file right.0 (omega (arith, right.1)) small (omega (arith, many, few)) in
+    let told = sym (ap lens_answered h.report_is) in
+    record {
+      verified = ap (seen lens_of) (exact.only _ laid) ∙ told;
+      tight = ap (seen lens_of) (tight.only _ (record { layout = laid; tight = file_tight header graph b bytes h.file })) ∙ told;
+      bytes_are = ap (λ (r : Report). r.bytes) h.report_is;
+    }
 
 pub rewritten_layout : (b : ℕ) (graph : GraphParts) (bytes : List ℕ) (report : Report) → IsBlockSize b → IsRewritten b graph bytes report → length bytes < 2 ^ 64 → report.triples < 2 ^ 64 → IsLayoutOf graph.header (denoted_by graph) bytes
 rewritten_layout b graph bytes report right h small few = made_layout graph.header (denoted_by graph) b bytes report right h small few

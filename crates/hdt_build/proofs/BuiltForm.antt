@@ -9,7 +9,8 @@ use Rattle.hdt_build.specs.declared.options.Options.{Options}
 use Rattle.hdt_build.specs.declared.report.Report.{Report}
 use Rattle.hdt_build.specs.Built.{report_of, IsMade, IsBuilt}
 use Rattle.hdt_build.specs.Canonical.{canonical_file}
-use Rattle.hdt_build.specs.Graph.{StringTriple, IsForm}
+use Rattle.hdt_file.specs.Denoted.{StringTriple}
+use Rattle.hdt_build.specs.Graph.{IsForm}
 use Rattle.hdt_build.specs.Header.{header_body}
 use Rattle.hdt_build.specs.Reading.{AreTexts}
 

@@ -3,7 +3,7 @@ use Rattle.std.proofs.Common.{ℕ, ◌<◌, ◌^◌, List, length, arith}
 use Rattle.hdt_build.specs.declared.options.Options.{Options}
 use Rattle.hdt_build.specs.declared.report.Report.{Report}
 use Rattle.hdt_build.specs.Built.{IsBuilt}
-use Rattle.hdt_build.specs.Graph.{StringTriple}
+use Rattle.hdt_file.specs.Denoted.{StringTriple}
 use Rattle.hdt_build.specs.Header.{header_body}
 use Rattle.hdt_build.specs.Layouts.{IsLayoutOf}
 use Rattle.hdt_build.specs.Options.{AreRight}

@@ -1,5 +1,5 @@
 -- The number triples of a document: what they denote, and that their subjects have no gap.
-use Rattle.std.proofs.Common.{◌≡◌, ◌≢◌, ℕ, ◌+◌, ◌-◌, ◌<◌, ◌≤◌, List, [], ◌∷◌, map, length, get_or, refl, ap, sym, ◌∙◌, subst, inl, inr, arith}
+use Rattle.std.proofs.Common.{◌≡◌, ◌≢◌, ℕ, ◌+◌, ◌<◌, ◌≤◌, List, [], ◌∷◌, map, length, get_or, refl, ap, sym, ◌∙◌, subst, inl, inr, arith}
 use Rattle.std.specs.declared.cmp.Ordering.TheVariants.{Less, Equal}
 use Rattle.std.specs.List.{All, Contains}
 use Rattle.std.proofs.lemmas.Bool.{cases_lt}
@@ -14,7 +14,9 @@ use Rattle.hdt_build.specs.Graph.{subject_terms, predicate_terms, object_terms}
 use Rattle.hdt_dict.specs.MembersLaws.{SameMembers-map, Contains-from_map, All-same_members}
 use Rattle.hdt_build.specs.Numbers.{term_at, AreNumbersOf}
 use Rattle.hdt_triples.specs.Counting.{Triple}
-use Rattle.hdt_build.specs.Graph.{StringTriple, InRange, IsForm, denoted, string_triple, triple_at, triples_of, triple_cmp, AscendingTriples, numbers_at}
+use Rattle.hdt_file.specs.Denoted.{StringTriple}
+use Rattle.hdt_build.specs.Graph.{InRange, IsForm, triple_at, triples_of, triple_cmp, AscendingTriples, numbers_at}
+use Rattle.hdt_build.proofs.Naming.{string_triple, same_strings, term_in}
 use Rattle.hdt_build.proofs.Distinct.{number_unique, subjects_distinct}
 use Rattle.hdt_triples.specs.Order.{triple_in, AreWritable}
 use Rattle.hdt_build.proofs.Order.{triple_total, first_le, triple_less}
@@ -43,9 +45,6 @@ module _ {ss ps os : List (List ℕ)} (d : FourLists) (h : IsSplit ss ps os d) w
         | inr b ↦ Contains-append_right d.shared d.objects x ((h.objects x).1 (a, b))
       ]
 
-pub same_strings : (a b c d e f : List ℕ) → a ≡ b → c ≡ d → e ≡ f → let l : StringTriple = (a, c, e) in let r : StringTriple = (b, d, f) in l ≡ r
-same_strings a b c d e f p q r = cc
-
 module _ (d : FourLists) (ss ps os : List (List ℕ)) (sn pn on : List ℕ) (s : AreNumbersOf (subject_terms d) ss sn) (p : AreNumbersOf (predicate_terms d) ps pn) (o : AreNumbersOf (object_terms d) os on) where
   one_denoted : (t : Triple) → t.0 < length ss → t.1 < length ps → t.2 < length os → string_triple d (numbers_at sn pn on t) ≡ triple_at ss ps os t
   one_denoted t a b c = same_strings _ _ _ _ _ _ (s.each t.0 a).is (p.each t.1 b).is (o.each t.2 c).is
@@ -57,7 +56,7 @@ module _ (d : FourLists) (ss ps os : List (List ℕ)) (sn pn on : List ℕ) (s :
       let z = o.each t.2 c in
       ((x.from_one, x.within), (y.from_one, y.within), (z.from_one, z.within))
 
-  pub denoted_is : (ids : List Triple) → All (λ t. t.0 < length ss) ids → All (λ t. t.1 < length ps) ids → All (λ t. t.2 < length os) ids → denoted d (map (numbers_at sn pn on) ids) ≡ triples_of ss ps os ids
+  pub denoted_is : (ids : List Triple) → All (λ t. t.0 < length ss) ids → All (λ t. t.1 < length ps) ids → All (λ t. t.2 < length os) ids → map (string_triple d) (map (numbers_at sn pn on) ids) ≡ triples_of ss ps os ids
   denoted_is [] a b c = refl
   denoted_is (t ∷ ids) a b c =
       let e = one_denoted t (All-head (λ (t : Triple). t.0 < length ss) t ids a) (All-head (λ (t : Triple). t.1 < length ps) t ids b) (All-head (λ (t : Triple). t.2 < length os) t ids c) in
@@ -99,7 +98,7 @@ module _ (ss ps os : List (List ℕ)) (ids : List Triple) where
     sections = graph_split d h a b c u v w;
     ascending = up;
     in_range = All-same_members (InRange d) (map (numbers_at sn pn on) ids) ts same (all_in_range d ss ps os sn pn on s p o ids a b c);
-    denotes = subst (SameMembers (denoted d ts)) (denoted_is d ss ps os sn pn on s p o ids a b c) (SameMembers-map (string_triple d) ts (map (numbers_at sn pn on) ids) same);
+    denotes = subst (SameMembers (map (string_triple d) ts)) (denoted_is d ss ps os sn pn on s p o ids a b c) (SameMembers-map (string_triple d) ts (map (numbers_at sn pn on) ids) same);
   }
 
 module _ {g : List StringTriple} (d : FourLists) (ts : List Triple) (h : IsForm g d ts) where
@@ -120,7 +119,7 @@ module _ {g : List StringTriple} (d : FourLists) (ts : List Triple) (h : IsForm 
   -- each number of a subject occurs
   pub occurs : (n : ℕ) → 0 < n → n ≤ length (subject_terms d) → (t : Triple) × Contains ts t × (t.0 ≡ n)
   occurs n a b =
-      let r = occurs_as (term_at (subject_terms d) n) (Contains-get_or (subject_terms d) (n - 1) [] (omega arith)) in
+      let r = occurs_as (term_at (subject_terms d) n) (term_in (subject_terms d) n a b) in
       let range = All-contains (InRange d) ts r.0 h.in_range r.1 in
       (r.0, r.1, number_unique (subject_terms d) (subjects_distinct d h.sections) r.0.0 n range.0.0 range.0.1 a b r.2)
 
@@ -169,7 +168,7 @@ module _ {g : List StringTriple} (d : FourLists) (ts : List Triple) (h : IsForm 
     objects = λ i below. (h.in_range i (0, 0, 0) below).2.0;
   }
 
-  pub once : (i j : ℕ) (x : StringTriple) → i < j → j < length (denoted d ts) → get_or (denoted d ts) i x ≢ get_or (denoted d ts) j x
+  pub once : (i j : ℕ) (x : StringTriple) → i < j → j < length (map (string_triple d) ts) → get_or (map (string_triple d) ts) i x ≢ get_or (map (string_triple d) ts) j x
   once i j x lt below = λ same.
       let e : Triple = (0, 0, 0) in
       let size = length-map ts (string_triple d) in

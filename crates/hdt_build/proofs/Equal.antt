@@ -7,7 +7,7 @@ use Rattle.hdt_build.specs.declared.options.Options.{Options}
 use Rattle.hdt_build.specs.declared.report.Report.{Report}
 use Rattle.hdt_build.specs.Built.{report_of, IsBuilt}
 use Rattle.hdt_build.specs.Canonical.{canonical_file, IsCanonical}
-use Rattle.hdt_build.specs.Graph.{StringTriple}
+use Rattle.hdt_file.specs.Denoted.{StringTriple}
 use Rattle.hdt_build.specs.Header.{header_body}
 use Rattle.hdt_build.proofs.Unique.{canonical_unique, same_file}
 

@@ -5,7 +5,8 @@ use Rattle.std.proofs.lemmas.List.{get_or_append_left, length_push, map_push}
 use Rattle.std.proofs.lemmas.List.Elements.{All-head, All-tail, All-push, All-weaker, All-contains, Contains-push, Contains-push_cases, Contains-append_left}
 use Rattle.hdt_dict.specs.MembersLaws.{All-from_members}
 use Rattle.hdt_triples.specs.Counting.{Triple}
-use Rattle.hdt_build.specs.Graph.{StringTriple, triple_at, triples_of}
+use Rattle.hdt_file.specs.Denoted.{StringTriple}
+use Rattle.hdt_build.specs.Graph.{triple_at, triples_of}
 use Rattle.hdt_build.specs.Texts.{with_text}
 
 -- ys is xs with x at the place i

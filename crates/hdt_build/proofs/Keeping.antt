@@ -18,13 +18,13 @@ use Rattle.hdt_file.specs.File.{GraphParts}
 use Rattle.hdt_file.specs.Graph.{IsGraph}
 use Rattle.hdt_file.specs.Views.{strings_in}
 use Rattle.hdt_build.specs.Documents.{AreSound}
-use Rattle.hdt_build.specs.Graph.{StringTriple, subjects_of, predicates_of, objects_of, triple_at, triples_of}
+use Rattle.hdt_file.specs.Denoted.{StringTriple}
+use Rattle.hdt_build.specs.Graph.{subjects_of, predicates_of, objects_of, triple_at, triples_of}
 use Rattle.hdt_build.specs.Layouts.{denoted_by}
 use Rattle.hdt_build.specs.Numbers.{term_at}
 use Rattle.hdt_build.specs.Reading.{AreTexts}
 use Rattle.hdt_build.specs.Used.{AreAllUsed, places_at}
-use Rattle.hdt_build.proofs.Denoting.{same_strings}
-use Rattle.hdt_build.proofs.Naming.{named, denoted_is}
+use Rattle.hdt_build.proofs.Naming.{same_strings, term_is}
 
 -- ---- the pattern that gives nothing
 
@@ -51,10 +51,13 @@ text_of_two xs ys i h k lt =
           subst IsText (sym (sym (ap (λ (j : ℕ). get_or (xs ++ ys) j []) at) ∙ get_or-append-add xs ys (i - length xs) [])) (text_of ys (i - length xs) k (omega (arith, lt, long, above)))
     ]
 
+place_text : (g : GraphParts) → IsGraph g → (role : Role) (n : ℕ) → 1 ≤ n → n ≤ length (strings_in g role) → IsText (get_or (strings_in g role) (n - 1) [])
+place_text g h Subject n from to = text_of_two g.dictionary.shared g.dictionary.subjects (n - 1) h.shared h.subjects (omega (arith, from, to))
+place_text g h Predicate n from to = text_of g.dictionary.predicates (n - 1) h.predicates (omega (arith, from, to))
+place_text g h Object n from to = text_of_two g.dictionary.shared g.dictionary.objects (n - 1) h.shared h.objects (omega (arith, from, to))
+
 string_text : (g : GraphParts) → IsGraph g → (role : Role) (n : ℕ) → 1 ≤ n → n ≤ length (strings_in g role) → IsText (term_at (strings_in g role) n)
-string_text g h Subject n from to = text_of_two g.dictionary.shared g.dictionary.subjects (n - 1) h.shared h.subjects (omega (arith, from, to))
-string_text g h Predicate n from to = text_of g.dictionary.predicates (n - 1) h.predicates (omega (arith, from, to))
-string_text g h Object n from to = text_of_two g.dictionary.shared g.dictionary.objects (n - 1) h.shared h.objects (omega (arith, from, to))
+string_text g h role n from to = subst IsText (sym (term_is (strings_in g role) n from)) (place_text g h role n from to)
 
 -- a triple of a graph: in each role its number is that of a string, and used
 record IsOf (g : GraphParts) (t : Triple) : Type 0 where
@@ -82,68 +85,54 @@ all_of g h k d lt =
     to t s p o Predicate = p
     to t s p o Object = o
 
-abbrev named_all : GraphParts → List StringTriple
-named_all g = map (named g) g.triples
-
-denoted_named : (g : GraphParts) → IsGraph g → denoted_by g ≡ named_all g
-denoted_named g h =
-    let all = all_of g h in
-    denoted_is g g.triples (λ k d lt. let t = all k d lt in (t.from Subject, t.from Predicate, t.from Object))
-
 pub some_denoted : (g : GraphParts) → IsGraph g → 0 < length (denoted_by g)
 some_denoted g h = omega (arith, h.some, length-map g.triples (strings_of g))
 
-named_texts : (g : GraphParts) → IsGraph g → AreTexts (named_all g)
-named_texts g h =
+pub denoted_texts : (g : GraphParts) → IsGraph g → AreTexts (denoted_by g)
+denoted_texts g h =
     let all = all_of g h in
     record {
-      subjects_are = All-map IsText (λ (t : StringTriple). t.0) (named_all g) (All-map (λ (t : StringTriple). IsText t.0) (named g) g.triples (λ k d lt. let t = all k d lt in string_text g h Subject _ (t.from Subject) (t.to Subject)));
-      predicates_are = All-map IsText (λ (t : StringTriple). t.1) (named_all g) (All-map (λ (t : StringTriple). IsText t.1) (named g) g.triples (λ k d lt. let t = all k d lt in string_text g h Predicate _ (t.from Predicate) (t.to Predicate)));
-      objects_are = All-map IsText (λ (t : StringTriple). t.2) (named_all g) (All-map (λ (t : StringTriple). IsText t.2) (named g) g.triples (λ k d lt. let t = all k d lt in string_text g h Object _ (t.from Object) (t.to Object)));
+      subjects_are = All-map IsText (λ (t : StringTriple). t.0) (denoted_by g) (All-map (λ (t : StringTriple). IsText t.0) (strings_of g) g.triples (λ k d lt. let t = all k d lt in string_text g h Subject _ (t.from Subject) (t.to Subject)));
+      predicates_are = All-map IsText (λ (t : StringTriple). t.1) (denoted_by g) (All-map (λ (t : StringTriple). IsText t.1) (strings_of g) g.triples (λ k d lt. let t = all k d lt in string_text g h Predicate _ (t.from Predicate) (t.to Predicate)));
+      objects_are = All-map IsText (λ (t : StringTriple). t.2) (denoted_by g) (All-map (λ (t : StringTriple). IsText t.2) (strings_of g) g.triples (λ k d lt. let t = all k d lt in string_text g h Object _ (t.from Object) (t.to Object)));
     }
-
-pub denoted_texts : (g : GraphParts) → IsGraph g → AreTexts (denoted_by g)
-denoted_texts g h = subst AreTexts (sym (denoted_named g h)) (named_texts g h)
 
 -- ---- the same triples over the strings that are used
 
 module _ (g : GraphParts) (ss ps os : List (List ℕ)) (sp pp op : List ℕ) (s : AreAllUsed g Subject ss sp) (p : AreAllUsed g Predicate ps pp) (o : AreAllUsed g Object os op) where
-  one : (t : Triple) → IsOf g t → triple_at ss ps os (places_at sp pp op t) ≡ named g t
+  one : (t : Triple) → IsOf g t → triple_at ss ps os (places_at sp pp op t) ≡ strings_of g t
   one t h = same_strings _ _ _ _ _ _ (s.is t.0 (h.from Subject) (h.to Subject) (h.used Subject)) (p.is t.1 (h.from Predicate) (h.to Predicate) (h.used Predicate)) (o.is t.2 (h.from Object) (h.to Object) (h.used Object))
 
-  each_kept : (ts : List Triple) → All (IsOf g) ts → triples_of ss ps os (map (places_at sp pp op) ts) ≡ map (named g) ts
+  each_kept : (ts : List Triple) → All (IsOf g) ts → triples_of ss ps os (map (places_at sp pp op) ts) ≡ map (strings_of g) ts
   each_kept [] h = refl
   each_kept (t ∷ ts) h =
       let e = one t (All-head (IsOf g) t ts h) in
       let f = each_kept ts (All-tail (IsOf g) t ts h) in
       λ i. e i ∷ f i
 
-  all_kept : IsGraph g → triples_of ss ps os (map (places_at sp pp op) g.triples) ≡ named_all g
-  all_kept h = each_kept g.triples (all_of g h)
-
   pub graph_kept : IsGraph g → triples_of ss ps os (map (places_at sp pp op) g.triples) ≡ denoted_by g
-  graph_kept h = all_kept h ∙ sym (denoted_named g h)
+  graph_kept h = each_kept g.triples (all_of g h)
 
   -- a string that triples use is one of what they denote
-  subject_named : (x : List ℕ) (n : ℕ) → Uses g.triples Subject n → term_at (strings_in g Subject) n ≡ x → Contains (subjects_of (named_all g)) x
+  subject_named : (x : List ℕ) (n : ℕ) → Uses g.triples Subject n → term_at (strings_in g Subject) n ≡ x → Contains (subjects_of (denoted_by g)) x
   subject_named x n used is =
       let t = Contains-from_map (part Subject) g.triples n used in
-      subst (Contains (subjects_of (named_all g))) (ap (term_at (strings_in g Subject)) t.2 ∙ is) (Contains-map (λ (t : StringTriple). t.0) (named_all g) (named g t.0) (Contains-map (named g) g.triples t.0 t.1))
+      subst (Contains (subjects_of (denoted_by g))) (ap (term_at (strings_in g Subject)) t.2 ∙ is) (Contains-map (λ (t : StringTriple). t.0) (denoted_by g) (strings_of g t.0) (Contains-map (strings_of g) g.triples t.0 t.1))
 
-  predicate_named : (x : List ℕ) (n : ℕ) → Uses g.triples Predicate n → term_at (strings_in g Predicate) n ≡ x → Contains (predicates_of (named_all g)) x
+  predicate_named : (x : List ℕ) (n : ℕ) → Uses g.triples Predicate n → term_at (strings_in g Predicate) n ≡ x → Contains (predicates_of (denoted_by g)) x
   predicate_named x n used is =
       let t = Contains-from_map (part Predicate) g.triples n used in
-      subst (Contains (predicates_of (named_all g))) (ap (term_at (strings_in g Predicate)) t.2 ∙ is) (Contains-map (λ (t : StringTriple). t.1) (named_all g) (named g t.0) (Contains-map (named g) g.triples t.0 t.1))
+      subst (Contains (predicates_of (denoted_by g))) (ap (term_at (strings_in g Predicate)) t.2 ∙ is) (Contains-map (λ (t : StringTriple). t.1) (denoted_by g) (strings_of g t.0) (Contains-map (strings_of g) g.triples t.0 t.1))
 
-  object_named : (x : List ℕ) (n : ℕ) → Uses g.triples Object n → term_at (strings_in g Object) n ≡ x → Contains (objects_of (named_all g)) x
+  object_named : (x : List ℕ) (n : ℕ) → Uses g.triples Object n → term_at (strings_in g Object) n ≡ x → Contains (objects_of (denoted_by g)) x
   object_named x n used is =
       let t = Contains-from_map (part Object) g.triples n used in
-      subst (Contains (objects_of (named_all g))) (ap (term_at (strings_in g Object)) t.2 ∙ is) (Contains-map (λ (t : StringTriple). t.2) (named_all g) (named g t.0) (Contains-map (named g) g.triples t.0 t.1))
+      subst (Contains (objects_of (denoted_by g))) (ap (term_at (strings_in g Object)) t.2 ∙ is) (Contains-map (λ (t : StringTriple). t.2) (denoted_by g) (strings_of g t.0) (Contains-map (strings_of g) g.triples t.0 t.1))
 
   pub sound_kept : IsGraph g → AreSound ss ps os (map (places_at sp pp op) g.triples)
   sound_kept h =
       let all = all_of g h in
-      let same = sym (all_kept h) in
+      let same = sym (graph_kept h) in
       record {
         subjects_within = All-map (λ (t : Triple). t.0 < length ss) (places_at sp pp op) g.triples (λ k d lt. let t = all k d lt in s.within _ (t.from Subject) (t.to Subject) (t.used Subject));
         predicates_within = All-map (λ (t : Triple). t.1 < length ps) (places_at sp pp op) g.triples (λ k d lt. let t = all k d lt in p.within _ (t.from Predicate) (t.to Predicate) (t.used Predicate));

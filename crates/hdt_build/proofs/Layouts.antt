@@ -8,23 +8,23 @@ use Rattle.hdt_seq.specs.Bits.{bits_spelling}
 use Rattle.hdt_seq.specs.Numbers.{numbers_spelling}
 use Rattle.hdt_front.specs.Canonical.{canonical, canonical_parts}
 use Rattle.hdt_dict.specs.Split.{FourLists}
-use Rattle.hdt_dict.specs.Strings.{SameMembers}
 use Rattle.hdt_dict.specs.Writing.{AreSections, mapping, canonical_dictionary, canonical_dictionary_parts}
 use Rattle.hdt_dict.specs.WritingLaws.{dictionary_stands}
 use Rattle.hdt_triples.specs.Counting.{Triple, BitmapTriples}
 use Rattle.hdt_triples.specs.Order.{AreWithin, AreFew}
 use Rattle.hdt_triples.specs.Writing.{ordered, sequences_of, canonical_sequences, sequences_parts, canonical_triples, canonical_triples_parts}
 use Rattle.hdt_triples.specs.WritingLaws.{triples_stand, triples_are}
-use Rattle.hdt_file.specs.File.{FileParts, IsFile, counts_in, graph_of}
+use Rattle.hdt_file.specs.File.{FileParts, GraphParts, IsFile, IsLayout, counts_in, graph_of}
+use Rattle.hdt_file.specs.Tight.{IsTight}
 use Rattle.hdt_triples.specs.Triples.{IsTriples}
 use Rattle.hdt_build.specs.Canonical.{canonical_head, canonical_file, IsCanonical}
-use Rattle.hdt_build.specs.Graph.{StringTriple, IsForm, counts_of, denoted}
+use Rattle.hdt_file.specs.Denoted.{StringTriple}
+use Rattle.hdt_build.specs.Graph.{IsForm, counts_of}
 use Rattle.hdt_build.specs.Header.{length_property}
-use Rattle.hdt_build.specs.Layouts.{AreOnce, denoted_by, parts_of, IsLayoutOf}
+use Rattle.hdt_build.specs.Layouts.{parts_of, IsLayoutOf}
 use Rattle.hdt_build.proofs.Counts.{dictionary_bytes}
 use Rattle.hdt_build.proofs.Denoting.{some_triple, writable, once}
 use Rattle.hdt_build.proofs.Heads.{length_no_zero, states_length}
-use Rattle.hdt_build.proofs.Naming.{denoted_is}
 use Rattle.hdt_build.proofs.TightForm.{form_tight}
 
 -- where a dictionary ends
@@ -119,25 +119,31 @@ module _ (header : List ℕ) (graph : List StringTriple) (b : ℕ) (d : FourList
   unfolding file_of canonical_dictionary_parts canonical_parts sequences_parts
   file_graph = ap (λ (l : List Triple). parts_of header d l) (triples_are ts (writable d ts form (some_triple graph d ts form some)))
 
-  denoted_same : denoted d ts ≡ denoted_by (parts_of header d ts)
-  denoted_same = sym (denoted_is (parts_of header d ts) ts (λ k e lt. let r = form.in_range k e lt in (r.0.0, r.1.0, r.2.0)))
-
-  pub layout : AreSections d → 1 ≤ b → b < 2 ^ 64 → length (canonical_file header b d ts) < 2 ^ 64 → length ts < 2 ^ 64 → IsLayoutOf header graph (canonical_file header b d ts)
+  pub layout : AreSections d → 1 ≤ b → b < 2 ^ 64 → length (canonical_file header b d ts) < 2 ^ 64 → length ts < 2 ^ 64 → IsLayout (canonical_file header b d ts) (parts_of header d ts)
   layout sections from low small many = record {
-    parts = parts_of header d ts;
-    layout = record {
-      file = file_of header b d ts;
-      is = file_stands (canonical_file header b d ts) (0 + length (canonical_file header b d ts)) sections from low small many (omega arith) (all_of (canonical_file header b d ts));
-      of = file_graph;
-    };
-    header_is = refl;
-    tight = form_tight d ts form header;
-    exactly = subst (λ (gs : List StringTriple). SameMembers gs graph) denoted_same form.denotes;
-    once = subst AreOnce denoted_same (λ i j x lt below. once d ts form i j x lt below);
+    file = file_of header b d ts;
+    is = file_stands (canonical_file header b d ts) (0 + length (canonical_file header b d ts)) sections from low small many (omega arith) (all_of (canonical_file header b d ts));
+    of = file_graph;
   }
 
-pub canonical_layout : (header : List ℕ) (graph : List StringTriple) (b : ℕ) (bytes : List ℕ) (file : IsCanonical header graph b bytes) → 1 ≤ b → b < 2 ^ 64 → length bytes < 2 ^ 64 → length file.triples < 2 ^ 64
-    → IsLayoutOf header graph bytes
-canonical_layout header graph b bytes file from low small many =
-    subst (IsLayoutOf header graph) (sym file.bytes_are)
-    (layout header graph b file.dictionary file.triples file.form file.some file.sections from low (subst (λ (l : List ℕ). length l < 2 ^ 64) file.bytes_are small) many)
+module _ (header : List ℕ) (graph : List StringTriple) (b : ℕ) (bytes : List ℕ) (file : IsCanonical header graph b bytes) where
+  abbrev pub parts_in : GraphParts
+  parts_in = parts_of header file.dictionary file.triples
+
+  pub file_layout : 1 ≤ b → b < 2 ^ 64 → length bytes < 2 ^ 64 → length file.triples < 2 ^ 64 → IsLayout bytes parts_in
+  file_layout from low small many =
+      subst (λ (l : List ℕ). IsLayout l parts_in) (sym file.bytes_are)
+      (layout header graph b file.dictionary file.triples file.form file.some file.sections from low (subst (λ (l : List ℕ). length l < 2 ^ 64) file.bytes_are small) many)
+
+  pub file_tight : IsTight parts_in
+  file_tight = form_tight file.dictionary file.triples file.form header
+
+  pub canonical_layout : 1 ≤ b → b < 2 ^ 64 → length bytes < 2 ^ 64 → length file.triples < 2 ^ 64 → IsLayoutOf header graph bytes
+  canonical_layout from low small many = record {
+    parts = parts_in;
+    layout = file_layout from low small many;
+    header_is = refl;
+    tight = file_tight;
+    exactly = file.form.denotes;
+    once = once file.dictionary file.triples file.form;
+  }

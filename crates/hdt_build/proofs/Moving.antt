@@ -7,7 +7,7 @@ use Rattle.hdt_triples.specs.Counting.{Triple}
 use Rattle.hdt_build.specs.Documents.{AreSound}
 use Rattle.hdt_build.specs.Graph.{numbers_at, triple_at, triples_of, subjects_of, predicates_of, objects_of}
 use Rattle.hdt_build.specs.Placed.{AreRanks}
-use Rattle.hdt_build.proofs.Denoting.{same_strings}
+use Rattle.hdt_build.proofs.Naming.{same_strings}
 
 -- what is written back to a vector whose triples were all replaced
 pub all_replaced : (sn pn on : List ℕ) (len : ℕ) (old new rest : List Triple) → len ≡ length old → length new ≡ length old

@@ -11,6 +11,7 @@ use Rattle.hdt_build.specs.Placed.{Ascends}
 use Rattle.hdt_dict.specs.StringsLaws.{string_at}
 use Rattle.hdt_dict.specs.MergeLaws.{stands}
 use Rattle.hdt_build.specs.Numbers.{IsNumberOf, AreNumbersOf}
+use Rattle.hdt_build.proofs.Naming.{term_is}
 
 -- numbers of the strings of two sections, one after the other
 module _ (front back : List (List ℕ)) (x : List ℕ) (i : ℕ) where
@@ -18,7 +19,7 @@ module _ (front back : List (List ℕ)) (x : List ℕ) (i : ℕ) where
   in_front in' is = record {
     from_one = omega arith;
     within = omega (arith, length-append front back);
-    is = let e : i + 1 - 1 ≡ i = omega arith in ap (λ j. get_or (front ++ back) j []) e ∙ get_or_append_left front back [] i in' ∙ is;
+    is = let e : i + 1 - 1 ≡ i = omega arith in term_is (front ++ back) (i + 1) (omega arith) ∙ ap (λ j. get_or (front ++ back) j []) e ∙ get_or_append_left front back [] i in' ∙ is;
   }
 
   pub in_back : (n : ℕ) → n ≡ length front → i < length back → get_or back i [] ≡ x → IsNumberOf (front ++ back) x (n + i + 1)
@@ -28,7 +29,7 @@ module _ (front back : List (List ℕ)) (x : List ℕ) (i : ℕ) where
     is =
         let e : n + i + 1 - 1 ≡ n + i = omega arith in
         let f : n + i - n ≡ i = omega arith in
-        ap (λ j. get_or (front ++ back) j []) e ∙ get_or-append_right front back n (n + i) [] (sym long) (omega arith) ∙ ap (λ j. get_or back j []) f ∙ is;
+        term_is (front ++ back) (n + i + 1) (omega arith) ∙ ap (λ j. get_or (front ++ back) j []) e ∙ get_or-append_right front back n (n + i) [] (sym long) (omega arith) ∙ ap (λ j. get_or back j []) f ∙ is;
   }
 
 -- where a walk along a section stops at a member

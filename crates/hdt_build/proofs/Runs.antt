@@ -1,5 +1,6 @@
 -- A run over the lines of an input, which takes the strings of its triples.
-use Rattle.std.proofs.Common.{◌≡◌, ◌≢◌, ℕ, ◌<◌, ◌≤◌, Bool, true, false, List, [], ◌∷◌, ◌++◌, length, map, eqb, not, Option, ◌⊎◌, inl, inr, refl, sym, ap, subst, ◌∙◌, arith}
+use Rattle.std.proofs.Common.{◌≡◌, ◌≢◌, ℕ, ◌<◌, ◌≤◌, Bool, true, false, List, [], ◌∷◌, ◌++◌, length, map, eqb, not, Option, Some, None, ◌⊎◌, inl, inr, refl, sym, ap, subst, ◌∙◌, arith}
+use Rattle.std.specs.Io.KnownBytes.{IsAtEnd, prepend_known}
 use Rattle.std.specs.List.{All}
 use Rattle.std.proofs.lemmas.Bool.{eqb-false}
 use Rattle.std.proofs.lemmas.List.{length-append, map_push}
@@ -17,7 +18,9 @@ use Rattle.hdt_terms.specs.Lines.{SpelledTriple}
 use Rattle.hdt_terms.specs.Taking.{State, TakesTriple, start, left}
 use Rattle.hdt_terms.specs.Terms as terms
 use Rattle.hdt_terms.specs.Terms.{str}
-use Rattle.hdt_build.specs.Graph.{StringTriple, subjects_of, predicates_of, objects_of}
+use Rattle.hdt_file.specs.Denoted.{StringTriple}
+use Rattle.hdt_build.specs.Graph.{subjects_of, predicates_of, objects_of}
+use Rattle.hdt_build.proofs.Naming.{same_strings}
 use Rattle.hdt_build.specs.Reading.{most, strings_of, IsGraphIn, AreTexts, IsFaultOf, ReadFailed, Tells}
 
 pub either : (b : Bool) → (b ≡ true) ⊎ (b ≡ false)
@@ -30,9 +33,7 @@ pub record Run (s : State) (input mid : Option (List ℕ)) (graph : List StringT
   pub strings : graph ≡ map strings_of triples
   pub going : s.ended ≡ false → Ran most s input mid triples
   pub ended : s.ended ≡ true → IsDocument most input triples
-
-same_strings : (a b c d e f : List ℕ) → a ≡ b → c ≡ d → e ≡ f → let l : StringTriple = (a, c, e) in let r : StringTriple = (b, d, f) in l ≡ r
-same_strings a b c d e f p q r = cc
+  pub end : s.ended ≡ true → (s.held ≡ []) × IsAtEnd mid
 
 strings_more : (graph : List StringTriple) (triples : List Triple) (triple : Triple) (s p o : List ℕ) → graph ≡ map strings_of triples → AreStrings triple s p o
     → graph ++ (s, p, o) ∷ [] ≡ map strings_of (triples ++ triple ∷ [])
@@ -40,16 +41,27 @@ strings_more graph triples triple s p o is t =
     let one : let l : StringTriple = (s, p, o) in l ≡ strings_of triple = same_strings _ _ _ _ _ _ t.s_is t.p_is t.o_is in
     (λ i. is i ++ one i ∷ []) ∙ sym (map_push strings_of triples triple)
 
+-- behind a last line without an end nothing is left
+nothing_left : (old new : State) (x y : Option (List ℕ)) (triple : Triple) → TakesTriple old new x y triple → new.ended ≡ true → (new.held ≡ []) × IsAtEnd y
+nothing_left old new x y triple t e = elim t.4.3 [ inl w ↦ absurd (let f : new.ended ≡ false = w.3 in cc) | inr w ↦ (w.2, w.3) ]
+
+-- the reader is at its end where nothing is held and nothing is left
+pub at_end : (held : List ℕ) (given : Option (List ℕ)) → held ≡ [] → IsAtEnd (prepend_known held given) → IsAtEnd given
+at_end held None none e = tt
+at_end held (Some xs) none e = sym (ap (λ (ys : List ℕ). ys ++ xs) none) ∙ e
+
 -- one more triple
 pub run_on : (s new : State) (input mid after : Option (List ℕ)) (graph : List StringTriple) (triple : Triple) (a b c : List ℕ) → Run s input mid graph → s.ended ≡ false → AreStrings triple a b c
     → ((triples : List Triple) → Ran most s input mid triples → new.ended ≡ false → Ran most new input after (triples ++ triple ∷ []))
     → ((triples : List Triple) → Ran most s input mid triples → new.ended ≡ true → IsDocument most input (triples ++ triple ∷ []))
+    → TakesTriple s new mid after triple
     → Run new input after (graph ++ (a, b, c) ∷ [])
-run_on s new input mid after graph triple a b c r still are on last = record {
+run_on s new input mid after graph triple a b c r still are on last taken = record {
   triples = r.triples ++ triple ∷ [];
   strings = strings_more graph r.triples triple a b c r.strings are;
   going = λ e. on r.triples (r.going still) e;
   ended = λ e. last r.triples (r.going still) e;
+  end = λ e. nothing_left s new mid after triple taken e;
 }
 
 -- ---- texts
@@ -103,6 +115,7 @@ run_begins s input graph e none h = record {
   strings = none;
   going = λ _. subst (λ (t : State). Ran most t input (left t input) []) (sym e) h;
   ended = λ end. absurd (let f : s.ended ≡ false = ap (λ (t : State). t.ended) e in cc);
+  end = λ end. absurd (let f : s.ended ≡ false = ap (λ (t : State). t.ended) e in cc);
 }
 
 pub told_of : (before after : Option (List ℕ)) (fault : LineFault) (told : BuildFault) → IsFaultOf fault told → FaultInDocument fault most before after → Tells before after told

@@ -1,7 +1,7 @@
 -- The number triples of a graph use all the strings of its sections.
-use Rattle.std.proofs.Common.{◌≡◌, ◌∙◌, ℕ, ◌-◌, ◌<◌, ◌≤◌, List, [], length, ap, subst, inl, inr, arith}
+use Rattle.std.proofs.Common.{◌≡◌, ◌∙◌, ℕ, ◌<◌, ◌≤◌, List, length, ap, subst, inl, inr}
 use Rattle.std.specs.List.{Contains}
-use Rattle.std.proofs.lemmas.List.Elements.{All-contains, Contains-append_cases, Contains-get_or}
+use Rattle.std.proofs.lemmas.List.Elements.{All-contains, Contains-append_cases}
 use Rattle.hdt_wire.specs.declared.role.Role.{Role}
 use Rattle.hdt_wire.specs.declared.role.Role.TheVariants.{Subject, Predicate, Object}
 use Rattle.hdt_dict.specs.MembersLaws.{Contains-map, Contains-from_map}
@@ -9,7 +9,9 @@ use Rattle.hdt_dict.specs.Split.{FourLists, IsSplit}
 use Rattle.hdt_triples.specs.Counting.{Triple}
 use Rattle.hdt_triples.specs.Uses.{part, Uses}
 use Rattle.hdt_file.specs.Tight.{IsTight}
-use Rattle.hdt_build.specs.Graph.{StringTriple, InRange, IsForm, string_triple, predicate_terms, object_terms}
+use Rattle.hdt_file.specs.Denoted.{StringTriple}
+use Rattle.hdt_build.specs.Graph.{InRange, IsForm, predicate_terms, object_terms}
+use Rattle.hdt_build.proofs.Naming.{string_triple, term_in}
 use Rattle.hdt_build.specs.Layouts.{parts_of}
 use Rattle.hdt_build.specs.Numbers.{term_at}
 use Rattle.hdt_build.proofs.Denoting.{occurs}
@@ -26,7 +28,7 @@ module _ {g : List StringTriple} (d : FourLists) (ts : List Triple) (h : IsForm 
   predicate_occurs : (n : ℕ) → 0 < n → n ≤ length (predicate_terms d) → (t : Triple) × Contains ts t × (t.1 ≡ n)
   predicate_occurs n a b =
       let x = term_at (predicate_terms d) n in
-      let r = Contains-from_map (λ (t : StringTriple). t.1) g x ((h.sections.predicates x).0 (Contains-get_or (predicate_terms d) (n - 1) [] (omega (arith, a, b)))) in
+      let r = Contains-from_map (λ (t : StringTriple). t.1) g x ((h.sections.predicates x).0 (term_in (predicate_terms d) n a b)) in
       let s = Contains-from_map (string_triple d) ts r.0 ((h.denotes r.0).1 r.1) in
       let range = All-contains (InRange d) ts s.0 h.in_range s.1 in
       (s.0, s.1, number_unique (predicate_terms d) (predicates_distinct d h.sections) s.0.1 n range.1.0 range.1.1 a b (ap (λ (t : StringTriple). t.1) s.2 ∙ r.2))
@@ -34,7 +36,7 @@ module _ {g : List StringTriple} (d : FourLists) (ts : List Triple) (h : IsForm 
   object_occurs : (n : ℕ) → 0 < n → n ≤ length (object_terms d) → (t : Triple) × Contains ts t × (t.2 ≡ n)
   object_occurs n a b =
       let x = term_at (object_terms d) n in
-      let r = Contains-from_map (λ (t : StringTriple). t.2) g x (object_term d h.sections x (Contains-get_or (object_terms d) (n - 1) [] (omega (arith, a, b)))) in
+      let r = Contains-from_map (λ (t : StringTriple). t.2) g x (object_term d h.sections x (term_in (object_terms d) n a b)) in
       let s = Contains-from_map (string_triple d) ts r.0 ((h.denotes r.0).1 r.1) in
       let range = All-contains (InRange d) ts s.0 h.in_range s.1 in
       (s.0, s.1, number_unique (object_terms d) (objects_distinct d h.sections) s.0.2 n range.2.0 range.2.1 a b (ap (λ (t : StringTriple). t.2) s.2 ∙ r.2))

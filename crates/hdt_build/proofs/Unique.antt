@@ -1,5 +1,5 @@
 -- One graph has one dictionary and one list of number triples.
-use Rattle.std.proofs.Common.{◌≡◌, ◌∙◌, ℕ, List, ap, subst}
+use Rattle.std.proofs.Common.{◌≡◌, ◌∙◌, ℕ, List, map, ap, subst}
 use Rattle.std.specs.List.{Contains}
 use Rattle.std.specs.Cmp.Lexicographic.{nat_list_cmp_total}
 use Rattle.std.proofs.lemmas.List.Elements.{All-contains}
@@ -8,7 +8,9 @@ use Rattle.hdt_dict.specs.Split.{FourLists, IsSplit}
 use Rattle.hdt_build.specs.Graph.{subject_terms, predicate_terms, object_terms}
 use Rattle.hdt_dict.specs.MembersLaws.{SameMembers-map, SameMembers-trans, Contains-map, Contains-from_map, ascending_unique}
 use Rattle.hdt_triples.specs.Counting.{Triple}
-use Rattle.hdt_build.specs.Graph.{StringTriple, InRange, IsForm, denoted, string_triple, triple_cmp}
+use Rattle.hdt_file.specs.Denoted.{StringTriple}
+use Rattle.hdt_build.specs.Graph.{InRange, IsForm, triple_cmp}
+use Rattle.hdt_build.proofs.Naming.{string_triple}
 use Rattle.hdt_build.proofs.Distinct.{number_unique, subjects_distinct, predicates_distinct, objects_distinct}
 use Rattle.hdt_build.proofs.Order.{triple_total}
 
@@ -50,7 +52,7 @@ triple_unique d h m n a b same =
 -- a triple of the one list is in the other
 carried : {g : List StringTriple} (d : FourLists) (ts us : List Triple) → IsForm g d ts → IsForm g d us → (n : Triple) → Contains ts n → Contains us n
 carried {g} d ts us p q n there =
-    let shown : Contains (denoted d us) (string_triple d n) = (q.denotes (string_triple d n)).1 ((p.denotes (string_triple d n)).0 (Contains-map (string_triple d) ts n there)) in
+    let shown : Contains (map (string_triple d) us) (string_triple d n) = (q.denotes (string_triple d n)).1 ((p.denotes (string_triple d n)).0 (Contains-map (string_triple d) ts n there)) in
     let back = Contains-from_map (string_triple d) us (string_triple d n) shown in
     subst (Contains us) (triple_unique d p.sections back.0 n (All-contains (InRange d) us back.0 q.in_range back.1) (All-contains (InRange d) ts n p.in_range there) back.2) back.1
 
@@ -62,7 +64,7 @@ canonical_same g h d ts same p = record {
   sections = split_same d (SameMembers-map (λ (t : StringTriple). t.0) g h same) (SameMembers-map (λ (t : StringTriple). t.1) g h same) (SameMembers-map (λ (t : StringTriple). t.2) g h same) p.sections;
   ascending = p.ascending;
   in_range = p.in_range;
-  denotes = SameMembers-trans (denoted d ts) g h p.denotes same;
+  denotes = SameMembers-trans (map (string_triple d) ts) g h p.denotes same;
 }
 
 pub canonical_unique : (g h : List StringTriple) (d e : FourLists) (ts us : List Triple) → SameMembers g h → IsForm g d ts → IsForm h e us → (d ≡ e) × (ts ≡ us)

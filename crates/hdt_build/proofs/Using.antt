@@ -8,6 +8,7 @@ use Rattle.hdt_triples.specs.Uses.{Uses}
 use Rattle.hdt_file.specs.File.{GraphParts}
 use Rattle.hdt_file.specs.Views.{strings_in}
 use Rattle.hdt_build.specs.Numbers.{term_at}
+use Rattle.hdt_build.proofs.Naming.{term_is}
 use Rattle.hdt_build.specs.Used.{AreUsed}
 
 pub none_used : (g : GraphParts) (role : Role) → AreUsed g role 0 [] []
@@ -94,7 +95,7 @@ goes_by all w new n (x ∷ xs) s is some step =
     record {
       number = cc;
       given = given;
-      last = ap (λ (p : Progress). p.last) step ∙ (sym (ap (λ (ys : List (List ℕ)). get_or ys 0 []) next) ∙ (get_or-drop w.given all 0 [] ∙ ap (λ (i : ℕ). get_or all i []) (omega arith)));
+      last = ap (λ (p : Progress). p.last) step ∙ (sym (ap (λ (ys : List (List ℕ)). get_or ys 0 []) next) ∙ (get_or-drop w.given all 0 [] ∙ (ap (λ (i : ℕ). get_or all i []) (omega arith) ∙ sym (term_is all (w.given + 1) (omega arith)))));
       stands = record {
         within = omega (arith, given, long);
         ahead = ap (λ (p : Progress). p.ahead) step ∙ (sym (ap (drop 1) next) ∙ (drop-drop 1 w.given all ∙ ap (λ (i : ℕ). drop i all) (omega (arith, given))));

@@ -6,7 +6,7 @@ use Rattle.hdt_triples.specs.Counting.{Triple}
 use Rattle.hdt_build.specs.declared.options.Options.{Options}
 use Rattle.hdt_build.specs.declared.report.Report.{Report}
 use Rattle.hdt_build.specs.Canonical.{IsCanonical}
-use Rattle.hdt_build.specs.Graph.{StringTriple}
+use Rattle.hdt_file.specs.Denoted.{StringTriple}
 use Rattle.hdt_build.specs.Header.{header_body}
 use Rattle.hdt_build.specs.Reading.{IsGraphIn}
 

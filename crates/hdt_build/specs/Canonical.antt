@@ -6,7 +6,8 @@ use Rattle.hdt_dict.specs.Split.{FourLists}
 use Rattle.hdt_dict.specs.Writing.{AreSections, canonical_dictionary}
 use Rattle.hdt_triples.specs.Counting.{Triple}
 use Rattle.hdt_triples.specs.Writing.{canonical_triples}
-use Rattle.hdt_build.specs.Graph.{StringTriple, IsForm}
+use Rattle.hdt_file.specs.Denoted.{StringTriple}
+use Rattle.hdt_build.specs.Graph.{IsForm}
 use Rattle.hdt_build.specs.Header.{length_property}
 
 -- the head of a file: the global block without properties, the header block with the length of the header body, the body

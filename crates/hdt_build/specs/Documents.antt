@@ -2,7 +2,8 @@
 use Rattle.std.specs.Prelude.{ℕ, ◌<◌, List, length}
 use Rattle.std.specs.List.{All, Contains}
 use Rattle.hdt_triples.specs.Counting.{Triple}
-use Rattle.hdt_build.specs.Graph.{StringTriple, subjects_of, predicates_of, objects_of, triples_of}
+use Rattle.hdt_file.specs.Denoted.{StringTriple}
+use Rattle.hdt_build.specs.Graph.{subjects_of, predicates_of, objects_of, triples_of}
 use Rattle.hdt_build.specs.declared.document.Document.{Document}
 
 -- the string triples, in the order in which they came, with repeats

@@ -8,11 +8,8 @@ use Rattle.hdt_dict.specs.Split.{FourLists, IsSplit}
 use Rattle.hdt_dict.specs.Strings.{SameMembers}
 use Rattle.hdt_triples.specs.Counting.{Triple, Counts}
 use Rattle.hdt_triples.specs.Order.{IsInRange}
-use Rattle.hdt_build.specs.Numbers.{term_at}
-
--- the strings of a subject, a predicate and an object
-abbrev pub StringTriple : Type 0
-StringTriple = List ℕ × List ℕ × List ℕ
+use Rattle.hdt_file.specs.Denoted.{StringTriple}
+use Rattle.hdt_build.specs.Layouts.{denoted_by, parts_of}
 
 abbrev pub subjects_of : List StringTriple → List (List ℕ)
 subjects_of g = map (λ t. t.0) g
@@ -55,21 +52,13 @@ AscendingTriples = IsStrictlySortedBy triple_cmp
 abbrev pub InRange : FourLists → Triple → Type 0
 InRange d t = IsInRange (counts_of d) t
 
--- the string triple of a number triple
-abbrev pub string_triple : FourLists → Triple → StringTriple
-string_triple d t = (term_at (subject_terms d) t.0, term_at (predicate_terms d) t.1, term_at (object_terms d) t.2)
-
--- the graph that number triples stand for
-abbrev pub denoted : FourLists → List Triple → List StringTriple
-denoted d ts = map (string_triple d) ts
-
 -- The dictionary and the number triples of a graph: the sections hold exactly the strings that it uses in their roles,
--- and the triples, in ascending order, stand for exactly its triples.
+-- the triples ascend, and a file of these, whatever its header body, denotes exactly the graph.
 pub record IsForm (g : List StringTriple) (d : FourLists) (ts : List Triple) : Type 0 where
   pub sections : IsSplit (subjects_of g) (predicates_of g) (objects_of g) d
   pub ascending : AscendingTriples ts
   pub in_range : All (InRange d) ts
-  pub denotes : SameMembers (denoted d ts) g
+  pub denotes : SameMembers (denoted_by (parts_of [] d ts)) g
 
 -- ---- triples as places in three lists of strings
 

@@ -1,12 +1,14 @@
 -- What a canonical file is, to those who read it.
-use Rattle.std.specs.Prelude.{◌≡◌, ◌≢◌, ℕ, ◌<◌, List, length, slice_index_or}
+use Rattle.std.specs.Prelude.{◌≡◌, ◌≢◌, ℕ, ◌<◌, List, [], ◌∷◌, length, slice_index_or, Ok}
+use Rattle.hdt_wire.specs.Exact.{seen}
 use Rattle.hdt_dict.specs.Split.{FourLists}
 use Rattle.hdt_dict.specs.Strings.{SameMembers}
-use Rattle.hdt_file.specs.Denoted.{denoted}
-use Rattle.hdt_file.specs.File.{GraphParts, IsLayout}
-use Rattle.hdt_file.specs.Tight.{IsTight}
+use Rattle.hdt_file.specs.Denoted.{StringTriple, denoted}
+use Rattle.hdt_file.specs.File.{GraphParts, IsLayout, graph_in}
+use Rattle.hdt_file.specs.Tight.{IsTight, tight_in}
+use Rattle.hdt_file.specs.Views.{lens_of}
 use Rattle.hdt_triples.specs.Counting.{Triple}
-use Rattle.hdt_build.specs.Graph.{StringTriple}
+use Rattle.hdt_build.specs.declared.report.Report.{Report}
 
 -- the graph that a file denotes: all its triples, each number replaced by its string
 abbrev pub denoted_by : GraphParts → List StringTriple
@@ -23,6 +25,16 @@ parts_of header d ts = record {
   dictionary = record { shared = d.shared; subjects = d.subjects; predicates = d.predicates; objects = d.objects };
   triples = ts;
 }
+
+-- the five numbers of a report that tell of what is in a file
+abbrev pub lens_told : Report → List ℕ
+lens_told r = r.triples ∷ r.shared ∷ r.subjects ∷ r.predicates ∷ r.objects ∷ []
+
+-- The report has the numbers that `verify` and `verify_tight` of hdt_file answer of the bytes, and how many bytes there are.
+pub record IsVerified (bytes : List ℕ) (report : Report) : Type 0 where
+  pub verified : seen lens_of (graph_in bytes) ≡ Ok (lens_told report)
+  pub tight : seen lens_of (tight_in bytes) ≡ Ok (lens_told report)
+  pub bytes_are : report.bytes ≡ length bytes
 
 -- The bytes are a tight layout with this header body, and what they denote lists exactly the graph's triples, each once.
 pub record IsLayoutOf (header : List ℕ) (graph : List StringTriple) (bytes : List ℕ) : Type 0 where

@@ -9,7 +9,8 @@ use Rattle.hdt_terms.specs.Documents.{IsDocument, FaultInDocument}
 use Rattle.hdt_terms.specs.Terms.{str}
 use Rattle.hdt_build.specs.declared.fault.BuildFault.{BuildFault}
 use Rattle.hdt_build.specs.declared.fault.BuildFault.TheVariants as faults
-use Rattle.hdt_build.specs.Graph.{StringTriple, subjects_of, predicates_of, objects_of}
+use Rattle.hdt_file.specs.Denoted.{StringTriple}
+use Rattle.hdt_build.specs.Graph.{subjects_of, predicates_of, objects_of}
 
 -- how many bytes an input can have: 2^63 - 1
 abbrev pub most : ℕ

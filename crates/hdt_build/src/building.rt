@@ -1,5 +1,6 @@
 //! From N-Triples to a file.
 ghost use Rattle.std.specs.Prelude.{◌≡◌, ◌≢◌, ◌<◌, ◌+◌, ◌↔◌, ℕ, length, IfOk, IfErr, OnOk, IsErrOf};
+ghost use Rattle.std.specs.Io.KnownBytes.{IsAtEnd};
 ghost use Rattle.hdt_wire.specs.Counted.{inner, failures};
 ghost use Rattle.hdt_build.specs.Built.{IsBuilt, Builds, Writes, Begins};
 ghost use Rattle.hdt_build.specs.Documents.{graph_of, IsSound};
@@ -44,6 +45,7 @@ fn read_and_build<R: Read>(
 ) -> Result<(Vec<u8>, Report), BuildFault>
     requires { AreRight options.now }
     ensures found { IfOk result (λ made. Builds options.now (R.remaining (inner input.old)) made.0.items made.1) }
+    ensures end { OnOk result (IsAtEnd (R.remaining (inner input.new))) }
     ensures told { IfErr result (Tells (R.remaining (inner input.old)) (R.remaining (inner input.new))) }
     ensures read { IfErr result (λ e. ReadFailed e → failures input.new ≡ failures input.old + 1) }
     ensures still { IfErr result (λ e. (ReadFailed e → ⊥) → failures input.new ≡ failures input.old) }
@@ -78,6 +80,9 @@ pub fn build_bytes<R: Read>(
 ) -> Result<(Vec<u8>, Report), BuildFault>
     // The input is a document, and this is the canonical file of its graph under the options, with its numbers.
     ensures found { IfOk result (λ made. Builds options.now (R.remaining (inner input.old)) made.0.items made.1) }
+    // The options are right, and the reader is at its end.
+    ensures right { OnOk result (AreRight options.now) }
+    ensures end { OnOk result (IsAtEnd (R.remaining (inner input.new))) }
     // Bad options are told exactly where they are so, and then nothing was read.
     ensures bad { IsErrOf result BuildFault.BadOptions ↔ (AreRight options.now → ⊥) }
     ensures unread { IsErrOf result BuildFault.BadOptions → input.new ≡ input.old }
@@ -109,6 +114,9 @@ pub fn build<R: Read, W: Write>(
 ) -> Result<Report, BuildFault>
     // The input is a document, and the writer has gained the canonical file of its graph under the options.
     ensures written { IfOk result (Writes options.now (R.remaining (inner input.old)) (W.contents (inner out.old)) (W.contents (inner out.new))) }
+    // The options are right, and the reader is at its end.
+    ensures right { OnOk result (AreRight options.now) }
+    ensures end { OnOk result (IsAtEnd (R.remaining (inner input.new))) }
     // Bad options are told exactly where they are so, and then nothing was read.
     ensures bad { IsErrOf result BuildFault.BadOptions ↔ (AreRight options.now → ⊥) }
     ensures unread { IsErrOf result BuildFault.BadOptions → input.new ≡ input.old }

@@ -1,19 +1,23 @@
 //! Laws of canonical files: functions with nothing in them, whose clauses other crates cite.
 ghost use Rattle.std.specs.Prelude.{◌≡◌, ◌≤◌, ◌<◌, ◌^◌, ◌⊎◌, ℕ, List, [], Option, Some, length};
+ghost use Rattle.hdt_wire.specs.Rows.{IsBytes};
 ghost use Rattle.hdt_dict.specs.Strings.{SameMembers};
 ghost use Rattle.hdt_terms.specs.declared.triple.Triple.{Triple};
 ghost use Rattle.hdt_terms.specs.Lines.{Document};
 ghost use Rattle.hdt_build.specs.Built.{IsBuilt, Builds};
 ghost use Rattle.hdt_build.specs.Canonical.{IsCanonical};
-ghost use Rattle.hdt_build.specs.Graph.{StringTriple};
+ghost use Rattle.hdt_file.specs.Denoted.{StringTriple};
+ghost use Rattle.hdt_file.specs.File.{GraphParts};
 ghost use Rattle.hdt_build.specs.Header.{header_body};
-ghost use Rattle.hdt_build.specs.Layouts.{IsLayoutOf};
-ghost use Rattle.hdt_build.specs.Options.{AreRight};
+ghost use Rattle.hdt_build.specs.Layouts.{IsLayoutOf, IsVerified};
+ghost use Rattle.hdt_build.specs.Options.{AreRight, IsBlockSize};
 ghost use Rattle.hdt_build.specs.Reading.{most, Tells, ReadFailed};
+ghost use Rattle.hdt_build.specs.Rewritten.{IsRewritten};
 ghost use Rattle.hdt_build.specs.declared.fault.BuildFault.{BuildFault};
 ghost use Rattle.hdt_build.specs.declared.options.Options.{Options};
 ghost use Rattle.hdt_build.specs.declared.report.Report.{Report};
 
+use hdt_file::{one_layout, one_tight_layout};
 use hdt_terms::line_or_fault;
 
 /// A canonical file is a layout, so `open` of hdt_file accepts it, with its header body; the graph that it denotes lists
@@ -24,6 +28,18 @@ pub fn canonical_files_are_layouts()
     ensures built { (options : Options) (graph : List StringTriple) (bytes : List ℕ) (report : Report) → AreRight options → IsBuilt options graph bytes report
         → length bytes < 2 ^ 64 → report.triples < 2 ^ 64 → IsLayoutOf (header_body options.base.items report.triples) graph bytes }
 {}
+
+/// The numbers that are told of a file that is built, or rewritten, are those that `verify` and `verify_tight` of hdt_file answer
+/// of its bytes, and the count of these.
+pub fn reports_are_verified()
+    ensures built { (options : Options) (graph : List StringTriple) (bytes : List ℕ) (report : Report) → AreRight options → IsBuilt options graph bytes report
+        → IsBytes bytes → length bytes < 2 ^ 64 → report.triples < 2 ^ 64 → IsVerified bytes report }
+    ensures rewritten { (b : ℕ) (graph : GraphParts) (bytes : List ℕ) (report : Report) → IsBlockSize b → IsRewritten b graph bytes report
+        → IsBytes bytes → length bytes < 2 ^ 64 → report.triples < 2 ^ 64 → IsVerified bytes report }
+{
+    one_layout();
+    one_tight_layout();
+}
 
 /// Of one header body, one set of triples and one block size there is one canonical file.
 pub fn one_canonical_file()

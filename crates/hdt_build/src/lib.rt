@@ -54,7 +54,7 @@ pub use building::{build, build_bytes};
 pub use fault::{BuildFault, RewriteFault};
 pub use laws::{
     canonical_files_are_layouts, equal_graphs_equal_files, no_triples_are_told, one_canonical_file,
-    one_document,
+    one_document, reports_are_verified,
 };
 pub use options::Options;
 pub use report::Report;

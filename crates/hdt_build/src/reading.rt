@@ -1,5 +1,6 @@
 //! The graph of an N-Triples document.
 ghost use Rattle.std.specs.Prelude.{◌≡◌, ◌+◌, ◌≢◌, Ok, IfOk, IfErr, OnOk, Some};
+ghost use Rattle.std.specs.Io.KnownBytes.{IsAtEnd};
 ghost use Rattle.hdt_wire.specs.Counted.{inner, failures};
 ghost use Rattle.hdt_terms.specs.declared.fault.LineReason.TheVariants as reasons;
 ghost use Rattle.hdt_build.specs.Documents.{graph_of, IsSound};
@@ -30,6 +31,7 @@ pub fn read_graph<R: Read>(alloc: Global, input: &mut Counted<R>) -> Result<Docu
     ensures found { IfOk result (λ document. IsGraphIn (R.remaining (inner input.old)) (graph_of document)) }
     ensures sound { IfOk result IsSound }
     ensures texts { IfOk result (λ document. AreTexts (graph_of document)) }
+    ensures end { OnOk result (IsAtEnd (R.remaining (inner input.new))) }
     ensures told { IfErr result (Tells (R.remaining (inner input.old)) (R.remaining (inner input.new))) }
     ensures read { IfErr result (λ e. ReadFailed e → failures input.new ≡ failures input.old + 1) }
     ensures still { IfErr result (λ e. (ReadFailed e → ⊥) → failures input.new ≡ failures input.old) }

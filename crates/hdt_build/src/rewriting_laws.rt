@@ -3,7 +3,7 @@ ghost use Rattle.std.specs.Prelude.{◌≡◌, ◌<◌, ◌^◌, ℕ, List, leng
 ghost use Rattle.hdt_wire.specs.Rows.{IsBytes};
 ghost use Rattle.hdt_file.specs.File.{GraphParts, IsLayout};
 ghost use Rattle.hdt_build.specs.Built.{IsBuilt};
-ghost use Rattle.hdt_build.specs.Graph.{StringTriple};
+ghost use Rattle.hdt_file.specs.Denoted.{StringTriple};
 ghost use Rattle.hdt_build.specs.Layouts.{IsLayoutOf, denoted_by};
 ghost use Rattle.hdt_build.specs.Options.{AreRight, IsBlockSize};
 ghost use Rattle.hdt_build.specs.Rewritten.{IsRewritten};

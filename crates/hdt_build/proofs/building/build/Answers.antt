@@ -12,6 +12,12 @@ returns-in-Ok-clause-written g c = record {
 pub returns-in-Ok-clause-count : goal.returns-in-Ok-clause-count
 returns-in-Ok-clause-count g c = c.in_ok-bytes.ensures.count
 
+pub returns-in-Ok-clause-right : goal.returns-in-Ok-clause-right
+returns-in-Ok-clause-right g c = c.in_ok-bytes.ensures.right
+
+pub returns-in-Ok-clause-end : goal.returns-in-Ok-clause-end
+returns-in-Ok-clause-end g c = c.in_ok-bytes.ensures.end
+
 pub returns-in-Ok-clause-well : goal.returns-in-Ok-clause-well
 returns-in-Ok-clause-well g c = c.in-Ok.ensures.well
 
@@ -71,6 +77,16 @@ returns-in_err-bytes-clause-still g c =
 
 pub returns-in_err-bytes-clause-count : goal.returns-in_err-bytes-clause-count
 returns-in_err-bytes-clause-count g c =
+    let p = err_from_is_err_and c.from_residual.result c.from_residual.ensures.1 in
+    rw p.1 tt
+
+pub returns-in_err-bytes-clause-right : goal.returns-in_err-bytes-clause-right
+returns-in_err-bytes-clause-right g c =
+    let p = err_from_is_err_and c.from_residual.result c.from_residual.ensures.1 in
+    rw p.1 tt
+
+pub returns-in_err-bytes-clause-end : goal.returns-in_err-bytes-clause-end
+returns-in_err-bytes-clause-end g c =
     let p = err_from_is_err_and c.from_residual.result c.from_residual.ensures.1 in
     rw p.1 tt
 

@@ -18,3 +18,6 @@ returns-clause-still g c = c.read_and_build.ensures.still
 
 pub returns-clause-count : goal.returns-clause-count
 returns-clause-count g c = c.read_and_build.ensures.count
+
+pub returns-clause-end : goal.returns-clause-end
+returns-clause-end g c = c.read_and_build.ensures.end

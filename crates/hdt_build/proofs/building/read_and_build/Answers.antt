@@ -28,6 +28,11 @@ returns-in_err-document-clause-count g c =
     let p = err_from_is_err_and c.from_residual.result c.from_residual.ensures.1 in
     rw p.1 tt
 
+pub returns-in_err-document-clause-end : goal.returns-in_err-document-clause-end
+returns-in_err-document-clause-end g c =
+    let p = err_from_is_err_and c.from_residual.result c.from_residual.ensures.1 in
+    rw p.1 tt
+
 pub returns-then-is_empty-clause-told : goal.returns-then-is_empty-clause-told
 returns-then-is_empty-clause-told g c = no_triples _ (graph_of c.in_ok-document.document) c.in_ok-document.ensures.found (c.is_empty.ensures.0 c.if-is_empty.true)
 
@@ -53,6 +58,11 @@ returns-in_err-built-clause-still g c =
 
 pub returns-in_err-built-clause-count : goal.returns-in_err-built-clause-count
 returns-in_err-built-clause-count g c =
+    let p = err_from_is_err_and c.from_residual-in_err-built.result c.from_residual-in_err-built.ensures.1 in
+    rw p.1 tt
+
+pub returns-in_err-built-clause-end : goal.returns-in_err-built-clause-end
+returns-in_err-built-clause-end g c =
     let p = err_from_is_err_and c.from_residual-in_err-built.result c.from_residual-in_err-built.ensures.1 in
     rw p.1 tt
 

@@ -3,7 +3,7 @@ use Rattle.hdt_terms.specs.declared.term.Term.{Term}
 use Rattle.hdt_terms.specs.Spelling.{Spelled}
 use Rattle.hdt_build.specs.Documents.{graph_of}
 use Rattle.hdt_build.specs.Reading.{most, AreTexts}
-use Rattle.hdt_build.proofs.Runs.{Run, either, run_begins, run_on, texts_more, no_texts, line_of, triple_size, told_of, not_read}
+use Rattle.hdt_build.proofs.Runs.{Run, at_end, either, run_begins, run_on, texts_more, no_texts, line_of, triple_size, told_of, not_read}
 use Rattle.hdt_build.proofs.reading.read_graph.Goals as goal
 
 pub triples-init : goal.triples-init
@@ -49,7 +49,8 @@ triples-preserved g c =
       run =
           subst (Run new _ _) (sym more) (run_on c.triples.lines new _ _ _ graph taken.0 s p o inv.run going taken.1
           (λ triples ran e. c.run_of_lines.ensures.goes_on most c.triples.lines new _ _ _ triples taken.0 ran taken.2 e)
-          (λ triples ran e. c.run_of_lines.ensures.last most c.triples.lines new _ _ _ triples taken.0 ran taken.2 e));
+          (λ triples ran e. c.run_of_lines.ensures.last most c.triples.lines new _ _ _ triples taken.0 ran taken.2 e)
+          taken.2);
       count = read.count ∙ inv.count;
     }
 
@@ -63,6 +64,15 @@ returns-in-Ok-false-clause-found g c =
       document = c.run_of_lines.ensures.rest most c.triples.lines c.next_strings.new.self _ _ _ inv.run.triples (inv.run.going going) (rw c.in-Ok-false.field-0-test at c.in-Ok-false.ensures.answers inv.failed going);
       strings = inv.run.strings;
     })
+    (either c.triples.lines.ended)
+
+pub returns-in-Ok-false-clause-end : goal.returns-in-Ok-false-clause-end
+returns-in-Ok-false-clause-end g c =
+    let inv = c.triples.invariant in
+    let read = c.in-Ok-false.ensures in
+    ⊎_elim
+    (λ end. let last = inv.run.end end in rw (read.ended inv.failed end).2 (at_end c.triples.lines.held _ last.0 last.1))
+    (λ going. let rest = rw c.in-Ok-false.field-0-test at read.answers inv.failed going in at_end c.next_strings.new.self.held _ rest.7 rest.8)
     (either c.triples.lines.ended)
 
 pub returns-in-Err-clause-told : goal.returns-in-Err-clause-told

@@ -2,7 +2,8 @@ use Rattle.std.proofs.Common.{◌≡◌, ◌∙◌, ap, refl, sym, [], ◌∷◌
 use Rattle.std.specs.List.{All, Contains}
 use Rattle.hdt_triples.specs.Counting.{Triple}
 use Rattle.hdt_build.specs.Documents.{graph_of}
-use Rattle.hdt_build.specs.Graph.{StringTriple, subjects_of, predicates_of, objects_of, triples_of}
+use Rattle.hdt_file.specs.Denoted.{StringTriple}
+use Rattle.hdt_build.specs.Graph.{subjects_of, predicates_of, objects_of, triples_of}
 use Rattle.hdt_build.proofs.Grown.{Grown, within_more, used_more, graph_more}
 use Rattle.hdt_build.proofs.document.Document.add.Goals as goal
 
