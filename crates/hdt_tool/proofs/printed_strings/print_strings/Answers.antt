@@ -20,7 +20,7 @@ returns-in_err-written-clause-cut g c =
     let kept = c.put_string_line.new.out.items in
     let next : Some c.in-Some.number ≡ next_number w w.ahead = sym c.in-Some.is ∙ c.in_ok-number.ensures.number in
     let behind = line_added w v c.in-Some.number c.last.result.now c.strings.text.items kept (drop c.strings.written lines) next c.in_ok-number.ensures.ok c.last.ensures
-        c.in_ok-put_string_line.ensures c.strings.invariant.rest in
+    c.in_ok-put_string_line.ensures c.strings.invariant.rest in
     rw (p.1, p.2) (cut_by (λ out. g.W.Write.contents (inner out)) (λ out. failures out) c.in_err-written.field-0.0 c.args.out.now c.strings.out c.write_full.new.out
     lines kept (string_lines (v.given + 1) v.ahead) c.strings.written c.strings.invariant.within behind c.strings.invariant.gained c.strings.invariant.well c.in_err-written.ensures.err)
 
@@ -35,7 +35,7 @@ strings-preserved g c =
     let rest = string_lines (v.given + 1) v.ahead in
     let next : Some c.in-Some.number ≡ next_number w w.ahead = sym c.in-Some.is ∙ c.in_ok-number.ensures.number in
     let behind = line_added w v c.in-Some.number c.last.result.now c.strings.text.items kept (drop n lines) next c.in_ok-number.ensures.ok c.last.ensures
-        c.in_ok-put_string_line.ensures c.strings.invariant.rest in
+    c.in_ok-put_string_line.ensures c.strings.invariant.rest in
     let h = c.in_ok-written.ensures.ok in
     let part = h.0 in
     let left = c.write_full.new.text.items in
@@ -56,7 +56,7 @@ returns-in_err-write_piece-clause-cut g c =
     let kept = c.deref.result.now in
     let behind : drop c.strings.written lines ≡ kept ++ [] =
     c.strings.invariant.rest ∙ none_left w w.ahead c.in_ok-number.field-0 (w.given + 1) c.strings.text.items c.in_ok-number.ensures.number c.in_default.not-Some
-        ∙ sym c.deref.ensures.value ∙ sym (append-nil kept) in
+    ∙ sym c.deref.ensures.value ∙ sym (append-nil kept) in
     rw (p.1, p.2) (cut_by (λ out. g.W.Write.contents (inner out)) (λ out. failures out) c.in_err-write_piece.field-0.0 c.args.out.now c.strings.out c.write_piece.new.out
     lines kept [] c.strings.written c.strings.invariant.within behind c.strings.invariant.gained c.strings.invariant.well c.in_err-write_piece.ensures.err)
 
