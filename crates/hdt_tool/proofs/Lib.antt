@@ -1,6 +1,8 @@
 mod Refused
+mod Outs
 mod Stated
 mod Listing
+mod Pieces
 mod Told
 mod Making
 mod Rewriting

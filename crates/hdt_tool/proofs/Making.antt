@@ -1,5 +1,5 @@
 -- What a command makes of its input, seen from each kind of command.
-use Rattle.std.proofs.Common.{◌≡◌, ◌≢◌, ℕ, List, [], Option, refl, sym, ap}
+use Rattle.std.proofs.Common.{◌≡◌, ◌≢◌, ◌++◌, ◌∙◌, ℕ, List, [], Option, refl, sym, ap, subst}
 use Rattle.std.proofs.lemmas.List.{append-nil}
 use Rattle.hdt_build.specs.Reading.{ReadFailed}
 use Rattle.hdt_build.specs.declared.fault.BuildFault.{BuildFault}
@@ -9,7 +9,7 @@ use Rattle.hdt_tool.specs.declared.fault.ToolFault.{ToolFault}
 use Rattle.hdt_tool.specs.declared.fault.ToolFault.TheVariants.{File, Input, NoTriples, NoSuchTerm, NoSuchNumber, NotATerm, BadOptions, Read, Write, OutOfMemory}
 use Rattle.hdt_tool.specs.declared.request.Action.{Action}
 use Rattle.hdt_tool.specs.declared.request.Action.TheVariants.{Head, Verify, VerifyTight, Strings, Nth, Number, Find, Build, Rewrite}
-use Rattle.hdt_tool.specs.Answer.{IfBuild, IsOfFile, Makes, Prints, ReadsFile, ReadsWith}
+use Rattle.hdt_tool.specs.Answer.{IfBuild, IsOfFile, Makes, Performs, Prints, ReadsFile, ReadsWith}
 use Rattle.hdt_tool.specs.Faults.{build_fault_of, told_of_reason}
 
 -- a fault that doesn't tell of the reader comes of a fault of the builder that doesn't
@@ -44,6 +44,22 @@ nothing_built (Number role x) is before after text made h = record { built = [];
 nothing_built (Find given numbers) is before after text made h = record { built = []; yields = (h, refl); made = sym (append-nil made) }
 nothing_built (Build options) is before after text made h = absurd is
 nothing_built (Rewrite b) is before after text made h = absurd is
+
+nothing_made : (action : Action) → ReadsFile action → (before after : Option (List ℕ)) (text made more : List ℕ) → Makes action before after text made more → more ≡ made
+nothing_made Head is before after text made more h = h.made ∙ ap (λ (b : List ℕ). made ++ b) h.yields.1 ∙ append-nil made
+nothing_made Verify is before after text made more h = h.made ∙ ap (λ (b : List ℕ). made ++ b) h.yields.1 ∙ append-nil made
+nothing_made VerifyTight is before after text made more h = h.made ∙ ap (λ (b : List ℕ). made ++ b) h.yields.1 ∙ append-nil made
+nothing_made (Strings role) is before after text made more h = h.made ∙ ap (λ (b : List ℕ). made ++ b) h.yields.1 ∙ append-nil made
+nothing_made (Nth role n) is before after text made more h = h.made ∙ ap (λ (b : List ℕ). made ++ b) h.yields.1 ∙ append-nil made
+nothing_made (Number role x) is before after text made more h = h.made ∙ ap (λ (b : List ℕ). made ++ b) h.yields.1 ∙ append-nil made
+nothing_made (Find given numbers) is before after text made more h = h.made ∙ ap (λ (b : List ℕ). made ++ b) h.yields.1 ∙ append-nil made
+nothing_made (Build options) is before after text made more h = absurd is
+nothing_made (Rewrite b) is before after text made more h = absurd is
+
+pub nothing_lost : (action : Action) → ReadsFile action → (before old new : Option (List ℕ)) (more : List ℕ) → Performs action before old new [] more → Performs action before old new [] []
+nothing_lost action is before old new more h =
+    let none = nothing_made action is before h.after h.answers.text [] more h.answers.makes in
+    subst (λ (made : List ℕ). Performs action before old new [] made) none h
 
 -- nor has it the options of `build`
 pub no_options : (action : Action) (Holds : Options → Type 0) → ReadsFile action → IfBuild action Holds

@@ -1,11 +1,13 @@
 -- What a status says of the outcome that it was made of.
-use Rattle.std.proofs.Common.{◌≡◌, ◌≢◌, ◌⊎◌, ◌∙◌, ℕ, refl, inl, inr}
+use Rattle.std.proofs.Common.{◌≡◌, ◌≢◌, ◌⊎◌, ◌∙◌, ℕ, Option, refl, inl, inr, subst, sym}
 use Rattle.std.specs.Prelude.{List, Result, Ok, Err, MatchResult, IfOk, IfErr, OnOk}
 use Rattle.clap.specs.Words.{Text}
 use Rattle.hdt_tool.specs.declared.fault.ToolFault.{ToolFault}
 use Rattle.hdt_tool.specs.declared.fault.ToolFault.TheVariants.{File, Input, NoTriples, NoSuchTerm, NoSuchNumber, NotATerm, BadOptions, Read, Write, OutOfMemory}
 use Rattle.hdt_tool.specs.declared.fault.UsageFault.{UsageFault}
 use Rattle.hdt_tool.specs.declared.request.Request.{Request}
+use Rattle.hdt_tool.specs.declared.request.Action.{Action}
+use Rattle.hdt_tool.specs.Answer.{Reports}
 use Rattle.hdt_tool.specs.Asked.{IsRefused, Wants}
 use Rattle.hdt_tool.specs.Lines.{fault_status}
 use Rattle.hdt_tool.specs.Status.{Ends, IsCommandStatus, IsRefusalStatus}
@@ -56,11 +58,57 @@ pub told_status : {S E : Type 0} (fault : ToolFault) (line : Result (ℕ × S) E
 told_status fault (Ok said) status is h = inl (h ∙ is)
 told_status fault (Err e) status is h = inr h
 
--- where the status is not 0, nothing was written or the writer failed
-pub stopped : {A B : Type 0} (outcome : Result (Unit {0}) ToolFault) (status : ℕ) → MatchResult outcome (λ _. status ≡ 0) (λ fault. (status ≡ fault_status fault) ⊎ (status ≡ 4))
-    → IfErr outcome (λ fault. ((n : ℕ) → fault ≢ Write n) → A) → IfErr outcome (λ fault. (n : ℕ) → fault ≡ Write n → B) → status ≢ 0 → A ⊎ B
+pub second : {A B C : Type 0} → (B → C) → A ⊎ B → A ⊎ C
+second f (inl a) = inl a
+second f (inr b) = inr (f b)
+
+-- with status 1 nothing was written
+first : {A C D : Type 0} → (D → ⊥) → A ⊎ (D × C) → A
+first not (inl a) = a
+first not (inr h) = absurd (not h.0)
+
+pub still_at_1 : (A C : Type 0) (outcome : Result (Unit {0}) ToolFault) (status : ℕ) → MatchResult outcome (λ _. status ≡ 0) (λ fault. (status ≡ fault_status fault) ⊎ (status ≡ 4))
+    → IfErr outcome (λ fault. ((n : ℕ) → fault ≢ Write n) → A ⊎ ((fault ≡ OutOfMemory) × C)) → status ≡ 1 → A
+still_at_1 A C (Ok done) status of unwritten is = absurd cc
+still_at_1 A C (Err fault) status (inr memory) unwritten is = absurd cc
+still_at_1 A C (Err (File fault)) status (inl h) unwritten is = first (λ e. cc) (unwritten (λ n e. absurd cc))
+still_at_1 A C (Err (Input fault)) status (inl h) unwritten is = first (λ e. cc) (unwritten (λ n e. absurd cc))
+still_at_1 A C (Err NoTriples) status (inl h) unwritten is = first (λ e. cc) (unwritten (λ n e. absurd cc))
+still_at_1 A C (Err NoSuchTerm) status (inl h) unwritten is = first (λ e. cc) (unwritten (λ n e. absurd cc))
+still_at_1 A C (Err NoSuchNumber) status (inl h) unwritten is = first (λ e. cc) (unwritten (λ n e. absurd cc))
+still_at_1 A C (Err (NotATerm role m)) status (inl h) unwritten is = first (λ e. cc) (unwritten (λ n e. absurd cc))
+still_at_1 A C (Err BadOptions) status (inl h) unwritten is = absurd cc
+still_at_1 A C (Err Read) status (inl h) unwritten is = absurd cc
+still_at_1 A C (Err (Write m)) status (inl h) unwritten is = absurd cc
+still_at_1 A C (Err OutOfMemory) status (inl h) unwritten is = absurd cc
+
+-- where the status is not 0, nothing was written, or the writer failed, or memory was refused in the midst
+joined : {A B C D : Type 0} → (A ⊎ (D × C)) ⊎ B → A ⊎ (B ⊎ C)
+joined (inl (inl a)) = inl a
+joined (inl (inr h)) = inr (inr h.1)
+joined (inr b) = inr (inl b)
+
+pub stopped : {A B C : Type 0} (outcome : Result (Unit {0}) ToolFault) (status : ℕ) → MatchResult outcome (λ _. status ≡ 0) (λ fault. (status ≡ fault_status fault) ⊎ (status ≡ 4))
+    → IfErr outcome (λ fault. ((n : ℕ) → fault ≢ Write n) → A ⊎ ((fault ≡ OutOfMemory) × C)) → IfErr outcome (λ fault. (n : ℕ) → fault ≡ Write n → B) → status ≢ 0 → A ⊎ (B ⊎ C)
 stopped (Ok done) status of unwritten write not = absurd (not of)
-stopped (Err fault) status of unwritten write not = by_writer fault unwritten write
+stopped (Err fault) status of unwritten write not = joined (by_writer fault unwritten write)
+
+-- a fault that goes to memory is told as it is, or as want of memory
+either_way : {A : Type 0} → A ⊎ A → A
+either_way (inl a) = a
+either_way (inr a) = a
+
+pub told_in_memory : (action : Action) (before : Option (List ℕ)) (fault told : ToolFault) → ((n : ℕ) → fault ≡ Write n → told ≡ OutOfMemory) → (((n : ℕ) → fault ≢ Write n) → told ≡ fault)
+    → Reports action before fault → Reports action before told
+told_in_memory action before fault told memory other h =
+    either_way (by_writer fault (λ not. subst (Reports action before) (sym (other not)) h)
+    (λ n is. subst (Reports action before) (sym (memory n is)) (record { after = h.after; tells = tt })))
+
+pub kept_in_memory : (outcome : Result (Unit {0}) ToolFault) (fault told kind : ToolFault) → outcome ≡ Err fault → (((n : ℕ) → fault ≢ Write n) → told ≡ fault) → ((n : ℕ) → kind ≢ Write n)
+    → outcome ≡ Err kind → told ≡ kind
+kept_in_memory outcome fault told kind is other not e =
+    let same : fault ≡ kind = cc in
+    other (λ n w. not n (sym same ∙ w)) ∙ same
 
 -- the status of what the words ask for is one that the words end with
 pub ends : {X E : Type 0} (texts : X → List Text) (words : Result X E) (asked : Result Request UsageFault) (status : ℕ)

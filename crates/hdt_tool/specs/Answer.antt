@@ -1,5 +1,5 @@
 -- What a run of a command has done.
-use Rattle.std.specs.Prelude.{◌≡◌, ◌≢◌, ◌<◌, ℕ, List, [], ◌++◌, length, take, Option, None, Some, Err}
+use Rattle.std.specs.Prelude.{◌≡◌, ◌≢◌, ◌<◌, ◌+◌, ℕ, List, [], ◌++◌, length, take, Option, None, Some, Err, MatchOption}
 use Rattle.std.specs.Io.KnownBytes.{Appends, Consumes, IsAtEnd}
 use Rattle.hdt_wire.specs.declared.fault.Fault.{Fault}
 use Rattle.hdt_file.specs.Head.{HeadParts, IsHead, head_at_start}
@@ -20,6 +20,7 @@ use Rattle.hdt_dict.specs.Numbered.{numbered}
 use Rattle.hdt_tool.specs.declared.fault.ToolFault.{ToolFault}
 use Rattle.hdt_tool.specs.declared.fault.ToolFault.TheVariants.{File, Input, NoTriples, NoSuchTerm, NoSuchNumber, NotATerm, BadOptions, Read, Write, OutOfMemory}
 use Rattle.hdt_tool.specs.declared.request.Action.{Action}
+use Rattle.hdt_tool.specs.declared.request.Request.{Request}
 use Rattle.hdt_tool.specs.declared.request.Action.TheVariants.{Head, Verify, VerifyTight, Strings, Nth, Number, Find, Build, Rewrite}
 use Rattle.hdt_tool.specs.BuiltText.{built_line, rewritten_line}
 use Rattle.hdt_tool.specs.HeadText.{head_text}
@@ -75,6 +76,16 @@ abbrev pub ReadsFile : Action → Type 0
 ReadsFile (Build options) = ⊥
 ReadsFile (Rewrite b) = ⊥
 ReadsFile action = Unit {0}
+
+-- a command that makes a file
+abbrev pub MakesFile : Action → Type 0
+MakesFile (Build options) = Unit {0}
+MakesFile (Rewrite b) = Unit {0}
+MakesFile action = ⊥
+
+-- a command that makes a file comes with the path that it is written to, and no other command does
+abbrev pub HasOut : Request → Type 0
+HasOut request = MatchOption request.out (ReadsFile request.action) (λ path. MakesFile request.action)
 
 -- a fault of these input bytes that a command on a file answers: `head` looks at the head alone, the others at the whole file,
 -- and `verify --tight` also at whether triples use its strings
@@ -209,6 +220,33 @@ pub record Begins (action : Action) (before after written_before written_after :
   pub within : n < length text
   pub written : Appends written_before written_after (take n text)
 
+-- ---- a text that was not printed to its end
+
+-- the writer failed, once, behind the first n bytes of the text
+pub record FailsAfter (n : ℕ) (text : List ℕ) (written_before written_after : Option (List ℕ)) (failed_before failed_after : ℕ) : Type 0 where
+  pub failed : failed_after ≡ failed_before + 1
+  pub within : n < length text
+  pub written : Appends written_before written_after (take n text)
+
+-- the writer has gained a beginning of the text
+abbrev pub AppendsSome : Option (List ℕ) → Option (List ℕ) → List ℕ → Type 0
+AppendsSome written_before written_after text = (n : ℕ) × Appends written_before written_after (take n text)
+
+-- a text that is printed in pieces was cut: the writer failed, or memory was refused behind a beginning of the text
+abbrev pub IsCut : ToolFault → List ℕ → Option (List ℕ) → Option (List ℕ) → ℕ → ℕ → Type 0
+IsCut (Write n) text written_before written_after failed_before failed_after = FailsAfter n text written_before written_after failed_before failed_after
+IsCut OutOfMemory text written_before written_after failed_before failed_after = (failed_after ≡ failed_before) × AppendsSome written_before written_after text
+IsCut fault text written_before written_after failed_before failed_after = ⊥
+
+-- in the midst of `strings`: the writer has gained a beginning of the command's text of what the reader had left, and has not failed
+pub record Halts (action : Action) (before after written_before written_after : Option (List ℕ)) (failed_before failed_after : ℕ) : Type 0 where
+  pub role : Role
+  pub asked : action ≡ Strings role
+  pub text : List ℕ
+  pub printed : ReadsWith before after (λ bytes. Prints (Strings role) bytes text)
+  pub well : failed_after ≡ failed_before
+  pub written : AppendsSome written_before written_after text
+
 -- ---- the same of a reader that is gone after the run
 
 -- the writer has gained the command's text of what the reader had left, and what was made the file that the command makes
@@ -220,6 +258,11 @@ pub record Performs (action : Action) (before written_before written_after : Opt
 pub record Stops (action : Action) (before written_before written_after : Option (List ℕ)) (n : ℕ) : Type 0 where
   pub after : Option (List ℕ)
   pub begins : Begins action before after written_before written_after n
+
+-- in the midst of `strings`, with a beginning of its text of what the reader had left
+pub record Breaks (action : Action) (before written_before written_after : Option (List ℕ)) (failed_before failed_after : ℕ) : Type 0 where
+  pub after : Option (List ℕ)
+  pub halts : Halts action before after written_before written_after failed_before failed_after
 
 -- a fault is told of what the reader had left
 pub record Reports (action : Action) (before : Option (List ℕ)) (fault : ToolFault) : Type 0 where

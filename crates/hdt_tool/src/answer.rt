@@ -1,26 +1,37 @@
 //! What a command on a file prints of it.
-ghost use Rattle.std.specs.Prelude.{◌≡◌, IfOk, IfErr};
-ghost use Rattle.hdt_tool.specs.Answer.{Consults, IsTold, Opens, Prints, PrintsHead, PrintsTightVerdict, PrintsVerdict, ReadsFile};
+ghost use Rattle.std.specs.Prelude.{◌≡◌, ◌≢◌, ◌⊎◌, IfOk, IfErr, OnOk};
+ghost use Rattle.std.specs.Io.KnownBytes.{Appends};
+ghost use Rattle.hdt_wire.specs.Counted.{inner, failures};
+ghost use Rattle.hdt_tool.specs.Answer.{Consults, IsCut, IsTold, Opens, Prints, PrintsHead, PrintsTightVerdict, PrintsVerdict, ReadsFile};
 ghost use Rattle.hdt_tool.specs.StringsText.{string_lines, PrintsString, PrintsNumber};
 ghost use Rattle.hdt_tool.specs.TriplesText.{PrintsFound};
 
 use crate::fault::ToolFault;
 use crate::printed_head::head_text;
-use crate::printed_strings::{number_text, string_text, strings_text};
+use crate::printed_strings::{number_text, print_strings, string_text};
 use crate::printed_triples::triples_text;
 use crate::printed_verdict::verdict;
 use crate::request::Action;
 use hdt_dict::Role;
 use hdt_file::{Layout, read_head, verify, verify_tight};
+use hdt_wire::Counted;
 use std::alloc::Global;
+use std::io::Write;
 
-/// The text of `strings`.
-fn strings_of(alloc: Global, bytes: &[u8], role: Role) -> Result<Vec<u8>, ToolFault>
-    ensures ok { IfOk result (λ text. Consults bytes.now role (λ strings. text.items ≡ string_lines 1 strings)) }
-    ensures err { IfErr result (λ e. IsTold (Action.Strings role) bytes.now e) }
+/// Prints the text of `strings`, in pieces.
+pub fn print_strings_of<W: Write>(
+    alloc: Global,
+    bytes: &[u8],
+    role: Role,
+    out: &mut Counted<W>,
+) -> Result<(), ToolFault>
+    ensures ok { OnOk result (Consults bytes.now role (λ strings. Appends (W.contents (inner out.old)) (W.contents (inner out.new)) (string_lines 1 strings))) }
+    ensures well { OnOk result (failures out.new ≡ failures out.old) }
+    ensures err { IfErr result (λ e. (IsTold (Action.Strings role) bytes.now e × (out.new ≡ out.old)) ⊎ Consults bytes.now role (λ strings.
+        IsCut e (string_lines 1 strings) (W.contents (inner out.old)) (W.contents (inner out.new)) (failures out.old) (failures out.new))) }
 {
     let layout = Layout::read(alloc, bytes)?;
-    Ok(strings_text(alloc, &layout, role)?)
+    print_strings(alloc, &layout, role, out)
 }
 
 /// The text of `string`.
@@ -87,9 +98,10 @@ fn tight_verdict_of(alloc: Global, bytes: &[u8]) -> Result<Vec<u8>, ToolFault>
     Ok(verdict(alloc, lens)?)
 }
 
-/// What a command on a file prints of it, whole.
+/// What a command on a file prints of it, whole: any but `strings`.
 pub fn answer(alloc: Global, action: &Action, bytes: &[u8]) -> Result<Vec<u8>, ToolFault>
-    requires { ReadsFile action.now }
+    requires reads { ReadsFile action.now }
+    requires whole { (role : Role) → action.now ≢ Action.Strings role }
     ensures ok { IfOk result (λ text. Prints action.now bytes.now text.items) }
     ensures err { IfErr result (λ e. IsTold action.now bytes.now e) }
 {
@@ -97,10 +109,9 @@ pub fn answer(alloc: Global, action: &Action, bytes: &[u8]) -> Result<Vec<u8>, T
         Action::Head => head_of(alloc, bytes),
         Action::Verify => verdict_of(alloc, bytes),
         Action::VerifyTight => tight_verdict_of(alloc, bytes),
-        Action::Strings(role) => strings_of(alloc, bytes, *role),
         Action::Nth(role, number) => string_of(alloc, bytes, *role, *number),
         Action::Number(role, string) => number_of(alloc, bytes, *role, string),
         Action::Find { given, numbers } => triples_of(alloc, bytes, given, *numbers),
-        Action::Build(_) | Action::Rewrite(_) => unreachable!(),
+        Action::Strings(_) | Action::Build(_) | Action::Rewrite(_) => unreachable!(),
     }
 }

@@ -15,7 +15,10 @@ const STATUSES: &str = "Exit status:
      answer, or a string that N-Triples are to show is no term
   2  the command line is wrong
   3  reading or writing failed
-  4  out of memory";
+  4  out of memory
+
+Past a limit on the size of files (ulimit -f) the system ends the program by the signal SIGXFSZ,
+unless that is ignored: then writing failed.";
 
 const HEAD_ABOUT: &str = "Print a file's head: formats, properties and header";
 
@@ -76,7 +79,11 @@ const BUILD_LONG_ABOUT: &str = "Build an HDT file from N-Triples.
 The order of the lines, repeats and comments make no difference: one graph gives one file, byte
 for byte. It is told by `built` and six counts: the triples, the strings of the sections shared,
 subjects, predicates and objects, and the bytes of the file. OUT is opened only when the file is
-whole, so input that is refused leaves it as it was. IN may be /dev/stdin.";
+whole, so input that is refused leaves it as it was. IN may be /dev/stdin.
+
+OUT may be /dev/stdout. Where it is the file or pipe that standard output goes to, the HDT file
+alone is printed there, behind what stands there, and its line on standard error, or nowhere
+where that goes there too.";
 
 const REWRITE_ABOUT: &str = "Write a file again in canonical form";
 
@@ -87,7 +94,11 @@ numbers of strings and the order of triples may change; the triples are the same
 `build` has built is its own canonical file, if the block size is the same. It is told by
 `rewritten` and six counts: the triples, the strings of the sections shared, subjects,
 predicates and objects, and the bytes of the file. OUT is opened only when the file is whole, so
-input that is refused leaves it as it was. IN may be OUT.";
+input that is refused leaves it as it was. IN may be OUT.
+
+OUT may be /dev/stdout. Where it is the file or pipe that standard output goes to, the HDT file
+alone is printed there, behind what stands there, and its line on standard error, or nowhere
+where that goes there too.";
 
 const IN_HELP: &str = "Path of the N-Triples document to read";
 

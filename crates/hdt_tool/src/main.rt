@@ -10,12 +10,12 @@
 //! | 4 | out of memory |
 #![tactic(auto)]
 
-ghost use Rattle.std.specs.Prelude.{◌≡◌, ◌≢◌, ◌⊎◌, ◌+◌, ℕ, List, [], Ok, Err, IfOk, IfErr, OnOk, MatchResult, map, string_bytes};
+ghost use Rattle.std.specs.Prelude.{◌≡◌, ◌≢◌, ◌⊎◌, ◌+◌, ℕ, [], Ok, Err, Some, IfOk, IfErr, OnOk, MatchResult, map, string_bytes};
 ghost use Rattle.std.specs.Io.KnownBytes.{Appends};
 ghost use Rattle.std.specs.IoError.{error_kind};
 ghost use Rattle.std.specs.Vec.Iter.{into_iter_items};
 ghost use Rattle.hdt_wire.specs.Counted.{inner, failures};
-ghost use Rattle.hdt_tool.specs.Answer.{Faults, Performs, Reports, Stops};
+ghost use Rattle.hdt_tool.specs.Answer.{Breaks, FailsAfter, Faults, HasOut, MakesFile, Performs, ReadsFile, Reports, Stops};
 ghost use Rattle.hdt_tool.specs.Asked.{IsRefused, SaysUsage, Wants};
 ghost use Rattle.hdt_tool.specs.Lines.{fault_status};
 ghost use Rattle.hdt_tool.specs.Status.{Ends, IsCommandStatus, IsRefusalStatus};
@@ -45,8 +45,9 @@ use crate::words::parse_words;
 use hdt_wire::Counted;
 use std::alloc::{AllocError, Global};
 use std::env::{self, Args};
-use std::fs::File;
+use std::fs::{self, File};
 use std::io::{self, ErrorKind, Read, Write};
+use std::os::unix::fs::MetadataExt;
 use std::process::ExitCode;
 
 const NOT_UTF8: &str = "error: an argument is not UTF-8
@@ -116,6 +117,7 @@ fn lent<'a>(alloc: Global, words: &'a [String]) -> Result<Vec<&'a str>, AllocErr
 /// What the words of the command line ask for.
 fn request_of(alloc: Global, words: &[String]) -> Result<Request, UsageFault>
     ensures ok { IfOk result (Wants (map string_bytes words.now)) }
+    ensures out { IfOk result HasOut }
     ensures refused { IfErr result (IsRefused (map string_bytes words.now)) }
 {
     let texts = lent(alloc, words)?;
@@ -146,6 +148,7 @@ fn words_of(alloc: Global, given: io::Result<Args>) -> io::Result<Vec<String>>
 /// What the words of the command line ask for, where they could be had.
 fn asked(alloc: Global, words: io::Result<Vec<String>>) -> Result<Request, UsageFault>
     ensures ok { IfOk result (λ request. MatchResult words (λ words. Wants (map string_bytes words.items) request) (λ _. ⊥)) }
+    ensures out { IfOk result HasOut }
     ensures refused { IfErr result (λ fault. IfOk words (λ words. IsRefused (map string_bytes words.items) fault)) }
     ensures memory { IfErr words (λ error. error_kind error ≡ ErrorKind.OutOfMemory → result ≡ Err UsageFault.OutOfMemory) }
     ensures other { IfErr words (λ error. error_kind error ≢ ErrorKind.OutOfMemory → IfErr result (SaysUsage NOT_UTF8.now)) }
@@ -187,9 +190,12 @@ fn perform<R: Read + Drop, W: Write>(
     ensures write { IfErr result (λ e. (n : ℕ) → e ≡ ToolFault.Write n → (failures out.new ≡ failures out.old + 1)
         × MatchResult file (λ input. Stops request.now.action (R.remaining input)
         (W.contents (inner out.old)) (W.contents (inner out.new)) n) (λ _. ⊥)) }
-    // At Ok it has not failed, and at any other fault, also of a file that could not be opened, nothing was written.
+    // At Ok it has not failed, and at any other fault, also of a file that could not be opened, nothing was written, but that
+    // `strings` has printed a beginning of its text where memory was refused in the midst of it.
     ensures writer_well { OnOk result (failures out.new ≡ failures out.old) }
-    ensures unwritten { IfErr result (λ e. ((n : ℕ) → e ≢ ToolFault.Write n) → out.new ≡ out.old) }
+    ensures unwritten { IfErr result (λ e. ((n : ℕ) → e ≢ ToolFault.Write n) → (out.new ≡ out.old) ⊎ ((e ≡ ToolFault.OutOfMemory)
+        × MatchResult file (λ input. Breaks request.now.action (R.remaining input)
+        (W.contents (inner out.old)) (W.contents (inner out.new)) (failures out.old) (failures out.new)) (λ _. ⊥))) }
 {
     let mut input = match file {
         Ok(input) => Counted::new(input),
@@ -205,16 +211,19 @@ fn performed<R: Read + Drop, W: Write>(
     file: io::Result<R>,
     out: &mut Counted<W>,
 ) -> u8
+    requires { ReadsFile request.now.action }
     ensures statuses { IsCommandStatus result }
-    // 0: the writer has gained the command's text of the input, without a failure.
-    ensures done { result ≡ 0 → MatchResult file (λ input. (made : List ℕ) × Performs request.now.action (R.remaining input)
-        (W.contents (inner out.old)) (W.contents (inner out.new)) [] made) (λ _. ⊥) }
+    // 0: the writer has gained the command's text of the input, without a failure, and nothing was made that could be lost.
+    ensures done { result ≡ 0 → MatchResult file (λ input. Performs request.now.action (R.remaining input)
+        (W.contents (inner out.old)) (W.contents (inner out.new)) [] []) (λ _. ⊥) }
     ensures well { result ≡ 0 → failures out.new ≡ failures out.old }
     // 1: the input has a fault, no triples, no answer to the look-up, or a string that is no term.
     ensures fault { result ≡ 1 → MatchResult file (λ input. Faults request.now.action (R.remaining input)) (λ _. ⊥) }
     ensures unwritten { result ≡ 1 → out.new ≡ out.old }
-    // 2, 3 and 4: nothing was written, or the writer failed.
-    ensures stopped { result ≢ 0 → (out.new ≡ out.old) ⊎ (failures out.new ≡ failures out.old + 1) }
+    // 2, 3 and 4: nothing was written, or the writer failed, or memory was refused in the midst of `strings`.
+    ensures stopped { result ≢ 0 → (out.new ≡ out.old) ⊎ (failures out.new ≡ failures out.old + 1)
+        ⊎ MatchResult file (λ input. Breaks request.now.action (R.remaining input)
+        (W.contents (inner out.old)) (W.contents (inner out.new)) (failures out.old) (failures out.new)) (λ _. ⊥) }
 {
     let mut made = Vec::new(rt.alloc());
     done(rt, perform(rt.alloc(), request, file, out, &mut made))
@@ -231,6 +240,30 @@ fn in_memory(fault: ToolFault) -> ToolFault
     }
 }
 
+/// Makes the file that a request asks for, from its input, as it was opened: appends it to `built`, and answers the line that is
+/// told of it.
+fn made_of<R: Read + Drop>(
+    alloc: Global,
+    request: &Request,
+    file: io::Result<R>,
+    built: &mut Vec<u8>,
+) -> Result<Vec<u8>, ToolFault>
+    requires { MakesFile request.now.action }
+    // The line is the command's text of the input, and `built` has gained the file that it makes.
+    ensures ok { IfOk result (λ line. MatchResult file (λ input. Performs request.now.action (R.remaining input)
+        (Some []) (Some line.items) built.old.items built.new.items) (λ _. ⊥)) }
+    ensures told { IfErr result (λ e. IfOk file (λ input. Reports request.now.action (R.remaining input) e)) }
+    ensures memory { IfErr file (λ e. error_kind e ≡ ErrorKind.OutOfMemory → result ≡ Err ToolFault.OutOfMemory) }
+    ensures unopened { IfErr file (λ e. error_kind e ≢ ErrorKind.OutOfMemory → result ≡ Err ToolFault.Read) }
+    ensures others { IfErr result (λ e. (n : ℕ) → e ≢ ToolFault.Write n) }
+{
+    let mut line = Counted::new(Vec::new(alloc));
+    match perform(alloc, request, file, &mut line, built) {
+        Ok(()) => Ok(line.into_inner()),
+        Err(fault) => Err(in_memory(fault)),
+    }
+}
+
 /// The fault of a file that could not be created.
 fn create_fault(error: &io::Error) -> ToolFault
     ensures memory { error_kind error.now ≡ ErrorKind.OutOfMemory → result ≡ ToolFault.OutOfMemory }
@@ -240,6 +273,18 @@ fn create_fault(error: &io::Error) -> ToolFault
         return ToolFault::OutOfMemory;
     }
     ToolFault::Write(0)
+}
+
+/// The file to be written, as it was created.
+fn created<F: Write>(file: io::Result<F>) -> Result<Counted<F>, ToolFault>
+    ensures ok { IfOk result (λ counted. file ≡ Ok (inner counted)) }
+    ensures memory { IfErr file (λ e. error_kind e ≡ ErrorKind.OutOfMemory → result ≡ Err ToolFault.OutOfMemory) }
+    ensures other { IfErr file (λ e. error_kind e ≢ ErrorKind.OutOfMemory → result ≡ Err (ToolFault.Write 0)) }
+{
+    match file {
+        Ok(file) => Ok(Counted::new(file)),
+        Err(error) => Err(create_fault(&error)),
+    }
 }
 
 /// Writes what was made to its file, and then the line to a writer.
@@ -253,9 +298,14 @@ fn store<F: Write, W: Write>(
     ensures file { OnOk result (Appends (F.contents (inner file.old)) (F.contents (inner file.new)) built.now) }
     ensures line { OnOk result (Appends (W.contents (inner out.old)) (W.contents (inner out.new)) line.now) }
     ensures well { OnOk result ((failures file.new ≡ failures file.old) × (failures out.new ≡ failures out.old)) }
-    // Where the file failed the writer is as it was; else the writer failed.
-    ensures failed { IfErr result (λ e. (n : ℕ) × (e ≡ ToolFault.Write n)) }
-    ensures unwritten { failures file.new ≢ failures file.old → out.new ≡ out.old }
+    // At a fault one of the two failed, behind as many bytes as it tells: the file, and the writer is as it was, or the writer,
+    // and the file has gained all.
+    ensures failed { IfErr result (λ e. (n : ℕ) × (e ≡ ToolFault.Write n) × (
+        (FailsAfter n built.now (F.contents (inner file.old)) (F.contents (inner file.new)) (failures file.old) (failures file.new)
+        × (out.new ≡ out.old))
+        ⊎ (FailsAfter n line.now (W.contents (inner out.old)) (W.contents (inner out.new)) (failures out.old) (failures out.new)
+        × Appends (F.contents (inner file.old)) (F.contents (inner file.new)) built.now
+        × (failures file.new ≡ failures file.old)))) }
 {
     match file.write_all(built) {
         Ok(()) => {}
@@ -267,27 +317,47 @@ fn store<F: Write, W: Write>(
     }
 }
 
-/// Does what a request that makes a file asks for: that file is created only where the whole of it was made, and the line of
-/// its numbers is printed last.
-fn build_to(rt: &HostRuntime, request: &Request, path: &str) -> Result<(), ToolFault> {
-    let input = File::open(rt, request.file.as_str());
-    let mut line = Counted::new(Vec::new(rt.alloc()));
-    let mut built = Vec::new(rt.alloc());
-    match perform(rt.alloc(), request, input, &mut line, &mut built) {
-        Ok(()) => {}
-        Err(fault) => return Err(in_memory(fault)),
+/// Where the system shows the file that is standard output.
+const OUTPUT: &str = "/proc/self/fd/1";
+
+/// Where it shows the one that is standard error.
+const ERRORS: &str = "/proc/self/fd/2";
+
+/// Whether two paths lead to one file, pipe or device.
+fn is_one_file(rt: &HostRuntime, path: &str, other: &str) -> bool {
+    match (fs::metadata(rt, path), fs::metadata(rt, other)) {
+        (Ok(one), Ok(two)) => one.dev() == two.dev() && one.ino() == two.ino(),
+        _ => false,
     }
-    let mut file = match File::create(rt, path) {
-        Ok(file) => Counted::new(file),
-        Err(error) => return Err(create_fault(&error)),
-    };
+}
+
+/// Prints what was made to the standard output, where nothing else is to stand, and its line to the standard error, unless that is
+/// the same file.
+fn print_built(rt: &HostRuntime, built: &[u8], line: &[u8]) -> Result<(), ToolFault> {
     let mut out = Counted::new(io::writer(rt));
-    store(
-        &mut file,
-        built.as_slice(),
-        &mut out,
-        line.into_inner().as_slice(),
-    )
+    let mut errors = Counted::new(rt.stderr());
+    let line = if is_one_file(rt, OUTPUT, ERRORS) {
+        &[]
+    } else {
+        line
+    };
+    store(&mut out, built, &mut errors, line)
+}
+
+/// Does what a request that makes a file asks for: that file is created only where the whole of it was made, and the line of
+/// its numbers is printed last. Where its path leads to what standard output is, it is printed there.
+fn build_to(rt: &HostRuntime, request: &Request, path: &str) -> Result<(), ToolFault>
+    requires { MakesFile request.now.action }
+{
+    let input = File::open(rt, request.file.as_str());
+    let mut built = Vec::new(rt.alloc());
+    let line = made_of(rt.alloc(), request, input, &mut built)?;
+    if is_one_file(rt, path, OUTPUT) {
+        return print_built(rt, &built, &line);
+    }
+    let mut file = created(File::create(rt, path))?;
+    let mut out = Counted::new(io::writer(rt));
+    store(&mut file, &built, &mut out, &line)
 }
 
 /// Tells why the words ask for nothing: help on the standard output, a fault on the standard error.
@@ -302,6 +372,7 @@ fn refuse(rt: &HostRuntime, fault: UsageFault) -> u8
 
 /// Does what a request that makes a file asks for, and tells how it ended.
 fn stored(rt: &HostRuntime, request: &Request, path: &str) -> u8
+    requires { MakesFile request.now.action }
     ensures { IsCommandStatus result }
 {
     done(rt, build_to(rt, request, path))
@@ -309,6 +380,7 @@ fn stored(rt: &HostRuntime, request: &Request, path: &str) -> u8
 
 /// Does what a request asks for, and tells how it ended.
 fn fulfilled(rt: &HostRuntime, request: &Request) -> u8
+    requires { HasOut request.now }
     ensures { IsCommandStatus result }
 {
     match &request.out {
@@ -323,6 +395,7 @@ fn fulfilled(rt: &HostRuntime, request: &Request) -> u8
 
 /// Does what was asked for, or tells why nothing was.
 fn answered(rt: &HostRuntime, asked: Result<Request, UsageFault>) -> u8
+    requires { IfOk asked HasOut }
     ensures { MatchResult asked (λ _. IsCommandStatus result) (λ fault. IsRefusalStatus fault result) }
 {
     match asked {

@@ -1,15 +1,17 @@
-//! The engine of all commands: reads all the input, makes its output whole, and only then writes it.
-ghost use Rattle.std.specs.Prelude.{◌≡◌, ◌≢◌, ◌<◌, ◌++◌, ◌+◌, ◌↔◌, ℕ, List, IfOk, IfErr, OnOk, OnErr, IsErrOf, length, take};
+//! The engine of all commands: reads all the input, makes its output whole, and only then writes it. `strings` alone writes in
+//! pieces.
+ghost use Rattle.std.specs.Prelude.{◌≡◌, ◌≢◌, ◌<◌, ◌++◌, ◌+◌, ◌↔◌, ◌⊎◌, ℕ, List, IfOk, IfErr, OnOk, OnErr, IsErrOf, length, take};
 ghost use Rattle.std.specs.Io.KnownBytes.{Appends};
 ghost use Rattle.hdt_wire.specs.Counted.{inner, failures};
 ghost use Rattle.hdt_build.specs.Options.{AreRight};
-ghost use Rattle.hdt_tool.specs.Answer.{ReadsAll, ReadsWith, ReadsFile, Prints, Tells, IsTold, Makes, Answers, Begins, IfBuild, IsOfFile, RewritesFile};
+ghost use Rattle.hdt_tool.specs.Answer.{ReadsAll, ReadsWith, ReadsFile, Prints, Tells, IsTold, Makes, Answers, Begins, Halts, IfBuild, IsOfFile, RewritesFile};
 
-use crate::answer::answer;
+use crate::answer::{answer, print_strings_of};
 use crate::fault::ToolFault;
 use crate::printed_built::{built_line, rewritten_line};
 use crate::request::{Action, Request};
 use hdt_build::{Options, build_bytes, rewrite_bytes};
+use hdt_dict::Role;
 use hdt_file::open;
 use hdt_wire::{Counted, Failed};
 use std::alloc::Global;
@@ -45,7 +47,8 @@ fn file_text<R: Read>(
     action: &Action,
     input: &mut Counted<R>,
 ) -> Result<Vec<u8>, ToolFault>
-    requires { ReadsFile action.now }
+    requires reads { ReadsFile action.now }
+    requires whole { (role : Role) → action.now ≢ Action.Strings role }
     ensures ok { IfOk result (λ text. ReadsWith (R.remaining (inner input.old)) (R.remaining (inner input.new))
         (λ bytes. Prints action.now bytes text.items)) }
     ensures told { IfErr result (Tells action.now (R.remaining (inner input.old)) (R.remaining (inner input.new))) }
@@ -124,13 +127,14 @@ fn rewritten_text<R: Read>(
     rewritten_of(alloc, block_size, bytes.as_slice(), made)
 }
 
-/// What the command prints of the input; the file that it makes is appended to `made`.
+/// What a command other than `strings` prints of the input; the file that it makes is appended to `made`.
 fn text_of<R: Read>(
     alloc: Global,
     action: &Action,
     input: &mut Counted<R>,
     made: &mut Vec<u8>,
 ) -> Result<Vec<u8>, ToolFault>
+    requires { (role : Role) → action.now ≢ Action.Strings role }
     ensures ok { IfOk result (λ text. Makes action.now (R.remaining (inner input.old)) (R.remaining (inner input.new))
         text.items made.old.items made.new.items) }
     ensures told { IfErr result (Tells action.now (R.remaining (inner input.old)) (R.remaining (inner input.new))) }
@@ -147,6 +151,66 @@ fn text_of<R: Read>(
         Action::Rewrite(block_size) => rewritten_text(alloc, *block_size, input, made),
         _ => file_text(alloc, action, input),
     }
+}
+
+/// Does what a command other than `strings` does: its text is written once it is whole.
+fn print_whole<R: Read, W: Write>(
+    alloc: Global,
+    action: &Action,
+    input: &mut Counted<R>,
+    out: &mut Counted<W>,
+    made: &mut Vec<u8>,
+) -> Result<(), ToolFault>
+    requires { (role : Role) → action.now ≢ Action.Strings role }
+    ensures ok { OnOk result (Answers action.now (R.remaining (inner input.old)) (R.remaining (inner input.new))
+        (W.contents (inner out.old)) (W.contents (inner out.new)) made.old.items made.new.items) }
+    ensures told { IfErr result (Tells action.now (R.remaining (inner input.old)) (R.remaining (inner input.new))) }
+    ensures bad { IfBuild action.now (λ options. IsErrOf result ToolFault.BadOptions ↔ (AreRight options → ⊥)) }
+    ensures unread { IfBuild action.now (λ options. IsErrOf result ToolFault.BadOptions → input.new ≡ input.old) }
+    ensures read { IsErrOf result ToolFault.Read → failures input.new ≡ failures input.old + 1 }
+    ensures reader_well { OnOk result (failures input.new ≡ failures input.old) }
+    ensures reader_told { IfErr result (λ e. e ≢ ToolFault.Read → failures input.new ≡ failures input.old) }
+    ensures write { IfErr result (λ e. (n : ℕ) → e ≡ ToolFault.Write n → (failures out.new ≡ failures out.old + 1)
+        × Begins action.now (R.remaining (inner input.old)) (R.remaining (inner input.new))
+        (W.contents (inner out.old)) (W.contents (inner out.new)) n) }
+    ensures writer_well { OnOk result (failures out.new ≡ failures out.old) }
+    ensures unwritten { IfErr result (λ e. ((n : ℕ) → e ≢ ToolFault.Write n) → out.new ≡ out.old) }
+    ensures kept { OnErr result (made.new.items ≡ made.old.items) }
+{
+    let start = made.len();
+    let text = text_of(alloc, action, input, made)?;
+    match out.write_all(text.as_slice()) {
+        Ok(()) => Ok(()),
+        Err(count) => {
+            made.truncate(start);
+            Err(ToolFault::Write(count))
+        }
+    }
+}
+
+/// Does what `strings` does: the lines of the strings of a role are written in pieces.
+fn print_role<R: Read, W: Write>(
+    alloc: Global,
+    role: Role,
+    input: &mut Counted<R>,
+    out: &mut Counted<W>,
+) -> Result<(), ToolFault>
+    ensures ok { OnOk result ((text : List ℕ) × ReadsWith (R.remaining (inner input.old)) (R.remaining (inner input.new))
+        (λ bytes. Prints (Action.Strings role) bytes text) × Appends (W.contents (inner out.old)) (W.contents (inner out.new)) text) }
+    ensures told { IfErr result (Tells (Action.Strings role) (R.remaining (inner input.old)) (R.remaining (inner input.new))) }
+    ensures read { IsErrOf result ToolFault.Read → failures input.new ≡ failures input.old + 1 }
+    ensures reader_well { OnOk result (failures input.new ≡ failures input.old) }
+    ensures reader_told { IfErr result (λ e. e ≢ ToolFault.Read → failures input.new ≡ failures input.old) }
+    ensures write { IfErr result (λ e. (n : ℕ) → e ≡ ToolFault.Write n → (failures out.new ≡ failures out.old + 1)
+        × Begins (Action.Strings role) (R.remaining (inner input.old)) (R.remaining (inner input.new))
+        (W.contents (inner out.old)) (W.contents (inner out.new)) n) }
+    ensures writer_well { OnOk result (failures out.new ≡ failures out.old) }
+    ensures unwritten { IfErr result (λ e. ((n : ℕ) → e ≢ ToolFault.Write n) → (out.new ≡ out.old) ⊎ ((e ≡ ToolFault.OutOfMemory)
+        × Halts (Action.Strings role) (R.remaining (inner input.old)) (R.remaining (inner input.new))
+        (W.contents (inner out.old)) (W.contents (inner out.new)) (failures out.old) (failures out.new))) }
+{
+    let bytes = read_all(alloc, input)?;
+    print_strings_of(alloc, bytes.as_slice(), role, out)
 }
 
 /// Does what the request asks for: reads the input to its end, and writes the command's text to `out`. The file that `build` or
@@ -177,18 +241,16 @@ pub fn run<R: Read, W: Write>(
     ensures write { IfErr result (λ e. (n : ℕ) → e ≡ ToolFault.Write n → (failures out.new ≡ failures out.old + 1)
         × Begins request.now.action (R.remaining (inner input.old)) (R.remaining (inner input.new))
         (W.contents (inner out.old)) (W.contents (inner out.new)) n) }
-    // At Ok it has not failed, and at any other fault nothing was written.
+    // At Ok it has not failed, and at any other fault nothing was written, but that `strings` has printed a beginning of its text
+    // where memory was refused in the midst of it.
     ensures writer_well { OnOk result (failures out.new ≡ failures out.old) }
-    ensures unwritten { IfErr result (λ e. ((n : ℕ) → e ≢ ToolFault.Write n) → out.new ≡ out.old) }
+    ensures unwritten { IfErr result (λ e. ((n : ℕ) → e ≢ ToolFault.Write n) → (out.new ≡ out.old) ⊎ ((e ≡ ToolFault.OutOfMemory)
+        × Halts request.now.action (R.remaining (inner input.old)) (R.remaining (inner input.new))
+        (W.contents (inner out.old)) (W.contents (inner out.new)) (failures out.old) (failures out.new))) }
     ensures kept { OnErr result (made.new.items ≡ made.old.items) }
 {
-    let start = made.len();
-    let text = text_of(alloc, &request.action, input, made)?;
-    match out.write_all(text.as_slice()) {
-        Ok(()) => Ok(()),
-        Err(count) => {
-            made.truncate(start);
-            Err(ToolFault::Write(count))
-        }
+    match &request.action {
+        Action::Strings(role) => print_role(alloc, *role, input, out),
+        _ => print_whole(alloc, &request.action, input, out, made),
     }
 }

@@ -623,8 +623,21 @@ const NO_END: LineFault = LineFault {
     reason: LineReason::Syntax,
 };
 
+/// A fault behind more lines than 32 bits count.
+const FAR: LineFault = LineFault {
+    line: 4_294_967_296,
+    column: 4_294_967_297,
+    reason: LineReason::NotUtf8,
+};
+
+const FARTHEST: LineFault = LineFault {
+    line: u64::MAX,
+    column: u64::MAX,
+    reason: LineReason::BadEscape,
+};
+
 /// Faults, and what is told of each: its status, its line, and the text that it has as an error of a library.
-static FAULTS_TOLD: [(ToolFault, u8, &str, &str); 14] = [
+static FAULTS_TOLD: [(ToolFault, u8, &str, &str); 16] = [
     (
         ToolFault::File(TRUNCATED),
         1,
@@ -648,6 +661,18 @@ static FAULTS_TOLD: [(ToolFault, u8, &str, &str); 14] = [
         1,
         "hdt: line 20 column 7: 1 Syntax",
         "the input has a fault: Syntax at line 20 column 7",
+    ),
+    (
+        ToolFault::Input(FAR),
+        1,
+        "hdt: line 4294967296 column 4294967297: 2 NotUtf8",
+        "the input has a fault: NotUtf8 at line 4294967296 column 4294967297",
+    ),
+    (
+        ToolFault::Input(FARTHEST),
+        1,
+        "hdt: line 18446744073709551615 column 18446744073709551615: 3 BadEscape",
+        "the input has a fault: BadEscape at line 18446744073709551615 column 18446744073709551615",
     ),
     (ToolFault::NoTriples, 1, "hdt: no triples", "no triples"),
     (

@@ -1,6 +1,7 @@
 //! The command line of `hdt`.
 ghost use Rattle.std.specs.Prelude.{◌≡◌, IfOk, IfErr, map};
 ghost use Rattle.clap.specs.Words.{found_of, rows_of, kind_of};
+ghost use Rattle.hdt_tool.specs.Answer.{HasOut};
 ghost use Rattle.hdt_tool.specs.Asked.{AsksAction, AsksFor, AsksOfFile, AsksOfFiles, AsksToMake, ComesWithout, ComesWithoutOr, IsRefused, Misspells, TellsKind, Wants};
 ghost use Rattle.hdt_tool.specs.Table.{AreRoles};
 ghost use Rattle.hdt_tool.specs.declared.request.Action.{Action};
@@ -146,6 +147,8 @@ const ROLES: [&str; 3] = ["subject", "predicate", "object"];
 pub fn parse_words<'a>(alloc: Global, words: &'a [&'a str]) -> Result<Request, UsageFault>
     // The request is the one that the words want, by what `clap` states of them under the table of commands.
     ensures ok { IfOk result (Wants (map (λ word. word.now) words.now)) }
+    // `build` and `rewrite` come with the path of the file that they make, and no other command does.
+    ensures out { IfOk result HasOut }
     // Help is given only where `clap` may give it; a fault of a term is told where it stands in TERM, or in the first of S, P and
     // O that is not fine; other words are refused only where they want no request.
     ensures refused { IfErr result (IsRefused (map (λ word. word.now) words.now)) }

@@ -1,11 +1,12 @@
-use Rattle.std.proofs.Common.{IfOk, MatchResult, refl, sym, subst}
+use Rattle.std.proofs.Common.{IfOk, MatchResult, inl, refl, sym, subst}
 use Rattle.std.proofs.lemmas.Result.{IfErr-weaker, on_ok_weaker}
-use Rattle.hdt_wire.specs.Counted.{inner}
-use Rattle.hdt_tool.specs.Answer.{Answers, Begins, Performs, Reports, Stops, Tells}
+use Rattle.hdt_wire.specs.Counted.{inner, failures}
+use Rattle.hdt_tool.specs.Answer.{Answers, Begins, Breaks, Halts, Performs, Reports, Stops, Tells}
+use Rattle.hdt_tool.proofs.Statuses.{second}
 use Rattle.hdt_tool.proofs.perform.Goals as goal
 
 pub returns-in-Err-clause-unwritten : goal.returns-in-Err-clause-unwritten
-returns-in-Err-clause-unwritten g c = λ _. refl
+returns-in-Err-clause-unwritten g c = λ _. inl refl
 
 pub returns-clause-ok : goal.returns-clause-ok
 returns-clause-ok g c =
@@ -23,7 +24,19 @@ pub returns-clause-writer_well : goal.returns-clause-writer_well
 returns-clause-writer_well g c = c.run.ensures.writer_well
 
 pub returns-clause-unwritten : goal.returns-clause-unwritten
-returns-clause-unwritten g c = c.run.ensures.unwritten
+returns-clause-unwritten g c =
+    let left = g.R.Read.remaining in
+    let action = c.args.request.now.action in
+    let after = left (inner c.run.new.input) in
+    let old = g.W.Write.contents (inner c.args.out.now) in
+    let new = g.W.Write.contents (inner c.run.new.out) in
+    let f = failures c.args.out.now in
+    let g' = failures c.run.new.out in
+    IfErr-weaker c.run.result _ _ (λ e h none. second (λ b. (
+      b.0,
+      subst (λ file. MatchResult file (λ input. Breaks action (left input) old new f g') (λ _. ⊥)) (sym c.in-Ok.is)
+          (record { after = after; halts = subst (λ input. Halts action (left input) after old new f g') c.new-input.ensures.inner b.1 }),
+    )) (h none)) c.run.ensures.unwritten
 
 pub returns-clause-told : goal.returns-clause-told
 returns-clause-told g c =

@@ -2,7 +2,8 @@ use Rattle.std.proofs.Common.{◌≡◌, ℕ, List, [], rules, subst}
 use Rattle.std.proofs.lemmas.Result.{IfErr-weaker, MatchResult-weaker}
 use Rattle.hdt_wire.specs.Counted.{inner}
 use Rattle.hdt_tool.specs.Answer.{Performs}
-use Rattle.hdt_tool.proofs.Statuses.{command_status, if_done, stopped}
+use Rattle.hdt_tool.proofs.Making.{nothing_lost}
+use Rattle.hdt_tool.proofs.Statuses.{command_status, if_done, still_at_1, stopped}
 use Rattle.hdt_tool.proofs.performed.Goals as goal
 
 pub returns-clause-statuses : goal.returns-clause-statuses
@@ -17,10 +18,13 @@ returns-clause-done g c is =
     let more = c.perform.new.made.items in
     let none : c.new-made.result.items ≡ [] = search rules in
     MatchResult-weaker c.args.file (if_done c.perform.result c.done.result c.done.ensures c.perform.ensures.ok is)
-    (λ input h. (more, subst (λ (made : List ℕ). Performs action (left input) old new made more) none h)) (λ e h. h)
+    (λ input h. nothing_lost action c.requires (left input) old new more (subst (λ (made : List ℕ). Performs action (left input) old new made more) none h)) (λ e h. h)
 
 pub returns-clause-well : goal.returns-clause-well
 returns-clause-well g c = if_done c.perform.result c.done.result c.done.ensures c.perform.ensures.writer_well
+
+pub returns-clause-unwritten : goal.returns-clause-unwritten
+returns-clause-unwritten g c is = still_at_1 _ _ c.perform.result c.done.result c.done.ensures c.perform.ensures.unwritten is
 
 pub returns-clause-stopped : goal.returns-clause-stopped
 returns-clause-stopped g c not =

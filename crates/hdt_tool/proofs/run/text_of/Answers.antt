@@ -11,7 +11,7 @@ use Rattle.hdt_tool.proofs.Making.{on_file, nothing_built, no_options, not_writi
 use Rattle.hdt_tool.proofs.run.text_of.Goals as goal
 
 pub file_text-requires : goal.file_text-requires
-file_text-requires g c = on_file c.args.action.now c.in_default.not-Build c.in_default.not-Rewrite
+file_text-requires g c = record { reads = on_file c.args.action.now c.in_default.not-Build c.in_default.not-Rewrite; whole = c.requires }
 
 pub returns-in_default-clause-ok : goal.returns-in_default-clause-ok
 returns-in_default-clause-ok g c =
