@@ -44,4 +44,6 @@ pub use writing::{put_dictionary, put_lent_dictionary};
 #[cfg(test)]
 mod arena_tests;
 #[cfg(test)]
+mod large_tests;
+#[cfg(test)]
 mod tests;

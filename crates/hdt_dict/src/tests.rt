@@ -16,7 +16,7 @@ use std::test::Fail;
 const CONTROL: &[u8] = b"$HDT\x03<http://purl.org/HDT/hdt#dictionaryFour>\0mapping=1;\0\x82\xB8";
 
 /// The place of the dictionary in the sample file.
-const AT: usize = 218;
+pub(crate) const AT: usize = 218;
 
 /// The strings of a section, packed; each keeps nothing of the one before.
 fn pack(alloc: Global, strings: &[&[u8]], block: u64) -> Result<Vec<u8>, AllocError> {
@@ -88,7 +88,7 @@ fn before_sections(alloc: Global) -> Result<Vec<u8>, AllocError> {
 
 /// A dictionary of sections shared, subjects, predicates and objects, at the place that it has in the sample file, and
 /// bytes that follow it.
-fn dictionary_with(
+pub(crate) fn dictionary_with(
     alloc: Global,
     sections: &[&[&[u8]]],
     block: u64,
@@ -145,7 +145,7 @@ static OVERLAPS: [([&[&[u8]]; 4], u64, Option<u64>); 16] = [
 ];
 
 /// The place of the overlap that is answered, if one is.
-fn overlap_in(alloc: Global, bytes: &[u8]) -> Result<Option<u64>, AllocError> {
+pub(crate) fn overlap_in(alloc: Global, bytes: &[u8]) -> Result<Option<u64>, AllocError> {
     match Dictionary::read(alloc, bytes, AT) {
         Ok(_) => Ok(None),
         Err(ReadFault::OutOfMemory) => Err(AllocError),
@@ -169,7 +169,10 @@ fn is_accepted(alloc: Global, bytes: &[u8]) -> Result<bool, AllocError> {
 }
 
 /// The dictionary in the bytes, if it is accepted and ends before the last four.
-fn read_at<'a>(alloc: Global, bytes: &'a [u8]) -> Result<Option<Dictionary<'a>>, AllocError> {
+pub(crate) fn read_at<'a>(
+    alloc: Global,
+    bytes: &'a [u8],
+) -> Result<Option<Dictionary<'a>>, AllocError> {
     match Dictionary::read(alloc, bytes, AT) {
         Ok((dictionary, end)) => {
             Ok(if end.saturating_add(4) == bytes.len() {
@@ -201,7 +204,7 @@ fn overlaps(rt: HostRuntime) -> Result<(), Fail> {
 }
 
 /// Whether a role has this string under this number, looked up both ways.
-fn is_numbered(
+pub(crate) fn is_numbered(
     alloc: Global,
     dictionary: &Dictionary<'_>,
     role: Role,
@@ -627,7 +630,7 @@ static CANONICAL: [&[u8]; 6] = [
 ];
 
 /// The sections of these strings, written.
-fn write_lent(
+pub(crate) fn write_lent(
     alloc: Global,
     subjects: &[&[u8]],
     predicates: &[&[u8]],

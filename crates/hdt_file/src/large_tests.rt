@@ -169,8 +169,8 @@ fn has_role(alloc: Global, graph: &Graph<'_>, role: Role) -> Result<bool, AllocE
         looks_up(alloc, graph, role)?
             && walks_over(graph.strings(alloc, role), count)?
             && walks_over(graph.layout().strings(alloc, role), count)?
-            && graph.uses(role, count)
-            && !graph.uses(role, count.saturating_add(1)),
+            && graph.uses(role, count, &mut Steps::new())
+            && !graph.uses(role, count.saturating_add(1), &mut Steps::new()),
     )
 }
 

@@ -51,4 +51,6 @@ pub use walk::Walk;
 pub use writing::{put_lent_section, put_section};
 
 #[cfg(test)]
+mod large_tests;
+#[cfg(test)]
 mod tests;

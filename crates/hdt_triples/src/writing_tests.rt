@@ -229,10 +229,13 @@ fn writes_many_triples(rt: HostRuntime) -> Result<(), Fail> {
     Ok(())
 }
 
-/// As many pairs as triples, and subjects as triples.
+/// Many objects of the first pair, and then as many pairs, and subjects, as triples.
 fn a_subject_each(alloc: Global) -> Result<Vec<(u64, u64, u64)>, AllocError> {
     let mut list = Vec::new(alloc);
-    for subject in 1..=300_000_u64 {
+    for object in 1..=1_500_u64 {
+        list.push((1, 1, object))?;
+    }
+    for subject in 2..=300_000_u64 {
         list.push((subject, subject % 7 + 1, subject % 1_000 + 1))?;
     }
     Ok(list)
@@ -264,7 +267,7 @@ fn read_behind(bytes: &[u8]) -> Result<(Triples<'_>, usize), Fail> {
     let counts = Counts {
         subjects: most.min(300_000),
         predicates: most.min(7),
-        objects: most.min(1_000),
+        objects: most.min(1_500),
     };
     let read = Triples::read(bytes, 100_000, counts);
     Ok(read.ok().ok_or("refused")?)

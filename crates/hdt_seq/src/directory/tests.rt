@@ -50,7 +50,7 @@ struct Case {
 }
 
 /// Each kind of bits stands twice where it has padding: all padding 0, then all padding 1.
-static CASES: [Case; 12] = [
+static CASES: [Case; 13] = [
     // One bit that is no mark, and one that is.
     Case {
         count: 1,
@@ -153,6 +153,15 @@ static CASES: [Case; 12] = [
         ranks: &[(511, 0), (1023, 0), (1024, 1)],
         places: &[(1, 1023)],
         held: 3,
+    },
+    // A million bits, and two marks behind them.
+    Case {
+        count: 1_000_003,
+        zeros: 125_000,
+        rest: &[0x05],
+        ranks: &[(1_000_000, 0), (1_000_001, 1), (1_000_003, 2)],
+        places: &[(1, 1_000_000), (2, 1_000_002)],
+        held: 1_955,
     },
 ];
 

@@ -1,0 +1,185 @@
+//! A section of many strings in one block, the last of them long: through each call, and with a fault behind many strings.
+use super::*;
+use hdt_seq::Steps;
+use hdt_wire::{Fault, Reason, check32};
+use std::alloc::{AllocError, Global};
+use std::test::Fail;
+
+/// How many numerals there are, before the long string.
+const NUMERALS: u32 = 140_000;
+
+/// How many bytes a numeral has.
+const WIDTH: usize = 6;
+
+/// The last digit of a number.
+fn digit(i: u32) -> u8 {
+    b'0'.wrapping_add((i % 10) as u8)
+}
+
+/// The last six digits of a number.
+fn digits_of(i: u32) -> [u8; WIDTH] {
+    [
+        digit(i / 100_000),
+        digit(i / 10_000),
+        digit(i / 1000),
+        digit(i / 100),
+        digit(i / 10),
+        digit(i),
+    ]
+}
+
+/// The numerals from 0 on, one after another.
+fn numerals(alloc: Global) -> Result<Vec<u8>, AllocError> {
+    let mut bytes = Vec::with_capacity(alloc, 900_000)?;
+    for i in 0..NUMERALS {
+        bytes.extend_from_slice(&digits_of(i))?;
+    }
+    Ok(bytes)
+}
+
+/// The numerals, and behind them a string of 1,100,000 bytes.
+fn strings_of<'a>(
+    alloc: Global,
+    numerals: &'a [u8],
+    long: &'a [u8],
+) -> Result<Vec<&'a [u8]>, AllocError> {
+    let mut strings = Vec::new(alloc);
+    for numeral in numerals.chunks_exact(WIDTH) {
+        strings.push(numeral)?;
+    }
+    strings.push(long)?;
+    Ok(strings)
+}
+
+/// The section of these strings in one block.
+fn written(alloc: Global, strings: &[&[u8]]) -> Result<Vec<u8>, Fail> {
+    let mut out = Vec::new(alloc);
+    if !are_strings(strings) {
+        return Err("not the strings of a section")?;
+    }
+    put_lent_section(alloc, strings, 200_000, &mut out)?;
+    Ok(out)
+}
+
+/// The section that the bytes begin with.
+fn read<'a>(alloc: Global, bytes: &'a [u8]) -> Result<Section<'a>, Fail> {
+    match Section::read(alloc, bytes, 0) {
+        Ok((section, end)) if end == bytes.len() => Ok(section),
+        _ => Err("refused")?,
+    }
+}
+
+/// Whether a string has this number, looked up both ways.
+fn is_numbered(
+    alloc: Global,
+    section: &Section<'_>,
+    n: u64,
+    string: &[u8],
+) -> Result<bool, AllocError> {
+    if n == 0 || n > section.len() {
+        return Ok(false);
+    }
+    let mut out = Vec::new(alloc);
+    section.string(n, &mut out, &mut Steps::new())?;
+    Ok(out.as_slice() == string && section.place_of(string, &mut Steps::new()) == Some(n))
+}
+
+/// How many strings a walk gives, if the last one is this.
+fn walked(alloc: Global, section: &Section<'_>, last: &[u8]) -> Result<Option<u64>, AllocError> {
+    let mut walk = Walk::new(alloc, section);
+    let mut count = 0_u64;
+    for _ in 0..=section.len() {
+        if walk.next()?.is_some() {
+            count = count.wrapping_add(1);
+        }
+    }
+    Ok(if walk.last() == last {
+        Some(count)
+    } else {
+        None
+    })
+}
+
+/// How many strings a cursor passes.
+fn passed(alloc: Global, section: &Section<'_>) -> Result<u64, AllocError> {
+    let mut cursor = Cursor::new(alloc, section)?;
+    let mut count = 0_u64;
+    for _ in 0..=section.len() {
+        if cursor.place().is_some() {
+            count = count.wrapping_add(1);
+        }
+        cursor.pass()?;
+    }
+    Ok(count)
+}
+
+/// Whether each call finds the strings of the section.
+fn is_whole(alloc: Global, bytes: &[u8], long: &[u8]) -> Result<bool, Fail> {
+    let section = read(alloc, bytes)?;
+    Ok(
+        section.len() == 140_001
+            && section.blocks() == 1
+            && is_numbered(alloc, &section, 1, b"000000")?
+            && is_numbered(alloc, &section, 5_001, b"005000")?
+            && is_numbered(alloc, &section, 140_000, b"139999")?
+            && is_numbered(alloc, &section, 140_001, long)?
+            && section.place_of(b"139999x", &mut Steps::new()).is_none()
+            && walked(alloc, &section, long)? == Some(140_001)
+            && passed(alloc, &section)? == 140_001,
+    )
+}
+
+/// A long string behind the numerals.
+fn long_string(alloc: Global) -> Result<Vec<u8>, AllocError> {
+    vec![in alloc; b'x'; 1_100_000]
+}
+
+#[test]
+fn holds_a_block_of_many_strings(rt: HostRuntime) -> Result<(), Fail> {
+    let numerals = numerals(rt.alloc())?;
+    let long = long_string(rt.alloc())?;
+    let strings = strings_of(rt.alloc(), &numerals, &long)?;
+    let bytes = written(rt.alloc(), &strings)?;
+    assert!(rt; is_whole(rt.alloc(), &bytes, &long)?);
+    Ok(())
+}
+
+/// Puts a byte into the piece of string n, behind the length that it keeps, and mends the code; the place of the piece.
+fn spoiled(alloc: Global, bytes: &[u8], n: u64, byte: u8) -> Result<(Vec<u8>, u64), Fail> {
+    let section = read(alloc, bytes)?;
+    if n == 0 || n > section.len() {
+        return Err("no such string")?;
+    }
+    let first = section.string_start(1) as usize;
+    let place = section.string_start(n);
+    let mut changed = bytes.to_vec(alloc)?;
+    let end = changed.len().saturating_sub(4);
+    if let Some(there) = changed.get_mut((place as usize).wrapping_add(1)) {
+        *there = byte;
+    }
+    let code = check32(changed.get(first..end).unwrap_or(&[])).to_le_bytes();
+    changed.truncate(end);
+    changed.extend_from_slice(&code)?;
+    Ok((changed, place))
+}
+
+/// Whether the fault of a string behind many others is told, with its place.
+fn is_told(alloc: Global, bytes: &[u8], byte: u8, reason: Reason) -> Result<bool, Fail> {
+    let (changed, place) = spoiled(alloc, bytes, 120_000, byte)?;
+    let told = match Section::read(alloc, &changed, 0) {
+        Err(ReadFault::Fault(fault)) => fault == Fault { place, reason },
+        _ => false,
+    };
+    Ok(told)
+}
+
+#[test]
+fn tells_a_fault_behind_many_strings(rt: HostRuntime) -> Result<(), Fail> {
+    let numerals = numerals(rt.alloc())?;
+    let long = long_string(rt.alloc())?;
+    let strings = strings_of(rt.alloc(), &numerals, &long)?;
+    let bytes = written(rt.alloc(), &strings)?;
+    assert!(rt; is_told(rt.alloc(), &bytes, b'0', Reason::StringsNotAscending)?);
+    assert!(rt; is_told(rt.alloc(), &bytes, 0xFF, Reason::NotUtf8)?);
+    Ok(())
+}
