@@ -59,7 +59,7 @@ one_end false false cr h e = cc
 not_both : (e : ℕ) → eqb e 10 ≡ true → eqb e 13 ≡ false
 not_both e h = rw (eqb-true e 10 h) refl
 
-none_after : (cr p q : Bool) → p ≡ false → cond {A = ℕ} ((cr && p) && q) 0 1 ≡ 1
+pub none_after : (cr p q : Bool) → p ≡ false → cond {A = ℕ} ((cr && p) && q) 0 1 ≡ 1
 none_after true true q e = absurd (cc e)
 none_after true false q e = refl
 none_after false p q e = refl

@@ -83,7 +83,7 @@ filled_fails RelativeIri old held new a b c most grew none le p = absurd p
 filled_fails IriCharacter old held new a b c most grew none le p = absurd p
 filled_fails ZeroCharacter old held new a b c most grew none le p = absurd p
 filled_fails Read old held new a b c most grew none le p = (Grew-kept old held new a b c grew p.0 p.1, subst NoEnd (sym p.0) none, omega (arith, ap length p.0))
-filled_fails OutOfMemory old held new a b c most grew none le p = (Grew-kept old held new a b c grew p.0 p.1, omega (arith, ap length p.0))
+filled_fails OutOfMemory old held new a b c most grew none le p = (Grew-kept old held new a b c grew p.0 p.1, subst NoEnd (sym p.0) none, omega (arith, ap length p.0))
 filled_fails TooLong old held new a b c most grew none le p =
     let past = p.2 in
     ((grew.0, past.0, p.0 ∙ grew.1, past.1, Consumes-trans a b c grew.0 past.0 grew.2 past.2), subst NoEnd (sym p.0) none, p.1)

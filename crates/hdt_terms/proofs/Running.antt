@@ -1,15 +1,19 @@
 -- A whole run: what was taken grows line by line, up to the document or the fault.
-use Rattle.std.proofs.Common.{◌≡◌, ℕ, Bool, true, false, List, [], ◌∷◌, ◌++◌, length, ◌+◌, ◌<◌, ◌≤◌, ◌⊎◌, arith, Option, None, Some, inl, inr, sym, refl, ap, subst, ◌∙◌, append_assoc, append-nil, zero-add}
+use Rattle.std.proofs.Common.{◌≡◌, ℕ, Bool, true, false, List, [], ◌∷◌, ◌++◌, length, ◌+◌, ◌<◌, ◌≤◌, ◌⊎◌, arith, Option, None, Some, eqb, inl, inr, sym, refl, ap, subst, ◌∙◌, append_assoc, append-nil, zero-add}
+use Rattle.std.proofs.lemmas.Bool.{ne_eqb}
 use Rattle.std.proofs.lemmas.List.Elements.{filter_map-append}
 use Rattle.std.proofs.lemmas.List.{length-append}
 use Rattle.std.proofs.KnownBytes.{Consumes-trans}
 use Rattle.std.specs.Io.KnownBytes.{Consumes, IsAtEnd, prepend_known}
 use Rattle.hdt_terms.specs.declared.fault.LineFault.{LineFault}
+use Rattle.hdt_terms.specs.declared.fault.LineReason.TheVariants.{OutOfMemory}
 use Rattle.hdt_terms.specs.declared.triple.Triple.{Triple}
+use Rattle.hdt_terms.specs.Chars.{is_end}
 use Rattle.hdt_terms.specs.Documents.{IsDocument, FaultInDocument, Ran}
 use Rattle.hdt_terms.specs.Lines.{NoEnd, Line, SpelledTriple, EndedLines, triples_of, line_ends, ends_in_cr}
-use Rattle.hdt_terms.specs.Taking.{State, start, left, Takes, TakesTriple, TakesRest, Stands, StandsInLine}
-use Rattle.hdt_terms.proofs.Counting.{EndedLines-append, Takes-trans, line_ends-append}
+use Rattle.hdt_terms.specs.Taking.{State, start, left, triple_line, Takes, TakesTriple, TakesRest, WholeLine, Stands, StandsInLine}
+use Rattle.hdt_terms.proofs.Counting.{EndedLines-append, Takes-trans, line_ends-append, line_ends-no_end, line_ends-ended, none_after}
+use Rattle.hdt_terms.proofs.LineAgain.{triple_not_bare}
 
 nothing_taken : (all : Option (List ℕ)) → Consumes all (prepend_known [] all) []
 nothing_taken None = tt
@@ -98,11 +102,7 @@ fault_behind fault limit s all mid given triples r st =
           (subst (λ k. StandsInLine fault.reason fault.column (s.taken + length st.front) k st.rest given) r.takes.limit st.fault_is);
     }
 
--- ---- of a run
-
-pub either : (b : Bool) → (b ≡ true) ⊎ (b ≡ false)
-either true = inl refl
-either false = inr refl
+-- ---- want of memory
 
 triple_some : (text : List ℕ) (triple : Triple) → SpelledTriple text triple → 0 < length text
 triple_some text triple h =
@@ -118,6 +118,77 @@ triple_some text triple h =
       length-append h.o (h.before_stop ++ tail),
       length-append h.before_stop tail,
     )
+
+-- before anything is read
+pub memory_first : (fault : LineFault) (limit : ℕ) (all : Option (List ℕ)) → fault ≡ record { line = 1; column = 0; reason = OutOfMemory } → FaultInDocument fault limit all all
+memory_first fault limit all is = subst (λ (f : LineFault). FaultInDocument f limit all all) (sym is) (record {
+  front = [];
+  lines = [];
+  rest = all;
+  ended = refl;
+  consumed = kept all;
+  line = refl;
+  fault_is = (refl, inl ([], λ k d lt. absurd (omega (arith, lt)), kept all, omega arith));
+})
+  where
+    kept : (all : Option (List ℕ)) → Consumes all all []
+    kept None = tt
+    kept (Some x) = refl
+
+taken_first : (mid after : Option (List ℕ)) (a b : List ℕ) → Consumes mid after (a ++ b) → Consumes mid (prepend_known b after) a
+taken_first None after a b h = tt
+taken_first (Some x) None a b h = absurd h
+taken_first (Some x) (Some y) a b h = h ∙ append_assoc a b y
+
+taken_last : (after : Option (List ℕ)) (b : List ℕ) → Consumes (prepend_known b after) after b
+taken_last None b = tt
+taken_last (Some y) b = refl
+
+-- a line with a triple was taken, for which memory is refused
+module _ (s new : State) (mid after given : Option (List ℕ)) (triple : Triple) (t : TakesTriple s new mid after triple) where
+  some_text : 0 < length t.4.0
+  some_text = triple_some t.4.0 triple t.4.1.1
+
+  one_line : (cr : Bool) (e : ℕ) → is_end e ≡ true → line_ends cr (t.4.0 ++ e ∷ []) ≡ 1
+  one_line cr e end = line_ends-ended cr t.4.0 e t.4.2 end ∙ none_after cr (eqb (length t.4.0) 0) (eqb e 10) (ne_eqb (length t.4.0) 0 (λ z. absurd (omega (arith, z, some_text))))
+
+  line_is : triple_line new ≡ s.ends + line_ends s.after_cr t.0 + 1
+  line_is =
+      let ends = t.2.ends ∙ ap (λ k. s.ends + k) (line_ends-append s.after_cr t.0 t.1) in
+      elim t.4.3 [
+        | inl w ↦ let one = ap (line_ends (ends_in_cr s.after_cr t.0)) w.2 ∙ one_line (ends_in_cr s.after_cr t.0) w.0 w.1 in rw w.3 (omega (arith, ends, one))
+        | inr w ↦ let none = ap (line_ends (ends_in_cr s.after_cr t.0)) w.0 ∙ line_ends-no_end (ends_in_cr s.after_cr t.0) t.4.0 t.4.2 in rw w.1 (omega (arith, ends, none))
+      ]
+
+  whole : WholeLine (s.taken + length t.0) s.limit (prepend_known t.1 after) t.4.0
+  whole =
+      let size = length-append t.0 t.1 in
+      elim t.4.3 [
+        | inl w ↦ (after, inl (w.0, w.1, subst (Consumes (prepend_known t.1 after) after) w.2 (taken_last after t.1), omega (arith, size, ap length w.2, length-append t.4.0 (w.0 ∷ []), t.2.taken, t.2.within, t.2.limit)))
+        | inr w ↦ (after, inr (subst (Consumes (prepend_known t.1 after) after) w.0 (taken_last after t.1), w.3, omega (arith, size, ap length w.0, t.2.taken, t.2.within, t.2.limit)))
+      ]
+
+  memory_stands : Stands (record { line = triple_line new; column = 0; reason = OutOfMemory }) s mid given
+  memory_stands = record {
+    front = t.0;
+    rest = prepend_known t.1 after;
+    bare = t.3;
+    consumed = taken_first mid after t.0 t.1 t.2.consumed;
+    line = line_is;
+    fault_is = (refl, inr (t.4.0, t.4.2, triple_not_bare t.4.0 triple t.4.1.1, whole));
+  }
+
+-- in that line
+pub memory_behind : (fault : LineFault) (limit : ℕ) (s new : State) (all mid after given : Option (List ℕ)) (triples : List Triple) (triple : Triple) → Ran limit s all mid triples → TakesTriple s new mid after triple
+    → fault ≡ record { line = triple_line new; column = 0; reason = OutOfMemory } → FaultInDocument fault limit all given
+memory_behind fault limit s new all mid after given triples triple r t is =
+    fault_behind fault limit s all mid given triples r (subst (λ (f : LineFault). Stands f s mid given) (sym is) (memory_stands s new mid after given triple t))
+
+-- ---- of a run
+
+pub either : (b : Bool) → (b ≡ true) ⊎ (b ≡ false)
+either true = inl refl
+either false = inr refl
 
 pub triple_size : (x y : Option (List ℕ)) (old new : State) (triple : Triple) → TakesTriple old new x y triple → (old.taken < new.taken) × (new.taken ≤ old.limit) × (new.limit ≡ old.limit)
 triple_size x y old new triple t =

@@ -153,7 +153,10 @@ stands_unread BadEscape held new given given' taken limit le p = absurd p
 stands_unread RelativeIri held new given given' taken limit le p = absurd p
 stands_unread IriCharacter held new given given' taken limit le p = absurd p
 stands_unread ZeroCharacter held new given given' taken limit le p = absurd p
-stands_unread OutOfMemory held new given given' taken limit le p = refl
+stands_unread OutOfMemory held new given given' taken limit le p = (
+  refl,
+  inl (new, p.1, subst (Consumes (prepend_known held given) given') (sym p.0.1) (left_grew held p.0.0 given given' p.0.2), omega (arith, p.2)),
+)
 stands_unread Read held new given given' taken limit le p = (
   refl,
   (new, p.1, subst (Consumes (prepend_known held given) given') (sym p.0.1) (left_grew held p.0.0 given given' p.0.2), omega (arith, p.2)),
@@ -181,7 +184,7 @@ stands_in_triple BadEscape column taken limit before given text utf8 some no_end
 stands_in_triple RelativeIri column taken limit before given text utf8 some no_end w f = (text, no_end, line_fault text _ utf8 some f, w)
 stands_in_triple IriCharacter column taken limit before given text utf8 some no_end w f = (text, no_end, line_fault text _ utf8 some f, w)
 stands_in_triple ZeroCharacter column taken limit before given text utf8 some no_end w f = (text, no_end, line_fault text _ utf8 some f, w)
-stands_in_triple OutOfMemory column taken limit before given text utf8 some no_end w f = f
+stands_in_triple OutOfMemory column taken limit before given text utf8 some no_end w f = (f, inr (text, no_end, some, w))
 stands_in_triple Read column taken limit before given text utf8 some no_end w f = absurd f
 stands_in_triple TooLong column taken limit before given text utf8 some no_end w f = absurd f
 

@@ -44,7 +44,7 @@ GrewPast old new before after = (more : List ℕ) × (past : List ℕ) × (new �
 abbrev pub Filled : Result ℕ LineReason → List ℕ → List ℕ → Option (List ℕ) → Option (List ℕ) → ℕ → Type 0
 Filled (Ok n) old new before after most = Grew old new before after × LineFront n new after × (length new ≤ most)
 Filled (Err Read) old new before after most = Grew old new before after × NoEnd new × (length new ≤ most)
-Filled (Err OutOfMemory) old new before after most = Grew old new before after × (length new ≤ most)
+Filled (Err OutOfMemory) old new before after most = Grew old new before after × NoEnd new × (length new ≤ most)
 Filled (Err TooLong) old new before after most = GrewPast old new before after × NoEnd new × (length new ≡ most)
 Filled (Err other) old new before after most = ⊥
 

@@ -68,12 +68,21 @@ WholeLine taken limit before text = (after : Option (List ℕ))
 abbrev pub StandsInText : LineReason → ℕ → ℕ → ℕ → Option (List ℕ) → Type 0
 StandsInText reason column taken limit before = (text : List ℕ) × NoEnd text × LineFaultStands text (record { column = column; reason = reason }) × WholeLine taken limit before text
 
+-- What the reader gave of what is left has no line end, and is within the limit.
+abbrev pub Unended : ℕ → ℕ → Option (List ℕ) → Option (List ℕ) → Type 0
+Unended taken limit before given = (text : List ℕ) × NoEnd text × Consumes before given text × (taken + length text ≤ limit)
+
+-- What is left begins with a whole line that is not bare.
+abbrev pub HasUnbare : ℕ → ℕ → Option (List ℕ) → Type 0
+HasUnbare taken limit before = (text : List ℕ) × NoEnd text × (is_bare text ≡ false) × WholeLine taken limit before text
+
 -- The fault of the line that begins after so many bytes; given is what the reader still gives after the fault. Read: what
 -- the reader gave ends in a piece without an end. TooLong: the line has no end within the limit, and more follows.
+-- OutOfMemory: the line's end was not read yet, or the line is whole and not bare.
 abbrev pub StandsInLine : LineReason → ℕ → ℕ → ℕ → Option (List ℕ) → Option (List ℕ) → Type 0
-StandsInLine Read column taken limit before given = (column ≡ 0) × ((text : List ℕ) × NoEnd text × Consumes before given text × (taken + length text ≤ limit))
+StandsInLine Read column taken limit before given = (column ≡ 0) × Unended taken limit before given
 StandsInLine TooLong column taken limit before given = (column ≡ 0) × ((text : List ℕ) × (past : List ℕ) × NoEnd text × (0 < length past) × (taken + length text ≡ limit) × Consumes before given (text ++ past))
-StandsInLine OutOfMemory column taken limit before given = column ≡ 0
+StandsInLine OutOfMemory column taken limit before given = (column ≡ 0) × (Unended taken limit before given ⊎ HasUnbare taken limit before)
 StandsInLine reason column taken limit before given = StandsInText reason column taken limit before
 
 -- Lines without a triple, and then the line of the fault, counted on from what was taken.
@@ -84,6 +93,10 @@ pub record Stands (fault : LineFault) (old : State) (before given : Option (List
   pub consumed : Consumes before rest front
   pub line : fault.line ≡ old.ends + line_ends old.after_cr front + 1
   pub fault_is : StandsInLine fault.reason fault.column (old.taken + length front) old.limit rest given
+
+-- the number of the line that was taken last, where it has a triple
+abbrev pub triple_line : State → ℕ
+triple_line s = if s.ended then s.ends + 1 else s.ends
 
 -- ---- answers
 

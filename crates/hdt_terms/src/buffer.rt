@@ -57,6 +57,8 @@ fn make_room(bytes: &mut Vec<u8>, start: usize, end: usize) -> Result<(), AllocE
     ensures front { take (end - start) bytes.new.items ≡ take (end - start) (drop start bytes.old.items) }
     ensures len { vec_len bytes.old ≤ vec_len bytes.new }
     ensures ok { OnOk result (end - start < vec_len bytes.new) }
+    // It has grown only where they filled it.
+    ensures size { end - start < vec_len bytes.old → vec_len bytes.new ≡ vec_len bytes.old }
 {
     if start > 0 {
         move_front(bytes, start, end);

@@ -1,5 +1,5 @@
 //! All the triples of a document.
-ghost use Rattle.std.specs.Prelude.{◌≡◌, ◌≢◌, ◌+◌, ◌^◌, ◌<◌, ◌⊎◌, IfOk, IfErr, OnOk};
+ghost use Rattle.std.specs.Prelude.{◌≡◌, ◌≢◌, ◌+◌, ◌^◌, ◌<◌, IfOk, IfErr, OnOk};
 ghost use Rattle.hdt_wire.specs.Counted.{inner, failures};
 ghost use Rattle.hdt_terms.specs.Documents.{IsDocument, FaultInDocument};
 ghost use Rattle.hdt_terms.specs.declared.fault.LineReason.TheVariants as reasons;
@@ -11,12 +11,16 @@ use hdt_wire::Counted;
 use std::alloc::{AllocError, Global};
 use std::io::Read;
 
-/// Where memory runs out for what was read.
-const NO_MEMORY: LineFault = LineFault {
-    line: 1,
-    column: 0,
-    reason: LineReason::OutOfMemory,
-};
+/// Memory runs out in this line.
+fn no_memory(line: u64) -> LineFault
+    ensures { result ≡ record { line = line; column = 0; reason = reasons.OutOfMemory } }
+{
+    LineFault {
+        line,
+        column: 0,
+        reason: LineReason::OutOfMemory,
+    }
+}
 
 /// The triples of the document that the reader gives, in their order, whatever its pieces are: those of all its lines
 /// (W3C RDF 1.1 N-Triples, section 2, by the profile of docs/NTRIPLES.md). It may have so many bytes at most.
@@ -32,8 +36,8 @@ pub fn read_document<R: Read>(
     requires { limit < 2 ^ 63 }
     // The input is a document, and these are its triples.
     ensures found { IfOk result (λ triples. IsDocument limit (R.remaining (inner input.old)) triples.items) }
-    // Or this fault stands in it, unless memory ran out.
-    ensures fault { IfErr result (λ f. (f.reason ≡ reasons.OutOfMemory) ⊎ FaultInDocument f limit (R.remaining (inner input.old)) (R.remaining (inner input.new))) }
+    // Or this fault stands in it, behind lines that are whole: want of memory too, in the line in work.
+    ensures fault { IfErr result (λ f. FaultInDocument f limit (R.remaining (inner input.old)) (R.remaining (inner input.new))) }
     // The reader failed at a fault that says so, and else not.
     ensures read { IfErr result (λ f. f.reason ≡ reasons.Read → failures input.new ≡ failures input.old + 1) }
     ensures still { IfErr result (λ f. f.reason ≢ reasons.Read → failures input.new ≡ failures input.old) }
@@ -41,7 +45,7 @@ pub fn read_document<R: Read>(
 {
     let mut lines = match Lines::new(alloc, limit) {
         Ok(lines) => lines,
-        Err(AllocError) => return Err(NO_MEMORY),
+        Err(AllocError) => return Err(no_memory(1)),
     };
     let mut triples = Vec::new(alloc);
     'triples: loop {
@@ -50,7 +54,7 @@ pub fn read_document<R: Read>(
             Ok(None) => return Ok(triples),
             Ok(Some(triple)) => match triples.push(triple) {
                 Ok(()) => {}
-                Err(_) => return Err(NO_MEMORY),
+                Err(_) => return Err(no_memory(lines.triple_line())),
             },
         }
     }

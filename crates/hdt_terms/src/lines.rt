@@ -74,10 +74,10 @@ impl Model for Lines {
 impl Lines {
     ghost use Rattle.std.specs.Prelude.{List, ℕ};
     ghost use Rattle.hdt_terms.specs.LineReading.{is_bare};
-    ghost use Rattle.hdt_terms.specs.Taking.{State, start, left, take_of, take_line, Looked, Parsed, ParsedStrings, Ready, Finds, Answers, AnswersStrings, NoStrings};
+    ghost use Rattle.hdt_terms.specs.Taking.{State, start, left, triple_line, take_of, take_line, Looked, Parsed, ParsedStrings, Ready, Finds, Answers, AnswersStrings, NoStrings};
 
     /// A reader of lines that has taken nothing. The input may have so many bytes at most: where it has more,
-    /// [`LineReason::TooLong`] stands behind the lines that are whole within the limit.
+    /// [`LineReason::TooLong`] stands behind the lines that are whole within the limit. It allocates 64 KiB, whatever the limit.
     pub fn new(alloc: Global, limit: u64) -> Result<Lines, AllocError>
         requires { limit < 2 ^ 63 }
         ensures { IfOk result (λ s. s ≡ start limit) }
@@ -127,6 +127,13 @@ impl Lines {
             column,
             reason,
         }
+    }
+
+    /// The number of the line that was taken last, where it has a triple.
+    pub(crate) fn triple_line(&self) -> u64
+        ensures { result ≡ triple_line self.now }
+    {
+        if self.ended { self.ends + 1 } else { self.ends }
     }
 
     /// The fault is the answer from now on.
