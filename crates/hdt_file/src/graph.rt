@@ -12,7 +12,14 @@ use hdt_triples::ListedTriples;
 use std::alloc::{AllocError, Global};
 
 /// A file that was opened: it borrows the input, and answers by it. Beside the input it keeps the directories and the
-/// lists of its triples, and nothing else.
+/// lists of its triples, and nothing else. `crates/example` is a program that uses it.
+///
+/// ```text
+/// let graph = open(alloc, bytes)?;
+/// let number = graph.number_of(Role::Object, b"\"x\"", &mut steps);
+/// let pattern = graph.pattern([Some(b"u:a"), None, None], &mut steps);
+/// write_graph(alloc, &graph, pattern, &mut out)?;
+/// ```
 #[derive(Drop)]
 pub struct Graph<'a> {
     pub(crate) head: Head<'a>,

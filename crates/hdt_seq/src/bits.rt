@@ -7,6 +7,11 @@ use crate::window::{bit_of, window};
 use hdt_wire::{Fault, Reason, demand, read_vbyte};
 
 /// A bit sequence that was read: its packed bytes are lent from the input.
+///
+/// ```text
+/// let (bits, next) = Bits::read(bytes, at)?;
+/// let first = bits.len() > 0 && bits.get(0);
+/// ```
 #[derive(Clone, Copy)]
 pub struct Bits<'a> {
     packed: &'a [u8],

@@ -6,6 +6,11 @@ use crate::window::entry_of;
 use hdt_wire::{Fault, Reason, demand, read_vbyte};
 
 /// A number sequence that was read: its packed bytes are lent from the input.
+///
+/// ```text
+/// let (numbers, next) = Numbers::read(bytes, at)?;
+/// let last = numbers.get(numbers.len() - 1); // where there is one
+/// ```
 #[derive(Clone, Copy)]
 pub struct Numbers<'a> {
     packed: &'a [u8],

@@ -1,6 +1,5 @@
 use super::*;
-use hdt_seq::{Directory, put_bits, put_numbers};
-use hdt_seq::Steps;
+use hdt_seq::{Directory, Steps, put_bits, put_numbers};
 use hdt_wire::{Kind, Role, check32, put_control};
 use std::alloc::{AllocError, Global};
 use std::test::Fail;

@@ -17,6 +17,11 @@ use crate::walk::WalkMatches;
 
 /// The matches of a pattern, in order, one after another: an iterator, each of whose ways to the next match gives the
 /// same. It takes no memory.
+///
+/// ```text
+/// let mut matches = listed.find(pattern);
+/// while let Some((subject, predicate, object)) = matches.next() { .. }
+/// ```
 #[derive(Drop)]
 pub enum Matches<'a> {
     /// No triple.

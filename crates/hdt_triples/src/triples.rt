@@ -12,6 +12,11 @@ use hdt_seq::{Bits, Numbers};
 use hdt_wire::{Fault, Kind, Reason, demand, read_control};
 
 /// Triples that were read: they borrow the input, and are searched as they lie.
+///
+/// ```text
+/// let (triples, next) = Triples::read(bytes, at, counts)?;
+/// let of_predicate = triples.find(Pattern { s: None, p: Some(1), o: None });
+/// ```
 #[derive(Clone, Copy)]
 pub struct Triples<'a> {
     pub(crate) my: Bits<'a>,
