@@ -1,6 +1,8 @@
 //! A dictionary of many strings in each section, in blocks of many, and faults of large ones.
 use super::*;
-use crate::tests::{AT, dictionary_with, is_numbered, overlap_in, read_at, write_lent};
+use crate::tests::{
+    AT, append_section, before_sections, is_numbered, overlap_in, read_at, write_lent,
+};
 use hdt_front::ReadFault;
 use hdt_wire::Reason;
 use std::alloc::{AllocError, Global};
@@ -39,7 +41,7 @@ fn numerals(alloc: Global) -> Result<Arena, AllocError> {
 }
 
 /// The numerals from one on and before another.
-fn between<'t, 'a>(numerals: &'t [&'a [u8]], from: usize, to: usize) -> &'t [&'a [u8]] {
+fn between<'t, 'a: 't>(numerals: &'t [&'a [u8]], from: usize, to: usize) -> &'t [&'a [u8]] {
     numerals.get(from..to).unwrap_or(&[])
 }
 
@@ -89,9 +91,20 @@ fn is_whole(alloc: Global, bytes: &[u8]) -> Result<bool, Fail> {
     )
 }
 
-/// Whether a dictionary of these objects, with one subject, has an overlap.
-fn overlaps(alloc: Global, subject: &[u8], objects: &[&[u8]]) -> Result<bool, AllocError> {
-    let bytes = dictionary_with(alloc, &[&[], &[subject], &[], objects], 16)?;
+/// A dictionary of these subjects and objects, as they stand.
+fn spelled(alloc: Global, subjects: &[&[u8]], objects: &[&[u8]]) -> Result<Vec<u8>, AllocError> {
+    let mut out = before_sections(alloc)?;
+    append_section(alloc, &[], 16, &mut out)?;
+    append_section(alloc, subjects, 16, &mut out)?;
+    append_section(alloc, &[], 16, &mut out)?;
+    append_section(alloc, objects, 16, &mut out)?;
+    out.extend_from_slice(b"$HDT")?;
+    Ok(out)
+}
+
+/// Whether a dictionary of these subjects and objects has an overlap.
+fn overlaps(alloc: Global, subjects: &[&[u8]], objects: &[&[u8]]) -> Result<bool, AllocError> {
+    let bytes = spelled(alloc, subjects, objects)?;
     Ok(overlap_in(alloc, &bytes)?.is_some())
 }
 
@@ -106,14 +119,16 @@ fn reason_of(alloc: Global, bytes: &[u8]) -> Option<Reason> {
 /// Whether strings out of order are told behind many that are in order.
 fn order_is_told(alloc: Global, objects: &[&[u8]]) -> Result<bool, AllocError> {
     let mut strings = objects.to_vec(alloc)?;
-    strings.push(b"000000")?;
-    let bytes = dictionary_with(alloc, &[&[], &[], &[], &strings], 16)?;
+    if let Some(first) = objects.first() {
+        strings.push(*first)?;
+    }
+    let bytes = spelled(alloc, &[], &strings)?;
     Ok(reason_of(alloc, &bytes) == Some(Reason::StringsNotAscending))
 }
 
 /// Whether a wrong code of the control block is told.
 fn code_is_told(alloc: Global) -> Result<bool, AllocError> {
-    let mut bytes = dictionary_with(alloc, &[&[], &[], &[], &[]], 16)?;
+    let mut bytes = spelled(alloc, &[], &[])?;
     if let Some(byte) = bytes.get_mut(AT + 54) {
         *byte = !*byte;
     }
@@ -134,8 +149,9 @@ fn tells_faults_of_large_dictionaries(rt: HostRuntime) -> Result<(), Fail> {
     let arena = numerals(rt.alloc())?;
     let numerals = arena.slices(rt.alloc())?;
     let objects = between(&numerals, 70_000, 210_000);
-    assert!(rt; overlaps(rt.alloc(), b"209999", objects)?);
-    assert!(rt; !overlaps(rt.alloc(), b"069999", objects)?);
+    let last = between(&numerals, 209_999, 210_000);
+    let other = between(&numerals, 69_999, 70_000);
+    assert!(rt; overlaps(rt.alloc(), last, objects)? && !overlaps(rt.alloc(), other, objects)?);
     assert!(rt; order_is_told(rt.alloc(), objects)?);
     assert!(rt; code_is_told(rt.alloc())?);
     Ok(())

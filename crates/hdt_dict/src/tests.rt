@@ -64,7 +64,7 @@ fn append_head(count: u64, len: u64, block: u64, out: &mut Vec<u8>) -> Result<()
 }
 
 /// Appends a section of these strings.
-fn append_section(
+pub(crate) fn append_section(
     alloc: Global,
     strings: &[&[u8]],
     block: u64,
@@ -79,7 +79,7 @@ fn append_section(
 }
 
 /// What stands before the sections: bytes up to the place in the sample file, and the control block.
-fn before_sections(alloc: Global) -> Result<Vec<u8>, AllocError> {
+pub(crate) fn before_sections(alloc: Global) -> Result<Vec<u8>, AllocError> {
     let mut out = Vec::new(alloc);
     out.resize(AT, 0)?;
     out.extend_from_slice(CONTROL)?;
@@ -88,7 +88,7 @@ fn before_sections(alloc: Global) -> Result<Vec<u8>, AllocError> {
 
 /// A dictionary of sections shared, subjects, predicates and objects, at the place that it has in the sample file, and
 /// bytes that follow it.
-pub(crate) fn dictionary_with(
+fn dictionary_with(
     alloc: Global,
     sections: &[&[&[u8]]],
     block: u64,
