@@ -33,6 +33,8 @@ mod form;
 mod header;
 mod interner;
 mod keys;
+#[cfg(test)]
+mod large_tests;
 mod laws;
 mod lists;
 mod merging;
