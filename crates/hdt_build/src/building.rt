@@ -62,8 +62,8 @@ fn read_and_build<R: Read>(
 /// may have 2^63 - 1 bytes. The order of its lines, repeats and comments make no difference.
 ///
 /// Time is that of reading the lines once and of sorting the strings and the triples, whatever the strings are. Memory is
-/// that of each distinct string of a role and some 50 bytes for each, 24 bytes a line for its triple, and the file; while the
-/// strings of a role are put in order they stand there twice.
+/// that of each distinct string of a role, of those that are listed again since the cache had lost them, and some 50 bytes for
+/// each, 24 bytes a line for its triple, and the file; while the strings of a role are put in order they stand there twice.
 ///
 /// ```text
 /// let (bytes, report) = build_bytes(alloc, &mut input, &options)?;

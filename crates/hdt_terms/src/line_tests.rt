@@ -567,6 +567,16 @@ fn is_read_whole(alloc: Global, step: usize) -> Result<bool, Fail> {
     Ok(have_subjects(alloc, &triples, &SUBJECTS)? && are_compared(alloc, &triples)?)
 }
 
+/// Whether [`THREE`] is read within the greatest limit, which takes no more memory than another.
+fn is_read_within_the_greatest(alloc: Global) -> Result<bool, Fail> {
+    let told = b"u:a u:p u:b\nu:a u:q \"x\"\nu:b u:p u:a\nend";
+    let triples = three_read(alloc, GREATEST, ALL)?;
+    Ok(
+        have_subjects(alloc, &triples, &SUBJECTS)?
+            && tells(alloc, GREATEST, THREE, ALL, ALL, ALL, told)?,
+    )
+}
+
 /// Whether [`THREE`] is too long for a limit of a byte less.
 fn is_too_long(alloc: Global, step: usize) -> Result<bool, Fail> {
     let fault = but_memory(three_read(alloc, 57, step).err())?;
@@ -580,6 +590,10 @@ fn is_too_long(alloc: Global, step: usize) -> Result<bool, Fail> {
 
 #[test]
 fn whole_documents(rt: HostRuntime) -> Result<(), Fail> {
+    assert!(rt;
+        is_read_within_the_greatest(rt.alloc())?,
+        "the greatest limit"
+    );
     for step in &[1, 3, ALL] {
         assert!(rt; is_read_whole(rt.alloc(), *step)?, "pieces of {step}");
         assert!(rt;
@@ -590,21 +604,87 @@ fn whole_documents(rt: HostRuntime) -> Result<(), Fail> {
     Ok(())
 }
 
-/// [`THREE`] 2,000 times.
-fn three_repeated(alloc: Global) -> Result<Vec<u8>, AllocError> {
+/// A text so many times, and a last line.
+fn many_lines(alloc: Global, text: &[u8], times: u32, last: &[u8]) -> Result<Vec<u8>, AllocError> {
     let mut bytes = Vec::new(alloc);
-    for _ in 0..2_000_u16 {
-        bytes.extend_from_slice(THREE)?;
+    for _ in 0..times {
+        bytes.extend_from_slice(text)?;
     }
+    bytes.extend_from_slice(last)?;
     Ok(bytes)
+}
+
+/// Whether each three triples in turn have the subjects of [`THREE`].
+fn are_threes(alloc: Global, triples: &[Triple]) -> Result<bool, AllocError> {
+    let mut good = true;
+    for three in triples.chunks(3) {
+        good = good && have_subjects(alloc, three, &SUBJECTS)?;
+    }
+    Ok(good)
+}
+
+/// Whether [`THREE`] 40,000 times is read as its 120,000 triples.
+fn are_many_read(alloc: Global) -> Result<bool, Fail> {
+    let bytes = many_lines(alloc, THREE, 40_000, b"")?;
+    let triples = read_document(alloc, GREATEST, &mut input_of(&bytes, ALL, ALL, ALL))?;
+    Ok(triples.len() == 120_000 && are_threes(alloc, &triples)?)
 }
 
 #[test]
 fn many_triples(rt: HostRuntime) -> Result<(), Fail> {
-    let bytes = three_repeated(rt.alloc())?;
-    let mut input = input_of(&bytes, ALL, ALL, ALL);
-    let triples = read_document(rt.alloc(), 10_000_000, &mut input)?;
-    assert!(rt; triples.len() == 6_000);
+    assert!(rt; are_many_read(rt.alloc())?);
+    Ok(())
+}
+
+/// The greatest limit.
+const GREATEST: u64 = 9_223_372_036_854_775_807;
+
+/// Whether the document's fault is Syntax at this place.
+fn is_syntax(alloc: Global, bytes: &[u8], line: u64, column: u64) -> Result<bool, Fail> {
+    let mut input = input_of(bytes, ALL, ALL, ALL);
+    let fault = but_memory(read_document(alloc, GREATEST, &mut input).err())?;
+    let wanted = LineFault {
+        line,
+        column,
+        reason: LineReason::Syntax,
+    };
+    Ok(fault == Some(wanted))
+}
+
+/// Whether the fault behind 120,000 triples is told with its line.
+fn is_late_fault(alloc: Global) -> Result<bool, Fail> {
+    let bytes = many_lines(alloc, THREE, 40_000, b"<u:s> x")?;
+    is_syntax(alloc, &bytes, 120_001, 7)
+}
+
+/// Whether a fault behind 100,000 lines without a triple, and then that of a line of 100,000 bytes behind a long one, are told by
+/// each call.
+fn are_late_faults(alloc: Global) -> Result<bool, Fail> {
+    let bare = many_lines(alloc, b"# \n", 100_000, b"<u:s> x")?;
+    let line = repeated(alloc, b"<u:s> <u:p>", b' ', 100_000, b"<u:o> .\n")?;
+    let fault = repeated(alloc, b"<u:s> <u:p>", b' ', 100_000, b"x")?;
+    let long = many_lines(alloc, &line, 2, &fault)?;
+    let told = b"u:s u:p u:o\nu:s u:p u:o\nSyntax at line 3 column 100012";
+    Ok(
+        is_syntax(alloc, &bare, 100_001, 7)?
+            && is_syntax(alloc, &long, 3, 100_012)?
+            && tells(
+                alloc,
+                GREATEST,
+                &bare,
+                ALL,
+                ALL,
+                ALL,
+                b"Syntax at line 100001 column 7",
+            )?
+            && tells(alloc, GREATEST, &long, ALL, ALL, ALL, told)?,
+    )
+}
+
+#[test]
+fn late_faults(rt: HostRuntime) -> Result<(), Fail> {
+    assert!(rt; is_late_fault(rt.alloc())?);
+    assert!(rt; are_late_faults(rt.alloc())?);
     Ok(())
 }
 
@@ -624,12 +704,14 @@ fn repeated(
 }
 
 /// Terms with so many more bytes behind the first text: their front and back, and those of their dictionary strings.
-static LARGE: [(&[u8], &[u8], &[u8], &[u8]); 6] = [
+static LARGE: [(&[u8], &[u8], &[u8], &[u8]); 8] = [
     (b"<u:", b">", b"u:", b""),
     (b"_:a", b"", b"_:a", b""),
     (b"\"", b"\"", b"\"", b"\""),
     (b"\"x\"@e", b"", b"\"x\"@e", b""),
     (b"\"x\"^^<u:", b">", b"\"x\"^^<u:", b">"),
+    (b"\"", b"\"^^<u:t>", b"\"", b"\"^^<u:t>"),
+    (b"\"", b"\"@en", b"\"", b"\"@en"),
     (b"\"\\u00e9", b"\\t\"", b"\"\xC3\xA9", b"\t\""),
 ];
 
@@ -652,10 +734,17 @@ fn is_large_term(alloc: Global, text: &[u8], string: &[u8]) -> Result<bool, Fail
 }
 
 /// Whether the text spells the term of the string, with no term on the way.
-fn is_large_text(alloc: Global, text: &[u8], string: &[u8]) -> Result<bool, Fail> {
+fn spells(alloc: Global, text: &[u8], string: &[u8]) -> Result<bool, Fail> {
     let mut out = Vec::new(alloc);
     parse_string(text, &mut out)?;
     Ok(out.as_slice() == string)
+}
+
+/// Whether it does, and what is written of the string too.
+fn is_large_text(alloc: Global, text: &[u8], string: &[u8]) -> Result<bool, Fail> {
+    let mut written = Vec::new(alloc);
+    put_string(string, &mut written)?;
+    Ok(spells(alloc, text, string)? && spells(alloc, &written, string)?)
 }
 
 /// One line of 100,000 bytes and more, with the text as its object, and one behind it.
@@ -691,11 +780,95 @@ fn is_large_line(alloc: Global, text: &[u8], string: &[u8]) -> Result<bool, Fail
 #[test]
 fn large_terms(rt: HostRuntime) -> Result<(), Fail> {
     for (front, back, string_front, string_back) in &LARGE {
-        let text = repeated(rt.alloc(), front, b'b', 100_000, back)?;
-        let string = repeated(rt.alloc(), string_front, b'b', 100_000, string_back)?;
+        let text = repeated(rt.alloc(), front, b'b', 140_000, back)?;
+        let string = repeated(rt.alloc(), string_front, b'b', 140_000, string_back)?;
         assert!(rt; is_large_term(rt.alloc(), &text, &string)?, "by a term");
         assert!(rt; is_large_text(rt.alloc(), &text, &string)?, "with no term");
         assert!(rt; is_large_line(rt.alloc(), &text, &string)?, "in a line");
+    }
+    Ok(())
+}
+
+/// A line with these three texts, twice.
+fn line_twice(
+    alloc: Global,
+    s: &[u8],
+    p: &[u8],
+    o: &[u8],
+    end: &[u8],
+) -> Result<Vec<u8>, AllocError> {
+    let mut out = Vec::new(alloc);
+    for _ in 0..2_u8 {
+        tell_part(&mut out, s, b' ')?;
+        tell_part(&mut out, p, b' ')?;
+        out.extend_from_slice(o)?;
+        out.extend_from_slice(end)?;
+    }
+    Ok(out)
+}
+
+/// Whether two lines whose subject, predicate and object are long are told by both calls.
+fn are_long_parts(alloc: Global) -> Result<bool, Fail> {
+    let label = repeated(alloc, b"_:a", b'b', 140_000, b"")?;
+    let iri = repeated(alloc, b"<u:", b'b', 140_000, b">")?;
+    let string = repeated(alloc, b"u:", b'b', 140_000, b"")?;
+    let lines = line_twice(alloc, &label, &iri, &iri, b" .\n")?;
+    let mut told = line_twice(alloc, &label, &string, &string, b"\n")?;
+    told.extend_from_slice(b"end")?;
+    are_large_lines(alloc, &lines, &told)
+}
+
+#[test]
+fn large_lines_behind_others(rt: HostRuntime) -> Result<(), Fail> {
+    assert!(rt; are_long_parts(rt.alloc())?);
+    Ok(())
+}
+
+/// Texts of no term with 140,000 bytes between two parts: these, the fault's column, counted behind the bytes too or not, and its
+/// reason.
+static LARGE_FAULTS: [(&[u8], &[u8], u64, bool, LineReason); 6] = [
+    (b"<u:", b" >", 4, true, LineReason::Syntax),
+    (b"<u: ", b">", 4, false, LineReason::Syntax),
+    (b"\"", b"\\x\"", 2, true, LineReason::BadEscape),
+    (b"\"\\x", b"\"", 2, false, LineReason::BadEscape),
+    (b"<u:", b"> x", 5, true, LineReason::Syntax),
+    (b"\"a\" ", b"", 4, false, LineReason::Syntax),
+];
+
+/// The text's fault, if there is one. Want of memory ends the test.
+fn term_fault<T: Drop>(answer: Result<T, TermFault>) -> Result<Option<TermFault>, TermFault> {
+    match answer {
+        Err(fault) if fault.reason == LineReason::OutOfMemory => Err(fault),
+        Err(fault) => Ok(Some(fault)),
+        Ok(_) => Ok(None),
+    }
+}
+
+/// Whether a text has this fault, with a term and without one.
+fn has_large_fault(
+    alloc: Global,
+    text: &[u8],
+    column: u64,
+    reason: LineReason,
+) -> Result<bool, Fail> {
+    let mut out = Vec::new(alloc);
+    let wanted = Some(TermFault { column, reason });
+    Ok(
+        term_fault(parse_term(alloc, text))? == wanted
+            && term_fault(parse_string(text, &mut out))? == wanted
+            && out.is_empty(),
+    )
+}
+
+#[test]
+fn large_faults(rt: HostRuntime) -> Result<(), Fail> {
+    for (front, back, at, behind, reason) in &LARGE_FAULTS {
+        let text = repeated(rt.alloc(), front, b'b', 140_000, back)?;
+        let column = if *behind { *at + 140_000 } else { *at };
+        assert!(rt;
+            has_large_fault(rt.alloc(), &text, column, *reason)?,
+            "{column}"
+        );
     }
     Ok(())
 }
