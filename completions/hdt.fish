@@ -1,0 +1,20 @@
+# Completes the words of hdt in fish.
+set -l commands head verify strings string number find dump build rewrite help
+complete -c hdt -n "not __fish_seen_subcommand_from $commands" -f
+complete -c hdt -n "not __fish_seen_subcommand_from $commands" -a head -d "Print a file's head"
+complete -c hdt -n "not __fish_seen_subcommand_from $commands" -a verify -d "Verify a file"
+complete -c hdt -n "not __fish_seen_subcommand_from $commands" -a strings -d "Print all strings of a role"
+complete -c hdt -n "not __fish_seen_subcommand_from $commands" -a string -d "Print the string that has a number"
+complete -c hdt -n "not __fish_seen_subcommand_from $commands" -a number -d "Print the number of a term"
+complete -c hdt -n "not __fish_seen_subcommand_from $commands" -a find -d "Print the triples that have terms"
+complete -c hdt -n "not __fish_seen_subcommand_from $commands" -a dump -d "Print all triples"
+complete -c hdt -n "not __fish_seen_subcommand_from $commands" -a build -d "Build a file from N-Triples"
+complete -c hdt -n "not __fish_seen_subcommand_from $commands" -a rewrite -d "Write a file again in canonical form"
+complete -c hdt -n "not __fish_seen_subcommand_from $commands" -a help -d "Print help"
+complete -c hdt -l help -s h -d "Print help"
+complete -c hdt -n "__fish_seen_subcommand_from verify" -l tight -d "Refuse strings that no triple uses"
+complete -c hdt -n "__fish_seen_subcommand_from number find" -l raw -d "Take terms as dictionary strings"
+complete -c hdt -n "__fish_seen_subcommand_from find" -l numbers -d "Print the numbers of each triple"
+complete -c hdt -n "__fish_seen_subcommand_from build" -l base -x -d "The IRI that stands for the file"
+complete -c hdt -n "__fish_seen_subcommand_from build rewrite" -l block-size -x -d "How many strings stand in a block"
+complete -c hdt -n "__fish_seen_subcommand_from strings string number" -a "subject predicate object"
