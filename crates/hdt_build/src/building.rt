@@ -99,8 +99,8 @@ pub fn build_bytes<R: Read>(
     read_and_build(alloc, input, options)
 }
 
-/// Builds the canonical file of the graph of an N-Triples document, and then writes it: the bytes of [`build_bytes`]. No
-/// byte is written before the file is whole.
+/// Builds the canonical file of the graph of an N-Triples document, and then writes it: the bytes of [`build_bytes`].
+/// No byte is written before the file is whole. Time and memory are those of [`build_bytes`].
 ///
 /// # Errors
 ///

@@ -5,6 +5,8 @@
 //! its lines and however often they repeat. `open` of hdt_file accepts it, and the graph that it denotes lists exactly the
 //! document's triples, each once.
 //!
+//! A function that says nothing of its cost takes constant time and no memory; laws do nothing when they are called.
+//!
 //! ```text
 //! let options = Options { block_size: 16, base: Vec::from_slice(alloc, b"http://example.org/dataset")? };
 //! let (bytes, report) = build_bytes(alloc, &mut Counted::new(input), &options)?;

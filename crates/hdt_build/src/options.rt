@@ -24,7 +24,7 @@ pub fn is_block_size(block_size: u32) -> bool
     1 <= block_size && block_size <= MOST
 }
 
-/// Whether a builder takes the options.
+/// Whether a builder takes the options. Time is in proportion to the base; it takes no memory.
 pub fn are_right(options: &Options) -> bool
     ensures { IsTrue result ↔ AreRight options.now }
 {

@@ -62,8 +62,8 @@ pub fn rewrite_bytes(
     Ok(rewritten(alloc, graph, options.block_size)?)
 }
 
-/// Rewrites a file that was opened, and then writes it: the bytes of [`rewrite_bytes`]. No byte is written before the file
-/// is whole.
+/// Rewrites a file that was opened, and then writes it: the bytes of [`rewrite_bytes`]. No byte is written before the
+/// file is whole. Time and memory are those of [`rewrite_bytes`].
 ///
 /// # Errors
 ///

@@ -4,6 +4,8 @@
 //! The layer's promise: numbers and strings of a role are inverse, no string stands in two of shared, subjects and
 //! objects, and a role has at most as many strings as the input has bytes.
 //!
+//! A function that says nothing of its cost takes constant time and no memory; laws do nothing when they are called.
+//!
 //! ```text
 //! let (dictionary, end) = Dictionary::read(alloc, bytes, at)?;
 //! let number = dictionary.number_of(Role::Subject, b"http://a/", &mut steps);

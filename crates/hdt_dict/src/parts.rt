@@ -83,7 +83,8 @@ fn copied(alloc: Global, list: &[&[u8]]) -> Result<Vec<Vec<u8>>, AllocError>
     Ok(made)
 }
 
-/// Parts the strings of three roles, in any order and with repeats, into the four sections of a dictionary.
+/// Parts the strings of three roles, in any order and with repeats, into the four sections of a dictionary. Time is
+/// that of sorting the strings; memory is that of the list that is answered and of the strings in it.
 ///
 /// ```text
 /// let parts = split(alloc, &subjects, &predicates, &objects)?;

@@ -4,6 +4,8 @@
 //! The layer's promise: what is read is what the bytes spell, and only that is read; else the one fault that stands
 //! in the file is answered, with its place.
 //!
+//! A function that says nothing of its cost takes constant time and no memory; laws do nothing when they are called.
+//!
 //! ```text
 //! let (head, dictionary, end) = read_dictionary(alloc, bytes)?;
 //! let base = property(head.global().properties(), b"BaseURI");

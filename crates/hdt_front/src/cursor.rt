@@ -28,7 +28,7 @@ impl<'a> Model for Cursor<'a> {
 }
 
 impl<'a> Cursor<'a> {
-    /// A cursor on the first string.
+    /// A cursor on the first string. It takes the memory of that string.
     pub fn new(alloc: Global, section: &Section<'a>) -> Result<Cursor<'a>, AllocError>
         ensures is { IfOk result (λ c. c ≡ placed_of section.now) }
         ensures ascends { IfOk result (λ c. Ascends c) }
@@ -55,7 +55,8 @@ impl<'a> Cursor<'a> {
         self.place
     }
 
-    /// How the string that it stands on lies to another one; the end lies after all.
+    /// How the string that it stands on lies to another one; the end lies after all. Time is in proportion to the bytes
+    /// in which they agree.
     pub fn order(&self, x: &[u8]) -> Ordering
         ensures { result ≡ first_order self.now x.now }
     {
@@ -89,7 +90,8 @@ impl<'a> Cursor<'a> {
     }
 
     /// Moves on as [`pass`](Cursor::pass), and answers how many bytes at its front the next string keeps of the one
-    /// before: they agree so far at least. At the end that is 0.
+    /// before: they agree so far at least. At the end that is 0. Time is in proportion to the bytes that the next
+    /// string doesn't keep, and so is the memory that it takes, if any.
     pub fn pass_kept(&mut self) -> Result<usize, AllocError>
         ensures ok { OnOk result (self.new ≡ drop 1 self.old) }
         ensures kept { IfOk result (λ k. k ≤ next_agreed self.old) }

@@ -17,7 +17,8 @@ fn can_follow(first: bool, before: &[u8], string: &[u8]) -> bool
 }
 
 /// Whether a section can hold these strings: each is UTF-8 without a zero byte, and less than the next by unsigned
-/// bytes. [`put_section`](crate::put_section) wants such ones.
+/// bytes. [`put_section`](crate::put_section) wants such ones. Time is in proportion to the strings; it takes no
+/// memory.
 pub fn are_strings(strings: &[&[u8]]) -> bool
     ensures yes { result ≡ true → AreStrings (lent_texts strings.now) }
     ensures no { AreStrings (lent_texts strings.now) → result ≡ true }

@@ -5,6 +5,8 @@
 //! answered. Looking up by string and by number are inverse. What is written is the canonical section, with the longest
 //! kept lengths, which is read again.
 //!
+//! A function that says nothing of its cost takes constant time and no memory; laws do nothing when they are called.
+//!
 //! ```text
 //! let (section, next) = Section::read(alloc, bytes, at)?;
 //! let mut steps = Steps::new();

@@ -52,6 +52,7 @@ impl<'a> Bits<'a> {
     }
 
     /// Reads the sequence at a place, in bytes from 0, and answers it with the place after it. Bytes may follow it.
+    /// Time is in proportion to the bytes of the sequence, of which the check code is made; it takes no memory.
     ///
     /// Faults, in the order of the rows: `BitsKind`, those of the count, `Check8`, `NoTriples` where there is no bit,
     /// `Check32`, and `Truncated` where a part is cut off, at its place.

@@ -6,6 +6,8 @@
 //! canonical spelling, which is read again. What a directory counts and finds are the marks of the list, which are the
 //! bits that are 1, in a stated number of steps.
 //!
+//! A function that says nothing of its cost takes constant time and no memory; laws do nothing when they are called.
+//!
 //! ```text
 //! let (marks, next) = Bits::read(bytes, at)?;
 //! let (numbers, end) = Numbers::read(bytes, next)?;

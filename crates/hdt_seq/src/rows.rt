@@ -17,7 +17,8 @@ pub fn byte_at(bytes: &[u8], at: usize) -> Result<(u8, usize), Fault>
     Ok((one[0], end))
 }
 
-/// The 8-bit code of the bytes from a start on stands at a place; answered is the place after it.
+/// The 8-bit code of the bytes from a start on stands at a place; answered is the place after it. Time is in proportion
+/// to these bytes; it takes no memory.
 #[tactic(auto, unfolding(crate::specs::Sequence::code8_at))]
 pub fn code8_at(bytes: &[u8], start: usize, at: usize) -> Result<usize, Fault>
     requires order { start ≤ at }
@@ -41,7 +42,8 @@ fn many_bytes_at(bytes: &[u8], at: usize, count: u128) -> Result<(&[u8], usize),
     bytes_at(bytes, at, count as usize)
 }
 
-/// The bytes from a place that hold so many bits, with their 32-bit code, and the place after it.
+/// The bytes from a place that hold so many bits, with their 32-bit code, and the place after it. Time is in proportion
+/// to these bytes; it takes no memory.
 #[tactic(auto, unfolding(crate::specs::Sequence::packed_at))]
 pub fn packed_at(bytes: &[u8], at: usize, bits: u128) -> Result<(&[u8], usize), Fault>
     ensures exact { Reads (λ x. (x.0.now, x.1)) result (packed_at bits bytes.now at) }

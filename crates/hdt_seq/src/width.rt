@@ -9,8 +9,8 @@ fn greatest(xs: &[u64]) -> u64
     xs.iter().fold(0, |greatest, x| greatest.max(*x))
 }
 
-/// The width in bits that a written sequence of these entries has: the number of binary digits of the greatest one,
-/// and at least 1.
+/// The width in bits that a written sequence of these entries has: the number of binary digits of the greatest one, and
+/// at least 1. Time is in proportion to the entries; it takes no memory.
 pub fn width_of(xs: &[u64]) -> u8
     ensures is { result ≡ width_of xs.now }
     ensures range { (1 ≤ result) × (result ≤ 64) }

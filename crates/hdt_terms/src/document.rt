@@ -23,7 +23,8 @@ fn no_memory(line: u64) -> LineFault
 }
 
 /// The triples of the document that the reader gives, in their order, whatever its pieces are: those of all its lines
-/// (W3C RDF 1.1 N-Triples, section 2, by the profile of docs/NTRIPLES.md). It may have so many bytes at most.
+/// (W3C RDF 1.1 N-Triples, section 2, by the profile of docs/NTRIPLES.md). It may have so many bytes at most. Time is
+/// in proportion to the input, and memory to its longest line and the terms.
 ///
 /// # Errors
 ///

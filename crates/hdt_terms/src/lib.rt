@@ -5,6 +5,8 @@
 //! stands in the text, with its column. What [`put_term`] writes of a term of the grammar spells it. [`term_string`] and
 //! [`string_term`] are inverse, and no two terms have one string.
 //!
+//! A function that says nothing of its cost takes constant time and no memory; laws do nothing when they are called.
+//!
 //! ```
 //! let term = parse_term(alloc, b"\"caf\\u00e9\" @fr")?;
 //! let string = term_string(alloc, &term)?; // "café"@fr

@@ -98,8 +98,8 @@ fn append_whole(text: &[u8], out: &mut Vec<u8>) -> Result<(), TermFault>
     }
 }
 
-/// Appends the dictionary string of the term that the text spells, with no term made on the way: what [`parse_term`] and
-/// then [`crate::term_string`] give.
+/// Appends the dictionary string of the term that the text spells, with no term made on the way: what [`parse_term`]
+/// and then [`crate::term_string`] give. Time is in proportion to the text; memory is the string's.
 ///
 /// # Errors
 ///

@@ -4,6 +4,8 @@
 //! subject and predicate once; else the one fault that stands there is answered, with its place. What is written of a
 //! list is read again as that list.
 //!
+//! A function that says nothing of its cost takes constant time and no memory; laws do nothing when they are called.
+//!
 //! ```text
 //! let counts = Counts { subjects, predicates, objects };
 //! let (triples, end) = Triples::read(bytes, at, counts)?;

@@ -38,8 +38,9 @@ fn entry(table: &[u32; 256], byte: u8) -> u32
     table[byte as usize]
 }
 
-/// The 32-bit check code of the bytes, CRC-32C: polynomial 1EDC6F41, start all ones, reflected, inverted at
-/// the end. It stands behind the data of a sequence and the packed strings of a section.
+/// The 32-bit check code of the bytes, CRC-32C: polynomial 1EDC6F41, start all ones, reflected, inverted at the end. It
+/// stands behind the data of a sequence and the packed strings of a section. Time is in proportion to the bytes, eight
+/// at a time; it takes no memory.
 pub fn check32(bytes: &[u8]) -> u32
     ensures { result ≡ code32 bytes.now }
 {

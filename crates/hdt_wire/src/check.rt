@@ -67,8 +67,8 @@ fn next16(register: u16, byte: u8) -> u16
     (register / 256) ^ table[low as usize]
 }
 
-/// The 8-bit check code of the bytes, CRC-8/SMBUS: polynomial 07, start 0, neither reflected nor inverted.
-/// It stands behind the counts of a sequence or a section.
+/// The 8-bit check code of the bytes, CRC-8/SMBUS: polynomial 07, start 0, neither reflected nor inverted. It stands
+/// behind the counts of a sequence or a section. Time is in proportion to the bytes; it takes no memory.
 pub fn check8(bytes: &[u8]) -> u8
     ensures { result ≡ code8 bytes.now }
 {
@@ -77,8 +77,8 @@ pub fn check8(bytes: &[u8]) -> u8
         .fold(0, |register, byte| next8(register, *byte))
 }
 
-/// The 16-bit check code of the bytes, CRC-16/ARC: polynomial 8005, start 0, reflected, not inverted.
-/// It stands behind a control block.
+/// The 16-bit check code of the bytes, CRC-16/ARC: polynomial 8005, start 0, reflected, not inverted. It stands behind
+/// a control block. Time is in proportion to the bytes; it takes no memory.
 pub fn check16(bytes: &[u8]) -> u16
     ensures { result ≡ code16 bytes.now }
 {

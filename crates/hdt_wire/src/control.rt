@@ -118,7 +118,8 @@ fn read_rows<'a>(bytes: &'a [u8], at: usize, kind: Kind) -> Result<Control<'a>, 
     })
 }
 
-/// Reads the control block of a kind at a place, in bytes from 0. Bytes may follow it.
+/// Reads the control block of a kind at a place, in bytes from 0. Bytes may follow it. Time is in proportion to the
+/// block; it takes no memory.
 ///
 /// Faults, in the order of the block's rows: `Truncated`, `NotHdt`, `WrongKind`, `Check16`, `WrongFormat`.
 pub fn read_control<'a>(bytes: &'a [u8], at: usize, kind: Kind) -> Result<Control<'a>, Fault>

@@ -98,7 +98,7 @@ impl<T> Counted<T> {
     }
 
     /// Writes all of a text, by as many calls of the writer as it wants, and none behind its last byte. Where a write
-    /// failed, the answer is how many bytes went out before it: fewer than all.
+    /// failed, the answer is how many bytes went out before it: fewer than all. It takes no memory.
     pub fn write_all(&mut self, text: &[u8]) -> Result<(), u64>
     where
         T: Write,

@@ -4,6 +4,8 @@
 //! The layer's promise: what is read at a place is the spelling of the value there, whatever follows; else the one
 //! fault that stands there is answered.
 //!
+//! A function that says nothing of its cost takes constant time and no memory; laws do nothing when they are called.
+//!
 //! ```text
 //! let block = read_control(bytes, 0, Kind::Global)?;
 //! let base = property(block.properties(), b"base");

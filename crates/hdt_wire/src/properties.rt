@@ -36,8 +36,9 @@ fn later<'a>(found: Option<&'a [u8]>, value: Option<&'a [u8]>) -> Option<&'a [u8
     value.or(found)
 }
 
-/// The value of the last piece with the key, in the property text of a control block. The text is cut at each `;`;
-/// a piece has the key before its first `=` and the value after it, and one without `=` is ignored.
+/// The value of the last piece with the key, in the property text of a control block. The text is cut at each `;`; a
+/// piece has the key before its first `=` and the value after it, and one without `=` is ignored. Time is in proportion
+/// to the text; it takes no memory.
 pub fn property<'a>(text: &'a [u8], key: &[u8]) -> Option<&'a [u8]>
     ensures { option_copied result ≡ property_value text.now key.now }
 {

@@ -31,7 +31,8 @@ pub fn bytes_at(bytes: &[u8], at: usize, count: usize) -> Result<(&[u8], usize),
     Ok((&bytes[at..at + count], at + count))
 }
 
-/// How many bytes stand before the first zero byte; without one, all.
+/// How many bytes stand before the first zero byte; without one, all. Time is in proportion to them; it takes no
+/// memory.
 pub fn zero_in(bytes: &[u8]) -> usize
     ensures len { result ≡ zero_in bytes.now }
     ensures within { result ≤ length bytes.now }
@@ -42,8 +43,8 @@ pub fn zero_in(bytes: &[u8]) -> usize
     }
 }
 
-/// The text from a place up to its zero byte, and the place after that byte; without a zero byte, `Truncated` at
-/// the place.
+/// The text from a place up to its zero byte, and the place after that byte; without a zero byte, `Truncated` at the
+/// place. Time is in proportion to the text; it takes no memory.
 #[tactic(auto, unfolding(crate::specs::Rows::text_at))]
 pub fn text_at(bytes: &[u8], at: usize) -> Result<(&[u8], usize), Fault>
     ensures exact { Reads (λ x. (x.0.now, x.1)) result (text_at bytes.now at) }
