@@ -35,7 +35,11 @@ impl From<AllocError> for Fault {
 
 /// Counts, and looks a string up: its number in its role, and the string of that number again.
 fn look_up(rt: &HostRuntime, graph: &Graph<'_>) -> Result<(), Fault> {
-    println!(rt; "{} triples of {} subjects", graph.len(), graph.count(Role::Subject))?;
+    println!(rt;
+        "{} triples of {} subjects",
+        graph.len(),
+        graph.count(Role::Subject)
+    )?;
     let mut steps = Steps::new();
     let mut string = Vec::new(rt.alloc());
     if let Some(number) = graph.number_of(Role::Object, b"\"x\"", &mut steps) {
@@ -52,13 +56,19 @@ fn search(rt: &HostRuntime, graph: &Graph<'_>) -> Result<(), Fault> {
         println!(rt; "{subject} {predicate} {object}")?;
     }
     let pattern = graph.pattern([Some(b"u:a"), None, None], &mut steps);
-    write_graph(rt.alloc(), graph, pattern, &mut Counted::new(io::writer(rt)))?;
+    write_graph(
+        rt.alloc(),
+        graph,
+        pattern,
+        &mut Counted::new(io::writer(rt)),
+    )?;
     Ok(())
 }
 
 /// Builds the file of a document, and opens it.
 fn build(rt: &HostRuntime) -> Result<(), Fault> {
-    let document: &[u8] = b"<http://a/s> <http://a/p> \"one\"@en .\n<http://a/s> <http://a/p> _:b .\n";
+    let document: &[u8] =
+        b"<http://a/s> <http://a/p> \"one\"@en .\n<http://a/s> <http://a/p> _:b .\n";
     let options = Options {
         block_size: 16,
         base: Vec::from_slice(rt.alloc(), b"http://a/")?,

@@ -120,10 +120,11 @@ fn overlaps(alloc: Global, subjects: &[&[u8]], objects: &[&[u8]]) -> Result<bool
 }
 
 /// The reason why a dictionary is refused, if it is for a fault.
-fn reason_of(alloc: Global, bytes: &[u8]) -> Option<Reason> {
+fn reason_of(alloc: Global, bytes: &[u8]) -> Result<Option<Reason>, AllocError> {
     match Dictionary::read(alloc, bytes, AT) {
-        Err(ReadFault::Fault(fault)) => Some(fault.reason),
-        _ => None,
+        Err(ReadFault::Fault(fault)) => Ok(Some(fault.reason)),
+        Err(ReadFault::OutOfMemory) => Err(AllocError),
+        Ok(_) => Ok(None),
     }
 }
 
@@ -134,7 +135,7 @@ fn order_is_told(alloc: Global, objects: &[&[u8]]) -> Result<bool, AllocError> {
         strings.push(*first)?;
     }
     let bytes = spelled(alloc, &[], &strings)?;
-    Ok(reason_of(alloc, &bytes) == Some(Reason::StringsNotAscending))
+    Ok(reason_of(alloc, &bytes)? == Some(Reason::StringsNotAscending))
 }
 
 /// Whether a wrong code of the control block is told.
@@ -143,7 +144,7 @@ fn code_is_told(alloc: Global) -> Result<bool, AllocError> {
     if let Some(byte) = bytes.get_mut(AT + 54) {
         *byte = !*byte;
     }
-    Ok(reason_of(alloc, &bytes) == Some(Reason::Check16))
+    Ok(reason_of(alloc, &bytes)? == Some(Reason::Check16))
 }
 
 #[test]

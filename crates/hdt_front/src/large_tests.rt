@@ -65,6 +65,7 @@ fn written(alloc: Global, strings: &[&[u8]]) -> Result<Vec<u8>, Fail> {
 fn read<'a>(alloc: Global, bytes: &'a [u8]) -> Result<Section<'a>, Fail> {
     match Section::read(alloc, bytes, 0) {
         Ok((section, end)) if end == bytes.len() => Ok(section),
+        Err(ReadFault::OutOfMemory) => Err(AllocError)?,
         _ => Err("refused")?,
     }
 }
@@ -168,7 +169,8 @@ fn is_told(alloc: Global, bytes: &[u8], byte: u8, reason: Reason) -> Result<bool
     let (changed, place) = spoiled(alloc, bytes, 120_000, byte)?;
     let told = match Section::read(alloc, &changed, 0) {
         Err(ReadFault::Fault(fault)) => fault == Fault { place, reason },
-        _ => false,
+        Err(ReadFault::OutOfMemory) => return Err(AllocError)?,
+        Ok(_) => false,
     };
     Ok(told)
 }

@@ -623,11 +623,11 @@ fn are_threes(alloc: Global, triples: &[Triple]) -> Result<bool, AllocError> {
     Ok(good)
 }
 
-/// Whether [`THREE`] 40,000 times is read as its 120,000 triples.
+/// Whether [`THREE`] 2,000 times is read as its 6,000 triples.
 fn are_many_read(alloc: Global) -> Result<bool, Fail> {
-    let bytes = many_lines(alloc, THREE, 40_000, b"")?;
+    let bytes = many_lines(alloc, THREE, 2_000, b"")?;
     let triples = read_document(alloc, GREATEST, &mut input_of(&bytes, ALL, ALL, ALL))?;
-    Ok(triples.len() == 120_000 && are_threes(alloc, &triples)?)
+    Ok(triples.len() == 6_000 && are_threes(alloc, &triples)?)
 }
 
 #[test]
@@ -651,10 +651,10 @@ fn is_syntax(alloc: Global, bytes: &[u8], line: u64, column: u64) -> Result<bool
     Ok(fault == Some(wanted))
 }
 
-/// Whether the fault behind 120,000 triples is told with its line.
+/// Whether the fault behind 2,100 triples is told with its line.
 fn is_late_fault(alloc: Global) -> Result<bool, Fail> {
-    let bytes = many_lines(alloc, THREE, 40_000, b"<u:s> x")?;
-    is_syntax(alloc, &bytes, 120_001, 7)
+    let bytes = many_lines(alloc, THREE, 700, b"<u:s> x")?;
+    is_syntax(alloc, &bytes, 2_101, 7)
 }
 
 /// Whether a fault behind 100,000 lines without a triple, and then that of a line of 100,000 bytes behind a long one, are told by
