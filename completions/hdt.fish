@@ -12,6 +12,7 @@ complete -c hdt -n "not __fish_seen_subcommand_from $commands" -a build -d "Buil
 complete -c hdt -n "not __fish_seen_subcommand_from $commands" -a rewrite -d "Write a file again in canonical form"
 complete -c hdt -n "not __fish_seen_subcommand_from $commands" -a help -d "Print help"
 complete -c hdt -l help -s h -d "Print help"
+complete -c hdt -n "not __fish_seen_subcommand_from $commands" -l version -s V -d "Print the version"
 complete -c hdt -n "__fish_seen_subcommand_from verify" -l tight -d "Refuse strings that no triple uses"
 complete -c hdt -n "__fish_seen_subcommand_from number find" -l raw -d "Take terms as dictionary strings"
 complete -c hdt -n "__fish_seen_subcommand_from find" -l numbers -d "Print the numbers of each triple"

@@ -25,15 +25,19 @@ refused_by names app words e is h = (subst (λ (a : App). is_simple_and_free a �
 pub stated : (names : Names) (app : App) (words : List Text) (m : ArgMatches) → app ≡ table names → HasMatchesOf app words m → subcommand_rows_of m ≡ subcommand_of (table names) words
 stated names app words m is h = (subst (λ (a : App). is_simple a ≡ true → (rows_of (found_of m) ≡ matches_of a words) × (subcommand_rows_of m ≡ subcommand_of a words)) is h refl).1
 
-alone : (k : ErrorKind) → IsAmong k (kind.DisplayHelp ∷ []) → k ≡ kind.DisplayHelp
-alone k (inl e) = e
-alone k (inr b) = absurd b
+alone : (j k : ErrorKind) → IsAmong k (j ∷ []) → k ≡ j
+alone j k (inl e) = e
+alone j k (inr b) = absurd b
 
 told_by : (names : Names) (words : List Text) (e : Error) (fault : UsageFault) → HasKind (refusals names words) e → TellsKind (kind_of e) fault → IsRefusedBy names words fault
-told_by names words e (Help text) (inl memory) k = absurd cc
-told_by names words e (Help text) (inr among) k = subst (λ (t : ErrorKind). IsAmong t (refusals names words)) k among
+told_by names words e (Help text) (inl memory) (inl k) = absurd cc
+told_by names words e (Help text) (inl memory) (inr k) = absurd cc
+told_by names words e (Help text) (inr among) (inl k) = inl (subst (λ (t : ErrorKind). IsAmong t (refusals names words)) k among)
+told_by names words e (Help text) (inr among) (inr k) = inr (subst (λ (t : ErrorKind). IsAmong t (refusals names words)) k among)
 told_by names words e (Usage text) (inl memory) k = absurd (k.1 memory)
-told_by names words e (Usage text) (inr among) k = (λ only. k.0 (alone (kind_of e) (subst (IsAmong (kind_of e)) only among)), λ request w. subst (IsAmong (kind_of e)) w.taken among)
+told_by names words e (Usage text) (inr among) k = (λ only. k.0 (inl (alone kind.DisplayHelp (kind_of e) (subst (IsAmong (kind_of e)) only among))),
+    λ only. k.0 (inr (alone kind.DisplayVersion (kind_of e) (subst (IsAmong (kind_of e)) only among))),
+    λ request w. subst (IsAmong (kind_of e)) w.taken among)
 told_by names words e (Word word fault) h k = absurd k
 told_by names words e OutOfMemory h k = tt
 

@@ -162,11 +162,16 @@ Misspells name rows Object fault = (name ≡ codes "find") × IsFine rows Subjec
 abbrev pub MisspellsIn : Option (Text × List Row) → TermWord → TermFault → Type 0
 MisspellsIn entered word fault = IsSomeAnd entered (λ command. Misspells command.0 command.1 word fault)
 
--- help is given only where `clap` may give it; a word that is no term is told with the fault that stands in it; other words
+-- an error of this kind shows help or the version
+abbrev pub IsShown : ErrorKind → Type 0
+IsShown k = (k ≡ kind.DisplayHelp) ⊎ (k ≡ kind.DisplayVersion)
+
+-- help and the version are given only where `clap` may give them; a word that is no term is told with the fault that stands in it; other words
 -- are refused only where they want no request
 abbrev pub IsRefusedBy : Names → List Text → UsageFault → Type 0
-IsRefusedBy names words (Help text) = IsAmong kind.DisplayHelp (refusals names words)
-IsRefusedBy names words (Usage text) = (refusals names words ≢ kind.DisplayHelp ∷ []) × ((request : Request) → WantsBy names words request → ⊥)
+IsRefusedBy names words (Help text) = IsAmong kind.DisplayHelp (refusals names words) ⊎ IsAmong kind.DisplayVersion (refusals names words)
+IsRefusedBy names words (Usage text) = (refusals names words ≢ kind.DisplayHelp ∷ []) × (refusals names words ≢ kind.DisplayVersion ∷ [])
+    × ((request : Request) → WantsBy names words request → ⊥)
 IsRefusedBy names words (Word word fault) = (refusals names words ≡ []) × MisspellsIn (subcommand_of (table names) words) word fault
 IsRefusedBy names words OutOfMemory = Unit {0}
 
@@ -193,8 +198,8 @@ SaysUsage said OutOfMemory = Unit {0}
 
 -- the fault of an error of `clap`
 abbrev pub TellsKind : ErrorKind → UsageFault → Type 0
-TellsKind k (Help text) = k ≡ kind.DisplayHelp
-TellsKind k (Usage text) = (k ≢ kind.DisplayHelp) × (k ≢ kind.OutOfMemory)
+TellsKind k (Help text) = IsShown k
+TellsKind k (Usage text) = (IsShown k → ⊥) × (k ≢ kind.OutOfMemory)
 TellsKind k (Word word fault) = ⊥
 TellsKind k OutOfMemory = Unit {0}
 

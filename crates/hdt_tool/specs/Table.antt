@@ -95,9 +95,9 @@ abbrev pub rewrite_command : App
 rewrite_command =
     with_rule (with_rule (with_rule (new_app (codes "rewrite")) (word_named (codes "IN"))) (word_named (codes "OUT"))) block_size_option
 
--- a command has to be named
+-- a command has to be named, or `--version`
 abbrev pub empty_table : App
-empty_table = let app = new_app (codes "hdt") in record app { top = record app.top { subcommand_required = true } }
+empty_table = let app = new_app (codes "hdt") in record app { top = record app.top { subcommand_required = true; has_version = true } }
 
 -- the commands on a whole file, and on the strings of a role
 abbrev pub first_commands : App

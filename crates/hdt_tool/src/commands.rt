@@ -9,6 +9,8 @@ use std::alloc::{AllocError, Global};
 
 const ABOUT: &str = "Builds and reads RDF HDT files: RDF graphs in a compact binary form.";
 
+const VERSION: &str = "1.0.0";
+
 const STATUSES: &str = "Exit status:
   0  done
   1  the input has a fault, whose reason and place are told, or no triples, a look-up has no
@@ -78,8 +80,11 @@ const BUILD_LONG_ABOUT: &str = "Build an HDT file from N-Triples.
 
 The order of the lines, repeats and comments make no difference: one graph gives one file, byte
 for byte. It is told by `built` and six counts: the triples, the strings of the sections shared,
-subjects, predicates and objects, and the bytes of the file. OUT is opened only when the file is
-whole, so input that is refused leaves it as it was. IN may be /dev/stdin.
+subjects, predicates and objects, and the bytes of the file. IN may be /dev/stdin.
+
+OUT is replaced whole: a new file is written beside it, as hdt-unfinished-0, and handed to the
+disk before it takes its name. Until then OUT is what it was, also where writing fails or the
+program is killed. Where OUT is no regular file, it is opened and written.
 
 OUT may be /dev/stdout. Where it is the file or pipe that standard output goes to, the HDT file
 alone is printed there, behind what stands there, and its line on standard error, or nowhere
@@ -93,8 +98,11 @@ The header stays as it is, byte for byte. Strings that no triple uses are left o
 numbers of strings and the order of triples may change; the triples are the same. A file that
 `build` has built is its own canonical file, if the block size is the same. It is told by
 `rewritten` and six counts: the triples, the strings of the sections shared, subjects,
-predicates and objects, and the bytes of the file. OUT is opened only when the file is whole, so
-input that is refused leaves it as it was. IN may be OUT.
+predicates and objects, and the bytes of the file. IN may be OUT.
+
+OUT is replaced whole: a new file is written beside it, as hdt-unfinished-0, and handed to the
+disk before it takes its name. Until then OUT is what it was, also where writing fails or the
+program is killed. Where OUT is no regular file, it is opened and written.
 
 OUT may be /dev/stdout. Where it is the file or pipe that standard output goes to, the HDT file
 alone is printed there, behind what stands there, and its line on standard error, or nowhere
@@ -347,6 +355,7 @@ fn program<'a>(alloc: Global) -> Result<Command<'a>, AllocError>
 {
     Command::new(alloc, "hdt")
         .about(ABOUT)
+        .version(VERSION)
         .after_help(STATUSES)
         .subcommand_required(true)
         .bin_name("hdt")

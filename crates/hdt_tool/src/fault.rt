@@ -46,7 +46,7 @@ impl Word {
 pub enum UsageFault {
     /// The words are wrong; the text says how, without a line feed at its end.
     Usage(String),
-    /// Help was asked for; the text is the help, without a line feed at its end.
+    /// Help or the version was asked for; the text is that, without a line feed at its end.
     Help(String),
     /// A word is no N-Triples term.
     Word {

@@ -31,6 +31,7 @@ mod printed_head;
 mod printed_strings;
 mod printed_triples;
 mod printed_verdict;
+mod replacing;
 mod request;
 mod run;
 #[cfg(test)]
@@ -39,6 +40,7 @@ mod words;
 
 use crate::fault::{ToolFault, UsageFault};
 use crate::lines::{fault_line, usage_line};
+use crate::replacing::{create_fault, replace, replaced_path};
 use crate::request::Request;
 use crate::run::run;
 use crate::words::parse_words;
@@ -264,17 +266,6 @@ fn made_of<R: Read + Drop>(
     }
 }
 
-/// The fault of a file that could not be created.
-fn create_fault(error: &io::Error) -> ToolFault
-    ensures memory { error_kind error.now ≡ ErrorKind.OutOfMemory → result ≡ ToolFault.OutOfMemory }
-    ensures other { error_kind error.now ≢ ErrorKind.OutOfMemory → result ≡ ToolFault.Write 0 }
-{
-    if error.kind() == ErrorKind::OutOfMemory {
-        return ToolFault::OutOfMemory;
-    }
-    ToolFault::Write(0)
-}
-
 /// The file to be written, as it was created.
 fn created<F: Write>(file: io::Result<F>) -> Result<Counted<F>, ToolFault>
     ensures ok { IfOk result (λ counted. file ≡ Ok (inner counted)) }
@@ -284,6 +275,19 @@ fn created<F: Write>(file: io::Result<F>) -> Result<Counted<F>, ToolFault>
     match file {
         Ok(file) => Ok(Counted::new(file)),
         Err(error) => Err(create_fault(&error)),
+    }
+}
+
+/// Writes a line to a writer.
+fn print_line<W: Write>(out: &mut Counted<W>, line: &[u8]) -> Result<(), ToolFault>
+    ensures line { OnOk result (Appends (W.contents (inner out.old)) (W.contents (inner out.new)) line.now) }
+    ensures well { OnOk result (failures out.new ≡ failures out.old) }
+    ensures failed { IfErr result (λ e. (n : ℕ) × (e ≡ ToolFault.Write n) × FailsAfter n line.now
+        (W.contents (inner out.old)) (W.contents (inner out.new)) (failures out.old) (failures out.new)) }
+{
+    match out.write_all(line) {
+        Ok(()) => Ok(()),
+        Err(count) => Err(ToolFault::Write(count)),
     }
 }
 
@@ -311,10 +315,7 @@ fn store<F: Write, W: Write>(
         Ok(()) => {}
         Err(count) => return Err(ToolFault::Write(count)),
     }
-    match out.write_all(line) {
-        Ok(()) => Ok(()),
-        Err(count) => Err(ToolFault::Write(count)),
-    }
+    print_line(out, line)
 }
 
 /// Where the system shows the file that is standard output.
@@ -344,8 +345,21 @@ fn print_built(rt: &HostRuntime, built: &[u8], line: &[u8]) -> Result<(), ToolFa
     store(&mut out, built, &mut errors, line)
 }
 
-/// Does what a request that makes a file asks for: that file is created only where the whole of it was made, and the line of
-/// its numbers is printed last. Where its path leads to what standard output is, it is printed there.
+/// Puts what was made at a path: a regular file is replaced whole, into anything else it is written. Then it prints the line.
+fn put_at(rt: &HostRuntime, path: &str, built: &[u8], line: &[u8]) -> Result<(), ToolFault> {
+    let mut out = Counted::new(io::writer(rt));
+    let replaced =
+        replaced_path(rt, rt.alloc(), path).map_err(|error| create_fault(&error))?;
+    if let Some(path) = replaced {
+        replace(rt, rt.alloc(), &path, built)?;
+        return print_line(&mut out, line);
+    }
+    let mut file = created(File::create(rt, path))?;
+    store(&mut file, built, &mut out, line)
+}
+
+/// Does what a request that makes a file asks for: that file is put at its path only where the whole of it was made, and the line
+/// of its numbers is printed last. Where its path leads to what standard output is, it is printed there.
 fn build_to(rt: &HostRuntime, request: &Request, path: &str) -> Result<(), ToolFault>
     requires { MakesFile request.now.action }
 {
@@ -355,9 +369,7 @@ fn build_to(rt: &HostRuntime, request: &Request, path: &str) -> Result<(), ToolF
     if is_one_file(rt, path, OUTPUT) {
         return print_built(rt, &built, &line);
     }
-    let mut file = created(File::create(rt, path))?;
-    let mut out = Counted::new(io::writer(rt));
-    store(&mut file, &built, &mut out, &line)
+    put_at(rt, path, &built, &line)
 }
 
 /// Tells why the words ask for nothing: help on the standard output, a fault on the standard error.

@@ -32,7 +32,7 @@ fn refusal(alloc: Global, error: &Error) -> UsageFault
     };
     match error.kind() {
         ErrorKind::OutOfMemory => UsageFault::OutOfMemory,
-        ErrorKind::DisplayHelp => UsageFault::Help(text),
+        ErrorKind::DisplayHelp | ErrorKind::DisplayVersion => UsageFault::Help(text),
         _ => UsageFault::Usage(text),
     }
 }
@@ -149,7 +149,7 @@ pub fn parse_words<'a>(alloc: Global, words: &'a [&'a str]) -> Result<Request, U
     ensures ok { IfOk result (Wants (map (λ word. word.now) words.now)) }
     // `build` and `rewrite` come with the path of the file that they make, and no other command does.
     ensures out { IfOk result HasOut }
-    // Help is given only where `clap` may give it; a fault of a term is told where it stands in TERM, or in the first of S, P and
+    // Help and the version are given only where `clap` may give them; a fault of a term is told where it stands in TERM, or in the first of S, P and
     // O that is not fine; other words are refused only where they want no request.
     ensures refused { IfErr result (IsRefused (map (λ word. word.now) words.now)) }
 {
