@@ -35,9 +35,11 @@ told_by names words e (Help text) (inl memory) (inr k) = absurd cc
 told_by names words e (Help text) (inr among) (inl k) = inl (subst (λ (t : ErrorKind). IsAmong t (refusals names words)) k among)
 told_by names words e (Help text) (inr among) (inr k) = inr (subst (λ (t : ErrorKind). IsAmong t (refusals names words)) k among)
 told_by names words e (Usage text) (inl memory) k = absurd (k.1 memory)
-told_by names words e (Usage text) (inr among) k = (λ only. k.0 (inl (alone kind.DisplayHelp (kind_of e) (subst (IsAmong (kind_of e)) only among))),
-    λ only. k.0 (inr (alone kind.DisplayVersion (kind_of e) (subst (IsAmong (kind_of e)) only among))),
-    λ request w. subst (IsAmong (kind_of e)) w.taken among)
+told_by names words e (Usage text) (inr among) k = (
+  λ only. k.0 (inl (alone kind.DisplayHelp (kind_of e) (subst (IsAmong (kind_of e)) only among))),
+  λ only. k.0 (inr (alone kind.DisplayVersion (kind_of e) (subst (IsAmong (kind_of e)) only among))),
+  λ request w. subst (IsAmong (kind_of e)) w.taken among,
+)
 told_by names words e (Word word fault) h k = absurd k
 told_by names words e OutOfMemory h k = tt
 
@@ -74,7 +76,7 @@ wanted names roles words name rows (Err fault) none is h = tt
 lacking : (names : Names) (words : List Text) (name : Text) (rows : List Row) (fault : UsageFault) → refusals names words ≡ [] → subcommand_of (table names) words ≡ Some (name, rows)
     → ComesWithoutOr ((request : Request) × AsksFor name rows request) (Misspells name rows) fault → IsRefusedBy names words fault
 lacking names words name rows (Help text) none is h = absurd h
-lacking names words name rows (Usage text) none is h = (λ only. cc, λ request w. h (request, subst (λ (o : Option (Text × List Row)). Asks o request) is w.asked))
+lacking names words name rows (Usage text) none is h = (λ only. cc, λ only. cc, λ request w. h (request, subst (λ (o : Option (Text × List Row)). Asks o request) is w.asked))
 lacking names words name rows (Word word fault) none is h = (none, subst (λ (o : Option (Text × List Row)). MisspellsIn o word fault) (sym is) h)
 lacking names words name rows OutOfMemory none is h = tt
 

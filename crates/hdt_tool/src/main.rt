@@ -348,8 +348,7 @@ fn print_built(rt: &HostRuntime, built: &[u8], line: &[u8]) -> Result<(), ToolFa
 /// Puts what was made at a path: a regular file is replaced whole, into anything else it is written. Then it prints the line.
 fn put_at(rt: &HostRuntime, path: &str, built: &[u8], line: &[u8]) -> Result<(), ToolFault> {
     let mut out = Counted::new(io::writer(rt));
-    let replaced =
-        replaced_path(rt, rt.alloc(), path).map_err(|error| create_fault(&error))?;
+    let replaced = replaced_path(rt, rt.alloc(), path).map_err(|error| create_fault(&error))?;
     if let Some(path) = replaced {
         replace(rt, rt.alloc(), &path, built)?;
         return print_line(&mut out, line);

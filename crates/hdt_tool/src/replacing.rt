@@ -76,7 +76,7 @@ fn permit<F: OpenFile>(file: &F, replaced: &Metadata) -> io::Result<()> {
 }
 
 /// Writes what was made to a new file, and hands it to the disk.
-fn filled<F: Write + OpenFile>(file: F, built: &[u8]) -> Result<F, ToolFault>
+fn filled<F: Write + OpenFile + Drop>(file: F, built: &[u8]) -> Result<F, ToolFault>
     // The file has gained what was made.
     ensures whole { IfOk result (λ whole. Appends (F.contents file) (F.contents whole) built.now) }
     ensures fault { IfErr result (λ e. (n : ℕ) × (e ≡ ToolFault.Write n) × (n ≤ length built.now)) }
