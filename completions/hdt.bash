@@ -10,7 +10,7 @@ _hdt() {
     case $command in
     verify) options+=" --tight" ;;
     number) options+=" --raw" ;;
-    find) options+=" --raw --numbers" ;;
+    find) options+=" --raw --numbers --count --most" ;;
     build) options+=" --base --block-size" ;;
     rewrite) options+=" --block-size" ;;
     help) options=$commands ;;

@@ -16,6 +16,8 @@ complete -c hdt -n "not __fish_seen_subcommand_from $commands" -l version -s V -
 complete -c hdt -n "__fish_seen_subcommand_from verify" -l tight -d "Refuse strings that no triple uses"
 complete -c hdt -n "__fish_seen_subcommand_from number find" -l raw -d "Take terms as dictionary strings"
 complete -c hdt -n "__fish_seen_subcommand_from find" -l numbers -d "Print the numbers of each triple"
+complete -c hdt -n "__fish_seen_subcommand_from find" -l count -d "Print how many there are"
+complete -c hdt -n "__fish_seen_subcommand_from find" -l most -x -d "Take the first triples alone"
 complete -c hdt -n "__fish_seen_subcommand_from build" -l base -x -d "The IRI that stands for the file"
 complete -c hdt -n "__fish_seen_subcommand_from build rewrite" -l block-size -x -d "How many strings stand in a block"
 complete -c hdt -n "__fish_seen_subcommand_from strings string number" -a "subject predicate object"

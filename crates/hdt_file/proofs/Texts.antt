@@ -1,5 +1,5 @@
 -- The text of triples, line by line.
-use Rattle.std.proofs.Common.{◌≡◌, ℕ, List, [], ◌∷◌, ◌++◌, length, refl, sym, ap, ◌∙◌, append_assoc, append-nil, subst, inl, inr, arith}
+use Rattle.std.proofs.Common.{◌≡◌, ℕ, suc, take, List, [], ◌∷◌, ◌++◌, length, refl, sym, ap, ◌∙◌, append_assoc, append-nil, subst, inl, inr, arith}
 use Rattle.std.specs.List.{flat_map}
 use Rattle.std.proofs.lemmas.Grind.{flat_map-append}
 use Rattle.hdt_terms.specs.Writing.{written}
@@ -13,6 +13,15 @@ use Rattle.hdt_file.specs.Text.{TermTriple, IsTermOf, AreTermsOf, HasTerm, IsBef
 use Rattle.hdt_file.specs.TextWriting.{AppendsTerm, AppendsLine, AppendsText, IsFront, TellsString, TellsFirstOf, TellsFirstIn}
 use Rattle.hdt_file.specs.declared.fault.DumpFault.{DumpFault}
 use Rattle.hdt_file.specs.declared.fault.DumpFault.TheVariants.{NotATerm, Write, OutOfMemory}
+
+-- ---- triples in a list
+
+-- one more of at most so many
+pub one_more : (n : ℕ) (found items new : List Triple) (t : Triple) (left rest : List Triple) → left ≡ t ∷ rest → new ≡ items ++ t ∷ []
+    → found ≡ items ++ take (suc n) left → found ≡ new ++ take n rest
+one_more n found items new t left rest first is h =
+    h ∙ ap (λ (l : List Triple). items ++ take (suc n) l) first ∙ sym (append_assoc items (t ∷ []) (take n rest))
+    ∙ ap (λ (l : List Triple). l ++ take n rest) (sym is)
 
 -- ---- one line
 

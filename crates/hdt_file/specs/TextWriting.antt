@@ -20,6 +20,11 @@ abbrev pub chosen : GraphParts → Option Pattern → List Triple
 chosen g None = []
 chosen g (Some p) = matches p g.triples
 
+-- all of the triples, or at most so many of the first
+abbrev pub limited : Option ℕ → List Triple → List Triple
+limited None ts = ts
+limited (Some most) ts = take most ts
+
 -- the text has grown by the term that the string is in its role
 pub record AppendsTerm (role : Role) (string old new : List ℕ) : Type 0 where
   pub term : Term

@@ -1,7 +1,7 @@
 //! One large graph through each call: past 65,536 strings in each section, past 131,072 triples and pairs, with a string of
 //! 100,000 bytes at the end of each section and a header body as long.
 use super::*;
-use crate::search_tests::are_filtered;
+use crate::search_tests::{are_filtered, count_filtered};
 use crate::tests::{answers, with_triples};
 use hdt_dict::{Role, Strings};
 use hdt_front::{are_strings, put_lent_section};
@@ -195,6 +195,12 @@ fn pattern_of(triple: (u64, u64, u64), given: u32) -> Pattern {
     }
 }
 
+/// Whether a graph and its layout count so many matches.
+fn are_counted(graph: &Graph<'_>, layout: &Layout<'_>, count: u64, pattern: Pattern) -> bool {
+    graph.matching(pattern, &mut Steps::new()) == count
+        && layout.matching(pattern, &mut Steps::new()) == count
+}
+
 /// Whether a graph and its layout give what a plain filter does, whichever parts of a triple are given.
 fn searches_for(graph: &Graph<'_>, list: &[(u64, u64, u64)], triple: (u64, u64, u64)) -> bool {
     let layout = graph.layout();
@@ -203,7 +209,8 @@ fn searches_for(graph: &Graph<'_>, list: &[(u64, u64, u64)], triple: (u64, u64, 
         let pattern = pattern_of(triple, given);
         good = good
             && are_filtered(graph.search(pattern), list, pattern)
-            && are_filtered(layout.search(pattern), list, pattern);
+            && are_filtered(layout.search(pattern), list, pattern)
+            && are_counted(graph, &layout, count_filtered(list, pattern), pattern);
     }
     good
 }
@@ -245,6 +252,37 @@ fn tells_no_term(alloc: Global, graph: &Graph<'_>) -> Result<bool, AllocError> {
     }
 }
 
+/// Whether a text has so many lines of 35 bytes, of which this is the last.
+fn are_lines(text: &[u8], count: usize, last: &[u8]) -> bool {
+    text.len() == 35 * count && text.ends_with(last)
+}
+
+/// The pattern of all triples.
+const ALL: Pattern = Pattern {
+    s: None,
+    p: None,
+    o: None,
+};
+
+/// The line of the last triple before the first string that is no term.
+const LAST: &[u8] = b"<u:131998> <u:065998> <u:131998> .\n";
+
+/// Whether the text of a part of the triples is that of these alone, in two megabytes, though no text of all is to be had.
+fn tells_a_part(alloc: Global, graph: &Graph<'_>) -> Result<bool, DumpFault> {
+    let of_graph = graph_text_up_to(alloc, graph, Some(ALL), Some(65_999))?;
+    let of_layout = layout_text_up_to(alloc, &graph.layout(), Some(ALL), Some(65_999))?;
+    Ok(are_lines(&of_graph, 65_999, LAST) && are_lines(&of_layout, 65_999, LAST))
+}
+
+/// The same; want of memory ends the test.
+fn tells_parts(alloc: Global, graph: &Graph<'_>) -> Result<bool, AllocError> {
+    match tells_a_part(alloc, graph) {
+        Ok(good) => Ok(good),
+        Err(DumpFault::OutOfMemory) => Err(AllocError),
+        Err(_) => Ok(false),
+    }
+}
+
 /// What the graph of the file answers otherwise than it should, if there is such.
 fn wrong_answer(
     alloc: Global,
@@ -263,6 +301,9 @@ fn wrong_answer(
     }
     if !finds_each(&graph, list) {
         return Ok(Some("each triple"));
+    }
+    if !tells_parts(alloc, &graph)? {
+        return Ok(Some("a part"));
     }
     if !tells_no_term(alloc, &graph)? {
         return Ok(Some("no term"));

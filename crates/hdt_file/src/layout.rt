@@ -187,4 +187,14 @@ impl<'a> Layout<'a> {
     {
         self.triples.find(pattern)
     }
+
+    /// How many triples agree with each number that the pattern gives: as many as [`Layout::search`] gives. It takes no
+    /// memory, and walks over all triples, with four looks a triple at most; where nothing is given it takes none.
+    pub fn matching(&self, pattern: Pattern, steps: &mut Steps) -> u64
+        ensures is { result ≡ length (matches pattern (layout_seen self.now).triples) }
+        ensures cost { steps.new ≤ steps.old + 4 * length (layout_seen self.now).triples }
+        ensures more { steps.old ≤ steps.new }
+    {
+        self.triples.matching(pattern, steps)
+    }
 }

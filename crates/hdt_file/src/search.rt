@@ -1,6 +1,6 @@
 //! Searching a graph, by numbers and by strings.
 ghost use Rattle.std.specs.Prelude.{◌≡◌, ◌↔◌, ◌≤◌, ◌<◌, ◌+◌, ◌^◌, [], Some, filter, length};
-ghost use Rattle.hdt_triples.specs.Bounds.{most_steps};
+ghost use Rattle.hdt_triples.specs.Bounds.{counting_steps, most_steps};
 ghost use Rattle.hdt_triples.specs.Left.{left_of, limit_of};
 ghost use Rattle.hdt_triples.specs.Patterns.{matches};
 ghost use Rattle.hdt_file.specs.Denoted.{denoted};
@@ -25,6 +25,17 @@ impl<'a> Graph<'a> {
         ensures few { limit_of result ≡ most_steps (bitmap_in (graph_parts self.now)) pattern }
     {
         self.triples.find(pattern)
+    }
+
+    /// How many triples agree with each number that the pattern gives: as many as [`Graph::search`] gives. Where nothing is
+    /// given, a subject, a subject with a predicate, or an object alone, the directories and lists tell it in steps that
+    /// don't grow with the matches; they are those of the table. It takes no memory.
+    pub fn matching(&self, pattern: Pattern, steps: &mut Steps) -> u64
+        ensures is { result ≡ length (matches pattern (graph_seen self.now).triples) }
+        ensures cost { steps.new ≤ steps.old + counting_steps (bitmap_in (graph_parts self.now)) pattern }
+        ensures more { steps.old ≤ steps.new }
+    {
+        self.triples.matching(pattern, steps)
     }
 
     /// The pattern of the numbers of strings: subject, predicate, object, each in its role; None where one of them isn't

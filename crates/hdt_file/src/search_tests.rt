@@ -87,11 +87,24 @@ pub(crate) fn are_filtered(
     matches.next() == None
 }
 
+/// How many triples of a list agree with a pattern, by a plain filter.
+pub(crate) fn count_filtered(list: &[(u64, u64, u64)], pattern: Pattern) -> u64 {
+    let mut count: u64 = 0;
+    for (s, p, o) in list {
+        if admits(pattern.s, *s) && admits(pattern.p, *p) && admits(pattern.o, *o) {
+            count = count.saturating_add(1);
+        }
+    }
+    count
+}
+
 /// The first pattern at which a graph doesn't answer what a plain filter gives.
 fn wrong_in_graph(graph: &Graph<'_>) -> Option<Pattern> {
     for i in 0..PATTERNS {
         let pattern = pattern_at(i);
-        if !are_filtered(graph.search(pattern), &TRIPLES, pattern) {
+        if !are_filtered(graph.search(pattern), &TRIPLES, pattern)
+            || graph.matching(pattern, &mut Steps::new()) != count_filtered(&TRIPLES, pattern)
+        {
             return Some(pattern);
         }
     }
@@ -109,7 +122,9 @@ fn searches_by_numbers(rt: HostRuntime) -> Result<(), Fail> {
 fn wrong_in_layout(layout: &Layout<'_>) -> Option<Pattern> {
     for i in 0..PATTERNS {
         let pattern = pattern_at(i);
-        if !are_filtered(layout.search(pattern), &TRIPLES, pattern) {
+        if !are_filtered(layout.search(pattern), &TRIPLES, pattern)
+            || layout.matching(pattern, &mut Steps::new()) != count_filtered(&TRIPLES, pattern)
+        {
             return Some(pattern);
         }
     }

@@ -1,5 +1,5 @@
 //! The N-Triples text of a graph.
-ghost use Rattle.std.specs.Prelude.{◌≡◌, ◌≢◌, ◌<◌, ◌+◌, ◌++◌, ◌⊎◌, ℕ, List, [], Option, OnOk, IfOk, IfErr, Some, IsOk, true, false, length};
+ghost use Rattle.std.specs.Prelude.{◌≡◌, ◌≢◌, ◌<◌, ◌+◌, ◌^◌, ◌++◌, ◌⊎◌, ℕ, List, [], Option, OnOk, IfOk, IfErr, Some, IsOk, true, false, length};
 ghost use Rattle.hdt_wire.specs.Counted.{inner, failures};
 ghost use Rattle.hdt_wire.specs.declared.role.Role.{Role};
 ghost use Rattle.hdt_triples.specs.Counting.{Triple};
@@ -8,7 +8,7 @@ ghost use Rattle.hdt_file.specs.Denoted.{StringTriple, denoted};
 ghost use Rattle.hdt_file.specs.File.{GraphParts};
 ghost use Rattle.hdt_file.specs.LayoutView.{layout_seen};
 ghost use Rattle.hdt_file.specs.Text.{IsFirstIn, IsTextOf};
-ghost use Rattle.hdt_file.specs.TextWriting.{TellsFirstIn, WritesPart, WritesText, chosen};
+ghost use Rattle.hdt_file.specs.TextWriting.{TellsFirstIn, WritesPart, WritesText, chosen, limited};
 ghost use Rattle.hdt_file.specs.Views.{graph_seen};
 
 use crate::fault::DumpFault;
@@ -22,14 +22,24 @@ use hdt_wire::Counted;
 use std::alloc::{AllocError, Global};
 use std::io::Write;
 
-/// The matches, in a list.
-fn listed(alloc: Global, found: Matches<'_>) -> Result<Vec<(u64, u64, u64)>, AllocError>
-    ensures { IfOk result (λ triples. triples.items ≡ left_of found.entry) }
+/// The matches, or at most so many of the first, in a list.
+fn listed(
+    alloc: Global,
+    found: Matches<'_>,
+    most: Option<u64>,
+) -> Result<Vec<(u64, u64, u64)>, AllocError>
+    requires fits { length (left_of found) < 2 ^ 64 }
+    ensures { IfOk result (λ triples. triples.items ≡ limited most (left_of found.entry)) }
 {
     let mut matches = found;
+    let mut room = most.unwrap_or(u64::MAX);
     let mut triples = Vec::new(alloc);
-    'triples: while let Some(triple) = matches.next() {
+    'triples: while room > 0 {
+        let Some(triple) = matches.next() else {
+            return Ok(triples);
+        };
         triples.push(triple)?;
+        room -= 1;
     }
     Ok(triples)
 }
@@ -99,12 +109,19 @@ fn tabled_text(
     Ok(text)
 }
 
-/// The text of matches, in time in proportion to the dictionary, the matches and the text, whatever the blocks are.
-fn found_text(alloc: Global, layout: &Layout<'_>, found: Matches<'_>) -> Result<Vec<u8>, DumpFault>
-    ensures ok { IfOk result (λ text. IsTextOf (denoted (layout_seen layout.now) (left_of found.entry)) text.items) }
-    ensures err { IfErr result (TellsFirstIn (layout_seen layout.now) (left_of found.entry)) }
+/// The text of matches, or of at most so many of the first, in time in proportion to the dictionary, these matches and the
+/// text, whatever the blocks are.
+fn found_text(
+    alloc: Global,
+    layout: &Layout<'_>,
+    found: Matches<'_>,
+    most: Option<u64>,
+) -> Result<Vec<u8>, DumpFault>
+    requires fits { length (left_of found) < 2 ^ 64 }
+    ensures ok { IfOk result (λ text. IsTextOf (denoted (layout_seen layout.now) (limited most (left_of found.entry))) text.items) }
+    ensures err { IfErr result (TellsFirstIn (layout_seen layout.now) (limited most (left_of found.entry))) }
 {
-    let triples = listed(alloc, found)?;
+    let triples = listed(alloc, found, most)?;
     if are_few(layout, &triples) {
         return looked_up_text(alloc, layout, &triples);
     }
@@ -131,10 +148,24 @@ pub fn graph_text(
     ensures ok { IfOk result (λ text. IsTextOf (denoted (graph_seen graph.now) (chosen (graph_seen graph.now) pattern)) text.items) }
     ensures err { IfErr result (TellsFirstIn (graph_seen graph.now) (chosen (graph_seen graph.now) pattern)) }
 {
+    graph_text_up_to(alloc, graph, pattern, None)
+}
+
+/// The text of at most so many of the first matches, or of all of them: [`graph_text`] says what is answered of these. The
+/// matches behind them are not looked for.
+pub fn graph_text_up_to(
+    alloc: Global,
+    graph: &Graph<'_>,
+    pattern: Option<Pattern>,
+    most: Option<u64>,
+) -> Result<Vec<u8>, DumpFault>
+    ensures ok { IfOk result (λ text. IsTextOf (denoted (graph_seen graph.now) (limited most (chosen (graph_seen graph.now) pattern))) text.items) }
+    ensures err { IfErr result (TellsFirstIn (graph_seen graph.now) (limited most (chosen (graph_seen graph.now) pattern))) }
+{
     let Some(pattern) = pattern else {
         return Ok(Vec::new(alloc));
     };
-    found_text(alloc, &graph.layout(), graph.search(pattern))
+    found_text(alloc, &graph.layout(), graph.search(pattern), most)
 }
 
 /// The same of a layout, all of whose triples are walked over: [`graph_text`] says what is answered.
@@ -146,8 +177,21 @@ pub fn layout_text(
     ensures ok { IfOk result (λ text. IsTextOf (denoted (layout_seen layout.now) (chosen (layout_seen layout.now) pattern)) text.items) }
     ensures err { IfErr result (TellsFirstIn (layout_seen layout.now) (chosen (layout_seen layout.now) pattern)) }
 {
+    layout_text_up_to(alloc, layout, pattern, None)
+}
+
+/// The same of a layout: [`graph_text_up_to`] says what is answered.
+pub fn layout_text_up_to(
+    alloc: Global,
+    layout: &Layout<'_>,
+    pattern: Option<Pattern>,
+    most: Option<u64>,
+) -> Result<Vec<u8>, DumpFault>
+    ensures ok { IfOk result (λ text. IsTextOf (denoted (layout_seen layout.now) (limited most (chosen (layout_seen layout.now) pattern))) text.items) }
+    ensures err { IfErr result (TellsFirstIn (layout_seen layout.now) (limited most (chosen (layout_seen layout.now) pattern))) }
+{
     match pattern {
-        Some(pattern) => found_text(alloc, layout, layout.search(pattern)),
+        Some(pattern) => found_text(alloc, layout, layout.search(pattern), most),
         None => Ok(Vec::new(alloc)),
     }
 }

@@ -118,12 +118,14 @@ fn agrees(pattern: Pattern, i: usize) -> bool {
     admits(pattern.s, s) && admits(pattern.p, p) && admits(pattern.o, o)
 }
 
-/// The lines of the triples that agree.
-fn lines_of(alloc: Global, pattern: Pattern) -> Result<Vec<u8>, AllocError> {
+/// The lines of the triples that agree, at most so many of the first.
+fn lines_of(alloc: Global, pattern: Pattern, most: u64) -> Result<Vec<u8>, AllocError> {
     let mut out = Vec::new(alloc);
+    let mut room = most;
     for i in 0..3 {
-        if agrees(pattern, i) {
+        if agrees(pattern, i) && room > 0 {
             out.extend_from_slice(LINES[i])?;
+            room -= 1;
         }
     }
     Ok(out)
@@ -160,6 +162,35 @@ fn both_tell(
     Ok(graph_tells(alloc, graph, pattern, wanted)? && layout_tells(alloc, layout, pattern, wanted)?)
 }
 
+/// Whether both write the first lines of a pattern, at most so many.
+fn both_tell_part(
+    alloc: Global,
+    graph: &Graph<'_>,
+    layout: &Layout<'_>,
+    pattern: Pattern,
+    most: u64,
+) -> Result<bool, DumpFault> {
+    let wanted = lines_of(alloc, pattern, most)?;
+    let of_graph = graph_text_up_to(alloc, graph, Some(pattern), Some(most))?;
+    let of_layout = layout_text_up_to(alloc, layout, Some(pattern), Some(most))?;
+    Ok(of_graph.as_slice() == wanted.as_slice() && of_layout.as_slice() == wanted.as_slice())
+}
+
+/// The first pattern of which not both write the first lines, for some number of them.
+fn wrong_part(
+    alloc: Global,
+    graph: &Graph<'_>,
+    layout: &Layout<'_>,
+) -> Result<Option<Pattern>, DumpFault> {
+    for i in 0..4 * PATTERNS {
+        let pattern = pattern_at(i % PATTERNS);
+        if !both_tell_part(alloc, graph, layout, pattern, (i / PATTERNS) as u64)? {
+            return Ok(Some(pattern));
+        }
+    }
+    Ok(None)
+}
+
 /// The first pattern of which not both write the lines.
 fn wrong_pattern(
     alloc: Global,
@@ -168,7 +199,7 @@ fn wrong_pattern(
 ) -> Result<Option<Pattern>, DumpFault> {
     for i in 0..PATTERNS {
         let pattern = pattern_at(i);
-        let wanted = lines_of(alloc, pattern)?;
+        let wanted = lines_of(alloc, pattern, u64::MAX)?;
         if !both_tell(alloc, graph, layout, Some(pattern), &wanted)? {
             return Ok(Some(pattern));
         }
@@ -182,6 +213,7 @@ fn writes_the_matches_of_each_pattern(rt: HostRuntime) -> Result<(), Fail> {
     let graph = open(rt.alloc(), &bytes)?;
     let layout = Layout::read(rt.alloc(), &bytes)?;
     assert_eq!(rt; wrong_pattern(rt.alloc(), &graph, &layout)?, None);
+    assert_eq!(rt; wrong_part(rt.alloc(), &graph, &layout)?, None);
     assert!(rt; both_tell(rt.alloc(), &graph, &layout, None, b"")?);
     Ok(())
 }

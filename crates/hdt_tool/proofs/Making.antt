@@ -8,7 +8,7 @@ use Rattle.hdt_build.specs.declared.options.Options.{Options}
 use Rattle.hdt_tool.specs.declared.fault.ToolFault.{ToolFault}
 use Rattle.hdt_tool.specs.declared.fault.ToolFault.TheVariants.{File, Input, NoTriples, NoSuchTerm, NoSuchNumber, NotATerm, BadOptions, Read, Write, OutOfMemory}
 use Rattle.hdt_tool.specs.declared.request.Action.{Action}
-use Rattle.hdt_tool.specs.declared.request.Action.TheVariants.{Head, Verify, VerifyTight, Strings, Nth, Number, Find, Build, Rewrite}
+use Rattle.hdt_tool.specs.declared.request.Action.TheVariants.{Head, Verify, VerifyTight, Strings, Nth, Number, Find, Search, Build, Rewrite}
 use Rattle.hdt_tool.specs.Answer.{IfBuild, IsOfFile, Makes, Performs, Prints, ReadsFile, ReadsWith}
 use Rattle.hdt_tool.specs.Faults.{build_fault_of, told_of_reason}
 
@@ -29,6 +29,7 @@ on_file (Strings role) other another = tt
 on_file (Nth role n) other another = tt
 on_file (Number role x) other another = tt
 on_file (Find given numbers) other another = tt
+on_file (Search given form most) other another = tt
 on_file (Build options) other another = other options refl
 on_file (Rewrite b) other another = another b refl
 
@@ -42,6 +43,7 @@ nothing_built (Strings role) is before after text made h = record { built = []; 
 nothing_built (Nth role n) is before after text made h = record { built = []; yields = (h, refl); made = sym (append-nil made) }
 nothing_built (Number role x) is before after text made h = record { built = []; yields = (h, refl); made = sym (append-nil made) }
 nothing_built (Find given numbers) is before after text made h = record { built = []; yields = (h, refl); made = sym (append-nil made) }
+nothing_built (Search given form most) is before after text made h = record { built = []; yields = (h, refl); made = sym (append-nil made) }
 nothing_built (Build options) is before after text made h = absurd is
 nothing_built (Rewrite b) is before after text made h = absurd is
 
@@ -53,6 +55,7 @@ nothing_made (Strings role) is before after text made more h = h.made ∙ ap (λ
 nothing_made (Nth role n) is before after text made more h = h.made ∙ ap (λ (b : List ℕ). made ++ b) h.yields.1 ∙ append-nil made
 nothing_made (Number role x) is before after text made more h = h.made ∙ ap (λ (b : List ℕ). made ++ b) h.yields.1 ∙ append-nil made
 nothing_made (Find given numbers) is before after text made more h = h.made ∙ ap (λ (b : List ℕ). made ++ b) h.yields.1 ∙ append-nil made
+nothing_made (Search given form most) is before after text made more h = h.made ∙ ap (λ (b : List ℕ). made ++ b) h.yields.1 ∙ append-nil made
 nothing_made (Build options) is before after text made more h = absurd is
 nothing_made (Rewrite b) is before after text made more h = absurd is
 
@@ -70,6 +73,7 @@ no_options (Strings role) Holds is = tt
 no_options (Nth role n) Holds is = tt
 no_options (Number role x) Holds is = tt
 no_options (Find given numbers) Holds is = tt
+no_options (Search given form most) Holds is = tt
 no_options (Build options) Holds is = absurd is
 no_options (Rewrite b) Holds is = tt
 

@@ -5,7 +5,7 @@ use Rattle.std.specs.declared.alloc.Global.{Global}
 use Rattle.std.specs.declared.string.String.{String}
 use Rattle.clap.specs.Words.{Row, Text}
 use Rattle.hdt_tool.specs.declared.request.Action.{Action}
-use Rattle.hdt_tool.specs.declared.request.Action.TheVariants.{Head, Verify, VerifyTight, Strings, Nth, Number, Find, Build, Rewrite}
+use Rattle.hdt_tool.specs.declared.request.Action.TheVariants.{Head, Verify, VerifyTight, Strings, Nth, Number, Find, Search, Build, Rewrite}
 use Rattle.hdt_tool.specs.declared.request.Request.{Request}
 use Rattle.hdt_tool.specs.Answer.{HasOut, MakesFile, ReadsFile}
 use Rattle.hdt_tool.specs.Asked.{Asks, AsksAction, AsksFor, AsksToMake, Wants}
@@ -18,6 +18,7 @@ reads name rows (Strings role) h = tt
 reads name rows (Nth role n) h = tt
 reads name rows (Number role x) h = tt
 reads name rows (Find given numbers) h = tt
+reads name rows (Search given form most) h = tt
 reads name rows (Build options) h = h
 reads name rows (Rewrite b) h = h
 
@@ -29,6 +30,7 @@ makes name rows (Strings role) h = h
 makes name rows (Nth role n) h = h
 makes name rows (Number role x) h = h
 makes name rows (Find given numbers) h = h
+makes name rows (Search given form most) h = h
 makes name rows (Build options) h = tt
 makes name rows (Rewrite b) h = tt
 

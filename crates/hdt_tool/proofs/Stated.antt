@@ -17,9 +17,10 @@ use Rattle.hdt_tool.specs.declared.fault.Word.TheVariants.{Subject, Predicate, O
 use Rattle.hdt_tool.specs.declared.fault.UsageFault.TheVariants.{Usage, Help, Word, OutOfMemory}
 use Rattle.hdt_build.specs.declared.options.Options.{Options}
 use Rattle.hdt_tool.specs.declared.request.Action.{Action}
+use Rattle.hdt_tool.specs.declared.request.Form.{Form}
 use Rattle.hdt_tool.specs.declared.request.Request.{Request}
 use Rattle.hdt_tool.specs.declared.request.Action.TheVariants as action
-use Rattle.hdt_tool.specs.Asked.{AsksAction, AsksFor, AsksOfFile, AsksOfFiles, AsksToMake, ComesWithout, ComesWithoutOr, IsFaultOf, IsMisspelt, IsMisspeltPart, IsStringOf, IsUsed, IsUnused, Misspells, StatesNumber, StatesOptions, StatesPart, StatesString, StatesWord, StatesWords, TellsTerm}
+use Rattle.hdt_tool.specs.Asked.{AsksAction, AsksFor, AsksOfFile, AsksOfFiles, AsksToMake, ComesWithout, ComesWithoutOr, IsFaultOf, IsMisspelt, IsMisspeltPart, IsFinding, IsStringOf, IsUsed, IsUnused, Misspells, StatesForm, StatesMost, StatesNumber, StatesOptions, StatesPart, StatesString, StatesWord, StatesWords, TellsTerm}
 use Rattle.hdt_tool.specs.Lines.{word_name}
 use Rattle.hdt_tool.specs.TriplesText.{Given}
 
@@ -110,8 +111,9 @@ strings_need name rows is (action.VerifyTight, h) = differ name _ _ is h.0 refl
 strings_need name rows is (action.Strings role, h) = (role, h.1)
 strings_need name rows is (action.Nth role n, h) = differ name _ _ is h.0 refl
 strings_need name rows is (action.Number role x, h) = differ name _ _ is h.0 refl
-strings_need name rows is (action.Find given numbers, inl h) = differ name _ _ is h.0 refl
+strings_need name rows is (action.Find given numbers, inl h) = differ name _ _ is h.named refl
 strings_need name rows is (action.Find given numbers, inr h) = differ name _ _ is h.0 refl
+strings_need name rows is (action.Search given form most, h) = differ name _ _ is h.named refl
 strings_need name rows is (action.Build options, h) = absurd h
 strings_need name rows is (action.Rewrite b, h) = absurd h
 
@@ -124,8 +126,9 @@ string_needs name rows is (action.VerifyTight, h) = differ name _ _ is h.0 refl
 string_needs name rows is (action.Strings role, h) = differ name _ _ is h.0 refl
 string_needs name rows is (action.Nth role n, h) = ((role, h.1), (n, h.2))
 string_needs name rows is (action.Number role x, h) = differ name _ _ is h.0 refl
-string_needs name rows is (action.Find given numbers, inl h) = differ name _ _ is h.0 refl
+string_needs name rows is (action.Find given numbers, inl h) = differ name _ _ is h.named refl
 string_needs name rows is (action.Find given numbers, inr h) = differ name _ _ is h.0 refl
+string_needs name rows is (action.Search given form most, h) = differ name _ _ is h.named refl
 string_needs name rows is (action.Build options, h) = absurd h
 string_needs name rows is (action.Rewrite b, h) = absurd h
 
@@ -143,8 +146,9 @@ number_needs name rows is (action.VerifyTight, h) = differ name _ _ is h.0 refl
 number_needs name rows is (action.Strings role, h) = differ name _ _ is h.0 refl
 number_needs name rows is (action.Nth role n, h) = differ name _ _ is h.0 refl
 number_needs name rows is (action.Number role x, h) = ((role, h.1), states_some _ _ x.items h.2)
-number_needs name rows is (action.Find given numbers, inl h) = differ name _ _ is h.0 refl
+number_needs name rows is (action.Find given numbers, inl h) = differ name _ _ is h.named refl
 number_needs name rows is (action.Find given numbers, inr h) = differ name _ _ is h.0 refl
+number_needs name rows is (action.Search given form most, h) = differ name _ _ is h.named refl
 number_needs name rows is (action.Build options, h) = absurd h
 number_needs name rows is (action.Rewrite b, h) = absurd h
 
@@ -156,10 +160,27 @@ find_needs rows (action.VerifyTight, h) = differ _ _ _ refl h.0 refl
 find_needs rows (action.Strings role, h) = differ _ _ _ refl h.0 refl
 find_needs rows (action.Nth role n, h) = differ _ _ _ refl h.0 refl
 find_needs rows (action.Number role x, h) = differ _ _ _ refl h.0 refl
-find_needs rows (action.Find given numbers, inl h) = (given, h.1)
+find_needs rows (action.Find given numbers, inl h) = (given, h.words)
 find_needs rows (action.Find given numbers, inr h) = differ _ _ _ refl h.0 refl
+find_needs rows (action.Search given form most, h) = (given, h.words)
 find_needs rows (action.Build options, h) = absurd h
 find_needs rows (action.Rewrite b, h) = absurd h
+
+-- what `find` asks for, by its words and its options
+pub finding : (rows : List Row) (given : Given) (form : Form) (most : Option ℕ) (a : Action) → StatesWords rows given → StatesForm rows form → StatesMost rows most
+    → IsFinding given form most a → AsksAction (codes "find") rows a
+finding rows given form most action.Head words form_is most_is h = absurd h
+finding rows given form most action.Verify words form_is most_is h = absurd h
+finding rows given form most action.VerifyTight words form_is most_is h = absurd h
+finding rows given form most (action.Strings role) words form_is most_is h = absurd h
+finding rows given form most (action.Nth role n) words form_is most_is h = absurd h
+finding rows given form most (action.Number role x) words form_is most_is h = absurd h
+finding rows given form most (action.Find strings numbers) words form_is most_is h =
+    inl (rw (h.0, h.1, sym h.2) record { named = refl; words = words; form_is = form_is; most_is = most_is })
+finding rows given form most (action.Search strings other n) words form_is most_is h =
+    rw (h.0, h.1, h.2) record { named = refl; words = words; form_is = form_is; most_is = most_is }
+finding rows given form most (action.Build options) words form_is most_is h = absurd h
+finding rows given form most (action.Rewrite b) words form_is most_is h = absurd h
 
 -- a word is there where it states a string or none
 word_some : (raw entry : Option Text) (x : Option (Vec ℕ Global)) → StatesPart raw entry x → IsSome entry
@@ -198,6 +219,7 @@ options_needed name rows is (action.Strings role) h = absurd h
 options_needed name rows is (action.Nth role n) h = absurd h
 options_needed name rows is (action.Number role x) h = absurd h
 options_needed name rows is (action.Find given numbers) h = absurd h
+options_needed name rows is (action.Search given form most) h = absurd h
 options_needed name rows is (action.Build options) h = (options, h.1)
 options_needed name rows is (action.Rewrite b) h = differ name _ _ is h.0 refl
 
@@ -210,6 +232,7 @@ only_these name rows (action.Strings role) build rewrite h = h
 only_these name rows (action.Nth role n) build rewrite h = h
 only_these name rows (action.Number role x) build rewrite h = h
 only_these name rows (action.Find given numbers) build rewrite h = h
+only_these name rows (action.Search given form most) build rewrite h = h
 only_these name rows (action.Build options) build rewrite h = build h.0
 only_these name rows (action.Rewrite b) build rewrite h = rewrite h.0
 
@@ -221,8 +244,9 @@ build_is_none rows action.VerifyTight h = differ _ _ _ refl h.0 refl
 build_is_none rows (action.Strings role) h = differ _ _ _ refl h.0 refl
 build_is_none rows (action.Nth role n) h = differ _ _ _ refl h.0 refl
 build_is_none rows (action.Number role x) h = differ _ _ _ refl h.0 refl
-build_is_none rows (action.Find given numbers) (inl h) = differ _ _ _ refl h.0 refl
+build_is_none rows (action.Find given numbers) (inl h) = differ _ _ _ refl h.named refl
 build_is_none rows (action.Find given numbers) (inr h) = differ _ _ _ refl h.0 refl
+build_is_none rows (action.Search given form most) h = differ _ _ _ refl h.named refl
 build_is_none rows (action.Build options) h = h
 build_is_none rows (action.Rewrite b) h = h
 
@@ -233,8 +257,9 @@ rewrite_is_none rows action.VerifyTight h = differ _ _ _ refl h.0 refl
 rewrite_is_none rows (action.Strings role) h = differ _ _ _ refl h.0 refl
 rewrite_is_none rows (action.Nth role n) h = differ _ _ _ refl h.0 refl
 rewrite_is_none rows (action.Number role x) h = differ _ _ _ refl h.0 refl
-rewrite_is_none rows (action.Find given numbers) (inl h) = differ _ _ _ refl h.0 refl
+rewrite_is_none rows (action.Find given numbers) (inl h) = differ _ _ _ refl h.named refl
 rewrite_is_none rows (action.Find given numbers) (inr h) = differ _ _ _ refl h.0 refl
+rewrite_is_none rows (action.Search given form most) h = differ _ _ _ refl h.named refl
 rewrite_is_none rows (action.Build options) h = h
 rewrite_is_none rows (action.Rewrite b) h = h
 

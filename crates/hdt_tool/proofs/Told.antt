@@ -5,13 +5,14 @@ use Rattle.std.specs.declared.vec.Vec.{Vec}
 use Rattle.hdt_tool.specs.declared.fault.ToolFault.{ToolFault}
 use Rattle.hdt_tool.specs.declared.fault.ToolFault.TheVariants.{File, Input, NoTriples, NoSuchTerm, NoSuchNumber, NotATerm, BadOptions, Read, Write, OutOfMemory}
 use Rattle.hdt_tool.specs.declared.request.Action.{Action}
-use Rattle.hdt_tool.specs.declared.request.Action.TheVariants.{Head, Verify, VerifyTight, Strings, Nth, Number, Find, Build, Rewrite}
+use Rattle.hdt_tool.specs.declared.request.Action.TheVariants.{Head, Verify, VerifyTight, Strings, Nth, Number, Find, Search, Build, Rewrite}
+use Rattle.hdt_tool.specs.declared.request.Form.{Form}
 use Rattle.hdt_wire.specs.declared.role.Role.{Role}
 use Rattle.hdt_dict.specs.Numbered.{numbered}
 use Rattle.hdt_file.specs.File.{GraphParts, IsLayout}
 use Rattle.hdt_file.specs.Views.{strings_in}
-use Rattle.hdt_tool.specs.Answer.{HasBadBlocks, IsOfFile, IsTold, ReadsAll, ReadsFile, Tells, TellsBadOptions}
-use Rattle.hdt_tool.specs.TriplesText.{Given, TellsFound}
+use Rattle.hdt_tool.specs.Answer.{HasBadBlocks, HasNoText, IsOfFile, IsTold, ReadsAll, ReadsFile, Tells, TellsBadOptions}
+use Rattle.hdt_tool.specs.TriplesText.{Given, TellsFound, form_of}
 
 -- a block size that is not written is told of the run
 bad_blocks : (action : Action) (before after : Option (List ℕ)) (bytes : List ℕ) → ReadsAll before after bytes → HasBadBlocks action bytes → TellsBadOptions action before after
@@ -22,6 +23,7 @@ bad_blocks (Strings role) before after bytes read h = absurd h
 bad_blocks (Nth role n) before after bytes read h = absurd h
 bad_blocks (Number role x) before after bytes read h = absurd h
 bad_blocks (Find given numbers) before after bytes read h = absurd h
+bad_blocks (Search given form most) before after bytes read h = absurd h
 bad_blocks (Build options) before after bytes read h = absurd h
 bad_blocks (Rewrite b) before after bytes read h = record { bytes = bytes; read = read; holds = h }
 
@@ -34,6 +36,7 @@ no_blocks (Strings role) bytes is h = h
 no_blocks (Nth role n) bytes is h = h
 no_blocks (Number role x) bytes is h = h
 no_blocks (Find given numbers) bytes is h = h
+no_blocks (Search given form most) bytes is h = h
 no_blocks (Build options) bytes is h = h
 no_blocks (Rewrite b) bytes is h = is
 
@@ -87,18 +90,32 @@ no_term role x bytes graph e stands (inl is) = subst (λ (t : ToolFault). IsTold
 no_term role x bytes graph e stands (inr h) = subst (λ (t : ToolFault). IsTold (Number role x) bytes t) (sym h.0) (record { graph = graph; stands = stands; holds = h.1 })
 
 -- triples that are not printed
-pub no_text : (given : Given) (numbers : Bool) (bytes : List ℕ) (graph : GraphParts) (e : ToolFault) → IsLayout bytes graph → TellsFound graph given numbers e
+pub no_text : (given : Given) (form : Form) (most : Option ℕ) (bytes : List ℕ) (graph : GraphParts) (e : ToolFault) → IsLayout bytes graph
+    → TellsFound graph given form most e → IsTold (Search given form most) bytes e
+no_text given form most bytes graph (File fault) stands h = absurd h
+no_text given form most bytes graph (Input fault) stands h = absurd h
+no_text given form most bytes graph NoTriples stands h = absurd h
+no_text given form most bytes graph BadOptions stands h = absurd h
+no_text given form most bytes graph NoSuchNumber stands h = absurd h
+no_text given form most bytes graph NoSuchTerm stands h = absurd h
+no_text given form most bytes graph (NotATerm role n) stands h = record { graph = graph; stands = stands; holds = h }
+no_text given form most bytes graph Read stands h = absurd h
+no_text given form most bytes graph (Write n) stands h = absurd h
+no_text given form most bytes graph OutOfMemory stands h = tt
+
+-- nor by `find` with no number that it goes up to
+pub no_find : (given : Given) (numbers : Bool) (form : Form) (bytes : List ℕ) (e : ToolFault) → form ≡ form_of numbers → IsTold (Search given form None) bytes e
     → IsTold (Find given numbers) bytes e
-no_text given numbers bytes graph (File fault) stands h = absurd h
-no_text given numbers bytes graph (Input fault) stands h = absurd h
-no_text given numbers bytes graph NoTriples stands h = absurd h
-no_text given numbers bytes graph BadOptions stands h = absurd h
-no_text given numbers bytes graph NoSuchNumber stands h = absurd h
-no_text given numbers bytes graph NoSuchTerm stands h = absurd h
-no_text given numbers bytes graph (NotATerm role n) stands h = record { graph = graph; stands = stands; holds = h }
-no_text given numbers bytes graph Read stands h = absurd h
-no_text given numbers bytes graph (Write n) stands h = absurd h
-no_text given numbers bytes graph OutOfMemory stands h = tt
+no_find given numbers form bytes (File fault) is h = h
+no_find given numbers form bytes (Input fault) is h = h
+no_find given numbers form bytes NoTriples is h = h
+no_find given numbers form bytes BadOptions is h = h
+no_find given numbers form bytes NoSuchNumber is h = h
+no_find given numbers form bytes NoSuchTerm is h = h
+no_find given numbers form bytes (NotATerm role n) is h = subst (λ (f : Form). HasNoText (Search given f None) bytes role n) is h
+no_find given numbers form bytes Read is h = h
+no_find given numbers form bytes (Write n) is h = h
+no_find given numbers form bytes OutOfMemory is h = tt
 
 -- it is one that a command that reads a file alone tells
 pub of_file : (action : Action) (bytes : List ℕ) (e : ToolFault) → ReadsFile action → IsTold action bytes e → IsOfFile e

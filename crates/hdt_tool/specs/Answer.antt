@@ -21,13 +21,13 @@ use Rattle.hdt_tool.specs.declared.fault.ToolFault.{ToolFault}
 use Rattle.hdt_tool.specs.declared.fault.ToolFault.TheVariants.{File, Input, NoTriples, NoSuchTerm, NoSuchNumber, NotATerm, BadOptions, Read, Write, OutOfMemory}
 use Rattle.hdt_tool.specs.declared.request.Action.{Action}
 use Rattle.hdt_tool.specs.declared.request.Request.{Request}
-use Rattle.hdt_tool.specs.declared.request.Action.TheVariants.{Head, Verify, VerifyTight, Strings, Nth, Number, Find, Build, Rewrite}
+use Rattle.hdt_tool.specs.declared.request.Action.TheVariants.{Head, Verify, VerifyTight, Strings, Nth, Number, Find, Search, Build, Rewrite}
 use Rattle.hdt_tool.specs.BuiltText.{built_line, rewritten_line}
 use Rattle.hdt_tool.specs.HeadText.{head_text}
 use Rattle.hdt_tool.specs.Lines.{fault_status}
 use Rattle.hdt_tool.specs.Verdict.{verdict}
 use Rattle.hdt_tool.specs.StringsText.{string_lines, PrintsString, PrintsNumber}
-use Rattle.hdt_tool.specs.TriplesText.{LacksTermIn, PrintsFound}
+use Rattle.hdt_tool.specs.TriplesText.{LacksTermIn, PrintsFound, form_of}
 
 -- a head stands at the front of the bytes, and it prints as the text
 pub record PrintsHead (bytes text : List ℕ) : Type 0 where
@@ -67,7 +67,8 @@ Prints VerifyTight bytes text = PrintsTightVerdict bytes text
 Prints (Strings role) bytes text = Consults bytes role (λ strings. text ≡ string_lines 1 strings)
 Prints (Nth role n) bytes text = Consults bytes role (λ strings. PrintsString strings n text)
 Prints (Number role x) bytes text = Consults bytes role (λ strings. PrintsNumber strings x.items text)
-Prints (Find given numbers) bytes text = Opens bytes (λ graph. PrintsFound graph given numbers text)
+Prints (Find given numbers) bytes text = Opens bytes (λ graph. PrintsFound graph given (form_of numbers) None text)
+Prints (Search given form most) bytes text = Opens bytes (λ graph. PrintsFound graph given form most text)
 Prints (Build options) bytes text = ⊥
 Prints (Rewrite b) bytes text = ⊥
 
@@ -107,7 +108,8 @@ LacksTerm action bytes = ⊥
 
 -- N-Triples are asked for, and the first string of them that is no term has this role and number
 abbrev pub HasNoText : Action → List ℕ → Role → ℕ → Type 0
-HasNoText (Find given numbers) bytes role n = Opens bytes (λ graph. LacksTermIn graph given numbers role n)
+HasNoText (Find given numbers) bytes role n = Opens bytes (λ graph. LacksTermIn graph given (form_of numbers) None role n)
+HasNoText (Search given form most) bytes role n = Opens bytes (λ graph. LacksTermIn graph given form most role n)
 HasNoText action bytes role n = ⊥
 
 -- the bytes are a layout, which is not to be written again in such blocks

@@ -17,10 +17,12 @@ use Rattle.hdt_tool.specs.declared.fault.Word.{Word as TermWord}
 use Rattle.hdt_tool.specs.declared.fault.Word.TheVariants.{Term, Subject, Predicate, Object}
 use Rattle.hdt_tool.specs.declared.request.Action.{Action}
 use Rattle.hdt_tool.specs.declared.request.Action.TheVariants as action
+use Rattle.hdt_tool.specs.declared.request.Form.{Form}
+use Rattle.hdt_tool.specs.declared.request.Form.TheVariants.{Lines, Numbers, Count}
 use Rattle.hdt_tool.specs.declared.request.Request.{Request}
 use Rattle.hdt_tool.specs.Lines.{word_name}
 use Rattle.hdt_tool.specs.Table.{Names, AreRoles, role_name, table}
-use Rattle.hdt_tool.specs.TriplesText.{Given}
+use Rattle.hdt_tool.specs.TriplesText.{Given, form_of}
 
 -- ---- entries
 
@@ -67,9 +69,29 @@ pub record StatesWords (rows : List Row) (given : Given) : Type 0 where
 
 -- ---- requests
 
--- `find` asks for what S, P and O state, and for numbers by a flag
-abbrev pub AsksFind : Text → List Row → Given → Bool → Type 0
-AsksFind name rows given numbers = (name ≡ codes "find") × StatesWords rows given × StatesFlag (one_of (codes "numbers") rows) numbers
+-- the flags of `find` state what is printed: with `--count` how many there are, else with `--numbers` numbers, else N-Triples
+pub record StatesForm (rows : List Row) (form : Form) : Type 0 where
+  pub count : IsUsed (one_of (codes "count") rows) → form ≡ Count
+  pub numbers : IsUnused (one_of (codes "count") rows) → IsUsed (one_of (codes "numbers") rows) → form ≡ Numbers
+  pub lines : IsUnused (one_of (codes "count") rows) → IsUnused (one_of (codes "numbers") rows) → form ≡ Lines
+
+-- `--most` states the number, or none
+abbrev pub StatesMost : List Row → Option ℕ → Type 0
+StatesMost rows None = (n : ℕ) → StatesNumber 64 (one_of (codes "most") rows) n → ⊥
+StatesMost rows (Some n) = StatesNumber 64 (one_of (codes "most") rows) n
+
+-- `find` asks for what S, P and O state, in the form and up to the number that its options state
+pub record AsksFind (name : Text) (rows : List Row) (given : Given) (form : Form) (most : Option ℕ) : Type 0 where
+  pub named : name ≡ codes "find"
+  pub words : StatesWords rows given
+  pub form_is : StatesForm rows form
+  pub most_is : StatesMost rows most
+
+-- the command is `find` with these strings, this form and this number that it goes up to
+abbrev pub IsFinding : Given → Form → Option ℕ → Action → Type 0
+IsFinding given form most (action.Find strings numbers) = (strings ≡ given) × (form_of numbers ≡ form) × (most ≡ None)
+IsFinding given form most (action.Search strings other n) = (strings ≡ given) × (other ≡ form) × (n ≡ most)
+IsFinding given form most action = ⊥
 
 -- `dump` asks for all triples in N-Triples
 abbrev pub AsksDump : Text → Given → Bool → Type 0
@@ -89,7 +111,8 @@ AsksAction name rows (action.Nth role n) = (name ≡ codes "string") × (first_o
     × StatesNumber 64 (one_of (codes "N") rows) n
 AsksAction name rows (action.Number role x) = (name ≡ codes "number") × (first_of (codes "ROLE") rows ≡ Some (role_name role))
     × StatesString (one_of (codes "raw") rows) (first_of (codes "TERM") rows) x.items
-AsksAction name rows (action.Find given numbers) = AsksFind name rows given numbers ⊎ AsksDump name given numbers
+AsksAction name rows (action.Find given numbers) = AsksFind name rows given (form_of numbers) None ⊎ AsksDump name given numbers
+AsksAction name rows (action.Search given form most) = AsksFind name rows given form most
 AsksAction name rows (action.Build options) = ⊥
 AsksAction name rows (action.Rewrite b) = ⊥
 

@@ -62,11 +62,20 @@ abbrev pub number_command : Names → App
 number_command names =
     with_rule (with_rule (with_rule (file_command (codes "number")) (role_word names)) (word_named (codes "TERM"))) (flag_named (codes "raw"))
 
--- `find FILE S P O`, with `--raw` and `--numbers`
+-- `--most N`: a number below 2^64, or nothing
+abbrev pub most_option : Rule
+most_option = record (new_rule (codes "most")) { long = Some (codes "most"); value_names = 1; parser = Some (parser.Unsigned 0 18446744073709551615) }
+
+-- `find FILE S P O`
+abbrev pub find_words : App
+find_words =
+    with_rule (with_rule (with_rule (file_command (codes "find")) (word_named (codes "S"))) (word_named (codes "P"))) (word_named (codes "O"))
+
+-- the same with `--raw`, `--numbers`, `--count` and `--most`
 abbrev pub find_command : App
 find_command =
-    with_rule (with_rule (with_rule (with_rule (with_rule (file_command (codes "find")) (word_named (codes "S"))) (word_named (codes "P")))
-    (word_named (codes "O"))) (flag_named (codes "raw"))) (flag_named (codes "numbers"))
+    with_rule (with_rule (with_rule (with_rule find_words (flag_named (codes "raw"))) (flag_named (codes "numbers")))
+    (flag_named (codes "count"))) most_option
 
 -- `dump FILE`
 abbrev pub dump_command : App

@@ -1,5 +1,5 @@
 -- What `find` and `dump` print: the triples that have the strings that are given, or any where none is.
-use Rattle.std.specs.Prelude.{◌≡◌, ◌↔◌, ℕ, Bool, true, false, List, [], ◌∷◌, ◌++◌, Option, Some, map, option_map}
+use Rattle.std.specs.Prelude.{◌≡◌, ◌↔◌, ℕ, Bool, true, false, List, [], ◌∷◌, ◌++◌, Option, Some, map, length, option_map}
 use Rattle.std.specs.Fmt.{decimal}
 use Rattle.std.specs.List.{flat_map}
 use Rattle.std.specs.declared.alloc.Global.{Global}
@@ -12,7 +12,9 @@ use Rattle.hdt_file.specs.Denoted.{denoted}
 use Rattle.hdt_file.specs.File.{GraphParts}
 use Rattle.hdt_file.specs.Search.{IsPattern}
 use Rattle.hdt_file.specs.Text.{IsFirstIn, IsTextOf}
-use Rattle.hdt_file.specs.TextWriting.{chosen}
+use Rattle.hdt_file.specs.TextWriting.{chosen, limited}
+use Rattle.hdt_tool.specs.declared.request.Form.{Form}
+use Rattle.hdt_tool.specs.declared.request.Form.TheVariants.{Lines, Numbers, Count}
 use Rattle.hdt_tool.specs.declared.fault.ToolFault.{ToolFault}
 use Rattle.hdt_tool.specs.declared.fault.ToolFault.TheVariants.{File, Input, NoTriples, NoSuchTerm, NoSuchNumber, NotATerm, BadOptions, Read, Write, OutOfMemory}
 
@@ -46,28 +48,38 @@ numbers_line t = decimal t.0 ++ 32 ∷ (decimal t.1 ++ 32 ∷ (decimal t.2 ++ 10
 abbrev pub numbers_lines : List Triple → List ℕ
 numbers_lines found = flat_map numbers_line found
 
--- triples print as the text: in N-Triples, or as the lines of their numbers
-abbrev pub PrintsTriples : Bool → GraphParts → List Triple → List ℕ → Type 0
-PrintsTriples false g found text = IsTextOf (denoted g found) text
-PrintsTriples true g found text = text ≡ numbers_lines found
+-- the line with how many there are
+abbrev pub count_line : List Triple → List ℕ
+count_line found = decimal (length found) ++ 10 ∷ []
 
--- the triples that the strings find print as the text
-abbrev pub PrintsFound : GraphParts → Given → Bool → List ℕ → Type 0
-PrintsFound g given numbers text = FindsWith g given (λ found. PrintsTriples numbers g found text)
+-- numbers or N-Triples, by a flag
+abbrev pub form_of : Bool → Form
+form_of false = Lines
+form_of true = Numbers
 
--- in N-Triples: the first string of the triples that the strings find that is no term has this role and number
-abbrev pub LacksTermIn : GraphParts → Given → Bool → Role → ℕ → Type 0
-LacksTermIn g given numbers role n = (numbers ≡ false) × FindsWith g given (λ found. IsFirstIn g found role n)
+-- triples print as the text: in N-Triples, as the lines of their numbers, or as how many they are
+abbrev pub PrintsTriples : Form → GraphParts → List Triple → List ℕ → Type 0
+PrintsTriples Lines g found text = IsTextOf (denoted g found) text
+PrintsTriples Numbers g found text = text ≡ numbers_lines found
+PrintsTriples Count g found text = text ≡ count_line found
 
--- why the triples that the strings find do not print: a string that is no term, or want of memory
-abbrev pub TellsFound : GraphParts → Given → Bool → ToolFault → Type 0
-TellsFound g given numbers (File fault) = ⊥
-TellsFound g given numbers (Input fault) = ⊥
-TellsFound g given numbers NoTriples = ⊥
-TellsFound g given numbers BadOptions = ⊥
-TellsFound g given numbers NoSuchTerm = ⊥
-TellsFound g given numbers NoSuchNumber = ⊥
-TellsFound g given numbers (NotATerm role n) = LacksTermIn g given numbers role n
-TellsFound g given numbers Read = ⊥
-TellsFound g given numbers (Write n) = ⊥
-TellsFound g given numbers OutOfMemory = Unit {0}
+-- the triples that the strings find, or at most so many of the first, print as the text
+abbrev pub PrintsFound : GraphParts → Given → Form → Option ℕ → List ℕ → Type 0
+PrintsFound g given form most text = FindsWith g given (λ found. PrintsTriples form g (limited most found) text)
+
+-- in N-Triples: the first string of these triples that is no term has this role and number
+abbrev pub LacksTermIn : GraphParts → Given → Form → Option ℕ → Role → ℕ → Type 0
+LacksTermIn g given form most role n = (form ≡ Lines) × FindsWith g given (λ found. IsFirstIn g (limited most found) role n)
+
+-- why these triples do not print: a string that is no term, or want of memory
+abbrev pub TellsFound : GraphParts → Given → Form → Option ℕ → ToolFault → Type 0
+TellsFound g given form most (File fault) = ⊥
+TellsFound g given form most (Input fault) = ⊥
+TellsFound g given form most NoTriples = ⊥
+TellsFound g given form most BadOptions = ⊥
+TellsFound g given form most NoSuchTerm = ⊥
+TellsFound g given form most NoSuchNumber = ⊥
+TellsFound g given form most (NotATerm role n) = LacksTermIn g given form most role n
+TellsFound g given form most Read = ⊥
+TellsFound g given form most (Write n) = ⊥
+TellsFound g given form most OutOfMemory = Unit {0}

@@ -4,14 +4,14 @@ ghost use Rattle.std.specs.Io.KnownBytes.{Appends};
 ghost use Rattle.hdt_wire.specs.Counted.{inner, failures};
 ghost use Rattle.hdt_tool.specs.Answer.{Consults, IsCut, IsTold, Opens, Prints, PrintsHead, PrintsTightVerdict, PrintsVerdict, ReadsFile};
 ghost use Rattle.hdt_tool.specs.StringsText.{string_lines, PrintsString, PrintsNumber};
-ghost use Rattle.hdt_tool.specs.TriplesText.{PrintsFound};
+ghost use Rattle.hdt_tool.specs.TriplesText.{PrintsFound, form_of};
 
 use crate::fault::ToolFault;
 use crate::printed_head::head_text;
 use crate::printed_strings::{number_text, print_strings, string_text};
 use crate::printed_triples::triples_text;
 use crate::printed_verdict::verdict;
-use crate::request::Action;
+use crate::request::{Action, Form};
 use hdt_dict::Role;
 use hdt_file::{Layout, read_head, verify, verify_tight};
 use hdt_wire::Counted;
@@ -62,13 +62,14 @@ fn triples_of(
     alloc: Global,
     bytes: &[u8],
     given: &[Option<Vec<u8>>; 3],
-    numbers: bool,
+    form: Form,
+    most: Option<u64>,
 ) -> Result<Vec<u8>, ToolFault>
-    ensures ok { IfOk result (λ text. Opens bytes.now (λ graph. PrintsFound graph given.now numbers text.items)) }
-    ensures err { IfErr result (λ e. IsTold (Action.Find given.now numbers) bytes.now e) }
+    ensures ok { IfOk result (λ text. Opens bytes.now (λ graph. PrintsFound graph given.now form most text.items)) }
+    ensures err { IfErr result (λ e. IsTold (Action.Search given.now form most) bytes.now e) }
 {
     let layout = Layout::read(alloc, bytes)?;
-    triples_text(alloc, &layout, given, numbers)
+    triples_text(alloc, &layout, given, form, most)
 }
 
 /// The text of `head`.
@@ -98,6 +99,13 @@ fn tight_verdict_of(alloc: Global, bytes: &[u8]) -> Result<Vec<u8>, ToolFault>
     Ok(verdict(alloc, lens)?)
 }
 
+/// What `find` prints where neither a count is asked for nor a part.
+fn form_of(numbers: bool) -> Form
+    ensures { result ≡ form_of numbers }
+{
+    if numbers { Form::Numbers } else { Form::Lines }
+}
+
 /// What a command on a file prints of it, whole: any but `strings`.
 pub fn answer(alloc: Global, action: &Action, bytes: &[u8]) -> Result<Vec<u8>, ToolFault>
     requires reads { ReadsFile action.now }
@@ -111,7 +119,10 @@ pub fn answer(alloc: Global, action: &Action, bytes: &[u8]) -> Result<Vec<u8>, T
         Action::VerifyTight => tight_verdict_of(alloc, bytes),
         Action::Nth(role, number) => string_of(alloc, bytes, *role, *number),
         Action::Number(role, string) => number_of(alloc, bytes, *role, string),
-        Action::Find { given, numbers } => triples_of(alloc, bytes, given, *numbers),
+        Action::Find { given, numbers } => {
+            triples_of(alloc, bytes, given, form_of(*numbers), None)
+        }
+        Action::Search { given, form, most } => triples_of(alloc, bytes, given, *form, *most),
         Action::Strings(_) | Action::Build(_) | Action::Rewrite(_) => unreachable!(),
     }
 }

@@ -2,7 +2,7 @@
 ghost use Rattle.std.specs.Prelude.{◌≡◌, IfOk, false};
 ghost use Rattle.clap.specs.Words.{app_of, rule_of, with_rule, with_subcommand};
 ghost use Rattle.clap.specs.declared.builder.command.Command.TheViews.{out-Command as fields_of};
-ghost use Rattle.hdt_tool.specs.Table.{word_named, flag_named, option_named, role_word, base_option, block_size_option, build_command, rewrite_command, number_word, file_command, head_command, verify_command, strings_command, string_command, number_command, find_command, dump_command, empty_table, first_commands, look_up_commands, text_commands, table};
+ghost use Rattle.hdt_tool.specs.Table.{word_named, flag_named, option_named, role_word, base_option, block_size_option, build_command, rewrite_command, number_word, file_command, head_command, verify_command, strings_command, string_command, number_command, find_command, find_words, most_option, dump_command, empty_table, first_commands, look_up_commands, text_commands, table};
 
 use clap::{Arg, ArgAction, Command, value_parser};
 use std::alloc::{AllocError, Global};
@@ -67,7 +67,9 @@ S, P and O are the subject, the predicate and the object: each an N-Triples term
 the order of the file. A term that the file does not have in that place finds nothing. With
 --raw, S, P and O are the dictionary strings themselves: an IRI without its brackets, for one.
 With --numbers a line has the numbers of subject, predicate and object, from 1; this also
-shows triples with strings that are no terms, of which N-Triples has no line.";
+shows triples with strings that are no terms, of which N-Triples has no line. With --count one
+line tells how many triples there are, and --numbers makes no difference. With --most N the first
+N triples alone are printed or counted.";
 
 const DUMP_ABOUT: &str = "Print all triples";
 
@@ -137,6 +139,10 @@ const OBJECT_HELP: &str = "The object, in N-Triples, or ? for any";
 const RAW_PARTS_HELP: &str = "Take S, P and O as dictionary strings";
 
 const NUMBERS_HELP: &str = "Print the numbers of each triple";
+
+const COUNT_HELP: &str = "Print how many there are, and no triples";
+
+const MOST_HELP: &str = "Take the first N triples alone";
 
 /// The command with one more word that has to be given.
 fn with_word<'a>(
@@ -301,17 +307,40 @@ fn number_of<'a>(alloc: Global, roles: &'a [&'a str]) -> Result<Command<'a>, All
     with_flag(alloc, command, "raw", RAW_HELP)
 }
 
-/// `find FILE S P O`, with `--raw` and `--numbers`.
-fn find_of<'a>(alloc: Global) -> Result<Command<'a>, AllocError>
-    ensures shape { IfOk result (λ c. app_of c ≡ find_command) }
+/// The command with `--most`.
+fn with_most<'a>(alloc: Global, command: Command<'a>) -> Result<Command<'a>, AllocError>
+    requires { (fields_of command).has_globals ≡ false }
+    ensures shape { IfOk result (λ c. app_of c ≡ with_rule (app_of command.entry) most_option) }
+    ensures local { IfOk result (λ c. (fields_of c).has_globals ≡ false) }
+{
+    let option = Arg::new(alloc, "most")
+        .long("most")
+        .value_name("N")
+        .help(MOST_HELP);
+    command.arg(option.value_parser(value_parser!(u64)))
+}
+
+/// `find FILE S P O`.
+fn find_words<'a>(alloc: Global) -> Result<Command<'a>, AllocError>
+    ensures shape { IfOk result (λ c. app_of c ≡ find_words) }
     ensures local { IfOk result (λ c. (fields_of c).has_globals ≡ false) }
 {
     let command = file_command(alloc, "find", FIND_ABOUT, FIND_LONG_ABOUT)?;
     let command = with_word(alloc, command, "S", SUBJECT_HELP)?;
     let command = with_word(alloc, command, "P", PREDICATE_HELP)?;
-    let command = with_word(alloc, command, "O", OBJECT_HELP)?;
+    with_word(alloc, command, "O", OBJECT_HELP)
+}
+
+/// The same with `--raw`, `--numbers`, `--count` and `--most`.
+fn find_of<'a>(alloc: Global) -> Result<Command<'a>, AllocError>
+    ensures shape { IfOk result (λ c. app_of c ≡ find_command) }
+    ensures local { IfOk result (λ c. (fields_of c).has_globals ≡ false) }
+{
+    let command = find_words(alloc)?;
     let command = with_flag(alloc, command, "raw", RAW_PARTS_HELP)?;
-    with_flag(alloc, command, "numbers", NUMBERS_HELP)
+    let command = with_flag(alloc, command, "numbers", NUMBERS_HELP)?;
+    let command = with_flag(alloc, command, "count", COUNT_HELP)?;
+    with_most(alloc, command)
 }
 
 /// `dump FILE`.

@@ -3,12 +3,12 @@ ghost use Rattle.std.specs.Prelude.{◌≡◌, ◌≢◌, ℕ, List, [], IfOk, I
 ghost use Rattle.clap.specs.Words.{first_of, one_of, found_of, rows_of};
 ghost use Rattle.hdt_build.specs.declared.options.Options.{Options};
 ghost use Rattle.hdt_wire.specs.declared.role.Role.{Role};
-ghost use Rattle.hdt_tool.specs.Asked.{AsksAction, ComesWithout, ComesWithoutOr, IsFaultOf, IsMisspelt, IsMisspeltPart, IsStringOf, Misspells, StatesNumber, StatesOptions, StatesString, StatesWord, TellsTerm};
+ghost use Rattle.hdt_tool.specs.Asked.{AsksAction, ComesWithout, ComesWithoutOr, IsFaultOf, IsMisspelt, IsMisspeltPart, IsStringOf, IsFinding, Misspells, StatesForm, StatesMost, StatesNumber, StatesOptions, StatesString, StatesWord, TellsTerm};
 ghost use Rattle.hdt_tool.specs.Lines.{word_name};
 ghost use Rattle.hdt_tool.specs.Table.{role_name};
 
 use crate::fault::{UsageFault, Word};
-use crate::request::Action;
+use crate::request::{Action, Form};
 use clap::ArgMatches;
 use hdt_build::Options;
 use hdt_dict::Role;
@@ -169,6 +169,43 @@ fn part_at<'m>(
     }
 }
 
+/// What `find` prints, by `--count` and `--numbers`.
+fn form_at<'m>(matches: &ArgMatches<'m>) -> Form
+    ensures { StatesForm (rows_of (found_of matches.now)) result }
+{
+    if matches.get_flag("count") {
+        return Form::Count;
+    }
+    if matches.get_flag("numbers") {
+        return Form::Numbers;
+    }
+    Form::Lines
+}
+
+/// The number of the option `--most`, where it is given.
+fn most_at<'m>(matches: &ArgMatches<'m>) -> Option<u64>
+    ensures { StatesMost (rows_of (found_of matches.now)) result }
+{
+    matches.get_one::<u64>("most")
+}
+
+/// The command that `find` is by its strings, its form and the number that it goes up to.
+fn found_action(given: [Option<Vec<u8>>; 3], form: Form, most: Option<u64>) -> Action
+    ensures { IsFinding given form most result }
+{
+    match (form, most) {
+        (Form::Lines, None) => Action::Find {
+            given,
+            numbers: false,
+        },
+        (Form::Numbers, None) => Action::Find {
+            given,
+            numbers: true,
+        },
+        _ => Action::Search { given, form, most },
+    }
+}
+
 /// What `find` asks for: S, P and O are read in turn.
 pub fn find_at<'m>(alloc: Global, matches: &ArgMatches<'m>) -> Result<Action, UsageFault>
     ensures ok { IfOk result (AsksAction (codes "find") (rows_of (found_of matches.now))) }
@@ -178,8 +215,6 @@ pub fn find_at<'m>(alloc: Global, matches: &ArgMatches<'m>) -> Result<Action, Us
     let subject = part_at(alloc, matches, Word::Subject)?;
     let predicate = part_at(alloc, matches, Word::Predicate)?;
     let object = part_at(alloc, matches, Word::Object)?;
-    Ok(Action::Find {
-        given: [subject, predicate, object],
-        numbers: matches.get_flag("numbers"),
-    })
+    let given = [subject, predicate, object];
+    Ok(found_action(given, form_at(matches), most_at(matches)))
 }

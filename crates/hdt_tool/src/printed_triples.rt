@@ -1,12 +1,13 @@
 //! What `find` and `dump` print.
 ghost use Rattle.std.specs.Prelude.{◌≡◌, ◌++◌, OnOk, IfOk, IfErr, Some};
-ghost use Rattle.hdt_file.specs.TextWriting.{chosen};
+ghost use Rattle.hdt_file.specs.TextWriting.{chosen, limited};
 ghost use Rattle.hdt_file.specs.LayoutView.{layout_seen};
-ghost use Rattle.hdt_tool.specs.TriplesText.{Finds, PrintsFound, TellsFound, numbers_line, numbers_lines};
+ghost use Rattle.hdt_tool.specs.TriplesText.{Finds, PrintsFound, TellsFound, count_line, numbers_line, numbers_lines};
 
 use crate::fault::ToolFault;
 use crate::printed_strings::put_number;
-use hdt_file::{Layout, layout_text};
+use crate::request::Form;
+use hdt_file::{Layout, layout_text_up_to};
 use hdt_seq::Steps;
 use hdt_triples::Pattern;
 use std::alloc::{AllocError, Global};
@@ -25,17 +26,24 @@ fn put_numbers(triple: (u64, u64, u64), out: &mut Vec<u8>) -> Result<(), AllocEr
     Ok(out.push(b'\n')?)
 }
 
-/// The lines of the numbers of the matches of a pattern.
+/// The lines of the numbers of the matches of a pattern, or of at most so many of the first.
 fn matches_numbers(
     alloc: Global,
     layout: &Layout<'_>,
     pattern: Pattern,
+    most: Option<u64>,
 ) -> Result<Vec<u8>, AllocError>
-    ensures { IfOk result (λ text. text.items ≡ numbers_lines (chosen (layout_seen layout.now) (Some pattern))) }
+    ensures { IfOk result (λ text. text.items ≡ numbers_lines (limited most (chosen (layout_seen layout.now) (Some pattern)))) }
 {
+    let mut matches = layout.search(pattern);
+    let mut room = most.unwrap_or(u64::MAX);
     let mut text = Vec::new(alloc);
-    'triples: for triple in layout.search(pattern) {
+    'triples: while room > 0 {
+        let Some(triple) = matches.next() else {
+            return Ok(text);
+        };
         put_numbers(triple, &mut text)?;
+        room -= 1;
     }
     Ok(text)
 }
@@ -45,13 +53,43 @@ fn numbers_text(
     alloc: Global,
     layout: &Layout<'_>,
     pattern: Option<Pattern>,
+    most: Option<u64>,
 ) -> Result<Vec<u8>, AllocError>
-    ensures { IfOk result (λ text. text.items ≡ numbers_lines (chosen (layout_seen layout.now) pattern)) }
+    ensures { IfOk result (λ text. text.items ≡ numbers_lines (limited most (chosen (layout_seen layout.now) pattern))) }
 {
     match pattern {
-        Some(pattern) => matches_numbers(alloc, layout, pattern),
+        Some(pattern) => matches_numbers(alloc, layout, pattern, most),
         None => Ok(Vec::new(alloc)),
     }
+}
+
+/// How many matches a pattern has, or nothing, but at most so many.
+fn count_of(layout: &Layout<'_>, pattern: Option<Pattern>, most: Option<u64>) -> u64
+    ensures { result ≡ length (limited most (chosen (layout_seen layout.now) pattern)) }
+{
+    let Some(pattern) = pattern else {
+        return 0;
+    };
+    let count = layout.matching(pattern, &mut Steps::new());
+    match most {
+        Some(most) => count.min(most),
+        None => count,
+    }
+}
+
+/// The line with how many matches a pattern has, or nothing, but at most so many.
+fn count_text(
+    alloc: Global,
+    layout: &Layout<'_>,
+    pattern: Option<Pattern>,
+    most: Option<u64>,
+) -> Result<Vec<u8>, AllocError>
+    ensures { IfOk result (λ text. text.items ≡ count_line (limited most (chosen (layout_seen layout.now) pattern))) }
+{
+    let mut text = Vec::new(alloc);
+    put_number(count_of(layout, pattern, most), &mut text)?;
+    text.push(b'\n')?;
+    Ok(text)
 }
 
 /// The pattern of the numbers of the strings that are given, where each is in its role.
@@ -63,19 +101,22 @@ fn pattern_of(layout: &Layout<'_>, given: &[Option<Vec<u8>>; 3]) -> Option<Patte
     layout.pattern(lent, &mut Steps::new())
 }
 
-/// The text of the triples that have the strings that are given: in N-Triples, or their numbers.
+/// The text of the triples that have the strings that are given, or of at most so many of the first: in N-Triples, their
+/// numbers, or how many they are.
 pub fn triples_text(
     alloc: Global,
     layout: &Layout<'_>,
     given: &[Option<Vec<u8>>; 3],
-    numbers: bool,
+    form: Form,
+    most: Option<u64>,
 ) -> Result<Vec<u8>, ToolFault>
-    ensures ok { IfOk result (λ text. PrintsFound (layout_seen layout.now) given.now numbers text.items) }
-    ensures err { IfErr result (TellsFound (layout_seen layout.now) given.now numbers) }
+    ensures ok { IfOk result (λ text. PrintsFound (layout_seen layout.now) given.now form most text.items) }
+    ensures err { IfErr result (TellsFound (layout_seen layout.now) given.now form most) }
 {
     let pattern = pattern_of(layout, given);
-    if numbers {
-        return Ok(numbers_text(alloc, layout, pattern)?);
+    match form {
+        Form::Lines => Ok(layout_text_up_to(alloc, layout, pattern, most)?),
+        Form::Numbers => Ok(numbers_text(alloc, layout, pattern, most)?),
+        Form::Count => Ok(count_text(alloc, layout, pattern, most)?),
     }
-    Ok(layout_text(alloc, layout, pattern)?)
 }

@@ -3,6 +3,17 @@
 use hdt_build::Options;
 use hdt_dict::Role;
 
+/// What is printed of the triples that are found.
+#[derive(Clone, Copy, Debug, Drop)]
+pub enum Form {
+    /// Their lines in N-Triples.
+    Lines,
+    /// A line for each with its numbers.
+    Numbers,
+    /// One line with how many they are.
+    Count,
+}
+
 /// A command.
 #[derive(Debug, Drop)]
 pub enum Action {
@@ -24,6 +35,15 @@ pub enum Action {
         given: [Option<Vec<u8>>; 3],
         /// Whether the triples' numbers are printed, in place of N-Triples.
         numbers: bool,
+    },
+    /// Prints the triples that have these dictionary strings, or how many they are; at most so many of the first.
+    Search {
+        /// The strings of subject, predicate and object; any where there is none.
+        given: [Option<Vec<u8>>; 3],
+        /// What is printed of them.
+        form: Form,
+        /// How many are taken at most; all where there is none.
+        most: Option<u64>,
     },
     /// Builds a file of an N-Triples document, and prints its numbers.
     Build(Options),

@@ -12,5 +12,5 @@ returns-clause-ok c =
 pub returns-clause-err : goal.returns-clause-err
 returns-clause-err c =
     IfErr-weaker c.triples_text.result _ _
-    (λ e h. no_text c.args.given.now c.args.numbers c.args.bytes.now (layout_seen c.in_ok-layout.layout) e c.in_ok-layout.ensures.found h)
+    (λ e h. no_text c.args.given.now c.args.form c.args.most c.args.bytes.now (layout_seen c.in_ok-layout.layout) e c.in_ok-layout.ensures.found h)
     c.triples_text.ensures.err
