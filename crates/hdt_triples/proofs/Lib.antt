@@ -4,6 +4,7 @@ mod EarlierLaws
 mod GoingLaws
 mod JumpLaws
 mod ListsLaws
+mod MatchingLaws
 mod ObjectLaws
 mod PlaceLaws
 mod PlacingLaws

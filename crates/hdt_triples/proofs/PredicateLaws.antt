@@ -21,7 +21,7 @@ use Rattle.hdt_triples.proofs.ListsLaws.{IsFirstPlace, first_place, no_place, pl
 other_predicate : (p : ℕ) (t : Triple) → t.1 ≢ p → agrees (of_predicate p) t ≡ false
 other_predicate p t ne = ap (λ b. true && b && true) (ne_eqb p t.1 (λ e. ne (sym e)))
 
-own_predicate : (p : ℕ) (t : Triple) → t.1 ≡ p → agrees (of_predicate p) t ≡ true
+pub own_predicate : (p : ℕ) (t : Triple) → t.1 ≡ p → agrees (of_predicate p) t ≡ true
 own_predicate p t e = ap (λ b. true && b && true) (eq-eqb p t.1 (sym e))
 
 -- where no pair is left no triple is

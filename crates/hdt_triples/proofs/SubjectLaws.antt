@@ -34,7 +34,7 @@ other_subject p s t given ne =
     ap (λ o. admits o t.0 && admits p.p t.1 && admits p.o t.2) given
     ∙ ap (λ b. b && admits p.p t.1 && admits p.o t.2) (ne_eqb s t.0 (λ e. ne (sym e)))
 
-own_subject : (s : ℕ) (t : Triple) → t.0 ≡ s → agrees (of_subject s) t ≡ true
+pub own_subject : (s : ℕ) (t : Triple) → t.0 ≡ s → agrees (of_subject s) t ≡ true
 own_subject s t e = ap (λ b. b && true && true) (eq-eqb s t.0 (sym e))
 
 pub matches_skipped : (p : Pattern) (s : ℕ) (f : BitmapTriples) (j : ℕ) → p.s ≡ Some s → j ≤ length f.zs → ((i : ℕ) → i < j → subject_at f (pair_of f i) ≢ s)

@@ -4,6 +4,7 @@ use Rattle.std.specs.Prelude.{ℕ, ◌+◌, ◌*◌, ◌≤◌, List, length, Op
 use Rattle.hdt_seq.specs.Width.{digits}
 use Rattle.hdt_seq.specs.Directory.{groups}
 use Rattle.hdt_triples.specs.Counting.{BitmapTriples, Triple, triples_of}
+use Rattle.hdt_triples.specs.Lists.{places_of}
 use Rattle.hdt_triples.specs.Patterns.{matches}
 use Rattle.hdt_triples.specs.declared.pattern.Pattern.{Pattern}
 
@@ -61,6 +62,36 @@ most_steps_by f pattern None None None = 4 * length f.zs
 -- the table
 unfoldable pub most_steps : BitmapTriples → Pattern → ℕ
 most_steps f p = most_steps_by f p p.s p.p p.o
+
+-- so many triples have this subject, or this object
+abbrev pub triples_with : Pattern → BitmapTriples → ℕ
+triples_with p f = length (matches p (triples_of f))
+
+abbrev pub counting_steps_by : BitmapTriples → Option ℕ → Option ℕ → Option ℕ → ℕ
+-- nothing: how many triples there are is known
+counting_steps_by f None None None = 0
+-- a subject: two jumps, to where its triples begin and end, and with an object one for each of them
+counting_steps_by f (Some s) None None = 2 * jump f
+counting_steps_by f (Some s) None (Some o) = 2 * jump f + triples_with (of_subject s) f
+-- a subject and a predicate: two jumps, halving the pairs and the triples
+counting_steps_by f (Some s) (Some p) o = 2 * jump f + digits (length f.ys) + digits (length f.zs)
+-- a predicate alone: two jumps for each of its pairs, and for one more
+counting_steps_by f None (Some p) None = 2 * jump f * (1 + length (places_of f.ys p))
+-- an object: where its list begins and ends, and with a predicate 20 for each triple of the object
+counting_steps_by f None None (Some o) = 2
+counting_steps_by f None (Some p) (Some o) = 2 + 20 * triples_with (of_object o) f
+
+-- the table of steps of counting the matches
+unfoldable pub counting_steps : BitmapTriples → Pattern → ℕ
+counting_steps f p = counting_steps_by f p.s p.p p.o
+
+abbrev pub walking_steps_by : BitmapTriples → Option ℕ → Option ℕ → Option ℕ → ℕ
+walking_steps_by f None None None = 0
+walking_steps_by f s p o = 4 * length f.zs
+
+-- the same without directories and lists: all triples are walked over
+unfoldable pub walking_steps : BitmapTriples → Pattern → ℕ
+walking_steps f p = walking_steps_by f p.s p.p p.o
 
 -- what is left can be paid: the steps so far, and the price of what is left, are within the limit
 abbrev pub Pays : Price → BitmapTriples → ℕ → List Triple → Type 0

@@ -17,6 +17,7 @@ pub(crate) fn place_from(xs: &Numbers<'_>, from: u64, to: u64, x: u64, steps: &m
     ensures below { (i : ℕ) → from ≤ i → i < result → slice_index (numbers_of xs.now) i < x }
     ensures above { (i : ℕ) → result ≤ i → i < to → x ≤ slice_index (numbers_of xs.now) i }
     ensures cost { steps.new ≤ steps.old + digits (to - from) }
+    ensures more { steps.old ≤ steps.new }
 {
     let mut low = from;
     let mut high = to;

@@ -90,7 +90,9 @@ impl<'a> IndexedTriples<'a> {
         ensures within { result ≤ length (bitmap_read (triples_indexed self.now)).zs }
         ensures below { (i : ℕ) → i < result → pair_of (bitmap_read (triples_indexed self.now)) i ≤ pair }
         ensures above { (i : ℕ) → result ≤ i → pair < pair_of (bitmap_read (triples_indexed self.now)) i }
+        ensures next { pair_of (bitmap_read (triples_indexed self.now)) result ≡ pair + 1 }
         ensures cost { steps.new ≤ steps.old + (digits (groups (bitmap_read (triples_indexed self.now)).mz) + 8) }
+        ensures more { steps.old ≤ steps.new }
     {
         self.z.select(&self.triples.mz, pair + 1, steps) + 1
     }

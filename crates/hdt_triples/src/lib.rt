@@ -34,6 +34,7 @@ mod laws;
 mod listed;
 mod look;
 mod matches;
+mod matching;
 mod object;
 mod pair;
 mod pattern;

@@ -39,6 +39,7 @@ fn part<'a>(starts: &[u64], flat: &'a [u64], key: u64, steps: &mut Steps) -> &'a
     requires { AreParts starts.now flat.now }
     ensures is { (xs : List ℕ) (greatest : ℕ) → AreLists xs greatest starts.now flat.now → All (IsKey greatest) xs → result.now ≡ places_of xs key }
     ensures cost { steps.new ≤ steps.old + 2 }
+    ensures more { steps.old ≤ steps.new }
 {
     if key == 0 || key >= starts.len() as u64 {
         return &[];
@@ -105,6 +106,7 @@ impl<'a> ListedTriples<'a> {
     pub(crate) fn pairs_of(&self, predicate: u64, steps: &mut Steps) -> &[u64]
         ensures is { result.now ≡ places_of (bitmap_read (triples_listed self.now)).ys predicate }
         ensures cost { steps.new ≤ steps.old + 2 }
+        ensures more { steps.old ≤ steps.new }
     {
         part(&self.pair_starts, &self.pairs, predicate, steps)
     }
@@ -114,6 +116,7 @@ impl<'a> ListedTriples<'a> {
     pub(crate) fn places_of(&self, object: u64, steps: &mut Steps) -> &[u64]
         ensures is { result.now ≡ places_of (bitmap_read (triples_listed self.now)).zs object }
         ensures cost { steps.new ≤ steps.old + 2 }
+        ensures more { steps.old ≤ steps.new }
     {
         part(&self.triple_starts, &self.places, object, steps)
     }

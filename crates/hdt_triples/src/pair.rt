@@ -35,9 +35,10 @@ impl<'a> IndexedTriples<'a> {
 
     /// Where the pairs of a subject begin and end.
     #[tactic(auto, unfolding(crate::specs::Views::bitmap_read))]
-    fn pairs_of_subject(&self, subject: u64, steps: &mut Steps) -> (u64, u64)
+    pub(crate) fn pairs_of_subject(&self, subject: u64, steps: &mut Steps) -> (u64, u64)
         ensures are { PairsOf (bitmap_read (triples_indexed self.now)) subject result.0 result.1 }
         ensures cost { steps.new ≤ steps.old + (2 * digits (groups (bitmap_read (triples_indexed self.now)).my) + 17) }
+        ensures more { steps.old ≤ steps.new }
     {
         let subjects = self.subjects(steps);
         if subject == 0 || subject > subjects {
@@ -59,6 +60,7 @@ impl<'a> IndexedTriples<'a> {
         ensures found { IfSome result (λ q. IsPairOf (bitmap_read (triples_indexed self.now)) subject predicate q) }
         ensures only { (q : ℕ) → IsPairOf (bitmap_read (triples_indexed self.now)) subject predicate q → result ≡ Some q }
         ensures cost { steps.new ≤ steps.old + (2 * digits (groups (bitmap_read (triples_indexed self.now)).my) + 18 + digits (length (bitmap_read (triples_indexed self.now)).ys)) }
+        ensures more { steps.old ≤ steps.new }
     {
         let (low, high) = self.pairs_of_subject(subject, steps);
         let pair = place_from(&self.triples.ys, low, high, predicate, steps);
@@ -70,7 +72,7 @@ impl<'a> IndexedTriples<'a> {
 
     /// The places of the matches.
     #[tactic(auto, unfolding(crate::specs::Views::bitmap_read))]
-    fn run_of(
+    pub(crate) fn run_of(
         &self,
         pattern: Pattern,
         subject: u64,
@@ -82,6 +84,7 @@ impl<'a> IndexedTriples<'a> {
         ensures run { IsRun (bitmap_read (triples_indexed self.now)) pattern subject predicate result.0 result.1 }
         ensures before { (i : ℕ) → i < result.0 → agrees pattern (triple_at (bitmap_read (triples_indexed self.now)) i) ≡ false }
         ensures cost { steps.new ≤ steps.old + (2 * digits (groups (bitmap_read (triples_indexed self.now)).my) + 2 * digits (groups (bitmap_read (triples_indexed self.now)).mz) + 35 + digits (length (bitmap_read (triples_indexed self.now)).ys) + digits (length (bitmap_read (triples_indexed self.now)).zs)) }
+        ensures more { steps.old ≤ steps.new }
     {
         let Some(pair) = self.pair_with(subject, predicate, steps) else {
             return (0, 0);

@@ -11,6 +11,7 @@ invariant-halves l = record {
   below : (i : ℕ) → l.from ≤ i → i < l.low → slice_index (numbers_of l.xs) i < l.x;
   above : (i : ℕ) → l.high ≤ i → i < l.to → l.x ≤ slice_index (numbers_of l.xs) i;
   cost : l.steps + digits (l.high - l.low) ≤ l.initial.steps + digits (l.to - l.from);
+  more : l.initial.steps ≤ l.steps;
 }
 
 abbrev pub decreases-halves : goal.decreases-halves

@@ -1,0 +1,182 @@
+-- How many triples agree.
+use Rattle.std.proofs.Common.{◌≡◌, ◌≢◌, ◌⊎◌, inl, inr, ℕ, ◌+◌, ◌-◌, ◌*◌, ◌<◌, ◌≤◌, ◌==◌, ◌&&◌, zero, suc, List, [], ◌∷◌, length, map, drop, ap, sym, ◌∙◌, arith, Bool, true, false, Some, None, add-zero, slice_index, eq-eqb, refl}
+use Rattle.std.specs.Int.{from_bool}
+use Rattle.std.proofs.lemmas.List.Elements.{All-rest}
+use Rattle.std.specs.List.{All}
+use Rattle.std.proofs.lemmas.Bool.{cases_eq}
+use Rattle.hdt_seq.specs.Directory.{groups}
+use Rattle.hdt_seq.specs.Width.{digits}
+use Rattle.hdt_seq.specs.MarksLaws.{marks_mono}
+use Rattle.hdt_triples.specs.declared.pattern.Pattern.{Pattern}
+use Rattle.hdt_triples.specs.Counting.{BitmapTriples, IsMarked, Triple, triple_at, triples_of, subject_at, pair_of}
+use Rattle.hdt_triples.specs.Patterns.{agrees, admits, matches}
+use Rattle.hdt_triples.specs.Walking.{triples_from}
+use Rattle.hdt_triples.specs.Bounds.{jump, of_subject, of_predicate, of_object}
+use Rattle.hdt_triples.specs.Lists.{places_of, places_from, IsPlaceOf}
+use Rattle.hdt_triples.specs.Runs.{AreBetween, Edges, IsRun, PairsOf}
+use Rattle.hdt_triples.specs.Spots.{Between}
+use Rattle.hdt_triples.specs.OrderLaws.{pair_within}
+use Rattle.hdt_triples.proofs.WalkLaws.{matches_taken, matches_passed}
+use Rattle.hdt_triples.proofs.SubjectLaws.{skipped, none_left, own_subject, other_subject}
+use Rattle.hdt_triples.proofs.PredicateLaws.{Begins, own_predicate, predicate_entered, next_of}
+use Rattle.hdt_triples.proofs.ObjectLaws.{among_places, object_law, object_step}
+
+-- one triple is taken or passed
+pub count_on : (p : Pattern) (f : BitmapTriples) (j : ℕ) (b : Bool) (one : ℕ) → j < length f.zs → agrees p (triple_at f j) ≡ b → one ≡ from_bool b
+    → length (matches p (triples_from f j)) ≡ one + length (matches p (triples_from f (j + 1)))
+count_on p f j true one h is more = omega (arith, more, ap length (matches_taken p f j h is))
+count_on p f j false one h is none = omega (arith, none, ap length (matches_passed p f j h is))
+
+-- all of a run are taken
+count_run : (n : ℕ) (p : Pattern) (f : BitmapTriples) (j : ℕ) → j + n ≤ length f.zs → ((i : ℕ) → j ≤ i → i < j + n → agrees p (triple_at f i) ≡ true)
+    → length (matches p (triples_from f j)) ≡ n + length (matches p (triples_from f (j + n)))
+count_run zero p f j h all = omega (arith, ap (λ k. length (matches p (triples_from f k))) (sym (add-zero j)))
+count_run (suc n) p f j h all =
+    let e : j + 1 + n ≡ j + suc n = omega arith in
+    omega (
+      arith,
+      ap length (matches_taken p f j (omega (arith, h)) (all j (omega arith) (omega arith))),
+      count_run n p f (j + 1) (omega (arith, h)) (λ i l w. all i (omega (arith, l)) (omega (arith, w))),
+      ap (λ k. length (matches p (triples_from f k))) e,
+    )
+
+run_to : (p : Pattern) (f : BitmapTriples) (at end : ℕ) → at ≤ end → end ≤ length f.zs → ((i : ℕ) → at ≤ i → i < end → agrees p (triple_at f i) ≡ true)
+    → length (matches p (triples_from f at)) + at ≡ end + length (matches p (triples_from f end))
+run_to p f at end ordered within all =
+    let e : at + (end - at) ≡ end = omega (arith, ordered) in
+    omega (arith, ordered, count_run (end - at) p f at (omega (arith, e, within)) (λ i l w. all i l (omega (arith, w, e))), ap (λ k. length (matches p (triples_from f k))) e)
+
+-- those that stand together
+pub count_between : (f : BitmapTriples) (p : Pattern) (at end : ℕ) → AreBetween f p at end → length (matches p (triples_of f)) + at ≡ end
+count_between f p at end r =
+    omega (
+      arith,
+      ap length (skipped p f at (omega (arith, r.ordered, r.within)) r.before),
+      run_to p f at end r.ordered r.within r.all,
+      ap length (none_left (length f.zs - end) p f end (omega (arith, r.within)) r.over),
+    )
+
+pub run_between : (f : BitmapTriples) (p : Pattern) (s q at end : ℕ) → IsRun f p s q at end → ((i : ℕ) → i < at → agrees p (triple_at f i) ≡ false) → AreBetween f p at end
+run_between f p s q at end r before = record { ordered = r.ordered; within = r.within; before = before; all = r.all; over = r.over }
+
+-- where nothing is given they are all
+pub all_between : (f : BitmapTriples) (p : Pattern) → p.s ≡ None → p.p ≡ None → p.o ≡ None → AreBetween f p 0 (length f.zs)
+all_between f p no_s no_p no_o = record {
+  ordered = omega arith;
+  within = omega arith;
+  before = λ i h. absurd (omega (arith, h));
+  all = λ i l h.
+      ap (λ a. admits a (triple_at f i).0 && admits p.p (triple_at f i).1 && admits p.o (triple_at f i).2) no_s
+      ∙ ap (λ a. true && admits a (triple_at f i).1 && admits p.o (triple_at f i).2) no_p
+      ∙ ap (λ a. true && true && admits a (triple_at f i).2) no_o;
+  over = λ i l h. absurd (omega (arith, l, h));
+}
+
+-- ---- a subject
+
+pub no_triples : (f : BitmapTriples) (s low high : ℕ) → IsMarked f → PairsOf f s low high → low ≡ high → AreBetween f (of_subject s) 0 0
+no_triples f s low high marked pairs none = record {
+  ordered = omega arith;
+  within = omega arith;
+  before = λ i h. absurd (omega (arith, h));
+  all = λ i l h. absurd (omega (arith, h));
+  over = λ i l h. other_subject (of_subject s) s (triple_at f i) refl
+      (λ e. let within = pair_within f marked i h in absurd (omega (arith, none, pairs.from (pair_of f i) within e, pairs.to (pair_of f i) within e)));
+}
+
+pub subject_between : (f : BitmapTriples) (s low high last at end : ℕ) → IsMarked f → PairsOf f s low high → last + 1 ≡ high → Edges f low last at end → AreBetween f (of_subject s) at end
+subject_between f s low high last at end marked pairs next e = record {
+  ordered = omega (arith, e.some);
+  within = e.within;
+  before = λ i h. other_subject (of_subject s) s (triple_at f i) refl
+      (λ same. omega (arith, e.before i h, pairs.from (pair_of f i) (pair_within f marked i (omega (arith, h, e.some, e.within))) same));
+  all = λ i l h. own_subject s (triple_at f i) (pairs.inside (pair_of f i) (omega (arith, e.begins, marks_mono f.mz at i l)) (omega (arith, next, e.to i h)));
+  over = λ i l h. other_subject (of_subject s) s (triple_at f i) refl
+      (λ same. omega (arith, next, e.ends, marks_mono f.mz end i l, pairs.to (pair_of f i) (pair_within f marked i h) same));
+}
+
+other_by : (p : Pattern) (s : ℕ) (t : Triple) → p.s ≡ Some s → agrees (of_subject s) t ≡ false → (t.0 ≡ s) ⊎ (t.0 ≢ s) → agrees p t ≡ false
+other_by p s t given other (inl e) = let own = own_subject s t e in absurd (cc)
+other_by p s t given other (inr ne) = other_subject p s t given ne
+
+own_by : (s : ℕ) (t : Triple) → agrees (of_subject s) t ≡ true → (t.0 ≡ s) ⊎ (t.0 ≢ s) → t.0 ≡ s
+own_by s t own (inl e) = e
+own_by s t own (inr ne) = let other = other_subject (of_subject s) s t refl ne in absurd (cc)
+
+-- none of the subject stands before its triples, and none behind them
+pub in_subject_first : (f : BitmapTriples) (p : Pattern) (s at end : ℕ) → p.s ≡ Some s → AreBetween f (of_subject s) at end → matches p (triples_from f at) ≡ matches p (triples_of f)
+in_subject_first f p s at end given r =
+    sym (skipped p f at (omega (arith, r.ordered, r.within)) (λ i h. other_by p s (triple_at f i) given (r.before i h) (cases_eq (triple_at f i).0 s)))
+
+pub in_subject_over : (f : BitmapTriples) (p : Pattern) (s at end i : ℕ) → p.s ≡ Some s → AreBetween f (of_subject s) at end → end ≤ i → i ≤ length f.zs → matches p (triples_from f i) ≡ []
+in_subject_over f p s at end i given r h within =
+    none_left (length f.zs - i) p f i (omega (arith, within)) (λ j l w. other_by p s (triple_at f j) given (r.over j (omega (arith, h, l)) w) (cases_eq (triple_at f j).0 s))
+
+-- a triple of the subject agrees as its object does
+object_tells : (p : Pattern) (f : BitmapTriples) (s o i : ℕ) → p.s ≡ Some s → p.p ≡ None → p.o ≡ Some o → subject_at f (pair_of f i) ≡ s → agrees p (triple_at f i) ≡ (o == slice_index f.zs i)
+object_tells p f s o i given_s free given_o own =
+    ap (λ a. admits a (triple_at f i).0 && admits p.p (triple_at f i).1 && admits p.o (triple_at f i).2) given_s
+    ∙ ap (λ b. b && admits p.p (triple_at f i).1 && admits p.o (triple_at f i).2) (eq-eqb s (triple_at f i).0 (sym own))
+    ∙ ap (λ a. true && admits a (triple_at f i).1 && admits p.o (triple_at f i).2) free
+    ∙ ap (λ a. true && true && admits a (triple_at f i).2) given_o
+
+pub in_subject_on : (f : BitmapTriples) (p : Pattern) (s o at end i z one : ℕ) → p.s ≡ Some s → p.p ≡ None → p.o ≡ Some o → AreBetween f (of_subject s) at end → at ≤ i → i < end → z ≡ slice_index f.zs i → one ≡ from_bool (o == z)
+    → length (matches p (triples_from f i)) ≡ one + length (matches p (triples_from f (i + 1)))
+in_subject_on f p s o at end i z one given_s free given_o r l h is more =
+    count_on p f i (o == z) one (omega (arith, h, r.within))
+    (object_tells p f s o i given_s free given_o (own_by s (triple_at f i) (r.all i l h) (cases_eq (triple_at f i).0 s)) ∙ ap (λ n. o == n) (sym is)) more
+
+-- ---- a predicate
+
+-- the triples of its next pair
+pub predicate_on : (f : BitmapTriples) (p at q start end : ℕ) (rest qs : List ℕ) → IsMarked f → Between f p rest at → rest ≡ q ∷ qs → Edges f q q start end
+    → length (matches (of_predicate p) (triples_from f at)) + start ≡ end + length (matches (of_predicate p) (triples_from f end))
+predicate_on f p at q start end rest qs marked s split e =
+    let first = next_of f p at q rest qs s split in
+    let begins : Begins f q start = record { within = omega (arith, e.some, e.within); is = e.begins; earlier = e.before } in
+    let here : (i : ℕ) → start ≤ i → i < end → pair_of f i ≡ q = λ i l h. omega (arith, e.begins, marks_mono f.mz start i l, e.to i h) in
+    omega (
+      arith,
+      ap length (predicate_entered f p q at start rest qs marked s split begins),
+      run_to (of_predicate p) f start end (omega (arith, e.some)) e.within (λ i l h. own_predicate p (triple_at f i) (ap (slice_index f.ys) (here i l h) ∙ first.key)),
+    )
+
+pub between_on : (f : BitmapTriples) (p at q start end : ℕ) (rest qs : List ℕ) → Between f p rest at → rest ≡ q ∷ qs → Edges f q q start end → Between f p qs end
+between_on f p at q start end rest qs s split e =
+    let first = next_of f p at q rest qs s split in
+    record {
+      within = e.within;
+      rest_is = first.behind ∙ ap (λ n. places_from f.ys p n) (sym e.ends);
+      earlier = λ i h. omega (arith, e.ends, e.to i h);
+    }
+
+-- two looks for the list, and each pair's own
+pub pairs_pay_first : (f : BitmapTriples) (n m steps before after : ℕ) → before ≤ steps + 2 → after + 2 * jump f * m ≤ before + 2 * jump f * n → after ≤ steps + 2 * jump f * (1 + n)
+unfolding jump
+pairs_pay_first f n m steps before after few pays = omega (arith, few, pays)
+
+pub pairs_pay_on : (f : BitmapTriples) (q steps after most : ℕ) (rest qs : List ℕ) → rest ≡ q ∷ qs → after ≤ steps + (2 * digits (groups f.mz) + 17) → steps + 2 * jump f * length rest ≤ most → after + 2 * jump f * length qs ≤ most
+unfolding jump
+pairs_pay_on f q steps after most rest qs split few pays =
+    let count : length rest ≡ suc (length qs) = ap length split in
+    omega (arith, few, pays, ap (λ k. 2 * (digits (groups f.my) + digits (groups f.mz) + 20) * k) count)
+
+-- ---- an object
+
+-- the triple at the first of its places is taken or passed
+pub object_on : (p : Pattern) (f : BitmapTriples) (rest js : List ℕ) (at : ℕ) (b : Bool) (one : ℕ) → 0 < length rest → at ≡ slice_index rest 0 → js ≡ drop 1 rest → agrees p (triple_at f at) ≡ b → one ≡ from_bool b
+    → length (matches p (map (triple_at f) rest)) ≡ one + length (matches p (map (triple_at f) js))
+object_on p f rest js at true one h first behind is more = omega (arith, more, ap length (object_step p f rest js at true h first behind is))
+object_on p f rest js at false one h first behind is none = omega (arith, none, ap length (object_step p f rest js at false h first behind is))
+
+places_count : (js : List ℕ) (f : BitmapTriples) (o : ℕ) → All (IsPlaceOf f.zs o) js → length (matches (of_object o) (map (triple_at f) js)) ≡ length js
+unfolding matches
+places_count [] f o all = refl
+places_count (j ∷ js) f o all =
+    let own : agrees (of_object o) (triple_at f j) ≡ true = eq-eqb o (slice_index f.zs j) (sym (all 0 0 (omega arith)).1) in
+    let rest : All (IsPlaceOf f.zs o) js = All-rest (IsPlaceOf f.zs o) j js (j ∷ js) refl all in
+    omega (arith, ap length (object_step (of_object o) f (j ∷ js) js j true (omega arith) refl refl own), places_count js f o rest)
+
+-- as many as its list is long
+pub object_count : (f : BitmapTriples) (o : ℕ) → length (places_of f.zs o) ≡ length (matches (of_object o) (triples_of f))
+object_count f o = sym (places_count (places_of f.zs o) f o (among_places f.zs o)) ∙ ap length (object_law (of_object o) f o refl)

@@ -1,0 +1,80 @@
+use Rattle.std.proofs.Common.{◌≡◌, ◌<◌, ◌+◌, ◌*◌, ◌∷◌, ◌∙◌, ap, arith, drop, length, refl, sym}
+use Rattle.std.proofs.lemmas.Bool.{eqb-true}
+use Rattle.std.proofs.lemmas.List.{nil_from_length}
+use Rattle.hdt_triples.specs.Bounds.{jump, of_predicate}
+use Rattle.hdt_triples.specs.Patterns.{matches}
+use Rattle.hdt_triples.specs.Views.{bitmap_read}
+use Rattle.hdt_triples.proofs.ListsLaws.{eqb_false_ne, split_rest}
+use Rattle.hdt_triples.proofs.MatchingLaws.{between_on, pairs_pay_first, pairs_pay_on, predicate_on}
+use Rattle.hdt_triples.proofs.PredicateLaws.{between_first, next_of, predicate_over}
+use Rattle.hdt_triples.proofs.WalkLaws.{from_start, matches_fit}
+use Rattle.hdt_triples.proofs.listed.ListedTriples.count_of_predicate.Goals as goal
+
+pub pairs-init : goal.pairs-init
+pairs-init c =
+    let f = bitmap_read c.args.self.now.indexed.triples in
+    record {
+      so_far = (0, between_first f c.args.predicate c.pairs_of-rest.result.now c.pairs_of-rest.ensures.is, omega (arith, ap (λ ts. length (matches (of_predicate c.args.predicate) ts)) (from_start f)));
+      cost = omega (arith, ap (λ qs. 2 * jump f * length qs) c.pairs_of-rest.ensures.is);
+      more = omega arith;
+    }
+
+pub edges-at-requires-clause-within : goal.edges-at-requires-clause-within
+edges-at-requires-clause-within c =
+    let f = bitmap_read c.args.self.now.indexed.triples in
+    let rest = c.pairs.rest.now in
+    let at = c.pairs.invariant.so_far in
+    let some : 0 < length rest = omega (arith, eqb_false_ne (length rest) 0 (sym c.is_empty.ensures ∙ c.pairs-test.true)) in
+    (next_of f c.args.predicate at.0 c.listed-pair.result rest (drop 1 rest) at.1 (split_rest rest (drop 1 rest) c.listed-pair.result some c.listed-pair.ensures.is refl)).within
+
+pub overflow_add-count : goal.overflow_add-count
+unfolding bitmap_read
+overflow_add-count c =
+    let t = c.args.self.now.indexed.triples in
+    let f = bitmap_read t in
+    let rest = c.pairs.rest.now in
+    let at = c.pairs.invariant.so_far in
+    let some : 0 < length rest = omega (arith, eqb_false_ne (length rest) 0 (sym c.is_empty.ensures ∙ c.pairs-test.true)) in
+    let e = c.edges-at.ensures.are in
+    omega (
+      arith,
+      e.some,
+      at.2,
+      predicate_on f c.args.predicate at.0 c.listed-pair.result c.edges-at.result.0 c.edges-at.result.1 rest (drop 1 rest) t.fit.marked at.1 (split_rest rest (drop 1 rest) c.listed-pair.result some c.listed-pair.ensures.is refl) e,
+      matches_fit (of_predicate c.args.predicate) t,
+    )
+
+pub pairs-preserved : goal.pairs-preserved
+unfolding bitmap_read
+pairs-preserved c =
+    let t = c.args.self.now.indexed.triples in
+    let f = bitmap_read t in
+    let q = c.listed-pair.result in
+    let rest = c.pairs.rest.now in
+    let qs = c.split_at.result.1.now in
+    let at = c.pairs.invariant.so_far in
+    let some : 0 < length rest = omega (arith, eqb_false_ne (length rest) 0 (sym c.is_empty.ensures ∙ c.pairs-test.true)) in
+    let split = split_rest rest qs q some c.listed-pair.ensures.is c.split_at.ensures.back in
+    let e = c.edges-at.ensures.are in
+    let r = c.edges-at.result in
+    record {
+      so_far = (r.1, between_on f c.args.predicate at.0 q r.0 r.1 rest qs at.1 split e, omega (arith, e.some, at.2, predicate_on f c.args.predicate at.0 q r.0 r.1 rest qs t.fit.marked at.1 split e));
+      cost = pairs_pay_on f q c.pairs.steps c.edges-at.new.steps _ rest qs split (omega (arith, c.listed-pair.ensures.cost, c.edges-at.ensures.cost)) c.pairs.invariant.cost;
+      more = omega (arith, c.pairs.invariant.more, c.listed-pair.ensures.cost, c.edges-at.ensures.more);
+    }
+
+pub returns-clause-is : goal.returns-clause-is
+unfolding bitmap_read
+returns-clause-is c =
+    let t = c.args.self.now.indexed.triples in
+    let rest = c.pairs.rest.now in
+    let at = c.pairs.invariant.so_far in
+    omega (arith, at.2, ap length (predicate_over (bitmap_read t) c.args.predicate at.0 rest t.fit.marked at.1 (nil_from_length rest (eqb-true (length rest) 0 (sym c.is_empty.ensures ∙ c.pairs-test.false)))))
+
+pub returns-clause-cost : goal.returns-clause-cost
+returns-clause-cost c =
+    let f = bitmap_read c.args.self.now.indexed.triples in
+    pairs_pay_first f _ (length c.pairs.rest.now) _ c.pairs_of-rest.new.steps c.pairs.steps (omega (arith, c.pairs_of-rest.ensures.cost)) c.pairs.invariant.cost
+
+pub returns-clause-more : goal.returns-clause-more
+returns-clause-more c = omega (arith, c.pairs.invariant.more, c.pairs_of-rest.ensures.more)
