@@ -47,13 +47,14 @@ impl<'a> Layout<'a> {
     ghost use Rattle.std.specs.Prelude.{◌↔◌, ◌≤◌, ◌<◌, ◌+◌, ◌*◌, ◌^◌, ◌∷◌, [], Option, Some, None, IsOk, OnErr};
     ghost use Rattle.hdt_wire.specs.Rows.{Gives};
     ghost use Rattle.hdt_dict.specs.Numbered.{numbered, Appends};
+    ghost use Rattle.hdt_triples.specs.Bounds.{walking_steps};
     ghost use Rattle.hdt_triples.specs.Left.{left_of, limit_of};
     ghost use Rattle.hdt_triples.specs.Patterns.{matches};
     ghost use Rattle.hdt_file.specs.Faults.{fault_of};
     ghost use Rattle.hdt_file.specs.File.{GraphParts, IsLayout, graph_in};
     ghost use Rattle.hdt_file.specs.LayoutView.{layout_seen};
     ghost use Rattle.hdt_dict.specs.Looks.{role_block, role_looks};
-    ghost use Rattle.hdt_file.specs.Parts.{dictionary_in, parts_in};
+    ghost use Rattle.hdt_file.specs.Parts.{bitmap_in, dictionary_in, parts_in};
     ghost use Rattle.hdt_file.specs.PartsLaws.{parts_rows};
     ghost use Rattle.hdt_file.specs.PartsViews.{layout_parts};
     ghost use Rattle.hdt_file.specs.Search.{IsPart, IsPattern, given_looks, part_looks};
@@ -190,9 +191,10 @@ impl<'a> Layout<'a> {
 
     /// How many triples agree with each number that the pattern gives: as many as [`Layout::search`] gives. It takes no
     /// memory, and walks over all triples, with four looks a triple at most; where nothing is given it takes none.
+    #[tactic(auto, unfolding(crate::specs::LayoutView::layout_seen, crate::specs::PartsViews::layout_parts))]
     pub fn matching(&self, pattern: Pattern, steps: &mut Steps) -> u64
         ensures is { result ≡ length (matches pattern (layout_seen self.now).triples) }
-        ensures cost { steps.new ≤ steps.old + 4 * length (layout_seen self.now).triples }
+        ensures cost { steps.new ≤ steps.old + walking_steps (bitmap_in (layout_parts self.now)) pattern }
         ensures more { steps.old ≤ steps.new }
     {
         self.triples.matching(pattern, steps)
