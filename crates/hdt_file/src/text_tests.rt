@@ -511,12 +511,20 @@ fn file_of_one(alloc: Global, predicates: &[&[u8]], long: &[u8]) -> Result<Vec<u
     )
 }
 
+/// Whether a writer gains the text of a graph, and its length is answered.
+fn is_handed_over(alloc: Global, graph: &Graph<'_>, text: &[u8]) -> Result<bool, DumpFault> {
+    let mut out = Counted::new(Vec::new(alloc));
+    let count = write_graph(alloc, graph, Some(ALL), &mut out)?;
+    Ok(count == text.len() as u64 && out.into_inner().as_slice() == text)
+}
+
 /// Whether a graph and a layout are written so, as a whole and by their one subject.
 fn is_written(alloc: Global, bytes: &[u8], text: &[u8]) -> Result<bool, Fail> {
     let graph = open(alloc, bytes)?;
     let layout = Layout::read(alloc, bytes)?;
     Ok(
-        both_tell(alloc, &graph, &layout, Some(ALL), text)?
+        is_handed_over(alloc, &graph, text)?
+            && both_tell(alloc, &graph, &layout, Some(ALL), text)?
             && both_tell(alloc, &graph, &layout, Some(of_subject(1)), text)?,
     )
 }

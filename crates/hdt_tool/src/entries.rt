@@ -186,7 +186,10 @@ fn form_at<'m>(matches: &ArgMatches<'m>) -> Form
 fn most_at<'m>(matches: &ArgMatches<'m>) -> Option<u64>
     ensures { StatesMost (rows_of (found_of matches.now)) result }
 {
-    matches.get_one::<u64>("most")
+    match matches.get_one::<u64>("most") {
+        Some(most) => Some(most),
+        None => None,
+    }
 }
 
 /// The command that `find` is by its strings, its form and the number that it goes up to.

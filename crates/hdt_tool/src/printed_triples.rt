@@ -1,5 +1,5 @@
 //! What `find` and `dump` print.
-ghost use Rattle.std.specs.Prelude.{◌≡◌, ◌++◌, OnOk, IfOk, IfErr, Some};
+ghost use Rattle.std.specs.Prelude.{◌≡◌, ◌++◌, OnOk, IfOk, IfErr, Some, length};
 ghost use Rattle.hdt_file.specs.TextWriting.{chosen, limited};
 ghost use Rattle.hdt_file.specs.LayoutView.{layout_seen};
 ghost use Rattle.hdt_tool.specs.TriplesText.{Finds, PrintsFound, TellsFound, count_line, numbers_line, numbers_lines};

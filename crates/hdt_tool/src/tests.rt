@@ -2,7 +2,7 @@
 //! texts of faults. What the commands print of files, and what is told of command lines, stands in tests/run.
 use crate::fault::ToolFault;
 use crate::lines::fault_line;
-use crate::request::{Action, Request};
+use crate::request::{Action, Form, Request};
 use crate::run::run;
 use hdt_build::Options;
 use hdt_dict::Role;
@@ -595,10 +595,23 @@ fn is_large_found(alloc: Global, file: &[u8]) -> Result<bool, Fail> {
     Ok(is_done(&seen, b"1 1 1\n", b""))
 }
 
+/// Whether it is counted there, and by none where none is asked for.
+fn is_large_counted(alloc: Global, file: &[u8], most: u64, line: &[u8]) -> Result<bool, Fail> {
+    let action = Action::Search {
+        given: [None, None, Some(with_large(alloc, b"\"", b"\"")?)],
+        form: Form::Count,
+        most: Some(most),
+    };
+    let seen = outcome_of(alloc, action, source_of(file, 7_000), Sink::new(ALL, ALL))?;
+    Ok(is_done(&seen, line, b""))
+}
+
 #[test]
 fn a_large_literal_is_built_and_found(rt: HostRuntime) -> Result<(), Fail> {
     let file = large_build(rt.alloc())?;
     assert!(rt; is_large_found(rt.alloc(), &file)?, "not found");
+    assert!(rt; is_large_counted(rt.alloc(), &file, 1, b"1\n")?, "not counted");
+    assert!(rt; is_large_counted(rt.alloc(), &file, 0, b"0\n")?, "counted where none is asked for");
     Ok(())
 }
 

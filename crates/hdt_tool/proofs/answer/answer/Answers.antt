@@ -1,7 +1,10 @@
-use Rattle.std.proofs.Common.{sym, subst}
-use Rattle.std.proofs.lemmas.Result.{IfOk-weaker}
+use Rattle.std.proofs.Common.{None, sym, subst}
+use Rattle.std.proofs.lemmas.Result.{IfErr-weaker, IfOk-weaker}
 use Rattle.hdt_tool.specs.declared.request.Action.{Action}
-use Rattle.hdt_tool.specs.Answer.{Prints}
+use Rattle.hdt_tool.specs.declared.request.Form.{Form}
+use Rattle.hdt_tool.specs.Answer.{IsTold, Opens, Prints}
+use Rattle.hdt_tool.specs.TriplesText.{PrintsFound}
+use Rattle.hdt_tool.proofs.Told.{no_find}
 use Rattle.hdt_tool.proofs.answer.answer.Goals as goal
 
 pub returns-in-Nth-clause-ok : goal.returns-in-Nth-clause-ok
@@ -14,4 +17,18 @@ returns-in-Number-clause-ok c =
 
 pub returns-in-Find-clause-ok : goal.returns-in-Find-clause-ok
 returns-in-Find-clause-ok c =
-    IfOk-weaker c.triples_of.result _ _ (λ text h. subst (λ (a : Action). Prints a c.args.bytes.now text.items) (sym c.in-Find.is) h) c.triples_of.ensures.ok
+    IfOk-weaker c.triples_of.result _ _
+    (λ text h. subst (λ (a : Action). Prints a c.args.bytes.now text.items) (sym c.in-Find.is)
+        (subst (λ (f : Form). Opens c.args.bytes.now (λ graph. PrintsFound graph c.in-Find.given f None text.items)) c.form_of.ensures h))
+    c.triples_of.ensures.ok
+
+pub returns-in-Find-clause-err : goal.returns-in-Find-clause-err
+returns-in-Find-clause-err c =
+    IfErr-weaker c.triples_of.result _ _
+    (λ e h. subst (λ (a : Action). IsTold a c.args.bytes.now e) (sym c.in-Find.is)
+        (no_find c.in-Find.given c.in-Find.numbers c.form_of.result c.args.bytes.now e c.form_of.ensures h))
+    c.triples_of.ensures.err
+
+pub returns-in-Search-clause-ok : goal.returns-in-Search-clause-ok
+returns-in-Search-clause-ok c =
+    IfOk-weaker c.triples_of-in-Search.result _ _ (λ text h. subst (λ (a : Action). Prints a c.args.bytes.now text.items) (sym c.in-Search.is) h) c.triples_of-in-Search.ensures.ok
