@@ -51,7 +51,7 @@ impl<'a> Triples<'a> {
 impl<'a> IndexedTriples<'a> {
     ghost use Rattle.hdt_triples.specs.ListedViews.{triples_indexed};
 
-    /// Where the triples of the pairs from one to another begin and end. Most pairs have one triple, which its mark tells.
+    /// Where the triples of the pairs from one to another begin and end. Most pairs have one triple, as its mark tells.
     #[tactic(auto, using(hdt_seq::specs::MarksLaws::sooner))]
     fn edges(&self, first: u64, last: u64, steps: &mut Steps) -> (u64, u64)
         requires order { first ≤ last }
@@ -228,9 +228,9 @@ impl<'a> ListedTriples<'a> {
     }
 
     /// How many triples match a pattern: as many as the items of `find`. Where nothing is given, a subject, a subject and
-    /// a predicate, all three, or an object alone, the steps don't grow with the matches; a predicate alone takes two
-    /// searches at most for each of its pairs; else the triples of the subject or of the object are compared one by one. It takes
-    /// no memory.
+    /// a predicate, all three, or an object alone, the steps don't grow with the matches; a predicate alone takes at most
+    /// two searches for each of its pairs; else the triples of the subject or of the object are compared one by one. It
+    /// takes no memory.
     #[tactic(auto, unfolding(crate::specs::Bounds::counting_steps, crate::specs::Bounds::walking_steps))]
     pub fn matching(&self, pattern: Pattern, steps: &mut Steps) -> u64
         ensures is { result ≡ length (matches pattern (triples_of (bitmap_read (triples_listed self.now)))) }
