@@ -1,12 +1,12 @@
 -- How many triples agree.
-use Rattle.std.proofs.Common.{◌≡◌, ◌≢◌, ◌⊎◌, inl, inr, ℕ, ◌+◌, ◌-◌, ◌*◌, ◌<◌, ◌≤◌, ◌==◌, ◌&&◌, zero, suc, List, [], ◌∷◌, length, map, drop, ap, sym, ◌∙◌, arith, Bool, true, false, Some, None, add-zero, slice_index, eq-eqb, refl}
+use Rattle.std.proofs.Common.{◌≡◌, ◌≢◌, ◌⊎◌, inl, inr, ℕ, ◌+◌, ◌-◌, ◌*◌, ◌<◌, ◌≤◌, ◌==◌, ◌&&◌, zero, suc, List, [], ◌∷◌, length, map, drop, slice_get, ap, sym, ◌∙◌, arith, Bool, true, false, Some, None, add-zero, slice_index, eq-eqb, refl}
 use Rattle.std.specs.Int.{from_bool}
 use Rattle.std.proofs.lemmas.List.Elements.{All-rest}
 use Rattle.std.specs.List.{All}
 use Rattle.std.proofs.lemmas.Bool.{cases_eq}
 use Rattle.hdt_seq.specs.Directory.{groups}
 use Rattle.hdt_seq.specs.Width.{digits}
-use Rattle.hdt_seq.specs.MarksLaws.{marks_mono}
+use Rattle.hdt_seq.specs.MarksLaws.{marks_marked, marks_mono}
 use Rattle.hdt_triples.specs.declared.pattern.Pattern.{Pattern}
 use Rattle.hdt_triples.specs.Counting.{BitmapTriples, IsMarked, Triple, triple_at, triples_of, subject_at, pair_of}
 use Rattle.hdt_triples.specs.Patterns.{agrees, admits, matches}
@@ -19,7 +19,7 @@ use Rattle.hdt_triples.specs.OrderLaws.{pair_within}
 use Rattle.hdt_triples.proofs.WalkLaws.{matches_taken, matches_passed}
 use Rattle.hdt_triples.proofs.SubjectLaws.{skipped, none_left, own_subject, other_subject}
 use Rattle.hdt_triples.proofs.PredicateLaws.{Begins, own_predicate, predicate_entered, next_of}
-use Rattle.hdt_triples.proofs.ObjectLaws.{among_places, object_law, object_step}
+use Rattle.hdt_triples.proofs.ObjectLaws.{among_first, among_places, object_law, object_step}
 
 -- one triple is taken or passed
 pub count_on : (p : Pattern) (f : BitmapTriples) (j : ℕ) (b : Bool) (one : ℕ) → j < length f.zs → agrees p (triple_at f j) ≡ b → one ≡ from_bool b
@@ -128,6 +128,17 @@ in_subject_on f p s o at end i z one given_s free given_o r l h is more =
 
 -- ---- a predicate
 
+-- a pair of one triple
+pub one_triple : (f : BitmapTriples) (q last at : ℕ) → at < length f.zs → pair_of f at ≡ q → ((i : ℕ) → i < at → pair_of f i < q) → q ≡ last → slice_get f.mz at ≡ Some true → Edges f q last at (at + 1)
+one_triple f q last at h is earlier same marked = record {
+  some = omega arith;
+  within = omega (arith, h);
+  begins = is;
+  before = earlier;
+  to = λ i l. omega (arith, is, same, marks_mono f.mz i at (omega (arith, l)));
+  ends = omega (arith, is, same, marks_marked f.mz at marked);
+}
+
 -- the triples of its next pair
 pub predicate_on : (f : BitmapTriples) (p at q start end : ℕ) (rest qs : List ℕ) → IsMarked f → Between f p rest at → rest ≡ q ∷ qs → Edges f q q start end
     → length (matches (of_predicate p) (triples_from f at)) + start ≡ end + length (matches (of_predicate p) (triples_from f end))
@@ -155,7 +166,7 @@ pub pairs_pay_first : (f : BitmapTriples) (n m steps before after : ℕ) → bef
 unfolding jump
 pairs_pay_first f n m steps before after few pays = omega (arith, few, pays)
 
-pub pairs_pay_on : (f : BitmapTriples) (q steps after most : ℕ) (rest qs : List ℕ) → rest ≡ q ∷ qs → after ≤ steps + (2 * digits (groups f.mz) + 17) → steps + 2 * jump f * length rest ≤ most → after + 2 * jump f * length qs ≤ most
+pub pairs_pay_on : (f : BitmapTriples) (q steps after most : ℕ) (rest qs : List ℕ) → rest ≡ q ∷ qs → after ≤ steps + (2 * digits (groups f.mz) + 18) → steps + 2 * jump f * length rest ≤ most → after + 2 * jump f * length qs ≤ most
 unfolding jump
 pairs_pay_on f q steps after most rest qs split few pays =
     let count : length rest ≡ suc (length qs) = ap length split in
@@ -163,8 +174,22 @@ pairs_pay_on f q steps after most rest qs split few pays =
 
 -- ---- an object
 
+and_true : (b : Bool) → (b && true) ≡ b
+and_true true = refl
+and_true false = refl
+
+-- a triple of the object agrees as its predicate does
+predicate_tells : (p : Pattern) (f : BitmapTriples) (q o i n : ℕ) → p.s ≡ None → p.p ≡ Some q → p.o ≡ Some o → IsPlaceOf f.zs o i → n ≡ slice_index f.ys (pair_of f i) → agrees p (triple_at f i) ≡ (q == n)
+predicate_tells p f q o i n free given_p given_o place is =
+    ap (λ a. admits a (triple_at f i).0 && admits p.p (triple_at f i).1 && admits p.o (triple_at f i).2) free
+    ∙ ap (λ a. true && admits a (triple_at f i).1 && admits p.o (triple_at f i).2) given_p
+    ∙ ap (λ a. true && (q == (triple_at f i).1) && admits a (triple_at f i).2) given_o
+    ∙ ap (λ b. true && (q == (triple_at f i).1) && b) (eq-eqb o (triple_at f i).2 (sym place.1))
+    ∙ and_true (q == (triple_at f i).1)
+    ∙ ap (λ m. q == m) (sym is)
+
 -- the triple at the first of its places is taken or passed
-pub object_on : (p : Pattern) (f : BitmapTriples) (rest js : List ℕ) (at : ℕ) (b : Bool) (one : ℕ) → 0 < length rest → at ≡ slice_index rest 0 → js ≡ drop 1 rest → agrees p (triple_at f at) ≡ b → one ≡ from_bool b
+object_on : (p : Pattern) (f : BitmapTriples) (rest js : List ℕ) (at : ℕ) (b : Bool) (one : ℕ) → 0 < length rest → at ≡ slice_index rest 0 → js ≡ drop 1 rest → agrees p (triple_at f at) ≡ b → one ≡ from_bool b
     → length (matches p (map (triple_at f) rest)) ≡ one + length (matches p (map (triple_at f) js))
 object_on p f rest js at true one h first behind is more = omega (arith, more, ap length (object_step p f rest js at true h first behind is))
 object_on p f rest js at false one h first behind is none = omega (arith, none, ap length (object_step p f rest js at false h first behind is))
@@ -176,6 +201,12 @@ places_count (j ∷ js) f o all =
     let own : agrees (of_object o) (triple_at f j) ≡ true = eq-eqb o (slice_index f.zs j) (sym (all 0 0 (omega arith)).1) in
     let rest : All (IsPlaceOf f.zs o) js = All-rest (IsPlaceOf f.zs o) j js (j ∷ js) refl all in
     omega (arith, ap length (object_step (of_object o) f (j ∷ js) js j true (omega arith) refl refl own), places_count js f o rest)
+
+-- the same by its predicate
+pub in_object_on : (p : Pattern) (f : BitmapTriples) (q o : ℕ) (rest js : List ℕ) (at n one : ℕ) → p.s ≡ None → p.p ≡ Some q → p.o ≡ Some o → All (IsPlaceOf f.zs o) rest → 0 < length rest → at ≡ slice_index rest 0 → js ≡ drop 1 rest
+    → n ≡ slice_index f.ys (pair_of f at) → one ≡ from_bool (q == n) → length (matches p (map (triple_at f) rest)) ≡ one + length (matches p (map (triple_at f) js))
+in_object_on p f q o rest js at n one free given_p given_o all some first behind is more =
+    object_on p f rest js at (q == n) one some first behind (predicate_tells p f q o at n free given_p given_o (among_first f.zs o rest at some first all) is) more
 
 -- as many as its list is long
 pub object_count : (f : BitmapTriples) (o : ℕ) → length (places_of f.zs o) ≡ length (matches (of_object o) (triples_of f))

@@ -77,9 +77,9 @@ counting_steps_by f (Some s) None (Some o) = 2 * jump f + triples_with (of_subje
 counting_steps_by f (Some s) (Some p) o = 2 * jump f + digits (length f.ys) + digits (length f.zs)
 -- a predicate alone: two jumps for each of its pairs, and for one more
 counting_steps_by f None (Some p) None = 2 * jump f * (1 + length (places_of f.ys p))
--- an object: where its list begins and ends, and with a predicate 20 for each triple of the object
+-- an object: where its list begins and ends, and with a predicate 10 for each triple of the object
 counting_steps_by f None None (Some o) = 2
-counting_steps_by f None (Some p) (Some o) = 2 + 20 * triples_with (of_object o) f
+counting_steps_by f None (Some p) (Some o) = 2 + 10 * triples_with (of_object o) f
 
 -- the table of steps of counting the matches
 unfoldable pub counting_steps : BitmapTriples → Pattern → ℕ

@@ -13,6 +13,7 @@
 //! let indexed = triples.with_directories(alloc).map_err(|_| AllocError)?;
 //! let listed = indexed.with_lists(alloc).map_err(|_| AllocError)?;
 //! let found = listed.find(pattern).count();
+//! let same = listed.matching(pattern, &mut Steps::new());
 //! ```
 //!
 //! In reading order: `counts`, how many strings the numbers are of; `rows`, the rows of the four sequences; `triples`,
@@ -21,8 +22,8 @@
 //!
 //! Searching: `matches`, the items of a search whichever way it goes; `walk`, over all triples; `indexed`, directories over
 //! the marks, by which `subject` and `pair` go; `listed`, the lists by predicate and by object that `counting` makes, by
-//! which `predicate` and `object` go. How many steps each takes at most is the table of specs/Bounds. `uses` tells which
-//! numbers stand in a triple.
+//! which `predicate` and `object` go. How many steps each takes at most is the table of specs/Bounds. `matching` tells how
+//! many items a search has, `uses` which numbers stand in a triple.
 #![tactic(auto)]
 
 mod counting;
@@ -66,6 +67,8 @@ pub use writing::put_triples;
 
 #[cfg(test)]
 mod listed_tests;
+#[cfg(test)]
+mod matching_tests;
 #[cfg(test)]
 mod search_tests;
 #[cfg(test)]

@@ -45,7 +45,7 @@ static ROWS: [([u64; 3], &[(u64, u64, u64)]); 10] = [
 ];
 
 /// The pattern of three numbers, of which 0 is any.
-fn pattern_of(numbers: [u64; 3]) -> Pattern {
+pub(crate) fn pattern_of(numbers: [u64; 3]) -> Pattern {
     let [s, p, o] = numbers.map(|n| if n == 0 { None } else { Some(n) });
     Pattern { s, p, o }
 }
@@ -104,7 +104,11 @@ fn read(bytes: &[u8], counts: [u64; 3]) -> Result<Triples<'_>, Fail> {
 }
 
 /// The same with directories and lists.
-fn listed(alloc: Global, bytes: &[u8], counts: [u64; 3]) -> Result<ListedTriples<'_>, Fail> {
+pub(crate) fn listed(
+    alloc: Global,
+    bytes: &[u8],
+    counts: [u64; 3],
+) -> Result<ListedTriples<'_>, Fail> {
     let triples = read(bytes, counts)?;
     let Ok(indexed) = triples.with_directories(alloc) else {
         return Err(Fail::from(AllocError));
@@ -228,7 +232,7 @@ fn triples_of_two_pairs(alloc: Global) -> Result<Vec<(u64, u64, u64)>, AllocErro
 }
 
 /// These triples, spelled.
-fn two_pairs(alloc: Global, padding: u8) -> Result<Vec<u8>, Fail> {
+pub(crate) fn two_pairs(alloc: Global, padding: u8) -> Result<Vec<u8>, Fail> {
     let mz = marks_of_two_pairs(alloc, 513)?;
     let zs = objects_of_two_pairs(alloc, 513)?;
     spelled(alloc, &[true, true], &mz, &[1, 1], &zs, padding)
@@ -329,7 +333,7 @@ fn five_thousand(alloc: Global) -> Result<Vec<(u64, u64, u64)>, AllocError> {
 }
 
 /// Triples of a list, spelled.
-fn written(alloc: Global, list: &[(u64, u64, u64)]) -> Result<Vec<u8>, Fail> {
+pub(crate) fn written(alloc: Global, list: &[(u64, u64, u64)]) -> Result<Vec<u8>, Fail> {
     if !are_writable(list) {
         return Err(Fail::from("not writable"));
     }

@@ -1,9 +1,9 @@
 //! How many triples match a pattern.
-ghost use Rattle.std.specs.Prelude.{◌≡◌, ◌≤◌, ◌<◌, ◌+◌, ◌*◌, length, Some, None, IsSome};
+ghost use Rattle.std.specs.Prelude.{◌≡◌, ◌≤◌, ◌<◌, ◌+◌, ◌*◌, length, slice_index, Some, None, IsSome};
 ghost use Rattle.hdt_seq.specs.Directory.{groups};
 ghost use Rattle.hdt_seq.specs.Width.{digits};
 ghost use Rattle.hdt_triples.specs.Bounds.{counting_steps, jump, of_object, of_predicate, of_subject, triples_with, walking_steps};
-ghost use Rattle.hdt_triples.specs.Counting.{triples_of};
+ghost use Rattle.hdt_triples.specs.Counting.{pair_of, triples_of};
 ghost use Rattle.hdt_triples.specs.Lists.{places_of};
 ghost use Rattle.hdt_triples.specs.Patterns.{matches};
 ghost use Rattle.hdt_triples.specs.Runs.{AreBetween, Edges};
@@ -11,7 +11,7 @@ ghost use Rattle.hdt_triples.specs.Views.{bitmap_read};
 
 use crate::indexed::IndexedTriples;
 use crate::listed::ListedTriples;
-use crate::look::{entry, listed};
+use crate::look::{entry, listed, mark};
 use crate::pattern::Pattern;
 use crate::triples::Triples;
 use hdt_seq::Steps;
@@ -51,16 +51,19 @@ impl<'a> Triples<'a> {
 impl<'a> IndexedTriples<'a> {
     ghost use Rattle.hdt_triples.specs.ListedViews.{triples_indexed};
 
-    /// Where the triples of the pairs from one to another begin and end.
+    /// Where the triples of the pairs from one to another begin and end. Most pairs have one triple, as its mark tells.
     #[tactic(auto, using(hdt_seq::specs::MarksLaws::sooner))]
     fn edges(&self, first: u64, last: u64, steps: &mut Steps) -> (u64, u64)
         requires order { first ≤ last }
         requires within { last < length (bitmap_read (triples_indexed self.now)).ys }
         ensures are { Edges (bitmap_read (triples_indexed self.now)) first last result.0 result.1 }
-        ensures cost { steps.new ≤ steps.old + (2 * digits (groups (bitmap_read (triples_indexed self.now)).mz) + 16) }
+        ensures cost { steps.new ≤ steps.old + (2 * digits (groups (bitmap_read (triples_indexed self.now)).mz) + 17) }
         ensures more { steps.old ≤ steps.new }
     {
         let at = self.start_of_pair(first, steps);
+        if first == last && mark(&self.triples.mz, at, steps) {
+            return (at, at + 1);
+        }
         let end = self.end_of_pair(last, steps);
         (at, end)
     }
@@ -112,6 +115,18 @@ impl<'a> IndexedTriples<'a> {
             at += 1;
         }
         count
+    }
+
+    /// The predicate of the triple at a place, by counting marks.
+    #[tactic(auto, using(crate::specs::OrderLaws::pair_within), unfolding(crate::specs::Views::bitmap_read))]
+    fn predicate_at(&self, at: u64, steps: &mut Steps) -> u64
+        requires { at < length (bitmap_read (triples_indexed self.now)).zs }
+        ensures is { result ≡ slice_index (bitmap_read (triples_indexed self.now)).ys (pair_of (bitmap_read (triples_indexed self.now)) at) }
+        ensures cost { steps.new ≤ steps.old + 9 }
+        ensures more { steps.old ≤ steps.new }
+    {
+        let pair = self.z.rank(&self.triples.mz, at, steps);
+        entry(&self.triples.ys, pair, steps)
     }
 
     /// How many triples have this subject and this predicate, and the object if one is given.
@@ -187,28 +202,35 @@ impl<'a> ListedTriples<'a> {
         self.places_of(object, steps).len() as u64
     }
 
-    /// How many triples of an object match, each compared with the pattern.
-    fn count_in_object(&self, pattern: Pattern, object: u64, steps: &mut Steps) -> u64
-        requires { pattern.o ≡ Some object }
+    /// How many triples have this predicate and this object, by the predicates of the object's triples.
+    fn count_in_object(
+        &self,
+        pattern: Pattern,
+        predicate: u64,
+        object: u64,
+        steps: &mut Steps,
+    ) -> u64
+        requires subject_free { pattern.s ≡ None }
+        requires predicate_given { pattern.p ≡ Some predicate }
+        requires object_given { pattern.o ≡ Some object }
         ensures is { result ≡ length (matches pattern (triples_of (bitmap_read (triples_listed self.now)))) }
-        ensures cost { steps.new ≤ steps.old + (2 + 20 * triples_with (of_object object) (bitmap_read (triples_listed self.now))) }
+        ensures cost { steps.new ≤ steps.old + (2 + 10 * triples_with (of_object object) (bitmap_read (triples_listed self.now))) }
         ensures more { steps.old ≤ steps.new }
     {
         let mut rest = self.places_of(object, steps);
         let mut count = 0;
         'places: while !rest.is_empty() {
             let at = listed(rest, 0, steps);
-            let triple = self.indexed.triple_of_object(at, object, steps);
-            count += u64::from(pattern.takes(triple));
+            count += u64::from(predicate == self.indexed.predicate_at(at, steps));
             rest = rest.split_at(1).1;
         }
         count
     }
 
     /// How many triples match a pattern: as many as the items of `find`. Where nothing is given, a subject, a subject and
-    /// a predicate, all three, or an object alone, the steps don't grow with the matches; a predicate alone takes two
-    /// searches for each of its pairs; else the triples of the subject or of the object are compared one by one. It takes
-    /// no memory.
+    /// a predicate, all three, or an object alone, the steps don't grow with the matches; a predicate alone takes at most
+    /// two searches for each of its pairs; else the triples of the subject or of the object are compared one by one. It
+    /// takes no memory.
     #[tactic(auto, unfolding(crate::specs::Bounds::counting_steps, crate::specs::Bounds::walking_steps))]
     pub fn matching(&self, pattern: Pattern, steps: &mut Steps) -> u64
         ensures is { result ≡ length (matches pattern (triples_of (bitmap_read (triples_listed self.now)))) }
@@ -219,7 +241,9 @@ impl<'a> ListedTriples<'a> {
         match (pattern.s, pattern.p, pattern.o) {
             (None, Some(predicate), None) => self.count_of_predicate(predicate, steps),
             (None, None, Some(object)) => self.count_of_object(object, steps),
-            (None, Some(_), Some(object)) => self.count_in_object(pattern, object, steps),
+            (None, Some(predicate), Some(object)) => {
+                self.count_in_object(pattern, predicate, object, steps)
+            }
             _ => self.indexed.matching(pattern, steps),
         }
     }

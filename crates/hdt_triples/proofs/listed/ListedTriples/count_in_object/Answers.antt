@@ -1,12 +1,12 @@
-use Rattle.std.proofs.Common.{◌≡◌, ◌<◌, ◌+◌, ◌*◌, ◌∷◌, ◌∙◌, ap, arith, drop, length, map, refl, subst, sym}
+use Rattle.std.proofs.Common.{◌<◌, ◌∙◌, ap, arith, drop, length, map, refl, subst, sym}
 use Rattle.std.proofs.lemmas.Bool.{eqb-true}
 use Rattle.std.specs.List.{All}
 use Rattle.hdt_triples.specs.Counting.{triple_at}
 use Rattle.hdt_triples.specs.Lists.{IsPlaceOf}
-use Rattle.hdt_triples.specs.Patterns.{agrees, matches}
+use Rattle.hdt_triples.specs.Patterns.{matches}
 use Rattle.hdt_triples.specs.Views.{bitmap_read}
 use Rattle.hdt_triples.proofs.ListsLaws.{eqb_false_ne, split_rest}
-use Rattle.hdt_triples.proofs.MatchingLaws.{object_count, object_on}
+use Rattle.hdt_triples.proofs.MatchingLaws.{in_object_on, object_count}
 use Rattle.hdt_triples.proofs.ObjectLaws.{among_behind, among_first, among_places, object_law, object_over}
 use Rattle.hdt_triples.proofs.WalkLaws.{matches_fit}
 use Rattle.hdt_triples.proofs.listed.ListedTriples.count_in_object.Goals as goal
@@ -17,16 +17,16 @@ places-init c =
     let is = c.places_of-rest.ensures.is in
     record {
       among = subst (All (IsPlaceOf f.zs c.args.object)) (sym is) (among_places f.zs c.args.object);
-      so_far = omega (arith, ap (λ js. length (matches c.args.pattern (map (triple_at f) js))) is, ap length (object_law c.args.pattern f c.args.object c.requires));
+      so_far = omega (arith, ap (λ js. length (matches c.args.pattern (map (triple_at f) js))) is, ap length (object_law c.args.pattern f c.args.object c.requires.object_given));
       cost = omega (arith, ap length is);
       more = omega arith;
     }
 
-pub triple_of_object-triple-requires : goal.triple_of_object-triple-requires
-triple_of_object-triple-requires c =
+pub predicate_at-requires : goal.predicate_at-requires
+predicate_at-requires c =
     let rest = c.places.rest.now in
     let some : 0 < length rest = omega (arith, eqb_false_ne (length rest) 0 (sym c.is_empty.ensures ∙ c.places-test.true)) in
-    among_first (bitmap_read c.args.self.now.indexed.triples).zs c.args.object rest c.listed-at.result some c.listed-at.ensures.is c.places.invariant.among
+    (among_first (bitmap_read c.args.self.now.indexed.triples).zs c.args.object rest c.listed-at.result some c.listed-at.ensures.is c.places.invariant.among).0
 
 pub overflow_add-count : goal.overflow_add-count
 overflow_add-count c =
@@ -36,8 +36,8 @@ overflow_add-count c =
     omega (
       arith,
       c.places.invariant.so_far,
-      object_on c.args.pattern (bitmap_read t) rest (drop 1 rest) c.listed-at.result c.takes.result c.from-count.result some c.listed-at.ensures.is refl
-          (ap (agrees c.args.pattern) (sym c.triple_of_object-triple.ensures.is) ∙ sym c.takes.ensures) c.from-count.ensures,
+      in_object_on c.args.pattern (bitmap_read t) c.args.predicate c.args.object rest (drop 1 rest) c.listed-at.result c.predicate_at.result c.from-count.result c.requires.subject_free c.requires.predicate_given c.requires.object_given
+          c.places.invariant.among some c.listed-at.ensures.is refl c.predicate_at.ensures.is c.from-count.ensures,
       matches_fit c.args.pattern t,
     )
 
@@ -55,10 +55,11 @@ places-preserved c =
       so_far = omega (
         arith,
         c.places.invariant.so_far,
-        object_on c.args.pattern f rest js at c.takes.result c.from-count.result some first behind (ap (agrees c.args.pattern) (sym c.triple_of_object-triple.ensures.is) ∙ sym c.takes.ensures) c.from-count.ensures,
+        in_object_on c.args.pattern f c.args.predicate c.args.object rest js at c.predicate_at.result c.from-count.result c.requires.subject_free c.requires.predicate_given c.requires.object_given
+            c.places.invariant.among some first behind c.predicate_at.ensures.is c.from-count.ensures,
       );
-      cost = omega (arith, c.places.invariant.cost, c.listed-at.ensures.cost, c.triple_of_object-triple.ensures.cost, ap length (split_rest rest js at some first behind));
-      more = omega (arith, c.places.invariant.more, c.listed-at.ensures.cost, c.triple_of_object-triple.ensures.more);
+      cost = omega (arith, c.places.invariant.cost, c.listed-at.ensures.cost, c.predicate_at.ensures.cost, ap length (split_rest rest js at some first behind));
+      more = omega (arith, c.places.invariant.more, c.listed-at.ensures.cost, c.predicate_at.ensures.more);
     }
 
 pub returns-clause-is : goal.returns-clause-is

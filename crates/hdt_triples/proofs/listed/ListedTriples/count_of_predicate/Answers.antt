@@ -1,4 +1,4 @@
-use Rattle.std.proofs.Common.{◌≡◌, ◌<◌, ◌+◌, ◌*◌, ◌∷◌, ◌∙◌, ap, arith, drop, length, refl, sym}
+use Rattle.std.proofs.Common.{◌<◌, ◌*◌, ◌∙◌, ap, arith, drop, length, refl, sym}
 use Rattle.std.proofs.lemmas.Bool.{eqb-true}
 use Rattle.std.proofs.lemmas.List.{nil_from_length}
 use Rattle.hdt_triples.specs.Bounds.{jump, of_predicate}
