@@ -1,4 +1,4 @@
-use Rattle.std.proofs.Common.{inl, refl}
+use Rattle.std.proofs.Common.{refl}
 use Rattle.hdt_tool.proofs.Stated.{finding}
 use Rattle.hdt_tool.proofs.entries.find_at.Goals as goal
 
