@@ -281,7 +281,7 @@ fn fails_after(
 fn a_writer_that_fails_at_each_call(rt: HostRuntime) -> Result<(), Fail> {
     let bytes = file_with(rt.alloc(), THREE, &TRIPLES)?;
     let graph = open(rt.alloc(), &bytes)?;
-    let text = lines_of(rt.alloc(), ALL)?;
+    let text = lines_of(rt.alloc(), ALL, u64::MAX)?;
     assert!(rt; text.len() == 58);
     for calls in 0..=58 {
         assert!(rt;
