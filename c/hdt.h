@@ -1,0 +1,154 @@
+/* hdt.h: a proved engine for RDF HDT files, over files that lie in memory.
+ *
+ * Link with libhdt_c.a, and with heap.pic.o of the kit's liblibc_c.a: memory comes from malloc, realloc and free of your
+ * program. No call prints, aborts, exits, waits, starts a thread or keeps anything outside what you give it.
+ *
+ * Who owns what.
+ * - The bytes that you pass are yours, and a call reads them while it runs. hdt_open alone keeps their address: keep them
+ *   where they are, unchanged, until hdt_close returned.
+ * - An hdt_graph and an hdt_bytes are your storage; begin each with HDT_GRAPH_INIT or HDT_BYTES_INIT, or all bytes zero. Don't
+ *   copy one, don't write its fields, and give it to one call at a time (another thread may use it behind a lock). What
+ *   they point to is the library's until hdt_close or hdt_free.
+ * - What is put into room of yours (out, room) is yours; of `out` nothing is changed past what the answer tells.
+ *
+ * What you owe, as nothing checks it: no pointer is null, even for zero bytes (use any address); room is as large as you
+ * say, and aligned for its type; parameters don't overlap, but for two that are only read; no call is made in a signal
+ * handler, or in the forked child of a process with threads.
+ *
+ * What is looked at: whatever the bytes of a file, a text or a string are, they are checked; a graph that isn't open is
+ * told (HDT_CLOSED, HDT_IS_CLOSED), one that is open already is told by hdt_open (HDT_IS_OPEN) and stays as it is; a role
+ * above 2 and a number that no string has are told (HDT_ABSENT); so are block sizes and base IRIs that can't be taken
+ * (HDT_BAD_OPTIONS), and want of memory, which leaves a graph as it was.
+ */
+#ifndef HDT_H
+#define HDT_H
+#include <stddef.h>
+#include <stdint.h>
+#ifdef __cplusplus
+extern "C" {
+#endif
+
+/* Reasons. 0: done. 1 to 33 of a file: the reason of its first fault (docs/FORMAT.md); 1 to 9 of a text: that of its first
+ * fault (docs/NTRIPLES.md). And these: */
+enum {
+    HDT_DONE = 0,
+    HDT_NOT_A_TERM = 250,   /* hdt_text: a string of the graph is no term of N-Triples in its role */
+    HDT_NO_TRIPLES = 251,   /* hdt_build: the text is a document without triples, of which no file is made */
+    HDT_BAD_OPTIONS = 252,  /* hdt_build, hdt_rewrite: the block size isn't 1 to 65535, or the base no absolute IRI */
+    HDT_IS_CLOSED = 253,    /* hdt_text: the graph isn't open */
+    HDT_IS_OPEN = 254,      /* hdt_open: the graph is open already, and stays as it is */
+    HDT_OUT_OF_MEMORY = 255 /* memory was refused: nothing is said of the input; the call may be made again */
+};
+
+/* Answers of the calls that answer a uint64_t, where it is no count, number or length. Those are below: no
+ * memory holds so many. */
+#define HDT_ABSENT UINT64_MAX          /* there is none: no such role, number, string */
+#define HDT_NO_MEMORY (UINT64_MAX - 1) /* memory was refused */
+#define HDT_CLOSED (UINT64_MAX - 2)    /* the graph isn't open */
+
+enum { HDT_SUBJECT = 0, HDT_PREDICATE = 1, HDT_OBJECT = 2 };
+
+/* What is said of a file. */
+typedef struct {
+    uint32_t reason;    /* HDT_DONE: it is a file. Else why not. */
+    uint64_t place;     /* of the fault, in bytes from the start; 0 where there is none */
+    uint64_t counts[5]; /* triples, then strings: shared, subjects alone, predicates, objects alone; 0 where it isn't done */
+} hdt_verdict;
+
+/* What is said of a text that a file is built of. */
+typedef struct {
+    uint32_t reason;    /* HDT_DONE: it was built. Else why not. */
+    uint64_t line;      /* of the fault, from 1; 0 where there is none */
+    uint64_t column;    /* of the fault, in bytes of the line, from 1; 0 where there is none */
+    uint64_t counts[5]; /* as in a verdict: of the file that was built */
+} hdt_report;
+
+/* What is said of a text that is made of a graph. */
+typedef struct {
+    uint32_t reason; /* HDT_DONE, HDT_NOT_A_TERM, HDT_IS_CLOSED, HDT_OUT_OF_MEMORY */
+    uint32_t role;   /* HDT_NOT_A_TERM: the role of the string, else 0 */
+    uint64_t number; /* and its number in that role, else 0 */
+} hdt_telling;
+
+/* A graph: state 1 where it is open, else 0. */
+typedef struct {
+    uint64_t state;
+    void *at;
+} hdt_graph;
+#define HDT_GRAPH_INIT {0, NULL}
+
+/* Bytes that the library made: read `len` bytes from `at`. State 1 where it has some to free, else 0, and then len is 0. A
+ * call that makes bytes frees first what `out` had, also where it makes none. */
+typedef struct {
+    const uint8_t *at;
+    uint64_t len;
+    uint64_t state;
+    void *kept;
+} hdt_bytes;
+#define HDT_BYTES_INIT {NULL, 0, 0, NULL}
+
+/* The verdict on a file: whether the bytes, all of them, are one, and of what counts; else its first fault. Time is in
+ * proportion to the bytes. */
+void hdt_verify(const uint8_t *bytes, size_t len, hdt_verdict *verdict);
+
+/* Opens a file: the verdict of hdt_verify. With HDT_DONE, and with nothing else, the graph is open and holds what the bytes
+ * lay out; at any other reason it is as it was. Time is in proportion to the bytes. */
+void hdt_open(const uint8_t *bytes, size_t len, hdt_graph *graph, hdt_verdict *verdict);
+
+/* Closes a graph and frees what it grew; the bytes are yours again. One that isn't open stays so. */
+void hdt_close(hdt_graph *graph);
+
+/* How many triples there are. HDT_CLOSED. */
+uint64_t hdt_len(hdt_graph *graph);
+
+/* How many strings a role has; they are numbered from 1. HDT_ABSENT (no such role), HDT_CLOSED. */
+uint64_t hdt_count(hdt_graph *graph, uint32_t role);
+
+/* The number of a string in a role, from 1. A string is that of the dictionary: an IRI without its brackets, a blank node
+ * with `_:`, a literal with its quotes, unescaped, and `@` and its tag or `^^<`, its datatype and `>` (docs/NTRIPLES.md,
+ * "Dictionary strings"). HDT_ABSENT (no such role or string), HDT_CLOSED. */
+uint64_t hdt_number(hdt_graph *graph, uint32_t role, const uint8_t *string, size_t len);
+
+/* The string of a role with the number, from 1: how many bytes it has. Its first bytes are put into out: all, or the `room`
+ * that fit. HDT_ABSENT (no such role or number), HDT_NO_MEMORY, HDT_CLOSED; then out is as it was. */
+uint64_t hdt_string(hdt_graph *graph, uint32_t role, uint64_t number, uint8_t *out, size_t room);
+
+/* The header of the file, N-Triples that nobody looked at: how many bytes it has. Its first bytes are put into out, as by
+ * hdt_string. HDT_CLOSED. */
+uint64_t hdt_header(hdt_graph *graph, uint8_t *out, size_t room);
+
+/* The triples that match: that have each string that is given in its role. has_s 0: any subject, and s isn't read (but may
+ * not be null); and so on. They stand in the order of the file, by subject, predicate, object; of them the first `skip` are
+ * left out, and the next ones are put into out, as three numbers each: all, or the `room` that fit. The answer is how many
+ * were put. Those that are left out are walked over: double the room from call to call. HDT_CLOSED. */
+uint64_t hdt_find(hdt_graph *graph, uint32_t has_s, const uint8_t *s, size_t s_len, uint32_t has_p, const uint8_t *p, size_t p_len,
+                  uint32_t has_o, const uint8_t *o, size_t o_len, uint64_t skip, uint64_t (*out)[3], size_t room);
+
+/* How many triples match. HDT_CLOSED. */
+uint64_t hdt_matching(hdt_graph *graph, uint32_t has_s, const uint8_t *s, size_t s_len, uint32_t has_p, const uint8_t *p,
+                      size_t p_len, uint32_t has_o, const uint8_t *o, size_t o_len);
+
+/* The triples that match, as N-Triples, a line each, in the order of the file. A string that is no term of its role is told
+ * by role and number: the first of the first such triple. With HDT_DONE out has the text, which is empty where nothing
+ * matches; else it has nothing. */
+void hdt_text(hdt_graph *graph, uint32_t has_s, const uint8_t *s, size_t s_len, uint32_t has_p, const uint8_t *p, size_t p_len,
+              uint32_t has_o, const uint8_t *o, size_t o_len, hdt_bytes *out, hdt_telling *telling);
+
+/* Builds the canonical file of the graph of N-Triples, in blocks of so many strings, 1 to 65535 (16 is usual). The base is
+ * the absolute IRI that stands for the file in its header. The first fault of the text is told by line and column. With
+ * HDT_DONE out has the file, else nothing. */
+void hdt_build(const uint8_t *text, size_t len, const uint8_t *base, size_t base_len, uint32_t block_size, hdt_bytes *out,
+               hdt_report *report);
+
+/* Rewrites a file as the canonical file of the same triples, with the same header, without unused strings, in blocks of so
+ * many strings, 1 to 65535. The verdict is that on the file that is given, but the counts are those of the new file. With
+ * HDT_DONE out has it, else nothing. */
+void hdt_rewrite(const uint8_t *bytes, size_t len, uint32_t block_size, hdt_bytes *out, hdt_verdict *verdict);
+
+/* Frees bytes and zeroes them. Where there are none it does nothing. */
+void hdt_free(hdt_bytes *bytes);
+
+#ifdef __cplusplus
+}
+#endif
+#endif

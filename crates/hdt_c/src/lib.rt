@@ -1,0 +1,37 @@
+//! The engine for C, as a static library: `c/hdt.h` says what each call takes and answers.
+//!
+//! The layer's promise: an export answers what the engine's own call answers, at the border's types. A graph that is asked is
+//! left as it was; one that isn't open is told; bytes that are handed out stand where the handle says, until they are freed.
+//!
+//! In reading order: `kept`, what the library made and C keeps, and `held`, `parts`, how it stands behind a pointer of C;
+//! `handle` and `taking`, a graph that is taken out of its handle, asked, and put back; `address`, `bytes` and `making`, bytes
+//! that are handed out and freed; `verdict`, `telling` and `report`, what is said of an input; then the exports: `verdict`,
+//! `opening`, `asking` (with `room`, the caller's), `finding`, `text`, `building`, `rewriting`, `making`.
+#![tactic(auto)]
+
+mod address;
+mod asking;
+mod building;
+mod bytes;
+mod finding;
+mod handle;
+mod held;
+mod kept;
+mod making;
+mod opening;
+mod parts;
+mod report;
+mod rewriting;
+mod room;
+mod taking;
+mod telling;
+mod text;
+mod verdict;
+
+pub use address::Address;
+pub use bytes::HdtBytes;
+pub use handle::HdtGraph;
+pub use held::Held;
+pub use report::HdtReport;
+pub use telling::HdtTelling;
+pub use verdict::HdtVerdict;
