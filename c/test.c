@@ -1,6 +1,6 @@
-/* test [--small] FILE..: tests the C library over these files, HDT files or none, and over what it builds itself, or with
- * --small nothing large. The last line is 'N passed, M failed'; the status is 1 where one failed. tests/c builds it, with
- * malloc, realloc and free wrapped.
+/* test [--small|--each] FILE..: tests the C library over these files, HDT files or none, and over what it builds itself, or
+ * with --small nothing large; with --each over files that each hold many. The last line is 'N passed, M failed'; the status
+ * is 1 where one failed. tests/c builds it, with malloc, realloc and free wrapped.
  *
  * Bytes that the library reads, and room that it writes, end where a page begins that nobody may touch: a look past the end
  * is a crash.
@@ -517,6 +517,8 @@ static void refuse(const guarded *file, const hdt_verdict *verdict) {
 
 /* ---- damaged files: verify, open and rewrite agree on them */
 
+static long seen[256]; /* of each reason, how many files had it */
+
 static void agree(const uint8_t *bytes, size_t len) {
     guarded file = guarded_copy(bytes, len);
     hdt_graph graph = HDT_GRAPH_INIT;
@@ -526,13 +528,28 @@ static void agree(const uint8_t *bytes, size_t len) {
     hdt_verify(file.at, len, &verdict);
     hdt_open(file.at, len, &graph, &told);
     CHECK(same_verdict(&verdict, &told) && graph.state == (told.reason == HDT_DONE));
+    seen[told.reason & 255]++;
     if (told.reason != HDT_DONE) {
         CHECK(told.reason >= 1 && told.reason <= 33 && told.place <= len);
         hdt_rewrite(file.at, len, 16, &out, &told);
         CHECK(same_verdict(&verdict, &told) && has_nothing(&out));
+    } else {
+        look_ups(&graph, &verdict);
+        searches(&graph);
     }
     hdt_close(&graph);
     let_go(&file);
+}
+
+/* Many files in one: before each its length, in four bytes, the low one first. */
+static void each_of(const guarded *files) {
+    size_t at = 0;
+    while (at < files->len) {
+        const uint8_t *head = files->at + at;
+        size_t len = head[0] | head[1] << 8 | head[2] << 16 | (size_t)head[3] << 24;
+        agree(head + 4, len);
+        at += 4 + len;
+    }
 }
 
 static void damage(const guarded *file) {
@@ -788,19 +805,26 @@ static void test(const guarded *file) {
 }
 
 int main(int argc, char **argv) {
-    int small = argc > 1 && strcmp(argv[1], "--small") == 0, i;
-    for (i = 1 + small; i < argc; i++) {
+    int small = argc > 1 && strcmp(argv[1], "--small") == 0, each = argc > 1 && strcmp(argv[1], "--each") == 0, i;
+    long reasons = 0;
+    for (i = 1 + small + each; i < argc; i++) {
         guarded file;
         current = argv[i];
         if (CHECK(read_file(argv[i], &file))) {
-            test(&file);
+            (each ? each_of : test)(&file);
             let_go(&file);
         }
     }
-    texts();
-    if (!small) {
+    if (!each) {
+        texts();
+    }
+    if (!each && !small) {
         large();
     }
-    printf("%ld growths refused, %ld told\n%ld passed, %ld failed\n", refused, tellings, passed, failed);
+    for (i = 1; i < 256; i++) {
+        reasons += seen[i] > 0;
+    }
+    printf("%ld growths refused, %ld told; of damaged files %ld are files, the others have %ld reasons\n", refused, tellings, seen[0], reasons);
+    printf("%ld passed, %ld failed\n", passed, failed);
     return failed ? 1 : 0;
 }
