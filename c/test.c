@@ -29,7 +29,8 @@ static int check(int holds, const char *what, int line) {
 
 /* ---- memory: how much is taken, and a growth that is refused */
 
-static long left = -1; /* growths until one is refused, and all behind it; below 0: none is */
+static long left = -1; /* growths until one is refused; below 0: none is */
+static int once;       /* that one alone; else all behind it too */
 static long refused, live;
 void *__real_malloc(size_t size);
 void *__real_realloc(void *old, size_t size);
@@ -41,6 +42,7 @@ static int refuses(void) {
     }
     if (left == 0) {
         refused++;
+        left -= once;
         return 1;
     }
     left--;
@@ -188,12 +190,15 @@ static void look_ups(hdt_graph *graph, const hdt_verdict *verdict) {
     CHECK(out[0] == 0xAA && out[1] == 0xAA);
 }
 
-static void header(hdt_graph *graph) {
+static void header(hdt_graph *graph, const guarded *file) {
     uint8_t none = 0xAA;
     uint64_t len = hdt_header(graph, &none, 0);
-    guarded room = guard(len), less = guard(len);
+    guarded room = guard(len), less = guard(len), more = guard(len + 2);
     CHECK(none == 0xAA);
+    memset(more.at, 0xAA, len + 2);
+    CHECK(hdt_header(graph, more.at, len + 2) == len && more.at[len] == 0xAA);
     CHECK(hdt_header(graph, room.at, len) == len);
+    CHECK(memcmp(more.at, room.at, len) == 0 && (len == 0 || memmem(file->at, file->len, room.at, len) != NULL));
     if (len > 0) {
         memset(less.at, 0xAA, len);
         CHECK(hdt_header(graph, less.at, len - 1) == len);
@@ -201,6 +206,7 @@ static void header(hdt_graph *graph) {
     }
     let_go(&room);
     let_go(&less);
+    let_go(&more);
 }
 
 static int matches(const uint64_t *triple, const uint64_t *numbers, unsigned kinds) {
@@ -464,17 +470,18 @@ static void refuse_each(const char *what, int (*call)(const job *), const job *i
     int answer = WRONG;
     snprintf(named, sizeof named, "%s, %s", name, what);
     current = named;
-    for (k = 0; k < 2000; k++) {
+    for (k = 0; k < 4000; k++) {
         long refusals = refused;
-        left = k;
+        once = k % 2;
+        left = k / 2;
         answer = call(it);
         left = -1;
         if (!CHECK(answer == AMPLE || answer == TOLD) || !CHECK(live == before) || refused == refusals) {
-            break;
+            break; /* wrong, or nothing was refused any more */
         }
         tellings += answer == TOLD;
     }
-    CHECK(answer == AMPLE); /* when nothing was refused any more */
+    CHECK(answer == AMPLE);
     current = name;
 }
 
@@ -676,7 +683,7 @@ static void all_of(const document *it, const uint8_t *name, size_t name_len, uin
     hdt_open(file.at, file.len, &graph, &verdict);
     if (CHECK(verdict.reason == HDT_DONE)) {
         look_ups(&graph, &verdict);
-        header(&graph);
+        header(&graph, &file);
         searches(&graph);
         hdt_text(&graph, GIVEN(&any), &made, &telling);
         CHECK(telling.reason == HDT_DONE && made.len == it->len && memcmp(made.at, it->at, it->len) == 0);
@@ -787,7 +794,7 @@ static void test(const guarded *file) {
     CHECK(same_verdict(&verdict, &told) && graph.state == (told.reason == HDT_DONE));
     if (told.reason == HDT_DONE) {
         look_ups(&graph, &verdict);
-        header(&graph);
+        header(&graph, file);
         searches(&graph);
         opened_again(&graph, file, &verdict);
         remake(&graph, file, &verdict);

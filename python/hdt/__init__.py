@@ -42,7 +42,9 @@ Path = Union[str, bytes, "os.PathLike[str]", "os.PathLike[bytes]"]
 Role = Literal["subject", "predicate", "object"]
 
 _ROLES = ("subject", "predicate", "object")
-_FIRST_ROOM = 256  # of a string in bytes, and of matches
+_FIRST_BYTES = 256  # room for a string; it grows where one needs more
+_FIRST_MATCHES = 64
+_KNOWN = 512  # strings of a role that a search remembers
 
 
 class Counts(NamedTuple):
@@ -194,7 +196,7 @@ class Graph:
     def __init__(self, data: Any) -> None:
         """Opens the bytes of a file, `bytes` or a file that is mapped, which mustn't change as long as it is open."""
         self._lock, self._handle, verdict = threading.Lock(), Handle(), Verdict()
-        self._room = ctypes.create_string_buffer(_FIRST_ROOM)
+        self._room = ctypes.create_string_buffer(_FIRST_BYTES)
         self._lent = Lent(data)
         try:
             library.hdt_open(self._lent.address, self._lent.size, self._handle, verdict)
@@ -291,7 +293,7 @@ class Graph:
         return self._matches(_pattern(s, p, o))
 
     def _matches(self, pattern: list[Any]) -> Iterator[tuple[int, int, int]]:
-        skip, room = 0, _FIRST_ROOM
+        skip, room = 0, _FIRST_MATCHES
         while True:
             out = (ctypes.c_uint64 * (3 * room))()
             got = self._asked(library.hdt_find, *pattern, skip, out, room) or 0
@@ -313,7 +315,7 @@ class Graph:
             for role, number, strings in zip(_ROLES, numbers, known):
                 string = strings.get(number)
                 if string is None:
-                    if len(strings) == 4096:
+                    if len(strings) == _KNOWN:
                         strings.clear()
                     strings[number] = string = self.string(role, number)  # type: ignore[arg-type]
                 triple.append(string)
