@@ -202,7 +202,7 @@ class Graph:
             library.hdt_open(self._lent.address, self._lent.size, self._handle, verdict)
             self._counts = _counts(verdict)
         except BaseException:
-            self._lent.give_back()
+            self.close()
             raise
 
     def close(self) -> None:
@@ -218,7 +218,7 @@ class Graph:
         self.close()
 
     def __del__(self) -> None:
-        if hasattr(self, "_counts"):
+        if hasattr(self, "_lent"):
             self.close()
 
     def _asked(self, call: Any, *parameters: Any) -> Optional[int]:
