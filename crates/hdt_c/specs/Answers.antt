@@ -1,0 +1,91 @@
+-- What the calls that ask a graph answer.
+use Rattle.std.specs.Prelude.{◌≡◌, ◌⊎◌, ℕ, List, [], ◌∷◌, suc, zero, map, take, drop, length, Option, Some, None}
+use Rattle.hdt_wire.specs.declared.role.Role.{Role}
+use Rattle.hdt_wire.specs.declared.role.Role.TheVariants.{Subject, Predicate, Object}
+use Rattle.hdt_dict.specs.Numbered.{numbered}
+use Rattle.hdt_dict.specs.Strings.{Lent}
+use Rattle.hdt_triples.specs.Counting.{Triple}
+use Rattle.hdt_triples.specs.Patterns.{matches}
+use Rattle.hdt_triples.specs.declared.pattern.Pattern.{Pattern}
+use Rattle.hdt_file.specs.File.{GraphParts}
+use Rattle.hdt_file.specs.Search.{IsPattern}
+use Rattle.hdt_file.specs.Views.{strings_in}
+use Rattle.hdt_c.specs.Room.{laid_over}
+
+-- ---- answers that are no number, count or length: 2^64 - 1, - 2 and - 3
+
+-- there is none
+abbrev pub absent : ℕ
+absent = 18446744073709551615
+
+-- memory was refused
+abbrev pub no_memory : ℕ
+no_memory = 18446744073709551614
+
+-- the graph isn't open
+abbrev pub closed : ℕ
+closed = 18446744073709551613
+
+-- ---- roles and their strings
+
+-- the role that C names by a number
+abbrev pub role_at : ℕ → Option Role
+role_at zero = Some Subject
+role_at (suc zero) = Some Predicate
+role_at (suc (suc zero)) = Some Object
+role_at (suc (suc (suc n))) = None
+
+-- how many strings the role has
+abbrev pub count_in : GraphParts → Option Role → ℕ
+count_in g None = absent
+count_in g (Some role) = length (strings_in g role)
+
+-- its string with this number
+abbrev pub string_at : GraphParts → Option Role → ℕ → Option (List ℕ)
+string_at g None n = None
+string_at g (Some role) n = numbered (strings_in g role) n
+
+-- the answer is the number of the string among these, or there is none
+pub record IsNumberIn (strings : List (List ℕ)) (string : List ℕ) (answer : ℕ) : Type 0 where
+  pub found : (n : ℕ) → numbered strings n ≡ Some string → answer ≡ n
+  pub none : ((n : ℕ) → numbered strings n ≡ Some string → ⊥) → answer ≡ absent
+
+-- its number in the role
+abbrev pub IsNumber : GraphParts → Option Role → List ℕ → ℕ → Type 0
+IsNumber g None string answer = answer ≡ absent
+IsNumber g (Some role) string answer = IsNumberIn (strings_in g role) string answer
+
+-- the string was put, and its length is the answer, or memory was refused; or there is none
+abbrev pub Puts : Option (List ℕ) → ℕ → List ℕ → List ℕ → Type 0
+Puts None answer old new = (answer ≡ absent) × (new ≡ old)
+Puts (Some string) answer old new = ((answer ≡ length string) × (new ≡ laid_over string old)) ⊎ ((answer ≡ no_memory) × (new ≡ old))
+
+-- ---- matches
+
+-- a part of what is searched, which C gives by a flag
+abbrev pub part : ℕ → Lent → Option Lent
+part zero x = None
+part (suc n) x = Some x
+
+-- the triples that have each string that is given in its role: the matches of the pattern of their numbers, or none where
+-- a string isn't in its role
+pub record AreMatches (g : GraphParts) (given : List (Option Lent)) (found : List Triple) : Type 0 where
+  pub items : (p : Pattern) → IsPattern g given p → found ≡ matches p g.triples
+  pub none : ((p : Pattern) → IsPattern g given p → ⊥) → found ≡ []
+
+-- so many triples match
+pub record Counts (g : GraphParts) (given : List (Option Lent)) (answer : ℕ) : Type 0 where
+  pub found : List Triple
+  pub are : AreMatches g given found
+  pub count : answer ≡ length found
+
+-- three numbers
+abbrev pub numbers : Triple → List ℕ
+numbers t = t.0 ∷ t.1 ∷ t.2 ∷ []
+
+-- the matches without the first ones were put, as many as fit, and their count is the answer
+pub record Finds (g : GraphParts) (given : List (Option Lent)) (skip answer : ℕ) (old new : List (List ℕ)) : Type 0 where
+  pub found : List Triple
+  pub are : AreMatches g given found
+  pub count : answer ≡ length (take (length old) (drop skip found))
+  pub put : new ≡ laid_over (map numbers (drop skip found)) old

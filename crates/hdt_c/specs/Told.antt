@@ -1,0 +1,32 @@
+-- What a verdict says of a file.
+use Rattle.std.specs.Prelude.{◌≡◌, ◌⊎◌, ℕ, List, [], ◌∷◌, Result, Ok, Err}
+use Rattle.hdt_wire.specs.declared.fault.Fault.{Fault}
+use Rattle.hdt_wire.specs.Fault.{reason_number}
+use Rattle.hdt_file.specs.File.{GraphParts}
+use Rattle.hdt_file.specs.Views.{lens_of}
+use Rattle.hdt_file.specs.declared.fault.OpenFault.{OpenFault}
+use Rattle.hdt_file.specs.declared.fault.OpenFault.TheVariants as opens
+use Rattle.hdt_c.specs.declared.verdict.HdtVerdict.{HdtVerdict}
+
+-- five counts where there are none
+abbrev pub no_counts : List ℕ
+no_counts = 0 ∷ 0 ∷ 0 ∷ 0 ∷ 0 ∷ []
+
+-- a reason that has no place
+abbrev pub for_reason : ℕ → HdtVerdict
+for_reason n = record { reason = n; place = 0; counts = no_counts }
+
+-- of a file: its counts, or the number and the place of its fault
+abbrev pub verdict_on : Result GraphParts Fault → HdtVerdict
+verdict_on (Ok graph) = record { reason = 0; place = 0; counts = lens_of graph }
+verdict_on (Err fault) = record { reason = reason_number fault.reason; place = fault.place; counts = no_counts }
+
+-- that, or memory was refused
+abbrev pub Tells : HdtVerdict → Result GraphParts Fault → Type 0
+Tells v read = (v ≡ for_reason 255) ⊎ (v ≡ verdict_on read)
+
+-- the verdict of a result of a call
+abbrev pub told : Result (List ℕ) OpenFault → HdtVerdict
+told (Ok counts) = record { reason = 0; place = 0; counts = counts }
+told (Err (opens.Fault fault)) = record { reason = reason_number fault.reason; place = fault.place; counts = no_counts }
+told (Err opens.OutOfMemory) = for_reason 255

@@ -1,0 +1,184 @@
+//! Asking a graph for counts, numbers and strings.
+ghost use Rattle.std.specs.Prelude.{◌≡◌, Some, length};
+ghost use Rattle.hdt_file.specs.Views.{graph_seen, strings_in};
+ghost use Rattle.hdt_c.specs.Answers.{IsNumber, IsNumberIn, Puts, closed, count_in, role_at, string_at};
+ghost use Rattle.hdt_c.specs.Handle.{IsClosed, OfGraph, SameGraph};
+ghost use Rattle.hdt_c.specs.Room.{laid_over};
+
+use crate::handle::HdtGraph;
+use crate::room::put;
+use crate::taking::opened;
+use hdt_dict::Role;
+use hdt_file::Graph;
+use hdt_seq::Steps;
+use std::alloc::Global;
+
+/// The answer where there is none.
+const ABSENT: u64 = 18_446_744_073_709_551_615;
+
+/// The answer where memory was refused.
+const NO_MEMORY: u64 = 18_446_744_073_709_551_614;
+
+/// The answer where the graph isn't open.
+pub(crate) const CLOSED: u64 = 18_446_744_073_709_551_613;
+
+/// The role that C names by a number.
+fn role_at(number: u32) -> Option<Role>
+    ensures { result ≡ role_at number }
+{
+    match number {
+        0 => Some(Role::Subject),
+        1 => Some(Role::Predicate),
+        2 => Some(Role::Object),
+        _ => None,
+    }
+}
+
+/// How many triples there are.
+#[unsafe(no_mangle)]
+pub extern "C" fn hdt_len(alloc: Global, graph: &mut HdtGraph) -> u64
+    ensures exact { OfGraph graph.old (λ g. result ≡ length g.triples) }
+    ensures closed { IsClosed graph.old → result ≡ closed }
+    ensures kept { SameGraph graph.old graph.new }
+{
+    match graph.take(alloc) {
+        None => CLOSED,
+        Some(taken) => {
+            let answer = opened(&taken).len();
+            graph.put(taken);
+            answer
+        }
+    }
+}
+
+/// How many strings a role has.
+fn count_in(graph: &Graph<'static>, role: u32) -> u64
+    ensures { result ≡ count_in (graph_seen graph.now) (role_at role) }
+{
+    match role_at(role) {
+        Some(role) => graph.count(role),
+        None => ABSENT,
+    }
+}
+
+/// How many strings a role has.
+#[unsafe(no_mangle)]
+pub extern "C" fn hdt_count(alloc: Global, graph: &mut HdtGraph, role: u32) -> u64
+    ensures exact { OfGraph graph.old (λ g. result ≡ count_in g (role_at role)) }
+    ensures closed { IsClosed graph.old → result ≡ closed }
+    ensures kept { SameGraph graph.old graph.new }
+{
+    match graph.take(alloc) {
+        None => CLOSED,
+        Some(taken) => {
+            let answer = count_in(opened(&taken), role);
+            graph.put(taken);
+            answer
+        }
+    }
+}
+
+/// The number of a string in a role.
+fn number_in(graph: &Graph<'static>, role: Role, string: &[u8]) -> u64
+    ensures { IsNumberIn (strings_in (graph_seen graph.now) role) string.now result }
+{
+    match graph.number_of(role, string, &mut Steps::new()) {
+        Some(number) => number,
+        None => ABSENT,
+    }
+}
+
+/// The same of a role that C names.
+fn number_of(graph: &Graph<'static>, role: u32, string: &[u8]) -> u64
+    ensures { IsNumber (graph_seen graph.now) (role_at role) string.now result }
+{
+    match role_at(role) {
+        Some(role) => number_in(graph, role, string),
+        None => ABSENT,
+    }
+}
+
+/// The number of a string in a role, from 1.
+#[unsafe(no_mangle)]
+pub extern "C" fn hdt_number(alloc: Global, graph: &mut HdtGraph, role: u32, string: &[u8]) -> u64
+    ensures exact { OfGraph graph.old (λ g. IsNumber g (role_at role) string.now result) }
+    ensures closed { IsClosed graph.old → result ≡ closed }
+    ensures kept { SameGraph graph.old graph.new }
+{
+    match graph.take(alloc) {
+        None => CLOSED,
+        Some(taken) => {
+            let answer = number_of(opened(&taken), role, string);
+            graph.put(taken);
+            answer
+        }
+    }
+}
+
+/// Puts a string into room.
+fn put_string(alloc: Global, graph: &Graph<'static>, role: u32, number: u64, room: &mut [u8]) -> u64
+    ensures { Puts (string_at (graph_seen graph.now) (role_at role) number) result room.old room.new }
+{
+    let Some(role) = role_at(role) else {
+        return ABSENT;
+    };
+    let mut string = Vec::new(alloc);
+    match graph.string_of(role, number, &mut string, &mut Steps::new()) {
+        Ok(true) => {
+            put(&string, room);
+            string.len() as u64
+        }
+        Ok(false) => ABSENT,
+        Err(_) => NO_MEMORY,
+    }
+}
+
+/// The string of a role with a number, from 1: its length, and as many of its bytes as fit.
+#[unsafe(no_mangle)]
+pub extern "C" fn hdt_string(
+    alloc: Global,
+    graph: &mut HdtGraph,
+    role: u32,
+    number: u64,
+    out: &mut [u8],
+) -> u64
+    ensures exact { OfGraph graph.old (λ g. Puts (string_at g (role_at role) number) result out.old out.new) }
+    ensures closed { IsClosed graph.old → (result ≡ closed) × (out.new ≡ out.old) }
+    ensures kept { SameGraph graph.old graph.new }
+{
+    match graph.take(alloc) {
+        None => CLOSED,
+        Some(taken) => {
+            let answer = put_string(alloc, opened(&taken), role, number, out);
+            graph.put(taken);
+            answer
+        }
+    }
+}
+
+/// Puts the header body into room.
+fn put_header(graph: &Graph<'static>, room: &mut [u8]) -> u64
+    ensures len { result ≡ length (graph_seen graph.now).header }
+    ensures put { room.new ≡ laid_over (graph_seen graph.now).header room.old }
+{
+    let header = graph.header();
+    put(header, room);
+    header.len() as u64
+}
+
+/// The header body: its length, and as many of its bytes as fit.
+#[unsafe(no_mangle)]
+pub extern "C" fn hdt_header(alloc: Global, graph: &mut HdtGraph, out: &mut [u8]) -> u64
+    ensures exact { OfGraph graph.old (λ g. (result ≡ length g.header) × (out.new ≡ laid_over g.header out.old)) }
+    ensures closed { IsClosed graph.old → (result ≡ closed) × (out.new ≡ out.old) }
+    ensures kept { SameGraph graph.old graph.new }
+{
+    match graph.take(alloc) {
+        None => CLOSED,
+        Some(taken) => {
+            let answer = put_header(opened(&taken), out);
+            graph.put(taken);
+            answer
+        }
+    }
+}

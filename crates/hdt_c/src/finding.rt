@@ -1,0 +1,151 @@
+//! Searching a graph.
+ghost use Rattle.std.specs.Prelude.{◌≡◌, ◌∷◌, [], map, take, drop, length, ◌<◌, ◌^◌};
+ghost use Rattle.hdt_file.specs.Views.{graph_seen};
+ghost use Rattle.hdt_triples.specs.Left.{left_of};
+ghost use Rattle.hdt_c.specs.Answers.{AreMatches, Counts, Finds, closed, numbers, part};
+ghost use Rattle.hdt_c.specs.Handle.{IsClosed, OfGraph, SameGraph};
+ghost use Rattle.hdt_c.specs.Room.{laid_over};
+
+use crate::asking::CLOSED;
+use crate::handle::HdtGraph;
+use crate::taking::opened;
+use hdt_file::Graph;
+use hdt_seq::Steps;
+use hdt_triples::Matches;
+use std::alloc::Global;
+
+/// A part of what is searched: any, or a string.
+pub(crate) fn part(has: u32, string: &[u8]) -> Option<&[u8]>
+    ensures { result ≡ part has string.entry }
+{
+    if has == 0 { None } else { Some(string) }
+}
+
+/// Leaves out the first matches.
+#[tactic(auto, using(crate::proofs::Dropping::drop_one))]
+fn skipped(found: Matches<'_>, skip: u64) -> Matches<'_>
+    ensures { left_of result ≡ drop skip (left_of found.entry) }
+{
+    let mut matches = found;
+    let mut left = skip;
+    'skipped: while left != 0 {
+        let Some(_) = matches.next() else {
+            return matches;
+        };
+        left -= 1;
+    }
+    matches
+}
+
+/// Puts matches into room: as many as fit, and how many those are.
+fn put_matches(found: Matches<'_>, room: &mut [[u64; 3]]) -> u64
+    ensures count { result ≡ length (take (length room.old) (left_of found.entry)) }
+    ensures put { room.new ≡ laid_over (map numbers (left_of found.entry)) room.old }
+{
+    let mut matches = found;
+    let mut count = 0;
+    'put: while count < room.len() {
+        let Some((subject, predicate, object)) = matches.next() else {
+            return count as u64;
+        };
+        room[count] = [subject, predicate, object];
+        count += 1;
+    }
+    count as u64
+}
+
+/// How many matches there are.
+fn counted(found: Matches<'_>) -> u64
+    requires { length (left_of found) < 2 ^ 64 }
+    ensures { result ≡ length (left_of found.entry) }
+{
+    let mut matches = found;
+    let mut count = 0;
+    'counted: while matches.next().is_some() {
+        count += 1;
+    }
+    count
+}
+
+/// The matches of what is searched.
+fn found<'g>(graph: &'g Graph<'static>, given: [Option<&[u8]>; 3]) -> Matches<'g>
+    ensures are { AreMatches (graph_seen graph.now) given.entry (left_of result) }
+    ensures fits { length (left_of result) < 2 ^ 64 }
+{
+    graph.find(given, &mut Steps::new())
+}
+
+/// Puts the matches after the first ones into room.
+fn find_into(
+    graph: &Graph<'static>,
+    given: [Option<&[u8]>; 3],
+    skip: u64,
+    room: &mut [[u64; 3]],
+) -> u64
+    ensures { Finds (graph_seen graph.now) given.entry skip result room.old room.new }
+{
+    put_matches(skipped(found(graph, given), skip), room)
+}
+
+/// How many triples match.
+fn count_matches(graph: &Graph<'static>, given: [Option<&[u8]>; 3]) -> u64
+    ensures { Counts (graph_seen graph.now) given.entry result }
+{
+    counted(found(graph, given))
+}
+
+/// The triples that match, after the first ones, as numbers: as many as fit.
+#[unsafe(no_mangle)]
+pub extern "C" fn hdt_find(
+    alloc: Global,
+    graph: &mut HdtGraph,
+    has_s: u32,
+    s: &[u8],
+    has_p: u32,
+    p: &[u8],
+    has_o: u32,
+    o: &[u8],
+    skip: u64,
+    out: &mut [[u64; 3]],
+) -> u64
+    ensures exact { OfGraph graph.old (λ g. Finds g (part has_s s.entry ∷ part has_p p.entry ∷ part has_o o.entry ∷ []) skip result out.old out.new) }
+    ensures closed { IsClosed graph.old → (result ≡ closed) × (out.new ≡ out.old) }
+    ensures kept { SameGraph graph.old graph.new }
+{
+    match graph.take(alloc) {
+        None => CLOSED,
+        Some(taken) => {
+            let given = [part(has_s, s), part(has_p, p), part(has_o, o)];
+            let answer = find_into(opened(&taken), given, skip, out);
+            graph.put(taken);
+            answer
+        }
+    }
+}
+
+/// How many triples match.
+#[unsafe(no_mangle)]
+pub extern "C" fn hdt_matching(
+    alloc: Global,
+    graph: &mut HdtGraph,
+    has_s: u32,
+    s: &[u8],
+    has_p: u32,
+    p: &[u8],
+    has_o: u32,
+    o: &[u8],
+) -> u64
+    ensures exact { OfGraph graph.old (λ g. Counts g (part has_s s.entry ∷ part has_p p.entry ∷ part has_o o.entry ∷ []) result) }
+    ensures closed { IsClosed graph.old → result ≡ closed }
+    ensures kept { SameGraph graph.old graph.new }
+{
+    match graph.take(alloc) {
+        None => CLOSED,
+        Some(taken) => {
+            let given = [part(has_s, s), part(has_p, p), part(has_o, o)];
+            let answer = count_matches(opened(&taken), given);
+            graph.put(taken);
+            answer
+        }
+    }
+}

@@ -1,0 +1,58 @@
+//! What C keeps, behind a pointer.
+ghost use Rattle.std.specs.Prelude.{◌≡◌, Option, Some, None, IsSome};
+ghost use Rattle.hdt_c.specs.declared.kept.Kept.{Kept};
+ghost use Rattle.hdt_c.specs.Held.{held_coded, held_owns};
+
+use crate::kept::Kept;
+use crate::parts::Parts;
+use std::alloc::Global;
+use std::marker::Model;
+use std::ptr::null_mut;
+
+/// A kept value, or none, as C has it: nothing but its address.
+#[repr(C)]
+#[derive(Drop)]
+pub struct Held {
+    at: *mut u8,
+    alloc: Global,
+    pub(crate) ghost value: { Option Kept } by { held_coded },
+}
+
+impl Model for Held {
+    ghost also_owns = { λ h. held_owns h.alloc h.at h.value };
+}
+
+impl Held {
+    /// Nothing is kept.
+    pub(crate) fn none(alloc: Global) -> Held
+        ensures { result.value ≡ None }
+    {
+        Held {
+            at: null_mut(),
+            alloc,
+        }
+    }
+
+    /// Keeps what a box has.
+    pub(crate) fn of_parts(parts: Parts<Kept, Global>) -> Held
+        ensures { result.value ≡ Some parts.value }
+    {
+        let Parts { ptr, alloc } = parts;
+        Held {
+            at: ptr as *mut u8,
+            alloc,
+        }
+    }
+
+    /// Gives back what is kept.
+    pub(crate) fn into_parts(self) -> Parts<Kept, Global>
+        requires { IsSome self.value }
+        ensures { Some result.value ≡ self.value }
+    {
+        let Held { at, alloc } = self;
+        Parts {
+            ptr: at as *mut Kept,
+            alloc,
+        }
+    }
+}

@@ -1,0 +1,21 @@
+//! The engine for C, as a static library: `c/hdt.h` says what each call takes and answers.
+//!
+//! In reading order: `kept`, what the library made and C keeps, and `held`, `parts`, how it stands behind a pointer;
+//! `handle` and `taking`, a graph that is taken out of its handle, asked, and put back; `verdict` and `opening`; `asking`,
+//! `room` and `finding`, what is asked.
+#![tactic(auto)]
+
+mod asking;
+mod finding;
+mod handle;
+mod held;
+mod kept;
+mod opening;
+mod parts;
+mod room;
+mod taking;
+mod verdict;
+
+pub use handle::HdtGraph;
+pub use held::Held;
+pub use verdict::HdtVerdict;

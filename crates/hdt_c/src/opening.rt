@@ -1,0 +1,81 @@
+//! Opening and closing a graph.
+ghost use Rattle.std.specs.Prelude.{◌≡◌, ◌≢◌, OnErr, OnOk};
+ghost use Rattle.hdt_wire.specs.Exact.{seen};
+ghost use Rattle.hdt_wire.specs.Rows.{Gives};
+ghost use Rattle.hdt_file.specs.Faults.{fault_of};
+ghost use Rattle.hdt_file.specs.File.{IsLayout, graph_in};
+ghost use Rattle.hdt_file.specs.Views.{graph_seen, lens_of};
+ghost use Rattle.hdt_c.specs.Handle.{IsClosed, IsOpen, Opens};
+ghost use Rattle.hdt_c.specs.Told.{Tells, for_reason};
+
+use crate::handle::HdtGraph;
+use crate::kept::Kept;
+use crate::verdict::{HdtVerdict, for_reason, told};
+use hdt_file::{Graph, OpenFault, open};
+use std::alloc::Global;
+
+/// The reason for a graph that is open already.
+const IS_OPEN: u32 = 254;
+
+/// How many triples there are, and strings in each section.
+fn lens(graph: &Graph<'static>) -> [u64; 5]
+    ensures { result ≡ lens_of (graph_seen graph.now) }
+{
+    let [shared, subjects, predicates, objects] = graph.section_lens();
+    [graph.len(), shared, subjects, predicates, objects]
+}
+
+/// Opens a file, and puts its graph into a handle that is closed.
+fn open_into(
+    alloc: Global,
+    bytes: &'static [u8],
+    graph: &mut HdtGraph,
+) -> Result<[u64; 5], OpenFault>
+    ensures told { Gives fault_of (λ lens. lens) result (seen lens_of (graph_in bytes.now)) }
+    ensures ok { OnOk result (Opens bytes.now graph.new) }
+    ensures err { OnErr result (graph.new ≡ graph.old) }
+{
+    let opened = open(alloc, bytes)?;
+    let counts = lens(&opened);
+    match Box::new(alloc, Kept::Graph(opened)) {
+        Ok(kept) => {
+            graph.put(kept);
+            Ok(counts)
+        }
+        Err(_) => Err(OpenFault::OutOfMemory),
+    }
+}
+
+/// Opens a file.
+#[unsafe(no_mangle)]
+pub extern "C" fn hdt_open(
+    alloc: Global,
+    bytes: &'static [u8],
+    graph: &mut HdtGraph,
+    verdict: &mut HdtVerdict,
+)
+    // The verdict on the bytes, or memory was refused.
+    ensures told { IsClosed graph.old → Tells verdict.new (graph_in bytes.now) }
+    // A graph that is open already is refused, and stays.
+    ensures refused { IsOpen graph.old → verdict.new ≡ for_reason 254 }
+    // Reason 0: the graph is open, and holds what the bytes lay out. Any other: it is as it was.
+    ensures opened { verdict.new.reason ≡ 0 → Opens bytes.now graph.new }
+    ensures left { verdict.new.reason ≢ 0 → graph.new ≡ graph.old }
+{
+    if graph.state == 1 {
+        *verdict = for_reason(IS_OPEN);
+        return;
+    }
+    match open_into(alloc, bytes, graph) {
+        Ok(counts) => *verdict = told(Ok(counts)),
+        Err(fault) => *verdict = told(Err(fault)),
+    }
+}
+
+/// Closes a graph, and frees what it grew.
+#[unsafe(no_mangle)]
+pub extern "C" fn hdt_close(alloc: Global, graph: &mut HdtGraph)
+    ensures { IsClosed graph.new }
+{
+    drop(graph.take(alloc));
+}

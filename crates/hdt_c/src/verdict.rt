@@ -1,0 +1,63 @@
+//! Verifying.
+ghost use Rattle.std.specs.Prelude.{◌≡◌, IsOk};
+ghost use Rattle.hdt_file.specs.File.{graph_in};
+ghost use Rattle.hdt_c.specs.Told.{Tells, for_reason, told};
+
+use hdt_file::{OpenFault, verify};
+use std::alloc::Global;
+
+/// The reason for want of memory.
+pub(crate) const OUT_OF_MEMORY: u32 = 255;
+
+/// What is said of a file: `hdt_verdict`.
+#[repr(C)]
+#[derive(Clone, Copy)]
+pub struct HdtVerdict {
+    /// 0 where it is a file; 1 to 33 the number of its first fault's reason; 255 where memory was refused; or another
+    /// of c/hdt.h.
+    pub reason: u32,
+    /// The place of the fault, in bytes; 0 where there is none.
+    pub place: u64,
+    /// Triples, then strings: shared, subjects, predicates, objects; zeros where the reason isn't 0.
+    pub counts: [u64; 5],
+}
+
+/// The verdict of a result.
+pub(crate) fn told(got: Result<[u64; 5], OpenFault>) -> HdtVerdict
+    ensures exact { result ≡ told got }
+    ensures done { result.reason ≡ 0 → IsOk got }
+{
+    match got {
+        Ok(counts) => HdtVerdict {
+            reason: 0,
+            place: 0,
+            counts,
+        },
+        Err(OpenFault::Fault(fault)) => HdtVerdict {
+            reason: u32::from(fault.reason.number()),
+            place: fault.place,
+            counts: [0; 5],
+        },
+        Err(OpenFault::OutOfMemory) => for_reason(OUT_OF_MEMORY),
+    }
+}
+
+/// A verdict of a reason alone.
+pub(crate) fn for_reason(reason: u32) -> HdtVerdict
+    ensures { result ≡ for_reason reason }
+{
+    HdtVerdict {
+        reason,
+        place: 0,
+        counts: [0; 5],
+    }
+}
+
+/// Verifies a file.
+#[unsafe(no_mangle)]
+pub extern "C" fn hdt_verify(alloc: Global, bytes: &[u8], verdict: &mut HdtVerdict)
+    // That on what the bytes read as, or memory was refused.
+    ensures { Tells verdict.new (graph_in bytes.now) }
+{
+    *verdict = told(verify(alloc, bytes));
+}
