@@ -5,17 +5,25 @@
 //! `room` and `finding`, what is asked.
 #![tactic(auto)]
 
+mod address;
 mod asking;
+mod bytes;
 mod finding;
 mod handle;
 mod held;
 mod kept;
+mod making;
 mod opening;
 mod parts;
 mod room;
 mod taking;
+mod telling;
+mod text;
 mod verdict;
 
+pub use address::Address;
+pub use bytes::HdtBytes;
 pub use handle::HdtGraph;
 pub use held::Held;
+pub use telling::HdtTelling;
 pub use verdict::HdtVerdict;

@@ -7,5 +7,5 @@ use Rattle.hdt_c.proofs.asking.number_in.Goals as goal
 pub returns-in-Some : goal.returns-in-Some
 returns-in-Some c = record {
   found = λ n is. ap (λ (o : Option ℕ). unwrap_or o 0) (sym c.in-Some.is ∙ (c.number_of.ensures.exact n).1 is);
-  none = λ no. absurd (no c.in-Some.number ((c.number_of.ensures.exact c.in-Some.number).0 c.in-Some.is));
+  none = λ never. absurd (never c.in-Some.number ((c.number_of.ensures.exact c.in-Some.number).0 c.in-Some.is));
 }

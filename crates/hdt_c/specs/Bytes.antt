@@ -1,0 +1,24 @@
+-- Bytes that C has.
+use denote.RawPtr.{null_ptr}
+use Rattle.std.specs.Prelude.{◌≡◌, ℕ, List, length, None, Some}
+use Rattle.std.specs.Vec.{vec_ptr}
+use Rattle.std.specs.declared.vec.Vec.{Vec}
+use Rattle.std.specs.declared.alloc.Global.{Global}
+use Rattle.hdt_c.specs.declared.bytes.HdtBytes.{HdtBytes}
+use Rattle.hdt_c.specs.declared.kept.Kept.TheVariants as kept
+
+-- there are none: all zero
+pub record AreNone (h : HdtBytes) : Type 0 where
+  pub at : h.at.at ≡ null_ptr
+  pub len : h.len ≡ 0
+  pub state : h.state ≡ 0
+  pub held : h.held.value ≡ None
+
+-- these: of a vector that the handle owns, whose address and length it tells
+pub record Are (h : HdtBytes) (bytes : List ℕ) : Type 0 where
+  pub vector : Vec ℕ Global
+  pub items : vector.items ≡ bytes
+  pub at : h.at.at ≡ vec_ptr vector
+  pub len : h.len ≡ length bytes
+  pub state : h.state ≡ 1
+  pub held : h.held.value ≡ Some (kept.Bytes vector)

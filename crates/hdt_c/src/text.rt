@@ -1,0 +1,133 @@
+//! The N-Triples text of a graph.
+ghost use Rattle.std.specs.Prelude.{◌≡◌, ◌∷◌, [], IfOk, IfErr};
+ghost use Rattle.hdt_file.specs.TextWriting.{chosen};
+ghost use Rattle.hdt_file.specs.Views.{graph_seen};
+ghost use Rattle.hdt_c.specs.Answers.{AreMatches, part};
+ghost use Rattle.hdt_c.specs.Bytes.{AreNone};
+ghost use Rattle.hdt_c.specs.Handle.{IsClosed, OfGraph, SameGraph};
+ghost use Rattle.hdt_c.specs.Texts.{IsText, Stands, TellsText, for_reason, role_number, told};
+
+use crate::bytes::HdtBytes;
+use crate::finding::part;
+use crate::handle::HdtGraph;
+use crate::taking::opened;
+use crate::telling::HdtTelling;
+use crate::verdict::OUT_OF_MEMORY;
+use hdt_dict::Role;
+use hdt_file::{DumpFault, Graph, graph_text};
+use hdt_seq::Steps;
+use hdt_triples::Pattern;
+use std::alloc::Global;
+
+/// The reason for a string that is no term.
+const NOT_A_TERM: u32 = 250;
+
+/// The reason for a graph that isn't open.
+const IS_CLOSED: u32 = 253;
+
+/// A reason that has no string.
+fn for_reason(reason: u32) -> HdtTelling
+    ensures { result ≡ for_reason reason }
+{
+    HdtTelling {
+        reason,
+        role: 0,
+        number: 0,
+    }
+}
+
+/// The number by which C names a role.
+fn role_number(role: Role) -> u32
+    ensures { result ≡ role_number role }
+{
+    match role {
+        Role::Subject => 0,
+        Role::Predicate => 1,
+        Role::Object => 2,
+    }
+}
+
+/// What is told of a fault.
+fn told(fault: DumpFault) -> HdtTelling
+    ensures { result ≡ told fault }
+{
+    match fault {
+        DumpFault::NotATerm(role, number) => HdtTelling {
+            reason: NOT_A_TERM,
+            role: role_number(role),
+            number,
+        },
+        DumpFault::Write(_) | DumpFault::OutOfMemory => for_reason(OUT_OF_MEMORY),
+    }
+}
+
+/// The pattern of what is searched.
+fn pattern_of(graph: &Graph<'static>, given: [Option<&[u8]>; 3]) -> Option<Pattern>
+    ensures { AreMatches (graph_seen graph.now) given.entry (chosen (graph_seen graph.now) result) }
+{
+    graph.pattern(given, &mut Steps::new())
+}
+
+/// The text of the matches.
+fn text_of(
+    alloc: Global,
+    graph: &Graph<'static>,
+    given: [Option<&[u8]>; 3],
+) -> Result<Vec<u8>, DumpFault>
+    ensures ok { IfOk result (λ text. IsText (graph_seen graph.now) given.entry text.items) }
+    ensures err { IfErr result (Stands (graph_seen graph.now) given.entry) }
+{
+    graph_text(alloc, graph, pattern_of(graph, given))
+}
+
+/// Puts the text of the matches into a handle.
+fn put_text(
+    alloc: Global,
+    graph: &Graph<'static>,
+    given: [Option<&[u8]>; 3],
+    out: &mut HdtBytes,
+) -> HdtTelling
+    ensures { TellsText (graph_seen graph.now) given.entry out.new result }
+{
+    match text_of(alloc, graph, given) {
+        Ok(text) => match out.put(alloc, text) {
+            Ok(()) => for_reason(0),
+            Err(_) => told(DumpFault::OutOfMemory),
+        },
+        Err(fault) => {
+            out.free(alloc);
+            told(fault)
+        }
+    }
+}
+
+/// The text of the triples that match.
+#[unsafe(no_mangle)]
+pub extern "C" fn hdt_text(
+    alloc: Global,
+    graph: &mut HdtGraph,
+    has_s: u32,
+    s: &[u8],
+    has_p: u32,
+    p: &[u8],
+    has_o: u32,
+    o: &[u8],
+    out: &mut HdtBytes,
+    telling: &mut HdtTelling,
+)
+    ensures exact { OfGraph graph.old (λ g. TellsText g (part has_s s.entry ∷ part has_p p.entry ∷ part has_o o.entry ∷ []) out.new telling.new) }
+    ensures closed { IsClosed graph.old → (telling.new ≡ for_reason 253) × AreNone out.new }
+    ensures kept { SameGraph graph.old graph.new }
+{
+    match graph.take(alloc) {
+        None => {
+            out.free(alloc);
+            *telling = for_reason(IS_CLOSED);
+        }
+        Some(taken) => {
+            let given = [part(has_s, s), part(has_p, p), part(has_o, o)];
+            *telling = put_text(alloc, opened(&taken), given, out);
+            graph.put(taken);
+        }
+    }
+}
