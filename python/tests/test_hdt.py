@@ -46,7 +46,8 @@ def line(triple):
 
 def matching(triples, given):
     """A plain filter."""
-    return [triple for triple in triples if all(term in (None, own) for term, own in zip(given, triple))]
+    s, p, o = given
+    return [triple for triple in triples if s in (None, triple[0]) and p in (None, triple[1]) and o in (None, triple[2])]
 
 
 def built(folder, triples, name="built"):
@@ -382,10 +383,11 @@ class Large(Folder):
         self.assertEqual(self.graph.text(), "".join(map(line, found)))
 
     def test_patterns(self):
-        """Sampled triples, each under the eight patterns that it matches, and these with a term that is elsewhere."""
+        """Sampled triples, each under the patterns that it matches, and one with a term that is elsewhere. (Of the eight patterns
+        the one without a term is that of `test_all`.)"""
         found = list(self.graph)
-        for triple in self.source.sample(found, 8):
-            for kind in KINDS:
+        for triple in self.source.sample(found, 6):
+            for kind in KINDS[1:]:
                 given = [term if has else None for term, has in zip(triple, kind)]
                 wanted = matching(found, given)
                 self.assertEqual(self.graph.matching(*given), len(wanted))
