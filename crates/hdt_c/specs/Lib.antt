@@ -1,8 +1,10 @@
 pub mod Answers
+pub mod Building
 pub mod Bytes
 pub mod Handle
 pub mod Held
 pub mod Kept
+pub mod Rewriting
 pub mod Room
 pub mod Texts
 pub mod Told

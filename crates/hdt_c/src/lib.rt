@@ -7,6 +7,7 @@
 
 mod address;
 mod asking;
+mod building;
 mod bytes;
 mod finding;
 mod handle;
@@ -15,6 +16,8 @@ mod kept;
 mod making;
 mod opening;
 mod parts;
+mod report;
+mod rewriting;
 mod room;
 mod taking;
 mod telling;
@@ -25,5 +28,6 @@ pub use address::Address;
 pub use bytes::HdtBytes;
 pub use handle::HdtGraph;
 pub use held::Held;
+pub use report::HdtReport;
 pub use telling::HdtTelling;
 pub use verdict::HdtVerdict;

@@ -9,6 +9,9 @@ use std::alloc::Global;
 /// The reason for want of memory.
 pub(crate) const OUT_OF_MEMORY: u32 = 255;
 
+/// The reason for options that can't be taken.
+pub(crate) const BAD_OPTIONS: u32 = 252;
+
 /// What is said of a file: `hdt_verdict`.
 #[repr(C)]
 #[derive(Clone, Copy)]

@@ -1,0 +1,7 @@
+-- Where memory is refused for the handle, that is told.
+use Rattle.std.proofs.Common.{inr}
+use Rattle.hdt_build.specs.declared.fault.BuildFault.TheVariants.{OutOfMemory}
+use Rattle.hdt_c.proofs.building.hdt_build.Goals as goal
+
+pub returns-in-Err-put : goal.returns-in-Err-put
+returns-in-Err-put c = inr (record { fault = OutOfMemory; stands = tt; made = c.in-Err-put.ensures.err; told = c.told.ensures })

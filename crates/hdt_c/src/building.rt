@@ -1,0 +1,104 @@
+//! Building a file of N-Triples.
+ghost use Rattle.std.specs.Prelude.{◌≡◌, IfOk, IfErr};
+ghost use Rattle.hdt_c.specs.Building.{IsBuilt, Stands, TellsBuilt, built, for_reason, told};
+
+use crate::bytes::HdtBytes;
+use crate::report::HdtReport;
+use crate::verdict::{BAD_OPTIONS, OUT_OF_MEMORY};
+use hdt_build::{BuildFault, Options, Report, build_bytes};
+use hdt_wire::Counted;
+use std::alloc::Global;
+
+/// The reason for a document without triples.
+const NO_TRIPLES: u32 = 251;
+
+/// A reason that has no line.
+fn for_reason(reason: u32) -> HdtReport
+    ensures { result ≡ for_reason reason }
+{
+    HdtReport {
+        reason,
+        line: 0,
+        column: 0,
+        counts: [0; 5],
+    }
+}
+
+/// The report on a file that was built.
+fn built(report: Report) -> HdtReport
+    ensures { result ≡ built report }
+{
+    HdtReport {
+        reason: 0,
+        line: 0,
+        column: 0,
+        counts: [
+            report.triples,
+            report.shared,
+            report.subjects,
+            report.predicates,
+            report.objects,
+        ],
+    }
+}
+
+/// What is told of a fault.
+fn told(fault: BuildFault) -> HdtReport
+    ensures { result ≡ told fault }
+{
+    match fault {
+        BuildFault::Line(line) => HdtReport {
+            reason: u32::from(line.reason.number()),
+            line: line.line,
+            column: line.column,
+            counts: [0; 5],
+        },
+        BuildFault::NoTriples => for_reason(NO_TRIPLES),
+        BuildFault::BadOptions => for_reason(BAD_OPTIONS),
+        BuildFault::OutOfMemory | BuildFault::Write(_) => for_reason(OUT_OF_MEMORY),
+    }
+}
+
+/// The canonical file of a text's graph.
+fn file_of(
+    alloc: Global,
+    text: &[u8],
+    base: &[u8],
+    block_size: u32,
+) -> Result<(Vec<u8>, Report), BuildFault>
+    ensures ok { IfOk result (λ made. IsBuilt text.now base.now block_size made.0.items made.1) }
+    ensures err { IfErr result (Stands text.now base.now block_size) }
+{
+    let options = Options {
+        block_size,
+        base: Vec::from_slice(alloc, base)?,
+    };
+    match build_bytes(alloc, &mut Counted::new(text), &options) {
+        Ok(made) => Ok(made),
+        Err(fault) => Err(fault),
+    }
+}
+
+/// Builds a file of N-Triples.
+#[unsafe(no_mangle)]
+pub extern "C" fn hdt_build(
+    alloc: Global,
+    text: &[u8],
+    base: &[u8],
+    block_size: u32,
+    out: &mut HdtBytes,
+    report: &mut HdtReport,
+)
+    ensures { TellsBuilt text.now base.now block_size out.new report.new }
+{
+    *report = match file_of(alloc, text, base, block_size) {
+        Ok((bytes, numbers)) => match out.put(alloc, bytes) {
+            Ok(()) => built(numbers),
+            Err(_) => told(BuildFault::OutOfMemory),
+        },
+        Err(fault) => {
+            out.free(alloc);
+            told(fault)
+        }
+    };
+}

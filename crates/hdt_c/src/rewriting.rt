@@ -1,0 +1,73 @@
+//! Rewriting a file.
+ghost use Rattle.std.specs.Prelude.{◌≡◌, IfOk, IfErr};
+ghost use Rattle.hdt_c.specs.Rewriting.{IsAgain, Stands, TellsRewritten, rewritten};
+
+use crate::bytes::HdtBytes;
+use crate::verdict::{BAD_OPTIONS, HdtVerdict, OUT_OF_MEMORY, for_reason, told};
+use hdt_build::{Options, Report, RewriteFault, rewrite_bytes};
+use hdt_file::open;
+use std::alloc::Global;
+
+/// The verdict on a file that was rewritten.
+fn rewritten(report: Report) -> HdtVerdict
+    ensures { result ≡ rewritten report }
+{
+    HdtVerdict {
+        reason: 0,
+        place: 0,
+        counts: [
+            report.triples,
+            report.shared,
+            report.subjects,
+            report.predicates,
+            report.objects,
+        ],
+    }
+}
+
+/// The canonical file of what the bytes lay out.
+fn file_of(
+    alloc: Global,
+    bytes: &[u8],
+    block_size: u32,
+) -> Result<(Vec<u8>, Report), HdtVerdict>
+    ensures ok { IfOk result (λ made. IsAgain bytes.now block_size made.0.items made.1) }
+    ensures err { IfErr result (Stands bytes.now block_size) }
+{
+    let graph = match open(alloc, bytes) {
+        Ok(graph) => graph,
+        Err(fault) => return Err(told(Err(fault))),
+    };
+    let options = Options {
+        block_size,
+        base: Vec::new(alloc),
+    };
+    match rewrite_bytes(alloc, &graph, &options) {
+        Ok(made) => Ok(made),
+        Err(RewriteFault::BadOptions) => Err(for_reason(BAD_OPTIONS)),
+        Err(_) => Err(for_reason(OUT_OF_MEMORY)),
+    }
+}
+
+/// Rewrites a file as the canonical one of the same graph.
+#[unsafe(no_mangle)]
+pub extern "C" fn hdt_rewrite(
+    alloc: Global,
+    bytes: &[u8],
+    block_size: u32,
+    out: &mut HdtBytes,
+    verdict: &mut HdtVerdict,
+)
+    ensures { TellsRewritten bytes.now block_size out.new verdict.new }
+{
+    *verdict = match file_of(alloc, bytes, block_size) {
+        Ok((new, report)) => match out.put(alloc, new) {
+            Ok(()) => rewritten(report),
+            Err(_) => for_reason(OUT_OF_MEMORY),
+        },
+        Err(fault) => {
+            out.free(alloc);
+            fault
+        }
+    };
+}
