@@ -1,6 +1,5 @@
 -- What is said of a text that a file is built of.
-use Rattle.std.specs.Prelude.{◌≡◌, ◌≢◌, ◌⊎◌, ⊤, ℕ, List, [], ◌∷◌, Option, Some}
-use Rattle.hdt_terms.specs.Documents.{IsDocument, FaultInDocument}
+use Rattle.std.specs.Prelude.{◌≡◌, ◌⊎◌, ⊤, ℕ, List, [], ◌∷◌, Option, Some}
 use Rattle.hdt_terms.specs.Reasons.{line_reason_number}
 use Rattle.hdt_build.specs.Built.{Builds}
 use Rattle.hdt_build.specs.Options.{AreRight}

@@ -44,7 +44,12 @@ impl HdtBytes {
     pub(crate) fn free(&mut self, alloc: Global)
         ensures { AreNone self.new }
     {
-        let HdtBytes { at: _, len: _, state, held } = replace(self, HdtBytes::none(alloc));
+        let HdtBytes {
+            at: _,
+            len: _,
+            state,
+            held,
+        } = replace(self, HdtBytes::none(alloc));
         if state == 1 {
             drop(held.into_parts().into_box());
         }

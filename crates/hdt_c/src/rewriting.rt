@@ -26,11 +26,7 @@ fn rewritten(report: Report) -> HdtVerdict
 }
 
 /// The canonical file of what the bytes lay out.
-fn file_of(
-    alloc: Global,
-    bytes: &[u8],
-    block_size: u32,
-) -> Result<(Vec<u8>, Report), HdtVerdict>
+fn file_of(alloc: Global, bytes: &[u8], block_size: u32) -> Result<(Vec<u8>, Report), HdtVerdict>
     ensures ok { IfOk result (λ made. IsAgain bytes.now block_size made.0.items made.1) }
     ensures err { IfErr result (Stands bytes.now block_size) }
 {
