@@ -14,18 +14,25 @@
 #include <sys/mman.h>
 #include <unistd.h>
 
-static long passed, failed;
+static long checks, failed_checks, passed, failed; /* the last two count cases: a file, or what is built of a document */
 static const char *current = "";
 
 static int check(int holds, const char *what, int line) {
-    if (holds) {
-        passed++;
-    } else if (failed++ < 50) {
+    checks++;
+    if (!holds && failed_checks++ < 50) {
         printf("FAILED %s: line %d: %s\n", current, line, what);
     }
     return holds;
 }
 #define CHECK(holds) check((holds) ? 1 : 0, #holds, __LINE__)
+
+/* Ends a case: it has passed if all its checks hold. */
+static void end_case(void) {
+    static long before;
+    passed += failed_checks == before;
+    failed += failed_checks != before;
+    before = failed_checks;
+}
 
 /* ---- memory: how much is taken, and a growth that is refused */
 
@@ -555,6 +562,7 @@ static void each_of(const guarded *files) {
         const uint8_t *head = files->at + at;
         size_t len = head[0] | head[1] << 8 | head[2] << 16 | (size_t)head[3] << 24;
         agree(head + 4, len);
+        end_case();
         at += 4 + len;
     }
 }
@@ -694,6 +702,7 @@ static void all_of(const document *it, const uint8_t *name, size_t name_len, uin
     CHECK(live == before);
     let_go(&file);
     let_go(&written);
+    end_case();
 }
 
 enum { LONG = 100000 };
@@ -766,6 +775,7 @@ static void texts(void) {
     }
     hdt_free(&out);
     CHECK(has_nothing(&out));
+    end_case();
 }
 
 /* ---- */
@@ -821,6 +831,9 @@ int main(int argc, char **argv) {
             (each ? each_of : test)(&file);
             let_go(&file);
         }
+        if (!each) {
+            end_case();
+        }
     }
     if (!each) {
         texts();
@@ -831,7 +844,7 @@ int main(int argc, char **argv) {
     for (i = 1; i < 256; i++) {
         reasons += seen[i] > 0;
     }
-    printf("%ld growths refused, %ld told; of damaged files %ld are files, the others have %ld reasons\n", refused, tellings, seen[0], reasons);
+    printf("%ld checks, %ld growths refused, %ld of them told; of damaged files %ld are files, the others have %ld reasons\n", checks, refused, tellings, seen[0], reasons);
     printf("%ld passed, %ld failed\n", passed, failed);
-    return failed ? 1 : 0;
+    return failed_checks ? 1 : 0;
 }
