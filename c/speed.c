@@ -27,8 +27,9 @@ static void row(const char *what, double begin, uint64_t count) {
 int main(int argc, char **argv) {
     FILE *file = argc == 2 ? fopen(argv[1], "rb") : NULL;
     hdt_graph graph = HDT_GRAPH_INIT;
-    hdt_bytes text = HDT_BYTES_INIT;
+    hdt_bytes text = HDT_BYTES_INIT, made = HDT_BYTES_INIT;
     hdt_telling telling;
+    hdt_report report;
     hdt_verdict verdict;
     uint64_t(*triples)[3] = malloc(sizeof *triples * ROOM);
     uint64_t i, count, sum = 0;
@@ -91,11 +92,14 @@ int main(int argc, char **argv) {
     begin = now();
     hdt_text(&graph, 0, any, 0, 0, any, 0, 0, any, 0, &text, &telling);
     row("text of all, a triple", begin, hdt_len(&graph));
-    hdt_free(&text);
     begin = now();
-    hdt_rewrite(bytes, len, 16, &text, &verdict);
-    row("rewrite", begin, 1);
+    hdt_build(text.at, text.len, (const uint8_t *)"http://a/", 9, 16, &made, &report);
+    row("build of that text, a triple", begin, hdt_len(&graph));
+    begin = now();
+    hdt_rewrite(bytes, len, 16, &made, &verdict);
+    row("rewrite, a triple", begin, hdt_len(&graph));
     hdt_free(&text);
+    hdt_free(&made);
     hdt_close(&graph);
     free(bytes);
     free(triples);

@@ -312,13 +312,13 @@ class Graph:
         known: list[dict[int, str]] = [{}, {}, {}]
         for numbers in triples:
             triple = []
-            for role, number, strings in zip(_ROLES, numbers, known):
-                string = strings.get(number)
-                if string is None:
+            for role, number in enumerate(numbers):
+                strings = known[role]
+                if number not in strings:
                     if len(strings) == _KNOWN:
                         strings.clear()
-                    strings[number] = string = self.string(role, number)  # type: ignore[arg-type]
-                triple.append(string)
+                    strings[number] = (self._put(library.hdt_string, role, number) or b"").decode()
+                triple.append(strings[number])
             yield triple[0], triple[1], triple[2]
 
     def __iter__(self) -> Iterator[tuple[str, str, str]]:
