@@ -128,6 +128,8 @@ static uint64_t lines_of(const hdt_bytes *text) {
     return lines;
 }
 
+static const uint8_t base[] = "http://a/";
+
 static int same_verdict(const hdt_verdict *a, const hdt_verdict *b) {
     return a->reason == b->reason && a->place == b->place && memcmp(a->counts, b->counts, sizeof a->counts) == 0;
 }
@@ -317,12 +319,28 @@ static void searches(hdt_graph *graph) {
     free(all);
 }
 
-static const uint8_t base[] = "http://a/";
+/* Whether two graphs have one header, and one text or string that is no term. */
+static int alike(hdt_graph *a, hdt_graph *b) {
+    hdt_bytes texts[2] = {HDT_BYTES_INIT, HDT_BYTES_INIT};
+    hdt_telling told[2];
+    uint64_t len = hdt_header(a, (uint8_t *)texts, 0);
+    uint8_t *headers = malloc(2 * len + 1);
+    int same = hdt_header(b, headers, len) == len && hdt_header(a, headers + len, len) == len && memcmp(headers, headers + len, len) == 0;
+    hdt_text(a, GIVEN(&any), &texts[0], &told[0]);
+    hdt_text(b, GIVEN(&any), &texts[1], &told[1]);
+    same = same && told[0].reason == told[1].reason && told[0].role == told[1].role;
+    same = same && texts[0].len == texts[1].len && (texts[0].len == 0 || memcmp(texts[0].at, texts[1].at, texts[0].len) == 0);
+    hdt_free(&texts[0]);
+    hdt_free(&texts[1]);
+    free(headers);
+    return same;
+}
 
 /* A file rewritten in blocks of several sizes is a file of the same triples; so is one that is built of the graph's text. */
 static void remake(hdt_graph *graph, const guarded *file, const hdt_verdict *verdict) {
     static const uint32_t sizes[] = {1, 2, 16, 65535}, bad[] = {0, 65536, UINT32_MAX};
     hdt_bytes out = HDT_BYTES_INIT, again = HDT_BYTES_INIT;
+    hdt_graph made = HDT_GRAPH_INIT;
     hdt_verdict told, other;
     hdt_report report;
     hdt_telling telling;
@@ -333,6 +351,9 @@ static void remake(hdt_graph *graph, const guarded *file, const hdt_verdict *ver
         CHECK(told.reason == HDT_DONE && told.place == 0 && told.counts[0] == verdict->counts[0] && out.state == 1);
         hdt_verify(out.at, out.len, &other);
         CHECK(same_verdict(&told, &other));
+        hdt_open(out.at, out.len, &made, &other);
+        CHECK(same_verdict(&told, &other) && alike(graph, &made));
+        hdt_close(&made);
         hdt_rewrite(out.at, out.len, sizes[i], &again, &other);
         CHECK(same_verdict(&told, &other) && again.len == out.len && memcmp(again.at, out.at, out.len) == 0);
     }
@@ -362,15 +383,19 @@ static void closed(hdt_graph *graph) {
     uint64_t out[1][3] = {{7, 7, 7}};
     uint8_t room = 0xAA;
     hdt_telling telling;
+    hdt_report report;
     hdt_bytes made = HDT_BYTES_INIT;
+    long before = live;
     CHECK(graph->state == 0);
     CHECK(hdt_len(graph) == HDT_CLOSED && hdt_count(graph, 0) == HDT_CLOSED && hdt_count(graph, 3) == HDT_CLOSED);
     CHECK(hdt_number(graph, 0, &room, 1) == HDT_CLOSED && hdt_number(graph, 3, &room, 1) == HDT_CLOSED);
     CHECK(hdt_string(graph, 0, 1, &room, 1) == HDT_CLOSED && hdt_string(graph, 3, 0, &room, 1) == HDT_CLOSED);
     CHECK(hdt_header(graph, &room, 1) == HDT_CLOSED && room == 0xAA);
     CHECK(find(graph, &any, 0, out, 1) == HDT_CLOSED && out[0][0] == 7 && hdt_matching(graph, GIVEN(&any)) == HDT_CLOSED);
-    hdt_text(graph, GIVEN(&any), &made, &telling);
-    CHECK(telling.reason == HDT_IS_CLOSED && telling.role == 0 && telling.number == 0 && has_nothing(&made));
+    hdt_build((const uint8_t *)"<u:s> <u:p> <u:o> .", 19, base, sizeof base - 1, 16, &made, &report);
+    CHECK(report.reason == HDT_DONE && live > before);
+    hdt_text(graph, GIVEN(&any), &made, &telling); /* frees what was made */
+    CHECK(telling.reason == HDT_IS_CLOSED && telling.role == 0 && telling.number == 0 && has_nothing(&made) && live == before);
     hdt_close(graph);
     CHECK(graph->state == 0);
 }
