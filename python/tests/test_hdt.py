@@ -184,7 +184,7 @@ class Faults(Folder):
             ("<u:s> <u:p> <u:o> .\n<u:s> <u:p> <o> .\n", 4, "RelativeIri", 2, 13),
             ('\r\n<u:s> <u:p> "\\u0000" .', 6, "ZeroCharacter", 2, 14),
         ):
-            text.write_text(document, newline="")
+            text.write_bytes(document.encode())
             with self.assertRaises(hdt.LineFault) as told:
                 hdt.build(text, out)
             fault = told.exception
