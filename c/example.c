@@ -1,0 +1,66 @@
+/* example FILE [SUBJECT [PREDICATE [OBJECT]]]: counts what is in an HDT file, and prints the triples that match, as N-Triples.
+ * The words are dictionary strings, as http://a/b or "x"@en with its quotes; ? is any.
+ *
+ *     cc -o example example.c $(pkg-config --cflags --libs hdt)
+ */
+#include "hdt.h"
+#include <stdio.h>
+#include <stdlib.h>
+#include <string.h>
+
+/* The bytes of a file, or NULL. There is one byte of room more, so that an empty file has an address. */
+static uint8_t *read_file(const char *path, size_t *len) {
+    FILE *file = fopen(path, "rb");
+    uint8_t *bytes = NULL;
+    long size;
+    if (!file) {
+        return NULL;
+    }
+    if (fseek(file, 0, SEEK_END) == 0 && (size = ftell(file)) >= 0 && (bytes = malloc((size_t)size + 1)) != NULL) {
+        rewind(file);
+        *len = fread(bytes, 1, (size_t)size, file);
+    }
+    fclose(file);
+    return bytes;
+}
+
+/* Prints the triples that have each string that isn't "?". */
+static int print_matches(hdt_graph *graph, const char *subject, const char *predicate, const char *object) {
+    int has_s = strcmp(subject, "?") != 0, has_p = strcmp(predicate, "?") != 0, has_o = strcmp(object, "?") != 0;
+    const uint8_t *s = (const uint8_t *)subject, *p = (const uint8_t *)predicate, *o = (const uint8_t *)object;
+    hdt_bytes text = HDT_BYTES_INIT;
+    hdt_telling telling;
+    hdt_text(graph, has_s, s, strlen(subject), has_p, p, strlen(predicate), has_o, o, strlen(object), &text, &telling);
+    if (telling.reason == HDT_DONE) {
+        fwrite(text.at, 1, text.len, stdout);
+    } else {
+        fprintf(stderr, "reason %u: role %u, number %llu\n", telling.reason, telling.role, (unsigned long long)telling.number);
+    }
+    hdt_free(&text);
+    return telling.reason == HDT_DONE ? 0 : 1;
+}
+
+int main(int argc, char **argv) {
+    size_t len = 0;
+    uint8_t *bytes = argc > 1 ? read_file(argv[1], &len) : NULL;
+    hdt_graph graph = HDT_GRAPH_INIT;
+    hdt_verdict verdict;
+    int status;
+    if (!bytes) {
+        fprintf(stderr, "usage: example FILE [SUBJECT [PREDICATE [OBJECT]]]\n");
+        return 2;
+    }
+    hdt_open(bytes, len, &graph, &verdict);
+    if (verdict.reason != HDT_DONE) {
+        fprintf(stderr, "reason %u at byte %llu\n", verdict.reason, (unsigned long long)verdict.place);
+        free(bytes);
+        return 1;
+    }
+    printf("%llu triples, %llu subjects, %llu predicates, %llu objects\n", (unsigned long long)hdt_len(&graph),
+           (unsigned long long)hdt_count(&graph, HDT_SUBJECT), (unsigned long long)hdt_count(&graph, HDT_PREDICATE),
+           (unsigned long long)hdt_count(&graph, HDT_OBJECT));
+    status = print_matches(&graph, argc > 2 ? argv[2] : "?", argc > 3 ? argv[3] : "?", argc > 4 ? argv[4] : "?");
+    hdt_close(&graph); /* only now may the bytes go */
+    free(bytes);
+    return status;
+}

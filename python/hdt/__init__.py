@@ -1,0 +1,340 @@
+"""Verifies, searches, builds and rewrites RDF HDT files, by the proved library libhdt.
+
+    import hdt
+
+    hdt.build("graph.nt", "graph.hdt", base="http://example.org/graph")
+    with hdt.open("graph.hdt") as graph:
+        print(len(graph), "triples of", graph.count("subject"), "subjects")
+        for subject, predicate, object in graph.find(p="http://example.org/name"):
+            print(subject, object)
+
+A term is a dictionary string everywhere, as `str`: an IRI without its brackets (`http://a/b`), a blank node with its label
+(`_:b`), a literal with its quotes and without escapes, and behind them nothing, a tag or a datatype (`"x"`, `"x"@en`,
+`"1"^^<http://www.w3.org/2001/XMLSchema#integer>`). `Graph.text` alone gives N-Triples. A role is `"subject"`, `"predicate"`
+or `"object"`. The strings of a role are numbered from 1.
+
+Files are mapped, not copied: a file must stay as it is while a graph of it is open or a call looks at it. Exceptions:
+`Fault` (the file is none), `LineFault` (the text isn't N-Triples), `NoTriples`, `NotATerm`, all of them ValueError;
+MemoryError; OSError of files. After an exception a graph is as it was.
+"""
+
+from __future__ import annotations
+
+import ctypes
+import errno
+import io
+import mmap
+import os
+import secrets
+import stat
+import struct
+import threading
+from collections.abc import Iterator
+from typing import Any, Literal, NamedTuple, Optional, Union
+
+from hdt import _library
+from hdt._faults import Fault, LineFault, NotATerm, NoTriples
+from hdt._library import Handle, Lent, Made, Report, Telling, Verdict, library
+
+__all__ = ["Counts", "Fault", "Graph", "LineFault", "NoTriples", "NotATerm", "build", "open", "rewrite", "verify"]
+
+Path = Union[str, bytes, "os.PathLike[str]", "os.PathLike[bytes]"]
+Role = Literal["subject", "predicate", "object"]
+
+_ROLES = ("subject", "predicate", "object")
+_FIRST_BYTES = 256  # room for a string; it grows where one needs more
+_FIRST_MATCHES = 64
+_KNOWN = 512  # strings of a role that a search remembers
+
+
+class Counts(NamedTuple):
+    """How much is in a file: triples, and strings that are subjects and objects, subjects alone, predicates, objects alone."""
+
+    triples: int
+    shared: int
+    subjects: int
+    predicates: int
+    objects: int
+
+
+def _role(role: Role) -> int:
+    try:
+        return _ROLES.index(role)
+    except ValueError:
+        raise ValueError(f"no such role: {role!r}") from None
+
+
+def _encoded(term: str) -> bytes:
+    """A term's bytes. One that isn't Unicode, as half of a pair, gets bytes that no term has."""
+    return term.encode("utf-8", "surrogatepass")
+
+
+def _pattern(*terms: Optional[str]) -> list[Any]:
+    """The parameters of a call for three terms, or any where there is none."""
+    parameters: list[Any] = []
+    for term in terms:
+        string = b"" if term is None else _encoded(term)
+        parameters += [term is not None, string, len(string)]
+    return parameters
+
+
+def _closed() -> ValueError:
+    return ValueError("the graph is closed")
+
+
+def _counts(answer: Any) -> Counts:
+    """The counts of a verdict or report that is done; else what its reason is, as an exception."""
+    if answer.reason == _library.DONE:
+        return Counts(*answer.counts)
+    if answer.reason == _library.OUT_OF_MEMORY:
+        raise MemoryError
+    if answer.reason == _library.BAD_OPTIONS:
+        raise ValueError("the block size isn't 1 to 65535, or the base is no absolute IRI")
+    if answer.reason == _library.NO_TRIPLES:
+        raise NoTriples("no triples")
+    if isinstance(answer, Report):
+        raise LineFault(answer.reason, answer.line, answer.column)
+    raise Fault(answer.reason, answer.place)
+
+
+def _data(path: Path) -> Any:
+    """The bytes of a file: mapped, or read where it can't be mapped, as a pipe or a file of no bytes."""
+    with io.open(path, "rb") as file:
+        there = os.fstat(file.fileno())
+        if stat.S_ISREG(there.st_mode) and there.st_size:
+            return mmap.mmap(file.fileno(), 0, access=mmap.ACCESS_READ)
+        return file.read()
+
+
+def _create_beside(path: str) -> tuple[int, str]:
+    """A new file in the folder of a path."""
+    while True:
+        beside = os.path.join(os.path.dirname(path), f"hdt-unfinished-{secrets.token_hex(4)}")
+        try:
+            return os.open(beside, os.O_WRONLY | os.O_CREAT | os.O_EXCL | os.O_CLOEXEC, 0o666), beside
+        except FileExistsError:
+            continue
+
+
+def _replace(path: Path, data: memoryview) -> None:
+    """Puts a file with the bytes at a path: a new file beside it that is handed to the disk and then takes its name, and the
+    permissions of what was there. Until then, and at a fault, that is what it was."""
+    target = os.path.realpath(os.fsdecode(path))
+    replaced = os.stat(target) if os.path.exists(target) else None
+    if replaced and not stat.S_ISREG(replaced.st_mode):
+        raise OSError(errno.EINVAL, "not a regular file", os.fsdecode(path))
+    descriptor, beside = _create_beside(target)
+    try:
+        with io.open(descriptor, "wb") as file:
+            if replaced:
+                os.fchmod(descriptor, stat.S_IMODE(replaced.st_mode))
+            file.write(data)
+            file.flush()
+            os.fsync(descriptor)
+        os.replace(beside, target)
+    except BaseException:
+        os.unlink(beside)
+        raise
+
+
+def _block_size(size: int) -> int:
+    """A block size; one that the library would get cut to 32 bits is none."""
+    return size if 0 <= size < 2**32 else 0
+
+
+def verify(path: Path) -> Counts:
+    """The counts of a file that is one, the whole of it; else raises Fault, with its first fault and the place of that."""
+    verdict = Verdict()
+    with Lent(_data(path)) as lent:
+        library.hdt_verify(lent.address, lent.size, verdict)
+    return _counts(verdict)
+
+
+def build(nt_path: Path, out_path: Path, base: str = "http://example.org/dataset", block_size: int = 16) -> Counts:
+    """Builds the file of the graph of an N-Triples text, and gives its counts.
+
+    `base` is the absolute IRI, without brackets, that stands for the file in its header; strings are packed in blocks of
+    `block_size`, 1 to 65535. The file is written whole, by a new file beside it: at an exception it is what it was. Raises
+    LineFault with the text's first fault, NoTriples, or ValueError of the options.
+    """
+    report, name = Report(), _encoded(base)
+    with Made() as made:
+        with Lent(_data(nt_path)) as lent:
+            library.hdt_build(lent.address, lent.size, name, len(name), _block_size(block_size), made, report)
+        counts = _counts(report)
+        _replace(out_path, made.view())
+    return counts
+
+
+def rewrite(in_path: Path, out_path: Path, block_size: int = 16) -> Counts:
+    """Writes the canonical file of the triples of a file, with its header and without unused strings, and gives its counts.
+
+    It is written whole, as by `build`; the two paths may be one. Raises Fault as `verify` does, or ValueError of the block size.
+    """
+    verdict = Verdict()
+    with Made() as made:
+        with Lent(_data(in_path)) as lent:
+            library.hdt_rewrite(lent.address, lent.size, _block_size(block_size), made, verdict)
+        counts = _counts(verdict)
+        _replace(out_path, made.view())
+    return counts
+
+
+def open(path: Path) -> Graph:
+    """Opens a file for searches, to be used with `with` or closed by `close`. It is looked at whole: raises Fault as `verify`
+    does."""
+    return Graph(_data(path))
+
+
+class Graph:
+    """An open file, asked for its triples and terms. Threads may share one: it answers one call at a time.
+
+    Its length is the count of its triples, and it is an iterable of them as `find` gives them. `(s, p, o) in graph` asks for
+    one. Once it is closed, every call but `close` raises ValueError.
+    """
+
+    def __init__(self, data: Any) -> None:
+        """Opens the bytes of a file, `bytes` or a file that is mapped, which mustn't change as long as it is open."""
+        self._lock, self._handle, verdict = threading.Lock(), Handle(), Verdict()
+        self._room = ctypes.create_string_buffer(_FIRST_BYTES)
+        self._lent = Lent(data)
+        try:
+            library.hdt_open(self._lent.address, self._lent.size, self._handle, verdict)
+            self._counts = _counts(verdict)
+        except BaseException:
+            self.close()
+            raise
+
+    def close(self) -> None:
+        """Closes it and frees what it grew. A second time it does nothing."""
+        with self._lock:
+            library.hdt_close(self._handle)
+            self._lent.give_back()
+
+    def __enter__(self) -> Graph:
+        return self
+
+    def __exit__(self, *_: object) -> None:
+        self.close()
+
+    def __del__(self) -> None:
+        if hasattr(self, "_lent"):
+            self.close()
+
+    def _asked(self, call: Any, *parameters: Any) -> Optional[int]:
+        """The answer of a call on this graph; None where there is none."""
+        with self._lock:
+            answer: int = call(self._handle, *parameters)
+        if answer < _library.CLOSED:
+            return answer
+        if answer == _library.CLOSED:
+            raise _closed()
+        if answer == _library.NO_MEMORY:
+            raise MemoryError
+        return None
+
+    def _put(self, call: Any, *parameters: Any) -> Optional[bytes]:
+        """The bytes that a call puts into room that is large enough; None where there are none."""
+        while True:
+            with self._lock:
+                size: int = call(self._handle, *parameters, self._room, len(self._room))
+                if size <= len(self._room):
+                    return self._room[:size]
+                if size < _library.CLOSED:
+                    self._room = ctypes.create_string_buffer(size)
+                    continue
+            if size == _library.CLOSED:
+                raise _closed()
+            if size == _library.NO_MEMORY:
+                raise MemoryError
+            return None
+
+    def __len__(self) -> int:
+        return self._asked(library.hdt_len) or 0
+
+    @property
+    def counts(self) -> Counts:
+        """The counts of the file, as `verify` gives them."""
+        len(self)
+        return self._counts
+
+    @property
+    def header(self) -> bytes:
+        """The header of the file: N-Triples as a rule, which nobody looked at."""
+        return self._put(library.hdt_header) or b""
+
+    def count(self, role: Role) -> int:
+        """How many strings a role has."""
+        return self._asked(library.hdt_count, _role(role)) or 0
+
+    def number(self, role: Role, term: str) -> Optional[int]:
+        """The number of a term, a dictionary string, in a role; None where the role doesn't have it."""
+        string = _encoded(term)
+        return self._asked(library.hdt_number, _role(role), string, len(string))
+
+    def string(self, role: Role, n: int) -> str:
+        """Term n of a role, as a dictionary string; raises IndexError where n isn't 1 to `count(role)`."""
+        string = self._put(library.hdt_string, _role(role), n if 0 <= n < 2**64 else 0)
+        if string is None:
+            raise IndexError(f"{role} {n}")
+        return string.decode()
+
+    def matching(self, s: Optional[str] = None, p: Optional[str] = None, o: Optional[str] = None) -> int:
+        """How many triples `find` gives. The terms are dictionary strings; None is any."""
+        return self._asked(library.hdt_matching, *_pattern(s, p, o)) or 0
+
+    def __contains__(self, triple: tuple[str, str, str]) -> bool:
+        subject, predicate, object = triple
+        return self.matching(subject, predicate, object) > 0
+
+    def find_numbers(self, s: Optional[str] = None, p: Optional[str] = None, o: Optional[str] = None) -> Iterator[tuple[int, int, int]]:
+        """The triples of `find`, as the numbers of their terms."""
+        len(self)
+        return self._matches(_pattern(s, p, o))
+
+    def _matches(self, pattern: list[Any]) -> Iterator[tuple[int, int, int]]:
+        skip, room = 0, _FIRST_MATCHES
+        while True:
+            out = (ctypes.c_uint64 * (3 * room))()
+            got = self._asked(library.hdt_find, *pattern, skip, out, room) or 0
+            yield from struct.iter_unpack("=3Q", memoryview(out).cast("B")[: 24 * got])
+            if got < room:
+                return
+            # (those that are skipped are walked over again: so all of that takes thrice the walk at most)
+            skip, room = skip + got, 2 * room
+
+    def find(self, s: Optional[str] = None, p: Optional[str] = None, o: Optional[str] = None) -> Iterator[tuple[str, str, str]]:
+        """The triples that have each term that is given, in the order of the file, each once. Terms are dictionary strings,
+        those that are given and those of the triples; None is any. It takes up to 24 bytes for each."""
+        return self._strings_of(self.find_numbers(s, p, o))
+
+    def _strings_of(self, triples: Iterator[tuple[int, int, int]]) -> Iterator[tuple[str, str, str]]:
+        known: list[dict[int, str]] = [{}, {}, {}]
+        for numbers in triples:
+            triple = []
+            for role, number in enumerate(numbers):
+                strings = known[role]
+                if number not in strings:
+                    if len(strings) == _KNOWN:
+                        strings.clear()
+                    strings[number] = (self._put(library.hdt_string, role, number) or b"").decode()
+                triple.append(strings[number])
+            yield triple[0], triple[1], triple[2]
+
+    def __iter__(self) -> Iterator[tuple[str, str, str]]:
+        return self.find()
+
+    def text(self, s: Optional[str] = None, p: Optional[str] = None, o: Optional[str] = None) -> str:
+        """The triples of `find` as N-Triples, a line each. The terms that are given are dictionary strings; None is any. Raises
+        NotATerm where a string of them has no form in N-Triples, as only foreign files have them."""
+        telling = Telling()
+        with Made() as made:
+            with self._lock:
+                library.hdt_text(self._handle, *_pattern(s, p, o), made, telling)
+            if telling.reason == _library.IS_CLOSED:
+                raise _closed()
+            if telling.reason == _library.OUT_OF_MEMORY:
+                raise MemoryError
+            if telling.reason == _library.NOT_A_TERM:
+                raise NotATerm(_ROLES[telling.role], telling.number)
+            return str(made.view(), "utf-8")

@@ -1,0 +1,58 @@
+"""What can be wrong with a file, a text or a string: exceptions, with the names of docs/FORMAT.md and docs/NTRIPLES.md."""
+
+from __future__ import annotations
+
+# The reasons of docs/FORMAT.md, from 1.
+REASONS = (
+    "Truncated OverlongNumber NumberTooLarge NotHdt WrongKind Check16 WrongFormat HeaderLength TripleOrder Check8 Check32 "
+    "SequenceKind Width BitsKind SectionKind BlockSize BlockCount BlockPlace PrefixTooLong PackedLength NotUtf8 "
+    "StringsNotAscending SectionsOverlap NoTriples LengthsDiffer LastMark MarkCount SubjectRange PredicateRange ObjectRange "
+    "PredicatesNotAscending ObjectsNotAscending TrailingBytes Unused"
+).split()
+# The faults of docs/NTRIPLES.md, from 1.
+LINE_REASONS = "Syntax NotUtf8 BadEscape RelativeIri IriCharacter ZeroCharacter Read OutOfMemory TooLong".split()
+
+
+class Fault(ValueError):
+    """A file that is none. `reason` is the number of its first fault in docs/FORMAT.md, `name` that reason's name, and
+    `place` where it is, in bytes from the start."""
+
+    def __init__(self, reason: int, place: int) -> None:
+        self.reason = reason
+        self.name = REASONS[reason - 1]
+        self.place = place
+        super().__init__(f"fault {reason} {self.name} at {place}")
+
+    def __reduce__(self) -> tuple[type, tuple[int, int]]:
+        return type(self), (self.reason, self.place)
+
+
+class LineFault(ValueError):
+    """A text that isn't N-Triples. `reason` is the number of its first fault in docs/NTRIPLES.md, `name` that reason's name,
+    and `line` and `column` where it is, both from 1; columns count bytes."""
+
+    def __init__(self, reason: int, line: int, column: int) -> None:
+        self.reason = reason
+        self.name = LINE_REASONS[reason - 1]
+        self.line = line
+        self.column = column
+        super().__init__(f"line {line} column {column}: {reason} {self.name}")
+
+    def __reduce__(self) -> tuple[type, tuple[int, int, int]]:
+        return type(self), (self.reason, self.line, self.column)
+
+
+class NoTriples(ValueError):
+    """A text without triples, of which no file is made."""
+
+
+class NotATerm(ValueError):
+    """A string of a graph that has no form in N-Triples: the one with this `number` in this `role`."""
+
+    def __init__(self, role: str, number: int) -> None:
+        self.role = role
+        self.number = number
+        super().__init__(f"{role} {number} is not a term")
+
+    def __reduce__(self) -> tuple[type, tuple[str, int]]:
+        return type(self), (self.role, self.number)

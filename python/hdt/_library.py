@@ -1,0 +1,146 @@
+"""The shared library libhdt and its calls, as c/hdt.h declares them, and memory that is lent to it."""
+
+from __future__ import annotations
+
+import ctypes
+import ctypes.util
+import os
+from pathlib import Path
+from typing import Any
+
+# Answers and reasons of c/hdt.h.
+ABSENT, NO_MEMORY, CLOSED = 2**64 - 1, 2**64 - 2, 2**64 - 3
+DONE, NOT_A_TERM, NO_TRIPLES, BAD_OPTIONS, IS_CLOSED, IS_OPEN, OUT_OF_MEMORY = 0, 250, 251, 252, 253, 254, 255
+
+
+class Verdict(ctypes.Structure):
+    """An hdt_verdict."""
+
+    _fields_ = [("reason", ctypes.c_uint32), ("place", ctypes.c_uint64), ("counts", ctypes.c_uint64 * 5)]
+
+
+class Report(ctypes.Structure):
+    """An hdt_report."""
+
+    _fields_ = [("reason", ctypes.c_uint32), ("line", ctypes.c_uint64), ("column", ctypes.c_uint64), ("counts", ctypes.c_uint64 * 5)]
+
+
+class Telling(ctypes.Structure):
+    """An hdt_telling."""
+
+    _fields_ = [("reason", ctypes.c_uint32), ("role", ctypes.c_uint32), ("number", ctypes.c_uint64)]
+
+
+class Handle(ctypes.Structure):
+    """An hdt_graph, which isn't open at first."""
+
+    _fields_ = [("state", ctypes.c_uint64), ("at", ctypes.c_void_p)]
+
+
+class Made(ctypes.Structure):
+    """An hdt_bytes, which has none at first. Used with `with`, it is freed behind it."""
+
+    _fields_ = [("at", ctypes.c_void_p), ("len", ctypes.c_uint64), ("state", ctypes.c_uint64), ("kept", ctypes.c_void_p)]
+
+    def view(self) -> memoryview:
+        """The bytes where they lie, until they are freed."""
+        if not self.len:
+            return memoryview(b"")
+        return memoryview((ctypes.c_char * self.len).from_address(self.at)).cast("B")
+
+    def __enter__(self) -> Made:
+        return self
+
+    def __exit__(self, *_: object) -> None:
+        library.hdt_free(self)
+
+
+def _candidates() -> list[str]:
+    """Where the library may be, the first one first."""
+    if named := os.environ.get("HDT_LIBRARY"):
+        return [named]
+    here = Path(__file__).resolve().parent
+    files = [str(path) for path in (here / "libhdt.so", here.parents[1] / "c/out/libhdt.so") if path.exists()]
+    found = ctypes.util.find_library("hdt")
+    return files + ([found] if found else [])
+
+
+def _load() -> Any:
+    """The library with the types of its calls. Other threads run during a call (ctypes lets go of Python's lock)."""
+    candidates = _candidates()
+    if not candidates:
+        raise ImportError("no libhdt.so: name it in HDT_LIBRARY, put it beside the package, or install it (c/make builds it)")
+    loaded = ctypes.CDLL(candidates[0])
+    bytes_of, graph, role, number, size = [ctypes.c_void_p, ctypes.c_size_t], ctypes.POINTER(Handle), ctypes.c_uint32, ctypes.c_uint64, ctypes.c_size_t
+    pattern = [role, *bytes_of] * 3
+    made, room = ctypes.POINTER(Made), ctypes.c_void_p
+    verdict, report, telling = map(ctypes.POINTER, (Verdict, Report, Telling))
+    for name, parameters, answer in (
+        ("hdt_verify", [*bytes_of, verdict], None),
+        ("hdt_open", [*bytes_of, graph, verdict], None),
+        ("hdt_close", [graph], None),
+        ("hdt_len", [graph], number),
+        ("hdt_count", [graph, role], number),
+        ("hdt_number", [graph, role, ctypes.c_char_p, size], number),
+        ("hdt_string", [graph, role, number, room, size], number),
+        ("hdt_header", [graph, room, size], number),
+        ("hdt_find", [graph, *pattern, number, room, size], number),
+        ("hdt_matching", [graph, *pattern], number),
+        ("hdt_text", [graph, *pattern, made, telling], None),
+        ("hdt_build", [*bytes_of, *bytes_of, ctypes.c_uint32, made, report], None),
+        ("hdt_rewrite", [*bytes_of, ctypes.c_uint32, made, verdict], None),
+        ("hdt_free", [made], None),
+    ):
+        try:
+            call = getattr(loaded, name)
+        except AttributeError:
+            raise ImportError(f"{candidates[0]} is another library: it has no {name}") from None
+        call.argtypes, call.restype = parameters, answer
+    return loaded
+
+
+class _Buffer(ctypes.Structure):
+    """A Py_buffer of Python's C API."""
+
+    _fields_ = [
+        ("buf", ctypes.c_void_p),
+        ("obj", ctypes.c_void_p),
+        ("len", ctypes.c_ssize_t),
+        ("itemsize", ctypes.c_ssize_t),
+        ("readonly", ctypes.c_int),
+        ("ndim", ctypes.c_int),
+        ("format", ctypes.c_char_p),
+        ("shape", ctypes.c_void_p),
+        ("strides", ctypes.c_void_p),
+        ("suboffsets", ctypes.c_void_p),
+        ("internal", ctypes.c_void_p),
+    ]
+
+
+_get, _release = ctypes.pythonapi.PyObject_GetBuffer, ctypes.pythonapi.PyBuffer_Release
+_get.argtypes, _get.restype = [ctypes.py_object, ctypes.POINTER(_Buffer), ctypes.c_int], ctypes.c_int
+_release.argtypes, _release.restype = [ctypes.POINTER(_Buffer)], None
+
+
+class Lent:
+    """The bytes of an object, as `bytes` or a file that is mapped, lent where they lie: nothing is copied, and the object
+    keeps them there until they are given back. (ctypes alone lends only what may be written.)"""
+
+    def __init__(self, data: Any) -> None:
+        self._buffer = _Buffer()
+        _get(data, self._buffer, 0)
+        self.address: int = self._buffer.buf
+        self.size: int = self._buffer.len
+
+    def give_back(self) -> None:
+        """Ends the loan; a second time it does nothing."""
+        _release(self._buffer)
+
+    def __enter__(self) -> Lent:
+        return self
+
+    def __exit__(self, *_: object) -> None:
+        self.give_back()
+
+
+library = _load()
