@@ -1,5 +1,6 @@
 //! Searching a graph.
 ghost use Rattle.std.specs.Prelude.{◌≡◌, ◌∷◌, [], map, take, drop, length, ◌<◌, ◌^◌};
+ghost use Rattle.hdt_file.specs.TextWriting.{chosen};
 ghost use Rattle.hdt_file.specs.Views.{graph_seen};
 ghost use Rattle.hdt_triples.specs.Left.{left_of};
 ghost use Rattle.hdt_c.specs.Answers.{AreMatches, Counts, Finds, closed, numbers, part};
@@ -11,7 +12,7 @@ use crate::handle::HdtGraph;
 use crate::taking::opened;
 use hdt_file::Graph;
 use hdt_seq::Steps;
-use hdt_triples::Matches;
+use hdt_triples::{Matches, Pattern};
 use std::alloc::Global;
 
 /// A part of what is searched: any, or a string.
@@ -19,6 +20,13 @@ pub(crate) fn part(has: u32, string: &[u8]) -> Option<&[u8]>
     ensures { result ≡ part has string.entry }
 {
     if has == 0 { None } else { Some(string) }
+}
+
+/// The pattern of what is searched.
+pub(crate) fn pattern_of(graph: &Graph<'static>, given: [Option<&[u8]>; 3]) -> Option<Pattern>
+    ensures { AreMatches (graph_seen graph.now) given.entry (chosen (graph_seen graph.now) result) }
+{
+    graph.pattern(given, &mut Steps::new())
 }
 
 /// Leaves out the first matches.
@@ -54,19 +62,6 @@ fn put_matches(found: Matches<'_>, room: &mut [[u64; 3]]) -> u64
     count as u64
 }
 
-/// How many matches there are.
-fn counted(found: Matches<'_>) -> u64
-    requires { length (left_of found) < 2 ^ 64 }
-    ensures { result ≡ length (left_of found.entry) }
-{
-    let mut matches = found;
-    let mut count = 0;
-    'counted: while matches.next().is_some() {
-        count += 1;
-    }
-    count
-}
-
 /// The matches of what is searched.
 fn found<'g>(graph: &'g Graph<'static>, given: [Option<&[u8]>; 3]) -> Matches<'g>
     ensures are { AreMatches (graph_seen graph.now) given.entry (left_of result) }
@@ -91,7 +86,10 @@ fn find_into(
 fn count_matches(graph: &Graph<'static>, given: [Option<&[u8]>; 3]) -> u64
     ensures { Counts (graph_seen graph.now) given.entry result }
 {
-    counted(found(graph, given))
+    match pattern_of(graph, given) {
+        Some(pattern) => graph.matching(pattern, &mut Steps::new()),
+        None => 0,
+    }
 }
 
 /// The triples that match, after the first ones, as numbers: as many as fit.
