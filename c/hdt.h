@@ -40,7 +40,8 @@ enum {
     HDT_OUT_OF_MEMORY = 255 /* memory was refused: nothing is said of the input; the call may be made again */
 };
 
-/* Answers of the calls that answer a uint64_t, where it is no count, number or length. Those are always below. */
+/* Answers of the calls that answer a uint64_t, where it is no count, number or length. Those are below: no
+ * memory holds so many. */
 #define HDT_ABSENT UINT64_MAX          /* there is none: no such role, number, string */
 #define HDT_NO_MEMORY (UINT64_MAX - 1) /* memory was refused */
 #define HDT_CLOSED (UINT64_MAX - 2)    /* the graph isn't open */

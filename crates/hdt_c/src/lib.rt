@@ -1,8 +1,12 @@
 //! The engine for C, as a static library: `c/hdt.h` says what each call takes and answers.
 //!
-//! In reading order: `kept`, what the library made and C keeps, and `held`, `parts`, how it stands behind a pointer;
-//! `handle` and `taking`, a graph that is taken out of its handle, asked, and put back; `verdict` and `opening`; `asking`,
-//! `room` and `finding`, what is asked.
+//! The layer's promise: an export answers what the engine's own call answers, at the border's types. A graph that is asked is
+//! left as it was; one that isn't open is told; bytes that are handed out stand where the handle says, until they are freed.
+//!
+//! In reading order: `kept`, what the library made and C keeps, and `held`, `parts`, how it stands behind a pointer of C;
+//! `handle` and `taking`, a graph that is taken out of its handle, asked, and put back; `address`, `bytes` and `making`, bytes
+//! that are handed out and freed; `verdict`, `telling` and `report`, what is said of an input; then the exports: `verdict`,
+//! `opening`, `asking` (with `room`, the caller's), `finding`, `text`, `building`, `rewriting`, `making`.
 #![tactic(auto)]
 
 mod address;
