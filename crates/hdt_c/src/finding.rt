@@ -1,5 +1,6 @@
 //! Searching a graph.
 ghost use Rattle.std.specs.Prelude.{◌≡◌, ◌∷◌, [], map, take, drop, length, ◌<◌, ◌^◌};
+ghost use Rattle.hdt_file.specs.TextWriting.{chosen};
 ghost use Rattle.hdt_file.specs.Views.{graph_seen};
 ghost use Rattle.hdt_triples.specs.Left.{left_of};
 ghost use Rattle.hdt_c.specs.Answers.{AreMatches, Counts, Finds, closed, numbers, part};
@@ -11,7 +12,7 @@ use crate::handle::HdtGraph;
 use crate::taking::opened;
 use hdt_file::Graph;
 use hdt_seq::Steps;
-use hdt_triples::Matches;
+use hdt_triples::{Matches, Pattern};
 use std::alloc::Global;
 
 /// A part of what is searched: any, or a string.
@@ -87,11 +88,21 @@ fn find_into(
     put_matches(skipped(found(graph, given), skip), room)
 }
 
+/// The pattern of what is searched.
+pub(crate) fn pattern_of(graph: &Graph<'static>, given: [Option<&[u8]>; 3]) -> Option<Pattern>
+    ensures { AreMatches (graph_seen graph.now) given.entry (chosen (graph_seen graph.now) result) }
+{
+    graph.pattern(given, &mut Steps::new())
+}
+
 /// How many triples match.
 fn count_matches(graph: &Graph<'static>, given: [Option<&[u8]>; 3]) -> u64
     ensures { Counts (graph_seen graph.now) given.entry result }
 {
-    counted(found(graph, given))
+    match pattern_of(graph, given) {
+        Some(pattern) => counted(graph.search(pattern)),
+        None => 0,
+    }
 }
 
 /// The triples that match, after the first ones, as numbers: as many as fit.

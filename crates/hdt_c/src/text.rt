@@ -1,22 +1,19 @@
 //! The N-Triples text of a graph.
 ghost use Rattle.std.specs.Prelude.{◌≡◌, ◌∷◌, [], IfOk, IfErr};
-ghost use Rattle.hdt_file.specs.TextWriting.{chosen};
 ghost use Rattle.hdt_file.specs.Views.{graph_seen};
-ghost use Rattle.hdt_c.specs.Answers.{AreMatches, part};
+ghost use Rattle.hdt_c.specs.Answers.{part};
 ghost use Rattle.hdt_c.specs.Bytes.{AreNone};
 ghost use Rattle.hdt_c.specs.Handle.{IsClosed, OfGraph, SameGraph};
 ghost use Rattle.hdt_c.specs.Texts.{IsText, Stands, TellsText, for_reason, role_number, told};
 
 use crate::bytes::HdtBytes;
-use crate::finding::part;
+use crate::finding::{part, pattern_of};
 use crate::handle::HdtGraph;
 use crate::taking::opened;
 use crate::telling::HdtTelling;
 use crate::verdict::OUT_OF_MEMORY;
 use hdt_dict::Role;
 use hdt_file::{DumpFault, Graph, graph_text};
-use hdt_seq::Steps;
-use hdt_triples::Pattern;
 use std::alloc::Global;
 
 /// The reason for a string that is no term.
@@ -59,13 +56,6 @@ fn told(fault: DumpFault) -> HdtTelling
         },
         DumpFault::Write(_) | DumpFault::OutOfMemory => for_reason(OUT_OF_MEMORY),
     }
-}
-
-/// The pattern of what is searched.
-fn pattern_of(graph: &Graph<'static>, given: [Option<&[u8]>; 3]) -> Option<Pattern>
-    ensures { AreMatches (graph_seen graph.now) given.entry (chosen (graph_seen graph.now) result) }
-{
-    graph.pattern(given, &mut Steps::new())
 }
 
 /// The text of the matches.

@@ -5,7 +5,7 @@ use Rattle.hdt_triples.specs.declared.pattern.Pattern.{Pattern}
 use Rattle.hdt_file.specs.File.{GraphParts}
 use Rattle.hdt_file.specs.TextWriting.{chosen}
 use Rattle.hdt_file.specs.Views.{graph_seen}
-use Rattle.hdt_c.proofs.text.pattern_of.Goals as goal
+use Rattle.hdt_c.proofs.finding.pattern_of.Goals as goal
 
 chosen_none : (g : GraphParts) (pattern : Option Pattern) → ((p : Pattern) → pattern ≡ Some p → ⊥) → chosen g pattern ≡ []
 chosen_none g None never = refl
