@@ -1,7 +1,7 @@
 /* hdt.h: a proved engine for RDF HDT files, over files that lie in memory.
  *
- * Link with libhdt_c.a, and with heap.pic.o of the kit's liblibc_c.a: memory comes from malloc, realloc and free of your
- * program. No call prints, aborts, exits, waits, starts a thread or keeps anything outside what you give it.
+ * Link with libhdt, as `pkg-config --cflags --libs hdt` says where ./install put it (c/make makes it): memory comes from
+ * malloc, realloc and free of your program. No call prints, aborts, exits, waits, starts a thread or keeps anything outside what you give it.
  *
  * Who owns what.
  * - The bytes that you pass are yours, and a call reads them while it runs. hdt_open alone keeps their address: keep them
