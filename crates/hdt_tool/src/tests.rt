@@ -610,8 +610,14 @@ fn is_large_counted(alloc: Global, file: &[u8], most: u64, line: &[u8]) -> Resul
 fn a_large_literal_is_built_and_found(rt: HostRuntime) -> Result<(), Fail> {
     let file = large_build(rt.alloc())?;
     assert!(rt; is_large_found(rt.alloc(), &file)?, "not found");
-    assert!(rt; is_large_counted(rt.alloc(), &file, 1, b"1\n")?, "not counted");
-    assert!(rt; is_large_counted(rt.alloc(), &file, 0, b"0\n")?, "counted where none is asked for");
+    assert!(rt;
+        is_large_counted(rt.alloc(), &file, 1, b"1\n")?,
+        "not counted"
+    );
+    assert!(rt;
+        is_large_counted(rt.alloc(), &file, 0, b"0\n")?,
+        "counted where none is asked for"
+    );
     Ok(())
 }
 

@@ -19,14 +19,14 @@ pub returns-in-Find-clause-ok : goal.returns-in-Find-clause-ok
 returns-in-Find-clause-ok c =
     IfOk-weaker c.triples_of.result _ _
     (λ text h. subst (λ (a : Action). Prints a c.args.bytes.now text.items) (sym c.in-Find.is)
-        (subst (λ (f : Form). Opens c.args.bytes.now (λ graph. PrintsFound graph c.in-Find.given f None text.items)) c.form_of.ensures h))
+    (subst (λ (f : Form). Opens c.args.bytes.now (λ graph. PrintsFound graph c.in-Find.given f None text.items)) c.form_of.ensures h))
     c.triples_of.ensures.ok
 
 pub returns-in-Find-clause-err : goal.returns-in-Find-clause-err
 returns-in-Find-clause-err c =
     IfErr-weaker c.triples_of.result _ _
     (λ e h. subst (λ (a : Action). IsTold a c.args.bytes.now e) (sym c.in-Find.is)
-        (no_find c.in-Find.given c.in-Find.numbers c.form_of.result c.args.bytes.now e c.form_of.ensures h))
+    (no_find c.in-Find.given c.in-Find.numbers c.form_of.result c.args.bytes.now e c.form_of.ensures h))
     c.triples_of.ensures.err
 
 pub returns-in-Search-clause-ok : goal.returns-in-Search-clause-ok

@@ -15,7 +15,7 @@ triples-preserved c =
     let room : l.room ≡ suc n = omega (arith, c.triples-test.true) in
     let rest = take n (left_of c.next.new.self) in
     let first : take l.room (left_of l.matches) ≡ c.in-Some.triple ∷ rest =
-        ap (λ (k : ℕ). take k (left_of l.matches)) room ∙ ap (λ (ts : List Triple). take (suc n) ts) c.in-Some.ensures.steps.0
+    ap (λ (k : ℕ). take k (left_of l.matches)) room ∙ ap (λ (ts : List Triple). take (suc n) ts) c.in-Some.ensures.steps.0
     in
     one_line l.text.items c.put_numbers.new.out.items (numbers_lines (limited c.args.most (matches c.args.pattern (layout_seen c.args.layout.now).triples)))
     c.in-Some.triple (take l.room (left_of l.matches)) rest first c.in_ok-put_numbers.ensures l.invariant
