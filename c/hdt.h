@@ -1,7 +1,8 @@
 /* hdt.h: a proved engine for RDF HDT files, over files that lie in memory.
  *
  * Link with libhdt, as `pkg-config --cflags --libs hdt` says where ./install put it (c/make makes it): memory comes from
- * malloc, realloc and free of your program. No call prints, aborts, exits, waits, starts a thread or keeps anything outside what you give it.
+ * malloc, realloc and free of your program. No call prints, aborts, exits, waits, starts a thread or keeps anything outside
+ * what you give it.
  *
  * Who owns what.
  * - The bytes that you pass are yours, and a call reads them while it runs. hdt_open alone keeps their address: keep them
@@ -11,9 +12,10 @@
  *   they point to is the library's until hdt_close or hdt_free.
  * - What is put into room of yours (out, room) is yours; of `out` nothing is changed past what the answer tells.
  *
- * What you owe, as nothing checks it: no pointer is null, even for zero bytes (use any address); room is as large as you
- * say, and aligned for its type; parameters don't overlap, but for two that are only read; no call is made in a signal
- * handler, or in the forked child of a process with threads.
+ * What you owe, as nothing checks it: no pointer is null, even for zero bytes (use any address: `at` of an hdt_bytes without
+ * bytes is null, and so may be data() of an empty C++ vector); room is as large as you say, and aligned for its type;
+ * parameters don't overlap, but for two that are only read, so the bytes that are given are not those of `out`; no call is
+ * made in a signal handler, or in the forked child of a process with threads.
  *
  * What is looked at: whatever the bytes of a file, a text or a string are, they are checked; a graph that isn't open is
  * told (HDT_CLOSED, HDT_IS_CLOSED), one that is open already is told by hdt_open (HDT_IS_OPEN) and stays as it is; a role
@@ -46,12 +48,32 @@ enum {
 #define HDT_NO_MEMORY (UINT64_MAX - 1) /* memory was refused */
 #define HDT_CLOSED (UINT64_MAX - 2)    /* the graph isn't open */
 
+/* The reasons of a file, by their names in docs/FORMAT.md, */
+enum {
+    HDT_FILE_TRUNCATED = 1, HDT_FILE_OVERLONG_NUMBER = 2, HDT_FILE_NUMBER_TOO_LARGE = 3, HDT_FILE_NOT_HDT = 4,
+    HDT_FILE_WRONG_KIND = 5, HDT_FILE_CHECK16 = 6, HDT_FILE_WRONG_FORMAT = 7, HDT_FILE_HEADER_LENGTH = 8,
+    HDT_FILE_TRIPLE_ORDER = 9, HDT_FILE_CHECK8 = 10, HDT_FILE_CHECK32 = 11, HDT_FILE_SEQUENCE_KIND = 12,
+    HDT_FILE_WIDTH = 13, HDT_FILE_BITS_KIND = 14, HDT_FILE_SECTION_KIND = 15, HDT_FILE_BLOCK_SIZE = 16,
+    HDT_FILE_BLOCK_COUNT = 17, HDT_FILE_BLOCK_PLACE = 18, HDT_FILE_PREFIX_TOO_LONG = 19, HDT_FILE_PACKED_LENGTH = 20,
+    HDT_FILE_NOT_UTF8 = 21, HDT_FILE_STRINGS_NOT_ASCENDING = 22, HDT_FILE_SECTIONS_OVERLAP = 23,
+    HDT_FILE_NO_TRIPLES = 24, HDT_FILE_LENGTHS_DIFFER = 25, HDT_FILE_LAST_MARK = 26, HDT_FILE_MARK_COUNT = 27,
+    HDT_FILE_SUBJECT_RANGE = 28, HDT_FILE_PREDICATE_RANGE = 29, HDT_FILE_OBJECT_RANGE = 30,
+    HDT_FILE_PREDICATES_NOT_ASCENDING = 31, HDT_FILE_OBJECTS_NOT_ASCENDING = 32, HDT_FILE_TRAILING_BYTES = 33
+};
+
+/* and those of a text, by their names in docs/NTRIPLES.md. hdt_build tells neither HDT_TEXT_READ nor HDT_TEXT_OUT_OF_MEMORY. */
+enum {
+    HDT_TEXT_SYNTAX = 1, HDT_TEXT_NOT_UTF8 = 2, HDT_TEXT_BAD_ESCAPE = 3, HDT_TEXT_RELATIVE_IRI = 4,
+    HDT_TEXT_IRI_CHARACTER = 5, HDT_TEXT_ZERO_CHARACTER = 6, HDT_TEXT_READ = 7, HDT_TEXT_OUT_OF_MEMORY = 8,
+    HDT_TEXT_TOO_LONG = 9
+};
+
 enum { HDT_SUBJECT = 0, HDT_PREDICATE = 1, HDT_OBJECT = 2 };
 
 /* What is said of a file. */
 typedef struct {
     uint32_t reason;    /* HDT_DONE: it is a file. Else why not. */
-    uint64_t place;     /* of the fault, in bytes from the start; 0 where there is none */
+    uint64_t place;     /* of a file's fault, in bytes from the start; 0 at any other reason */
     uint64_t counts[5]; /* triples, then strings: shared, subjects alone, predicates, objects alone; 0 where it isn't done */
 } hdt_verdict;
 
@@ -77,7 +99,7 @@ typedef struct {
 } hdt_graph;
 #define HDT_GRAPH_INIT {0, NULL}
 
-/* Bytes that the library made: read `len` bytes from `at`. State 1 where it has some to free, else 0, and then len is 0. A
+/* Bytes that the library made: read `len` bytes from `at`; no zero byte stands behind them. State 1 where it has some to free, else 0, and then len is 0. A
  * call that makes bytes frees first what `out` had, also where it makes none. */
 typedef struct {
     const uint8_t *at;
@@ -109,8 +131,8 @@ uint64_t hdt_count(hdt_graph *graph, uint32_t role);
  * "Dictionary strings"). HDT_ABSENT (no such role or string), HDT_CLOSED. */
 uint64_t hdt_number(hdt_graph *graph, uint32_t role, const uint8_t *string, size_t len);
 
-/* The string of a role with the number, from 1: how many bytes it has. Its first bytes are put into out: all, or the `room`
- * that fit. HDT_ABSENT (no such role or number), HDT_NO_MEMORY, HDT_CLOSED; then out is as it was. */
+/* The string of a role with the number, from 1: how many bytes it has. Its first bytes are put into out, and no zero byte
+ * behind them: all, or the `room` that fit (0 to ask for the length alone). HDT_ABSENT (no such role or number), HDT_NO_MEMORY, HDT_CLOSED; then out is as it was. */
 uint64_t hdt_string(hdt_graph *graph, uint32_t role, uint64_t number, uint8_t *out, size_t room);
 
 /* The header of the file, N-Triples that nobody looked at: how many bytes it has. Its first bytes are put into out, as by
@@ -120,7 +142,9 @@ uint64_t hdt_header(hdt_graph *graph, uint8_t *out, size_t room);
 /* The triples that match: that have each string that is given in its role. has_s 0: any subject, and s isn't read (but may
  * not be null); and so on. They stand in the order of the file, by subject, predicate, object; of them the first `skip` are
  * left out, and the next ones are put into out, as three numbers each: all, or the `room` that fit. The answer is how many
- * were put. Those that are left out are walked over: double the room from call to call. HDT_CLOSED. */
+ * were put: fewer than `room` where no more follow. Those that are left out are walked over at each call, so portions of one
+ * size take time like the square of the matches: double the room from call to call, or ask hdt_matching for it. HDT_CLOSED,
+ * which is more than any room. */
 uint64_t hdt_find(hdt_graph *graph, uint32_t has_s, const uint8_t *s, size_t s_len, uint32_t has_p, const uint8_t *p, size_t p_len,
                   uint32_t has_o, const uint8_t *o, size_t o_len, uint64_t skip, uint64_t (*out)[3], size_t room);
 
@@ -135,13 +159,15 @@ void hdt_text(hdt_graph *graph, uint32_t has_s, const uint8_t *s, size_t s_len, 
               uint32_t has_o, const uint8_t *o, size_t o_len, hdt_bytes *out, hdt_telling *telling);
 
 /* Builds the canonical file of the graph of N-Triples, in blocks of so many strings, 1 to 65535 (16 is usual). The base is
- * the absolute IRI that stands for the file in its header. The first fault of the text is told by line and column. With
+ * the absolute IRI that stands for the file in its header. HDT_BAD_OPTIONS is told before the text is looked at; else the
+ * first fault of the text, by line and column. With
  * HDT_DONE out has the file, else nothing. */
 void hdt_build(const uint8_t *text, size_t len, const uint8_t *base, size_t base_len, uint32_t block_size, hdt_bytes *out,
                hdt_report *report);
 
 /* Rewrites a file as the canonical file of the same triples, with the same header, without unused strings, in blocks of so
- * many strings, 1 to 65535. The verdict is that on the file that is given, but the counts are those of the new file. With
+ * many strings, 1 to 65535. The verdict is that on the file that is given, but the counts are those of the new file; of a
+ * file that is one, HDT_BAD_OPTIONS may be told. With
  * HDT_DONE out has it, else nothing. */
 void hdt_rewrite(const uint8_t *bytes, size_t len, uint32_t block_size, hdt_bytes *out, hdt_verdict *verdict);
 

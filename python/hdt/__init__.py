@@ -10,8 +10,9 @@
 
 A term is a dictionary string everywhere, as `str`: an IRI without its brackets (`http://a/b`), a blank node with its label
 (`_:b`), a literal with its quotes and without escapes, and behind them nothing, a tag or a datatype (`"x"`, `"x"@en`,
-`"1"^^<http://www.w3.org/2001/XMLSchema#integer>`). `Graph.text` alone gives N-Triples. A role is `"subject"`, `"predicate"`
-or `"object"`. The strings of a role are numbered from 1.
+`"1"^^<http://www.w3.org/2001/XMLSchema#integer>`). So `<http://a/b>`, with brackets, finds nothing. `Graph.text` alone
+gives N-Triples. A role is `"subject"`, `"predicate"` or `"object"`, and another one a ValueError. The strings of a role are
+numbered from 1.
 
 Files are mapped, not copied: a file must stay as it is while a graph of it is open or a call looks at it. Exceptions:
 `Fault` (the file is none), `LineFault` (the text isn't N-Triples), `NoTriples`, `NotATerm`, all of them ValueError;
@@ -24,6 +25,7 @@ import ctypes
 import errno
 import io
 import mmap
+import operator
 import os
 import secrets
 import stat
@@ -66,6 +68,8 @@ def _role(role: Role) -> int:
 
 def _encoded(term: str) -> bytes:
     """A term's bytes. One that isn't Unicode, as half of a pair, gets bytes that no term has."""
+    if not isinstance(term, str):
+        raise TypeError(f"a term is a str, not {type(term).__name__}")
     return term.encode("utf-8", "surrogatepass")
 
 
@@ -89,7 +93,7 @@ def _counts(answer: Any) -> Counts:
     if answer.reason == _library.OUT_OF_MEMORY:
         raise MemoryError
     if answer.reason == _library.BAD_OPTIONS:
-        raise ValueError("the block size isn't 1 to 65535, or the base is no absolute IRI")
+        raise ValueError("the base is no absolute IRI" if isinstance(answer, Report) else "the block size isn't 1 to 65535")
     if answer.reason == _library.NO_TRIPLES:
         raise NoTriples("no triples")
     if isinstance(answer, Report):
@@ -138,8 +142,15 @@ def _replace(path: Path, data: memoryview) -> None:
 
 
 def _block_size(size: int) -> int:
-    """A block size; one that the library would get cut to 32 bits is none."""
+    """A block size, as far as 32 bits tell it; the library looks at the rest."""
     return size if 0 <= size < 2**32 else 0
+
+
+def _checked(block_size: int) -> int:
+    """A block size that may be taken, so that bad options can only be the base."""
+    if not 1 <= block_size <= 65_535:
+        raise ValueError("the block size isn't 1 to 65535")
+    return block_size
 
 
 def verify(path: Path) -> Counts:
@@ -160,7 +171,7 @@ def build(nt_path: Path, out_path: Path, base: str = "http://example.org/dataset
     report, name = Report(), _encoded(base)
     with Made() as made:
         with Lent(_data(nt_path)) as lent:
-            library.hdt_build(lent.address, lent.size, name, len(name), _block_size(block_size), made, report)
+            library.hdt_build(lent.address, lent.size, name, len(name), _checked(block_size), made, report)
         counts = _counts(report)
         _replace(out_path, made.view())
     return counts
@@ -212,6 +223,7 @@ class Graph:
             self._lent.give_back()
 
     def __enter__(self) -> Graph:
+        len(self)
         return self
 
     def __exit__(self, *_: object) -> None:
@@ -260,7 +272,7 @@ class Graph:
 
     @property
     def header(self) -> bytes:
-        """The header of the file: N-Triples as a rule, which nobody looked at."""
+        """The header of the file, as bytes: N-Triples as a rule, which nobody looked at."""
         return self._put(library.hdt_header) or b""
 
     def count(self, role: Role) -> int:
@@ -274,18 +286,20 @@ class Graph:
 
     def string(self, role: Role, n: int) -> str:
         """Term n of a role, as a dictionary string; raises IndexError where n isn't 1 to `count(role)`."""
-        string = self._put(library.hdt_string, _role(role), n if 0 <= n < 2**64 else 0)
+        number = operator.index(n)
+        string = self._put(library.hdt_string, _role(role), number if 0 <= number < 2**64 else 0)
         if string is None:
-            raise IndexError(f"{role} {n}")
+            raise IndexError(f"there is no {role} {n}")
         return string.decode()
 
     def matching(self, s: Optional[str] = None, p: Optional[str] = None, o: Optional[str] = None) -> int:
         """How many triples `find` gives. The terms are dictionary strings; None is any."""
         return self._asked(library.hdt_matching, *_pattern(s, p, o)) or 0
 
-    def __contains__(self, triple: tuple[str, str, str]) -> bool:
-        subject, predicate, object = triple
-        return self.matching(subject, predicate, object) > 0
+    def __contains__(self, triple: object) -> bool:
+        if not (isinstance(triple, tuple) and len(triple) == 3 and all(isinstance(term, str) for term in triple)):
+            return False
+        return self.matching(*triple) > 0
 
     def find_numbers(self, s: Optional[str] = None, p: Optional[str] = None, o: Optional[str] = None) -> Iterator[tuple[int, int, int]]:
         """The triples of `find`, as the numbers of their terms."""
@@ -305,7 +319,8 @@ class Graph:
 
     def find(self, s: Optional[str] = None, p: Optional[str] = None, o: Optional[str] = None) -> Iterator[tuple[str, str, str]]:
         """The triples that have each term that is given, in the order of the file, each once. Terms are dictionary strings,
-        those that are given and those of the triples; None is any. It takes up to 24 bytes for each."""
+        those that are given and those of the triples; None is any. While it goes it keeps up to 24 bytes for each triple that
+        it has given, and some strings."""
         return self._strings_of(self.find_numbers(s, p, o))
 
     def _strings_of(self, triples: Iterator[tuple[int, int, int]]) -> Iterator[tuple[str, str, str]]:

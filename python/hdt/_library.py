@@ -58,7 +58,7 @@ class Made(ctypes.Structure):
 def _candidates() -> list[str]:
     """Where the library may be, the first one first."""
     if named := os.environ.get("HDT_LIBRARY"):
-        return [named]
+        return [os.path.join(named, "libhdt.so") if os.path.isdir(named) else named]
     here = Path(__file__).resolve().parent
     files = [str(path) for path in (here / "libhdt.so", here.parents[1] / "c/out/libhdt.so") if path.exists()]
     found = ctypes.util.find_library("hdt")
@@ -69,7 +69,7 @@ def _load() -> Any:
     """The library with the types of its calls. Other threads run during a call (ctypes lets go of Python's lock)."""
     candidates = _candidates()
     if not candidates:
-        raise ImportError("no libhdt.so: name it in HDT_LIBRARY, put it beside the package, or install it (c/make builds it)")
+        raise ImportError("no libhdt.so: HDT_LIBRARY may name the file; else it lies beside the package, in c/out (c/make makes it there), or where the system finds it")
     loaded = ctypes.CDLL(candidates[0])
     bytes_of, graph, role, number, size = [ctypes.c_void_p, ctypes.c_size_t], ctypes.POINTER(Handle), ctypes.c_uint32, ctypes.c_uint64, ctypes.c_size_t
     pattern = [role, *bytes_of] * 3

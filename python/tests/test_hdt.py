@@ -196,7 +196,7 @@ class Faults(Folder):
                 hdt.build(text, out)
         text.write_text("<u:s> <u:p> <u:o> .")
         for options in ({"base": "rel"}, {"base": ""}, {"base": "\ud800"}, {"block_size": 0}, {"block_size": 65536}, {"block_size": -1}, {"block_size": 2**32 + 16}):
-            with self.assertRaisesRegex(ValueError, "block size|base"):
+            with self.assertRaisesRegex(ValueError, "the block size" if "block_size" in options else "the base"):
                 hdt.build(text, out, **options)
         for size in (0, 65536, 2**32 + 16):
             with self.assertRaisesRegex(ValueError, "block size"):
@@ -254,9 +254,22 @@ class Closed(Folder):
             lambda: iter(graph),
             lambda: graph.text(),
             lambda: list(unbegun),
+            graph.__enter__,
         ):
             with self.assertRaisesRegex(ValueError, "the graph is closed"):
                 call()
+
+    def test_wrong_types(self):
+        """What is no term is told so; what is no triple of terms is in no graph."""
+        with hdt.open(THREE) as graph:
+            for call in (lambda: graph.find(b"u:a"), lambda: graph.number("object", None), lambda: graph.text(3), lambda: graph.string("object", 1.0)):
+                with self.assertRaises(TypeError):
+                    call()
+            with self.assertRaises(ValueError):
+                graph.count("subjects")
+            self.assertIn(("u:a", "u:p", "u:b"), graph)
+            for other in (("u:a", "u:p", "u:a"), (None, None, None), ("u:a", "u:p"), "u:a", 3, ("u:a", "u:p", b"u:b")):
+                self.assertNotIn(other, graph)
 
     def test_with(self):
         with self.assertRaises(KeyError), hdt.open(THREE) as graph:
