@@ -252,9 +252,9 @@ fn tells_no_term(alloc: Global, graph: &Graph<'_>) -> Result<bool, AllocError> {
     }
 }
 
-/// Whether a text has so many lines of 35 bytes, of which this is the last.
-fn are_lines(text: &[u8], count: usize, last: &[u8]) -> bool {
-    text.len() == 35 * count && text.ends_with(last)
+/// Whether a text is so long, and this is its last line.
+fn are_lines(text: &[u8], len: usize, last: &[u8]) -> bool {
+    text.len() == len && text.ends_with(last)
 }
 
 /// The pattern of all triples.
@@ -264,14 +264,17 @@ const ALL: Pattern = Pattern {
     o: None,
 };
 
-/// The line of the last triple before the first string that is no term.
+/// How many bytes the lines of the triples before the first string that is no term have: 65,999 lines of 35.
+const LINES_LEN: usize = 2_309_965;
+
+/// The last of them.
 const LAST: &[u8] = b"<u:131998> <u:065998> <u:131998> .\n";
 
 /// Whether the text of a part of the triples is that of these alone, in two megabytes, though no text of all is to be had.
 fn tells_a_part(alloc: Global, graph: &Graph<'_>) -> Result<bool, DumpFault> {
     let of_graph = graph_text_up_to(alloc, graph, Some(ALL), Some(65_999))?;
     let of_layout = layout_text_up_to(alloc, &graph.layout(), Some(ALL), Some(65_999))?;
-    Ok(are_lines(&of_graph, 65_999, LAST) && are_lines(&of_layout, 65_999, LAST))
+    Ok(are_lines(&of_graph, LINES_LEN, LAST) && are_lines(&of_layout, LINES_LEN, LAST))
 }
 
 /// The same; want of memory ends the test.
