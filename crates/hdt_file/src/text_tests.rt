@@ -511,11 +511,14 @@ fn file_of_one(alloc: Global, predicates: &[&[u8]], long: &[u8]) -> Result<Vec<u
     )
 }
 
-/// Whether a writer gains the text of a graph, and its length is answered.
-fn is_handed_over(alloc: Global, graph: &Graph<'_>, text: &[u8]) -> Result<bool, DumpFault> {
-    let mut out = Counted::new(Vec::new(alloc));
-    let count = write_graph(alloc, graph, Some(ALL), &mut out)?;
-    Ok(count == text.len() as u64 && out.into_inner().as_slice() == text)
+/// Whether a writer that has the room gains the text of a graph, and its length is answered. Want of memory ends the test.
+fn is_handed_over(alloc: Global, graph: &Graph<'_>, text: &[u8]) -> Result<bool, AllocError> {
+    let mut out = Counted::new(Vec::with_capacity(alloc, text.len())?);
+    match write_graph(alloc, graph, Some(ALL), &mut out) {
+        Ok(count) => Ok(count == text.len() as u64 && out.into_inner().as_slice() == text),
+        Err(DumpFault::OutOfMemory) => Err(AllocError),
+        Err(_) => Ok(false),
+    }
 }
 
 /// Whether a graph and a layout are written so, as a whole and by their one subject.
