@@ -1,18 +1,18 @@
 # Completes the words of hdt in bash.
 _hdt() {
     local word=${COMP_WORDS[COMP_CWORD]} command=${COMP_WORDS[1]}
-    local commands="head verify strings string number find dump build rewrite help"
+    local commands="head verify strings string number find answer dump build rewrite help"
     if [ "$COMP_CWORD" -eq 1 ]; then
         mapfile -t COMPREPLY < <(compgen -W "$commands --help --version" -- "$word")
         return
     fi
     local options="--help"
     case $command in
-    verify) options+=" --tight" ;;
+    verify) options+=" --tight --progress" ;;
     number) options+=" --raw" ;;
-    find) options+=" --raw --numbers --count --most" ;;
-    build) options+=" --base --block-size" ;;
-    rewrite) options+=" --block-size" ;;
+    find | answer) options+=" --raw --numbers --count --most" ;;
+    build) options+=" --base --block-size --progress" ;;
+    rewrite) options+=" --block-size --progress" ;;
     help) options=$commands ;;
     esac
     case $word in

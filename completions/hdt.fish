@@ -1,5 +1,5 @@
 # Completes the words of hdt in fish.
-set -l commands head verify strings string number find dump build rewrite help
+set -l commands head verify strings string number find answer dump build rewrite help
 complete -c hdt -n "not __fish_seen_subcommand_from $commands" -f
 complete -c hdt -n "not __fish_seen_subcommand_from $commands" -a head -d "Print a file's head"
 complete -c hdt -n "not __fish_seen_subcommand_from $commands" -a verify -d "Verify a file"
@@ -7,6 +7,7 @@ complete -c hdt -n "not __fish_seen_subcommand_from $commands" -a strings -d "Pr
 complete -c hdt -n "not __fish_seen_subcommand_from $commands" -a string -d "Print the string that has a number"
 complete -c hdt -n "not __fish_seen_subcommand_from $commands" -a number -d "Print the number of a term"
 complete -c hdt -n "not __fish_seen_subcommand_from $commands" -a find -d "Print the triples that have terms"
+complete -c hdt -n "not __fish_seen_subcommand_from $commands" -a answer -d "Answer requests from the standard input"
 complete -c hdt -n "not __fish_seen_subcommand_from $commands" -a dump -d "Print all triples"
 complete -c hdt -n "not __fish_seen_subcommand_from $commands" -a build -d "Build a file from N-Triples"
 complete -c hdt -n "not __fish_seen_subcommand_from $commands" -a rewrite -d "Write a file again in canonical form"
@@ -14,10 +15,11 @@ complete -c hdt -n "not __fish_seen_subcommand_from $commands" -a help -d "Print
 complete -c hdt -l help -s h -d "Print help"
 complete -c hdt -n "not __fish_seen_subcommand_from $commands" -l version -s V -d "Print the version"
 complete -c hdt -n "__fish_seen_subcommand_from verify" -l tight -d "Refuse strings that no triple uses"
-complete -c hdt -n "__fish_seen_subcommand_from number find" -l raw -d "Take terms as dictionary strings"
-complete -c hdt -n "__fish_seen_subcommand_from find" -l numbers -d "Print the numbers of each triple"
-complete -c hdt -n "__fish_seen_subcommand_from find" -l count -d "Print how many there are"
-complete -c hdt -n "__fish_seen_subcommand_from find" -l most -x -d "Take the first triples alone"
+complete -c hdt -n "__fish_seen_subcommand_from number find answer" -l raw -d "Take terms as dictionary strings"
+complete -c hdt -n "__fish_seen_subcommand_from find answer" -l numbers -d "Print the numbers of each triple"
+complete -c hdt -n "__fish_seen_subcommand_from find answer" -l count -d "Print how many there are"
+complete -c hdt -n "__fish_seen_subcommand_from find answer" -l most -x -d "Take the first triples alone"
 complete -c hdt -n "__fish_seen_subcommand_from build" -l base -x -d "The IRI that stands for the file"
+complete -c hdt -n "__fish_seen_subcommand_from verify build rewrite" -l progress -d "Tell on standard error how many bytes were read"
 complete -c hdt -n "__fish_seen_subcommand_from build rewrite" -l block-size -x -d "How many strings stand in a block"
 complete -c hdt -n "__fish_seen_subcommand_from strings string number" -a "subject predicate object"

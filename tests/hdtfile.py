@@ -181,3 +181,14 @@ def long_fronts(kinds, length, count):
     data = head() + control(3, b"<http://purl.org/HDT/hdt#dictionaryFour>", b"mapping=1;") + b"".join(sections)
     used = len(shared) + count
     return data + triples([(i, 1, i) for i in range(1, used + 1)]), (used, len(shared), count, 1, count)
+
+
+def loose_fronts(length, count):
+    """A file with the dictionary of `long_fronts` with 3 kinds, of which the triples use the first half of the other subjects, and of the
+    objects each seventh; and the counts of what is rewritten of it."""
+    data = long_fronts(3, length, count)[0]
+    subjects = count + count // 2
+    used = [(i, 1, 7 * (i % (2 * count // 7)) + 1) for i in range(1, subjects + 1)]
+    objects = {o for _, _, o in used}
+    both = sum(o <= count for o in objects)
+    return data[: data.index(b"$HDT\4")] + triples(used), (len(used), both, subjects - both, 1, len(objects) - both)

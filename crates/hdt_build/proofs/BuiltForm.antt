@@ -1,5 +1,5 @@
 -- What is built of a form.
-use Rattle.std.proofs.Common.{◌≡◌, ℕ, ◌<◌, ◌∙◌, List, length, ap, sym, subst, Result, Ok, Err}
+use Rattle.std.proofs.Common.{◌≡◌, ℕ, ◌<◌, ◌∙◌, List, [], length, ap, sym, subst, Result, Ok, Err}
 use Rattle.std.specs.Prelude.{IfOk}
 use Rattle.hdt_dict.specs.Split.{FourLists}
 use Rattle.hdt_dict.specs.SplitLaws.{split_sections}
@@ -19,7 +19,7 @@ pub form_sections : (g : List StringTriple) (d : FourLists) (ts : List Triple) �
 form_sections g d ts h t = split_sections _ _ _ d h.sections t.subjects_are t.predicates_are t.objects_are
 
 -- the bytes and the numbers of a form make the file of what it is a form of
-made_of : (g : List StringTriple) (d : FourLists) (ts : List Triple) (header : List ℕ) (b : ℕ) (bytes : List ℕ) (report : Report)
+pub made_of : (g : List StringTriple) (d : FourLists) (ts : List Triple) (header : List ℕ) (b : ℕ) (bytes : List ℕ) (report : Report)
     → 0 < length g → AreTexts g → IsForm g d ts → bytes ≡ canonical_file header b d ts → report ≡ report_of d ts bytes → IsMade header g b bytes report
 made_of g d ts header b bytes report some texts form file told = record {
   file = record {
@@ -33,11 +33,11 @@ made_of g d ts header b bytes report some texts form file told = record {
   report_is = told;
 }
 
-pub all_made : {V E : Type 0} (items : V → List ℕ) (r : Result (V × Report) E) (g : List StringTriple) (d : FourLists) (ts : List Triple) (header : List ℕ) (b : ℕ)
-    → 0 < length g → AreTexts g → IsForm g d ts
-    → IfOk r (λ made. items made.0 ≡ canonical_file header b d ts) → IfOk r (λ made. made.1 ≡ report_of d ts (items made.0)) → IfOk r (λ made. IsMade header g b (items made.0) made.1)
-all_made items (Ok made) g d ts header b some texts form file told = made_of g d ts header b (items made.0) made.1 some texts form file told
-all_made items (Err e) g d ts header b some texts form file told = tt
+-- the numbers of sections, with the count of the triples and the length of the file
+pub told_of : (r : Report) (d : FourLists) (ts : List Triple) (bytes : List ℕ) (n m : ℕ) → r ≡ report_of d [] [] → n ≡ length ts → m ≡ length bytes
+    → let told : Report = record { triples = n; shared = r.shared; subjects = r.subjects; predicates = r.predicates; objects = r.objects; bytes = m } in told ≡ report_of d ts bytes
+unfolding report_of
+told_of r d ts bytes n m is count long = λ i. record { triples = count i; shared = (is i).shared; subjects = (is i).subjects; predicates = (is i).predicates; objects = (is i).objects; bytes = long i }
 
 -- the header body that tells how many triples a file has, which are those of its numbers
 pub all_built : {V E : Type 0} (items : V → List ℕ) (r : Result (V × Report) E) (options : Options) (g : List StringTriple) (d : FourLists) (ts : List Triple) (header : List ℕ)

@@ -1,26 +1,30 @@
 -- The number triples of a document: what they denote, and that their subjects have no gap.
-use Rattle.std.proofs.Common.{◌≡◌, ◌≢◌, ℕ, ◌+◌, ◌<◌, ◌≤◌, List, [], ◌∷◌, map, length, get_or, refl, ap, sym, ◌∙◌, subst, inl, inr, arith}
+use Rattle.std.proofs.Common.{◌≡◌, ◌≢◌, ℕ, ◌+◌, ◌<◌, ◌≤◌, List, [], map, length, get_or, ap, sym, ◌∙◌, subst, inl, inr, arith}
 use Rattle.std.specs.declared.cmp.Ordering.TheVariants.{Less, Equal}
-use Rattle.std.specs.List.{All, Contains}
+use Rattle.std.specs.List.{Contains}
 use Rattle.std.proofs.lemmas.Bool.{cases_lt}
 use Rattle.std.proofs.lemmas.Cmp.{tied_itself}
 use Rattle.std.proofs.lemmas.List.{get_or-map, length-map, get_or_default}
-use Rattle.std.proofs.lemmas.List.Elements.{All-head, All-tail, All-contains, All-map, Contains-append_left, Contains-append_right, Contains-append_cases, Contains-get_or}
+use Rattle.std.proofs.lemmas.List.Elements.{All-contains, All-map, Contains-append_left, Contains-append_right, Contains-append_cases, Contains-get_or}
 use Rattle.std.proofs.lemmas.Map.Keys.{Less-from_sorted}
 use Rattle.hdt_dict.specs.Strings.{SameMembers}
 use Rattle.hdt_dict.specs.StringsLaws.{member_cases}
 use Rattle.hdt_dict.specs.Split.{FourLists, IsSplit}
-use Rattle.hdt_build.specs.Graph.{subject_terms, predicate_terms, object_terms}
-use Rattle.hdt_dict.specs.MembersLaws.{SameMembers-map, Contains-from_map, All-same_members}
-use Rattle.hdt_build.specs.Numbers.{term_at, AreNumbersOf}
+use Rattle.hdt_build.specs.Graph.{subject_terms, object_terms}
+use Rattle.hdt_dict.specs.MembersLaws.{SameMembers-map, Contains-map, Contains-from_map, All-from_members, All-same_members}
+use Rattle.hdt_build.specs.Numbers.{term_at}
+use Rattle.hdt_build.specs.Parted.{ArePartsOf}
 use Rattle.hdt_triples.specs.Counting.{Triple}
+use Rattle.hdt_triples.specs.Uses.{part}
+use Rattle.hdt_wire.specs.declared.role.Role.TheVariants.{Subject, Predicate, Object}
+use Rattle.hdt_build.proofs.Moving.{map_along}
 use Rattle.hdt_file.specs.Denoted.{StringTriple}
 use Rattle.hdt_build.specs.Graph.{InRange, IsForm, triple_at, triples_of, triple_cmp, AscendingTriples, numbers_at}
 use Rattle.hdt_build.proofs.Naming.{string_triple, same_strings, term_in}
 use Rattle.hdt_build.proofs.Distinct.{number_unique, subjects_distinct}
 use Rattle.hdt_triples.specs.Order.{triple_in, AreWritable}
 use Rattle.hdt_build.proofs.Order.{triple_total, first_le, triple_less}
-use Rattle.hdt_build.proofs.Unique.{split_same, triple_unique}
+use Rattle.hdt_build.proofs.Unique.{triple_unique}
 
 -- the strings of a role are the terms of the sections
 module _ {ss ps os : List (List ℕ)} (d : FourLists) (h : IsSplit ss ps os d) where
@@ -45,60 +49,32 @@ module _ {ss ps os : List (List ℕ)} (d : FourLists) (h : IsSplit ss ps os d) w
         | inr b ↦ Contains-append_right d.shared d.objects x ((h.objects x).1 (a, b))
       ]
 
-module _ (d : FourLists) (ss ps os : List (List ℕ)) (sn pn on : List ℕ) (s : AreNumbersOf (subject_terms d) ss sn) (p : AreNumbersOf (predicate_terms d) ps pn) (o : AreNumbersOf (object_terms d) os on) where
-  one_denoted : (t : Triple) → t.0 < length ss → t.1 < length ps → t.2 < length os → string_triple d (numbers_at sn pn on t) ≡ triple_at ss ps os t
-  one_denoted t a b c = same_strings _ _ _ _ _ _ (s.each t.0 a).is (p.each t.1 b).is (o.each t.2 c).is
+-- the triples of strings that the numbers of their parts denote
+module _ (xs : List (List ℕ)) (ids : List Triple) (d : FourLists) (nodes names : List ℕ) (h : ArePartsOf xs ids d nodes names) where
+  abbrev new : Triple → Triple
+  new t = numbers_at nodes names nodes t
 
-  one_in_range : (t : Triple) → t.0 < length ss → t.1 < length ps → t.2 < length os → InRange d (numbers_at sn pn on t)
-  one_in_range t a b c =
-      let x = s.each t.0 a in
-      let y = p.each t.1 b in
-      let z = o.each t.2 c in
-      ((x.from_one, x.within), (y.from_one, y.within), (z.from_one, z.within))
+  one_denoted : (t : Triple) → Contains ids t → string_triple d (new t) ≡ triple_at xs t
+  one_denoted t there = same_strings _ _ _ _ _ _
+      (h.subjects_are t.0 (Contains-map (part Subject) ids t there)).is
+      (h.predicates_are t.1 (Contains-map (part Predicate) ids t there)).is
+      (h.objects_are t.2 (Contains-map (part Object) ids t there)).is
 
-  pub denoted_is : (ids : List Triple) → All (λ t. t.0 < length ss) ids → All (λ t. t.1 < length ps) ids → All (λ t. t.2 < length os) ids → map (string_triple d) (map (numbers_at sn pn on) ids) ≡ triples_of ss ps os ids
-  denoted_is [] a b c = refl
-  denoted_is (t ∷ ids) a b c =
-      let e = one_denoted t (All-head (λ (t : Triple). t.0 < length ss) t ids a) (All-head (λ (t : Triple). t.1 < length ps) t ids b) (All-head (λ (t : Triple). t.2 < length os) t ids c) in
-      let f = denoted_is ids (All-tail (λ (t : Triple). t.0 < length ss) t ids a) (All-tail (λ (t : Triple). t.1 < length ps) t ids b) (All-tail (λ (t : Triple). t.2 < length os) t ids c) in
-      λ i. e i ∷ f i
+  one_in_range : (t : Triple) → Contains ids t → InRange d (new t)
+  one_in_range t there =
+      let s = h.subjects_are t.0 (Contains-map (part Subject) ids t there) in
+      let p = h.predicates_are t.1 (Contains-map (part Predicate) ids t there) in
+      let o = h.objects_are t.2 (Contains-map (part Object) ids t there) in
+      ((s.from_one, s.within), (p.from_one, p.within), (o.from_one, o.within))
 
-  pub all_in_range : (ids : List Triple) → All (λ t. t.0 < length ss) ids → All (λ t. t.1 < length ps) ids → All (λ t. t.2 < length os) ids → All (InRange d) (map (numbers_at sn pn on) ids)
-  all_in_range ids a b c = All-map (InRange d) (numbers_at sn pn on) ids (λ k t below. one_in_range _ (a k t below) (b k t below) (c k t below))
-
--- where each string of a role's list is used, the list is that of the graph
-module _ (ss ps os : List (List ℕ)) (ids : List Triple) where
-  used : (f : StringTriple → List ℕ) (i : Triple → ℕ) (xs : List (List ℕ)) → ((t : Triple) → f (triple_at ss ps os t) ≡ get_or xs (i t) []) → All (λ t. i t < length xs) ids → All (Contains (map f (triples_of ss ps os ids))) xs → SameMembers xs (map f (triples_of ss ps os ids))
-  used f i xs at within all x = (
-    λ a. All-contains (Contains (map f (triples_of ss ps os ids))) xs x all a,
-    λ a. let b = Contains-from_map f (triples_of ss ps os ids) x a in
-        let c = Contains-from_map (triple_at ss ps os) ids b.0 b.1 in
-        let is : get_or xs (i c.0) [] ≡ x = sym (at c.0) ∙ ap f c.2 ∙ b.2 in
-        subst (Contains xs) is (Contains-get_or xs (i c.0) [] (All-contains (λ (t : Triple). i t < length xs) ids c.0 within c.1)),
-  )
-
-  pub graph_split : (d : FourLists) → IsSplit ss ps os d
-      → All (λ t. t.0 < length ss) ids → All (λ t. t.1 < length ps) ids → All (λ t. t.2 < length os) ids
-      → All (Contains (map (λ t. t.0) (triples_of ss ps os ids))) ss → All (Contains (map (λ t. t.1) (triples_of ss ps os ids))) ps → All (Contains (map (λ t. t.2) (triples_of ss ps os ids))) os
-      → IsSplit (map (λ t. t.0) (triples_of ss ps os ids)) (map (λ t. t.1) (triples_of ss ps os ids)) (map (λ t. t.2) (triples_of ss ps os ids)) d
-  graph_split d h a b c u v w =
-      split_same d
-      (used (λ t. t.0) (λ t. t.0) ss (λ t. refl) a u)
-      (used (λ t. t.1) (λ t. t.1) ps (λ t. refl) b v)
-      (used (λ t. t.2) (λ t. t.2) os (λ t. refl) c w)
-      h
-
-  pub canonical_result : (d : FourLists) (sn pn on : List ℕ) (ts : List Triple) → IsSplit ss ps os d
-      → AreNumbersOf (subject_terms d) ss sn → AreNumbersOf (predicate_terms d) ps pn → AreNumbersOf (object_terms d) os on
-      → All (λ t. t.0 < length ss) ids → All (λ t. t.1 < length ps) ids → All (λ t. t.2 < length os) ids
-      → All (Contains (map (λ t. t.0) (triples_of ss ps os ids))) ss → All (Contains (map (λ t. t.1) (triples_of ss ps os ids))) ps → All (Contains (map (λ t. t.2) (triples_of ss ps os ids))) os
-      → AscendingTriples ts → SameMembers ts (map (numbers_at sn pn on) ids)
-      → IsForm (triples_of ss ps os ids) d ts
-  canonical_result d sn pn on ts h s p o a b c u v w up same = record {
-    sections = graph_split d h a b c u v w;
+  pub parts_form : (ts : List Triple) → AscendingTriples ts → SameMembers ts (map (numbers_at nodes names nodes) ids) → IsForm (triples_of xs ids) d ts
+  parts_form ts up same = record {
+    sections = h.sections;
     ascending = up;
-    in_range = All-same_members (InRange d) (map (numbers_at sn pn on) ids) ts same (all_in_range d ss ps os sn pn on s p o ids a b c);
-    denotes = subst (SameMembers (map (string_triple d) ts)) (denoted_is d ss ps os sn pn on s p o ids a b c) (SameMembers-map (string_triple d) ts (map (numbers_at sn pn on) ids) same);
+    in_range = All-same_members (InRange d) (map new ids) ts same (All-map (InRange d) new ids (All-from_members (λ t. InRange d (new t)) ids one_in_range));
+    denotes = subst (SameMembers (map (string_triple d) ts))
+        (map_along (string_triple d) new (triple_at xs) ids (All-from_members (λ t. string_triple d (new t) ≡ triple_at xs t) ids one_denoted))
+        (SameMembers-map (string_triple d) ts (map new ids) same);
   }
 
 module _ {g : List StringTriple} (d : FourLists) (ts : List Triple) (h : IsForm g d ts) where

@@ -1,13 +1,13 @@
--- What a graph denotes, over the strings that its triples use.
-use Rattle.std.proofs.Common.{◌≡◌, ◌∙◌, ℕ, ◌+◌, ◌-◌, ◌<◌, ◌≤◌, List, [], ◌∷◌, ◌++◌, map, length, get_or, None, true, refl, ap, sym, subst, inl, inr, arith}
-use Rattle.std.specs.List.{All, Contains}
+-- What a graph denotes: strings that its triples use, each a text.
+use Rattle.std.proofs.Common.{◌≡◌, ◌∙◌, ℕ, ◌+◌, ◌-◌, ◌<◌, ◌≤◌, List, [], ◌∷◌, ◌++◌, length, get_or, None, true, refl, ap, sym, subst, inl, inr, arith}
+use Rattle.std.specs.List.{All}
 use Rattle.std.proofs.lemmas.Bool.{cases_lt}
 use Rattle.std.proofs.lemmas.List.{get_or_append_left, get_or-append-add, get_or_default, length-append, length-map}
-use Rattle.std.proofs.lemmas.List.Elements.{All-head, All-tail, All-map}
+use Rattle.std.proofs.lemmas.List.Elements.{All-map}
 use Rattle.hdt_wire.specs.declared.role.Role.{Role}
 use Rattle.hdt_wire.specs.declared.role.Role.TheVariants.{Subject, Predicate, Object}
 use Rattle.hdt_front.specs.Section.{AreStrings}
-use Rattle.hdt_dict.specs.MembersLaws.{Contains-map, Contains-from_map}
+use Rattle.hdt_dict.specs.MembersLaws.{Contains-map}
 use Rattle.hdt_dict.specs.Texts.{IsText}
 use Rattle.hdt_triples.specs.Counting.{Triple}
 use Rattle.hdt_triples.specs.Patterns.{agrees, matches}
@@ -17,14 +17,11 @@ use Rattle.hdt_file.specs.Denoted.{strings_of}
 use Rattle.hdt_file.specs.File.{GraphParts}
 use Rattle.hdt_file.specs.Graph.{IsGraph}
 use Rattle.hdt_file.specs.Views.{strings_in}
-use Rattle.hdt_build.specs.Documents.{AreSound}
 use Rattle.hdt_file.specs.Denoted.{StringTriple}
-use Rattle.hdt_build.specs.Graph.{subjects_of, predicates_of, objects_of, triple_at, triples_of}
 use Rattle.hdt_build.specs.Layouts.{denoted_by}
 use Rattle.hdt_build.specs.Numbers.{term_at}
 use Rattle.hdt_build.specs.Reading.{AreTexts}
-use Rattle.hdt_build.specs.Used.{AreAllUsed, places_at}
-use Rattle.hdt_build.proofs.Naming.{same_strings, term_is}
+use Rattle.hdt_build.proofs.Naming.{term_is}
 
 -- ---- the pattern that gives nothing
 
@@ -56,16 +53,16 @@ place_text g h Subject n from to = text_of_two g.dictionary.shared g.dictionary.
 place_text g h Predicate n from to = text_of g.dictionary.predicates (n - 1) h.predicates (omega (arith, from, to))
 place_text g h Object n from to = text_of_two g.dictionary.shared g.dictionary.objects (n - 1) h.shared h.objects (omega (arith, from, to))
 
-string_text : (g : GraphParts) → IsGraph g → (role : Role) (n : ℕ) → 1 ≤ n → n ≤ length (strings_in g role) → IsText (term_at (strings_in g role) n)
+pub string_text : (g : GraphParts) → IsGraph g → (role : Role) (n : ℕ) → 1 ≤ n → n ≤ length (strings_in g role) → IsText (term_at (strings_in g role) n)
 string_text g h role n from to = subst IsText (sym (term_is (strings_in g role) n from)) (place_text g h role n from to)
 
 -- a triple of a graph: in each role its number is that of a string, and used
-record IsOf (g : GraphParts) (t : Triple) : Type 0 where
-  from : (role : Role) → 1 ≤ part role t
-  to : (role : Role) → part role t ≤ length (strings_in g role)
-  used : (role : Role) → Uses g.triples role (part role t)
+pub record IsOf (g : GraphParts) (t : Triple) : Type 0 where
+  pub from : (role : Role) → 1 ≤ part role t
+  pub to : (role : Role) → part role t ≤ length (strings_in g role)
+  pub used : (role : Role) → Uses g.triples role (part role t)
 
-all_of : (g : GraphParts) → IsGraph g → All (IsOf g) g.triples
+pub all_of : (g : GraphParts) → IsGraph g → All (IsOf g) g.triples
 all_of g h k d lt =
     let same : get_or g.triples k (0, 0, 0) ≡ get_or g.triples k d = get_or_default g.triples k (0, 0, 0) d lt in
     let r = h.range k lt in
@@ -96,48 +93,3 @@ denoted_texts g h =
       predicates_are = All-map IsText (λ (t : StringTriple). t.1) (denoted_by g) (All-map (λ (t : StringTriple). IsText t.1) (strings_of g) g.triples (λ k d lt. let t = all k d lt in string_text g h Predicate _ (t.from Predicate) (t.to Predicate)));
       objects_are = All-map IsText (λ (t : StringTriple). t.2) (denoted_by g) (All-map (λ (t : StringTriple). IsText t.2) (strings_of g) g.triples (λ k d lt. let t = all k d lt in string_text g h Object _ (t.from Object) (t.to Object)));
     }
-
--- ---- the same triples over the strings that are used
-
-module _ (g : GraphParts) (ss ps os : List (List ℕ)) (sp pp op : List ℕ) (s : AreAllUsed g Subject ss sp) (p : AreAllUsed g Predicate ps pp) (o : AreAllUsed g Object os op) where
-  one : (t : Triple) → IsOf g t → triple_at ss ps os (places_at sp pp op t) ≡ strings_of g t
-  one t h = same_strings _ _ _ _ _ _ (s.is t.0 (h.from Subject) (h.to Subject) (h.used Subject)) (p.is t.1 (h.from Predicate) (h.to Predicate) (h.used Predicate)) (o.is t.2 (h.from Object) (h.to Object) (h.used Object))
-
-  each_kept : (ts : List Triple) → All (IsOf g) ts → triples_of ss ps os (map (places_at sp pp op) ts) ≡ map (strings_of g) ts
-  each_kept [] h = refl
-  each_kept (t ∷ ts) h =
-      let e = one t (All-head (IsOf g) t ts h) in
-      let f = each_kept ts (All-tail (IsOf g) t ts h) in
-      λ i. e i ∷ f i
-
-  pub graph_kept : IsGraph g → triples_of ss ps os (map (places_at sp pp op) g.triples) ≡ denoted_by g
-  graph_kept h = each_kept g.triples (all_of g h)
-
-  -- a string that triples use is one of what they denote
-  subject_named : (x : List ℕ) (n : ℕ) → Uses g.triples Subject n → term_at (strings_in g Subject) n ≡ x → Contains (subjects_of (denoted_by g)) x
-  subject_named x n used is =
-      let t = Contains-from_map (part Subject) g.triples n used in
-      subst (Contains (subjects_of (denoted_by g))) (ap (term_at (strings_in g Subject)) t.2 ∙ is) (Contains-map (λ (t : StringTriple). t.0) (denoted_by g) (strings_of g t.0) (Contains-map (strings_of g) g.triples t.0 t.1))
-
-  predicate_named : (x : List ℕ) (n : ℕ) → Uses g.triples Predicate n → term_at (strings_in g Predicate) n ≡ x → Contains (predicates_of (denoted_by g)) x
-  predicate_named x n used is =
-      let t = Contains-from_map (part Predicate) g.triples n used in
-      subst (Contains (predicates_of (denoted_by g))) (ap (term_at (strings_in g Predicate)) t.2 ∙ is) (Contains-map (λ (t : StringTriple). t.1) (denoted_by g) (strings_of g t.0) (Contains-map (strings_of g) g.triples t.0 t.1))
-
-  object_named : (x : List ℕ) (n : ℕ) → Uses g.triples Object n → term_at (strings_in g Object) n ≡ x → Contains (objects_of (denoted_by g)) x
-  object_named x n used is =
-      let t = Contains-from_map (part Object) g.triples n used in
-      subst (Contains (objects_of (denoted_by g))) (ap (term_at (strings_in g Object)) t.2 ∙ is) (Contains-map (λ (t : StringTriple). t.2) (denoted_by g) (strings_of g t.0) (Contains-map (strings_of g) g.triples t.0 t.1))
-
-  pub sound_kept : IsGraph g → AreSound ss ps os (map (places_at sp pp op) g.triples)
-  sound_kept h =
-      let all = all_of g h in
-      let same = sym (graph_kept h) in
-      record {
-        subjects_within = All-map (λ (t : Triple). t.0 < length ss) (places_at sp pp op) g.triples (λ k d lt. let t = all k d lt in s.within _ (t.from Subject) (t.to Subject) (t.used Subject));
-        predicates_within = All-map (λ (t : Triple). t.1 < length ps) (places_at sp pp op) g.triples (λ k d lt. let t = all k d lt in p.within _ (t.from Predicate) (t.to Predicate) (t.used Predicate));
-        objects_within = All-map (λ (t : Triple). t.2 < length os) (places_at sp pp op) g.triples (λ k d lt. let t = all k d lt in o.within _ (t.from Object) (t.to Object) (t.used Object));
-        subjects_used = subst (λ (d : List StringTriple). All (Contains (subjects_of d)) ss) same (λ k d lt. let e = s.each k lt in subject_named (get_or ss k d) e.0 e.1 (e.2 ∙ get_or_default ss k [] d lt));
-        predicates_used = subst (λ (d : List StringTriple). All (Contains (predicates_of d)) ps) same (λ k d lt. let e = p.each k lt in predicate_named (get_or ps k d) e.0 e.1 (e.2 ∙ get_or_default ps k [] d lt));
-        objects_used = subst (λ (d : List StringTriple). All (Contains (objects_of d)) os) same (λ k d lt. let e = o.each k lt in object_named (get_or os k d) e.0 e.1 (e.2 ∙ get_or_default os k [] d lt));
-      }

@@ -9,16 +9,23 @@ pub mod Heads
 pub mod KeyOrder
 pub mod Layouts
 pub mod NoTriples
-pub mod Numbering
 pub mod OneDocument
 pub mod Order
 pub mod Moving
 pub mod Naming
+mod Filling
+mod Using
+mod Parting
 pub mod Placing
 pub mod Ranking
 pub mod Runs
 pub mod Unique
-mod Using
+mod Agreement
+mod Going
+mod Joining
+mod Putting
+mod Renewing
+mod RunOrder
 mod Keeping
 mod TightForm
 mod Again

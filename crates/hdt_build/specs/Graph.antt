@@ -60,14 +60,14 @@ pub record IsForm (g : List StringTriple) (d : FourLists) (ts : List Triple) : T
   pub in_range : All (InRange d) ts
   pub denotes : SameMembers (denoted_by (parts_of [] d ts)) g
 
--- ---- triples as places in three lists of strings
+-- ---- triples as places in a list of strings
 
-abbrev pub triple_at : (ss ps os : List (List ℕ)) → Triple → StringTriple
-triple_at ss ps os t = (slice_index_or ss t.0 [], slice_index_or ps t.1 [], slice_index_or os t.2 [])
+abbrev pub triple_at : List (List ℕ) → Triple → StringTriple
+triple_at xs t = (slice_index_or xs t.0 [], slice_index_or xs t.1 [], slice_index_or xs t.2 [])
 
 -- their string triples
-abbrev pub triples_of : (ss ps os : List (List ℕ)) → List Triple → List StringTriple
-triples_of ss ps os ids = map (triple_at ss ps os) ids
+abbrev pub triples_of : List (List ℕ) → List Triple → List StringTriple
+triples_of xs ids = map (triple_at xs) ids
 
 -- what three lists of numbers have at the places of a triple
 abbrev pub numbers_at : (sn pn on : List ℕ) → Triple → Triple

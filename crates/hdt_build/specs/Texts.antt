@@ -1,6 +1,7 @@
--- A list of strings with one more.
-use Rattle.std.specs.Prelude.{ℕ, ◌++◌, List, [], ◌∷◌, length, nat_lt, if◌then◌else◌}
+-- A list of strings that may have grown.
+use Rattle.std.specs.Prelude.{◌≡◌, ℕ, ◌<◌, ◌≤◌, List, [], length, slice_index_or}
 
--- the list with x at the place i: as it was, or with x at its end
-abbrev pub with_text : List (List ℕ) → List ℕ → ℕ → List (List ℕ)
-with_text xs x i = if nat_lt i (length xs) then xs else xs ++ x ∷ []
+-- ys has each string of xs at its place, and maybe more behind them
+pub record GoesOn (xs ys : List (List ℕ)) : Type 0 where
+  pub longer : length xs ≤ length ys
+  pub kept : (k : ℕ) → k < length xs → slice_index_or ys k [] ≡ slice_index_or xs k []

@@ -10,6 +10,7 @@ ghost use Rattle.hdt_build.specs.Reading.{AreTexts, Tells, ReadFailed};
 use crate::document::Document;
 use crate::fault::BuildFault;
 use crate::file::whole_file;
+use crate::form::form_of;
 use crate::header::header_body;
 use crate::options::{Options, are_right};
 use crate::reading::read_graph;
@@ -30,11 +31,10 @@ fn built(
     requires right { AreRight options.now }
     ensures { IfOk result (λ made. IsBuilt options.now (graph_of document) made.0.items made.1) }
 {
-    let (lists, mut ids) = document.into_lists();
-    let lists = lists.in_order(alloc, &mut ids)?;
-    let form = lists.form(alloc, ids)?;
+    let (list, ids) = document.into_parts();
+    let form = form_of(alloc, list, ids, options.block_size)?;
     let header = header_body(alloc, options.base.as_slice(), form.triples.len() as u64)?;
-    whole_file(alloc, header.as_slice(), form, options.block_size)
+    whole_file(alloc, header.as_slice(), form)
 }
 
 /// The same of what the reader gives, under options that are right.
@@ -62,8 +62,8 @@ fn read_and_build<R: Read>(
 /// may have 2^63 - 1 bytes. The order of its lines, repeats and comments make no difference.
 ///
 /// Time is that of reading the lines once and of sorting the strings and the triples, whatever the strings are. Memory is
-/// that of each distinct string of a role, of those that are listed again since the cache had lost them, and some 50 bytes for
-/// each, 24 bytes a line for its triple, and the file; while the strings of a role are put in order they stand there twice.
+/// that of each distinct string, whatever its roles, of those that are listed again since the cache had lost them, some 50 bytes
+/// for each, 24 bytes a line for its triple, the sections and the file. No string is copied but into its sections.
 ///
 /// ```text
 /// let (bytes, report) = build_bytes(alloc, &mut input, &options)?;

@@ -2,18 +2,16 @@
 ghost use Rattle.std.specs.Prelude.{◌≡◌, ◌<◌, ◌++◌, ◌∷◌, [], length, slice_index_or, IfOk, OnOk, IsTrue, ◌↔◌};
 ghost use Rattle.std.specs.List.{All};
 ghost use Rattle.hdt_build.specs.Documents.{graph_of, IsSound};
-ghost use Rattle.hdt_build.specs.Texts.{with_text};
+ghost use Rattle.hdt_build.specs.Texts.{GoesOn};
 
 use crate::interner::Interner;
-use crate::lists::Lists;
+use hdt_dict::Arena;
 use std::alloc::{AllocError, Global};
 
-/// The triples of a document, as places in three lists of strings.
+/// The triples of a document, as places in one list of strings, whatever their roles.
 #[derive(Drop)]
 pub struct Document {
-    subjects: Interner,
-    predicates: Interner,
-    objects: Interner,
+    terms: Interner,
     ids: Vec<(u64, u64, u64)>,
 }
 
@@ -28,7 +26,7 @@ fn subject_place(
     requires { All (λ t. t.0 < length list.old) ids.now }
     ensures within { IfOk result (λ i. i < length list.new) }
     ensures is { IfOk result (λ i. slice_index_or list.new i [] ≡ subject.now) }
-    ensures list { IfOk result (λ i. list.new ≡ with_text list.old subject.now i) }
+    ensures list { OnOk result (GoesOn list.old list.new) }
 {
     if let Some((before, _, _)) = ids.last() {
         let before = *before as usize;
@@ -46,9 +44,7 @@ impl Document {
         ensures sound { IfOk result IsSound }
     {
         Ok(Document {
-            subjects: Interner::new(alloc)?,
-            predicates: Interner::new(alloc)?,
-            objects: Interner::new(alloc)?,
+            terms: Interner::new(alloc)?,
             ids: Vec::new(alloc),
         })
     }
@@ -59,9 +55,9 @@ impl Document {
         ensures graph { OnOk result (graph_of self.new ≡ graph_of self.old ++ (s.now, p.now, o.now) ∷ []) }
         ensures sound { OnOk result (IsSound self.new) }
     {
-        let i = subject_place(alloc, &mut self.subjects, self.ids.as_slice(), s)?;
-        let j = self.predicates.place_of(alloc, p)?;
-        let k = self.objects.place_of(alloc, o)?;
+        let i = subject_place(alloc, &mut self.terms, self.ids.as_slice(), s)?;
+        let j = self.terms.place_of(alloc, p)?;
+        let k = self.terms.place_of(alloc, o)?;
         self.ids.push((i as u64, j as u64, k as u64))?;
         Ok(())
     }
@@ -74,23 +70,11 @@ impl Document {
     }
 
     /// The strings, without what finds their places, and the triples.
-    pub fn into_lists(self) -> (Lists, Vec<(u64, u64, u64)>)
-        ensures subjects { result.0.subjects ≡ self.subjects }
-        ensures predicates { result.0.predicates ≡ self.predicates }
-        ensures objects { result.0.objects ≡ self.objects }
+    pub fn into_parts(self) -> (Arena, Vec<(u64, u64, u64)>)
+        ensures terms { result.0 ≡ self.terms }
         ensures ids { result.1.items ≡ self.ids.items }
     {
-        let Document {
-            subjects,
-            predicates,
-            objects,
-            ids,
-        } = self;
-        let lists = Lists {
-            subjects: subjects.into_list(),
-            predicates: predicates.into_list(),
-            objects: objects.into_list(),
-        };
-        (lists, ids)
+        let Document { terms, ids } = self;
+        (terms.into_list(), ids)
     }
 }

@@ -1,50 +1,61 @@
 //! The sections and the number triples of a graph.
-ghost use Rattle.std.specs.Prelude.{◌<◌, length, IfOk};
-ghost use Rattle.std.specs.List.{All, Contains};
-ghost use Rattle.hdt_front.specs.Canonical.{lent_texts};
-ghost use Rattle.hdt_dict.specs.Split.{lent_lists_of};
-ghost use Rattle.hdt_build.specs.Graph.{subjects_of, predicates_of, objects_of, triples_of, IsForm};
-ghost use Rattle.hdt_build.specs.Placed.{Ascends};
+ghost use Rattle.std.specs.Prelude.{◌≤◌, length, IfOk};
+ghost use Rattle.hdt_build.specs.Documents.{AreWithin};
+ghost use Rattle.hdt_build.specs.Graph.{triples_of, IsForm};
+ghost use Rattle.hdt_build.specs.Kept.{AreBlocks, sections_of};
+ghost use Rattle.hdt_build.specs.Reading.{AreTexts};
 
-use crate::numbers::numbers;
+use crate::once::distinct;
+use crate::parted::{Numbered, parted};
+use crate::placed::placed;
+use crate::sections::Sections;
 use crate::triples::{order, replace};
-use hdt_dict::{LentParts, split_lent};
+use hdt_dict::Arena;
 use std::alloc::{AllocError, Global};
 
 /// The four sections of a graph, and its number triples.
 #[derive(Drop)]
-pub struct Form<'a> {
-    pub parts: LentParts<'a>,
+pub struct Form {
+    pub sections: Sections,
     pub triples: Vec<(u64, u64, u64)>,
 }
 
-/// The sections and the number triples of the graph whose triples are places in three ascending lists of strings, each of
-/// which is used. The triples keep their memory.
-pub fn form_of<'a>(
+/// The sections and the number triples of the graph whose triples are places in a list of strings. No string is copied but into
+/// its sections, and the triples keep their memory.
+pub fn form_of(
     alloc: Global,
+    list: Arena,
     ids: Vec<(u64, u64, u64)>,
-    subjects: &[&'a [u8]],
-    predicates: &[&'a [u8]],
-    objects: &[&'a [u8]],
-) -> Result<Form<'a>, AllocError>
-    requires subjects_within { All (λ t. t.0 < length subjects.now) ids.items }
-    requires predicates_within { All (λ t. t.1 < length predicates.now) ids.items }
-    requires objects_within { All (λ t. t.2 < length objects.now) ids.items }
-    requires subjects_used { All (Contains (subjects_of (triples_of (lent_texts subjects.now) (lent_texts predicates.now) (lent_texts objects.now) ids.items))) (lent_texts subjects.now) }
-    requires predicates_used { All (Contains (predicates_of (triples_of (lent_texts subjects.now) (lent_texts predicates.now) (lent_texts objects.now) ids.items))) (lent_texts predicates.now) }
-    requires objects_used { All (Contains (objects_of (triples_of (lent_texts subjects.now) (lent_texts predicates.now) (lent_texts objects.now) ids.items))) (lent_texts objects.now) }
-    requires subjects_ascend { Ascends (lent_texts subjects.now) }
-    requires predicates_ascend { Ascends (lent_texts predicates.now) }
-    requires objects_ascend { Ascends (lent_texts objects.now) }
-    ensures { IfOk result (λ made. IsForm (triples_of (lent_texts subjects.now) (lent_texts predicates.now) (lent_texts objects.now) ids.items) (lent_lists_of made.parts) made.triples.items) }
+    block_size: u32,
+) -> Result<Form, AllocError>
+    requires within { AreWithin (length list) ids.items }
+    requires texts { AreTexts (triples_of list ids.items) }
+    requires block { 1 ≤ block_size }
+    ensures form { IfOk result (λ made. IsForm (triples_of list ids.items) (sections_of made.sections) made.triples.items) }
+    ensures blocks { IfOk result (λ made. AreBlocks block_size made.sections) }
 {
-    let parts = split_lent(alloc, subjects, predicates, objects)?;
-    let shared = parts.shared.as_slice();
-    let s = numbers(alloc, shared, parts.subjects.as_slice(), subjects)?;
-    let p = numbers(alloc, parts.predicates.as_slice(), &[], predicates)?;
-    let o = numbers(alloc, shared, parts.objects.as_slice(), objects)?;
     let mut triples = ids;
-    replace(&mut triples, s.as_slice(), p.as_slice(), o.as_slice());
+    let ordered = placed(alloc, &list)?;
+    let (strings, ranks) = distinct(alloc, &list, ordered.as_slice())?;
+    drop(ordered);
+    replace(
+        &mut triples,
+        ranks.as_slice(),
+        ranks.as_slice(),
+        ranks.as_slice(),
+    );
+    drop(ranks);
+    let Numbered {
+        sections,
+        nodes,
+        predicates,
+    } = parted(alloc, strings.as_slice(), triples.as_slice(), block_size)?;
+    replace(
+        &mut triples,
+        nodes.as_slice(),
+        predicates.as_slice(),
+        nodes.as_slice(),
+    );
     order(&mut triples);
-    Ok(Form { parts, triples })
+    Ok(Form { sections, triples })
 }

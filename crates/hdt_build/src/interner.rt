@@ -1,6 +1,6 @@
 //! Strings kept once, as far as a cache of their places remembers them.
 ghost use Rattle.std.specs.Prelude.{◌≡◌, ◌<◌, ◌≤◌, ◌++◌, ◌∷◌, [], ℕ, List, ◌+◌, IfSome, length, slice_index_or, vec_len, IfOk, OnOk, OnErr};
-ghost use Rattle.hdt_build.specs.Texts.{with_text};
+ghost use Rattle.hdt_build.specs.Texts.{GoesOn};
 
 use hdt_dict::Arena;
 use std::alloc::{AllocError, Global};
@@ -128,7 +128,7 @@ impl Interner {
     pub fn place_of(&mut self, alloc: Global, text: &[u8]) -> Result<usize, AllocError>
         ensures within { IfOk result (λ i. i < length self.new) }
         ensures is { IfOk result (λ i. slice_index_or self.new i [] ≡ text.now) }
-        ensures list { IfOk result (λ i. self.new ≡ with_text self.old text.now i) }
+        ensures list { OnOk result (GoesOn self.old self.new) }
         ensures err { OnErr result (self.new ≡ self.old) }
     {
         let hash = hash(text);

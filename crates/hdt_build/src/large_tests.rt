@@ -120,7 +120,12 @@ fn put_string(letter: u8, number: u32, out: &mut Vec<u8>) -> Result<(), AllocErr
 }
 
 /// Appends the IRI with this string, and what follows it in its line.
-fn put_iri(letter: u8, number: u32, behind: &[u8], out: &mut Vec<u8>) -> Result<(), AllocError> {
+pub(crate) fn put_iri(
+    letter: u8,
+    number: u32,
+    behind: &[u8],
+    out: &mut Vec<u8>,
+) -> Result<(), AllocError> {
     out.push(b'<')?;
     put_string(letter, number, out)?;
     out.extend_from_slice(behind)

@@ -21,10 +21,12 @@
 //! ```
 //!
 //! In reading order: `options`, `report` and `fault`, what is asked for and what is answered; `interner`, strings
-//! kept once, and where they stand; `document`, triples as places of strings, and `lists`, the strings alone;
-//! `reading`, the lines of an input; `keys`, `merging` and `placed`, the strings in order; `numbers`, `triples` and `form`, the four
-//! sections and triples as numbers; `header` and `file`, the bytes; `building`, all of it; `laws`. For rewriting `used`, the
-//! strings that triples use, stands in place of the first ones, and `rewriting` in place of the last; `rewriting_laws`.
+//! kept once, and where they stand; `document`, triples as places of strings; `reading`, the lines of an input; `keys`, `merging`
+//! and `placed`, the places in the strings' order; `once`, the strings each once; `used`, which of them triples use in a role;
+//! `parted`, the sections as filters of them, with their numbers; `triples` and `form`, the four
+//! sections and triples as numbers; `header` and `file`, the bytes; `building`, all of it; `laws`. For rewriting: `kept`, which
+//! strings the new sections have; `run`, these one after another; `sections`, written from two runs each, with the new numbers, which `renumbering` keeps;
+//! then `triples`, and `rewriting` in place of `building`; `rewriting_laws`.
 #![tactic(auto)]
 
 mod building;
@@ -34,21 +36,27 @@ mod file;
 mod form;
 mod header;
 mod interner;
+mod kept;
 mod keys;
 #[cfg(test)]
 mod large_tests;
 mod laws;
-mod lists;
 mod merging;
-mod numbers;
+mod once;
 mod options;
+mod parted;
 mod placed;
 mod reading;
+#[cfg(test)]
+mod renewing_tests;
+mod renumbering;
 mod report;
 mod rewriting;
 mod rewriting_laws;
 #[cfg(test)]
 mod rewriting_tests;
+mod run;
+mod sections;
 #[cfg(test)]
 mod tests;
 mod triples;

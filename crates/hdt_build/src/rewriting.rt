@@ -1,21 +1,42 @@
 //! From a graph that was opened to its canonical file.
-ghost use Rattle.std.specs.Prelude.{◌≡◌, ◌≢◌, ◌+◌, ◌↔◌, ℕ, IfOk, IfErr, OnOk, IsErrOf};
+ghost use Rattle.std.specs.Prelude.{◌≡◌, ◌≢◌, [], ◌+◌, ◌↔◌, ℕ, IfOk, IfErr, OnOk, IsErrOf};
 ghost use Rattle.hdt_wire.specs.Counted.{inner, failures};
 ghost use Rattle.hdt_file.specs.Views.{graph_seen};
+ghost use Rattle.hdt_build.specs.Built.{report_of};
+ghost use Rattle.hdt_build.specs.Kept.{sections_of};
 ghost use Rattle.hdt_build.specs.Options.{IsBlockSize};
 ghost use Rattle.hdt_build.specs.Rewritten.{IsRewritten, WritesAgain, BeginsAgain};
 
 use crate::fault::RewriteFault;
-use crate::file::whole_file;
+use crate::file::put_head;
 use crate::options::{Options, is_block_size};
 use crate::report::Report;
-use crate::used::used_lists;
+use crate::sections::{Sections, new_sections};
+use crate::triples::new_triples;
+use hdt_dict::put_written_dictionary;
 use hdt_file::Graph;
+use hdt_triples::put_triples;
 use hdt_wire::Counted;
 use std::alloc::{AllocError, Global};
 use std::io::Write;
 
-/// The canonical file of what a graph denotes, with its header body, and its numbers.
+/// The numbers of a file with these sections, without its triples.
+#[tactic(auto, unfolding(crate::specs::Built::report_of))]
+fn report_of(sections: &Sections) -> Report
+    ensures { result ≡ report_of (sections_of sections.now) [] [] }
+{
+    Report {
+        triples: 0,
+        shared: sections.shared.len(),
+        subjects: sections.subjects.len(),
+        predicates: sections.predicates.len(),
+        objects: sections.objects.len(),
+        bytes: 0,
+    }
+}
+
+/// The canonical file of what a graph denotes, with its header body, and its numbers. A section is let go once it stands in the
+/// file, and the triples are found then.
 fn rewritten(
     alloc: Global,
     graph: &Graph<'_>,
@@ -25,10 +46,23 @@ fn rewritten(
     ensures { IfOk result (λ made. IsRewritten block_size (graph_seen graph.now) made.0.items made.1) }
 {
     graph.is_graph();
-    let (lists, mut ids) = used_lists(alloc, graph)?;
-    let lists = lists.in_order(alloc, &mut ids)?;
-    let form = lists.form(alloc, ids)?;
-    whole_file(alloc, graph.header(), form, block_size)
+    let (sections, numbers) = new_sections(alloc, graph, block_size)?;
+    let mut report = report_of(&sections);
+    let mut bytes = Vec::new(alloc);
+    put_head(alloc, graph.header(), &mut bytes)?;
+    let Sections {
+        shared,
+        subjects,
+        predicates,
+        objects,
+    } = sections;
+    put_written_dictionary(shared, subjects, predicates, objects, &mut bytes)?;
+    let triples = new_triples(alloc, graph, &numbers)?;
+    drop(numbers);
+    put_triples(alloc, triples.as_slice(), &mut bytes)?;
+    report.triples = triples.len() as u64;
+    report.bytes = bytes.len() as u64;
+    Ok((bytes, report))
 }
 
 /// Rewrites a file that was opened as the canonical file of the same set of string triples, in memory: with the same header

@@ -1,8 +1,22 @@
 //! Triples as numbers.
-ghost use Rattle.std.specs.Prelude.{◌≡◌, ◌<◌, map, length};
+ghost use Rattle.std.specs.Prelude.{◌≡◌, ◌<◌, map, length, IsTrue, IfOk};
 ghost use Rattle.std.specs.List.{All};
 ghost use Rattle.hdt_dict.specs.Strings.{SameMembers};
+ghost use Rattle.hdt_file.specs.Views.{graph_seen};
 ghost use Rattle.hdt_build.specs.Graph.{AscendingTriples, numbers_at};
+ghost use Rattle.hdt_build.specs.Kept.{renumbered};
+
+use crate::sections::Numbers;
+use hdt_file::Graph;
+use hdt_triples::Pattern;
+use std::alloc::{AllocError, Global};
+
+/// The pattern that gives nothing.
+const ANY: Pattern = Pattern {
+    s: None,
+    p: None,
+    o: None,
+};
 
 /// Puts in place of each number of triples what three lists have there.
 pub fn replace(
@@ -26,11 +40,60 @@ pub fn replace(
     }
 }
 
-/// Puts triples in ascending order, each once.
+/// Whether each triple is less than the next.
+fn are_ascending(triples: &[(u64, u64, u64)]) -> bool
+    ensures { IsTrue result → AscendingTriples triples.now }
+{
+    for at in 1..triples.len() {
+        if !triples[at - 1].cmp(&triples[at]).is_lt() {
+            return false;
+        }
+    }
+    true
+}
+
+/// Puts triples in ascending order, each once. Those that stand so are only looked at.
 pub fn order(triples: &mut Vec<(u64, u64, u64)>)
     ensures ascending { AscendingTriples triples.new.items }
     ensures same { SameMembers triples.new.items triples.old.items }
 {
+    if are_ascending(triples.as_slice()) {
+        return;
+    }
     triples.sort_unstable();
     triples.dedup();
+}
+
+/// The triples of a graph with new numbers, in their order.
+fn renumbered(
+    alloc: Global,
+    graph: &Graph<'_>,
+    numbers: &Numbers,
+) -> Result<Vec<(u64, u64, u64)>, AllocError>
+    ensures { IfOk result (λ made. made.items ≡ map (renumbered numbers.now) (graph_seen graph.now).triples) }
+{
+    let mut made = Vec::with_capacity(alloc, graph.len() as usize)?;
+    let mut triples = graph.search(ANY);
+    'triples: while let Some((s, p, o)) = triples.next() {
+        made.push((
+            numbers.subjects.new_number(s),
+            numbers.predicates.new_number(p),
+            numbers.objects.new_number(o),
+        ))?;
+    }
+    Ok(made)
+}
+
+/// The triples of a graph with new numbers, ascending. Each is found once.
+pub fn new_triples(
+    alloc: Global,
+    graph: &Graph<'_>,
+    numbers: &Numbers,
+) -> Result<Vec<(u64, u64, u64)>, AllocError>
+    ensures ascending { IfOk result (λ made. AscendingTriples made.items) }
+    ensures same { IfOk result (λ made. SameMembers made.items (map (renumbered numbers.now) (graph_seen graph.now).triples)) }
+{
+    let mut triples = renumbered(alloc, graph, numbers)?;
+    order(&mut triples);
+    Ok(triples)
 }

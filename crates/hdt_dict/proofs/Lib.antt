@@ -7,3 +7,4 @@ pub mod Numbering
 pub mod Dictionaries
 pub mod Steps
 pub mod Turning
+pub mod Appending

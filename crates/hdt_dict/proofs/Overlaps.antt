@@ -1,5 +1,5 @@
 -- The first string that stands in another list, by the order of both.
-use Rattle.std.proofs.Common.{◌≡◌, ◌≢◌, ℕ, ◌<◌, ◌||◌, Bool, true, false, cond, List, [], ◌∷◌, length, drop, Option, Some, None, refl, sym, ap, ◌∙◌, subst, arith, Ordering}
+use Rattle.std.proofs.Common.{◌≡◌, ◌≢◌, ℕ, ◌<◌, ◌||◌, Bool, true, false, cond, List, [], ◌∷◌, length, drop, Option, Some, refl, sym, ap, ◌∙◌, subst, arith, Ordering}
 use Rattle.std.specs.Prelude.{Result, Ok, Err, IfOk}
 use Rattle.std.specs.declared.alloc.AllocError.{AllocError}
 use Rattle.std.specs.Str.{bytes_eq}
@@ -128,17 +128,9 @@ pub meets : (v : List Placed) (x : List ℕ) (f : List ℕ → Bool) → first_s
 meets [] x f e holds = absurd (cc)
 meets (p ∷ ps) x f e holds = sym (ap (λ b. cond b (Some p.place) (first_place f ps)) (ap f (string_of p ps x e) ∙ holds))
 
-pub meets_none : (v : List Placed) (f : List ℕ → Bool) → first_string v ≡ None → first_place f v ≡ None
-meets_none [] f e = refl
-meets_none (p ∷ ps) f e = absurd (cc)
-
 pub ascends_drop : (v : List Placed) → Ascends v → Ascends (drop 1 v)
 ascends_drop [] a = tt
 ascends_drop (p ∷ ps) a = ascends_tail p.string ps a
-
-pub fewer_some : (v : List Placed) (x : List ℕ) → first_string v ≡ Some x → length (drop 1 v) < length v
-fewer_some [] x e = absurd (cc)
-fewer_some (p ∷ ps) x e = omega arith
 
 -- ---- what `reaches` answers, and what it leaves
 

@@ -1,9 +1,11 @@
 -- One step of a walk over the strings of a role.
-use Rattle.std.proofs.Common.{◌≡◌, ℕ, ◌+◌, Bool, true, false, not, List, [], ◌∷◌, ◌++◌, length, Option, Some, None, refl, sym, ap, ◌∙◌, arith, append-nil}
+use Rattle.std.proofs.Common.{◌≡◌, ℕ, ◌+◌, ◌≤◌, Bool, true, false, not, List, [], ◌∷◌, ◌++◌, length, Option, Some, None, refl, sym, ap, ◌∙◌, subst, arith, append-nil}
 use Rattle.std.specs.Prelude.{is_some}
 use Rattle.hdt_front.specs.declared.section.Section.{Section}
+use Rattle.hdt_front.specs.Agreeing.{agree_back}
+use Rattle.hdt_front.specs.Searching.{agreed}
 use Rattle.hdt_front.specs.Strings.{strings_of}
-use Rattle.hdt_front.specs.Walking.{Placed, Way, strings, next_place, further, further_by}
+use Rattle.hdt_front.specs.Walking.{Placed, Way, strings, next_place, first_agreed, further, further_by}
 use Rattle.hdt_front.specs.Walks.{placed_of}
 use Rattle.hdt_front.specs.WalkLaws.{strings_placed}
 use Rattle.hdt_dict.specs.Walking.{Progress, stepped, stepped_by, next_number}
@@ -29,6 +31,14 @@ stays w v e f = f ∙ ap (further_by w) e
 pub no_strings : (ps : List Placed) → strings ps ≡ [] → ps ≡ []
 no_strings [] e = refl
 no_strings (p ∷ ps) e = absurd cc
+
+front_kept_by : (w : Way) (ps : List Placed) (k : ℕ) → k ≤ first_agreed ps w.last → k ≤ agreed w.last (further_by w ps).last
+front_kept_by w [] k h = omega (arith, h)
+front_kept_by w (p ∷ ps) k h = agree_back k p.string w.last h
+
+-- the next string keeps so much of the one before
+pub front_kept : (w v : Way) (k : ℕ) → k ≤ first_agreed w.ahead w.last → v ≡ further w → k ≤ agreed w.last v.last
+front_kept w v k h e = subst (λ (v : Way). k ≤ agreed w.last v.last) (sym e) (front_kept_by w w.ahead k h)
 
 -- ---- the section behind it
 

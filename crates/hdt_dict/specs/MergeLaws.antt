@@ -64,15 +64,6 @@ module _ (ys : List (List ℕ)) (at : ℕ) (x : List ℕ) (up : IsAscending ys) 
       (λ t. cc)
       (λ t. absurd (omega (arith, (stands (λ h. absurd (omega arith)) (has-Contains ys x t)).0)))
 
--- what is below a string is below those after it
-pub passes_on : (ys xs : List (List ℕ)) (at i : ℕ) → IsAscending xs → FirstBelow ys at (get_or xs i []) → at ≤ length ys → (m : ℕ) → i + 1 ≤ m → m < length xs → FirstBelow ys at (get_or xs m [])
-passes_on ys xs at i up below within m after in' k lt =
-    let x = get_or xs i [] in
-    let y = get_or xs m [] in
-    let one : string_cmp (get_or ys k x) x ≡ Less = below k lt in
-    let same : get_or ys k x ≡ get_or ys k y = get_or_default ys k x y (omega arith) in
-    nat_list_cmp_total.trans (get_or ys k y) x y (ap (λ z. string_cmp z x) (sym same) ∙ one) (Less-from_sorted string_cmp xs i m [] up (omega arith) in')
-
 pub below_or : (z x y : List ℕ) (o : Ordering) → string_cmp x y ≡ o → string_cmp z x ≡ Less → string_cmp y x ≢ Less → string_cmp z y ≡ Less
 below_or z x y Less e less up = nat_list_cmp_total.trans z x y less e
 below_or z x y Equal e less up = ap (string_cmp z) (sym (exact_bytes x y e)) ∙ less

@@ -3,6 +3,7 @@
 use Rattle.std.specs.Prelude.{ℕ, List, ◌↔◌}
 use Rattle.std.specs.List.{Contains}
 use Rattle.hdt_front.specs.Canonical.{lent_texts, texts}
+use Rattle.hdt_front.specs.InWork.{SectionInWork}
 use Rattle.hdt_dict.specs.Strings.{IsAscending}
 use Rattle.hdt_dict.specs.declared.parts.Parts.{Parts}
 use Rattle.hdt_dict.specs.declared.parts.LentParts.{LentParts}
@@ -21,6 +22,10 @@ lists_of p = record { shared = texts p.shared.items; subjects = texts p.subjects
 -- the strings of `LentParts`
 unfoldable pub lent_lists_of : LentParts → FourLists
 lent_lists_of p = record { shared = lent_texts p.shared.items; subjects = lent_texts p.subjects.items; predicates = lent_texts p.predicates.items; objects = lent_texts p.objects.items }
+
+-- the strings of four sections in work
+abbrev pub lists_in_work : SectionInWork → SectionInWork → SectionInWork → SectionInWork → FourLists
+lists_in_work s u p o = record { shared = s.strings; subjects = u.strings; predicates = p.strings; objects = o.strings }
 
 -- the four lists are the sections of the subjects ss, the predicates ps and the objects os: each ascends; a string is shared exactly
 -- where it is a subject and an object, in subjects exactly where it is a subject alone, in objects exactly where it is

@@ -1,15 +1,14 @@
--- The bytes that are written for a dictionary are read again, whatever stands around them.
-use Rattle.std.proofs.Common.{◌≡◌, ℕ, ◌+◌, ◌<◌, ◌≤◌, ◌^◌, List, ◌++◌, length, eqb, not, Ok, refl}
+-- The bytes that are written for a dictionary are that dictionary where they stand.
+use Rattle.std.proofs.Common.{ℕ, ◌+◌, ◌<◌, ◌≤◌, ◌^◌, List, ◌++◌, length, eqb, not, refl}
 use Rattle.std.proofs.lemmas.Bool.{eqb-false}
 use Rattle.std.proofs.lemmas.List.Sums.{AllPass-from_list_all}
 use Rattle.hdt_wire.specs.declared.control.Kind.TheVariants as kinds
-use Rattle.hdt_wire.specs.Rows.{IsBytes, Stands}
-use Rattle.hdt_wire.specs.RowLaws.{not-true, Stands-front, Stands-back, Stands-after}
+use Rattle.hdt_wire.specs.Rows.{Stands}
+use Rattle.hdt_wire.specs.RowLaws.{not-true, Stands-front, Stands-back}
 use Rattle.hdt_wire.specs.Control.{HasNoZero, control, block_at}
 use Rattle.hdt_front.specs.Canonical.{canonical, canonical_parts}
 use Rattle.hdt_front.specs.CanonicalLaws.{canonical_stands}
-use Rattle.hdt_dict.specs.Dictionary.{IsDictionary, dictionary_at}
-use Rattle.hdt_dict.specs.DictionaryLaws.{dictionary_exact}
+use Rattle.hdt_dict.specs.Dictionary.{IsDictionary}
 use Rattle.hdt_dict.specs.Split.{FourLists}
 use Rattle.hdt_dict.specs.Writing.{AreSections, mapping, canonical_dictionary, canonical_dictionary_parts}
 
@@ -43,11 +42,3 @@ dictionary_stands b d bytes at end some low are small h =
       shared_objects = are.shared_objects;
       subjects_objects = are.subjects_objects;
     }
-
--- they are read again, whatever stands before and after them
-pub dictionary_again : (b : ℕ) (d : FourLists) (before after : List ℕ) → 1 ≤ b → b < 2 ^ 64 → AreSections d
-    → IsBytes (before ++ canonical_dictionary b d ++ after) → length (before ++ canonical_dictionary b d ++ after) < 2 ^ 64
-    → dictionary_at (before ++ canonical_dictionary b d ++ after) (length before) ≡ Ok (canonical_dictionary_parts b d (length before))
-dictionary_again b d before after some low are fits small =
-    (dictionary_exact (before ++ canonical_dictionary b d ++ after) (length before) fits).only (canonical_dictionary_parts b d (length before))
-    (dictionary_stands b d (before ++ canonical_dictionary b d ++ after) (length before) (length before + length (canonical_dictionary b d)) some low are small (Stands-after before (canonical_dictionary b d) after))

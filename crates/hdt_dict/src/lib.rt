@@ -15,7 +15,8 @@
 //! }
 //! ```
 //!
-//! A dictionary is read by [`Dictionary::read`], and written by [`split`] and [`put_dictionary`]. Contracts see it as
+//! A dictionary is read by [`Dictionary::read`], and written by [`split`] and [`put_dictionary`], or string by string by
+//! four [`SectionWriter`]s and [`put_written_dictionary`]. Contracts see it as
 //! its four sections with their places, by `dictionary_of` of specs/, and a role as the list of its strings, `terms`. An
 //! [`Arena`] keeps many strings in one vector.
 #![tactic(auto)]
@@ -34,6 +35,7 @@ mod writing;
 
 pub use arena::Arena;
 pub use dictionary::Dictionary;
+pub use hdt_front::SectionWriter;
 pub use hdt_wire::Role;
 pub use laws::{
     dictionaries_are_exact, dictionary_is_read_again, one_dictionary, split_makes_sections,
@@ -41,11 +43,4 @@ pub use laws::{
 pub use parts::{LentParts, Parts, split, split_lent};
 pub use sorted::ascending_strings;
 pub use walk::Strings;
-pub use writing::{put_dictionary, put_lent_dictionary};
-
-#[cfg(test)]
-mod arena_tests;
-#[cfg(test)]
-mod large_tests;
-#[cfg(test)]
-mod tests;
+pub use writing::{put_dictionary, put_lent_dictionary, put_written_dictionary};

@@ -1,5 +1,6 @@
 //! The strings of a role, given one after another.
-ghost use Rattle.std.specs.Prelude.{◌≡◌, [], IsOk, OnOk, OnErr, IfOk};
+ghost use Rattle.std.specs.Prelude.{◌≡◌, ◌≤◌, [], IsOk, OnOk, OnErr, IfOk};
+ghost use Rattle.hdt_front.specs.Searching.{agreed};
 ghost use Rattle.hdt_dict.specs.Dictionary.{terms};
 ghost use Rattle.hdt_dict.specs.Views.{dictionary_of};
 ghost use Rattle.hdt_dict.specs.Walking.{stepped, next_number};
@@ -73,21 +74,36 @@ impl<'a> Strings<'a> {
         ensures err { OnErr result (self.new ≡ self.old) }
         ensures ended { self.old.ahead ≡ [] → IsOk result }
     {
-        if self.walk.next()?.is_some() {
+        let (number, _) = self.next_kept()?;
+        Ok(number)
+    }
+
+    /// Unfolds the next string as [`next`](Strings::next), and answers with its number how many bytes at its front it keeps
+    /// of the string that was given before: it agrees with that so far at least. At the end, and where a section begins, that
+    /// is 0. Time is in proportion to the bytes that it doesn't keep.
+    pub fn next_kept(&mut self) -> Result<(Option<u64>, usize), AllocError>
+        ensures number { IfOk result (λ r. r.0 ≡ next_number self.old self.old.ahead) }
+        ensures kept { IfOk result (λ r. r.1 ≤ agreed self.old.last self.new.last) }
+        ensures ok { OnOk result (self.new ≡ stepped self.old) }
+        ensures err { OnErr result (self.new ≡ self.old) }
+        ensures ended { self.old.ahead ≡ [] → IsOk result }
+    {
+        let (place, kept) = self.walk.next_kept()?;
+        if place.is_some() {
             self.given += 1;
-            return Ok(Some(self.given));
+            return Ok((Some(self.given), kept));
         }
         match self.then {
-            None => Ok(None),
+            None => Ok((None, 0)),
             Some(section) => {
                 let mut walk = Walk::new(self.alloc, &section);
                 if walk.next()?.is_none() {
-                    return Ok(None);
+                    return Ok((None, 0));
                 }
                 self.walk = walk;
                 self.then = None;
                 self.given += 1;
-                Ok(Some(self.given))
+                Ok((Some(self.given), 0))
             }
         }
     }

@@ -2,11 +2,11 @@
 ghost use Rattle.std.specs.Prelude.{◌≡◌, ◌≤◌, ◌++◌, length, OnOk, OnErr};
 ghost use Rattle.hdt_wire.specs.Control.{Keeps};
 ghost use Rattle.hdt_dict.specs.Dictionary.{IsDictionary};
-ghost use Rattle.hdt_dict.specs.Split.{FourLists, lists_of, lent_lists_of};
+ghost use Rattle.hdt_dict.specs.Split.{FourLists, lists_of, lent_lists_of, lists_in_work};
 ghost use Rattle.hdt_dict.specs.Writing.{AreSections, canonical_dictionary, canonical_dictionary_parts};
 
 use crate::parts::{LentParts, Parts, lend};
-use hdt_front::put_lent_section;
+use hdt_front::{SectionWriter, put_lent_section};
 use hdt_wire::{Kind, put_control};
 use std::alloc::{AllocError, Global};
 
@@ -79,4 +79,50 @@ pub fn put_dictionary(
         objects: lend(alloc, parts.objects.as_slice())?,
     };
     put_lent_dictionary(alloc, &lent, block_size, out)
+}
+
+/// Appends a dictionary of sections in work; an `Err` may leave a beginning of it behind.
+#[tactic(auto, using(crate::specs::WritingLaws::mapping_no_zero))]
+fn append_written(
+    shared: SectionWriter,
+    subjects: SectionWriter,
+    predicates: SectionWriter,
+    objects: SectionWriter,
+    out: &mut Vec<u8>,
+) -> Result<(), AllocError>
+    requires sections { AreSections (lists_in_work shared subjects predicates objects) }
+    requires blocks { (subjects.block_size ≡ shared.block_size) × (predicates.block_size ≡ shared.block_size) × (objects.block_size ≡ shared.block_size) }
+    ensures ok { OnOk result (out.new.items ≡ out.old.items ++ canonical_dictionary shared.block_size (lists_in_work shared subjects predicates objects)) }
+    ensures err { OnErr result (Keeps out.old.items out.new.items) }
+{
+    put_control(Kind::Dictionary, b"mapping=1;", out)?;
+    shared.finish(out)?;
+    subjects.finish(out)?;
+    predicates.finish(out)?;
+    objects.finish(out)?;
+    Ok(())
+}
+
+/// Appends the canonical dictionary of four sections that were written string by string, as [`put_dictionary`] does.
+/// Their blocks are of one size. Each writer is let go once its section stands.
+pub fn put_written_dictionary(
+    shared: SectionWriter,
+    subjects: SectionWriter,
+    predicates: SectionWriter,
+    objects: SectionWriter,
+    out: &mut Vec<u8>,
+) -> Result<(), AllocError>
+    requires sections { AreSections (lists_in_work shared subjects predicates objects) }
+    requires blocks { (subjects.block_size ≡ shared.block_size) × (predicates.block_size ≡ shared.block_size) × (objects.block_size ≡ shared.block_size) }
+    ensures ok { OnOk result (out.new.items ≡ out.old.items ++ canonical_dictionary shared.block_size (lists_in_work shared subjects predicates objects)) }
+    ensures dictionary { OnOk result (IsDictionary (canonical_dictionary_parts shared.block_size (lists_in_work shared subjects predicates objects) (length out.old.items)) out.new.items (length out.old.items)) }
+    ensures err { OnErr result (out.new.items ≡ out.old.items) }
+{
+    shared.has_blocks();
+    let before = out.len();
+    let written = append_written(shared, subjects, predicates, objects, out);
+    if written.is_err() {
+        out.truncate(before);
+    }
+    written
 }

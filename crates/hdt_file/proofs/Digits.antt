@@ -6,7 +6,7 @@ use Rattle.std.proofs.lemmas.Int.Digits.{digits_value_more}
 use Rattle.std.proofs.lemmas.Str.Parse.{digits_value-take-le}
 use Rattle.std.proofs.lemmas.List.{take_all}
 use Rattle.hdt_file.specs.Decimal.{Decimal, decimal_number}
-use Rattle.hdt_file.specs.DecimalLaws.{decimal_found, decimal_only}
+use Rattle.hdt_file.proofs.DecimalLaws.{decimal_found, decimal_only}
 
 digit_below : (text : List ℕ) (i : ℕ) → AllDigits 10 text → i < length text → digit_value (get_or text i 0) < 10
 digit_below [] i h lt = absurd (omega arith)

@@ -5,7 +5,7 @@ use Rattle.hdt_wire.specs.declared.fault.Fault.{Fault}
 use Rattle.hdt_wire.specs.Rows.{Reads, IsBytes}
 use Rattle.hdt_file.specs.declared.head.Head.{Head}
 use Rattle.hdt_file.specs.Head.{HeadParts, parts_of, IsHead, head_at_start}
-use Rattle.hdt_file.specs.HeadLaws.{head_found}
+use Rattle.hdt_file.proofs.HeadLaws.{head_found}
 
 pub head_stands : (bytes : List ℕ) (r : Result Head Fault) → IsBytes bytes → Reads parts_of r (head_at_start bytes) → IfOk r (λ h. IsHead (parts_of h) bytes)
 head_stands bytes (Ok h) fits e = head_found bytes (parts_of h) fits e

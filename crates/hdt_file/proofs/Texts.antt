@@ -1,5 +1,5 @@
 -- The text of triples, line by line.
-use Rattle.std.proofs.Common.{◌≡◌, ℕ, suc, take, List, [], ◌∷◌, ◌++◌, length, refl, sym, ap, ◌∙◌, append_assoc, append-nil, subst, inl, inr, arith}
+use Rattle.std.proofs.Common.{◌≡◌, ℕ, suc, Option, Some, take, List, [], ◌∷◌, ◌++◌, length, refl, sym, ap, ◌∙◌, append_assoc, append-nil, subst, inl, inr, arith}
 use Rattle.std.specs.List.{flat_map}
 use Rattle.std.proofs.lemmas.Grind.{flat_map-append}
 use Rattle.hdt_terms.specs.Writing.{written}
@@ -10,7 +10,9 @@ use Rattle.hdt_file.specs.File.{GraphParts}
 use Rattle.hdt_triples.specs.Uses.{part}
 use Rattle.hdt_file.specs.Denoted.{string_of, strings_of, denoted}
 use Rattle.hdt_file.specs.Text.{TermTriple, IsTermOf, AreTermsOf, HasTerm, IsBefore, IsFirstOf, IsFirstIn, IsTextOf, Pairwise, line}
-use Rattle.hdt_file.specs.TextWriting.{AppendsTerm, AppendsLine, AppendsText, IsFront, TellsString, TellsFirstOf, TellsFirstIn}
+use Rattle.hdt_file.specs.Spelling.{HasTerms, KeepsTerm, spelled_line}
+use Rattle.hdt_file.specs.TextWriting.{AppendsTerm, AppendsLine, AppendsText, TellsString, TellsFirstOf, TellsFirstIn}
+use Rattle.hdt_file.specs.declared.spelling.Speller.{Speller}
 use Rattle.hdt_file.specs.declared.fault.DumpFault.{DumpFault}
 use Rattle.hdt_file.specs.declared.fault.DumpFault.TheVariants.{NotATerm, Write, OutOfMemory}
 
@@ -25,55 +27,66 @@ one_more n found items new t left rest first is h =
 
 -- ---- one line
 
--- a front, an object and the end of a line are the line
-pub line_parts : (s p o : List ℕ) → (s ++ 32 ∷ (p ++ 32 ∷ [])) ++ (o ++ 32 ∷ 46 ∷ 10 ∷ []) ≡ s ++ 32 ∷ (p ++ 32 ∷ (o ++ 32 ∷ 46 ∷ 10 ∷ []))
-line_parts s p o =
-    append_assoc s (32 ∷ (p ++ 32 ∷ [])) (o ++ 32 ∷ 46 ∷ 10 ∷ [])
-    ∙ ap (λ (t : List ℕ). s ++ 32 ∷ t) (append_assoc p (32 ∷ []) (o ++ 32 ∷ 46 ∷ 10 ∷ []))
-
-grown : (old s p o : List ℕ) → ((old ++ (s ++ 32 ∷ (p ++ 32 ∷ []))) ++ o) ++ 32 ∷ 46 ∷ 10 ∷ [] ≡ old ++ (s ++ 32 ∷ (p ++ 32 ∷ (o ++ 32 ∷ 46 ∷ 10 ∷ [])))
-grown old s p o =
-    append_assoc (old ++ (s ++ 32 ∷ (p ++ 32 ∷ []))) o (32 ∷ 46 ∷ 10 ∷ [])
-    ∙ append_assoc old (s ++ 32 ∷ (p ++ 32 ∷ [])) (o ++ 32 ∷ 46 ∷ 10 ∷ [])
-    ∙ ap (λ (t : List ℕ). old ++ t) (line_parts s p o)
-
 pub are_terms : (g : GraphParts) (t : Triple) (terms : TermTriple) → IsTermOf Subject (string_of g Subject t.0) terms.0 → IsTermOf Predicate (string_of g Predicate t.1) terms.1
     → IsTermOf Object (string_of g Object t.2) terms.2 → AreTermsOf (strings_of g t) terms
 are_terms g t terms s p o Subject = s
 are_terms g t terms s p o Predicate = p
 are_terms g t terms s p o Object = o
 
--- the front of a line, the object behind it and the end of the line
-pub line_appended : (g : GraphParts) (t : Triple) (old front with_front with_object new : List ℕ) → IsFront g t.0 t.1 front → with_front ≡ old ++ front
-    → AppendsTerm Object (string_of g Object t.2) with_front with_object → new ≡ with_object ++ 32 ∷ 46 ∷ 10 ∷ [] → AppendsLine g t old new
-line_appended g t old front with_front with_object new f one two three =
-    let terms : TermTriple = (f.subject, f.predicate, two.term) in
-    let s = written f.subject in
-    let p = written f.predicate in
-    let o = written two.term in
-    let begun : with_object ≡ (old ++ (s ++ 32 ∷ (p ++ 32 ∷ []))) ++ o = two.grown ∙ ap (λ (x : List ℕ). x ++ o) (one ∙ ap (λ (x : List ℕ). old ++ x) f.whole) in
+-- the term that is kept of a role, where its number is known
+kept_term : (g : GraphParts) (role : Role) (number : Option ℕ) (n : ℕ) (text : List ℕ) → number ≡ Some n → KeepsTerm g role number text → AppendsTerm role (string_of g role n) [] text
+kept_term g role number n text is h = subst (λ (m : Option ℕ). KeepsTerm g role m text) is h
+
+spelled : (old s p o : List ℕ) (terms : TermTriple) → s ≡ written terms.0 → p ≡ written terms.1 → o ≡ written terms.2
+    → old ++ (s ++ 32 ∷ (p ++ 32 ∷ (o ++ 32 ∷ 46 ∷ 10 ∷ []))) ≡ old ++ line terms
+spelled old s p o terms one two three = rw (one, two, three) refl
+
+-- the terms of a triple that are kept are its line
+pub line_appended : (g : GraphParts) (t : Triple) (s : Speller) (old new : List ℕ) → HasTerms g t s → new ≡ old ++ spelled_line s → AppendsLine g t old new
+line_appended g t s old new h is =
+    let subject = kept_term g Subject s.subject.number t.0 s.subject.text.items h.subject_is h.kept.subject in
+    let predicate = kept_term g Predicate s.predicate.number t.1 s.predicate.text.items h.predicate_is h.kept.predicate in
+    let object = kept_term g Object s.object.number t.2 s.object.text.items h.object_is h.kept.object in
+    let terms : TermTriple = (subject.term, predicate.term, object.term) in
     record {
       terms = terms;
-      are = are_terms g t terms f.subject_is f.predicate_is two.is;
-      grown = three ∙ ap (λ (x : List ℕ). x ++ 32 ∷ 46 ∷ 10 ∷ []) begun ∙ grown old s p o;
+      are = are_terms g t terms subject.is predicate.is object.is;
+      grown = is ∙ spelled old _ _ _ terms subject.grown predicate.grown object.grown;
     }
 
--- an object that is no term is the first string of its triple that is none, where the front was spelled
-pub object_first : (g : GraphParts) (t : Triple) (front : List ℕ) (e : DumpFault) → IsFront g t.0 t.1 front → TellsString Object t.2 (string_of g Object t.2) e → TellsFirstOf g t e
-object_first g t front (NotATerm role n) f h = subst (λ (r : Role). IsFirst r) (sym h.0) (told, h.1)
-  where
-    IsFirst : Role → Type 0
-    IsFirst r = IsFirstOf (strings_of g t) r × (n ≡ part r t)
+-- a string that is no term is the first of its triple where those before it are terms
+told_first : (g : GraphParts) (t : Triple) (role : Role) (e : DumpFault) → ((other : Role) → IsBefore other role → HasTerm other (part other (strings_of g t)))
+    → TellsString role (part role t) (part role (strings_of g t)) e → TellsFirstOf g t e
+told_first g t role (NotATerm other n) earlier h =
+    subst (λ (r : Role). IsFirstOf (strings_of g t) r × (n ≡ part r t)) (sym h.0) (record { none = h.2; earlier = earlier }, h.1)
+told_first g t role (Write k) earlier h = h
+told_first g t role OutOfMemory earlier h = tt
 
-    earlier : (other : Role) → IsBefore other Object → HasTerm other (part other (strings_of g t))
-    earlier Subject before = (f.subject, f.subject_is)
-    earlier Predicate before = (f.predicate, f.predicate_is)
+pub subject_first : (g : GraphParts) (t : Triple) (e : DumpFault) → TellsString Subject t.0 (string_of g Subject t.0) e → TellsFirstOf g t e
+subject_first g t e h = told_first g t Subject e earlier h
+  where
+    earlier : (other : Role) → IsBefore other Subject → HasTerm other (part other (strings_of g t))
+    earlier Subject before = absurd before
+    earlier Predicate before = absurd before
     earlier Object before = absurd before
 
-    told : IsFirstOf (strings_of g t) Object
-    told = record { none = h.2; earlier = earlier }
-object_first g t front (Write k) f h = h
-object_first g t front OutOfMemory f h = tt
+pub predicate_first : (g : GraphParts) (t : Triple) (e : DumpFault) (s : List ℕ) → KeepsTerm g Subject (Some t.0) s → TellsString Predicate t.1 (string_of g Predicate t.1) e
+    → TellsFirstOf g t e
+predicate_first g t e s subject h = told_first g t Predicate e earlier h
+  where
+    earlier : (other : Role) → IsBefore other Predicate → HasTerm other (part other (strings_of g t))
+    earlier Subject before = (subject.term, subject.is)
+    earlier Predicate before = absurd before
+    earlier Object before = absurd before
+
+pub object_first : (g : GraphParts) (t : Triple) (e : DumpFault) (s p : List ℕ) → KeepsTerm g Subject (Some t.0) s → KeepsTerm g Predicate (Some t.1) p
+    → TellsString Object t.2 (string_of g Object t.2) e → TellsFirstOf g t e
+object_first g t e s p subject predicate h = told_first g t Object e earlier h
+  where
+    earlier : (other : Role) → IsBefore other Object → HasTerm other (part other (strings_of g t))
+    earlier Subject before = (subject.term, subject.is)
+    earlier Predicate before = (predicate.term, predicate.is)
+    earlier Object before = absurd before
 
 -- ---- the lines that are still to come
 

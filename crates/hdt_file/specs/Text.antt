@@ -38,10 +38,6 @@ Pairwise P [] (y ∷ ys) = ⊥
 Pairwise P (x ∷ xs) [] = ⊥
 Pairwise P (x ∷ xs) (y ∷ ys) = P x y × Pairwise P xs ys
 
--- subject and predicate, each with a space behind it
-abbrev pub line_front : Term → Term → List ℕ
-line_front s p = written s ++ 32 ∷ (written p ++ 32 ∷ [])
-
 -- subject, predicate, object, each with a space behind it, a full stop and a line feed
 abbrev pub line : TermTriple → List ℕ
 line t = written t.0 ++ 32 ∷ (written t.1 ++ 32 ∷ (written t.2 ++ 32 ∷ 46 ∷ 10 ∷ []))

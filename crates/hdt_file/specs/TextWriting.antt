@@ -4,14 +4,13 @@ use Rattle.std.specs.Io.KnownBytes.{Appends}
 use Rattle.hdt_terms.specs.declared.term.Term.{Term}
 use Rattle.hdt_terms.specs.Writing.{written}
 use Rattle.hdt_wire.specs.declared.role.Role.{Role}
-use Rattle.hdt_wire.specs.declared.role.Role.TheVariants.{Subject, Predicate}
 use Rattle.hdt_triples.specs.Counting.{Triple}
 use Rattle.hdt_triples.specs.Patterns.{matches}
 use Rattle.hdt_triples.specs.declared.pattern.Pattern.{Pattern}
 use Rattle.hdt_file.specs.File.{GraphParts}
 use Rattle.hdt_triples.specs.Uses.{part}
-use Rattle.hdt_file.specs.Denoted.{string_of, strings_of, denoted}
-use Rattle.hdt_file.specs.Text.{TermTriple, IsTermOf, AreTermsOf, HasNoTerm, IsFirstOf, IsFirstIn, IsTextOf, line, line_front}
+use Rattle.hdt_file.specs.Denoted.{strings_of, denoted}
+use Rattle.hdt_file.specs.Text.{TermTriple, IsTermOf, AreTermsOf, HasNoTerm, IsFirstOf, IsFirstIn, IsTextOf, line}
 use Rattle.hdt_file.specs.declared.fault.DumpFault.{DumpFault}
 use Rattle.hdt_file.specs.declared.fault.DumpFault.TheVariants.{NotATerm, Write, OutOfMemory}
 
@@ -36,18 +35,6 @@ abbrev pub TellsString : Role → ℕ → List ℕ → DumpFault → Type 0
 TellsString role n string (NotATerm other m) = (other ≡ role) × (m ≡ n) × HasNoTerm role string
 TellsString role n string (Write k) = ⊥
 TellsString role n string OutOfMemory = ⊤
-
--- the front of a line: the terms of a subject and a predicate, or nothing is kept
-pub record IsFront (g : GraphParts) (s p : ℕ) (text : List ℕ) : Type 0 where
-  pub subject : Term
-  pub predicate : Term
-  pub subject_is : IsTermOf Subject (string_of g Subject s) subject
-  pub predicate_is : IsTermOf Predicate (string_of g Predicate p) predicate
-  pub whole : text ≡ line_front subject predicate
-
-abbrev pub KeepsFront : GraphParts → Option (ℕ × ℕ) → List ℕ → Type 0
-KeepsFront g None text = ⊤
-KeepsFront g (Some pair) text = IsFront g pair.0 pair.1 text
 
 -- the text has grown by the line of a triple
 pub record AppendsLine (g : GraphParts) (t : Triple) (old new : List ℕ) : Type 0 where

@@ -26,26 +26,16 @@
 mod decimal;
 mod dictionary;
 mod fault;
-#[cfg(test)]
-mod fault_tests;
 mod graph;
 mod head;
-#[cfg(test)]
-mod large_tests;
 mod layout;
 mod opening;
 mod search;
 mod search_laws;
-#[cfg(test)]
-mod search_tests;
 mod spelling;
 mod tables;
-#[cfg(test)]
-mod tests;
 mod text;
 mod text_laws;
-#[cfg(test)]
-mod text_tests;
 mod tight;
 
 pub use dictionary::{fronts_are_exact, read_dictionary};

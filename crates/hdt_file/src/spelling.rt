@@ -5,7 +5,8 @@ ghost use Rattle.hdt_terms.specs.declared.term.Term.{Term};
 ghost use Rattle.hdt_terms.specs.declared.fault.StringFault.TheVariants as StringFaultOf;
 ghost use Rattle.hdt_file.specs.Denoted.{string_of};
 ghost use Rattle.hdt_file.specs.Text.{FitsRole, HasNoTerm};
-ghost use Rattle.hdt_file.specs.TextWriting.{AppendsLine, AppendsTerm, KeepsFront, TellsFirstOf, TellsString};
+ghost use Rattle.hdt_file.specs.Spelling.{HasTerms, KeepsTerm, KeepsTerms, spelled_line};
+ghost use Rattle.hdt_file.specs.TextWriting.{AppendsLine, AppendsTerm, TellsFirstOf, TellsString};
 ghost use Rattle.hdt_file.specs.LayoutView.{layout_seen};
 
 use crate::fault::DumpFault;
@@ -13,7 +14,7 @@ use crate::layout::Layout;
 use hdt_dict::Role;
 use hdt_seq::Steps;
 use hdt_terms::{Kind, StringFault, put_string};
-use std::alloc::Global;
+use std::alloc::{AllocError, Global};
 
 /// Whether a term of this kind can have the role: an IRI or a blank node as subject, an IRI as predicate, any as object.
 fn fits(role: Role, kind: Kind) -> bool
@@ -43,28 +44,6 @@ pub fn put_role_term(role: Role, string: &[u8], out: &mut Vec<u8>) -> Result<(),
     Ok(())
 }
 
-/// Spells the triples of a layout, one line after another: a string that was unfolded, and the front of the last line,
-/// which serves the lines after it that have the same subject and predicate.
-#[derive(Drop)]
-pub struct Speller {
-    string: Vec<u8>,
-    pair: Option<(u64, u64)>,
-    front: Vec<u8>,
-}
-
-impl Speller {
-    /// A speller that has spelled nothing.
-    pub fn new(alloc: Global) -> Speller
-        ensures { result.pair ≡ None }
-    {
-        Speller {
-            string: Vec::new(alloc),
-            pair: None,
-            front: Vec::new(alloc),
-        }
-    }
-}
-
 /// Appends the term that string n of a role is. `string` is a buffer for the string.
 fn append_term(
     layout: &Layout<'_>,
@@ -85,34 +64,99 @@ fn append_term(
     }
 }
 
-/// Spells the front of a triple's line, where the line before has another.
-fn spell_front(
-    layout: &Layout<'_>,
-    triple: (u64, u64, u64),
-    speller: &mut Speller,
-) -> Result<(), DumpFault>
-    requires { KeepsFront (layout_seen layout.now) speller.old.pair speller.old.front.items }
-    ensures ok { OnOk result (KeepsFront (layout_seen layout.now) (Some (triple.0, triple.1)) speller.new.front.items) }
-    ensures pair { OnOk result (speller.new.pair ≡ Some (triple.0, triple.1)) }
-    ensures err { IfErr result (TellsFirstOf (layout_seen layout.now) triple) }
-{
-    let (subject, predicate, _) = triple;
-    if speller.pair == Some((subject, predicate)) {
-        return Ok(());
+/// The term that a string of a role is, spelled once for the lines after it that have the same string in this role.
+#[derive(Drop)]
+struct Spelled {
+    number: Option<u64>,
+    text: Vec<u8>,
+}
+
+impl Spelled {
+    fn new(alloc: Global) -> Spelled
+        ensures { result.number ≡ None }
+    {
+        Spelled {
+            number: None,
+            text: Vec::new(alloc),
+        }
     }
-    let Speller {
-        string,
-        pair,
-        front,
-    } = speller;
-    *pair = None;
-    front.clear();
-    append_term(layout, Role::Subject, subject, string, front)?;
-    front.push(b' ')?;
-    append_term(layout, Role::Predicate, predicate, string, front)?;
-    front.push(b' ')?;
-    *pair = Some((subject, predicate));
-    Ok(())
+
+    /// Spells string n of a role, where the last one was another.
+    fn spell(
+        &mut self,
+        layout: &Layout<'_>,
+        role: Role,
+        n: u64,
+        string: &mut Vec<u8>,
+    ) -> Result<(), DumpFault>
+        requires { KeepsTerm (layout_seen layout.now) role self.old.number self.old.text.items }
+        ensures ok { OnOk result (KeepsTerm (layout_seen layout.now) role (Some n) self.new.text.items) }
+        ensures number { OnOk result (self.new.number ≡ Some n) }
+        ensures err { IfErr result (TellsString role n (string_of (layout_seen layout.now) role n)) }
+    {
+        if self.number == Some(n) {
+            return Ok(());
+        }
+        self.number = None;
+        self.text.clear();
+        append_term(layout, role, n, string, &mut self.text)?;
+        self.number = Some(n);
+        Ok(())
+    }
+}
+
+/// Spells the triples of a layout, one line after another: a string that was unfolded, and the last term of each role.
+#[derive(Drop)]
+pub struct Speller {
+    string: Vec<u8>,
+    subject: Spelled,
+    predicate: Spelled,
+    object: Spelled,
+}
+
+impl Speller {
+    /// A speller that has spelled nothing.
+    pub fn new(alloc: Global) -> Speller
+        ensures subject { result.subject.number ≡ None }
+        ensures predicate { result.predicate.number ≡ None }
+        ensures object { result.object.number ≡ None }
+    {
+        Speller {
+            string: Vec::new(alloc),
+            subject: Spelled::new(alloc),
+            predicate: Spelled::new(alloc),
+            object: Spelled::new(alloc),
+        }
+    }
+
+    /// Spells the terms of a triple, each where the last one was another.
+    fn spell(&mut self, layout: &Layout<'_>, triple: (u64, u64, u64)) -> Result<(), DumpFault>
+        requires { KeepsTerms (layout_seen layout.now) self.old }
+        ensures ok { OnOk result (HasTerms (layout_seen layout.now) triple self.new) }
+        ensures err { IfErr result (TellsFirstOf (layout_seen layout.now) triple) }
+    {
+        let Speller {
+            string,
+            subject,
+            predicate,
+            object,
+        } = self;
+        subject.spell(layout, Role::Subject, triple.0, string)?;
+        predicate.spell(layout, Role::Predicate, triple.1, string)?;
+        object.spell(layout, Role::Object, triple.2, string)
+    }
+
+    /// Appends the line of the terms that were spelled.
+    fn put_line(&self, out: &mut Vec<u8>) -> Result<(), AllocError>
+        ensures { OnOk result (out.new.items ≡ out.old.items ++ spelled_line self.now) }
+    {
+        out.extend_from_slice(&self.subject.text)?;
+        out.push(b' ')?;
+        out.extend_from_slice(&self.predicate.text)?;
+        out.push(b' ')?;
+        out.extend_from_slice(&self.object.text)?;
+        out.extend_from_slice(b" .\n")
+    }
 }
 
 /// Appends the line of a triple.
@@ -122,14 +166,11 @@ pub fn append_line(
     speller: &mut Speller,
     out: &mut Vec<u8>,
 ) -> Result<(), DumpFault>
-    requires { KeepsFront (layout_seen layout.now) speller.old.pair speller.old.front.items }
-    ensures kept { OnOk result (KeepsFront (layout_seen layout.now) speller.new.pair speller.new.front.items) }
+    requires { KeepsTerms (layout_seen layout.now) speller.old }
+    ensures kept { OnOk result (KeepsTerms (layout_seen layout.now) speller.new) }
     ensures ok { OnOk result (AppendsLine (layout_seen layout.now) triple out.old.items out.new.items) }
     ensures err { IfErr result (TellsFirstOf (layout_seen layout.now) triple) }
 {
-    spell_front(layout, triple, speller)?;
-    out.extend_from_slice(&speller.front)?;
-    append_term(layout, Role::Object, triple.2, &mut speller.string, out)?;
-    out.extend_from_slice(b" .\n")?;
-    Ok(())
+    speller.spell(layout, triple)?;
+    Ok(speller.put_line(out)?)
 }

@@ -4,6 +4,7 @@ ghost use Rattle.hdt_wire.specs.Counted.{inner, failures};
 ghost use Rattle.hdt_wire.specs.declared.role.Role.{Role};
 ghost use Rattle.hdt_triples.specs.Counting.{Triple};
 ghost use Rattle.hdt_triples.specs.Left.{left_of};
+ghost use Rattle.hdt_triples.specs.Patterns.{matches};
 ghost use Rattle.hdt_file.specs.Denoted.{StringTriple, denoted};
 ghost use Rattle.hdt_file.specs.File.{GraphParts};
 ghost use Rattle.hdt_file.specs.LayoutView.{layout_seen};
@@ -128,6 +129,24 @@ fn found_text(
     tabled_text(alloc, layout, &triples)
 }
 
+/// The text of the matches of a pattern with a subject: its triples are found by directories of the marks, which are counted
+/// in words; without the memory for these, by a walk.
+#[tactic(auto, unfolding(crate::specs::LayoutView::layout_seen))]
+fn indexed_text(
+    alloc: Global,
+    layout: &Layout<'_>,
+    pattern: Pattern,
+    most: Option<u64>,
+) -> Result<Vec<u8>, DumpFault>
+    ensures ok { IfOk result (λ text. IsTextOf (denoted (layout_seen layout.now) (limited most (matches pattern (layout_seen layout.now).triples))) text.items) }
+    ensures err { IfErr result (TellsFirstIn (layout_seen layout.now) (limited most (matches pattern (layout_seen layout.now).triples))) }
+{
+    match layout.triples.with_directories(alloc) {
+        Ok(indexed) => found_text(alloc, layout, indexed.find(pattern), most),
+        Err(triples) => found_text(alloc, layout, triples.find(pattern), most),
+    }
+}
+
 /// The N-Triples text of the matches of a pattern, or of nothing: a line a triple, in order.
 ///
 /// Each match costs the unfolding of one block of objects, and the front of its line where it is not that of the match
@@ -191,6 +210,7 @@ pub fn layout_text_up_to(
     ensures err { IfErr result (TellsFirstIn (layout_seen layout.now) (limited most (chosen (layout_seen layout.now) pattern))) }
 {
     match pattern {
+        Some(pattern) if pattern.s.is_some() => indexed_text(alloc, layout, pattern, most),
         Some(pattern) => found_text(alloc, layout, layout.search(pattern), most),
         None => Ok(Vec::new(alloc)),
     }

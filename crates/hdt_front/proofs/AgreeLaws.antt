@@ -2,12 +2,13 @@
 use Rattle.std.proofs.Common.{◌≡◌, ℕ, ◌+◌, ◌<◌, ◌≤◌, zero, suc, List, [], ◌∷◌, ◌++◌, length, take, drop, refl, sym, ap, arith, Bool, true, false, nat_eq, cond, get_or, ◌∙◌, length-take-le}
 use Rattle.std.proofs.Common.{Ordering, nat_lt}
 use Rattle.std.specs.declared.cmp.Ordering.TheVariants.{Less, Equal, Greater}
-use Rattle.std.specs.Ordering.{nat_cmp, ordering_then}
+use Rattle.std.specs.Ordering.{nat_cmp}
 use Rattle.std.specs.Cmp.Lexicographic.{slice_cmp}
 use Rattle.std.specs.List.{common_prefix_len}
 use Rattle.std.proofs.lemmas.Bool.Decides.{nat_tests}
 use Rattle.std.proofs.lemmas.List.Sums.{common_prefix_len-le}
 use Rattle.hdt_wire.specs.Rows.{zero_in}
+use Rattle.hdt_front.specs.Agreeing.{both}
 use Rattle.hdt_front.specs.Folding.{NoZero}
 use Rattle.hdt_front.specs.StringsFound.{split_zero, text_no_zero}
 use Rattle.hdt_front.proofs.Following.{no_zero}
@@ -17,9 +18,6 @@ order x y = slice_cmp nat_cmp x y
 
 abbrev pub agreed : List ℕ → List ℕ → ℕ
 agreed x y = common_prefix_len nat_eq x y
-
-abbrev both : Bool → Bool → Ordering → Ordering
-both lt eq o = ordering_then (cond lt Less (cond eq Equal Greater)) o
 
 apart : (b c : ℕ) → nat_lt b c ≡ true → nat_eq b c ≡ true → ⊥
 apart b c lt eq = grind (arith, nat_tests)

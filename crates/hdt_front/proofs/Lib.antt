@@ -5,7 +5,7 @@ pub mod Between
 pub mod Ascent
 pub mod Lies
 pub mod Strings
-pub mod Folds
+pub mod Lent
 pub mod Loads
 pub mod Utf8
 pub mod Inside
@@ -13,3 +13,4 @@ pub mod Following
 pub mod Inverse
 pub mod PlainLaws
 pub mod Keeping
+pub mod KeptStrings

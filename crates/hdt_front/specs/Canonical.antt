@@ -18,12 +18,14 @@ texts strings = map (λ s. s.items) strings
 abbrev pub lent_texts : List (Bor (List ℕ)) → List (List ℕ)
 lent_texts strings = map (λ s. s.now) strings
 
--- the piece of a string: the string at the head of a block; else how much of the string before it keeps, the longest
--- that both have, and what is behind that; then a zero byte
+-- the piece of a string that keeps so much of the one before: the string at the head of a block; else how much it keeps, and what
+-- is behind that; then a zero byte
+abbrev pub piece_with : Bool → ℕ → List ℕ → List ℕ
+piece_with head same string = cond head (string ++ 0 ∷ []) (vbyte same ++ (drop same string ++ 0 ∷ []))
+
+-- the piece of a string, which keeps the longest front that both have
 unfoldable pub piece_of : Bool → List ℕ → List ℕ → List ℕ
-piece_of head before string =
-    let same = common_prefix_len nat_eq before string in
-    cond head (string ++ 0 ∷ []) (vbyte same ++ (drop same string ++ 0 ∷ []))
+piece_of head before string = piece_with head (common_prefix_len nat_eq before string) string
 
 -- the pieces of strings, the first of them number i, after the string before
 unfoldable pub pieces_from : ℕ → ℕ → List ℕ → List (List ℕ) → List (List ℕ)

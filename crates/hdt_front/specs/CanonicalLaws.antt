@@ -30,7 +30,7 @@ agree_step true x y n xs ys same rest =
 agree_step false x y n xs ys same rest = refl
 
 -- the bytes in common are the same
-front_agrees : (x y : List ℕ) → take (common_prefix_len nat_eq x y) x ≡ take (common_prefix_len nat_eq x y) y
+pub front_agrees : (x y : List ℕ) → take (common_prefix_len nat_eq x y) x ≡ take (common_prefix_len nat_eq x y) y
 front_agrees [] y = refl
 front_agrees (b ∷ x) [] = refl
 front_agrees (b ∷ x) (c ∷ y) = agree_step (nat_eq b c) b c (common_prefix_len nat_eq x y) x y (eqb-true b c) (front_agrees x y)
@@ -82,7 +82,7 @@ many_pieces b i before [] = refl
 many_pieces b i before (s ∷ strings) = ap suc (many_pieces b (i + 1) s strings)
 
 -- each piece takes a byte
-enough_bytes : (b i : ℕ) (before : List ℕ) (strings : List (List ℕ)) → length strings ≤ length (concat (pieces_from b i before strings))
+pub enough_bytes : (b i : ℕ) (before : List ℕ) (strings : List (List ℕ)) → length strings ≤ length (concat (pieces_from b i before strings))
 unfolding pieces_from
 enough_bytes b i before [] = omega arith
 enough_bytes b i before (s ∷ strings) =

@@ -145,9 +145,6 @@ less_from Greater e = absurd (cc)
 later : (n : ℕ) → nat_eq (suc n) 0 ≡ false
 later n = grind (arith, nat_tests)
 
-after_by : (n : ℕ) (x y : List ℕ) → (nat_eq (suc n) 0 || precedes x y) ≡ true → slice_cmp nat_cmp x y ≡ Less
-after_by n x y e = less_from (slice_cmp nat_cmp x y) (rw later at e)
-
 record StringHolds (i : ℕ) (last string : List ℕ) : Type 0 where
   utf8 : is_utf8 string ≡ true
   no_zero : NoZero string

@@ -15,6 +15,7 @@ pub mod PlaceLaws
 pub mod SectionWriting
 pub mod Canonical
 pub mod CanonicalLaws
+pub mod InWork
 pub mod Faults
 pub mod Numbering
 pub mod Looks
@@ -23,6 +24,7 @@ pub mod StringsLaws
 pub mod Reaching
 pub mod PlainPieces
 pub mod Searching
+pub mod Agreeing
 pub mod Walking
 pub mod Walks
 pub mod WalkLaws

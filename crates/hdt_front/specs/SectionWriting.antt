@@ -1,10 +1,10 @@
--- The bytes that are written for a section are read again, whatever stands around them.
-use Rattle.std.proofs.Common.{◌≡◌, ℕ, ◌+◌, ◌<◌, ◌^◌, List, [], ◌∷◌, ◌++◌, length, Ok, refl, sym, subst}
+-- The bytes that are written for a section are that section where they stand.
+use Rattle.std.proofs.Common.{ℕ, ◌+◌, ◌<◌, ◌^◌, List, [], ◌∷◌, ◌++◌, length, refl, sym, subst}
 use Rattle.std.specs.Prelude.{slice_index}
 use Rattle.byteorder.specs.Endian.{little_bytes}
 use Rattle.hdt_wire.specs.Check.{code8, code32}
-use Rattle.hdt_wire.specs.Rows.{IsBytes, Stands}
-use Rattle.hdt_wire.specs.RowLaws.{Stands-front, Stands-back, Stands-after}
+use Rattle.hdt_wire.specs.Rows.{Stands}
+use Rattle.hdt_wire.specs.RowLaws.{Stands-front, Stands-back}
 use Rattle.hdt_wire.specs.VByte.{VByte, vbyte}
 use Rattle.hdt_wire.specs.VByteLaws.{vbyte_spells}
 use Rattle.hdt_seq.specs.SequenceLaws.{stands_spelled}
@@ -12,8 +12,7 @@ use Rattle.hdt_seq.specs.Numbers.{IsNumbers, numbers_places_from, numbers_spelli
 use Rattle.hdt_seq.specs.NumbersReading.{numbers_spells}
 use Rattle.hdt_seq.specs.PackingLaws.{EachFits}
 use Rattle.hdt_wire.specs.ExactLeaves.{IsNumber}
-use Rattle.hdt_front.specs.Section.{HasStarts, AreFolded, AreStrings, IsSection, section_at}
-use Rattle.hdt_front.specs.SectionLaws.{section_exact}
+use Rattle.hdt_front.specs.Section.{HasStarts, AreFolded, AreStrings, IsSection}
 
 abbrev pub section_head : ℕ → ℕ → ℕ → List ℕ
 section_head count size block_size = 2 ∷ (vbyte count ++ (vbyte size ++ vbyte block_size))
@@ -88,19 +87,3 @@ section_stands strings b starts packed bytes at end can s =
       folded = can.folded;
       strings = can.strings_are;
     }
-
--- what was written is read again, whatever stands around it
-pub section_again : (strings : List (List ℕ)) (b : ℕ) (starts packed front after : List ℕ) → CanStand strings b starts packed
-    → IsBytes (front ++ section_spelling (length strings) b starts packed ++ after)
-    → section_at (front ++ section_spelling (length strings) b starts packed ++ after) (length front)
-    ≡ Ok (record {
-      strings = strings;
-      block_size = b;
-      packed = packed;
-      packed_place = length front + length (section_head (length strings) (length packed) b) + 1 + length (numbers_spelling starts);
-      end = length front + length (section_spelling (length strings) b starts packed);
-    })
-section_again strings b starts packed front after can fits =
-    (section_exact (front ++ section_spelling (length strings) b starts packed ++ after) (length front) fits).only _
-    (section_stands strings b starts packed (front ++ section_spelling (length strings) b starts packed ++ after) (length front) _ can
-    (Stands-after front (section_spelling (length strings) b starts packed) after))

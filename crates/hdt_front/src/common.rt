@@ -148,8 +148,9 @@ pub(crate) fn compared(a: &[u8], b: &[u8]) -> (Ordering, usize)
     (a.len().cmp(&b.len()), same)
 }
 
-/// How a string lies to another one, and how far they agree, which is so far at least: no byte before is looked at.
-pub(crate) fn compared_from(a: &[u8], b: &[u8], from: usize) -> (Ordering, usize)
+/// How a string lies to another one, and how far they agree. They agree so far at least, which the caller shows: no byte
+/// before is looked at, and time is in proportion to the bytes behind in which they agree.
+pub fn compared_from(a: &[u8], b: &[u8], from: usize) -> (Ordering, usize)
     requires so_far { from ≤ agreed a.now b.now }
     ensures order { result.0 ≡ order a.now b.now }
     ensures same { result.1 ≡ agreed a.now b.now }

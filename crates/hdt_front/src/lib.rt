@@ -35,12 +35,13 @@ mod reading;
 mod scan;
 mod search;
 mod section;
+mod section_writer;
 mod string;
 mod unfold;
 mod walk;
 mod writing;
 
-pub use common::common_prefix;
+pub use common::{common_prefix, compared_from};
 pub use cursor::Cursor;
 pub use fault::ReadFault;
 pub use fitting::are_strings;
@@ -49,10 +50,6 @@ pub use laws::{
     string_places,
 };
 pub use section::Section;
+pub use section_writer::SectionWriter;
 pub use walk::Walk;
 pub use writing::{put_lent_section, put_section};
-
-#[cfg(test)]
-mod large_tests;
-#[cfg(test)]
-mod tests;

@@ -76,8 +76,9 @@ impl<'a> Walk<'a> {
     }
 
     /// Unfolds the next string as [`next`](Walk::next), and answers with its place how many bytes at its front it keeps
-    /// of the string before: it agrees with that so far at least. At the end that is 0.
-    pub(crate) fn next_kept(&mut self) -> Result<(Option<usize>, usize), AllocError>
+    /// of the string before: it agrees with that so far at least. At the end that is 0. Time is in proportion to the bytes
+    /// that it doesn't keep.
+    pub fn next_kept(&mut self) -> Result<(Option<usize>, usize), AllocError>
         ensures place { IfOk result (λ r. r.0 ≡ next_place self.old.ahead) }
         ensures kept { IfOk result (λ r. r.1 ≤ first_agreed self.old.ahead self.old.last) }
         ensures ok { OnOk result (self.new ≡ further self.old) }

@@ -230,6 +230,3 @@ pub fn marks_are_numbered()
     // Later places have no fewer marks before them.
     ensures monotone { (bits : List Bool) (i j : ℕ) → i ≤ j → marks_before bits i ≤ marks_before bits j }
 {}
-
-#[cfg(test)]
-mod tests;

@@ -39,6 +39,3 @@ pub use rows::{byte_at, code8_at, packed_at};
 pub use steps::Steps;
 pub use width::width_of;
 pub use writing::{bits_are_read_again, numbers_are_read_again, put_bits, put_numbers};
-
-#[cfg(test)]
-mod tests;

@@ -99,6 +99,3 @@ pub fn bit_of(bytes: &[u8], i: u64) -> bool
     let byte = bytes[(i / 8) as usize];
     byte >> (i % 8) & 1 == 1
 }
-
-#[cfg(test)]
-mod tests;

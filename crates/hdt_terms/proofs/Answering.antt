@@ -7,7 +7,7 @@ use Rattle.hdt_terms.specs.Lines.{NoEnd, Line, BareLines}
 use Rattle.hdt_terms.specs.Taking.{State, left, take_line, Takes, OneLine, TakesTriple, TakesRest, Stands, Finds, FaultOfTriple}
 use Rattle.hdt_terms.proofs.Counting.{BareLines-append, Takes-trans}
 use Rattle.hdt_terms.proofs.LineFound.{line_found}
-use Rattle.hdt_terms.proofs.Taken.{Grew-same, LineTaken, line_taken, whole_line, stands_in_triple, stands_behind}
+use Rattle.hdt_terms.proofs.Taken.{Grew-same, LineTaken, line_taken, one_line, whole_line, stands_in_triple, stands_behind}
 
 -- one line without a triple
 one_bare : (bytes : List ℕ) (new : State) (after : Option (List ℕ)) → OneLine bytes None new after → new.ended ≡ false → BareLines bytes
@@ -22,7 +22,7 @@ module _ (a s new : State) (before mid after : Option (List ℕ)) (front text : 
   -- the last piece
   pub rest_taken : new.ended ≡ true → TakesRest a new before after
   rest_taken end =
-      let p = taken.line None line in
+      let p = one_line text taken.bytes new after None taken.is line in
       elim p.3 [
         | inl w ↦ absurd (cc (w.3, end))
         | inr w ↦ (
@@ -43,7 +43,7 @@ module _ (a s new : State) (before mid after : Option (List ℕ)) (front text : 
   bare_taken going = (
     front ++ taken.bytes,
     Takes-trans a s new before mid after front taken.bytes takes taken.takes,
-    BareLines-append front taken.bytes bare (one_bare taken.bytes new after (taken.line None line) going),
+    BareLines-append front taken.bytes bare (one_bare taken.bytes new after (one_line text taken.bytes new after None taken.is line) going),
   )
 
 -- ---- a line that is ready
@@ -62,4 +62,4 @@ module _ (a s : State) (before given : Option (List ℕ)) (n : ℕ) (found : Fin
       let taken : LineTaken s new (take n s.held) (left s given) (left new given) =
       subst (λ (t : State). LineTaken s t (take n s.held) (left s given) (left t given)) (sym is)
       (line_taken s s.held n given given (Grew-same s.held given) ready.front found.1.within ready.going) in
-      (found.0, taken.bytes, Takes-trans a s new before (left s given) (left new given) found.0 taken.bytes found.1 taken.takes, found.2, taken.line (Some triple) (line_found (take n s.held) triple ready.utf8 e))
+      (found.0, taken.bytes, Takes-trans a s new before (left s given) (left new given) found.0 taken.bytes found.1 taken.takes, found.2, one_line (take n s.held) taken.bytes new (left new given) (Some triple) taken.is (line_found (take n s.held) triple ready.utf8 e))

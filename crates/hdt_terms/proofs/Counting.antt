@@ -19,10 +19,10 @@ or_right true b e = cc
 
 -- a text without ends
 
-head_no_cr : (b : ℕ) (bs : List ℕ) → NoEnd (b ∷ bs) → eqb b 13 ≡ false
+pub head_no_cr : (b : ℕ) (bs : List ℕ) → NoEnd (b ∷ bs) → eqb b 13 ≡ false
 head_no_cr b bs p = or_right _ _ (All-head (λ x. is_end x ≡ false) b bs p)
 
-head_no_lf : (b : ℕ) (bs : List ℕ) → NoEnd (b ∷ bs) → eqb b 10 ≡ false
+pub head_no_lf : (b : ℕ) (bs : List ℕ) → NoEnd (b ∷ bs) → eqb b 10 ≡ false
 head_no_lf b bs p = or_left _ _ (All-head (λ x. is_end x ≡ false) b bs p)
 
 pub line_ends-no_end : (cr : Bool) (text : List ℕ) → NoEnd text → line_ends cr text ≡ 0

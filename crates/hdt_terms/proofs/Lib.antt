@@ -41,7 +41,14 @@ pub mod TextReasons
 pub mod Taken
 pub mod Answering
 pub mod Running
+pub mod RunningTexts
 pub mod LineAgain
 pub mod LineLaws
+pub mod Parts
+pub mod Raws
+pub mod RequestFound
+pub mod RequestAgain
+pub mod RequestLaws
+pub mod RawLaws
 pub mod WrittenLines
 pub mod Swizzles

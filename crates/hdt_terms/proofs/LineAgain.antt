@@ -42,19 +42,20 @@ pub record First (role : Role) (text : List ℕ) : Type 0 where
   pub no_blank : is_blank c ≡ false
   pub no_comment : eqb c 35 ≡ false
   pub begins : begins role c ≡ true
+  pub no_any : eqb c 63 ≡ false
 
-first_of : (role : Role) (text : List ℕ) (term : Term) → SpelledTerm text term → IsOf role term → First role text
-first_of Subject text (terms.Iri iri) s h = record { c = 60; cs = s.inner ++ 62 ∷ []; whole = s.whole; no_blank = refl; no_comment = refl; begins = refl }
-first_of Predicate text (terms.Iri iri) s h = record { c = 60; cs = s.inner ++ 62 ∷ []; whole = s.whole; no_blank = refl; no_comment = refl; begins = refl }
-first_of Object text (terms.Iri iri) s h = record { c = 60; cs = s.inner ++ 62 ∷ []; whole = s.whole; no_blank = refl; no_comment = refl; begins = refl }
-first_of Subject text (terms.Blank label) s h = record { c = 95; cs = 58 ∷ label; whole = s.whole; no_blank = refl; no_comment = refl; begins = refl }
+pub first_of : (role : Role) (text : List ℕ) (term : Term) → SpelledTerm text term → IsOf role term → First role text
+first_of Subject text (terms.Iri iri) s h = record { c = 60; cs = s.inner ++ 62 ∷ []; whole = s.whole; no_blank = refl; no_comment = refl; begins = refl; no_any = refl }
+first_of Predicate text (terms.Iri iri) s h = record { c = 60; cs = s.inner ++ 62 ∷ []; whole = s.whole; no_blank = refl; no_comment = refl; begins = refl; no_any = refl }
+first_of Object text (terms.Iri iri) s h = record { c = 60; cs = s.inner ++ 62 ∷ []; whole = s.whole; no_blank = refl; no_comment = refl; begins = refl; no_any = refl }
+first_of Subject text (terms.Blank label) s h = record { c = 95; cs = 58 ∷ label; whole = s.whole; no_blank = refl; no_comment = refl; begins = refl; no_any = refl }
 first_of Predicate text (terms.Blank label) s h = absurd h
-first_of Object text (terms.Blank label) s h = record { c = 95; cs = 58 ∷ label; whole = s.whole; no_blank = refl; no_comment = refl; begins = refl }
+first_of Object text (terms.Blank label) s h = record { c = 95; cs = 58 ∷ label; whole = s.whole; no_blank = refl; no_comment = refl; begins = refl; no_any = refl }
 first_of Subject text (terms.Literal value suffix) s h = absurd h
 first_of Predicate text (terms.Literal value suffix) s h = absurd h
-first_of Object text (terms.Literal value suffix) s h = record { c = 34; cs = s.inner ++ 34 ∷ s.tail; whole = s.whole; no_blank = refl; no_comment = refl; begins = refl }
+first_of Object text (terms.Literal value suffix) s h = record { c = 34; cs = s.inner ++ 34 ∷ s.tail; whole = s.whole; no_blank = refl; no_comment = refl; begins = refl; no_any = refl }
 
-here_again : (role : Role) (bytes : List ℕ) (c : ℕ) (cs : List ℕ) → bytes ≡ c ∷ cs → begins role c ≡ true → role_here role bytes ≡ term_at bytes
+pub here_again : (role : Role) (bytes : List ℕ) (c : ℕ) (cs : List ℕ) → bytes ≡ c ∷ cs → begins role c ≡ true → role_here role bytes ≡ term_at bytes
 unfolding role_here
 here_again role bytes c cs e h = rw e (rw h refl)
 
@@ -75,10 +76,10 @@ one_ascii c h (suc i) = omega arith
 chars_cons : (c : ℕ) (rest : List ℕ) → c < 128 → chars (c ∷ rest) ≡ c ∷ chars rest
 chars_cons c rest h = chars-append (c ∷ []) rest (IsUtf8-from_ascii (c ∷ []) (one_ascii c h)) ∙ ap (λ l. l ++ chars rest) (chars-IsAscii (c ∷ []) (one_ascii c h))
 
-label_ends : (c : ℕ) (rest : List ℕ) → c < 128 → is_pn_chars c ≡ false → eqb c 46 ≡ false → label_rest (chars (c ∷ rest)) ≡ []
+pub label_ends : (c : ℕ) (rest : List ℕ) → c < 128 → is_pn_chars c ≡ false → eqb c 46 ≡ false → label_rest (chars (c ∷ rest)) ≡ []
 label_ends c rest h pn dot = ap label_rest (chars_cons c rest h) ∙ rw (pn, dot) refl
 
-label_dot : (rest : List ℕ) → label_rest (chars rest) ≡ [] → label_rest (chars (46 ∷ rest)) ≡ []
+pub label_dot : (rest : List ℕ) → label_rest (chars rest) ≡ [] → label_rest (chars (46 ∷ rest)) ≡ []
 label_dot rest h = ap label_rest (chars_cons 46 rest (omega arith)) ∙ ap dotted h
 
 blank_is : (c : ℕ) → is_blank c ≡ true → (c ≡ 9) ⊎ (c ≡ 32)
@@ -96,7 +97,7 @@ label_blank c rest e =
       | inr h ↦ subst (λ b. label_rest (chars (b ∷ rest)) ≡ []) (sym h) (label_ends 32 rest (omega arith) refl refl)
     ]
 
-label_behind : (before more : List ℕ) → AreBlanks before → label_rest (chars more) ≡ [] → label_rest (chars (before ++ more)) ≡ []
+pub label_behind : (before more : List ℕ) → AreBlanks before → label_rest (chars more) ≡ [] → label_rest (chars (before ++ more)) ≡ []
 label_behind [] more are h = h
 label_behind (c ∷ before) more are h = label_blank c (before ++ more) (and_first (is_blank c) _ are)
 
@@ -104,21 +105,21 @@ comment_label : (comment : List ℕ) → IsComment comment → label_rest (chars
 comment_label [] h = ap label_rest chars-nil
 comment_label (c ∷ rest) h = subst (λ b. label_rest (chars (b ∷ rest)) ≡ []) (sym h) (label_ends 35 rest (omega arith) refl refl)
 
-bare_label : (text : List ℕ) → IsBare text → label_rest (chars text) ≡ []
+pub bare_label : (text : List ℕ) → IsBare text → label_rest (chars text) ≡ []
 bare_label text b = ap (λ l. label_rest (chars l)) b.whole ∙ label_behind b.before b.comment b.blanks (comment_label b.comment b.is_comment)
 
-ends_at : (c : ℕ) (rest : List ℕ) → is_blank c ≡ true → Ends (c ∷ rest)
+pub ends_at : (c : ℕ) (rest : List ℕ) → is_blank c ≡ true → Ends (c ∷ rest)
 ends_at c rest e =
     elim (blank_is c e) [
       | inl h ↦ subst (λ b. Ends (b ∷ rest)) (sym h) (record { letters = refl; part = refl })
       | inr h ↦ subst (λ b. Ends (b ∷ rest)) (sym h) (record { letters = refl; part = refl })
     ]
 
-ends_behind : (before rest : List ℕ) → AreBlanks before → Ends (before ++ 46 ∷ rest)
+pub ends_behind : (before rest : List ℕ) → AreBlanks before → Ends (before ++ 46 ∷ rest)
 ends_behind [] rest are = record { letters = refl; part = refl }
 ends_behind (c ∷ before) rest are = ends_at c (before ++ 46 ∷ rest) (and_first (is_blank c) _ are)
 
-plain_behind : (before rest : List ℕ) → AreBlanks before → suffix_at (before ++ 46 ∷ rest) ≡ Ok (Plain, before ++ 46 ∷ rest)
+pub plain_behind : (before rest : List ℕ) → AreBlanks before → suffix_at (before ++ 46 ∷ rest) ≡ Ok (Plain, before ++ 46 ∷ rest)
 unfolding suffix_at
 plain_behind before rest are = ap (suffix_after (before ++ 46 ∷ rest)) (after_blanks-blanks before (46 ∷ rest) are)
 

@@ -26,7 +26,7 @@ use Rattle.hdt_terms.proofs.Utf8.{blanks_utf8}
 
 -- ---- bare lines
 
-comment_found : (text : List ℕ) → is_comment text ≡ true → IsComment text
+pub comment_found : (text : List ℕ) → is_comment text ≡ true → IsComment text
 comment_found [] e = tt
 comment_found (c ∷ cs) e = eqb-true c 35 e
 
@@ -71,7 +71,7 @@ pub record RoleFound (role : Role) (bytes : List ℕ) (term : Term) (rest : List
   pub whole : bytes ≡ before ++ (text ++ rest)
   pub utf8 : IsUtf8 rest
 
-here_found : (role : Role) (bytes here : List ℕ) (term : Term) (rest before : List ℕ) → IsUtf8 here → AreBlanks before → bytes ≡ before ++ here → role_here role here ≡ Ok (term, rest) → RoleFound role bytes term rest
+pub here_found : (role : Role) (bytes here : List ℕ) (term : Term) (rest before : List ℕ) → IsUtf8 here → AreBlanks before → bytes ≡ before ++ here → role_here role here ≡ Ok (term, rest) → RoleFound role bytes term rest
 unfolding role_here
 here_found role bytes [] term rest before utf8 are whole e = absurd cc
 here_found role bytes (c ∷ cs) term rest before utf8 are whole e =

@@ -11,11 +11,11 @@ use Rattle.hdt_terms.specs.declared.triple.Triple.{Triple}
 use Rattle.hdt_terms.specs.Chars.{is_end}
 use Rattle.hdt_terms.specs.Documents.{IsDocument, FaultInDocument, Ran}
 use Rattle.hdt_terms.specs.Lines.{NoEnd, Line, SpelledTriple, EndedLines, triples_of, line_ends, ends_in_cr}
-use Rattle.hdt_terms.specs.Taking.{State, start, left, triple_line, Takes, TakesTriple, TakesRest, WholeLine, Stands, StandsInLine}
+use Rattle.hdt_terms.specs.Taking.{State, start, left, line_number, Takes, TakesTriple, TakesRest, WholeLine, Stands, StandsInLine}
 use Rattle.hdt_terms.proofs.Counting.{EndedLines-append, Takes-trans, line_ends-append, line_ends-no_end, line_ends-ended, none_after}
 use Rattle.hdt_terms.proofs.LineAgain.{triple_not_bare}
 
-nothing_taken : (all : Option (List ℕ)) → Consumes all (prepend_known [] all) []
+pub nothing_taken : (all : Option (List ℕ)) → Consumes all (prepend_known [] all) []
 nothing_taken None = tt
 nothing_taken (Some x) = refl
 
@@ -152,7 +152,7 @@ module _ (s new : State) (mid after given : Option (List ℕ)) (triple : Triple)
   one_line : (cr : Bool) (e : ℕ) → is_end e ≡ true → line_ends cr (t.4.0 ++ e ∷ []) ≡ 1
   one_line cr e end = line_ends-ended cr t.4.0 e t.4.2 end ∙ none_after cr (eqb (length t.4.0) 0) (eqb e 10) (ne_eqb (length t.4.0) 0 (λ z. absurd (omega (arith, z, some_text))))
 
-  line_is : triple_line new ≡ s.ends + line_ends s.after_cr t.0 + 1
+  line_is : line_number new ≡ s.ends + line_ends s.after_cr t.0 + 1
   line_is =
       let ends = t.2.ends ∙ ap (λ k. s.ends + k) (line_ends-append s.after_cr t.0 t.1) in
       elim t.4.3 [
@@ -168,7 +168,7 @@ module _ (s new : State) (mid after given : Option (List ℕ)) (triple : Triple)
         | inr w ↦ (after, inr (subst (Consumes (prepend_known t.1 after) after) w.0 (taken_last after t.1), w.3, omega (arith, size, ap length w.0, t.2.taken, t.2.within, t.2.limit)))
       ]
 
-  memory_stands : Stands (record { line = triple_line new; column = 0; reason = OutOfMemory }) s mid given
+  memory_stands : Stands (record { line = line_number new; column = 0; reason = OutOfMemory }) s mid given
   memory_stands = record {
     front = t.0;
     rest = prepend_known t.1 after;
@@ -180,7 +180,7 @@ module _ (s new : State) (mid after given : Option (List ℕ)) (triple : Triple)
 
 -- in that line
 pub memory_behind : (fault : LineFault) (limit : ℕ) (s new : State) (all mid after given : Option (List ℕ)) (triples : List Triple) (triple : Triple) → Ran limit s all mid triples → TakesTriple s new mid after triple
-    → fault ≡ record { line = triple_line new; column = 0; reason = OutOfMemory } → FaultInDocument fault limit all given
+    → fault ≡ record { line = line_number new; column = 0; reason = OutOfMemory } → FaultInDocument fault limit all given
 memory_behind fault limit s new all mid after given triples triple r t is =
     fault_behind fault limit s all mid given triples r (subst (λ (f : LineFault). Stands f s mid given) (sym is) (memory_stands s new mid after given triple t))
 

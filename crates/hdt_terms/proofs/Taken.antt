@@ -15,6 +15,7 @@ use Rattle.hdt_terms.specs.Filling.{Grew, LineFront, Filled}
 use Rattle.hdt_terms.specs.LineReading.{is_bare}
 use Rattle.hdt_terms.specs.Lines.{NoEnd, Line, BareLines}
 use Rattle.hdt_terms.specs.Taking.{State, left, take_of, take_line, Takes, OneLine, WholeLine, StandsInLine, Stands, FaultOfTriple, Looked, Finds}
+use Rattle.hdt_terms.specs.TakingText.{IsLineOf, TakesText}
 use Rattle.hdt_terms.proofs.LineFound.{line_fault}
 
 -- ---- what is left
@@ -84,7 +85,10 @@ module _ (held h : List ℕ) (given given' : Option (List ℕ)) (n taken limit :
 pub record LineTaken (old new : State) (text : List ℕ) (before after : Option (List ℕ)) : Type 0 where
   pub bytes : List ℕ
   pub takes : Takes old new before after bytes
-  pub line : (x : Option Triple) → Line text x → OneLine bytes x new after
+  pub is : IsLineOf text bytes new after
+
+pub one_line : (text bytes : List ℕ) (new : State) (after : Option (List ℕ)) (x : Option Triple) → IsLineOf text bytes new after → Line text x → OneLine bytes x new after
+one_line text bytes new after x is line = (text, line, is.0, is.1)
 
 module _ (old : State) (h : List ℕ) (n : ℕ) (given given' : Option (List ℕ)) (grew : Grew old.held h given given') (no_end : NoEnd (take n h)) (within : old.taken + length h ≤ old.limit)
     (going : old.ended ≡ false) where
@@ -104,7 +108,7 @@ module _ (old : State) (h : List ℕ) (n : ℕ) (given given' : Option (List ℕ
   ended_taken lt end = record {
     bytes = take (n + 1) h;
     takes = takes_front (n + 1) old.ended (omega (arith, lt));
-    line = λ x line. (take n h, line, no_end, inl (get_or h n 0, end, take_more h n 0 lt, going));
+    is = (no_end, inl (get_or h n 0, end, take_more h n 0 lt, going));
   }
 
   last_taken : n ≡ length h → IsAtEnd given' → LineTaken old (record (take_of (record old { held = h }) n) { ended = true }) (take n h) (left old given) (prepend_known (drop n h) given')
@@ -113,7 +117,7 @@ module _ (old : State) (h : List ℕ) (n : ℕ) (given given' : Option (List ℕ
       record {
         bytes = take n h;
         takes = takes_front n true (omega (arith, all));
-        line = λ x line. (take n h, line, no_end, inr (refl, refl, none, rw none (rw prepend_known-nil end)));
+        is = (no_end, inr (refl, refl, none, rw none (rw prepend_known-nil end)));
       }
 
 pub line_taken : (old : State) (h : List ℕ) (n : ℕ) (given given' : Option (List ℕ)) → Grew old.held h given given' → LineFront n h given' → old.taken + length h ≤ old.limit → old.ended ≡ false
@@ -202,6 +206,19 @@ stands_behind fault old s before mid given front t bare line h = record {
 
 -- ---- a line that was held, looked at and taken
 
+line_held : (s held new : State) (given given' : Option (List ℕ)) (n most : ℕ) → Filled (Ok n) s.held held.held given given' most → held ≡ record s { held = held.held } → s.taken + length held.held ≤ s.limit
+    → s.ended ≡ false → new ≡ take_line held n → LineTaken s new (take n held.held) (left s given) (left new given')
+line_held s held new given given' n most filled others within going is =
+    subst (λ (t : State). LineTaken s t (take n held.held) (left s given) (left t given')) (sym (is ∙ ap (λ (x : State). take_line x n) others))
+    (line_taken s held.held n given given' filled.0 filled.1 within going)
+
+-- its text
+pub text_taken : (s held new : State) (given given' : Option (List ℕ)) (n most : ℕ) (text : List ℕ) → Filled (Ok n) s.held held.held given given' most → held ≡ record s { held = held.held }
+    → s.taken + length held.held ≤ s.limit → s.ended ≡ false → new ≡ take_line held n → text ≡ take n held.held → TakesText s new (left s given) (left new given') text
+text_taken s held new given given' n most text filled others within going is e =
+    subst (TakesText s new (left s given) (left new given')) (sym e)
+    (let t = line_held s held new given given' n most filled others within going is in (t.bytes, t.takes, t.is))
+
 module _ (a s held new : State) (before given given' : Option (List ℕ)) (n most : ℕ) (front : List ℕ) (takes : Takes a s before (left s given) front) (bare : BareLines front)
     (filled : Filled (Ok n) s.held held.held given given' most) (others : held ≡ record s { held = held.held }) (within : s.taken + length held.held ≤ s.limit) where
   pub look_fault : (fault : LineFault) → Looked (Err fault) held (take n held.held) → Stands fault a before given'
@@ -211,9 +228,7 @@ module _ (a s held new : State) (before given given' : Option (List ℕ)) (n mos
       (take n held.held, filled.1.no_end, h.2, whole_line s.held held.held given given' n s.taken s.limit filled.0 filled.1 within))
 
   pub held_taken : s.ended ≡ false → new ≡ take_line held n → LineTaken s new (take n held.held) (left s given) (left new given')
-  held_taken going is =
-      subst (λ (t : State). LineTaken s t (take n held.held) (left s given) (left t given')) (sym (is ∙ ap (λ (x : State). take_line x n) others))
-      (line_taken s held.held n given given' filled.0 filled.1 within going)
+  held_taken going is = line_held s held new given given' n most filled others within going is
 
   pub held_ready : s.ended ≡ false → Looked (Ok false) held (take n held.held) → Finds (Ok (Some n)) a held before (left held given') given'
   held_ready going seen = (

@@ -14,6 +14,11 @@ pub mod Stands
 pub mod Table
 pub mod LineReading
 pub mod Lines
+pub mod Requests
+pub mod RequestReading
+pub mod RawReading
+pub mod RawRequests
 pub mod Filling
 pub mod Taking
+pub mod TakingText
 pub mod Documents

@@ -94,9 +94,9 @@ pub record Stands (fault : LineFault) (old : State) (before given : Option (List
   pub line : fault.line ≡ old.ends + line_ends old.after_cr front + 1
   pub fault_is : StandsInLine fault.reason fault.column (old.taken + length front) old.limit rest given
 
--- the number of the line that was taken last, where it has a triple
-abbrev pub triple_line : State → ℕ
-triple_line s = if s.ended then s.ends + 1 else s.ends
+-- the number of the line that was taken last, where its text is not empty
+abbrev pub line_number : State → ℕ
+line_number s = if s.ended then s.ends + 1 else s.ends
 
 -- ---- answers
 

@@ -55,7 +55,7 @@ pub fn read_document<R: Read>(
             Ok(None) => return Ok(triples),
             Ok(Some(triple)) => match triples.push(triple) {
                 Ok(()) => {}
-                Err(_) => return Err(no_memory(lines.triple_line())),
+                Err(_) => return Err(no_memory(lines.line_number())),
             },
         }
     }

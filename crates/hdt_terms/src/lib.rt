@@ -18,13 +18,15 @@
 //!
 //! [`Lines`] gives the triples of a document, line by line, over any reader in any pieces: [`Lines::next_triple`] as terms,
 //! which is simple, and [`Lines::next_strings`] as dictionary strings in buffers that are handed in, which is fast.
+//! [`Lines::next_text`] gives the text of each line, whatever it is, and [`read_request`] what a line asks for.
 //! [`read_document`] gives all triples, and says of whole inputs what `Lines` says of each call: they are the document's,
 //! or the fault is the one that stands in it.
 //!
 //! In reading order: `term`, `text` and `triple`, the types; `fault`, what is wrong with a text; `chars`, the classes of
 //! characters; `lanes`, runs of bytes 16 at a time, and `encoding`, UTF-8; the tokens, `pieces` (the inside of IRIs and
 //! strings), `iri`, `label`, `tag` and `literal`; `dictionary`, tokens as dictionary strings; `parse`, one term; `line`, one
-//! line; `buffer`, `filling` and `lines`, a reader's lines; `document`, all of them; `lent`, the term that a dictionary string
+//! line; `request`, a line that asks for
+//! triples; `buffer`, `filling` and `lines`, a reader's lines; `document`, all of them; `lent`, the term that a dictionary string
 //! is, its texts lent; `strings`, dictionary strings; `put`, writing; `laws`, what holds of all terms and lines.
 #![tactic(auto)]
 
@@ -46,6 +48,8 @@ mod literal;
 mod parse;
 mod pieces;
 mod put;
+mod raw;
+mod request;
 mod strings;
 mod tag;
 mod term;
@@ -56,18 +60,16 @@ pub use document::read_document;
 pub use fault::{LineFault, LineReason, StringFault, TermFault};
 pub use iri::is_iri;
 pub use laws::{
-    line_or_fault, longest_label, longest_tag, one_spelled, one_string, run_of_lines,
-    strings_are_texts, table_of_faults, term_or_fault, written_within_a_line,
+    line_or_fault, longest_label, longest_tag, one_spelled, one_string, raw_requests,
+    request_or_fault, run_of_lines, run_of_texts, strings_are_texts, table_of_faults,
+    term_or_fault, written_within_a_line,
 };
 pub use lines::Lines;
 pub use parse::{parse_string, parse_term};
 pub use put::{put_string, put_term};
+pub use raw::read_raw_request;
+pub use request::read_request;
 pub use strings::{string_term, term_string};
 pub use term::{Kind, Suffix, Term};
 pub use text::Text;
 pub use triple::Triple;
-
-#[cfg(test)]
-mod line_tests;
-#[cfg(test)]
-mod tests;

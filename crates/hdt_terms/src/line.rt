@@ -34,7 +34,7 @@ fn begins(role: Role, first: u8) -> bool
 }
 
 /// Nothing, or a comment.
-fn is_comment(bytes: &[u8]) -> bool
+pub fn is_comment(bytes: &[u8]) -> bool
     ensures { result ≡ is_comment bytes.now }
 {
     match bytes.split_first() {
@@ -92,7 +92,11 @@ fn read_role(alloc: Global, role: Role, bytes: &[u8]) -> Result<(Term, &[u8]), R
 
 /// Appends the string of the term of the role that begins here, and answers the bytes after it.
 #[tactic(auto, unfolding(crate::specs::LineReading::role_here))]
-fn append_here<'a>(role: Role, bytes: &'a [u8], out: &mut Vec<u8>) -> Result<&'a [u8], ReadError>
+pub fn append_here<'a>(
+    role: Role,
+    bytes: &'a [u8],
+    out: &mut Vec<u8>,
+) -> Result<&'a [u8], ReadError>
     requires { IsUtf8 bytes.now }
     ensures reads { Appends str out.old.items out.new.items (λ rest. rest.now) result (role_here role bytes.now) }
     ensures utf8 { IfOk result (λ rest. IsUtf8 rest.now) }

@@ -74,7 +74,8 @@ impl Model for Lines {
 impl Lines {
     ghost use Rattle.std.specs.Prelude.{List, ℕ};
     ghost use Rattle.hdt_terms.specs.LineReading.{is_bare};
-    ghost use Rattle.hdt_terms.specs.Taking.{State, start, left, triple_line, take_of, take_line, Looked, Parsed, ParsedStrings, Ready, Finds, Answers, AnswersStrings, NoStrings};
+    ghost use Rattle.hdt_terms.specs.TakingText.{TakesText, StandsNext, AnswersText, NoText};
+    ghost use Rattle.hdt_terms.specs.Taking.{State, start, left, line_number, take_of, take_line, Looked, Parsed, ParsedStrings, Ready, Finds, Answers, AnswersStrings, NoStrings};
 
     /// A reader of lines that has taken nothing. The input may have so many bytes at most: where it has more,
     /// [`LineReason::TooLong`] stands behind the lines that are whole within the limit. It allocates 64 KiB, whatever the limit.
@@ -129,9 +130,9 @@ impl Lines {
         }
     }
 
-    /// The number of the line that was taken last, where it has a triple.
-    pub(crate) fn triple_line(&self) -> u64
-        ensures { result ≡ triple_line self.now }
+    /// The number of the line that was taken last, from 1, where its text is not empty.
+    pub fn line_number(&self) -> u64
+        ensures { result ≡ line_number self.now }
     {
         if self.ended { self.ends + 1 } else { self.ends }
     }
@@ -401,6 +402,88 @@ impl Lines {
             }
         }
     }
+
+    /// Takes the next line, and puts its text into the buffer, which is empty.
+    fn take_text<R: Read>(
+        &mut self,
+        input: &mut Counted<R>,
+        text: &mut Vec<u8>,
+    ) -> Result<(), LineFault>
+        requires going { self.old.ended ≡ false }
+        requires empty { text.old.items ≡ [] }
+        ensures does { OnOk result (TakesText self.old self.new (left self.old (R.remaining (inner input.old)))
+            (left self.new (R.remaining (inner input.new))) text.new.items) }
+        ensures fault { IfErr result (λ f. StandsNext f self.old (left self.old (R.remaining (inner input.old))) (R.remaining (inner input.new))) }
+        ensures none { OnErr result (text.new.items ≡ []) }
+        ensures count { OnOk result (failures input.new ≡ failures input.old) }
+        ensures failed { IfErr result (λ f. f.reason ≡ Read → failures input.new ≡ failures input.old + 1) }
+        ensures still { IfErr result (λ f. f.reason ≢ Read → failures input.new ≡ failures input.old) }
+    {
+        let (n, _) = match self.hold_line(input) {
+            Ok(found) => found,
+            Err(reason) => return Err(self.fault(0, reason)),
+        };
+        match put_text(&self.held.as_slice()[..n], text) {
+            Ok(()) => {}
+            Err(AllocError) => return Err(self.fault(0, LineReason::OutOfMemory)),
+        }
+        self.take(n);
+        Ok(())
+    }
+
+    /// Whether there is a next line. Its text, without its end, then stands in the buffer, whatever it is; where there is none
+    /// the buffer is empty. The last line is what follows the last line end, and may be empty.
+    ///
+    /// # Errors
+    ///
+    /// [`LineReason::Read`] where the reader failed in this call, [`LineReason::TooLong`] where the input has more bytes than
+    /// the limit and the line has no end within it, [`LineReason::OutOfMemory`] only where memory was refused. The fault is
+    /// answered again by every later call, and nothing more is read.
+    pub fn next_text<R: Read>(
+        &mut self,
+        input: &mut Counted<R>,
+        text: &mut Vec<u8>,
+    ) -> Result<bool, LineFault>
+        // A fault is answered again, and nothing is read or taken.
+        ensures repeated { IfSome self.old.failed (λ f. (result ≡ Err f) × (self.new ≡ self.old) × (input.new ≡ input.old)) }
+        // So is the end.
+        ensures ended { self.old.failed ≡ None → self.old.ended ≡ true →
+            (result ≡ Ok false) × (self.new ≡ self.old) × (input.new ≡ input.old) }
+        // Until then the answer is that of what is left of the input.
+        ensures answers { self.old.failed ≡ None → self.old.ended ≡ false →
+            AnswersText result text.new.items self.old self.new (left self.old (R.remaining (inner input.old)))
+            (left self.new (R.remaining (inner input.new))) (R.remaining (inner input.new)) }
+        ensures none { NoText result text.new.items }
+        ensures fault { IfErr result (λ f. self.new.failed ≡ Some f) }
+        // The reader failed in this call at a fault that says so, and at no other answer.
+        ensures read { self.old.failed ≡ None → IfErr result (λ f. f.reason ≡ Read → failures input.new ≡ failures input.old + 1) }
+        ensures still { IfErr result (λ f. f.reason ≢ Read → failures input.new ≡ failures input.old) }
+        ensures count { OnOk result (failures input.new ≡ failures input.old) }
+    {
+        text.clear();
+        if let Some(fault) = self.failed {
+            return Err(fault);
+        }
+        if self.ended {
+            return Ok(false);
+        }
+        match self.take_text(input, text) {
+            Ok(()) => Ok(true),
+            Err(fault) => {
+                self.fail(fault);
+                Err(fault)
+            }
+        }
+    }
+}
+
+/// Puts the text into the buffer, which is empty.
+fn put_text(text: &[u8], out: &mut Vec<u8>) -> Result<(), AllocError>
+    requires { out.old.items ≡ [] }
+    ensures ok { OnOk result (out.new.items ≡ text.now) }
+    ensures err { OnErr result (out.new.items ≡ []) }
+{
+    out.extend_from_slice(text)
 }
 
 /// Empties the buffers.

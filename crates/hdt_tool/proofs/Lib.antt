@@ -9,3 +9,4 @@ mod Rewriting
 mod Triples
 pub mod Statuses
 mod Grown
+pub mod Dialogues

@@ -8,7 +8,10 @@ use Rattle.hdt_build.specs.declared.options.Options.{Options}
 use Rattle.hdt_tool.specs.declared.fault.ToolFault.{ToolFault}
 use Rattle.hdt_tool.specs.declared.fault.ToolFault.TheVariants.{File, Input, NoTriples, NoSuchTerm, NoSuchNumber, NotATerm, BadOptions, Read, Write, OutOfMemory}
 use Rattle.hdt_tool.specs.declared.request.Action.{Action}
-use Rattle.hdt_tool.specs.declared.request.Action.TheVariants.{Head, Verify, VerifyTight, Strings, Nth, Number, Find, Search, Build, Rewrite}
+use Rattle.hdt_tool.specs.declared.request.Action.TheVariants.{Head, Verify, VerifyTight, Strings, Nth, Number, Find, Search, Answer, Build, Rewrite}
+use Rattle.hdt_tool.specs.Whole.{query_action}
+use Rattle.hdt_tool.specs.declared.whole.Query.{Query}
+use Rattle.hdt_tool.specs.declared.whole.Query.TheVariants as query
 use Rattle.hdt_tool.specs.Answer.{IfBuild, IsOfFile, Makes, Performs, Prints, ReadsFile, ReadsWith}
 use Rattle.hdt_tool.specs.Faults.{build_fault_of, told_of_reason}
 
@@ -20,18 +23,16 @@ not_failed building.BadOptions not h = h
 not_failed building.OutOfMemory not h = h
 not_failed (building.Write n) not h = h
 
--- a command that is not `build` or `rewrite` is one on a file
-pub on_file : (action : Action) → ((options : Options) → action ≡ Build options → ⊥) → ((b : ℕ) → action ≡ Rewrite b → ⊥) → ReadsFile action
-on_file Head other another = tt
-on_file Verify other another = tt
-on_file VerifyTight other another = tt
-on_file (Strings role) other another = tt
-on_file (Nth role n) other another = tt
-on_file (Number role x) other another = tt
-on_file (Find given numbers) other another = tt
-on_file (Search given form most) other another = tt
-on_file (Build options) other another = other options refl
-on_file (Rewrite b) other another = another b refl
+-- a command that makes a text of its file reads that alone
+pub reads_file : (q : Query) → ReadsFile (query_action q)
+reads_file query.Head = tt
+reads_file query.Verify = tt
+reads_file query.VerifyTight = tt
+reads_file (query.Nth role n) = tt
+reads_file (query.Number role x) = tt
+reads_file (query.Find given numbers) = tt
+reads_file (query.Search given form most) = tt
+reads_file (query.Answer asking) = tt
 
 -- a command on a file makes nothing
 pub nothing_built : (action : Action) → ReadsFile action → (before after : Option (List ℕ)) (text made : List ℕ) → ReadsWith before after (λ bytes. Prints action bytes text)
@@ -44,6 +45,7 @@ nothing_built (Nth role n) is before after text made h = record { built = []; yi
 nothing_built (Number role x) is before after text made h = record { built = []; yields = (h, refl); made = sym (append-nil made) }
 nothing_built (Find given numbers) is before after text made h = record { built = []; yields = (h, refl); made = sym (append-nil made) }
 nothing_built (Search given form most) is before after text made h = record { built = []; yields = (h, refl); made = sym (append-nil made) }
+nothing_built (Answer asking) is before after text made h = record { built = []; yields = (h, refl); made = sym (append-nil made) }
 nothing_built (Build options) is before after text made h = absurd is
 nothing_built (Rewrite b) is before after text made h = absurd is
 
@@ -56,6 +58,7 @@ nothing_made (Nth role n) is before after text made more h = h.made ∙ ap (λ (
 nothing_made (Number role x) is before after text made more h = h.made ∙ ap (λ (b : List ℕ). made ++ b) h.yields.1 ∙ append-nil made
 nothing_made (Find given numbers) is before after text made more h = h.made ∙ ap (λ (b : List ℕ). made ++ b) h.yields.1 ∙ append-nil made
 nothing_made (Search given form most) is before after text made more h = h.made ∙ ap (λ (b : List ℕ). made ++ b) h.yields.1 ∙ append-nil made
+nothing_made (Answer asking) is before after text made more h = h.made ∙ ap (λ (b : List ℕ). made ++ b) h.yields.1 ∙ append-nil made
 nothing_made (Build options) is before after text made more h = absurd is
 nothing_made (Rewrite b) is before after text made more h = absurd is
 
@@ -74,6 +77,7 @@ no_options (Nth role n) Holds is = tt
 no_options (Number role x) Holds is = tt
 no_options (Find given numbers) Holds is = tt
 no_options (Search given form most) Holds is = tt
+no_options (Answer asking) Holds is = tt
 no_options (Build options) Holds is = absurd is
 no_options (Rewrite b) Holds is = tt
 

@@ -5,10 +5,10 @@ use Rattle.std.specs.declared.alloc.Global.{Global}
 use Rattle.std.specs.declared.string.String.{String}
 use Rattle.clap.specs.Words.{Row, Text}
 use Rattle.hdt_tool.specs.declared.request.Action.{Action}
-use Rattle.hdt_tool.specs.declared.request.Action.TheVariants.{Head, Verify, VerifyTight, Strings, Nth, Number, Find, Search, Build, Rewrite}
+use Rattle.hdt_tool.specs.declared.request.Action.TheVariants.{Head, Verify, VerifyTight, Strings, Nth, Number, Find, Search, Answer, Build, Rewrite}
 use Rattle.hdt_tool.specs.declared.request.Request.{Request}
 use Rattle.hdt_tool.specs.Answer.{HasOut, MakesFile, ReadsFile}
-use Rattle.hdt_tool.specs.Asked.{Asks, AsksAction, AsksFor, AsksToMake, Wants}
+use Rattle.hdt_tool.specs.Words.{Asks, AsksAction, AsksFor, AsksToMake, Wants}
 
 reads : (name : Text) (rows : List Row) (action : Action) → AsksAction name rows action → ReadsFile action
 reads name rows Head h = tt
@@ -19,6 +19,7 @@ reads name rows (Nth role n) h = tt
 reads name rows (Number role x) h = tt
 reads name rows (Find given numbers) h = tt
 reads name rows (Search given form most) h = tt
+reads name rows (Answer asking) h = tt
 reads name rows (Build options) h = h
 reads name rows (Rewrite b) h = h
 
@@ -31,6 +32,7 @@ makes name rows (Nth role n) h = h
 makes name rows (Number role x) h = h
 makes name rows (Find given numbers) h = h
 makes name rows (Search given form most) h = h
+makes name rows (Answer asking) h = h
 makes name rows (Build options) h = tt
 makes name rows (Rewrite b) h = tt
 

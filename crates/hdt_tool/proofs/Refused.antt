@@ -1,16 +1,17 @@
 -- Which command lines are refused, from what `clap` states of its errors.
-use Rattle.std.proofs.Common.{◌≡◌, List, [], ◌∷◌, true, Option, None, Some, Result, Ok, Err, refl, sym, subst, inl, inr, rules}
-use Rattle.std.specs.Prelude.{IfOk, IfErr, IsSome}
-use Rattle.clap.specs.Words.{App, Row, Text, HasKind, HasMatchesOf, IsAmong, fault_of, found_of, is_simple, is_simple_and_free, kind_of, matches_of, rows_of, subcommand_of, subcommand_rows_of}
+use Rattle.std.proofs.Common.{◌≡◌, List, [], ◌∷◌, true, Option, None, Some, Result, Ok, Err, codes, refl, sym, subst, inl, inr, rules}
+use Rattle.std.specs.Prelude.{IfOk, IfErr, IsSome, IsSomeAnd}
+use Rattle.clap.specs.Words.{App, Row, Text, HasKind, HasMatchesOf, IsAmong, fault_of, found_of, is_simple, is_simple_and_free, kind_of, matches_of, one_of, rows_of, subcommand_of, subcommand_rows_of}
 use Rattle.clap.specs.declared.parser.matches.ArgMatches.{ArgMatches}
 use Rattle.clap.specs.declared.error.Error.{Error}
 use Rattle.clap.specs.declared.error.kind.ErrorKind.{ErrorKind}
 use Rattle.clap.specs.declared.error.kind.ErrorKind.TheVariants as kind
 use Rattle.hdt_tool.specs.declared.fault.UsageFault.{UsageFault}
 use Rattle.hdt_tool.specs.declared.fault.UsageFault.TheVariants.{Usage, Help, Word, OutOfMemory}
+use Rattle.hdt_tool.specs.declared.request.Call.{Call}
 use Rattle.hdt_tool.specs.declared.request.Request.{Request}
 use Rattle.hdt_tool.specs.Table.{Names, AreRoles, table}
-use Rattle.hdt_tool.specs.Asked.{Asks, AsksFor, Misspells, MisspellsIn, Wants, IsRefused, IsRefusedBy, TellsKind, ComesWithout, ComesWithoutOr, refusals}
+use Rattle.hdt_tool.specs.Words.{Asks, AsksFor, Misspells, MisspellsIn, StatesFlag, Wants, WantsSo, IsRefused, IsRefusedBy, TellsKind, ComesWithout, ComesWithoutOr, refusals}
 
 -- what `clap` says of the commands that were built, said of the table
 pub taken : (names : Names) (app : App) (words : List Text) → app ≡ table names → (is_simple_and_free app ≡ true → fault_of app words ≡ []) → refusals names words ≡ []
@@ -67,11 +68,19 @@ lacks P (Word word fault) none h = absurd h
 lacks P OutOfMemory none h = tt
 
 -- the entries of the command that the words name ask for the request that the words want
-pub wanted : (names : Names) → AreRoles names → (words : List Text) (name : Text) (rows : List Row) (r : Result Request UsageFault) → refusals names words ≡ [] → subcommand_of (table names) words ≡ Some (name, rows)
-    → IfOk r (AsksFor name rows) → IfOk r (Wants words)
-wanted names roles words name rows (Ok request) none is h =
-    record { names = names; roles = roles; wanted = record { taken = none; asked = subst (λ (o : Option (Text × List Row)). Asks o request) (sym is) h } }
-wanted names roles words name rows (Err fault) none is h = tt
+pub wanted : (names : Names) → AreRoles names → (words : List Text) (name : Text) (rows : List Row) (r : Result Call UsageFault) → refusals names words ≡ [] → subcommand_of (table names) words ≡ Some (name, rows)
+    → IfOk r (λ asked. AsksFor name rows asked.request) → IfOk r (λ asked. StatesFlag (one_of (codes "progress") rows) asked.progress) → IfOk r (WantsSo words)
+wanted names roles words name rows (Ok asked) none is h flag = record {
+  names = names;
+  roles = roles;
+  wanted = record { taken = none; asked = subst (λ (o : Option (Text × List Row)). Asks o asked.request) (sym is) h };
+  progress = subst (λ (o : Option (Text × List Row)). IsSomeAnd o (λ command. StatesFlag (one_of (codes "progress") command.1) asked.progress)) (sym is) flag;
+}
+wanted names roles words name rows (Err fault) none is h flag = tt
+
+-- what the words want so, they want
+pub so : (words : List Text) (asked : Call) → WantsSo words asked → Wants words asked.request
+so words asked w = record { names = w.names; roles = w.roles; wanted = w.wanted }
 
 lacking : (names : Names) (words : List Text) (name : Text) (rows : List Row) (fault : UsageFault) → refusals names words ≡ [] → subcommand_of (table names) words ≡ Some (name, rows)
     → ComesWithoutOr ((request : Request) × AsksFor name rows request) (Misspells name rows) fault → IsRefusedBy names words fault
@@ -80,7 +89,7 @@ lacking names words name rows (Usage text) none is h = (λ only. cc, λ only. cc
 lacking names words name rows (Word word fault) none is h = (none, subst (λ (o : Option (Text × List Row)). MisspellsIn o word fault) (sym is) h)
 lacking names words name rows OutOfMemory none is h = tt
 
-pub unwanted : (names : Names) → AreRoles names → (words : List Text) (name : Text) (rows : List Row) (r : Result Request UsageFault) → refusals names words ≡ [] → subcommand_of (table names) words ≡ Some (name, rows)
+pub unwanted : (names : Names) → AreRoles names → (words : List Text) (name : Text) (rows : List Row) (r : Result Call UsageFault) → refusals names words ≡ [] → subcommand_of (table names) words ≡ Some (name, rows)
     → IfErr r (ComesWithoutOr ((request : Request) × AsksFor name rows request) (Misspells name rows)) → IfErr r (IsRefused words)
-unwanted names roles words name rows (Ok request) none is h = tt
+unwanted names roles words name rows (Ok asked) none is h = tt
 unwanted names roles words name rows (Err fault) none is h = with names roles words fault (lacking names words name rows fault none is h)

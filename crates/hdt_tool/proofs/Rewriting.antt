@@ -8,7 +8,7 @@ use Rattle.hdt_build.specs.declared.fault.RewriteFault.TheVariants as rewriting
 use Rattle.hdt_tool.specs.declared.fault.ToolFault.{ToolFault}
 use Rattle.hdt_tool.specs.declared.fault.ToolFault.TheVariants.{BadOptions, Write}
 use Rattle.hdt_tool.specs.declared.request.Action.{Action}
-use Rattle.hdt_tool.specs.declared.request.Action.TheVariants.{Head, Verify, VerifyTight, Strings, Nth, Number, Find, Search, Build, Rewrite}
+use Rattle.hdt_tool.specs.declared.request.Action.TheVariants.{Head, Verify, VerifyTight, Strings, Nth, Number, Find, Search, Answer, Build, Rewrite}
 use Rattle.hdt_tool.specs.Answer.{IfBuild, IsTold}
 use Rattle.hdt_tool.specs.Faults.{rewrite_fault_of}
 
@@ -43,6 +43,7 @@ still_bad (Nth role n) r s to from h = tt
 still_bad (Number role x) r s to from h = tt
 still_bad (Find given numbers) r s to from h = tt
 still_bad (Search given form most) r s to from h = tt
+still_bad (Answer asking) r s to from h = tt
 still_bad (Build options) r s to from h = (λ e. h.0 (from e), λ bad. to (h.1 bad))
 still_bad (Rewrite b) r s to from h = tt
 

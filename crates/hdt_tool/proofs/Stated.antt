@@ -1,26 +1,23 @@
 -- What the entries of a command state, and what lacks where they state nothing.
-use Rattle.std.proofs.Common.{◌≡◌, ℕ, Bool, true, false, List, Option, None, Some, codes, refl, sym, ap, subst, rules, inl, inr, ◌⊎◌, ⊎_elim, ◌∙◌}
+use Rattle.std.proofs.Common.{◌≡◌, ℕ, Bool, true, false, List, Option, None, Some, codes, refl, sym, ap, subst, inl, inr, ◌⊎◌, ⊎_elim, ◌∙◌}
 use Rattle.std.specs.Prelude.{◌≢◌, IsSome, IsSomeAnd, MatchOption}
 use Rattle.std.specs.declared.alloc.Global.{Global}
 use Rattle.std.specs.declared.vec.Vec.{Vec}
 use Rattle.std.specs.Str.{bytes_eq}
 use Rattle.std.proofs.lemmas.Slice.Eq.{bytes_eq-Decides}
-use Rattle.hdt_wire.specs.declared.role.Role.{Role}
-use Rattle.hdt_tool.specs.Table.{role_name}
 use Rattle.clap.specs.Words.{Row, Text, first_of, one_of}
 use Rattle.hdt_terms.specs.declared.fault.TermFault.{TermFault}
 use Rattle.hdt_terms.specs.Faults.{out_of_memory}
 use Rattle.hdt_terms.specs.Table.{FaultIn}
 use Rattle.hdt_tool.specs.declared.fault.UsageFault.{UsageFault}
 use Rattle.hdt_tool.specs.declared.fault.Word.{Word as TermWord}
-use Rattle.hdt_tool.specs.declared.fault.Word.TheVariants.{Subject, Predicate, Object}
 use Rattle.hdt_tool.specs.declared.fault.UsageFault.TheVariants.{Usage, Help, Word, OutOfMemory}
 use Rattle.hdt_build.specs.declared.options.Options.{Options}
 use Rattle.hdt_tool.specs.declared.request.Action.{Action}
 use Rattle.hdt_tool.specs.declared.request.Form.{Form}
 use Rattle.hdt_tool.specs.declared.request.Request.{Request}
 use Rattle.hdt_tool.specs.declared.request.Action.TheVariants as action
-use Rattle.hdt_tool.specs.Asked.{AsksAction, AsksFor, AsksOfFile, AsksOfFiles, AsksToMake, ComesWithout, ComesWithoutOr, IsFaultOf, IsMisspelt, IsMisspeltPart, IsFinding, IsStringOf, IsUsed, IsUnused, Misspells, StatesForm, StatesMost, StatesNumber, StatesOptions, StatesPart, StatesString, StatesWord, StatesWords, TellsTerm}
+use Rattle.hdt_tool.specs.Words.{AsksAction, AsksFor, AsksOfFile, AsksOfFiles, AsksToMake, ComesWithout, ComesWithoutOr, IsFaultOf, IsMisspelt, IsMisspeltPart, IsFinding, IsStringOf, IsUsed, IsUnused, Misspells, StatesForm, StatesMost, StatesOptions, StatesPart, StatesString, StatesWords, TellsTerm}
 use Rattle.hdt_tool.specs.Lines.{word_name}
 use Rattle.hdt_tool.specs.TriplesText.{Given}
 
@@ -103,69 +100,6 @@ or_or P W Q Z OutOfMemory f g h = tt
 differ : {P : Type 0} (name a b : Text) → name ≡ a → name ≡ b → bytes_eq a b ≡ false → P
 differ name a b p q apart = let same : bytes_eq a b ≡ true = (bytes_eq-Decides a b).1 (sym p ∙ q) in let bad : true ≡ false = sym same ∙ apart in absurd cc
 
--- `strings` asks for a role
-pub strings_need : (name : Text) (rows : List Row) → name ≡ codes "strings" → (x : Action) × AsksAction name rows x → (role : Role) × (first_of (codes "ROLE") rows ≡ Some (role_name role))
-strings_need name rows is (action.Head, h) = differ name _ _ is h refl
-strings_need name rows is (action.Verify, h) = differ name _ _ is h.0 refl
-strings_need name rows is (action.VerifyTight, h) = differ name _ _ is h.0 refl
-strings_need name rows is (action.Strings role, h) = (role, h.1)
-strings_need name rows is (action.Nth role n, h) = differ name _ _ is h.0 refl
-strings_need name rows is (action.Number role x, h) = differ name _ _ is h.0 refl
-strings_need name rows is (action.Find given numbers, inl h) = differ name _ _ is h.named refl
-strings_need name rows is (action.Find given numbers, inr h) = differ name _ _ is h.0 refl
-strings_need name rows is (action.Search given form most, h) = differ name _ _ is h.named refl
-strings_need name rows is (action.Build options, h) = absurd h
-strings_need name rows is (action.Rewrite b, h) = absurd h
-
--- `string` for a role and a number
-pub string_needs : (name : Text) (rows : List Row) → name ≡ codes "string" → (x : Action) × AsksAction name rows x
-    → ((role : Role) × (first_of (codes "ROLE") rows ≡ Some (role_name role))) × ((n : ℕ) × StatesNumber 64 (one_of (codes "N") rows) n)
-string_needs name rows is (action.Head, h) = differ name _ _ is h refl
-string_needs name rows is (action.Verify, h) = differ name _ _ is h.0 refl
-string_needs name rows is (action.VerifyTight, h) = differ name _ _ is h.0 refl
-string_needs name rows is (action.Strings role, h) = differ name _ _ is h.0 refl
-string_needs name rows is (action.Nth role n, h) = ((role, h.1), (n, h.2))
-string_needs name rows is (action.Number role x, h) = differ name _ _ is h.0 refl
-string_needs name rows is (action.Find given numbers, inl h) = differ name _ _ is h.named refl
-string_needs name rows is (action.Find given numbers, inr h) = differ name _ _ is h.0 refl
-string_needs name rows is (action.Search given form most, h) = differ name _ _ is h.named refl
-string_needs name rows is (action.Build options, h) = absurd h
-string_needs name rows is (action.Rewrite b, h) = absurd h
-
--- TERM is there where it states a string
-states_some : (raw entry : Option Text) (x : List ℕ) → StatesString raw entry x → IsSome entry
-states_some raw None x h = absurd h
-states_some raw (Some text) x h = search rules
-
--- `number` for a role and a string
-pub number_needs : (name : Text) (rows : List Row) → name ≡ codes "number" → (x : Action) × AsksAction name rows x
-    → ((role : Role) × (first_of (codes "ROLE") rows ≡ Some (role_name role))) × IsSome (first_of (codes "TERM") rows)
-number_needs name rows is (action.Head, h) = differ name _ _ is h refl
-number_needs name rows is (action.Verify, h) = differ name _ _ is h.0 refl
-number_needs name rows is (action.VerifyTight, h) = differ name _ _ is h.0 refl
-number_needs name rows is (action.Strings role, h) = differ name _ _ is h.0 refl
-number_needs name rows is (action.Nth role n, h) = differ name _ _ is h.0 refl
-number_needs name rows is (action.Number role x, h) = ((role, h.1), states_some _ _ x.items h.2)
-number_needs name rows is (action.Find given numbers, inl h) = differ name _ _ is h.named refl
-number_needs name rows is (action.Find given numbers, inr h) = differ name _ _ is h.0 refl
-number_needs name rows is (action.Search given form most, h) = differ name _ _ is h.named refl
-number_needs name rows is (action.Build options, h) = absurd h
-number_needs name rows is (action.Rewrite b, h) = absurd h
-
--- `find` for what S, P and O state
-find_needs : (rows : List Row) → (x : Action) × AsksAction (codes "find") rows x → (given : Given) × StatesWords rows given
-find_needs rows (action.Head, h) = differ _ _ _ refl h refl
-find_needs rows (action.Verify, h) = differ _ _ _ refl h.0 refl
-find_needs rows (action.VerifyTight, h) = differ _ _ _ refl h.0 refl
-find_needs rows (action.Strings role, h) = differ _ _ _ refl h.0 refl
-find_needs rows (action.Nth role n, h) = differ _ _ _ refl h.0 refl
-find_needs rows (action.Number role x, h) = differ _ _ _ refl h.0 refl
-find_needs rows (action.Find given numbers, inl h) = (given, h.words)
-find_needs rows (action.Find given numbers, inr h) = differ _ _ _ refl h.0 refl
-find_needs rows (action.Search given form most, h) = (given, h.words)
-find_needs rows (action.Build options, h) = absurd h
-find_needs rows (action.Rewrite b, h) = absurd h
-
 -- what `find` asks for, by its words and its options
 pub finding : (rows : List Row) (given : Given) (form : Form) (most : Option ℕ) (a : Action) → StatesWords rows given → StatesForm rows form → StatesMost rows most
     → IsFinding given form most a → AsksAction (codes "find") rows a
@@ -179,34 +113,9 @@ finding rows given form most (action.Find strings numbers) words form_is most_is
     inl (rw (h.0, h.1, sym h.2) record { named = refl; words = words; form_is = form_is; most_is = most_is })
 finding rows given form most (action.Search strings other n) words form_is most_is h =
     rw (h.0, h.1, h.2) record { named = refl; words = words; form_is = form_is; most_is = most_is }
+finding rows given form most (action.Answer asking) words form_is most_is h = absurd h
 finding rows given form most (action.Build options) words form_is most_is h = absurd h
 finding rows given form most (action.Rewrite b) words form_is most_is h = absurd h
-
--- a word is there where it states a string or none
-word_some : (raw entry : Option Text) (x : Option (Vec ℕ Global)) → StatesPart raw entry x → IsSome entry
-word_some raw entry None h = subst (λ (e : Option Text). IsSome e) (sym h) (search rules)
-word_some raw entry (Some x) h = states_some raw entry x.items h.1
-
-pub subject_needed : (rows : List Row) → (x : Action) × AsksAction (codes "find") rows x → IsSome (first_of (word_name Subject) rows)
-subject_needed rows w = let k = find_needs rows w in word_some _ _ k.1.subject k.1.s
-
-pub predicate_needed : (rows : List Row) → (x : Action) × AsksAction (codes "find") rows x → IsSome (first_of (word_name Predicate) rows)
-predicate_needed rows w = let k = find_needs rows w in word_some _ _ k.1.predicate k.1.p
-
-pub object_needed : (rows : List Row) → (x : Action) × AsksAction (codes "find") rows x → IsSome (first_of (word_name Object) rows)
-object_needed rows w = let k = find_needs rows w in word_some _ _ k.1.object k.1.o
-
--- the first of S, P and O that is not fine
-pub subject_misspelt : (rows : List Row) (word : TermWord) (fault : TermFault) → (word ≡ Subject) × IsMisspeltPart rows Subject fault → Misspells (codes "find") rows word fault
-subject_misspelt rows word fault h = subst (λ (w : TermWord). Misspells (codes "find") rows w fault) (sym h.0) (refl, h.1)
-
-pub predicate_misspelt : (rows : List Row) (s : Option (Vec ℕ Global)) → StatesWord rows Subject s → (word : TermWord) (fault : TermFault)
-    → (word ≡ Predicate) × IsMisspeltPart rows Predicate fault → Misspells (codes "find") rows word fault
-predicate_misspelt rows s first word fault h = subst (λ (w : TermWord). Misspells (codes "find") rows w fault) (sym h.0) (refl, (s, first), h.1)
-
-pub object_misspelt : (rows : List Row) (s p : Option (Vec ℕ Global)) → StatesWord rows Subject s → StatesWord rows Predicate p → (word : TermWord) (fault : TermFault)
-    → (word ≡ Object) × IsMisspeltPart rows Object fault → Misspells (codes "find") rows word fault
-object_misspelt rows s p first second word fault h = subst (λ (w : TermWord). Misspells (codes "find") rows w fault) (sym h.0) (refl, (s, first), (p, second), h.1)
 
 -- ---- `build` and `rewrite`
 
@@ -220,6 +129,7 @@ options_needed name rows is (action.Nth role n) h = absurd h
 options_needed name rows is (action.Number role x) h = absurd h
 options_needed name rows is (action.Find given numbers) h = absurd h
 options_needed name rows is (action.Search given form most) h = absurd h
+options_needed name rows is (action.Answer asking) h = absurd h
 options_needed name rows is (action.Build options) h = (options, h.1)
 options_needed name rows is (action.Rewrite b) h = differ name _ _ is h.0 refl
 
@@ -233,6 +143,7 @@ only_these name rows (action.Nth role n) build rewrite h = h
 only_these name rows (action.Number role x) build rewrite h = h
 only_these name rows (action.Find given numbers) build rewrite h = h
 only_these name rows (action.Search given form most) build rewrite h = h
+only_these name rows (action.Answer asking) build rewrite h = h
 only_these name rows (action.Build options) build rewrite h = build h.0
 only_these name rows (action.Rewrite b) build rewrite h = rewrite h.0
 
@@ -247,6 +158,7 @@ build_is_none rows (action.Number role x) h = differ _ _ _ refl h.0 refl
 build_is_none rows (action.Find given numbers) (inl h) = differ _ _ _ refl h.named refl
 build_is_none rows (action.Find given numbers) (inr h) = differ _ _ _ refl h.0 refl
 build_is_none rows (action.Search given form most) h = differ _ _ _ refl h.named refl
+build_is_none rows (action.Answer asking) h = differ _ _ _ refl h.named refl
 build_is_none rows (action.Build options) h = h
 build_is_none rows (action.Rewrite b) h = h
 
@@ -260,6 +172,7 @@ rewrite_is_none rows (action.Number role x) h = differ _ _ _ refl h.0 refl
 rewrite_is_none rows (action.Find given numbers) (inl h) = differ _ _ _ refl h.named refl
 rewrite_is_none rows (action.Find given numbers) (inr h) = differ _ _ _ refl h.0 refl
 rewrite_is_none rows (action.Search given form most) h = differ _ _ _ refl h.named refl
+rewrite_is_none rows (action.Answer asking) h = differ _ _ _ refl h.named refl
 rewrite_is_none rows (action.Build options) h = h
 rewrite_is_none rows (action.Rewrite b) h = h
 

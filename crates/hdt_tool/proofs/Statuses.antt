@@ -1,16 +1,17 @@
 -- What a status says of the outcome that it was made of.
-use Rattle.std.proofs.Common.{◌≡◌, ◌≢◌, ◌⊎◌, ◌∙◌, ℕ, Option, refl, inl, inr, subst, sym}
+use Rattle.std.proofs.Common.{◌≡◌, ◌≢◌, ◌⊎◌, ◌∙◌, ℕ, Bool, true, false, cond, Option, refl, inl, inr, subst, sym}
 use Rattle.std.specs.Prelude.{List, Result, Ok, Err, MatchResult, IfOk, IfErr, OnOk}
 use Rattle.clap.specs.Words.{Text}
 use Rattle.hdt_tool.specs.declared.fault.ToolFault.{ToolFault}
 use Rattle.hdt_tool.specs.declared.fault.ToolFault.TheVariants.{File, Input, NoTriples, NoSuchTerm, NoSuchNumber, NotATerm, BadOptions, Read, Write, OutOfMemory}
 use Rattle.hdt_tool.specs.declared.fault.UsageFault.{UsageFault}
-use Rattle.hdt_tool.specs.declared.request.Request.{Request}
+use Rattle.hdt_tool.specs.declared.request.Call.{Call}
 use Rattle.hdt_tool.specs.declared.request.Action.{Action}
 use Rattle.hdt_tool.specs.Answer.{Reports}
-use Rattle.hdt_tool.specs.Asked.{IsRefused, Wants}
+use Rattle.hdt_tool.specs.Words.{IsRefused, WantsSo}
 use Rattle.hdt_tool.specs.Lines.{fault_status}
 use Rattle.hdt_tool.specs.Status.{Ends, IsCommandStatus, IsRefusalStatus}
+use Rattle.hdt_tool.proofs.Refused.{so}
 
 -- a fault that is not the writer's, or one that is
 by_writer : {A B : Type 0} (fault : ToolFault) → (((n : ℕ) → fault ≢ Write n) → A) → ((n : ℕ) → fault ≡ Write n → B) → A ⊎ B
@@ -32,6 +33,13 @@ command_status (Ok done) status h = inl h
 command_status (Err fault) status (inl h) = inr (fault, h)
 command_status (Err fault) status (inr h) = inr (OutOfMemory, h)
 
+-- the status of answers
+pub answers_status : (outcome : Result Bool ToolFault) (status : ℕ) → MatchResult outcome (λ faulty. status ≡ cond faulty 1 0) (λ fault. (status ≡ fault_status fault) ⊎ (status ≡ 4)) → IsCommandStatus status
+answers_status (Ok true) status h = inr (NoTriples, h)
+answers_status (Ok false) status h = inl h
+answers_status (Err fault) status (inl h) = inr (fault, h)
+answers_status (Err fault) status (inr h) = inr (OutOfMemory, h)
+
 -- no fault ends with 0
 not_done : (fault : ToolFault) (status : ℕ) → (status ≡ fault_status fault) ⊎ (status ≡ 4) → status ≡ 0 → ⊥
 not_done (File fault) status (inl h) is = absurd cc
@@ -45,6 +53,27 @@ not_done Read status (inl h) is = absurd cc
 not_done (Write n) status (inl h) is = absurd cc
 not_done OutOfMemory status (inl h) is = absurd cc
 not_done fault status (inr h) is = absurd cc
+
+-- where the status of answers is 0, all were given and none is a fault
+abbrev IsAnswersStatus : Result Bool ToolFault → ℕ → Type 0
+IsAnswersStatus outcome status = MatchResult outcome (λ faulty. status ≡ cond faulty 1 0) (λ fault. (status ≡ fault_status fault) ⊎ (status ≡ 4))
+
+pub answers_done : (P : Bool → Type 0) (outcome : Result Bool ToolFault) (status : ℕ) → IsAnswersStatus outcome status → IfOk outcome P → status ≡ 0 → P false
+answers_done P (Ok true) status of ok is = absurd cc
+answers_done P (Ok false) status of ok is = ok
+answers_done P (Err fault) status of ok is = absurd (not_done fault status of is)
+
+pub no_fault_done : {A : Type 0} (outcome : Result Bool ToolFault) (status : ℕ) → IsAnswersStatus outcome status → OnOk outcome A → status ≡ 0 → A
+no_fault_done (Ok faulty) status of ok is = ok
+no_fault_done (Err fault) status of ok is = absurd (not_done fault status of is)
+
+-- else one is a fault, or a fault stopped them
+pub answers_stopped : {A : Type 0} (P : Bool → Type 0) (Q : ToolFault → Type 0) (outcome : Result Bool ToolFault) (status : ℕ) → IsAnswersStatus outcome status → IfOk outcome P → IfErr outcome (λ e. A ⊎ Q e) → status ≢ 0
+    → A ⊎ (((status ≡ 1) × P true) ⊎ ((e : ToolFault) × ((status ≡ fault_status e) ⊎ (status ≡ 4)) × Q e))
+answers_stopped P Q (Ok true) status of ok err not = inr (inl (of, ok))
+answers_stopped P Q (Ok false) status of ok err not = absurd (not of)
+answers_stopped P Q (Err fault) status of ok (inl a) not = inl a
+answers_stopped P Q (Err fault) status of ok (inr q) not = inr (inr (fault, of, q))
 
 -- where the status is 0, what is so of a command that was done is so
 pub if_done : {A : Type 0} (outcome : Result (Unit {0}) ToolFault) (status : ℕ) → MatchResult outcome (λ _. status ≡ 0) (λ fault. (status ≡ fault_status fault) ⊎ (status ≡ 4))
@@ -111,9 +140,9 @@ kept_in_memory outcome fault told kind is other not e =
     other (λ n w. not n (sym same ∙ w)) ∙ same
 
 -- the status of what the words ask for is one that the words end with
-pub ends : {X E : Type 0} (texts : X → List Text) (words : Result X E) (asked : Result Request UsageFault) (status : ℕ)
-    → IfOk asked (λ request. MatchResult words (λ w. Wants (texts w) request) (λ _. ⊥)) → IfErr asked (λ fault. IfOk words (λ w. IsRefused (texts w) fault))
+pub ends : {X E : Type 0} (texts : X → List Text) (words : Result X E) (asked : Result Call UsageFault) (status : ℕ)
+    → IfOk asked (λ asked. MatchResult words (λ w. WantsSo (texts w) asked) (λ _. ⊥)) → IfErr asked (λ fault. IfOk words (λ w. IsRefused (texts w) fault))
     → MatchResult asked (λ _. IsCommandStatus status) (λ fault. IsRefusalStatus fault status) → IfOk words (λ w. Ends (texts w) status)
-ends texts (Ok w) (Ok request) status wanted refused of = inl (record { request = request; wanted = wanted; ends = of })
+ends texts (Ok w) (Ok asked) status wanted refused of = inl (record { request = asked.request; wanted = so (texts w) asked wanted; ends = of })
 ends texts (Ok w) (Err fault) status wanted refused of = inr (record { fault = fault; refused = refused; ends = of })
 ends texts (Err e) asked status wanted refused of = tt

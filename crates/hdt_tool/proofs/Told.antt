@@ -5,7 +5,7 @@ use Rattle.std.specs.declared.vec.Vec.{Vec}
 use Rattle.hdt_tool.specs.declared.fault.ToolFault.{ToolFault}
 use Rattle.hdt_tool.specs.declared.fault.ToolFault.TheVariants.{File, Input, NoTriples, NoSuchTerm, NoSuchNumber, NotATerm, BadOptions, Read, Write, OutOfMemory}
 use Rattle.hdt_tool.specs.declared.request.Action.{Action}
-use Rattle.hdt_tool.specs.declared.request.Action.TheVariants.{Head, Verify, VerifyTight, Strings, Nth, Number, Find, Search, Build, Rewrite}
+use Rattle.hdt_tool.specs.declared.request.Action.TheVariants.{Head, Verify, VerifyTight, Strings, Nth, Number, Find, Search, Answer, Build, Rewrite}
 use Rattle.hdt_tool.specs.declared.request.Form.{Form}
 use Rattle.hdt_wire.specs.declared.role.Role.{Role}
 use Rattle.hdt_dict.specs.Numbered.{numbered}
@@ -24,6 +24,7 @@ bad_blocks (Nth role n) before after bytes read h = absurd h
 bad_blocks (Number role x) before after bytes read h = absurd h
 bad_blocks (Find given numbers) before after bytes read h = absurd h
 bad_blocks (Search given form most) before after bytes read h = absurd h
+bad_blocks (Answer asking) before after bytes read h = absurd h
 bad_blocks (Build options) before after bytes read h = absurd h
 bad_blocks (Rewrite b) before after bytes read h = record { bytes = bytes; read = read; holds = h }
 
@@ -37,6 +38,7 @@ no_blocks (Nth role n) bytes is h = h
 no_blocks (Number role x) bytes is h = h
 no_blocks (Find given numbers) bytes is h = h
 no_blocks (Search given form most) bytes is h = h
+no_blocks (Answer asking) bytes is h = h
 no_blocks (Build options) bytes is h = h
 no_blocks (Rewrite b) bytes is h = is
 

@@ -1,11 +1,17 @@
 -- The strings that find triples, and the lines of the triples' numbers.
-use Rattle.std.proofs.Common.{◌≡◌, ℕ, List, [], ◌∷◌, ◌++◌, Option, None, Some, length, map, refl, sym, ap, ◌∙◌, append_assoc, append-nil, arith, get_or}
+use Rattle.std.proofs.Common.{◌≡◌, ℕ, List, [], ◌∷◌, ◌++◌, Option, None, Some, length, map, refl, sym, ap, ◌∙◌, append_assoc, arith, get_or}
 use Rattle.std.specs.Prelude.{IsSomeAnd, MatchOption, option_map, vec_len}
 use Rattle.std.specs.declared.alloc.Global.{Global}
 use Rattle.std.specs.declared.vec.Vec.{Vec}
 use Rattle.hdt_dict.specs.Strings.{Lent}
 use Rattle.hdt_triples.specs.Counting.{Triple}
-use Rattle.hdt_tool.specs.TriplesText.{Given, AreLent, numbers_line, numbers_lines}
+use Rattle.hdt_file.specs.File.{GraphParts}
+use Rattle.hdt_file.specs.TextWriting.{limited}
+use Rattle.hdt_file.specs.declared.fault.DumpFault.{DumpFault}
+use Rattle.hdt_file.specs.declared.fault.DumpFault.TheVariants as dumping
+use Rattle.hdt_tool.specs.declared.request.Form.{Form}
+use Rattle.hdt_tool.specs.Faults.{dump_fault_of}
+use Rattle.hdt_tool.specs.TriplesText.{Given, AreLent, Finds, TellsFound, TellsTriples, numbers_line, numbers_lines}
 
 -- an array of three is its elements
 three : (given : Given) (a b c : Option (Vec ℕ Global)) → length given ≡ 3 → given ≡ get_or given 0 a ∷ get_or given 1 b ∷ get_or given 2 c ∷ []
@@ -35,6 +41,9 @@ one_line text new all t left rest first is h =
     ap (λ (x : List ℕ). x ++ numbers_lines rest) is ∙ append_assoc text (numbers_line t) (numbers_lines rest)
     ∙ sym (ap (λ (ts : List Triple). text ++ numbers_lines ts) first) ∙ h
 
--- none is left
-pub no_line : (text all : List ℕ) (left : List Triple) → left ≡ [] → text ++ numbers_lines left ≡ all → text ≡ all
-no_line text all left none h = sym (append-nil text) ∙ sym (ap (λ (ts : List Triple). text ++ numbers_lines ts) none) ∙ h
+-- why the triples that strings find do not print
+pub tells_found : (g : GraphParts) (given : Given) (found : List Triple) (form : Form) (most : Option ℕ) (e : DumpFault) → Finds g given found → TellsTriples form g (limited most found) e
+    → TellsFound g given form most (dump_fault_of e)
+tells_found g given found form most (dumping.NotATerm role n) finds h = (h.0, record { found = found; finds = finds; holds = h.1 })
+tells_found g given found form most (dumping.Write n) finds h = absurd h
+tells_found g given found form most dumping.OutOfMemory finds h = tt

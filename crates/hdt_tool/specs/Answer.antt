@@ -1,5 +1,5 @@
 -- What a run of a command has done.
-use Rattle.std.specs.Prelude.{◌≡◌, ◌≢◌, ◌<◌, ◌+◌, ℕ, List, [], ◌++◌, length, take, Option, None, Some, Err, MatchOption}
+use Rattle.std.specs.Prelude.{◌≡◌, ◌≢◌, ◌<◌, ◌≤◌, ◌+◌, ℕ, List, [], ◌++◌, length, take, Option, None, Some, Err, MatchOption}
 use Rattle.std.specs.Io.KnownBytes.{Appends, Consumes, IsAtEnd}
 use Rattle.hdt_wire.specs.declared.fault.Fault.{Fault}
 use Rattle.hdt_file.specs.Head.{HeadParts, IsHead, head_at_start}
@@ -21,7 +21,7 @@ use Rattle.hdt_tool.specs.declared.fault.ToolFault.{ToolFault}
 use Rattle.hdt_tool.specs.declared.fault.ToolFault.TheVariants.{File, Input, NoTriples, NoSuchTerm, NoSuchNumber, NotATerm, BadOptions, Read, Write, OutOfMemory}
 use Rattle.hdt_tool.specs.declared.request.Action.{Action}
 use Rattle.hdt_tool.specs.declared.request.Request.{Request}
-use Rattle.hdt_tool.specs.declared.request.Action.TheVariants.{Head, Verify, VerifyTight, Strings, Nth, Number, Find, Search, Build, Rewrite}
+use Rattle.hdt_tool.specs.declared.request.Action.TheVariants.{Head, Verify, VerifyTight, Strings, Nth, Number, Find, Search, Answer, Build, Rewrite}
 use Rattle.hdt_tool.specs.BuiltText.{built_line, rewritten_line}
 use Rattle.hdt_tool.specs.HeadText.{head_text}
 use Rattle.hdt_tool.specs.Lines.{fault_status}
@@ -69,6 +69,7 @@ Prints (Nth role n) bytes text = Consults bytes role (λ strings. PrintsString s
 Prints (Number role x) bytes text = Consults bytes role (λ strings. PrintsNumber strings x.items text)
 Prints (Find given numbers) bytes text = Opens bytes (λ graph. PrintsFound graph given (form_of numbers) None text)
 Prints (Search given form most) bytes text = Opens bytes (λ graph. PrintsFound graph given form most text)
+Prints (Answer asking) bytes text = Opens bytes (λ graph. text ≡ [])
 Prints (Build options) bytes text = ⊥
 Prints (Rewrite b) bytes text = ⊥
 
@@ -221,6 +222,14 @@ pub record Begins (action : Action) (before after written_before written_after :
   pub yields : Yields action before after text built
   pub within : n < length text
   pub written : Appends written_before written_after (take n text)
+
+-- ---- a file that was not made to its end
+
+-- memory was refused, or writing failed, behind no more bytes than there are
+abbrev pub IsUnfilled : List ℕ → ToolFault → Type 0
+IsUnfilled built OutOfMemory = Unit {0}
+IsUnfilled built (Write n) = n ≤ length built
+IsUnfilled built fault = ⊥
 
 -- ---- a text that was not printed to its end
 

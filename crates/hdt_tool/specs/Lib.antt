@@ -5,8 +5,11 @@ pub mod TriplesText
 pub mod Verdict
 pub mod BuiltText
 pub mod Answer
+pub mod Dialogue
 pub mod Faults
 pub mod Lines
+pub mod ProgressText
 pub mod Table
-pub mod Asked
+pub mod Words
 pub mod Status
+pub mod Whole

@@ -1,7 +1,7 @@
 -- The statuses that the program ends with, and what each says.
 use Rattle.std.specs.Prelude.{◌≡◌, ◌⊎◌, ℕ, List}
 use Rattle.clap.specs.Words.{Text}
-use Rattle.hdt_tool.specs.Asked.{IsRefused, Wants}
+use Rattle.hdt_tool.specs.Words.{IsRefused, Wants}
 use Rattle.hdt_tool.specs.Lines.{fault_status}
 use Rattle.hdt_tool.specs.declared.request.Request.{Request}
 use Rattle.hdt_tool.specs.declared.fault.ToolFault.{ToolFault}

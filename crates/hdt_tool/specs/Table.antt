@@ -45,9 +45,13 @@ file_command name = with_rule (new_app name) (word_named (codes "FILE"))
 abbrev pub head_command : App
 head_command = file_command (codes "head")
 
--- `verify FILE`, with `--tight`
+-- `--progress`
+abbrev pub progress_flag : Rule
+progress_flag = flag_named (codes "progress")
+
+-- `verify FILE`, with `--tight` and `--progress`
 abbrev pub verify_command : App
-verify_command = with_rule (file_command (codes "verify")) (flag_named (codes "tight"))
+verify_command = with_rule (with_rule (file_command (codes "verify")) (flag_named (codes "tight"))) progress_flag
 
 -- `strings FILE ROLE`
 abbrev pub strings_command : Names → App
@@ -77,6 +81,12 @@ find_command =
     with_rule (with_rule (with_rule (with_rule find_words (flag_named (codes "raw"))) (flag_named (codes "numbers")))
     (flag_named (codes "count"))) most_option
 
+-- `answer FILE`, with `--raw`, `--numbers`, `--count` and `--most`
+abbrev pub answer_command : App
+answer_command =
+    with_rule (with_rule (with_rule (with_rule (file_command (codes "answer")) (flag_named (codes "raw"))) (flag_named (codes "numbers")))
+    (flag_named (codes "count"))) most_option
+
 -- `dump FILE`
 abbrev pub dump_command : App
 dump_command = file_command (codes "dump")
@@ -93,16 +103,17 @@ base_option = option_named (codes "base") (codes "http://example.org/dataset")
 abbrev pub block_size_option : Rule
 block_size_option = record (option_named (codes "block-size") (codes "16")) { parser = Some (parser.Signed (pos 0) (pos 4294967295)) }
 
--- `build IN OUT`, with `--base` and `--block-size`
-abbrev pub build_command : App
-build_command =
-    with_rule (with_rule (with_rule (with_rule (new_app (codes "build")) (word_named (codes "IN"))) (word_named (codes "OUT")))
-    base_option) block_size_option
+-- a command that makes a file: IN and OUT
+abbrev pub making_command : Text → App
+making_command name = with_rule (with_rule (new_app name) (word_named (codes "IN"))) (word_named (codes "OUT"))
 
--- `rewrite IN OUT`, with `--block-size`
+-- `build IN OUT`, with `--base`, `--block-size` and `--progress`
+abbrev pub build_command : App
+build_command = with_rule (with_rule (with_rule (making_command (codes "build")) base_option) block_size_option) progress_flag
+
+-- `rewrite IN OUT`, with `--block-size` and `--progress`
 abbrev pub rewrite_command : App
-rewrite_command =
-    with_rule (with_rule (with_rule (new_app (codes "rewrite")) (word_named (codes "IN"))) (word_named (codes "OUT"))) block_size_option
+rewrite_command = with_rule (with_rule (making_command (codes "rewrite")) block_size_option) progress_flag
 
 -- a command has to be named, or `--version`
 abbrev pub empty_table : App
@@ -116,7 +127,7 @@ abbrev pub look_up_commands : Names → App
 look_up_commands names = with_subcommand (with_subcommand (with_subcommand first_commands (strings_command names).top) (string_command names).top) (number_command names).top
 
 abbrev pub text_commands : Names → App
-text_commands names = with_subcommand (with_subcommand (look_up_commands names) find_command.top) dump_command.top
+text_commands names = with_subcommand (with_subcommand (with_subcommand (look_up_commands names) find_command.top) answer_command.top) dump_command.top
 
 abbrev pub table : Names → App
 table names = with_subcommand (with_subcommand (text_commands names) build_command.top) rewrite_command.top

@@ -13,6 +13,8 @@ use Rattle.hdt_file.specs.File.{GraphParts}
 use Rattle.hdt_file.specs.Search.{IsPattern}
 use Rattle.hdt_file.specs.Text.{IsFirstIn, IsTextOf}
 use Rattle.hdt_file.specs.TextWriting.{chosen, limited}
+use Rattle.hdt_file.specs.declared.fault.DumpFault.{DumpFault}
+use Rattle.hdt_file.specs.declared.fault.DumpFault.TheVariants as dumping
 use Rattle.hdt_tool.specs.declared.request.Form.{Form}
 use Rattle.hdt_tool.specs.declared.request.Form.TheVariants.{Lines, Numbers, Count}
 use Rattle.hdt_tool.specs.declared.fault.ToolFault.{ToolFault}
@@ -26,13 +28,17 @@ Given = List (Option (Vec ℕ Global))
 abbrev pub AreLent : Given → List (Option Lent) → Type 0
 AreLent given lent = map (option_map (λ x. x.now)) lent ≡ map (option_map (λ x. x.items)) given
 
--- the triples that the strings find: the matches of the pattern of their numbers, or none where there is no such pattern
-pub record Finds (g : GraphParts) (given : Given) (found : List Triple) : Type 0 where
+-- the triples that strings find, each or none of subject, predicate and object: the matches of the pattern of their numbers, or none
+-- where there is no such pattern
+pub record FindsStrings (g : GraphParts) (strings : List (Option (List ℕ))) (found : List Triple) : Type 0 where
   pub lent : List (Option Lent)
-  pub same : AreLent given lent
+  pub same : map (option_map (λ x. x.now)) lent ≡ strings
   pub pattern : Option Pattern
   pub exact : (p : Pattern) → (pattern ≡ Some p) ↔ IsPattern g lent p
   pub matching : found ≡ chosen g pattern
+
+abbrev pub Finds : GraphParts → Given → List Triple → Type 0
+Finds g given found = FindsStrings g (map (option_map (λ x. x.items)) given) found
 
 -- of the triples that the strings find this holds
 pub record FindsWith (g : GraphParts) (given : Given) (Holds : List Triple → Type 0) : Type 0 where
@@ -62,6 +68,12 @@ abbrev pub PrintsTriples : Form → GraphParts → List Triple → List ℕ → 
 PrintsTriples Lines g found text = IsTextOf (denoted g found) text
 PrintsTriples Numbers g found text = text ≡ numbers_lines found
 PrintsTriples Count g found text = text ≡ count_line found
+
+-- why triples do not print
+abbrev pub TellsTriples : Form → GraphParts → List Triple → DumpFault → Type 0
+TellsTriples form g found (dumping.NotATerm role n) = (form ≡ Lines) × IsFirstIn g found role n
+TellsTriples form g found (dumping.Write n) = ⊥
+TellsTriples form g found dumping.OutOfMemory = Unit {0}
 
 -- the triples that the strings find, or at most so many of the first, print as the text
 abbrev pub PrintsFound : GraphParts → Given → Form → Option ℕ → List ℕ → Type 0

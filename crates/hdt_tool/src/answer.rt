@@ -1,17 +1,21 @@
 //! What a command on a file prints of it.
-ghost use Rattle.std.specs.Prelude.{◌≡◌, ◌≢◌, ◌⊎◌, IfOk, IfErr, OnOk};
+ghost use Rattle.hdt_tool.specs.declared.request.Asking.{Asking};
+ghost use Rattle.std.specs.Prelude.{◌≡◌, [], ◌≢◌, ◌⊎◌, IfOk, IfErr, OnOk};
 ghost use Rattle.std.specs.Io.KnownBytes.{Appends};
 ghost use Rattle.hdt_wire.specs.Counted.{inner, failures};
 ghost use Rattle.hdt_tool.specs.Answer.{Consults, IsCut, IsTold, Opens, Prints, PrintsHead, PrintsTightVerdict, PrintsVerdict, ReadsFile};
 ghost use Rattle.hdt_tool.specs.StringsText.{string_lines, PrintsString, PrintsNumber};
 ghost use Rattle.hdt_tool.specs.TriplesText.{PrintsFound, form_of};
+ghost use Rattle.hdt_tool.specs.declared.request.Action.TheVariants as Action;
+ghost use Rattle.hdt_tool.specs.Whole.{query_action};
 
 use crate::fault::ToolFault;
 use crate::printed_head::head_text;
 use crate::printed_strings::{number_text, print_strings, string_text};
 use crate::printed_triples::triples_text;
 use crate::printed_verdict::verdict;
-use crate::request::{Action, Form};
+use crate::request::Form;
+use crate::whole::Query;
 use hdt_dict::Role;
 use hdt_file::{Layout, read_head, verify, verify_tight};
 use hdt_wire::Counted;
@@ -99,6 +103,15 @@ fn tight_verdict_of(alloc: Global, bytes: &[u8]) -> Result<Vec<u8>, ToolFault>
     Ok(verdict(alloc, lens)?)
 }
 
+/// The text of `answer` where nothing is asked.
+fn nothing_of(alloc: Global, bytes: &[u8]) -> Result<Vec<u8>, ToolFault>
+    ensures ok { IfOk result (λ text. Opens bytes.now (λ _. text.items ≡ [])) }
+    ensures err { IfErr result (λ e. (asking : Asking) → IsTold (Action.Answer asking) bytes.now e) }
+{
+    Layout::read(alloc, bytes)?;
+    Ok(Vec::new(alloc))
+}
+
 /// What `find` prints where neither a count is asked for nor a part.
 fn form_of(numbers: bool) -> Form
     ensures { result ≡ form_of numbers }
@@ -106,23 +119,19 @@ fn form_of(numbers: bool) -> Form
     if numbers { Form::Numbers } else { Form::Lines }
 }
 
-/// What a command on a file prints of it, whole: any but `strings`.
-pub fn answer(alloc: Global, action: &Action, bytes: &[u8]) -> Result<Vec<u8>, ToolFault>
-    requires reads { ReadsFile action.now }
-    requires whole { (role : Role) → action.now ≢ Action.Strings role }
-    ensures ok { IfOk result (λ text. Prints action.now bytes.now text.items) }
-    ensures err { IfErr result (λ e. IsTold action.now bytes.now e) }
+/// What a command that makes no file prints of one, whole.
+pub fn answer(alloc: Global, query: Query<'_>, bytes: &[u8]) -> Result<Vec<u8>, ToolFault>
+    ensures ok { IfOk result (λ text. Prints (query_action query.entry) bytes.now text.items) }
+    ensures err { IfErr result (λ e. IsTold (query_action query.entry) bytes.now e) }
 {
-    match action {
-        Action::Head => head_of(alloc, bytes),
-        Action::Verify => verdict_of(alloc, bytes),
-        Action::VerifyTight => tight_verdict_of(alloc, bytes),
-        Action::Nth(role, number) => string_of(alloc, bytes, *role, *number),
-        Action::Number(role, string) => number_of(alloc, bytes, *role, string),
-        Action::Find { given, numbers } => {
-            triples_of(alloc, bytes, given, form_of(*numbers), None)
-        }
-        Action::Search { given, form, most } => triples_of(alloc, bytes, given, *form, *most),
-        Action::Strings(_) | Action::Build(_) | Action::Rewrite(_) => unreachable!(),
+    match query {
+        Query::Head => head_of(alloc, bytes),
+        Query::Verify => verdict_of(alloc, bytes),
+        Query::VerifyTight => tight_verdict_of(alloc, bytes),
+        Query::Nth(role, number) => string_of(alloc, bytes, role, number),
+        Query::Number(role, string) => number_of(alloc, bytes, role, string),
+        Query::Find { given, numbers } => triples_of(alloc, bytes, given, form_of(numbers), None),
+        Query::Search { given, form, most } => triples_of(alloc, bytes, given, form, most),
+        Query::Answer(_) => nothing_of(alloc, bytes),
     }
 }

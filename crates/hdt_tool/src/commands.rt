@@ -2,7 +2,7 @@
 ghost use Rattle.std.specs.Prelude.{◌≡◌, IfOk, false};
 ghost use Rattle.clap.specs.Words.{app_of, rule_of, with_rule, with_subcommand};
 ghost use Rattle.clap.specs.declared.builder.command.Command.TheViews.{out-Command as fields_of};
-ghost use Rattle.hdt_tool.specs.Table.{word_named, flag_named, option_named, role_word, base_option, block_size_option, build_command, rewrite_command, number_word, file_command, head_command, verify_command, strings_command, string_command, number_command, find_command, find_words, most_option, dump_command, empty_table, first_commands, look_up_commands, text_commands, table};
+ghost use Rattle.hdt_tool.specs.Table.{word_named, flag_named, option_named, role_word, base_option, block_size_option, build_command, rewrite_command, making_command, progress_flag, number_word, file_command, head_command, verify_command, strings_command, string_command, number_command, answer_command, find_command, find_words, most_option, dump_command, empty_table, first_commands, look_up_commands, text_commands, table};
 
 use clap::{Arg, ArgAction, Command, value_parser};
 use std::alloc::{AllocError, Global};
@@ -42,6 +42,8 @@ string that no triple uses in its place, as one that `rewrite` would leave out."
 
 const TIGHT_HELP: &str = "Refuse strings that no triple uses";
 
+const PROGRESS_HELP: &str = "Tell on standard error how many bytes were read";
+
 const STRINGS_ABOUT: &str = "Print all strings of a role with their numbers";
 
 const STRINGS_LONG_ABOUT: &str = "Print all strings of a role with their numbers.
@@ -70,6 +72,25 @@ With --numbers a line has the numbers of subject, predicate and object, from 1; 
 shows triples with strings that are no terms, of which N-Triples has no line. With --count one
 line tells how many triples there are, and --numbers makes no difference. With --most N the first
 N triples alone are printed or counted.";
+
+const ANSWER_ABOUT: &str = "Answer requests for triples from the standard input";
+
+const ANSWER_LONG_ABOUT: &str = "Answer requests for triples.
+
+FILE is opened once. Then each line of the standard input is a request: subject, predicate and
+object, each an N-Triples term or ? for any, and a full stop or none. Its answer is what `find`
+prints of these, and an empty line, and is written before the next request is read. Blank lines
+and comments get no answer.
+
+With --raw a request is three dictionary strings with one tab between them, or ? for any; in a
+string \\\\, \\n, \\r and \\t stand for a backslash, a line feed, a carriage return and a tab.
+FILE can't be the standard input, which has the requests.
+
+A request with a fault is answered by one comment, `# line L column C: N NAME`, and an empty
+line; a string that is no term by `# ROLE NUMBER is not a term`. It goes on behind them, and the
+status at the end is 1.";
+
+const RAW_REQUESTS_HELP: &str = "Take the words of a request as dictionary strings";
 
 const DUMP_ABOUT: &str = "Print all triples";
 
@@ -268,13 +289,23 @@ fn head_of<'a>(alloc: Global) -> Result<Command<'a>, AllocError>
     file_command(alloc, "head", HEAD_ABOUT, HEAD_LONG_ABOUT)
 }
 
-/// `verify FILE`, with `--tight`.
+/// The command with `--progress`.
+fn with_progress<'a>(alloc: Global, command: Command<'a>) -> Result<Command<'a>, AllocError>
+    requires { (fields_of command).has_globals ≡ false }
+    ensures shape { IfOk result (λ c. app_of c ≡ with_rule (app_of command.entry) progress_flag) }
+    ensures local { IfOk result (λ c. (fields_of c).has_globals ≡ false) }
+{
+    with_flag(alloc, command, "progress", PROGRESS_HELP)
+}
+
+/// `verify FILE`, with `--tight` and `--progress`.
 fn verify_of<'a>(alloc: Global) -> Result<Command<'a>, AllocError>
     ensures shape { IfOk result (λ c. app_of c ≡ verify_command) }
     ensures local { IfOk result (λ c. (fields_of c).has_globals ≡ false) }
 {
     let command = file_command(alloc, "verify", VERIFY_ABOUT, VERIFY_LONG_ABOUT)?;
-    with_flag(alloc, command, "tight", TIGHT_HELP)
+    let command = with_flag(alloc, command, "tight", TIGHT_HELP)?;
+    with_progress(alloc, command)
 }
 
 /// `strings FILE ROLE`.
@@ -351,31 +382,61 @@ fn dump_of<'a>(alloc: Global) -> Result<Command<'a>, AllocError>
     file_command(alloc, "dump", DUMP_ABOUT, DUMP_LONG_ABOUT)
 }
 
-/// `build IN OUT`, with `--base` and `--block-size`.
+/// A command that makes a file: IN and OUT.
+fn making_command<'a>(
+    alloc: Global,
+    name: &'a str,
+    about: &'a str,
+    long_about: &'a str,
+    in_help: &'a str,
+) -> Result<Command<'a>, AllocError>
+    ensures shape { IfOk result (λ c. app_of c ≡ making_command name.entry.now) }
+    ensures local { IfOk result (λ c. (fields_of c).has_globals ≡ false) }
+{
+    let command = Command::new(alloc, name)
+        .about(about)
+        .long_about(long_about);
+    let command = with_word(alloc, command, "IN", in_help)?;
+    with_word(alloc, command, "OUT", OUT_HELP)
+}
+
+/// `build IN OUT`, with `--base`, `--block-size` and `--progress`.
 fn build_of<'a>(alloc: Global) -> Result<Command<'a>, AllocError>
     ensures shape { IfOk result (λ c. app_of c ≡ build_command) }
     ensures local { IfOk result (λ c. (fields_of c).has_globals ≡ false) }
 {
-    let command = Command::new(alloc, "build")
-        .about(BUILD_ABOUT)
-        .long_about(BUILD_LONG_ABOUT);
-    let command = with_word(alloc, command, "IN", IN_HELP)?;
-    let command = with_word(alloc, command, "OUT", OUT_HELP)?;
+    let command = making_command(alloc, "build", BUILD_ABOUT, BUILD_LONG_ABOUT, IN_HELP)?;
     let command = with_base(alloc, command)?;
-    with_block_size(alloc, command)
+    let command = with_block_size(alloc, command)?;
+    with_progress(alloc, command)
 }
 
-/// `rewrite IN OUT`, with `--block-size`.
+/// `rewrite IN OUT`, with `--block-size` and `--progress`.
 fn rewrite_of<'a>(alloc: Global) -> Result<Command<'a>, AllocError>
     ensures shape { IfOk result (λ c. app_of c ≡ rewrite_command) }
     ensures local { IfOk result (λ c. (fields_of c).has_globals ≡ false) }
 {
-    let command = Command::new(alloc, "rewrite")
-        .about(REWRITE_ABOUT)
-        .long_about(REWRITE_LONG_ABOUT);
-    let command = with_word(alloc, command, "IN", FILE_HELP)?;
-    let command = with_word(alloc, command, "OUT", OUT_HELP)?;
-    with_block_size(alloc, command)
+    let command = making_command(
+        alloc,
+        "rewrite",
+        REWRITE_ABOUT,
+        REWRITE_LONG_ABOUT,
+        FILE_HELP,
+    )?;
+    let command = with_block_size(alloc, command)?;
+    with_progress(alloc, command)
+}
+
+/// `answer FILE`, with `--raw`, `--numbers`, `--count` and `--most`.
+fn answer_of<'a>(alloc: Global) -> Result<Command<'a>, AllocError>
+    ensures shape { IfOk result (λ c. app_of c ≡ answer_command) }
+    ensures local { IfOk result (λ c. (fields_of c).has_globals ≡ false) }
+{
+    let command = file_command(alloc, "answer", ANSWER_ABOUT, ANSWER_LONG_ABOUT)?;
+    let command = with_flag(alloc, command, "raw", RAW_REQUESTS_HELP)?;
+    let command = with_flag(alloc, command, "numbers", NUMBERS_HELP)?;
+    let command = with_flag(alloc, command, "count", COUNT_HELP)?;
+    with_most(alloc, command)
 }
 
 /// The program, with no command yet.
@@ -423,6 +484,7 @@ fn text_commands<'a>(alloc: Global, roles: &'a [&'a str]) -> Result<Command<'a>,
 {
     let program = look_up_commands(alloc, roles)?;
     let program = with_command(program, find_of(alloc)?)?;
+    let program = with_command(program, answer_of(alloc)?)?;
     with_command(program, dump_of(alloc)?)
 }
 

@@ -3,12 +3,12 @@ ghost use Rattle.std.specs.Prelude.{◌≡◌, ◌≢◌, ℕ, List, [], IfOk, I
 ghost use Rattle.clap.specs.Words.{first_of, one_of, found_of, rows_of};
 ghost use Rattle.hdt_build.specs.declared.options.Options.{Options};
 ghost use Rattle.hdt_wire.specs.declared.role.Role.{Role};
-ghost use Rattle.hdt_tool.specs.Asked.{AsksAction, ComesWithout, ComesWithoutOr, IsFaultOf, IsMisspelt, IsMisspeltPart, IsStringOf, IsFinding, Misspells, StatesForm, StatesMost, StatesNumber, StatesOptions, StatesString, StatesWord, TellsTerm};
+ghost use Rattle.hdt_tool.specs.Words.{AsksAction, ComesWithout, ComesWithoutOr, IsFaultOf, IsMisspelt, IsMisspeltPart, IsStringOf, IsFinding, Misspells, StatesFlag, StatesForm, StatesMost, StatesNumber, StatesOptions, StatesString, StatesWord, TellsTerm};
 ghost use Rattle.hdt_tool.specs.Lines.{word_name};
 ghost use Rattle.hdt_tool.specs.Table.{role_name};
 
 use crate::fault::{UsageFault, Word};
-use crate::request::{Action, Form};
+use crate::request::{Action, Asking, Form};
 use clap::ArgMatches;
 use hdt_build::Options;
 use hdt_dict::Role;
@@ -99,6 +99,13 @@ pub fn verify_at<'m>(matches: &ArgMatches<'m>) -> Action
         return Action::VerifyTight;
     }
     Action::Verify
+}
+
+/// Whether `--progress` is among the words.
+pub fn progress_at<'m>(matches: &ArgMatches<'m>) -> bool
+    ensures { StatesFlag (one_of (codes "progress") (rows_of (found_of matches.now))) result }
+{
+    matches.get_flag("progress")
 }
 
 /// The fault of a word that was read as a term.
@@ -220,4 +227,15 @@ pub fn find_at<'m>(alloc: Global, matches: &ArgMatches<'m>) -> Result<Action, Us
     let object = part_at(alloc, matches, Word::Object)?;
     let given = [subject, predicate, object];
     Ok(found_action(given, form_at(matches), most_at(matches)))
+}
+
+/// What `answer` asks for.
+pub fn answer_at<'m>(matches: &ArgMatches<'m>) -> Action
+    ensures { AsksAction (codes "answer") (rows_of (found_of matches.now)) result }
+{
+    Action::Answer(Asking {
+        form: form_at(matches),
+        most: most_at(matches),
+        raw: matches.get_flag("raw"),
+    })
 }

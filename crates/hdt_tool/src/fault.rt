@@ -60,7 +60,7 @@ pub enum UsageFault {
 }
 
 impl UsageFault {
-    ghost use Rattle.hdt_tool.specs.Asked.{SaysUsage};
+    ghost use Rattle.hdt_tool.specs.Words.{SaysUsage};
 
     /// The fault of a command line with this text.
     pub fn text(alloc: Global, text: &str) -> UsageFault
@@ -126,7 +126,7 @@ pub enum ToolFault {
 }
 
 /// The fault of a line of the input, or of the reader.
-fn line_fault(fault: LineFault) -> ToolFault
+pub fn line_fault(fault: LineFault) -> ToolFault
     ensures { result ≡ line_fault_of fault }
 {
     match fault.reason {

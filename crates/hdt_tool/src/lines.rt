@@ -32,7 +32,7 @@ fn input_line(alloc: Global, fault: LineFault) -> Result<String, AllocError>
 }
 
 /// The word for a role.
-fn role_name(role: Role) -> &'static str
+pub fn role_name(role: Role) -> &'static str
     ensures { result.now ≡ role_name role }
 {
     match role {

@@ -10,45 +10,56 @@
 //! | 4 | out of memory |
 #![tactic(auto)]
 
-ghost use Rattle.std.specs.Prelude.{◌≡◌, ◌≢◌, ◌⊎◌, ◌+◌, ℕ, [], Ok, Err, Some, IfOk, IfErr, OnOk, MatchResult, map, string_bytes};
+ghost use Rattle.std.specs.Prelude.{◌≡◌, ◌≢◌, ◌⊎◌, ◌+◌, ℕ, true, false, [], Ok, Err, Some, IfOk, IfErr, OnOk, MatchResult, map, string_bytes, if◌then◌else◌};
 ghost use Rattle.std.specs.Io.KnownBytes.{Appends};
 ghost use Rattle.std.specs.IoError.{error_kind};
 ghost use Rattle.std.specs.Vec.Iter.{into_iter_items};
 ghost use Rattle.hdt_wire.specs.Counted.{inner, failures};
 ghost use Rattle.hdt_tool.specs.Answer.{Breaks, FailsAfter, Faults, HasOut, MakesFile, Performs, ReadsFile, Reports, Stops};
-ghost use Rattle.hdt_tool.specs.Asked.{IsRefused, SaysUsage, Wants};
+ghost use Rattle.hdt_tool.specs.Words.{IsRefused, SaysUsage, WantsSo};
+ghost use Rattle.hdt_tool.specs.Dialogue.{Converses, ConversesSome};
 ghost use Rattle.hdt_tool.specs.Lines.{fault_status};
 ghost use Rattle.hdt_tool.specs.Status.{Ends, IsCommandStatus, IsRefusalStatus};
 
 mod answer;
 mod commands;
+mod dialogue;
+#[cfg(test)]
+mod dialogue_tests;
 mod entries;
 mod escaping;
 mod fault;
+#[cfg(test)]
+mod fault_tests;
 mod lines;
 mod printed_built;
 mod printed_head;
 mod printed_strings;
 mod printed_triples;
 mod printed_verdict;
+mod progress;
 mod replacing;
 mod request;
 mod run;
 #[cfg(test)]
+mod sample_tests;
+#[cfg(test)]
 mod tests;
+mod whole;
 mod words;
 
 use crate::fault::{ToolFault, UsageFault};
 use crate::lines::{fault_line, usage_line};
+use crate::progress::Watched;
 use crate::replacing::{create_fault, replace, replaced_path};
-use crate::request::Request;
-use crate::run::run;
-use crate::words::parse_words;
+use crate::request::{Action, Asking, Call, Request};
+use crate::run::{answer_file, run_in};
+use crate::words::parse_all_words;
 use hdt_wire::Counted;
 use std::alloc::{AllocError, Global};
 use std::env::{self, Args};
 use std::fs::{self, File};
-use std::io::{self, ErrorKind, Read, Write};
+use std::io::{self, ErrorKind, Read, Stderr, Write};
 use std::os::unix::fs::MetadataExt;
 use std::process::ExitCode;
 
@@ -117,13 +128,13 @@ fn lent<'a>(alloc: Global, words: &'a [String]) -> Result<Vec<&'a str>, AllocErr
 }
 
 /// What the words of the command line ask for.
-fn request_of(alloc: Global, words: &[String]) -> Result<Request, UsageFault>
-    ensures ok { IfOk result (Wants (map string_bytes words.now)) }
-    ensures out { IfOk result HasOut }
+fn asked_of(alloc: Global, words: &[String]) -> Result<Call, UsageFault>
+    ensures ok { IfOk result (WantsSo (map string_bytes words.now)) }
+    ensures out { IfOk result (λ asked. HasOut asked.request) }
     ensures refused { IfErr result (IsRefused (map string_bytes words.now)) }
 {
     let texts = lent(alloc, words)?;
-    parse_words(alloc, texts.as_slice())
+    parse_all_words(alloc, texts.as_slice())
 }
 
 /// The words that were given, each. (`collect` would pass over a refused reservation.)
@@ -148,15 +159,15 @@ fn words_of(alloc: Global, given: io::Result<Args>) -> io::Result<Vec<String>>
 }
 
 /// What the words of the command line ask for, where they could be had.
-fn asked(alloc: Global, words: io::Result<Vec<String>>) -> Result<Request, UsageFault>
-    ensures ok { IfOk result (λ request. MatchResult words (λ words. Wants (map string_bytes words.items) request) (λ _. ⊥)) }
-    ensures out { IfOk result HasOut }
+fn asked(alloc: Global, words: io::Result<Vec<String>>) -> Result<Call, UsageFault>
+    ensures ok { IfOk result (λ asked. MatchResult words (λ words. WantsSo (map string_bytes words.items) asked) (λ _. ⊥)) }
+    ensures out { IfOk result (λ asked. HasOut asked.request) }
     ensures refused { IfErr result (λ fault. IfOk words (λ words. IsRefused (map string_bytes words.items) fault)) }
     ensures memory { IfErr words (λ error. error_kind error ≡ ErrorKind.OutOfMemory → result ≡ Err UsageFault.OutOfMemory) }
     ensures other { IfErr words (λ error. error_kind error ≢ ErrorKind.OutOfMemory → IfErr result (SaysUsage NOT_UTF8.now)) }
 {
     match words {
-        Ok(words) => request_of(alloc, words.as_slice()),
+        Ok(words) => asked_of(alloc, words.as_slice()),
         Err(error) => Err(words_fault(alloc, &error)),
     }
 }
@@ -177,6 +188,7 @@ fn perform<R: Read + Drop, W: Write>(
     alloc: Global,
     request: &Request,
     file: io::Result<R>,
+    room: usize,
     out: &mut Counted<W>,
     made: &mut Vec<u8>,
 ) -> Result<(), ToolFault>
@@ -203,7 +215,7 @@ fn perform<R: Read + Drop, W: Write>(
         Ok(input) => Counted::new(input),
         Err(error) => return Err(open_fault(&error)),
     };
-    run(alloc, request, &mut input, out, made)
+    run_in(alloc, request, &mut input, room, out, made)
 }
 
 /// Does what a request that makes no file asks for, and tells how it ended.
@@ -211,6 +223,7 @@ fn performed<R: Read + Drop, W: Write>(
     rt: &HostRuntime,
     request: &Request,
     file: io::Result<R>,
+    room: usize,
     out: &mut Counted<W>,
 ) -> u8
     requires { ReadsFile request.now.action }
@@ -228,7 +241,7 @@ fn performed<R: Read + Drop, W: Write>(
         (W.contents (inner out.old)) (W.contents (inner out.new)) (failures out.old) (failures out.new)) (λ _. ⊥) }
 {
     let mut made = Vec::new(rt.alloc());
-    done(rt, perform(rt.alloc(), request, file, out, &mut made))
+    done(rt, perform(rt.alloc(), request, file, room, out, &mut made))
 }
 
 /// The fault of a command whose text goes to memory: a failure to write is want of it.
@@ -248,6 +261,7 @@ fn made_of<R: Read + Drop>(
     alloc: Global,
     request: &Request,
     file: io::Result<R>,
+    room: usize,
     built: &mut Vec<u8>,
 ) -> Result<Vec<u8>, ToolFault>
     requires { MakesFile request.now.action }
@@ -260,7 +274,7 @@ fn made_of<R: Read + Drop>(
     ensures others { IfErr result (λ e. (n : ℕ) → e ≢ ToolFault.Write n) }
 {
     let mut line = Counted::new(Vec::new(alloc));
-    match perform(alloc, request, file, &mut line, built) {
+    match perform(alloc, request, file, room, &mut line, built) {
         Ok(()) => Ok(line.into_inner()),
         Err(fault) => Err(in_memory(fault)),
     }
@@ -357,14 +371,41 @@ fn put_at(rt: &HostRuntime, path: &str, built: &[u8], line: &[u8]) -> Result<(),
     store(&mut file, built, &mut out, line)
 }
 
+/// How many bytes a file has, where it is a regular one.
+fn size_of(file: &File) -> Option<u64> {
+    match file.metadata() {
+        Ok(metadata) if metadata.is_file() => Some(metadata.len()),
+        _ => None,
+    }
+}
+
+/// Opens the file that is read. Where progress is asked for, the standard error is told of it.
+fn opened(rt: &HostRuntime, path: &str, progress: bool) -> io::Result<Watched<File, Stderr>> {
+    let file = File::open(rt, path)?;
+    let size = size_of(&file);
+    let told = if progress { Some(rt.stderr()) } else { None };
+    Ok(Watched::new(rt.alloc(), file, told, size))
+}
+
+/// Room for all that is to be read, where that is known.
+fn room_for(input: &io::Result<Watched<File, Stderr>>) -> usize {
+    match input {
+        Ok(input) => input.size().unwrap_or(0) as usize,
+        Err(_) => 0,
+    }
+}
+
 /// Does what a request that makes a file asks for: that file is put at its path only where the whole of it was made, and the line
 /// of its numbers is printed last. Where its path leads to what standard output is, it is printed there.
-fn build_to(rt: &HostRuntime, request: &Request, path: &str) -> Result<(), ToolFault>
-    requires { MakesFile request.now.action }
+fn build_to(rt: &HostRuntime, asked: &Call, path: &str) -> Result<(), ToolFault>
+    requires { MakesFile asked.now.request.action }
 {
-    let input = File::open(rt, request.file.as_str());
+    // (nothing but the HDT file goes to where standard error is OUT)
+    let progress = asked.progress && !is_one_file(rt, path, ERRORS);
+    let input = opened(rt, asked.request.file.as_str(), progress);
     let mut built = Vec::new(rt.alloc());
-    let line = made_of(rt.alloc(), request, input, &mut built)?;
+    let room = room_for(&input);
+    let line = made_of(rt.alloc(), &asked.request, input, room, &mut built)?;
     if is_one_file(rt, path, OUTPUT) {
         return print_built(rt, &built, &line);
     }
@@ -382,35 +423,122 @@ fn refuse(rt: &HostRuntime, fault: UsageFault) -> u8
 }
 
 /// Does what a request that makes a file asks for, and tells how it ended.
-fn stored(rt: &HostRuntime, request: &Request, path: &str) -> u8
-    requires { MakesFile request.now.action }
+fn stored(rt: &HostRuntime, asked: &Call, path: &str) -> u8
+    requires { MakesFile asked.now.request.action }
     ensures { IsCommandStatus result }
 {
-    done(rt, build_to(rt, request, path))
+    done(rt, build_to(rt, asked, path))
+}
+
+/// The status of answers, by whether one was a fault; what stopped them is told by its line.
+fn answers_status(rt: &HostRuntime, outcome: Result<bool, ToolFault>) -> u8
+    ensures { MatchResult outcome (λ faulty. result ≡ (if faulty then 1 else 0)) (λ fault. (result ≡ fault_status fault) ⊎ (result ≡ 4)) }
+{
+    match outcome {
+        Ok(faulty) => u8::from(faulty),
+        Err(fault) => done(rt, Err(fault)),
+    }
+}
+
+/// Answers the requests of a reader over a file, as it was opened, and tells whether one of the answers is a fault.
+fn converse<F: Read + Drop, R: Read, W: Write>(
+    alloc: Global,
+    asking: Asking,
+    file: io::Result<F>,
+    room: usize,
+    input: &mut Counted<R>,
+    out: &mut Counted<W>,
+) -> Result<bool, ToolFault>
+    // The file is a layout, and the writer has gained the answers of all lines of the requests over its graph.
+    ensures ok { IfOk result (λ faulty. MatchResult file (λ file. Converses asking (F.remaining file) (R.remaining (inner input.old))
+        (W.contents (inner out.old)) (W.contents (inner out.new)) faulty) (λ _. ⊥)) }
+    ensures writer_well { OnOk result (failures out.new ≡ failures out.old) }
+    // A file that could not be opened is told as its error's kind says.
+    ensures memory { IfErr file (λ e. error_kind e ≡ ErrorKind.OutOfMemory → result ≡ Err ToolFault.OutOfMemory) }
+    ensures unopened { IfErr file (λ e. error_kind e ≢ ErrorKind.OutOfMemory → result ≡ Err ToolFault.Read) }
+    // Nothing was written, or a part of the answers, as `answer_file` tells it.
+    ensures stopped { IfErr result (λ e. (out.new ≡ out.old) ⊎ MatchResult file (λ file. ConversesSome asking (F.remaining file)
+        (R.remaining (inner input.old)) (R.remaining (inner input.new)) (W.contents (inner out.old)) (W.contents (inner out.new))
+        (failures out.old) (failures out.new) e) (λ _. ⊥)) }
+{
+    let mut file = match file {
+        Ok(file) => Counted::new(file),
+        Err(why) => return Err(open_fault(&why)),
+    };
+    answer_file(alloc, asking, &mut file, room, input, out)
+}
+
+/// Answers the requests of a reader over a file, as it was opened, and tells how that ended.
+fn conversed<F: Read + Drop, R: Read, W: Write>(
+    rt: &HostRuntime,
+    asking: Asking,
+    file: io::Result<F>,
+    room: usize,
+    input: &mut Counted<R>,
+    out: &mut Counted<W>,
+) -> u8
+    ensures statuses { IsCommandStatus result }
+    // 0: the writer has gained the answers of all lines of the requests, none of which is a fault.
+    ensures done { result ≡ 0 → MatchResult file (λ file. Converses asking (F.remaining file) (R.remaining (inner input.old))
+        (W.contents (inner out.old)) (W.contents (inner out.new)) false) (λ _. ⊥) }
+    ensures well { result ≡ 0 → failures out.new ≡ failures out.old }
+    // Any other: nothing was written, or it is 1 and one of all these answers is a fault, or a fault of this status, or the want of
+    // memory for its line, stopped them.
+    ensures stopped { result ≢ 0 → (out.new ≡ out.old)
+        ⊎ ((result ≡ 1) × MatchResult file (λ file. Converses asking (F.remaining file) (R.remaining (inner input.old))
+        (W.contents (inner out.old)) (W.contents (inner out.new)) true) (λ _. ⊥))
+        ⊎ ((e : ToolFault) × ((result ≡ fault_status e) ⊎ (result ≡ 4)) × MatchResult file (λ file. ConversesSome asking (F.remaining file)
+        (R.remaining (inner input.old)) (R.remaining (inner input.new)) (W.contents (inner out.old)) (W.contents (inner out.new))
+        (failures out.old) (failures out.new) e) (λ _. ⊥)) }
+{
+    answers_status(rt, converse(rt.alloc(), asking, file, room, input, out))
+}
+
+/// Room for all of a file, where its size is known.
+fn room_of(file: &io::Result<File>) -> usize {
+    match file {
+        Ok(file) => size_of(file).unwrap_or(0) as usize,
+        Err(_) => 0,
+    }
+}
+
+/// Answers the requests of the standard input over a file on the standard output, and tells how that ended.
+fn conversed_over(rt: &HostRuntime, path: &str, asking: Asking) -> u8
+    ensures { IsCommandStatus result }
+{
+    let file = File::open(rt, path);
+    let room = room_of(&file);
+    let mut input = Counted::new(rt.stdin());
+    let mut out = Counted::new(io::writer(rt));
+    conversed(rt, asking, file, room, &mut input, &mut out)
 }
 
 /// Does what a request asks for, and tells how it ended.
-fn fulfilled(rt: &HostRuntime, request: &Request) -> u8
-    requires { HasOut request.now }
+fn fulfilled(rt: &HostRuntime, asked: &Call) -> u8
+    requires { HasOut asked.now.request }
     ensures { IsCommandStatus result }
 {
-    match &request.out {
-        Some(path) => stored(rt, request, path.as_str()),
-        None => {
-            let file = File::open(rt, request.file.as_str());
-            let mut out = Counted::new(io::writer(rt));
-            performed(rt, request, file, &mut out)
-        }
+    match &asked.request.out {
+        Some(path) => stored(rt, asked, path.as_str()),
+        None => match &asked.request.action {
+            Action::Answer(asking) => conversed_over(rt, asked.request.file.as_str(), *asking),
+            _ => {
+                let file = opened(rt, asked.request.file.as_str(), asked.progress);
+                let mut out = Counted::new(io::writer(rt));
+                let room = room_for(&file);
+                performed(rt, &asked.request, file, room, &mut out)
+            }
+        },
     }
 }
 
 /// Does what was asked for, or tells why nothing was.
-fn answered(rt: &HostRuntime, asked: Result<Request, UsageFault>) -> u8
-    requires { IfOk asked HasOut }
+fn answered(rt: &HostRuntime, asked: Result<Call, UsageFault>) -> u8
+    requires { IfOk asked (λ asked. HasOut asked.request) }
     ensures { MatchResult asked (λ _. IsCommandStatus result) (λ fault. IsRefusalStatus fault result) }
 {
     match asked {
-        Ok(request) => fulfilled(rt, &request),
+        Ok(asked) => fulfilled(rt, &asked),
         Err(fault) => refuse(rt, fault),
     }
 }

@@ -42,7 +42,11 @@ const PIECE: usize = 65_536;
 
 /// Writes a piece of a text behind so many bytes of it: how many bytes of the text are written then. A text of more bytes than a
 /// number counts ends as want of memory.
-fn write_piece<W: Write>(piece: &[u8], written: u64, out: &mut Counted<W>) -> Result<u64, ToolFault>
+pub fn write_piece<W: Write>(
+    piece: &[u8],
+    written: u64,
+    out: &mut Counted<W>,
+) -> Result<u64, ToolFault>
     ensures count { IfOk result (λ n. n ≡ written + length piece.now) }
     ensures ok { OnOk result (Appends (W.contents (inner out.old)) (W.contents (inner out.new)) piece.now) }
     ensures well { OnOk result (failures out.new ≡ failures out.old) }

@@ -1,15 +1,18 @@
 //! What `find` and `dump` print.
-ghost use Rattle.std.specs.Prelude.{◌≡◌, ◌++◌, OnOk, IfOk, IfErr, Some, length};
+ghost use Rattle.std.specs.Fmt.{decimal};
+ghost use Rattle.std.specs.Prelude.{◌≡◌, ◌<◌, ◌^◌, ◌++◌, ◌∷◌, [], OnOk, IfOk, IfErr, length};
 ghost use Rattle.hdt_file.specs.TextWriting.{chosen, limited};
 ghost use Rattle.hdt_file.specs.LayoutView.{layout_seen};
-ghost use Rattle.hdt_tool.specs.TriplesText.{Finds, PrintsFound, TellsFound, count_line, numbers_line, numbers_lines};
+ghost use Rattle.hdt_file.specs.Views.{graph_seen};
+ghost use Rattle.hdt_triples.specs.Left.{left_of};
+ghost use Rattle.hdt_tool.specs.TriplesText.{Finds, PrintsFound, TellsFound, PrintsTriples, TellsTriples, numbers_line, numbers_lines};
 
 use crate::fault::ToolFault;
 use crate::printed_strings::put_number;
 use crate::request::Form;
-use hdt_file::{Layout, layout_text_up_to};
+use hdt_file::{DumpFault, Graph, Layout, graph_text_up_to, layout_text_up_to};
 use hdt_seq::Steps;
-use hdt_triples::Pattern;
+use hdt_triples::{Matches, Pattern};
 use std::alloc::{AllocError, Global};
 
 /// Appends the line of a triple's numbers.
@@ -26,16 +29,16 @@ fn put_numbers(triple: (u64, u64, u64), out: &mut Vec<u8>) -> Result<(), AllocEr
     Ok(out.push(b'\n')?)
 }
 
-/// The lines of the numbers of the matches of a pattern, or of at most so many of the first.
+/// The lines of the numbers of matches, or of at most so many of the first.
 fn matches_numbers(
     alloc: Global,
-    layout: &Layout<'_>,
-    pattern: Pattern,
+    found: Matches<'_>,
     most: Option<u64>,
 ) -> Result<Vec<u8>, AllocError>
-    ensures { IfOk result (λ text. text.items ≡ numbers_lines (limited most (chosen (layout_seen layout.now) (Some pattern)))) }
+    requires fits { length (left_of found) < 2 ^ 64 }
+    ensures { IfOk result (λ text. text.items ≡ numbers_lines (limited most (left_of found.entry))) }
 {
-    let mut matches = layout.search(pattern);
+    let mut matches = found;
     let mut room = most.unwrap_or(u64::MAX);
     let mut text = Vec::new(alloc);
     'triples: while room > 0 {
@@ -58,7 +61,7 @@ fn numbers_text(
     ensures { IfOk result (λ text. text.items ≡ numbers_lines (limited most (chosen (layout_seen layout.now) pattern))) }
 {
     match pattern {
-        Some(pattern) => matches_numbers(alloc, layout, pattern, most),
+        Some(pattern) => matches_numbers(alloc, layout.search(pattern), most),
         None => Ok(Vec::new(alloc)),
     }
 }
@@ -77,21 +80,6 @@ fn count_of(layout: &Layout<'_>, pattern: Option<Pattern>, most: Option<u64>) ->
     }
 }
 
-/// The line with how many matches a pattern has, or nothing, but at most so many.
-fn count_text(
-    alloc: Global,
-    layout: &Layout<'_>,
-    pattern: Option<Pattern>,
-    most: Option<u64>,
-) -> Result<Vec<u8>, AllocError>
-    ensures { IfOk result (λ text. text.items ≡ count_line (limited most (chosen (layout_seen layout.now) pattern))) }
-{
-    let mut text = Vec::new(alloc);
-    put_number(count_of(layout, pattern, most), &mut text)?;
-    text.push(b'\n')?;
-    Ok(text)
-}
-
 /// The pattern of the numbers of the strings that are given, where each is in its role.
 fn pattern_of(layout: &Layout<'_>, given: &[Option<Vec<u8>>; 3]) -> Option<Pattern>
     ensures { Finds (layout_seen layout.now) given.now (chosen (layout_seen layout.now) result) }
@@ -99,6 +87,25 @@ fn pattern_of(layout: &Layout<'_>, given: &[Option<Vec<u8>>; 3]) -> Option<Patte
     let [subject, predicate, object] = given;
     let lent = [subject.as_deref(), predicate.as_deref(), object.as_deref()];
     layout.pattern(lent, &mut Steps::new())
+}
+
+/// The text of the matches of a pattern in a file, or of nothing, or of at most so many of the first: in N-Triples, their
+/// numbers, or how many they are. All triples are walked over.
+fn layout_triples_text(
+    alloc: Global,
+    layout: &Layout<'_>,
+    pattern: Option<Pattern>,
+    form: Form,
+    most: Option<u64>,
+) -> Result<Vec<u8>, DumpFault>
+    ensures ok { IfOk result (λ text. PrintsTriples form (layout_seen layout.now) (limited most (chosen (layout_seen layout.now) pattern)) text.items) }
+    ensures err { IfErr result (TellsTriples form (layout_seen layout.now) (limited most (chosen (layout_seen layout.now) pattern))) }
+{
+    match form {
+        Form::Lines => layout_text_up_to(alloc, layout, pattern, most),
+        Form::Numbers => Ok(numbers_text(alloc, layout, pattern, most)?),
+        Form::Count => Ok(number_line(alloc, count_of(layout, pattern, most))?),
+    }
 }
 
 /// The text of the triples that have the strings that are given, or of at most so many of the first: in N-Triples, their
@@ -113,10 +120,66 @@ pub fn triples_text(
     ensures ok { IfOk result (λ text. PrintsFound (layout_seen layout.now) given.now form most text.items) }
     ensures err { IfErr result (TellsFound (layout_seen layout.now) given.now form most) }
 {
-    let pattern = pattern_of(layout, given);
+    match layout_triples_text(alloc, layout, pattern_of(layout, given), form, most) {
+        Ok(text) => Ok(text),
+        Err(fault) => Err(ToolFault::from(fault)),
+    }
+}
+
+/// How many matches a pattern has in a graph, or nothing, but at most so many.
+fn graph_count(graph: &Graph<'_>, pattern: Option<Pattern>, most: Option<u64>) -> u64
+    ensures { result ≡ length (limited most (chosen (graph_seen graph.now) pattern)) }
+{
+    let Some(pattern) = pattern else {
+        return 0;
+    };
+    let count = graph.matching(pattern, &mut Steps::new());
+    match most {
+        Some(room) => count.min(room),
+        None => count,
+    }
+}
+
+/// The lines of the numbers of the matches of a pattern in a graph, or of nothing.
+fn graph_numbers_text(
+    alloc: Global,
+    graph: &Graph<'_>,
+    pattern: Option<Pattern>,
+    most: Option<u64>,
+) -> Result<Vec<u8>, AllocError>
+    ensures { IfOk result (λ text. text.items ≡ numbers_lines (limited most (chosen (graph_seen graph.now) pattern))) }
+{
+    match pattern {
+        Some(pattern) => matches_numbers(alloc, graph.search(pattern), most),
+        None => Ok(Vec::new(alloc)),
+    }
+}
+
+/// The line with a number.
+fn number_line(alloc: Global, number: u64) -> Result<Vec<u8>, AllocError>
+    ensures { IfOk result (λ text. text.items ≡ decimal number ++ 10 ∷ []) }
+{
+    let mut text = Vec::new(alloc);
+    put_number(number, &mut text)?;
+    text.push(b'\n')?;
+    Ok(text)
+}
+
+/// The text of the matches of a pattern in a graph, or of nothing, or of at most so many of the first: in N-Triples, their
+/// numbers, or how many they are. The directories and lists of the graph bound the search.
+pub fn graph_triples_text(
+    alloc: Global,
+    graph: &Graph<'_>,
+    pattern: Option<Pattern>,
+    form: Form,
+    most: Option<u64>,
+) -> Result<Vec<u8>, DumpFault>
+    ensures ok { IfOk result (λ text. PrintsTriples form (graph_seen graph.now) (limited most (chosen (graph_seen graph.now) pattern)) text.items) }
+    ensures err { IfErr result (TellsTriples form (graph_seen graph.now) (limited most (chosen (graph_seen graph.now) pattern))) }
+{
     match form {
-        Form::Lines => Ok(layout_text_up_to(alloc, layout, pattern, most)?),
-        Form::Numbers => Ok(numbers_text(alloc, layout, pattern, most)?),
-        Form::Count => Ok(count_text(alloc, layout, pattern, most)?),
+        Form::Lines => graph_text_up_to(alloc, graph, pattern, most),
+        Form::Numbers => Ok(graph_numbers_text(alloc, graph, pattern, most)?),
+        Form::Count => Ok(number_line(alloc, graph_count(graph, pattern, most))?),
     }
 }

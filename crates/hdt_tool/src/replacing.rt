@@ -1,8 +1,9 @@
 //! Files that are replaced whole: what stands at a path is what it was until a new file, written beside it and handed to the
 //! disk, takes its name.
-ghost use Rattle.std.specs.Prelude.{◌≡◌, ◌≢◌, ◌≤◌, ℕ, length, Ok, Err, IfOk, IfErr};
+ghost use Rattle.std.specs.Prelude.{◌≡◌, ◌≢◌, ◌≤◌, ℕ, List, length, Ok, Err, IfOk, IfErr};
 ghost use Rattle.std.specs.Io.KnownBytes.{Appends};
 ghost use Rattle.std.specs.IoError.{error_kind};
+ghost use Rattle.hdt_tool.specs.Answer.{IsUnfilled};
 
 use crate::fault::ToolFault;
 use hdt_wire::Counted;
@@ -19,6 +20,7 @@ const NAMES: u64 = 1000;
 pub fn create_fault(error: &io::Error) -> ToolFault
     ensures memory { error_kind error.now ≡ ErrorKind.OutOfMemory → result ≡ ToolFault.OutOfMemory }
     ensures other { error_kind error.now ≢ ErrorKind.OutOfMemory → result ≡ ToolFault.Write 0 }
+    ensures none { (built : List ℕ) → IsUnfilled built result }
 {
     if error.kind() == ErrorKind::OutOfMemory {
         return ToolFault::OutOfMemory;
@@ -35,7 +37,8 @@ fn linked_path<R: Files>(files: &R, alloc: Global, path: &str) -> io::Result<Opt
 }
 
 /// The path at which a new file can take the place of what is there: a regular file, also behind a link, or nothing. None where
-/// something else is there, as a device, a pipe or a folder, or a link that leads to nothing.
+/// something else is there, as a device, a pipe or a folder, or a link that leads to nothing. (What is at a path is no value that a
+/// clause could speak of: `tests/run` looks.)
 pub fn replaced_path<R: Files>(
     files: &R,
     alloc: Global,
@@ -100,9 +103,14 @@ fn fill_and_rename<R: Files>(
     beside: &PathBuf,
     path: &PathBuf,
     built: &[u8],
-) -> Result<(), ToolFault> {
+) -> Result<(), ToolFault>
+    ensures fault { IfErr result (IsUnfilled built.now) }
+{
     if let Ok(replaced) = fs::metadata(files, path.as_path()) {
-        permit(&file, &replaced).map_err(|error| create_fault(&error))?;
+        match permit(&file, &replaced) {
+            Ok(()) => {}
+            Err(error) => return Err(create_fault(&error)),
+        }
     }
     let _whole = filled(file, built)?;
     match fs::rename(files, beside.as_path(), path.as_path()) {
@@ -112,13 +120,16 @@ fn fill_and_rename<R: Files>(
 }
 
 /// Puts a file with what was made at a path, in place of a regular file that is there, with its permissions: at a fault that
-/// file is what it was, and the new one is removed.
+/// file is what it was, and the new one is removed. (No clause can say what the file system then has: `tests/run` looks.)
 pub fn replace<R: Files>(
     files: &R,
     alloc: Global,
     path: &PathBuf,
     built: &[u8],
-) -> Result<(), ToolFault> {
+) -> Result<(), ToolFault>
+    // Memory was refused, or writing failed, behind no more bytes than there are.
+    ensures fault { IfErr result (IsUnfilled built.now) }
+{
     let (file, beside) = match create_beside(files, alloc, path) {
         Ok(created) => created,
         Err(error) => return Err(create_fault(&error)),

@@ -14,6 +14,17 @@ pub enum Form {
     Count,
 }
 
+/// What is printed of the answers to requests, and how these are written.
+#[derive(Clone, Copy, Debug, Drop)]
+pub struct Asking {
+    /// What is printed of the triples that a request finds.
+    pub form: Form,
+    /// How many are taken at most; all where there is none.
+    pub most: Option<u64>,
+    /// Whether requests are of dictionary strings, in place of terms.
+    pub raw: bool,
+}
+
 /// A command.
 #[derive(Debug, Drop)]
 pub enum Action {
@@ -45,6 +56,8 @@ pub enum Action {
         /// How many are taken at most; all where there is none.
         most: Option<u64>,
     },
+    /// Answers requests over a file. Of the file alone nothing is printed.
+    Answer(Asking),
     /// Builds a file of an N-Triples document, and prints its numbers.
     Build(Options),
     /// Writes a file again as the canonical file of its triples, in blocks of so many strings, and prints its numbers.
@@ -60,4 +73,13 @@ pub struct Request {
     pub file: String,
     /// The path of the file that is written, where the command writes one.
     pub out: Option<String>,
+}
+
+/// A request, and how it is to be fulfilled.
+#[derive(Debug, Drop)]
+pub struct Call {
+    /// What is asked for.
+    pub request: Request,
+    /// Whether it is told how far the reading of the input has come.
+    pub progress: bool,
 }

@@ -1,15 +1,20 @@
-//! The engine of all commands: reads all the input, makes its output whole, and only then writes it. `strings` alone writes in
-//! pieces.
+//! The engine of all commands: reads all the input, makes its output whole, and only then writes it. `strings` writes in pieces,
+//! and `answer` answer by answer.
 ghost use Rattle.std.specs.Prelude.{◌≡◌, ◌≢◌, ◌<◌, ◌++◌, ◌+◌, ◌↔◌, ◌⊎◌, ℕ, List, IfOk, IfErr, OnOk, OnErr, IsErrOf, length, take};
 ghost use Rattle.std.specs.Io.KnownBytes.{Appends};
 ghost use Rattle.hdt_wire.specs.Counted.{inner, failures};
 ghost use Rattle.hdt_build.specs.Options.{AreRight};
-ghost use Rattle.hdt_tool.specs.Answer.{ReadsAll, ReadsWith, ReadsFile, Prints, Tells, IsTold, Makes, Answers, Begins, Halts, IfBuild, IsOfFile, RewritesFile};
+ghost use Rattle.hdt_tool.specs.Dialogue.{AnswersInput, AnswersSome};
+ghost use Rattle.hdt_tool.specs.Whole.{query_action, whole_action};
+ghost use Rattle.hdt_tool.specs.Answer.{Opens, ReadsAll, ReadsWith, Prints, Tells, IsTold, Makes, Answers, Begins, Halts, IfBuild, IsOfFile, RewritesFile};
+ghost use Rattle.hdt_tool.specs.declared.request.Action.TheVariants as Action;
 
 use crate::answer::{answer, print_strings_of};
+use crate::dialogue::answer_requests;
 use crate::fault::ToolFault;
 use crate::printed_built::{built_line, rewritten_line};
-use crate::request::{Action, Request};
+use crate::request::{Asking, Request};
+use crate::whole::{Printing, Query, Whole, printing_of};
 use hdt_build::{Options, build_bytes, rewrite_bytes};
 use hdt_dict::Role;
 use hdt_file::open;
@@ -20,45 +25,47 @@ use std::io::{Read, Write};
 /// How many bytes are asked for at a time.
 const BUFFER: usize = 65_536;
 
-/// Reads all there is.
-fn read_all<R: Read>(alloc: Global, input: &mut Counted<R>) -> Result<Vec<u8>, ToolFault>
+/// Reads all there is, into room for so many bytes, which grows where there are more.
+fn read_all<R: Read>(
+    alloc: Global,
+    input: &mut Counted<R>,
+    room: usize,
+) -> Result<Vec<u8>, ToolFault>
     ensures ok { IfOk result (λ bytes. ReadsAll (R.remaining (inner input.old)) (R.remaining (inner input.new)) bytes.items) }
     ensures read { IsErrOf result ToolFault.Read → failures input.new ≡ failures input.old + 1 }
     ensures others { IfErr result (λ e. e ≢ ToolFault.Read → e ≡ ToolFault.OutOfMemory) }
     ensures well { OnOk result (failures input.new ≡ failures input.old) }
     ensures refused { IsErrOf result ToolFault.OutOfMemory → failures input.new ≡ failures input.old }
 {
-    let mut bytes = Vec::new(alloc);
+    let mut bytes = Vec::with_capacity(alloc, room)?;
     let mut buffer = [0u8; BUFFER];
-    'reads: for _ in 0..u64::MAX {
+    'reads: loop {
         match input.read(buffer.as_mut_slice()) {
             Ok(0) => return Ok(bytes),
             Ok(count) => bytes.extend_from_slice(&buffer[..count])?,
             Err(Failed) => return Err(ToolFault::Read),
         }
     }
-    unreachable!()
 }
 
-/// What a command on a file prints of the input.
-#[tactic(auto, using(crate::proofs::Told::told_all, crate::proofs::Told::not_read, crate::proofs::Told::of_file))]
+/// What a command that makes no file prints of the input.
+#[tactic(auto, using(crate::proofs::Told::told_all, crate::proofs::Told::not_read, crate::proofs::Told::of_file, crate::proofs::Making::reads_file))]
 fn file_text<R: Read>(
     alloc: Global,
-    action: &Action,
+    query: Query<'_>,
     input: &mut Counted<R>,
+    room: usize,
 ) -> Result<Vec<u8>, ToolFault>
-    requires reads { ReadsFile action.now }
-    requires whole { (role : Role) → action.now ≢ Action.Strings role }
     ensures ok { IfOk result (λ text. ReadsWith (R.remaining (inner input.old)) (R.remaining (inner input.new))
-        (λ bytes. Prints action.now bytes text.items)) }
-    ensures told { IfErr result (Tells action.now (R.remaining (inner input.old)) (R.remaining (inner input.new))) }
+        (λ bytes. Prints (query_action query.entry) bytes text.items)) }
+    ensures told { IfErr result (Tells (query_action query.entry) (R.remaining (inner input.old)) (R.remaining (inner input.new))) }
     ensures read { IsErrOf result ToolFault.Read → failures input.new ≡ failures input.old + 1 }
     ensures reader_well { OnOk result (failures input.new ≡ failures input.old) }
     ensures reader_told { IfErr result (λ e. e ≢ ToolFault.Read → failures input.new ≡ failures input.old) }
     ensures others { IfErr result IsOfFile }
 {
-    let bytes = read_all(alloc, input)?;
-    answer(alloc, action, bytes.as_slice())
+    let bytes = read_all(alloc, input, room)?;
+    answer(alloc, query, bytes.as_slice())
 }
 
 /// What `build` prints of the input; the file that is built of it is appended to `made`.
@@ -112,6 +119,7 @@ fn rewritten_text<R: Read>(
     alloc: Global,
     block_size: u32,
     input: &mut Counted<R>,
+    room: usize,
     made: &mut Vec<u8>,
 ) -> Result<Vec<u8>, ToolFault>
     ensures ok { IfOk result (λ text. Makes (Action.Rewrite block_size) (R.remaining (inner input.old)) (R.remaining (inner input.new))
@@ -123,62 +131,62 @@ fn rewritten_text<R: Read>(
     ensures others { IfErr result (λ e. (n : ℕ) → e ≢ ToolFault.Write n) }
     ensures kept { OnErr result (made.new.items ≡ made.old.items) }
 {
-    let bytes = read_all(alloc, input)?;
+    let bytes = read_all(alloc, input, room)?;
     rewritten_of(alloc, block_size, bytes.as_slice(), made)
 }
 
 /// What a command other than `strings` prints of the input; the file that it makes is appended to `made`.
 fn text_of<R: Read>(
     alloc: Global,
-    action: &Action,
+    whole: Whole<'_>,
     input: &mut Counted<R>,
+    room: usize,
     made: &mut Vec<u8>,
 ) -> Result<Vec<u8>, ToolFault>
-    requires { (role : Role) → action.now ≢ Action.Strings role }
-    ensures ok { IfOk result (λ text. Makes action.now (R.remaining (inner input.old)) (R.remaining (inner input.new))
+    ensures ok { IfOk result (λ text. Makes (whole_action whole.entry) (R.remaining (inner input.old)) (R.remaining (inner input.new))
         text.items made.old.items made.new.items) }
-    ensures told { IfErr result (Tells action.now (R.remaining (inner input.old)) (R.remaining (inner input.new))) }
+    ensures told { IfErr result (Tells (whole_action whole.entry) (R.remaining (inner input.old)) (R.remaining (inner input.new))) }
     ensures read { IsErrOf result ToolFault.Read → failures input.new ≡ failures input.old + 1 }
     ensures reader_well { OnOk result (failures input.new ≡ failures input.old) }
     ensures reader_told { IfErr result (λ e. e ≢ ToolFault.Read → failures input.new ≡ failures input.old) }
-    ensures bad { IfBuild action.now (λ options. IsErrOf result ToolFault.BadOptions ↔ (AreRight options → ⊥)) }
-    ensures unread { IfBuild action.now (λ options. IsErrOf result ToolFault.BadOptions → input.new ≡ input.old) }
+    ensures bad { IfBuild (whole_action whole.entry) (λ options. IsErrOf result ToolFault.BadOptions ↔ (AreRight options → ⊥)) }
+    ensures unread { IfBuild (whole_action whole.entry) (λ options. IsErrOf result ToolFault.BadOptions → input.new ≡ input.old) }
     ensures others { IfErr result (λ e. (n : ℕ) → e ≢ ToolFault.Write n) }
     ensures kept { OnErr result (made.new.items ≡ made.old.items) }
 {
-    match action {
-        Action::Build(options) => built_text(alloc, options, input, made),
-        Action::Rewrite(block_size) => rewritten_text(alloc, *block_size, input, made),
-        _ => file_text(alloc, action, input),
+    match whole {
+        Whole::Build(options) => built_text(alloc, options, input, made),
+        Whole::Rewrite(block_size) => rewritten_text(alloc, block_size, input, room, made),
+        Whole::Query(query) => file_text(alloc, query, input, room),
     }
 }
 
 /// Does what a command other than `strings` does: its text is written once it is whole.
 fn print_whole<R: Read, W: Write>(
     alloc: Global,
-    action: &Action,
+    whole: Whole<'_>,
     input: &mut Counted<R>,
+    room: usize,
     out: &mut Counted<W>,
     made: &mut Vec<u8>,
 ) -> Result<(), ToolFault>
-    requires { (role : Role) → action.now ≢ Action.Strings role }
-    ensures ok { OnOk result (Answers action.now (R.remaining (inner input.old)) (R.remaining (inner input.new))
+    ensures ok { OnOk result (Answers (whole_action whole.entry) (R.remaining (inner input.old)) (R.remaining (inner input.new))
         (W.contents (inner out.old)) (W.contents (inner out.new)) made.old.items made.new.items) }
-    ensures told { IfErr result (Tells action.now (R.remaining (inner input.old)) (R.remaining (inner input.new))) }
-    ensures bad { IfBuild action.now (λ options. IsErrOf result ToolFault.BadOptions ↔ (AreRight options → ⊥)) }
-    ensures unread { IfBuild action.now (λ options. IsErrOf result ToolFault.BadOptions → input.new ≡ input.old) }
+    ensures told { IfErr result (Tells (whole_action whole.entry) (R.remaining (inner input.old)) (R.remaining (inner input.new))) }
+    ensures bad { IfBuild (whole_action whole.entry) (λ options. IsErrOf result ToolFault.BadOptions ↔ (AreRight options → ⊥)) }
+    ensures unread { IfBuild (whole_action whole.entry) (λ options. IsErrOf result ToolFault.BadOptions → input.new ≡ input.old) }
     ensures read { IsErrOf result ToolFault.Read → failures input.new ≡ failures input.old + 1 }
     ensures reader_well { OnOk result (failures input.new ≡ failures input.old) }
     ensures reader_told { IfErr result (λ e. e ≢ ToolFault.Read → failures input.new ≡ failures input.old) }
     ensures write { IfErr result (λ e. (n : ℕ) → e ≡ ToolFault.Write n → (failures out.new ≡ failures out.old + 1)
-        × Begins action.now (R.remaining (inner input.old)) (R.remaining (inner input.new))
+        × Begins (whole_action whole.entry) (R.remaining (inner input.old)) (R.remaining (inner input.new))
         (W.contents (inner out.old)) (W.contents (inner out.new)) n) }
     ensures writer_well { OnOk result (failures out.new ≡ failures out.old) }
     ensures unwritten { IfErr result (λ e. ((n : ℕ) → e ≢ ToolFault.Write n) → out.new ≡ out.old) }
     ensures kept { OnErr result (made.new.items ≡ made.old.items) }
 {
     let start = made.len();
-    let text = text_of(alloc, action, input, made)?;
+    let text = text_of(alloc, whole, input, room, made)?;
     match out.write_all(text.as_slice()) {
         Ok(()) => Ok(()),
         Err(count) => {
@@ -193,6 +201,7 @@ fn print_role<R: Read, W: Write>(
     alloc: Global,
     role: Role,
     input: &mut Counted<R>,
+    room: usize,
     out: &mut Counted<W>,
 ) -> Result<(), ToolFault>
     ensures ok { OnOk result ((text : List ℕ) × ReadsWith (R.remaining (inner input.old)) (R.remaining (inner input.new))
@@ -209,7 +218,7 @@ fn print_role<R: Read, W: Write>(
         × Halts (Action.Strings role) (R.remaining (inner input.old)) (R.remaining (inner input.new))
         (W.contents (inner out.old)) (W.contents (inner out.new)) (failures out.old) (failures out.new))) }
 {
-    let bytes = read_all(alloc, input)?;
+    let bytes = read_all(alloc, input, room)?;
     print_strings_of(alloc, bytes.as_slice(), role, out)
 }
 
@@ -249,8 +258,67 @@ pub fn run<R: Read, W: Write>(
         (W.contents (inner out.old)) (W.contents (inner out.new)) (failures out.old) (failures out.new))) }
     ensures kept { OnErr result (made.new.items ≡ made.old.items) }
 {
-    match &request.action {
-        Action::Strings(role) => print_role(alloc, *role, input, out),
-        _ => print_whole(alloc, &request.action, input, out, made),
+    run_in(alloc, request, input, 0, out, made)
+}
+
+/// Does the same with room for so many bytes of the input: as many as there are, where that is known.
+pub fn run_in<R: Read, W: Write>(
+    alloc: Global,
+    request: &Request,
+    input: &mut Counted<R>,
+    room: usize,
+    out: &mut Counted<W>,
+    made: &mut Vec<u8>,
+) -> Result<(), ToolFault>
+    ensures ok { OnOk result (Answers request.now.action (R.remaining (inner input.old)) (R.remaining (inner input.new))
+        (W.contents (inner out.old)) (W.contents (inner out.new)) made.old.items made.new.items) }
+    ensures told { IfErr result (Tells request.now.action (R.remaining (inner input.old)) (R.remaining (inner input.new))) }
+    ensures bad { IfBuild request.now.action (λ options. IsErrOf result ToolFault.BadOptions ↔ (AreRight options → ⊥)) }
+    ensures unread { IfBuild request.now.action (λ options. IsErrOf result ToolFault.BadOptions → input.new ≡ input.old) }
+    ensures read { IsErrOf result ToolFault.Read → failures input.new ≡ failures input.old + 1 }
+    ensures reader_well { OnOk result (failures input.new ≡ failures input.old) }
+    ensures reader_told { IfErr result (λ e. e ≢ ToolFault.Read → failures input.new ≡ failures input.old) }
+    ensures write { IfErr result (λ e. (n : ℕ) → e ≡ ToolFault.Write n → (failures out.new ≡ failures out.old + 1)
+        × Begins request.now.action (R.remaining (inner input.old)) (R.remaining (inner input.new))
+        (W.contents (inner out.old)) (W.contents (inner out.new)) n) }
+    ensures writer_well { OnOk result (failures out.new ≡ failures out.old) }
+    ensures unwritten { IfErr result (λ e. ((n : ℕ) → e ≢ ToolFault.Write n) → (out.new ≡ out.old) ⊎ ((e ≡ ToolFault.OutOfMemory)
+        × Halts request.now.action (R.remaining (inner input.old)) (R.remaining (inner input.new))
+        (W.contents (inner out.old)) (W.contents (inner out.new)) (failures out.old) (failures out.new))) }
+    ensures kept { OnErr result (made.new.items ≡ made.old.items) }
+{
+    match printing_of(&request.action) {
+        Printing::Pieces(role) => print_role(alloc, role, input, room, out),
+        Printing::Whole(whole) => print_whole(alloc, whole, input, room, out, made),
     }
+}
+
+/// Answers the requests of a reader over a file, which is read to its end first, and tells whether one of the answers is a fault.
+pub fn answer_file<F: Read, R: Read, W: Write>(
+    alloc: Global,
+    asking: Asking,
+    file: &mut Counted<F>,
+    room: usize,
+    input: &mut Counted<R>,
+    out: &mut Counted<W>,
+) -> Result<bool, ToolFault>
+    // The file is a layout, and the writer has gained the answers of the requests over its graph.
+    ensures ok { IfOk result (λ faulty. ReadsWith (F.remaining (inner file.old)) (F.remaining (inner file.new)) (λ bytes. Opens bytes (λ graph.
+        AnswersInput graph asking (R.remaining (inner input.old)) (W.contents (inner out.old)) (W.contents (inner out.new)) faulty))) }
+    ensures writer_well { OnOk result (failures out.new ≡ failures out.old) }
+    // Where a failed read is told, one of the two readers failed in this call, once.
+    ensures read { IsErrOf result ToolFault.Read → failures file.new + failures input.new ≡ failures file.old + failures input.old + 1 }
+    // What stops it stops the reading of the file, with nothing read of the requests and nothing written, or the answers.
+    ensures stopped { IfErr result (λ e. (Tells (Action.Answer asking) (F.remaining (inner file.old)) (F.remaining (inner file.new)) e × (input.new ≡ input.old) × (out.new ≡ out.old))
+        ⊎ ReadsWith (F.remaining (inner file.old)) (F.remaining (inner file.new)) (λ bytes. Opens bytes (λ graph.
+        AnswersSome graph asking (R.remaining (inner input.old)) (R.remaining (inner input.new)) (W.contents (inner out.old)) (W.contents (inner out.new))
+        (failures out.old) (failures out.new) e))) }
+    // A failed write is told only among the answers: the writer failed in this call, and has gained exactly the first n bytes of them.
+    ensures write { IfErr result (λ e. (n : ℕ) → e ≡ ToolFault.Write n → ReadsWith (F.remaining (inner file.old)) (F.remaining (inner file.new)) (λ bytes. Opens bytes (λ graph.
+        AnswersSome graph asking (R.remaining (inner input.old)) (R.remaining (inner input.new)) (W.contents (inner out.old)) (W.contents (inner out.new))
+        (failures out.old) (failures out.new) e))) }
+{
+    let bytes = read_all(alloc, file, room)?;
+    let graph = open(alloc, &bytes)?;
+    answer_requests(alloc, &graph, asking, input, out)
 }

@@ -1,20 +1,14 @@
-//! The engine with readers that give pieces or fail and with writers that take pieces or fail, what each leaves behind, and the
-//! texts of faults. What the commands print of files, and what is told of command lines, stands in tests/run.
+//! The engine with readers that give pieces or fail and with writers that take pieces or fail, and what each leaves behind. What the
+//! commands print of files, and what is told of command lines, stands in tests/run.
 use crate::fault::ToolFault;
-use crate::lines::fault_line;
 use crate::request::{Action, Form, Request};
 use crate::run::run;
+use crate::sample_tests::{ALL, STEPS, Sink, Source, THREE, V1, failing, source_of};
 use hdt_build::Options;
-use hdt_dict::Role;
 use hdt_terms::{LineFault, LineReason};
 use hdt_wire::{Counted, Fault, Reason};
 use std::alloc::{AllocError, Global};
-use std::io::{self, Read, Write};
 use std::test::Fail;
-
-/// The sample file V1, whose blocks and header body are its first 218 bytes.
-const V1: &[u8] =
-    b"$HDT\x01<http://purl.org/HDT/hdt#HDTv1>\x00\x00\x76\x35$HDT\x02ntriples\x00length=150;\x00\x0E\x4D<http://a/> <http://www.w3.org/1999/02/22-rdf-syntax-ns#type> <http://purl.org/HDT/hdt#Dataset> .\n<http://a/> <http://rdfs.org/ns/void#triples> \"1\" .\n$HDT\x03<http://purl.org/HDT/hdt#dictionaryFour>\x00mapping=1;\x00\x82\xB8\x02\x81\x8A\x90\x81\x01\x04\x82\xB8\xA0\xF7\xE66\xF0http://a/\x00\xF4\x81z\xD4\x02\x80\x80\x90h\x01\x01\x81\xF0\x00QS}R\x00\x00\x00\x00\x02\x81\x8A\x90\x81\x01\x04\x82\xB8\xA0\xF7\xE66\xF0http://a/\x00\xF4\x81z\xD4\x02\x80\x80\x90h\x01\x01\x81\xF0\x00QS}R\x00\x00\x00\x00$HDT\x04<http://purl.org/HDT/hdt#triplesBitmap>\x00order=1;\x00Y\xE9\x01\x81\x9B\x01R\xD0\x16\xA0\x01\x81\x9B\x01R\xD0\x16\xA0\x01\x01\x81\xF0\x01R\xD0\x16\xA0\x01\x01\x81\xF0\x01R\xD0\x16\xA0";
 
 /// What `hdt head` prints of V1.
 const HEAD: &[u8] =
@@ -23,18 +17,11 @@ const HEAD: &[u8] =
 /// The document of V1.
 const LINE: &[u8] = b"<http://a/> <http://a/> <http://a/> .\n";
 
-/// A file of three triples.
-const THREE: &[u8] =
-    b"$HDT\x01<http://purl.org/HDT/hdt#HDTv1>\x00\x00\x76\x35$HDT\x02ntriples\x00length=150;\x00\x0E\x4D<http://a/> <http://www.w3.org/1999/02/22-rdf-syntax-ns#type> <http://purl.org/HDT/hdt#Dataset> .\n<http://a/> <http://rdfs.org/ns/void#triples> \"3\" .\n$HDT\x03<http://purl.org/HDT/hdt#dictionaryFour>\x00mapping=1;\x00\x82\xB8\x02\x82\x87\x90\xD5\x01\x03\x82\xD38/BG\xE8u:a\x00\x82b\x00\x89\xE3a$\x02\x80\x80\x90h\x01\x01\x81\xF0\x00QS}R\x00\x00\x00\x00\x02\x82\x87\x90\xD5\x01\x03\x82\xD38/BG\xE8u:p\x00\x82q\x00\xEE\xB4p\x98\x02\x81\x84\x90W\x01\x03\x82\xD3 \x8F\xDD\xC0r\"x\"\x00\xA3\x979\x16$HDT\x04<http://purl.org/HDT/hdt#triplesBitmap>\x00order=1;\x00Y\xE9\x01\x83\x95\x06\xB9\xB4\xDCt\x01\x83\x95\x07\xBA7\xB7\x86\x01\x02\x83\xC1\x19\xF2O\x91:\x01\x02\x83\xC1\x1E\x19+[\xEE";
-
 /// Its document.
 const THREE_LINES: &[u8] = b"<u:a> <u:p> <u:b> .\n<u:a> <u:q> \"x\" .\n<u:b> <u:p> <u:a> .\n";
 
 /// What was made before a command.
 const BEFORE: &[u8] = b"made";
-
-/// More than any reader gives or any writer takes.
-const ALL: usize = usize::MAX;
 
 /// A command of these tests.
 #[derive(Clone, Copy)]
@@ -62,97 +49,6 @@ fn action_of(alloc: Global, command: Command) -> Result<Action, AllocError> {
             base: base.to_vec(alloc)?,
         })),
         Command::Rewrite(block_size) => Ok(Action::Rewrite(block_size)),
-    }
-}
-
-/// Gives its bytes, at most `step` a call, and then ends, or fails once. It counts the calls behind that, and fails at them where
-/// it had ended, and ends where it had failed.
-#[derive(Drop)]
-struct Source<'a> {
-    bytes: &'a [u8],
-    step: usize,
-    fails: bool,
-    ended: bool,
-    late: usize,
-}
-
-impl<'a> Read for Source<'a> {
-    fn read(&mut self, buf: &mut [u8]) -> io::Result<usize> {
-        if self.bytes.is_empty() && self.fails != self.ended {
-            self.late = self.late.saturating_add(usize::from(self.ended));
-            self.ended = true;
-            return Err(io::Error::from(io::ErrorKind::BrokenPipe));
-        }
-        let count = self.bytes.len().min(self.step).min(buf.len());
-        let (given, rest) = self.bytes.split_at(count);
-        buf[..count].copy_from_slice(given);
-        self.bytes = rest;
-        self.late = self.late.saturating_add(usize::from(self.ended));
-        self.ended = count == 0;
-        Ok(count)
-    }
-}
-
-/// A source that gives so many bytes a call, and then ends.
-fn source_of(bytes: &[u8], step: usize) -> Source<'_> {
-    Source {
-        bytes,
-        step,
-        fails: false,
-        ended: false,
-        late: 0,
-    }
-}
-
-/// A source that gives the first bytes, so many of them, and then fails.
-fn failing(bytes: &[u8], len: usize, step: usize) -> Source<'_> {
-    Source {
-        bytes: bytes.get(..len).unwrap_or(bytes),
-        step,
-        fails: true,
-        ended: false,
-        late: 0,
-    }
-}
-
-/// Takes at most `step` bytes a call, and fails after so many calls.
-#[derive(Drop)]
-struct Sink {
-    taken: [u8; 512],
-    len: usize,
-    step: usize,
-    calls: usize,
-}
-
-impl Sink {
-    fn new(step: usize, calls: usize) -> Sink {
-        Sink {
-            taken: [0; 512],
-            len: 0,
-            step,
-            calls,
-        }
-    }
-
-    fn text(&self) -> &[u8] {
-        self.taken.get(..self.len).unwrap_or(&[])
-    }
-}
-
-impl Write for Sink {
-    fn write(&mut self, buf: &[u8]) -> io::Result<usize> {
-        if self.calls == 0 || self.len > self.taken.len() {
-            return Err(io::Error::from(io::ErrorKind::StorageFull));
-        }
-        self.calls -= 1;
-        let count = buf.len().min(self.step).min(self.taken.len() - self.len);
-        self.taken[self.len..self.len + count].copy_from_slice(&buf[..count]);
-        self.len += count;
-        Ok(count)
-    }
-
-    fn flush(&mut self) -> io::Result<()> {
-        Ok(())
     }
 }
 
@@ -287,9 +183,6 @@ static DONE: [Done; 8] = [
         file: V1,
     },
 ];
-
-/// How many bytes are given or taken a call.
-static STEPS: [usize; 8] = [1, 2, 5, 7, 9, 50, 200, ALL];
 
 /// Whether a command is done that reads and writes in pieces of one size.
 fn is_done_by(alloc: Global, row: &Done, step: usize) -> Result<bool, Fail> {
@@ -618,152 +511,5 @@ fn a_large_literal_is_built_and_found(rt: HostRuntime) -> Result<(), Fail> {
         is_large_counted(rt.alloc(), &file, 0, b"0\n")?,
         "counted where none is asked for"
     );
-    Ok(())
-}
-
-const TRUNCATED: Fault = Fault {
-    place: 68,
-    reason: Reason::Truncated,
-};
-
-const TRAILING: Fault = Fault {
-    place: u64::MAX,
-    reason: Reason::TrailingBytes,
-};
-
-const UNUSED: Fault = Fault {
-    place: 319,
-    reason: Reason::Unused,
-};
-
-const NO_END: LineFault = LineFault {
-    line: 20,
-    column: 7,
-    reason: LineReason::Syntax,
-};
-
-/// A fault behind more lines than 32 bits count.
-const FAR: LineFault = LineFault {
-    line: 4_294_967_296,
-    column: 4_294_967_297,
-    reason: LineReason::NotUtf8,
-};
-
-const FARTHEST: LineFault = LineFault {
-    line: u64::MAX,
-    column: u64::MAX,
-    reason: LineReason::BadEscape,
-};
-
-/// Faults, and what is told of each: its status, its line, and the text that it has as an error of a library.
-static FAULTS_TOLD: [(ToolFault, u8, &str, &str); 16] = [
-    (
-        ToolFault::File(TRUNCATED),
-        1,
-        "hdt: fault 1 Truncated at 68",
-        "the file has a fault: Truncated at 68",
-    ),
-    (
-        ToolFault::File(TRAILING),
-        1,
-        "hdt: fault 33 TrailingBytes at 18446744073709551615",
-        "the file has a fault: TrailingBytes at 18446744073709551615",
-    ),
-    (
-        ToolFault::File(UNUSED),
-        1,
-        "hdt: fault 34 Unused at 319",
-        "the file has a fault: Unused at 319",
-    ),
-    (
-        ToolFault::Input(NO_END),
-        1,
-        "hdt: line 20 column 7: 1 Syntax",
-        "the input has a fault: Syntax at line 20 column 7",
-    ),
-    (
-        ToolFault::Input(FAR),
-        1,
-        "hdt: line 4294967296 column 4294967297: 2 NotUtf8",
-        "the input has a fault: NotUtf8 at line 4294967296 column 4294967297",
-    ),
-    (
-        ToolFault::Input(FARTHEST),
-        1,
-        "hdt: line 18446744073709551615 column 18446744073709551615: 3 BadEscape",
-        "the input has a fault: BadEscape at line 18446744073709551615 column 18446744073709551615",
-    ),
-    (ToolFault::NoTriples, 1, "hdt: no triples", "no triples"),
-    (
-        ToolFault::NoSuchTerm,
-        1,
-        "hdt: no such term",
-        "no such term",
-    ),
-    (
-        ToolFault::NoSuchNumber,
-        1,
-        "hdt: no such number",
-        "no such number",
-    ),
-    (
-        ToolFault::NotATerm(Role::Subject, 1),
-        1,
-        "hdt: subject 1 is not a term",
-        "a string that is not a term: Subject 1",
-    ),
-    (
-        ToolFault::NotATerm(Role::Predicate, u64::MAX),
-        1,
-        "hdt: predicate 18446744073709551615 is not a term",
-        "a string that is not a term: Predicate 18446744073709551615",
-    ),
-    (
-        ToolFault::NotATerm(Role::Object, 20),
-        1,
-        "hdt: object 20 is not a term",
-        "a string that is not a term: Object 20",
-    ),
-    (ToolFault::BadOptions, 2, "hdt: bad options", "bad options"),
-    (ToolFault::Read, 3, "hdt: reading failed", "reading failed"),
-    (
-        ToolFault::Write(7),
-        3,
-        "hdt: writing failed",
-        "writing failed after 7 bytes",
-    ),
-    (
-        ToolFault::OutOfMemory,
-        4,
-        "hdt: out of memory",
-        "out of memory",
-    ),
-];
-
-/// Whether a fault has this status and this line.
-fn is_told(alloc: Global, fault: &ToolFault, status: u8, line: &str) -> Result<bool, AllocError> {
-    let (told_status, told) = fault_line(alloc, fault)?;
-    Ok(told_status == status && told.as_str() == line)
-}
-
-#[test]
-fn faults_are_told_in_a_line(rt: HostRuntime) -> Result<(), Fail> {
-    for (fault, status, line, _) in &FAULTS_TOLD {
-        assert!(rt; is_told(rt.alloc(), fault, *status, line)?, "{line}");
-    }
-    Ok(())
-}
-
-/// Whether a fault has this text as an error of a library.
-fn is_printed(alloc: Global, fault: &ToolFault, text: &str) -> Result<bool, AllocError> {
-    let printed = fault.to_string(alloc)?;
-    Ok(printed.as_str() == text)
-}
-
-#[test]
-fn faults_print_for_a_library(rt: HostRuntime) -> Result<(), Fail> {
-    for (fault, _, _, text) in &FAULTS_TOLD {
-        assert!(rt; is_printed(rt.alloc(), fault, text)?, "{text}");
-    }
     Ok(())
 }

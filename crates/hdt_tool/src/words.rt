@@ -1,18 +1,19 @@
 //! The command line of `hdt`.
-ghost use Rattle.std.specs.Prelude.{◌≡◌, IfOk, IfErr, map};
-ghost use Rattle.clap.specs.Words.{found_of, rows_of, kind_of};
+ghost use Rattle.std.specs.Prelude.{◌≡◌, IfOk, IfErr, codes, map};
+ghost use Rattle.clap.specs.Words.{found_of, one_of, rows_of, kind_of};
 ghost use Rattle.hdt_tool.specs.Answer.{HasOut};
-ghost use Rattle.hdt_tool.specs.Asked.{AsksAction, AsksFor, AsksOfFile, AsksOfFiles, AsksToMake, ComesWithout, ComesWithoutOr, IsRefused, Misspells, TellsKind, Wants};
+ghost use Rattle.hdt_tool.specs.Words.{AsksAction, AsksFor, AsksOfFile, AsksOfFiles, AsksToMake, ComesWithout, ComesWithoutOr, IsRefused, Misspells, StatesFlag, TellsKind, Wants, WantsSo};
 ghost use Rattle.hdt_tool.specs.Table.{AreRoles};
 ghost use Rattle.hdt_tool.specs.declared.request.Action.{Action};
 ghost use Rattle.hdt_tool.specs.declared.request.Request.{Request};
 
 use crate::commands::table_of;
 use crate::entries::{
-    block_size_at, find_at, missing, number_at, options_at, role_at, string_at, text_at, verify_at,
+    answer_at, block_size_at, find_at, missing, number_at, options_at, progress_at, role_at,
+    string_at, text_at, verify_at,
 };
 use crate::fault::UsageFault;
-use crate::request::{Action, Request};
+use crate::request::{Action, Call, Request};
 use clap::error::ErrorKind;
 use clap::{ArgMatches, Error};
 use std::alloc::{AllocError, Global};
@@ -50,6 +51,7 @@ fn action_of<'m>(alloc: Global, name: &str, matches: &ArgMatches<'m>) -> Result<
         "string" => Ok(Action::Nth(role_at(alloc, matches)?, number_at(alloc, matches)?)),
         "number" => Ok(Action::Number(role_at(alloc, matches)?, string_at(alloc, matches)?)),
         "find" => find_at(alloc, matches),
+        "answer" => Ok(answer_at(matches)),
         "dump" => Ok(Action::Find {
             given: [None, None, None],
             numbers: false,
@@ -119,14 +121,27 @@ fn request_of<'m>(
     }
 }
 
+/// What a command with its words asks for, and how.
+fn asked_of<'m>(alloc: Global, name: &str, matches: &ArgMatches<'m>) -> Result<Call, UsageFault>
+    ensures ok { IfOk result (λ asked. AsksFor name.now (rows_of (found_of matches.now)) asked.request) }
+    ensures progress { IfOk result (λ asked. StatesFlag (one_of (codes "progress") (rows_of (found_of matches.now))) asked.progress) }
+    ensures refused { IfErr result (ComesWithoutOr ((request : Request) × AsksFor name.now (rows_of (found_of matches.now)) request)
+        (Misspells name.now (rows_of (found_of matches.now)))) }
+{
+    Ok(Call {
+        request: request_of(alloc, name, matches)?,
+        progress: progress_at(matches),
+    })
+}
+
 /// Reads a command line by the table of commands.
 fn parse_with<'a>(
     alloc: Global,
     roles: &'a [&'a str],
     words: &'a [&'a str],
-) -> Result<Request, UsageFault>
+) -> Result<Call, UsageFault>
     requires { AreRoles roles }
-    ensures ok { IfOk result (Wants (map (λ word. word.now) words.now)) }
+    ensures ok { IfOk result (WantsSo (map (λ word. word.now) words.now)) }
     ensures refused { IfErr result (IsRefused (map (λ word. word.now) words.now)) }
 {
     let command = table_of(alloc, roles)?;
@@ -135,7 +150,7 @@ fn parse_with<'a>(
         Err(error) => return Err(refusal(alloc, &error)),
     };
     match matches.subcommand() {
-        Some((name, entries)) => request_of(alloc, name, entries),
+        Some((name, entries)) => asked_of(alloc, name, entries),
         None => Err(missing(alloc)),
     }
 }
@@ -144,6 +159,7 @@ fn parse_with<'a>(
 const ROLES: [&str; 3] = ["subject", "predicate", "object"];
 
 /// Reads a command line, the program's name first.
+#[tactic(auto, using(crate::proofs::Refused::so))]
 pub fn parse_words<'a>(alloc: Global, words: &'a [&'a str]) -> Result<Request, UsageFault>
     // The request is the one that the words want, by what `clap` states of them under the table of commands.
     ensures ok { IfOk result (Wants (map (λ word. word.now) words.now)) }
@@ -151,6 +167,16 @@ pub fn parse_words<'a>(alloc: Global, words: &'a [&'a str]) -> Result<Request, U
     ensures out { IfOk result HasOut }
     // Help and the version are given only where `clap` may give them; a fault of a term is told where it stands in TERM, or in the first of S, P and
     // O that is not fine; other words are refused only where they want no request.
+    ensures refused { IfErr result (IsRefused (map (λ word. word.now) words.now)) }
+{
+    Ok(parse_all_words(alloc, words)?.request)
+}
+
+/// Reads a command line, the program's name first, as [`parse_words`] does, with `--progress`.
+pub fn parse_all_words<'a>(alloc: Global, words: &'a [&'a str]) -> Result<Call, UsageFault>
+    // The words want the request, and `--progress` stands among them exactly where it is told.
+    ensures ok { IfOk result (WantsSo (map (λ word. word.now) words.now)) }
+    ensures out { IfOk result (λ asked. HasOut asked.request) }
     ensures refused { IfErr result (IsRefused (map (λ word. word.now) words.now)) }
 {
     parse_with(alloc, &ROLES, words)

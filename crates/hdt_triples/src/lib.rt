@@ -64,14 +64,3 @@ pub use subject::SubjectMatches;
 pub use triples::Triples;
 pub use walk::WalkMatches;
 pub use writing::put_triples;
-
-#[cfg(test)]
-mod listed_tests;
-#[cfg(test)]
-mod matching_tests;
-#[cfg(test)]
-mod search_tests;
-#[cfg(test)]
-mod tests;
-#[cfg(test)]
-mod writing_tests;

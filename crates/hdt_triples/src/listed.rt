@@ -80,13 +80,20 @@ impl<'a> IndexedTriples<'a> {
 }
 
 impl<'a> ListedTriples<'a> {
-    ghost use Rattle.hdt_triples.specs.ListedViews.{directories_held, lists_held, roles_of, triples_listed};
+    ghost use Rattle.hdt_triples.specs.ListedViews.{directories_held, lists_held, roles_of, triples_indexed, triples_listed};
 
     /// The triples themselves.
     pub fn triples(&self) -> &Triples<'a>
         ensures { result.now ≡ triples_listed self.now }
     {
         &self.indexed.triples
+    }
+
+    /// The same triples with their directories alone.
+    pub fn indexed(&self) -> &IndexedTriples<'a>
+        ensures { triples_indexed result.now ≡ triples_listed self.now }
+    {
+        &self.indexed
     }
 
     /// How many numbers of 8 bytes the directories and the lists keep.

@@ -33,6 +33,3 @@ pub use role::Role;
 pub use rows::{bytes_at, demand, text_at, zero_in};
 pub use tally::Tally;
 pub use vbyte::{one_spelling, put_vbyte, read_vbyte, vbyte_len};
-
-#[cfg(test)]
-mod tests;

@@ -1,30 +1,39 @@
-use Rattle.hdt_dict.specs.Split.{lent_lists_of}
+use Rattle.std.proofs.Common.{◌≡◌, append_assoc, arith}
+use Rattle.hdt_dict.specs.SplitLaws.{split_sections}
 use Rattle.hdt_file.specs.Views.{graph_seen}
-use Rattle.hdt_build.specs.Graph.{IsForm}
+use Rattle.hdt_build.specs.Canonical.{canonical_file}
+use Rattle.hdt_build.specs.Kept.{sections_of}
 use Rattle.hdt_build.specs.Layouts.{denoted_by}
-use Rattle.hdt_build.proofs.BuiltForm.{form_sections, all_made}
+use Rattle.hdt_build.proofs.BuiltForm.{made_of, told_of}
 use Rattle.hdt_build.proofs.Denoting.{some_triple, writable}
 use Rattle.hdt_build.proofs.Keeping.{some_denoted, denoted_texts}
+use Rattle.hdt_build.proofs.Renewing.{rewritten_form}
 use Rattle.hdt_build.proofs.rewriting.rewritten.Goals as goal
 
-pub whole_file-requires-clause-sections : goal.whole_file-requires-clause-sections
-whole_file-requires-clause-sections c =
+pub put_written_dictionary-requires-clause-sections : goal.put_written_dictionary-requires-clause-sections
+put_written_dictionary-requires-clause-sections c =
     let g = graph_seen c.args.graph.now in
-    let form : IsForm (denoted_by g) (lent_lists_of c.in_ok-form.form.parts) c.in_ok-form.form.triples.items = (rw (c.in_ok-lists-2.ensures.graph, c.in_ok-lists.ensures.graph) at c.in_ok-form.ensures) in
-    form_sections _ _ _ form (denoted_texts g c.is_graph.ensures)
+    let texts = denoted_texts g c.is_graph.ensures in
+    split_sections _ _ _ (sections_of c.in_ok-sections.sections) c.in_ok-sections.ensures.rewritten.sections texts.subjects_are texts.predicates_are texts.objects_are
 
-pub whole_file-requires-clause-triples : goal.whole_file-requires-clause-triples
-whole_file-requires-clause-triples c =
+pub put_triples-requires : goal.put_triples-requires
+put_triples-requires c =
     let g = graph_seen c.args.graph.now in
-    let form : IsForm (denoted_by g) (lent_lists_of c.in_ok-form.form.parts) c.in_ok-form.form.triples.items = (rw (c.in_ok-lists-2.ensures.graph, c.in_ok-lists.ensures.graph) at c.in_ok-form.ensures) in
-    writable (lent_lists_of c.in_ok-form.form.parts) c.in_ok-form.form.triples.items form
-    (some_triple (denoted_by g) (lent_lists_of c.in_ok-form.form.parts) c.in_ok-form.form.triples.items form (some_denoted g c.is_graph.ensures))
+    let d = sections_of c.in_ok-sections.sections in
+    let form = rewritten_form g c.is_graph.ensures d _ c.in_ok-sections.ensures.rewritten c.in_ok-triples.triples.items c.in_ok-triples.ensures.ascending c.in_ok-triples.ensures.same in
+    rw c.as_slice.ensures.value (writable d c.in_ok-triples.triples.items form (some_triple (denoted_by g) d c.in_ok-triples.triples.items form (some_denoted g c.is_graph.ensures)))
 
 pub returns : goal.returns
+unfolding canonical_file
 returns c =
     let g = graph_seen c.args.graph.now in
-    let form : IsForm (denoted_by g) (lent_lists_of c.in_ok-form.form.parts) c.in_ok-form.form.triples.items = (rw (c.in_ok-lists-2.ensures.graph, c.in_ok-lists.ensures.graph) at c.in_ok-form.ensures) in
-    all_made (λ v. v.items) c.whole_file.result (denoted_by g) (lent_lists_of c.in_ok-form.form.parts) c.in_ok-form.form.triples.items g.header c.args.block_size
-    (some_denoted g c.is_graph.ensures) (denoted_texts g c.is_graph.ensures) form
-    (rw c.header.ensures at c.whole_file.ensures.bytes)
-    c.whole_file.ensures.report
+    let h = c.is_graph.ensures in
+    let d = sections_of c.in_ok-sections.sections in
+    let ts = c.in_ok-triples.triples.items in
+    let bytes = c.put_triples.new.out.items in
+    let form = rewritten_form g h d _ c.in_ok-sections.ensures.rewritten ts c.in_ok-triples.ensures.ascending c.in_ok-triples.ensures.same in
+    let file : bytes ≡ canonical_file g.header c.args.block_size d ts =
+    rw (c.in_ok-put_triples.ensures.ok, c.as_slice.ensures.value, c.in_ok-put_written_dictionary.ensures.ok, c.in_ok-sections.ensures.blocks.shared, c.in_ok-put_head.ensures, c.new-bytes.ensures.items, c.header.ensures)
+    (simp append_assoc) in
+    made_of (denoted_by g) d ts g.header c.args.block_size bytes _ (some_denoted g h) (denoted_texts g h) form file
+    (told_of c.report_of-report.result d ts bytes c.len.result c.len-2.result c.report_of-report.ensures (omega (arith, c.len.ensures, c.in_ok-triples.triples.ok.0)) (omega (arith, c.len-2.ensures, c.put_triples.new.out.ok.0)))

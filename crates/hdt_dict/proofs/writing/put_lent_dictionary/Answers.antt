@@ -1,25 +1,12 @@
-use Rattle.std.proofs.Common.{◌≡◌, ◌+◌, ◌++◌, length, arith, sym, ◌∙◌, ℕ, List, [], append-nil, subst, Result, Ok, Err}
-use Rattle.std.specs.Prelude.{OnOk}
-use Rattle.hdt_wire.specs.Rows.{Stands}
-use Rattle.hdt_wire.specs.RowLaws.{Stands-after}
+use Rattle.std.proofs.Common.{arith}
+use Rattle.std.proofs.lemmas.Result.{on_ok_weaker}
 use Rattle.hdt_dict.specs.Split.{lent_lists_of}
-use Rattle.hdt_dict.specs.Writing.{canonical_dictionary}
-use Rattle.hdt_dict.specs.WritingLaws.{dictionary_stands}
+use Rattle.hdt_dict.proofs.Appending.{dictionary_appended}
 use Rattle.hdt_dict.proofs.writing.put_lent_dictionary.Goals as goal
-
-on_ok : {A E P Q : Type 0} (r : Result A E) → (P → Q) → OnOk r P → OnOk r Q
-on_ok (Ok x) f h = f h
-on_ok (Err e) f h = h
-
--- what was appended stands behind what was there
-appended_stands : (old text new : List ℕ) → new ≡ old ++ text → Stands new (length old) text (length old + length text)
-appended_stands old text new e = subst (λ (l : List ℕ). Stands l (length old) text (length old + length text)) (append-nil (old ++ text) ∙ sym e) (Stands-after old text [])
 
 pub returns-else-is_err-clause-dictionary : goal.returns-else-is_err-clause-dictionary
 returns-else-is_err-clause-dictionary c =
     let new = c.append_dictionary-written.new.out in
-    let d = lent_lists_of c.args.parts.now in
-    on_ok c.append_dictionary-written.result
-    (λ made. dictionary_stands c.args.block_size d new.items (length c.args.out.now.items) _ c.requires.block (omega (arith, c.ranges.block_size.fits)) c.requires.sections (omega (arith, new.ok.0, new.small))
-    (appended_stands c.args.out.now.items (canonical_dictionary c.args.block_size d) new.items made))
+    on_ok_weaker c.append_dictionary-written.result
+    (λ made. dictionary_appended c.args.block_size (lent_lists_of c.args.parts.now) c.args.out.now.items new.items c.requires.block (omega (arith, c.ranges.block_size.fits)) c.requires.sections (omega (arith, new.ok.0, new.small)) made)
     c.append_dictionary-written.ensures.ok

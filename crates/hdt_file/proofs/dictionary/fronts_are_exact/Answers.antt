@@ -1,4 +1,4 @@
-use Rattle.hdt_file.specs.DictionaryLaws.{front_exact}
+use Rattle.hdt_file.proofs.DictionaryLaws.{front_exact}
 use Rattle.hdt_file.proofs.dictionary.fronts_are_exact.Goals as goal
 
 pub returns : goal.returns

@@ -2,7 +2,7 @@ use Rattle.std.proofs.Common.{arith}
 use Rattle.hdt_wire.specs.ExactReading.{gives_found, gives_only}
 use Rattle.hdt_file.specs.Faults.{fault_of}
 use Rattle.hdt_file.specs.Dictionary.{IsHeadAndDictionary, described, dictionary_after_head}
-use Rattle.hdt_file.specs.DictionaryLaws.{front_exact}
+use Rattle.hdt_file.proofs.DictionaryLaws.{front_exact}
 use Rattle.hdt_file.proofs.dictionary.read_dictionary.Goals as goal
 
 pub returns-clause-found : goal.returns-clause-found

@@ -1,4 +1,4 @@
-use Rattle.hdt_file.specs.HeadLaws.{head_alone}
+use Rattle.hdt_file.proofs.HeadLaws.{head_alone}
 use Rattle.hdt_file.proofs.head.one_head.Goals as goal
 
 pub returns : goal.returns

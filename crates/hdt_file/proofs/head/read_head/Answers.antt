@@ -1,5 +1,5 @@
 use Rattle.std.proofs.Common.{arith}
-use Rattle.hdt_file.specs.HeadLaws.{head_only}
+use Rattle.hdt_file.proofs.HeadLaws.{head_only}
 use Rattle.hdt_file.proofs.Reading.{head_stands, head_is}
 use Rattle.hdt_file.proofs.head.read_head.Goals as goal
 

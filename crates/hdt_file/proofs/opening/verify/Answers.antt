@@ -4,7 +4,7 @@ use Rattle.hdt_wire.specs.ExactLaws.{seen_exact}
 use Rattle.hdt_wire.specs.ExactReading.{gives_found, gives_only}
 use Rattle.hdt_file.specs.Faults.{fault_of}
 use Rattle.hdt_file.specs.File.{IsLayout, graph_in}
-use Rattle.hdt_file.specs.FileLaws.{layout_exact}
+use Rattle.hdt_file.proofs.FileLaws.{layout_exact}
 use Rattle.hdt_file.specs.Views.{lens_of}
 use Rattle.hdt_file.proofs.opening.verify.Goals as goal
 

@@ -7,7 +7,7 @@ use Rattle.hdt_file.proofs.Texts.{GoesOn, SameFirst, goes_on, same_first, ends, 
 use Rattle.hdt_file.proofs.text.looked_up_text.Goals as goal
 
 pub append_line-requires : goal.append_line-requires
-append_line-requires c = c.triples.invariant.front
+append_line-requires c = c.triples.invariant.kept
 
 pub triples-preserved : goal.triples-preserved
 triples-preserved c =
@@ -20,7 +20,7 @@ triples-preserved c =
     let split : drop l.at ts ≡ t ∷ rest = drop_more ts l.at (0, 0, 0) c.triples-test.true in
     let appended = c.in_ok-append_line.ensures.ok in
     record {
-      front = c.in_ok-append_line.ensures.kept;
+      kept = c.in_ok-append_line.ensures.kept;
       goes_on = goes_on g ts rest t l.text.items new (subst (λ (left : List Triple). GoesOn g ts left l.text.items) split l.invariant.goes_on) appended;
       first = same_first g ts rest t l.text.items new (subst (SameFirst g ts) split l.invariant.first) appended;
     }

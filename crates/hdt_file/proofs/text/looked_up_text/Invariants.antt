@@ -1,5 +1,5 @@
 use Rattle.std.proofs.Common.{drop}
-use Rattle.hdt_file.specs.TextWriting.{KeepsFront}
+use Rattle.hdt_file.specs.Spelling.{KeepsTerms}
 use Rattle.hdt_file.specs.LayoutView.{layout_seen}
 use Rattle.hdt_file.proofs.Texts.{GoesOn, SameFirst}
 use Rattle.hdt_file.proofs.text.looked_up_text.Given as goal
@@ -8,7 +8,7 @@ abbrev pub invariant-triples : goal.invariant-triples
 invariant-triples l =
     let g = layout_seen l.layout in
     record {
-      front : KeepsFront g l.speller.pair l.speller.front.items;
+      kept : KeepsTerms g l.speller;
       goes_on : GoesOn g l.triples (drop l.at l.triples) l.text.items;
       first : SameFirst g l.triples (drop l.at l.triples);
     }

@@ -1,4 +1,4 @@
-use Rattle.hdt_file.specs.TextLaws.{one_text, one_first, not_both}
+use Rattle.hdt_file.proofs.TextLaws.{one_text, one_first, not_both}
 use Rattle.hdt_file.proofs.text_laws.one_text.Goals as goal
 
 pub returns-clause-text : goal.returns-clause-text

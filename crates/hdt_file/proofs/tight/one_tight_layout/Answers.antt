@@ -1,4 +1,4 @@
-use Rattle.hdt_file.specs.TightLaws.{tight_exact, tight_or_fault, tight_fault}
+use Rattle.hdt_file.proofs.TightLaws.{tight_exact, tight_or_fault, tight_fault}
 use Rattle.hdt_file.proofs.tight.one_tight_layout.Goals as goal
 
 pub returns-clause-exact : goal.returns-clause-exact

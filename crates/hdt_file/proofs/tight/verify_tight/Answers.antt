@@ -8,7 +8,7 @@ use Rattle.hdt_file.specs.Faults.{fault_of}
 use Rattle.hdt_file.specs.File.{GraphParts}
 use Rattle.hdt_file.specs.PartsLaws.{tight_is}
 use Rattle.hdt_file.specs.Tight.{IsTightLayout, tight_in}
-use Rattle.hdt_file.specs.TightLaws.{tight_exact}
+use Rattle.hdt_file.proofs.TightLaws.{tight_exact}
 use Rattle.hdt_file.specs.Views.{lens_of}
 use Rattle.hdt_file.proofs.tight.verify_tight.Goals as goal
 

@@ -45,4 +45,4 @@ returns-in-Err-push-clause-fault g c =
     let inv = c.triples.invariant in
     let read = c.in-Ok-Some.ensures in
     let going : c.triples.lines.ended ≡ false = ⊎_elim (λ end. absurd (cc ((read.ended inv.failed end).0, c.in-Ok-Some.field-0-is))) (λ e. e) (either c.triples.lines.ended) in
-    memory_behind c.no_memory-in-Err-push.result c.args.limit c.triples.lines c.next_triple.new.self _ _ _ _ _ c.in-Ok-Some.triple (inv.going going) (rw c.in-Ok-Some.field-0-is at read.answers inv.failed going) (rw c.triple_line.ensures at c.no_memory-in-Err-push.ensures)
+    memory_behind c.no_memory-in-Err-push.result c.args.limit c.triples.lines c.next_triple.new.self _ _ _ _ _ c.in-Ok-Some.triple (inv.going going) (rw c.in-Ok-Some.field-0-is at read.answers inv.failed going) (rw c.line_number.ensures at c.no_memory-in-Err-push.ensures)

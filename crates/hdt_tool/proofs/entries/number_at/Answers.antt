@@ -1,7 +1,7 @@
 use Rattle.std.proofs.Common.{◌≡◌, ℕ, Option, None, Some, codes, rules}
 use Rattle.clap.specs.Words.{Text, found_of, one_of, one_text, rows_of}
 use Rattle.clap.proofs.WalkLemmas.{one_text-rows}
-use Rattle.hdt_tool.specs.Asked.{StatesNumber}
+use Rattle.hdt_tool.specs.Words.{StatesNumber}
 use Rattle.hdt_tool.proofs.Refused.{lacks}
 use Rattle.hdt_tool.proofs.entries.number_at.Goals as goal
 

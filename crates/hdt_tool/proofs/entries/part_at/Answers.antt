@@ -2,7 +2,7 @@ use Rattle.std.proofs.Common.{◌≡◌, ◌∙◌, List, ℕ, sym, subst, rules
 use Rattle.std.proofs.lemmas.Result.{IfOk-weaker, IfErr-weaker}
 use Rattle.clap.specs.Words.{first_of, first_value, found_of, one_of, rows_of}
 use Rattle.clap.proofs.WalkLemmas.{first_value-rows, one_text-rows}
-use Rattle.hdt_tool.specs.Asked.{IsMisspeltPart}
+use Rattle.hdt_tool.specs.Words.{IsMisspeltPart}
 use Rattle.hdt_tool.specs.Lines.{word_name}
 use Rattle.hdt_tool.proofs.Refused.{unstated_some}
 use Rattle.hdt_tool.proofs.Stated.{states_part, misspelt_part, without_or}

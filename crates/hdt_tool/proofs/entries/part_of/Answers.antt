@@ -1,6 +1,6 @@
 use Rattle.std.proofs.Common.{◌≢◌, List, ℕ, codes, rules, subst}
 use Rattle.std.proofs.lemmas.Result.{err_from_is_err_and}
-use Rattle.hdt_tool.specs.Asked.{ComesWithoutOr, IsFaultOf}
+use Rattle.hdt_tool.specs.Words.{ComesWithoutOr, IsFaultOf}
 use Rattle.hdt_tool.proofs.Stated.{or_or}
 use Rattle.hdt_tool.proofs.entries.part_of.Goals as goal
 

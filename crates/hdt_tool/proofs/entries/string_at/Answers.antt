@@ -4,7 +4,7 @@ use Rattle.clap.specs.Words.{first_of, first_value, found_of, one_of, rows_of}
 use Rattle.clap.proofs.WalkLemmas.{first_value-rows, one_text-rows}
 use Rattle.hdt_tool.proofs.Refused.{unstated_some}
 use Rattle.hdt_tool.proofs.Stated.{states, misspelt, without_or}
-use Rattle.hdt_tool.specs.Asked.{IsMisspelt}
+use Rattle.hdt_tool.specs.Words.{IsMisspelt}
 use Rattle.hdt_tool.specs.declared.fault.Word.TheVariants.{Term}
 use Rattle.hdt_tool.proofs.entries.string_at.Goals as goal
 

@@ -1,8 +1,6 @@
 use Rattle.std.proofs.Common.{◌≡◌, ◌∷◌, ◌-◌, ◌∙◌, ℕ, List, ap, suc, take, arith}
 use Rattle.hdt_triples.specs.Counting.{Triple}
 use Rattle.hdt_triples.specs.Left.{left_of}
-use Rattle.hdt_triples.specs.Patterns.{matches}
-use Rattle.hdt_file.specs.LayoutView.{layout_seen}
 use Rattle.hdt_file.specs.TextWriting.{limited}
 use Rattle.hdt_tool.specs.TriplesText.{numbers_lines}
 use Rattle.hdt_tool.proofs.Triples.{one_line}
@@ -17,5 +15,5 @@ triples-preserved c =
     let first : take l.room (left_of l.matches) ≡ c.in-Some.triple ∷ rest =
     ap (λ (k : ℕ). take k (left_of l.matches)) room ∙ ap (λ (ts : List Triple). take (suc n) ts) c.in-Some.ensures.steps.0
     in
-    one_line l.text.items c.put_numbers.new.out.items (numbers_lines (limited c.args.most (matches c.args.pattern (layout_seen c.args.layout.now).triples)))
+    one_line l.text.items c.put_numbers.new.out.items (numbers_lines (limited c.args.most (left_of c.args.found)))
     c.in-Some.triple (take l.room (left_of l.matches)) rest first c.in_ok-put_numbers.ensures l.invariant

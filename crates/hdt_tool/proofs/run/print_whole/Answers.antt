@@ -4,6 +4,7 @@ use Rattle.std.proofs.lemmas.List.{take_at}
 use Rattle.std.proofs.lemmas.Result.{err_from_is_err_and}
 use Rattle.hdt_wire.specs.Counted.{inner}
 use Rattle.hdt_tool.specs.Answer.{Begins}
+use Rattle.hdt_tool.specs.Whole.{whole_action}
 use Rattle.hdt_tool.specs.declared.fault.ToolFault.TheVariants.{BadOptions, Write}
 use Rattle.hdt_tool.proofs.Rewriting.{not_bad, not_error, same_error, still_bad}
 use Rattle.hdt_tool.proofs.run.print_whole.Goals as goal
@@ -16,7 +17,7 @@ pub returns-in_err-text-clause-bad : goal.returns-in_err-text-clause-bad
 returns-in_err-text-clause-bad g c =
     let p = err_from_is_err_and c.from_residual.result c.from_residual.ensures.1 in
     let fault = c.in_err-text.field-0.0 in
-    rw (p.1, p.2) (still_bad c.args.action.now (Err fault) (Err fault) (same_error fault BadOptions) (same_error fault BadOptions) c.in_err-text.ensures.bad)
+    rw (p.1, p.2) (still_bad (whole_action c.args.whole) (Err fault) (Err fault) (same_error fault BadOptions) (same_error fault BadOptions) c.in_err-text.ensures.bad)
 
 pub returns-in_err-text-clause-unwritten : goal.returns-in_err-text-clause-unwritten
 returns-in_err-text-clause-unwritten g c =
@@ -38,11 +39,11 @@ returns-in-Ok-clause-writer_well g c = c.in-Ok.ensures.well
 
 pub returns-in-Ok-clause-bad : goal.returns-in-Ok-clause-bad
 returns-in-Ok-clause-bad g c =
-    still_bad c.args.action.now (Ok c.in_ok-text.text) (Ok tt) (not_error c.in_ok-text.text BadOptions) (not_error tt BadOptions) c.in_ok-text.ensures.bad
+    still_bad (whole_action c.args.whole) (Ok c.in_ok-text.text) (Ok tt) (not_error c.in_ok-text.text BadOptions) (not_error tt BadOptions) c.in_ok-text.ensures.bad
 
 pub returns-clause-bad : goal.returns-clause-bad
 returns-clause-bad g c =
-    still_bad c.args.action.now (Ok c.in_ok-text.text) (Err (Write c.in-Err.count)) (not_error c.in_ok-text.text BadOptions) (not_bad c.in-Err.count) c.in_ok-text.ensures.bad
+    still_bad (whole_action c.args.whole) (Ok c.in_ok-text.text) (Err (Write c.in-Err.count)) (not_error c.in_ok-text.text BadOptions) (not_bad c.in-Err.count) c.in_ok-text.ensures.bad
 
 pub returns-clause-unwritten : goal.returns-clause-unwritten
 returns-clause-unwritten g c = λ none. absurd (none c.in-Err.count refl)
@@ -57,7 +58,7 @@ returns-clause-write g c n is =
     let makes = c.in_ok-text.ensures.ok in
     let part = subst (λ (text : List ℕ). (count < length text) × Appends old new (take count text)) c.as_slice.ensures.value c.in-Err.ensures.part in (
       c.in-Err.ensures.failed,
-      subst (λ (n : ℕ). Begins c.args.action.now (left (inner c.args.input.now)) (left (inner c.text_of.new.input)) old new n) same
+      subst (λ (n : ℕ). Begins (whole_action c.args.whole) (left (inner c.args.input.now)) (left (inner c.text_of.new.input)) old new n) same
           (record { text = c.in_ok-text.text.items; built = makes.built; yields = makes.yields; within = part.0; written = part.1 }),
     )
 

@@ -4,32 +4,33 @@ use Rattle.std.proofs.lemmas.Result.{IfOk-weaker, IfErr-weaker}
 use Rattle.hdt_wire.specs.Counted.{inner}
 use Rattle.hdt_build.specs.Options.{AreRight}
 use Rattle.hdt_build.specs.declared.options.Options.{Options}
-use Rattle.hdt_tool.specs.Answer.{IfBuild}
+use Rattle.hdt_tool.specs.Answer.{IfBuild, Makes, ReadsFile}
+use Rattle.hdt_tool.specs.Whole.{query_action, whole_action}
+use Rattle.hdt_tool.specs.declared.whole.Whole.{Whole}
 use Rattle.hdt_tool.specs.declared.fault.ToolFault.TheVariants.{BadOptions}
-use Rattle.hdt_tool.specs.declared.request.Action.{Action}
-use Rattle.hdt_tool.proofs.Making.{on_file, nothing_built, no_options, not_writing}
+use Rattle.hdt_tool.proofs.Making.{nothing_built, no_options, not_writing, reads_file}
 use Rattle.hdt_tool.proofs.run.text_of.Goals as goal
 
-pub file_text-requires : goal.file_text-requires
-file_text-requires g c = record { reads = on_file c.args.action.now c.in_default.not-Build c.in_default.not-Rewrite; whole = c.requires }
-
-pub returns-in_default-clause-ok : goal.returns-in_default-clause-ok
-returns-in_default-clause-ok g c =
+pub returns-in-Query-clause-ok : goal.returns-in-Query-clause-ok
+returns-in-Query-clause-ok g c =
     let left = g.R.Read.remaining in
-    let alone = on_file c.args.action.now c.in_default.not-Build c.in_default.not-Rewrite in
+    let query = c.in-Query.query in
     IfOk-weaker c.file_text.result _ _
-    (λ text h. nothing_built c.args.action.now alone (left (inner c.args.input.now)) (left (inner c.file_text.new.input)) text.items c.args.made.now.items h)
+    (λ text h. subst (λ (w : Whole). Makes (whole_action w) (left (inner c.args.input.now)) (left (inner c.file_text.new.input)) text.items c.args.made.now.items c.args.made.now.items) (sym c.in-Query.is)
+    (nothing_built (query_action query) (reads_file query) (left (inner c.args.input.now)) (left (inner c.file_text.new.input)) text.items c.args.made.now.items h))
     c.file_text.ensures.ok
 
-pub returns-in_default-clause-bad : goal.returns-in_default-clause-bad
-returns-in_default-clause-bad g c = no_options c.args.action.now _ (on_file c.args.action.now c.in_default.not-Build c.in_default.not-Rewrite)
+pub returns-in-Query-clause-bad : goal.returns-in-Query-clause-bad
+returns-in-Query-clause-bad g c =
+    no_options (whole_action c.args.whole) _ (subst (λ (w : Whole). ReadsFile (whole_action w)) (sym c.in-Query.is) (reads_file c.in-Query.query))
 
-pub returns-in_default-clause-unread : goal.returns-in_default-clause-unread
-returns-in_default-clause-unread g c = no_options c.args.action.now _ (on_file c.args.action.now c.in_default.not-Build c.in_default.not-Rewrite)
+pub returns-in-Query-clause-unread : goal.returns-in-Query-clause-unread
+returns-in-Query-clause-unread g c =
+    no_options (whole_action c.args.whole) _ (subst (λ (w : Whole). ReadsFile (whole_action w)) (sym c.in-Query.is) (reads_file c.in-Query.query))
 
-pub returns-in_default-clause-others : goal.returns-in_default-clause-others
-returns-in_default-clause-others g c = IfErr-weaker c.file_text.result _ _ not_writing c.file_text.ensures.others
+pub returns-in-Query-clause-others : goal.returns-in-Query-clause-others
+returns-in-Query-clause-others g c = IfErr-weaker c.file_text.result _ _ not_writing c.file_text.ensures.others
 
 pub returns-in-Build-clause-bad : goal.returns-in-Build-clause-bad
 returns-in-Build-clause-bad g c =
-    subst (λ (a : Action). IfBuild a (λ (options : Options). IsErrOf c.built_text.result BadOptions ↔ (AreRight options → ⊥))) (sym c.in-Build.is) c.built_text.ensures.bad
+    subst (λ (w : Whole). IfBuild (whole_action w) (λ (options : Options). IsErrOf c.built_text.result BadOptions ↔ (AreRight options → ⊥))) (sym c.in-Build.is) c.built_text.ensures.bad

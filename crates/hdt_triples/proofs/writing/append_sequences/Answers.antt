@@ -1,5 +1,5 @@
-use Rattle.std.proofs.Common.{◌≡◌, ◌++◌, ℕ, List, append_assoc, ap, ◌∙◌, Result, Ok, Err}
-use Rattle.std.specs.Prelude.{OnOk}
+use Rattle.std.proofs.Common.{◌≡◌, ◌++◌, ℕ, List, append_assoc, ap, ◌∙◌}
+use Rattle.std.proofs.lemmas.Result.{on_ok_weaker}
 use Rattle.hdt_wire.specs.declared.control.Kind.TheVariants as kinds
 use Rattle.hdt_wire.specs.Control.{control}
 use Rattle.hdt_seq.specs.Numbers.{numbers_spelling}
@@ -15,10 +15,6 @@ more old x r s y e f = f ∙ ap (λ (l : List ℕ). l ++ y) e ∙ append_assoc o
 regrouped : (k a b c d : List ℕ) → (((k ++ a) ++ b) ++ c) ++ d ≡ k ++ (a ++ (b ++ (c ++ d)))
 regrouped k a b c d = append_assoc ((k ++ a) ++ b) c d ∙ append_assoc (k ++ a) b (c ++ d) ∙ append_assoc k a (b ++ (c ++ d))
 
-on_ok : {A E P Q : Type 0} (r : Result A E) → (P → Q) → OnOk r P → OnOk r Q
-on_ok (Ok x) f h = f h
-on_ok (Err e) f h = h
-
 pub returns-clause-ok : goal.returns-clause-ok
 unfolding canonical_sequences bitmap_made
 returns-clause-ok c =
@@ -31,7 +27,7 @@ returns-clause-ok c =
     let r1 = more old _ _ _ _ c.in_ok-put_control.ensures.ok (c.in_ok-put_bits.ensures.ok ∙ a) in
     let r2 = more old _ _ _ _ r1 (c.in_ok-put_bits-2.ensures.ok ∙ b) in
     let r3 = more old _ _ _ _ r2 (c.in_ok-put_numbers.ensures.ok ∙ y) in
-    on_ok c.put_numbers-2.result (λ last.
+    on_ok_weaker c.put_numbers-2.result (λ last.
     more old _ _ _ _ r3 (last ∙ z)
     ∙ ap (λ (l : List ℕ). old ++ l) (regrouped (control kinds.Triples ordered) (bits_spelling made.my.items) (bits_spelling made.mz.items) (numbers_spelling made.ys.items) (numbers_spelling made.zs.items)))
     c.put_numbers-2.ensures.ok

@@ -1,5 +1,5 @@
-use Rattle.std.proofs.Common.{◌≡◌, ◌+◌, ◌++◌, ◌<◌, ◌^◌, length, arith, sym, ap, ◌∙◌, ℕ, List, [], append-nil, subst, Result, Ok, Err}
-use Rattle.std.specs.Prelude.{OnOk}
+use Rattle.std.proofs.Common.{◌≡◌, ◌+◌, ◌++◌, ◌<◌, ◌^◌, length, arith, sym, ap, ◌∙◌, ℕ, List, [], append-nil, subst}
+use Rattle.std.proofs.lemmas.Result.{on_ok_weaker}
 use Rattle.hdt_wire.specs.Rows.{Stands}
 use Rattle.hdt_wire.specs.RowLaws.{Stands-after}
 use Rattle.hdt_triples.specs.Counting.{BitmapTriples, Triple}
@@ -17,10 +17,6 @@ pub put_sequences-requires-clause-some_triples : goal.put_sequences-requires-cla
 unfolding bitmap_made
 put_sequences-requires-clause-some_triples c = subst (λ (f : BitmapTriples). 0 < length f.mz) (sym c.in_ok-made.ensures) (some_marks c.args.triples.now c.requires).1
 
-on_ok : {A E P Q : Type 0} (r : Result A E) → (P → Q) → OnOk r P → OnOk r Q
-on_ok (Ok x) f h = f h
-on_ok (Err e) f h = h
-
 -- what was appended stands behind what was there
 appended_stands : (old text new : List ℕ) → new ≡ old ++ text → Stands new (length old) text (length old + length text)
 appended_stands old text new e = subst (λ (l : List ℕ). Stands l (length old) text (length old + length text)) (append-nil (old ++ text) ∙ sym e) (Stands-after old text [])
@@ -36,7 +32,7 @@ returns-clause-triples c =
     let old = c.args.out.now.items in
     let new = c.put_sequences.new.out.items in
     let few = few_triples ts (bitmap_made made) c.requires c.in_ok-made.ensures (omega (arith, made.zs.ok.0, made.zs.small)) in
-    on_ok c.put_sequences.result (λ grown counts within low.
+    on_ok_weaker c.put_sequences.result (λ grown counts within low.
     triples_stand ts counts new (length old) _ c.requires within low few
     (appended_stands old (canonical_triples ts) new (grown ∙ ap (λ (f : BitmapTriples). old ++ canonical_sequences f) c.in_ok-made.ensures)))
     c.put_sequences.ensures.ok

@@ -4,7 +4,7 @@ use Rattle.hdt_wire.specs.ExactReading.{gives_found, gives_only}
 use Rattle.hdt_wire.specs.Rows.{Gives}
 use Rattle.hdt_file.specs.Faults.{fault_of}
 use Rattle.hdt_file.specs.File.{GraphParts, IsLayout, graph_in}
-use Rattle.hdt_file.specs.FileLaws.{layout_exact}
+use Rattle.hdt_file.proofs.FileLaws.{layout_exact}
 use Rattle.hdt_file.specs.LayoutView.{layout_seen}
 use Rattle.hdt_file.specs.Parts.{Parts, parts_in}
 use Rattle.hdt_file.specs.PartsLaws.{rows_are, graph_is}

@@ -1,0 +1,58 @@
+-- How two runs tell what their strings agree, by what these agree with the one that was written last.
+use Rattle.std.proofs.Common.{◌≡◌, ℕ, ◌<◌, List, [], ◌∷◌, ◌++◌, length, ap, sym, ◌∙◌, arith}
+use Rattle.std.specs.List.{Contains}
+use Rattle.std.specs.Ordering.{ordering_reverse}
+use Rattle.std.specs.declared.cmp.Ordering.TheVariants.{Less}
+use Rattle.std.specs.Cmp.Lexicographic.{nat_list_cmp_total}
+use Rattle.std.proofs.lemmas.List.{get_or_push, length_push}
+use Rattle.std.proofs.lemmas.List.Elements.{Contains-get_or}
+use Rattle.hdt_front.specs.Agreeing.{agree_back, agree_so, all_agree, left_turns}
+use Rattle.hdt_front.specs.Searching.{agreed}
+use Rattle.hdt_front.specs.Section.{before}
+use Rattle.hdt_dict.specs.Strings.{string_cmp}
+use Rattle.hdt_file.specs.File.{GraphParts}
+use Rattle.hdt_build.specs.declared.kept.Part.{Part}
+use Rattle.hdt_build.specs.declared.run.Run.{Run}
+use Rattle.hdt_build.specs.Kept.{IsRun, Tell}
+
+-- of two strings the one that agrees further with a string before the other is the lesser
+further_first : (last a b : List ℕ) → agreed last b < agreed last a → string_cmp last b ≡ Less → (string_cmp a b ≡ Less) × (agreed a b ≡ agreed last b)
+further_first last a b more less =
+    let t = left_turns (agreed last a) a last b more (agree_back (agreed last a) last a (omega arith)) in (t.0 ∙ less, t.1)
+
+pub tell : (last : List ℕ) (one two : Run) → one.same ≡ agreed last one.strings.last → two.same ≡ agreed last two.strings.last
+    → (0 < one.same → string_cmp last two.strings.last ≡ Less) → (0 < two.same → string_cmp last one.strings.last ≡ Less) → Tell one two
+tell last one two i j above_one above_two =
+    let a : List ℕ = one.strings.last in
+    let b : List ℕ = two.strings.last in
+    record {
+      first = λ more. let t = further_first last a b (omega (arith, more, i, j)) (above_one (omega (arith, more))) in (t.0, t.1 ∙ sym j);
+      second = λ more.
+          let t = further_first last b a (omega (arith, more, i, j)) (above_two (omega (arith, more))) in (
+            nat_list_cmp_total.antisymm a b ∙ ap ordering_reverse t.0,
+            agree_so a b ∙ t.1 ∙ sym i,
+          );
+      tied = λ same. all_agree one.same a last b (agree_back one.same last a (omega (arith, i))) (omega (arith, same, j));
+    }
+
+abbrev pub last_in : List (List ℕ) → List ℕ
+last_in strings = before strings (length strings)
+
+-- the last one of strings that are less than another is less too, if there is one
+pub last_less : (strings : List (List ℕ)) (x y : List ℕ) (n : ℕ) → ((z : List ℕ) → Contains strings z → string_cmp z y ≡ Less) → n ≡ agreed (last_in strings) x → 0 < n
+    → string_cmp (last_in strings) y ≡ Less
+last_less [] x y n below e some = absurd (omega (arith, e, some))
+last_less (s ∷ strings) x y n below e some = below (last_in (s ∷ strings)) (Contains-get_or (s ∷ strings) (length strings) [] (omega arith))
+
+-- the one that was written last
+pub last_written : (strings : List (List ℕ)) (x : List ℕ) → last_in (strings ++ x ∷ []) ≡ x
+last_written strings x = get_or_push ([] ∷ strings) x [] (length (strings ++ x ∷ [])) (omega (arith, length_push strings x))
+
+-- what is known of a run's agreement is no part of what it is
+pub same_run : (g : GraphParts) (p : Part) (run : Run) (n : ℕ) → IsRun g p run → (let new : Run = record run { same = n } in IsRun g p new)
+same_run g p run n r = record {
+  stands = r.stands;
+  within = r.within;
+  to = r.to;
+  here = λ lt. let h = r.here lt in record { given = h.given; last = h.last; kept = h.kept };
+}

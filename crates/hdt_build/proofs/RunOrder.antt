@@ -1,0 +1,102 @@
+-- The two runs of a role's strings: each ascends, and no string stands in both.
+use Rattle.std.proofs.Common.{◌≡◌, ◌≢◌, ◌∙◌, ◌⊎◌, inl, inr, ℕ, ◌+◌, ◌-◌, ◌<◌, ◌≤◌, List, [], ◌++◌, length, get_or, refl, ap, sym, subst, arith}
+use Rattle.std.specs.declared.cmp.Ordering.TheVariants.{Less}
+use Rattle.std.specs.Cmp.Lexicographic.{nat_list_cmp_total}
+use Rattle.std.proofs.lemmas.List.{get_or_append_left, get_or-append_right, length-append}
+use Rattle.std.proofs.lemmas.List.Elements.{All-contains}
+use Rattle.std.proofs.lemmas.Map.Keys.{Less-from_sorted, sorted_from_all_adjacent}
+use Rattle.hdt_wire.specs.declared.role.Role.{Role}
+use Rattle.hdt_wire.specs.declared.role.Role.TheVariants.{Subject, Predicate, Object}
+use Rattle.hdt_front.specs.Section.{AreStrings}
+use Rattle.hdt_dict.specs.MembersLaws.{Contains-from_map}
+use Rattle.hdt_dict.specs.Strings.{IsAscending, string_cmp}
+use Rattle.hdt_triples.specs.Uses.{part, Uses}
+use Rattle.hdt_file.specs.Denoted.{string_of}
+use Rattle.hdt_file.specs.File.{GraphParts}
+use Rattle.hdt_file.specs.Graph.{IsGraph}
+use Rattle.hdt_file.specs.Views.{strings_in}
+use Rattle.hdt_build.specs.declared.kept.Part.{Part}
+use Rattle.hdt_build.specs.declared.kept.Part.TheVariants as parts
+use Rattle.hdt_build.specs.Kept.{role_of, Keeps, cut_of, end_of}
+use Rattle.hdt_build.specs.Numbers.{term_at}
+use Rattle.hdt_build.proofs.Distinct.{Distinct, Distinct-ascending, Distinct-append}
+use Rattle.hdt_build.proofs.Keeping.{IsOf, all_of}
+use Rattle.hdt_build.proofs.Naming.{term_is}
+
+-- ---- the string at a place, counted from 0
+
+term_there : (xs : List (List ℕ)) (k : ℕ) → term_at xs (k + 1) ≡ get_or xs k []
+term_there xs k = term_is xs (k + 1) (omega arith) ∙ ap (λ (i : ℕ). get_or xs i []) (omega arith)
+
+pub ascends_of : (xs : List (List ℕ)) → AreStrings xs → IsAscending xs
+ascends_of xs h = sorted_from_all_adjacent nat_list_cmp_total xs [] h.ascend
+
+up_alone : (xs : List (List ℕ)) (k m : ℕ) → AreStrings xs → k < m → m < length xs → string_cmp (term_at xs (k + 1)) (term_at xs (m + 1)) ≡ Less
+up_alone xs k m h lt in' = rw (term_there xs k, term_there xs m) (Less-from_sorted string_cmp xs k m [] (ascends_of xs h) lt in')
+
+module _ (xs ys : List (List ℕ)) (k m : ℕ) where
+  up_front : AreStrings xs → k < m → m < length xs → string_cmp (term_at (xs ++ ys) (k + 1)) (term_at (xs ++ ys) (m + 1)) ≡ Less
+  up_front h lt in' =
+      rw (term_there (xs ++ ys) k, term_there (xs ++ ys) m, get_or_append_left xs ys [] k (omega (arith, lt, in')), get_or_append_left xs ys [] m in')
+      (Less-from_sorted string_cmp xs k m [] (ascends_of xs h) lt in')
+
+  up_back : AreStrings ys → length xs ≤ k → k < m → m < length (xs ++ ys) → string_cmp (term_at (xs ++ ys) (k + 1)) (term_at (xs ++ ys) (m + 1)) ≡ Less
+  up_back h from lt in' =
+      rw (term_there (xs ++ ys) k, term_there (xs ++ ys) m, get_or-append_right xs ys (length xs) k [] refl from, get_or-append_right xs ys (length xs) m [] refl (omega (arith, from, lt)))
+      (Less-from_sorted string_cmp ys (k - length xs) (m - length xs) [] (ascends_of ys h) (omega (arith, from, lt)) (omega (arith, from, lt, in', length-append xs ys)))
+
+  up_two : AreStrings xs → AreStrings ys → k < m → m < length (xs ++ ys) → (m < length xs) ⊎ (length xs ≤ k) → string_cmp (term_at (xs ++ ys) (k + 1)) (term_at (xs ++ ys) (m + 1)) ≡ Less
+  up_two h e lt in' (inl front) = up_front h lt front
+  up_two h e lt in' (inr back) = up_back e back lt in'
+
+module _ (g : GraphParts) (h : IsGraph g) where
+  -- a number that is used is that of a string
+  pub used_range : (role : Role) (n : ℕ) → Uses g.triples role n → (1 ≤ n) × (n ≤ length (strings_in g role))
+  used_range role n used =
+      let t = Contains-from_map (part role) g.triples n used in
+      let of = All-contains (IsOf g) g.triples t.0 (all_of g h) t.1 in
+      (subst (λ (m : ℕ). 1 ≤ m) t.2 (of.from role), subst (λ (m : ℕ). m ≤ length (strings_in g role)) t.2 (of.to role))
+
+  pub distinct : (role : Role) → Distinct (strings_in g role)
+  distinct Subject = Distinct-append g.dictionary.shared g.dictionary.subjects h.shared_subjects (Distinct-ascending _ (ascends_of _ h.shared)) (Distinct-ascending _ (ascends_of _ h.subjects))
+  distinct Predicate = Distinct-ascending _ (ascends_of _ h.predicates)
+  distinct Object = Distinct-append g.dictionary.shared g.dictionary.objects h.shared_objects (Distinct-ascending _ (ascends_of _ h.shared)) (Distinct-ascending _ (ascends_of _ h.objects))
+
+  -- ---- the runs of the strings that a section may keep
+
+  pub kept_used : (p : Part) (n : ℕ) → Keeps g p n → Uses g.triples (role_of p) n
+  kept_used parts.Shared n k = k.1
+  kept_used parts.Subjects n k = k.0
+  kept_used parts.Predicates n k = k
+  kept_used parts.Objects n k = k.0
+
+  pub kept_before : (p : Part) (k : ℕ) → Keeps g p (k + 1) → k < end_of g p
+  kept_before parts.Shared k keep = omega (arith, keep.0)
+  kept_before parts.Subjects k keep = omega (arith, (used_range Subject (k + 1) keep.0).1)
+  kept_before parts.Predicates k keep = omega (arith, (used_range Predicate (k + 1) keep).1)
+  kept_before parts.Objects k keep = omega (arith, (used_range Object (k + 1) keep.0).1)
+
+  pub cut_before : (p : Part) → cut_of g p ≤ end_of g p
+  cut_before parts.Shared = omega arith
+  cut_before parts.Subjects = omega (arith, length-append g.dictionary.shared g.dictionary.subjects)
+  cut_before parts.Predicates = omega arith
+  cut_before parts.Objects = omega (arith, length-append g.dictionary.shared g.dictionary.objects)
+
+  pub end_within : (p : Part) → end_of g p ≤ length (strings_in g (role_of p))
+  end_within parts.Shared = omega (arith, length-append g.dictionary.shared g.dictionary.subjects)
+  end_within parts.Subjects = omega arith
+  end_within parts.Predicates = omega arith
+  end_within parts.Objects = omega arith
+
+  pub run_up : (p : Part) (k m : ℕ) → k < m → m < end_of g p → (m < cut_of g p) ⊎ (cut_of g p ≤ k) → string_cmp (string_of g (role_of p) (k + 1)) (string_of g (role_of p) (m + 1)) ≡ Less
+  run_up parts.Shared k m lt in' side = up_front g.dictionary.shared g.dictionary.subjects k m h.shared lt in'
+  run_up parts.Subjects k m lt in' side = up_two g.dictionary.shared g.dictionary.subjects k m h.shared h.subjects lt in' side
+  run_up parts.Predicates k m lt in' side = up_alone g.dictionary.predicates k m h.predicates lt in'
+  run_up parts.Objects k m lt in' side = up_two g.dictionary.shared g.dictionary.objects k m h.shared h.objects lt in' side
+
+  pub run_apart : (p : Part) (k m : ℕ) → k < m → m < end_of g p → string_of g (role_of p) (k + 1) ≢ string_of g (role_of p) (m + 1)
+  run_apart p k m lt in' same =
+      let all = strings_in g (role_of p) in
+      let within = end_within p in
+      let one = (distinct (role_of p)).one k m (omega (arith, lt, in', within)) (omega (arith, in', within)) (sym (term_there all k) ∙ (same ∙ term_there all m)) in
+      absurd (omega (arith, one, lt))

@@ -1,0 +1,80 @@
+//! Which strings of a graph the sections keep when it is written anew.
+ghost use Rattle.std.specs.Prelude.{◌≡◌, ◌<◌, ◌≤◌, ◌+◌, ◌↔◌, ℕ, IsTrue};
+ghost use Rattle.hdt_file.specs.Views.{graph_seen};
+ghost use Rattle.hdt_build.specs.Kept.{role_of, IsBoth, Keeps, cut_of, end_of};
+
+use hdt_dict::Role;
+use hdt_file::Graph;
+use hdt_seq::Steps;
+
+/// The sections of a dictionary.
+#[derive(Clone, Copy)]
+pub enum Part {
+    Shared,
+    Subjects,
+    Predicates,
+    Objects,
+}
+
+/// The role by whose numbers a section's strings are told.
+pub fn role_of(part: Part) -> Role
+    ensures { result ≡ role_of part }
+{
+    match part {
+        Part::Shared | Part::Subjects => Role::Subject,
+        Part::Predicates => Role::Predicate,
+        Part::Objects => Role::Object,
+    }
+}
+
+/// Whether a number is that of a shared string that is used as a subject and as an object.
+fn is_both(graph: &Graph<'_>, n: u64, steps: &mut Steps) -> bool
+    ensures { IsTrue result ↔ IsBoth (graph_seen graph.now) n }
+{
+    let [shared, _, _, _] = graph.section_lens();
+    n <= shared && graph.uses(Role::Subject, n, steps) && graph.uses(Role::Object, n, steps)
+}
+
+/// Whether the new section has the string with a number of its role.
+fn is_kept(graph: &Graph<'_>, part: Part, n: u64, steps: &mut Steps) -> bool
+    ensures { IsTrue result ↔ Keeps (graph_seen graph.now) part n }
+{
+    match part {
+        Part::Shared => is_both(graph, n, steps),
+        Part::Subjects => graph.uses(Role::Subject, n, steps) && !is_both(graph, n, steps),
+        Part::Predicates => graph.uses(Role::Predicate, n, steps),
+        Part::Objects => graph.uses(Role::Object, n, steps) && !is_both(graph, n, steps),
+    }
+}
+
+/// The first place from a given one on, and before the end, whose string is kept; or the end.
+pub fn kept_from(graph: &Graph<'_>, part: Part, from: u64, end: u64) -> u64
+    requires { from ≤ end }
+    ensures from { from ≤ result }
+    ensures within { result ≤ end }
+    ensures kept { result < end → Keeps (graph_seen graph.now) part (result + 1) }
+    ensures passed { (k : ℕ) → from ≤ k → k < result → Keeps (graph_seen graph.now) part (k + 1) → ⊥ }
+{
+    let mut steps = Steps::new();
+    for place in from..end {
+        if is_kept(graph, part, place + 1, &mut steps) {
+            return place;
+        }
+    }
+    end
+}
+
+/// Where the two runs of strings that a section may keep end: the first, which begins at the first place of the role, and the second,
+/// which goes on from there.
+pub fn ends_of(graph: &Graph<'_>, part: Part) -> (u64, u64)
+    ensures cut { result.0 ≡ cut_of (graph_seen graph.now) part }
+    ensures end { result.1 ≡ end_of (graph_seen graph.now) part }
+{
+    let [shared, _, _, _] = graph.section_lens();
+    match part {
+        Part::Shared => (0, shared),
+        Part::Subjects => (shared, graph.count(Role::Subject)),
+        Part::Predicates => (0, graph.count(Role::Predicate)),
+        Part::Objects => (shared, graph.count(Role::Object)),
+    }
+}

@@ -1,0 +1,49 @@
+//! The strings of a list, each once.
+ghost use Rattle.std.specs.Prelude.{◌≡◌, ◌+◌, length, IfOk, OnOk, IsTrue, ◌↔◌};
+ghost use Rattle.hdt_front.specs.Canonical.{lent_texts};
+ghost use Rattle.hdt_dict.specs.Strings.{IsAscending};
+ghost use Rattle.hdt_build.specs.Placed.{ArePlaced, AreRanks, IsJoined, IsLast};
+
+use hdt_dict::Arena;
+use std::alloc::{AllocError, Global};
+
+/// Whether a string is the last one of a list.
+fn is_last(strings: &[&[u8]], text: &[u8]) -> bool
+    ensures { IsTrue result ↔ IsLast (lent_texts strings.now) text.now }
+{
+    match strings.last() {
+        Some(last) => *last == text,
+        None => false,
+    }
+}
+
+/// Puts a string at the end of a list, where it isn't the last one already, and answers its place.
+fn join<'a>(strings: &mut Vec<&'a [u8]>, text: &'a [u8]) -> Result<usize, AllocError>
+    ensures joined { OnOk result (IsJoined (lent_texts strings.old.items) text.now (lent_texts strings.new.items)) }
+    ensures place { IfOk result (λ i. i + 1 ≡ length strings.new.items) }
+{
+    if !is_last(strings.as_slice(), text) {
+        strings.push(text)?;
+    }
+    Ok(strings.len() - 1)
+}
+
+/// The strings of a list in ascending order, each once and lent where it stands; and for each place of the list where its string
+/// stands among them. Of equal strings, which follow each other in the order of the places, the first is taken.
+pub fn distinct<'a>(
+    alloc: Global,
+    list: &'a Arena,
+    ordered: &[(u64, usize)],
+) -> Result<(Vec<&'a [u8]>, Vec<u64>), AllocError>
+    requires { ArePlaced list.now ordered.now }
+    ensures ascend { IfOk result (λ made. IsAscending (lent_texts made.0.items)) }
+    ensures ranks { IfOk result (λ made. AreRanks list.now (lent_texts made.0.items) made.1.items) }
+{
+    let mut strings = Vec::with_capacity(alloc, ordered.len())?;
+    let mut ranks = Vec::from_elem(alloc, 0, list.len())?;
+    for (_, place) in ordered {
+        let rank = join(&mut strings, list.get(*place))?;
+        ranks[*place] = rank as u64;
+    }
+    Ok((strings, ranks))
+}

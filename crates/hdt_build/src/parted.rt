@@ -1,0 +1,131 @@
+//! The four sections as filters of the strings in order.
+ghost use Rattle.std.specs.Prelude.{◌≡◌, ◌≤◌, ◌<◌, ℕ, [], length, slice_index_or, IsTrue, ◌↔◌, IfOk};
+ghost use Rattle.hdt_front.specs.Canonical.{lent_texts};
+ghost use Rattle.hdt_wire.specs.Control.{HasNoZero};
+ghost use Rattle.hdt_dict.specs.Strings.{IsAscending};
+ghost use Rattle.hdt_build.specs.Documents.{AreWithin};
+ghost use Rattle.hdt_build.specs.Graph.{triples_of};
+ghost use Rattle.hdt_build.specs.Kept.{AreBlocks, sections_of};
+ghost use Rattle.hdt_build.specs.Parted.{IsWanted, IsFilled, ArePartsOf};
+ghost use Rattle.hdt_build.specs.Reading.{AreTexts};
+
+use crate::sections::Sections;
+use crate::used::used;
+use hdt_dict::Role;
+use hdt_front::SectionWriter;
+use std::alloc::{AllocError, Global};
+
+/// Which strings a section has: those that are used so, and as something else too, or not.
+#[derive(Clone, Copy)]
+struct Filter<'a> {
+    used: &'a [bool],
+    other: &'a [bool],
+    wanted: bool,
+}
+
+/// Whether a section has the string at a place.
+fn has(filter: Filter<'_>, at: usize) -> bool
+    requires used { at < length filter.used.now }
+    requires other { at < length filter.other.now }
+    ensures { IsTrue result ↔ IsWanted filter.entry.used.now filter.entry.other.now filter.entry.wanted at }
+{
+    filter.used[at] && filter.other[at] == filter.wanted
+}
+
+/// Writes the section of the strings that a filter takes, and notes at the place of each its number behind so many other strings.
+fn put(
+    alloc: Global,
+    strings: &[&[u8]],
+    filter: Filter<'_>,
+    block_size: u32,
+    count: u64,
+    numbers: &mut Vec<u64>,
+) -> Result<SectionWriter, AllocError>
+    requires ascend { IsAscending (lent_texts strings.now) }
+    requires used { length filter.used.now ≡ length strings.now }
+    requires other { length filter.other.now ≡ length strings.now }
+    requires numbers { length numbers.old.items ≡ length strings.now }
+    requires texts { (k : ℕ) → k < length strings.now → IsWanted filter.used.now filter.other.now filter.wanted k → HasNoZero (slice_index_or (lent_texts strings.now) k []) }
+    requires few { count ≤ length strings.now }
+    requires block { 1 ≤ block_size }
+    ensures filled { IfOk result (λ made. IsFilled (lent_texts strings.now) (IsWanted filter.entry.used.now filter.entry.other.now filter.entry.wanted) count made.strings numbers.old.items numbers.new.items) }
+    ensures block { IfOk result (λ made. made.block_size ≡ block_size) }
+    ensures few { IfOk result (λ made. length made.strings ≤ length strings.now) }
+{
+    let mut out = SectionWriter::new(alloc, block_size);
+    for at in 0..strings.len() {
+        if has(filter, at) {
+            out.push(strings[at])?;
+            numbers[at] = count + out.len();
+        }
+    }
+    Ok(out)
+}
+
+/// The sections of triples, and the numbers of the strings.
+#[derive(Drop)]
+pub struct Numbered {
+    pub sections: Sections,
+    /// Of each string as a subject or an object. A shared string has one number in both roles, any other only one role.
+    pub nodes: Vec<u64>,
+    /// Of each string as a predicate.
+    pub predicates: Vec<u64>,
+}
+
+/// The sections of triples over strings in order, each written as the filter of these by what the triples use in its roles; and the
+/// numbers of the strings.
+pub fn parted(
+    alloc: Global,
+    strings: &[&[u8]],
+    triples: &[(u64, u64, u64)],
+    block_size: u32,
+) -> Result<Numbered, AllocError>
+    requires ascend { IsAscending (lent_texts strings.now) }
+    requires within { AreWithin (length strings.now) triples.now }
+    requires texts { AreTexts (triples_of (lent_texts strings.now) triples.now) }
+    requires block { 1 ≤ block_size }
+    ensures parts { IfOk result (λ made. ArePartsOf (lent_texts strings.now) triples.now (sections_of made.sections) made.nodes.items made.predicates.items) }
+    ensures blocks { IfOk result (λ made. AreBlocks block_size made.sections) }
+{
+    let len = strings.len();
+    let s = used(alloc, triples, Role::Subject, len)?;
+    let p = used(alloc, triples, Role::Predicate, len)?;
+    let o = used(alloc, triples, Role::Object, len)?;
+    let mut nodes = Vec::from_elem(alloc, 0, len)?;
+    let mut names = Vec::from_elem(alloc, 0, len)?;
+    let both = Filter {
+        used: s.as_slice(),
+        other: o.as_slice(),
+        wanted: true,
+    };
+    let shared = put(alloc, strings, both, block_size, 0, &mut nodes)?;
+    let count = shared.len();
+    let alone = Filter {
+        used: s.as_slice(),
+        other: o.as_slice(),
+        wanted: false,
+    };
+    let subjects = put(alloc, strings, alone, block_size, count, &mut nodes)?;
+    let all = Filter {
+        used: p.as_slice(),
+        other: p.as_slice(),
+        wanted: true,
+    };
+    let predicates = put(alloc, strings, all, block_size, 0, &mut names)?;
+    let alone = Filter {
+        used: o.as_slice(),
+        other: s.as_slice(),
+        wanted: false,
+    };
+    let objects = put(alloc, strings, alone, block_size, count, &mut nodes)?;
+    Ok(Numbered {
+        sections: Sections {
+            shared,
+            subjects,
+            predicates,
+            objects,
+        },
+        nodes,
+        predicates: names,
+    })
+}

@@ -1,0 +1,53 @@
+//! The new numbers of a role.
+ghost use Rattle.std.specs.Prelude.{◌≡◌, ◌<◌, ◌≤◌, ◌+◌, ◌-◌, ℕ, length, slice_index, IsTrue};
+ghost use Rattle.hdt_build.specs.Kept.{new_number};
+
+/// The new number of each number of a role that triples use. Where all strings stay where they were, which is so in a file
+/// without unused strings, none is looked up.
+#[derive(Drop)]
+pub enum Numbering {
+    Same,
+    Listed(Vec<u64>),
+}
+
+/// Whether each place has its own number.
+fn are_same(numbers: &[u64]) -> bool
+    ensures { IsTrue result → (k : ℕ) → k < length numbers.now → slice_index numbers.now k ≡ k + 1 }
+{
+    for place in 0..numbers.len() {
+        if numbers[place] != place as u64 + 1 {
+            return false;
+        }
+    }
+    true
+}
+
+/// The numbering that has these numbers, at the place of each old one.
+pub fn numbering_of(numbers: Vec<u64>) -> Numbering
+    ensures { (n : ℕ) → 1 ≤ n → n ≤ length numbers.items → new_number result n ≡ slice_index numbers.items (n - 1) }
+{
+    if are_same(numbers.as_slice()) {
+        return Numbering::Same;
+    }
+    Numbering::Listed(numbers)
+}
+
+impl Numbering {
+    /// The new number of an old one, which counts from 1.
+    pub fn new_number(&self, old: u64) -> u64
+        ensures { result ≡ new_number self.now old }
+    {
+        match self {
+            Numbering::Same => old,
+            Numbering::Listed(numbers) => number_in(numbers.as_slice(), old),
+        }
+    }
+}
+
+/// The number at the place of an old one.
+fn number_in(numbers: &[u64], old: u64) -> u64
+    ensures { result ≡ slice_index numbers.now (old - 1) }
+{
+    let at = old.saturating_sub(1) as usize;
+    if at < numbers.len() { numbers[at] } else { 0 }
+}

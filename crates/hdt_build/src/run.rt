@@ -1,0 +1,126 @@
+//! The strings of one ascending run that a section keeps, given one after another.
+ghost use Rattle.std.specs.Prelude.{◌≡◌, ◌<◌, ◌≤◌, ◌+◌, List, ℕ, length, IsTrue, IsFalse, IfOk, OnOk};
+ghost use Rattle.hdt_front.specs.InWork.{last_of};
+ghost use Rattle.hdt_front.specs.Searching.{agreed};
+ghost use Rattle.hdt_file.specs.Views.{graph_seen, strings_in};
+ghost use Rattle.hdt_build.specs.Kept.{role_of, Stands, StandsBehind, IsRunFrom, Agrees};
+
+use crate::kept::{Part, kept_from, role_of};
+use hdt_dict::Strings;
+use hdt_file::Graph;
+use hdt_front::{SectionWriter, compared_from};
+use std::alloc::{AllocError, Global};
+
+/// The strings from one place of a role up to another that a section keeps. Those that it doesn't keep are unfolded only where
+/// one that it keeps comes after them. A whole run takes time in proportion to the folded bytes of its strings.
+#[derive(Drop)]
+pub struct Run<'a> {
+    strings: Strings<'a>,
+    /// The place of the string that was unfolded last, or the end.
+    pub at: u64,
+    end: u64,
+    /// How far the string at which it stands agrees with the one that was written last.
+    pub same: usize,
+}
+
+/// Goes on to a string that is ahead, and answers how many bytes at its front it keeps of the one that was given last: they agree
+/// so far at least.
+fn go_to(strings: &mut Strings<'_>, number: u64) -> Result<usize, AllocError>
+    requires { strings.old.given < number }
+    ensures stands { OnOk result ((all : List (List ℕ)) → Stands all strings.old → number ≤ length all → StandsBehind all number strings.new) }
+    ensures kept { IfOk result (λ k. k ≤ agreed strings.old.last strings.new.last) }
+{
+    let mut kept = strings.last().len();
+    'strings: loop {
+        let (given, next) = strings.next_kept()?;
+        let Some(given) = given else {
+            return Ok(0);
+        };
+        kept = kept.min(next);
+        if given == number {
+            return Ok(kept);
+        }
+    }
+}
+
+impl<'a> Run<'a> {
+    ghost use Rattle.hdt_build.specs.Kept.{IsRun};
+
+    /// The run from one place up to another, where nothing was written yet.
+    pub fn new(
+        alloc: Global,
+        graph: &Graph<'a>,
+        part: Part,
+        from: u64,
+        end: u64,
+    ) -> Result<Run<'a>, AllocError>
+        requires from { from ≤ end }
+        requires within { end ≤ length (strings_in (graph_seen graph.now) (role_of part)) }
+        ensures run { IfOk result (λ run. IsRunFrom (graph_seen graph.now) part from run) }
+        ensures end { IfOk result (λ run. run.end ≡ end) }
+        ensures same { IfOk result (λ run. run.same ≡ 0) }
+    {
+        let mut run = Run {
+            strings: graph.strings(alloc, role_of(part)),
+            at: from,
+            end,
+            same: 0,
+        };
+        run.seek(graph, part, from)?;
+        Ok(run)
+    }
+
+    /// Goes on to the first string from a place on that is kept, and answers how many bytes at its front it keeps of the one that
+    /// was unfolded last.
+    fn seek(&mut self, graph: &Graph<'_>, part: Part, from: u64) -> Result<usize, AllocError>
+        requires stands { Stands (strings_in (graph_seen graph.now) (role_of part)) self.old.strings }
+        requires behind { self.old.strings.given ≤ from }
+        requires from { from ≤ self.old.end }
+        requires within { self.old.end ≤ length (strings_in (graph_seen graph.now) (role_of part)) }
+        ensures run { OnOk result (IsRunFrom (graph_seen graph.now) part from self.new) }
+        ensures end { OnOk result (self.new.end ≡ self.old.end) }
+        ensures same { OnOk result (self.new.same ≡ self.old.same) }
+        ensures kept { IfOk result (λ k. k ≤ agreed self.old.strings.last self.new.strings.last) }
+    {
+        self.at = kept_from(graph, part, from, self.end);
+        if self.at < self.end {
+            return go_to(&mut self.strings, self.at + 1);
+        }
+        Ok(0)
+    }
+
+    /// Goes on to the next string, where that at which it stands was written last. Of the next one only the bytes that it doesn't
+    /// keep are compared.
+    pub fn step(
+        &mut self,
+        graph: &Graph<'_>,
+        part: Part,
+        out: &SectionWriter,
+    ) -> Result<(), AllocError>
+        requires run { IsRun (graph_seen graph.now) part self.old }
+        requires there { self.old.at < self.old.end }
+        requires written { last_of out.now ≡ self.old.strings.last }
+        ensures run { OnOk result (IsRunFrom (graph_seen graph.now) part (self.old.at + 1) self.new) }
+        ensures end { OnOk result (self.new.end ≡ self.old.end) }
+        ensures same { OnOk result (Agrees (last_of out.now) self.new) }
+    {
+        let kept = self.seek(graph, part, self.at + 1)?;
+        self.same = compared_from(out.last(), self.strings.last(), kept).1;
+        Ok(())
+    }
+
+    /// Whether the run stands at a string.
+    pub fn is_there(&self) -> bool
+        ensures there { IsTrue result → self.now.at < self.now.end }
+        ensures over { IsFalse result → self.now.end ≤ self.now.at }
+    {
+        self.at < self.end
+    }
+
+    /// The string at which it stands.
+    pub fn string(&self) -> &[u8]
+        ensures { result.now ≡ self.now.strings.last }
+    {
+        self.strings.last()
+    }
+}

@@ -1,0 +1,181 @@
+//! The sections of the strings that triples use, and the new numbers of these.
+ghost use Rattle.std.specs.Prelude.{◌≡◌, ◌≢◌, ◌<◌, ◌≤◌, ◌+◌, ◌^◌, ◌++◌, ◌∷◌, [], ℕ, length, set, slice_index, IsTrue, IsFalse, IfOk, OnOk};
+ghost use Rattle.std.specs.declared.cmp.Ordering.TheVariants.{Less};
+ghost use Rattle.hdt_front.specs.InWork.{last_of};
+ghost use Rattle.hdt_front.specs.Searching.{agreed};
+ghost use Rattle.hdt_dict.specs.Strings.{string_cmp};
+ghost use Rattle.hdt_file.specs.Denoted.{string_of};
+ghost use Rattle.hdt_file.specs.Views.{graph_seen, strings_in};
+ghost use Rattle.hdt_wire.specs.declared.role.Role.TheVariants as roles;
+ghost use Rattle.hdt_build.specs.Kept.{role_of, end_of, IsRun, IsRunFrom, Agrees, Tell, IsPut, AreRewritten, AreBlocks, sections_of};
+
+use crate::kept::{Part, ends_of};
+use crate::renumbering::{Numbering, numbering_of};
+use crate::run::Run;
+use hdt_dict::Role;
+use hdt_file::Graph;
+use hdt_front::{SectionWriter, compared_from};
+use std::alloc::{AllocError, Global};
+use std::cmp::Ordering;
+
+/// How the strings of two runs lie to each other, and how far they agree. Where one of them agrees further with the string that was
+/// written last, it is the lesser one; else they are compared, from there on.
+fn compared(one: &Run<'_>, two: &Run<'_>) -> (Ordering, usize)
+    requires { Tell one.now two.now }
+    ensures order { result.0 ≡ string_cmp one.now.strings.last two.now.strings.last }
+    ensures same { result.1 ≡ agreed one.now.strings.last two.now.strings.last }
+{
+    if one.same > two.same {
+        return (Ordering::Less, two.same);
+    }
+    if one.same < two.same {
+        return (Ordering::Greater, one.same);
+    }
+    compared_from(one.string(), two.string(), one.same)
+}
+
+/// Whether the next string of two runs is that of the first, and how far the two agree where both have one.
+fn comes_first(one: &Run<'_>, two: &Run<'_>) -> (bool, usize)
+    requires { one.now.at < one.now.end → two.now.at < two.now.end → Tell one.now two.now }
+    ensures first { IsTrue result.0 → (one.now.at < one.now.end) × (two.now.at < two.now.end → string_cmp one.now.strings.last two.now.strings.last ≡ Less) }
+    ensures second { IsFalse result.0 → one.now.at < one.now.end → (two.now.at < two.now.end) × (string_cmp one.now.strings.last two.now.strings.last ≢ Less) }
+    ensures same { one.now.at < one.now.end → two.now.at < two.now.end → result.1 ≡ agreed one.now.strings.last two.now.strings.last }
+{
+    if !one.is_there() || !two.is_there() {
+        return (one.is_there(), 0);
+    }
+    let (order, same) = compared(one, two);
+    (order.is_lt(), same)
+}
+
+/// Writes the string at which a run stands, notes its number behind so many other strings, and goes on.
+fn take(
+    graph: &Graph<'_>,
+    part: Part,
+    run: &mut Run<'_>,
+    count: u64,
+    out: &mut SectionWriter,
+    numbers: &mut Vec<u64>,
+) -> Result<(), AllocError>
+    requires run { IsRun (graph_seen graph.now) part run.old }
+    requires there { run.old.at < run.old.end }
+    requires noted { run.old.at < length numbers.old.items }
+    requires few { count + length out.old.strings + 1 < 2 ^ 64 }
+    requires same { Agrees (last_of out.old) run.old }
+    ensures run { OnOk result (IsRunFrom (graph_seen graph.now) part (run.old.at + 1) run.new) }
+    ensures end { OnOk result (run.new.end ≡ run.old.end) }
+    ensures string { OnOk result (out.new ≡ record out.old { strings = out.old.strings ++ string_of (graph_seen graph.now) (role_of part) (run.old.at + 1) ∷ [] }) }
+    ensures same { OnOk result (Agrees (last_of out.new) run.new) }
+    ensures number { OnOk result (numbers.new.items ≡ set numbers.old.items run.old.at (count + (length out.old.strings + 1))) }
+{
+    graph.is_graph();
+    out.push_agreeing(run.string(), run.same)?;
+    numbers[run.at as usize] = count + out.len();
+    run.step(graph, part, out)
+}
+
+/// Writes the section of the strings that are kept, and notes at the place of each its number behind so many other strings, in
+/// time in proportion to the folded bytes of the role and those that are written: each byte that is unfolded is compared once or
+/// twice, since a run knows how far its string agrees with the one that was written last.
+fn put(
+    alloc: Global,
+    graph: &Graph<'_>,
+    part: Part,
+    block_size: u32,
+    count: u64,
+    numbers: &mut Vec<u64>,
+) -> Result<SectionWriter, AllocError>
+    requires long { length numbers.old.items ≡ length (strings_in (graph_seen graph.now) (role_of part)) }
+    requires few { count ≤ length numbers.old.items }
+    requires block { 1 ≤ block_size }
+    ensures put { IfOk result (λ made. IsPut (graph_seen graph.now) part count made.strings numbers.old.items numbers.new.items) }
+    ensures long { IfOk result (λ made. length numbers.new.items ≡ length (strings_in (graph_seen graph.now) (role_of part))) }
+    ensures block { IfOk result (λ made. made.block_size ≡ block_size) }
+    ensures few { IfOk result (λ made. length made.strings ≤ end_of (graph_seen graph.now) part) }
+{
+    graph.is_graph();
+    let (cut, end) = ends_of(graph, part);
+    let mut one = Run::new(alloc, graph, part, 0, cut)?;
+    let mut two = Run::new(alloc, graph, part, cut, end)?;
+    let mut out = SectionWriter::new(alloc, block_size);
+    'strings: while one.is_there() || two.is_there() {
+        let (first, same) = comes_first(&one, &two);
+        if first {
+            take(graph, part, &mut one, count, &mut out, numbers)?;
+            two.same = same;
+        } else {
+            take(graph, part, &mut two, count, &mut out, numbers)?;
+            one.same = same;
+        }
+    }
+    Ok(out)
+}
+
+/// The strings of four sections.
+#[derive(Drop)]
+pub struct Sections {
+    pub shared: SectionWriter,
+    pub subjects: SectionWriter,
+    pub predicates: SectionWriter,
+    pub objects: SectionWriter,
+}
+
+/// The new numbers of three roles.
+#[derive(Drop)]
+pub struct Numbers {
+    pub subjects: Numbering,
+    pub predicates: Numbering,
+    pub objects: Numbering,
+}
+
+/// The numbers of objects, where the shared ones have those that they have as subjects.
+fn object_numbers(
+    alloc: Global,
+    graph: &Graph<'_>,
+    subjects: &[u64],
+) -> Result<Vec<u64>, AllocError>
+    requires { length (graph_seen graph.now).dictionary.shared ≤ length subjects.now }
+    ensures long { IfOk result (λ made. length made.items ≡ length (strings_in (graph_seen graph.now) roles.Object)) }
+    ensures shared { IfOk result (λ made. (k : ℕ) → k < length (graph_seen graph.now).dictionary.shared → slice_index made.items k ≡ slice_index subjects.now k) }
+{
+    let [shared, _, _, _] = graph.section_lens();
+    let mut made = Vec::from_elem(alloc, 0, graph.count(Role::Object) as usize)?;
+    for place in 0..shared as usize {
+        made[place] = subjects[place];
+    }
+    Ok(made)
+}
+
+/// The sections of the strings that triples use, and their new numbers. Each string is unfolded once in the role that has it, and
+/// those of the shared section up to five times.
+pub fn new_sections(
+    alloc: Global,
+    graph: &Graph<'_>,
+    block_size: u32,
+) -> Result<(Sections, Numbers), AllocError>
+    requires { 1 ≤ block_size }
+    ensures rewritten { IfOk result (λ made. AreRewritten (graph_seen graph.now) (sections_of made.0) made.1) }
+    ensures blocks { IfOk result (λ made. AreBlocks block_size made.0) }
+{
+    graph.is_graph();
+    let mut s = Vec::from_elem(alloc, 0, graph.count(Role::Subject) as usize)?;
+    let shared = put(alloc, graph, Part::Shared, block_size, 0, &mut s)?;
+    let count = shared.len();
+    let mut p = Vec::from_elem(alloc, 0, graph.count(Role::Predicate) as usize)?;
+    let mut o = object_numbers(alloc, graph, s.as_slice())?;
+    let subjects = put(alloc, graph, Part::Subjects, block_size, count, &mut s)?;
+    let predicates = put(alloc, graph, Part::Predicates, block_size, 0, &mut p)?;
+    let objects = put(alloc, graph, Part::Objects, block_size, count, &mut o)?;
+    let sections = Sections {
+        shared,
+        subjects,
+        predicates,
+        objects,
+    };
+    let numbers = Numbers {
+        subjects: numbering_of(s),
+        predicates: numbering_of(p),
+        objects: numbering_of(o),
+    };
+    Ok((sections, numbers))
+}

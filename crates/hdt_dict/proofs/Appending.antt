@@ -1,0 +1,33 @@
+-- A control block and four sections, appended one after another.
+use Rattle.std.proofs.Common.{◌≡◌, ◌+◌, ◌++◌, ◌<◌, ◌≤◌, ◌^◌, ℕ, List, [], length, append_assoc, append-nil, ap, sym, subst, ◌∙◌}
+use Rattle.hdt_wire.specs.declared.control.Kind.TheVariants as kinds
+use Rattle.hdt_wire.specs.Control.{control}
+use Rattle.hdt_wire.specs.Rows.{Stands}
+use Rattle.hdt_wire.specs.RowLaws.{Stands-after}
+use Rattle.hdt_front.specs.Canonical.{canonical}
+use Rattle.hdt_dict.specs.Dictionary.{IsDictionary}
+use Rattle.hdt_dict.specs.Split.{FourLists}
+use Rattle.hdt_dict.specs.Writing.{AreSections, mapping, canonical_dictionary, canonical_dictionary_parts}
+use Rattle.hdt_dict.specs.WritingLaws.{dictionary_stands}
+
+-- one more part behind what was appended
+more : (old x r s y : List ℕ) → r ≡ old ++ x → s ≡ r ++ y → s ≡ old ++ (x ++ y)
+more old x r s y e f = f ∙ ap (λ (l : List ℕ). l ++ y) e ∙ append_assoc old x y
+
+regrouped : (k s u p o : List ℕ) → (((k ++ s) ++ u) ++ p) ++ o ≡ k ++ (s ++ (u ++ (p ++ o)))
+regrouped k s u p o = append_assoc ((k ++ s) ++ u) p o ∙ append_assoc (k ++ s) u (p ++ o) ∙ append_assoc k s (u ++ (p ++ o))
+
+pub appended : (b : ℕ) (d : FourLists) (old r0 r1 r2 r3 r4 : List ℕ) → r0 ≡ old ++ control kinds.Dictionary mapping → r1 ≡ r0 ++ canonical b d.shared → r2 ≡ r1 ++ canonical b d.subjects
+    → r3 ≡ r2 ++ canonical b d.predicates → r4 ≡ r3 ++ canonical b d.objects → r4 ≡ old ++ canonical_dictionary b d
+unfolding canonical_dictionary
+appended b d old r0 r1 r2 r3 r4 e0 e1 e2 e3 e4 =
+    more old _ r3 r4 (canonical b d.objects) (more old _ r2 r3 (canonical b d.predicates) (more old _ r1 r2 (canonical b d.subjects) (more old _ r0 r1 (canonical b d.shared) e0 e1) e2) e3) e4
+    ∙ ap (λ (l : List ℕ). old ++ l) (regrouped (control kinds.Dictionary mapping) (canonical b d.shared) (canonical b d.subjects) (canonical b d.predicates) (canonical b d.objects))
+
+-- what was appended is a dictionary
+pub dictionary_appended : (b : ℕ) (d : FourLists) (old new : List ℕ) → 1 ≤ b → b < 2 ^ 64 → AreSections d → length new < 2 ^ 64 → new ≡ old ++ canonical_dictionary b d
+    → IsDictionary (canonical_dictionary_parts b d (length old)) new (length old)
+dictionary_appended b d old new some low are small e =
+    let text : List ℕ = canonical_dictionary b d in
+    dictionary_stands b d new (length old) (length old + length text) some low are small
+    (subst (λ (l : List ℕ). Stands l (length old) text (length old + length text)) (append-nil (old ++ text) ∙ sym e) (Stands-after old text []))

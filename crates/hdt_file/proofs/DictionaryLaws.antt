@@ -1,0 +1,30 @@
+-- The rows of the front of a file are exact: what they answer stands there, and what stands there they answer.
+use Rattle.std.proofs.Common.{ℕ, ◌^◌, ◌<◌, List, length, refl}
+use Rattle.hdt_wire.specs.Rows.{IsBytes}
+use Rattle.hdt_wire.specs.RowLaws.{bound}
+use Rattle.hdt_wire.specs.Exact.{Exactly}
+use Rattle.hdt_wire.specs.ExactLaws.{answered}
+use Rattle.hdt_dict.specs.Dictionary.{dictionary_at}
+use Rattle.hdt_dict.specs.DictionaryLaws.{dictionary_exact}
+use Rattle.hdt_file.specs.Head.{head_at_start, IsHead}
+use Rattle.hdt_file.proofs.HeadLaws.{head_found, head_only}
+use Rattle.hdt_file.specs.Dictionary.{HeadAndDictionary, IsHeadAndDictionary, dictionary_after_head}
+
+pub head_exact : (bytes : List ℕ) → IsBytes bytes → length bytes < 2 ^ 64 → Exactly (head_at_start bytes) (λ h. IsHead h bytes)
+head_exact bytes fits small = record { found = λ h e. head_found bytes h fits e; only = λ h is. head_only bytes h fits small is }
+
+pub front_exact : (bytes : List ℕ) → IsBytes bytes → length bytes < 2 ^ 64 → Exactly (dictionary_after_head bytes) (λ f. IsHeadAndDictionary f bytes)
+unfolding dictionary_after_head
+front_exact bytes fits small = record {
+  found = λ f e.
+      bound (head_at_start bytes) _ _ e (λ head e1 e.
+      bound (dictionary_at bytes head.end) _ _ e (λ dictionary e2 e.
+      answered (λ (f : HeadAndDictionary). IsHeadAndDictionary f bytes) _ _ e (record {
+        head = (head_exact bytes fits small).found head e1;
+        dictionary = (dictionary_exact bytes head.end fits).found dictionary e2;
+      })));
+  only = λ f h.
+      let r1 = (head_exact bytes fits small).only f.head h.head in
+      let r2 = (dictionary_exact bytes f.head.end fits).only f.dictionary h.dictionary in
+      rw (r1, r2) refl;
+}

@@ -1,0 +1,14 @@
+//! Tests of hdt_file, which see what it exports. They stand in a crate of their own, so that their proofs rest on its
+//! contracts, and it is not proved once more beside them.
+#![tactic(auto)]
+
+#[cfg(test)]
+mod fault_tests;
+#[cfg(test)]
+mod large_tests;
+#[cfg(test)]
+mod search_tests;
+#[cfg(test)]
+mod tests;
+#[cfg(test)]
+mod text_tests;

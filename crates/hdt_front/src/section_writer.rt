@@ -1,0 +1,260 @@
+//! A writer of a section, which takes the strings one at a time.
+ghost use Rattle.std.specs.Prelude.{◌≡◌, ◌≤◌, ◌<◌, ◌^◌, ◌++◌, ◌∷◌, [], ℕ, List, length, cond, drop, OnOk, OnErr};
+ghost use Rattle.byteorder.specs.Endian.{little_bytes};
+ghost use Rattle.hdt_wire.specs.Check.{code8, code32};
+ghost use Rattle.hdt_wire.specs.Control.{HasNoZero, Keeps};
+ghost use Rattle.hdt_front.specs.Section.{AreStrings, IsSection};
+ghost use Rattle.hdt_front.specs.SectionWriting.{section_head, section_spelling};
+ghost use Rattle.hdt_front.specs.Searching.{agreed};
+ghost use Rattle.hdt_front.specs.Canonical.{piece_with, piece_of, canonical, canonical_parts};
+ghost use Rattle.hdt_front.specs.InWork.{last_of};
+
+use crate::common::common_prefix;
+use crate::unfold::unfold;
+use byteorder::{ByteOrder, LittleEndian};
+use hdt_seq::put_numbers;
+use hdt_wire::{check8, check32, put_vbyte};
+use std::alloc::{AllocError, Global};
+use std::marker::Model;
+
+/// A section in work: the strings that were handed in so far, folded. It keeps their packed bytes, 8 bytes a block, and
+/// the last string, in room for a few of the longest; no other string. Contracts see the strings.
+///
+/// ```text
+/// let mut writer = SectionWriter::new(alloc, 16);
+/// writer.push(b"u:a")?;
+/// writer.push(b"u:b")?;
+/// writer.finish(&mut out)?;
+/// ```
+#[derive(Drop)]
+pub struct SectionWriter {
+    block_size: u32,
+    count: u64,
+    last: Vec<u8>,
+    /// Where each block begins.
+    starts: Vec<u64>,
+    packed: Vec<u8>,
+}
+
+impl Model for SectionWriter {
+    ghost use Rattle.std.specs.Prelude.{[]};
+    ghost use Rattle.hdt_front.specs.InWork.{SectionInWork, AreKept};
+    ghost use Rattle.hdt_front.specs.Unfolding.{unfolded};
+
+    ghost Value = { SectionInWork };
+
+    ghost view = { λ w. record { block_size = w.block_size; strings = unfolded w.block_size w.count 0 [] w.packed.items } };
+
+    ghost invariant = { λ w. AreKept w.block_size (unfolded w.block_size w.count 0 [] w.packed.items) w.last.items w.starts.items w.packed.items };
+}
+
+/// Appends the piece of a string that keeps so many bytes of the one before: at the head of a block the string, else how many
+/// it keeps and the rest. An `Err` may leave a beginning of it behind.
+fn append_piece(
+    head: bool,
+    same: usize,
+    string: &[u8],
+    packed: &mut Vec<u8>,
+) -> Result<(), AllocError>
+    requires { same ≤ length string.now }
+    ensures ok { OnOk result (packed.new.items ≡ packed.old.items ++ piece_with head same string.now) }
+    ensures err { OnErr result (Keeps packed.old.items packed.new.items) }
+{
+    let mut rest = string;
+    if !head {
+        put_vbyte(same as u64, packed)?;
+        rest = string.split_at(same).1;
+    }
+    packed.extend_from_slice(rest)?;
+    packed.push(0)?;
+    Ok(())
+}
+
+/// Notes the start of a block, where one begins.
+fn push_start(head: bool, place: usize, starts: &mut Vec<u64>) -> Result<(), AllocError>
+    ensures ok { OnOk result (starts.new.items ≡ starts.old.items ++ cond head (place ∷ []) []) }
+    ensures err { OnErr result (starts.new.items ≡ starts.old.items) }
+{
+    if head {
+        starts.push(place as u64)?;
+    }
+    Ok(())
+}
+
+/// Folds one more string, which agrees so far with the last one: of that the bytes behind alone are touched. An `Err` may leave a
+/// beginning of it behind, but the last string is as it was.
+fn fold(
+    head: bool,
+    same: usize,
+    string: &[u8],
+    last: &mut Vec<u8>,
+    starts: &mut Vec<u64>,
+    packed: &mut Vec<u8>,
+) -> Result<(), AllocError>
+    requires { same ≡ agreed last.old.items string.now }
+    ensures packed { OnOk result (packed.new.items ≡ packed.old.items ++ piece_of head last.old.items string.now) }
+    ensures starts { OnOk result (starts.new.items ≡ starts.old.items ++ cond head (length packed.old.items ∷ []) []) }
+    ensures last { OnOk result (last.new.items ≡ string.now) }
+    ensures last_kept { OnErr result (last.new.items ≡ last.old.items) }
+    ensures starts_kept { OnErr result (Keeps starts.old.items starts.new.items) }
+    ensures packed_kept { OnErr result (Keeps packed.old.items packed.new.items) }
+{
+    push_start(head, packed.len(), starts)?;
+    append_piece(head, same, string, packed)?;
+    unfold(last, same, string.split_at(same).1)
+}
+
+/// Appends what stands before the starts: the numbers of a section, with their code. An `Err` may leave a beginning
+/// of it behind.
+fn append_head(count: u64, size: u64, block_size: u32, out: &mut Vec<u8>) -> Result<(), AllocError>
+    ensures ok { OnOk result (out.new.items ≡ out.old.items ++ (section_head count size block_size ++ code8 (section_head count size block_size) ∷ [])) }
+    ensures err { OnErr result (Keeps out.old.items out.new.items) }
+{
+    let start = out.len();
+    out.push(2)?;
+    put_vbyte(count, out)?;
+    put_vbyte(size, out)?;
+    put_vbyte(u64::from(block_size), out)?;
+    let code = check8(&out[start..]);
+    out.push(code)?;
+    Ok(())
+}
+
+/// Appends packed bytes with their code. An `Err` may leave a beginning of it behind.
+fn append_packed(packed: &[u8], out: &mut Vec<u8>) -> Result<(), AllocError>
+    ensures ok { OnOk result (out.new.items ≡ out.old.items ++ (packed.now ++ little_bytes 4 (code32 packed.now))) }
+    ensures err { OnErr result (Keeps out.old.items out.new.items) }
+{
+    out.extend_from_slice(packed)?;
+    let mut code = [0u8; 4];
+    LittleEndian::write_u32(&mut code, check32(packed));
+    out.extend_from_slice(&code)
+}
+
+/// Appends the section that packed bytes and their starts are; an `Err` may leave a beginning of it behind.
+fn append_parts(
+    count: u64,
+    block_size: u32,
+    starts: &[u64],
+    packed: &[u8],
+    out: &mut Vec<u8>,
+) -> Result<(), AllocError>
+    ensures ok { OnOk result (out.new.items ≡ out.old.items ++ section_spelling count block_size starts.now packed.now) }
+    ensures err { OnErr result (Keeps out.old.items out.new.items) }
+{
+    append_head(count, packed.len() as u64, block_size, out)?;
+    put_numbers(starts, out)?;
+    append_packed(packed, out)
+}
+
+/// Appends the section that packed bytes and their starts are. Where memory is refused, `out` is as it was.
+fn put_parts(
+    count: u64,
+    block_size: u32,
+    starts: &[u64],
+    packed: &[u8],
+    out: &mut Vec<u8>,
+) -> Result<(), AllocError>
+    ensures ok { OnOk result (out.new.items ≡ out.old.items ++ section_spelling count block_size starts.now packed.now) }
+    ensures err { OnErr result (out.new.items ≡ out.old.items) }
+{
+    let start = out.len();
+    let written = append_parts(count, block_size, starts, packed, out);
+    if written.is_err() {
+        out.truncate(start);
+    }
+    written
+}
+
+impl SectionWriter {
+    /// A writer that has no string yet, in blocks of so many. It takes no memory. The caller shows that a block has one
+    /// string at least.
+    pub fn new(alloc: Global, block_size: u32) -> SectionWriter
+        requires block { 1 ≤ block_size }
+        ensures { result ≡ record { block_size = block_size; strings = [] } }
+    {
+        SectionWriter {
+            block_size,
+            count: 0,
+            last: Vec::new(alloc),
+            starts: Vec::new(alloc),
+            packed: Vec::new(alloc),
+        }
+    }
+
+    /// How many strings were handed in.
+    pub fn len(&self) -> u64
+        ensures { result ≡ length self.now.strings }
+    {
+        self.count
+    }
+
+    /// A law: a block has one string at least, and its size fits 4 bytes.
+    pub fn has_blocks(&self)
+        ensures some { 1 ≤ self.now.block_size }
+        ensures fits { self.now.block_size < 2 ^ 32 }
+    {
+        let _block_size = &self.block_size;
+    }
+
+    /// The string that was handed in last; none yet: empty.
+    pub fn last(&self) -> &[u8]
+        ensures { result.now ≡ last_of self.now }
+    {
+        &self.last
+    }
+
+    /// Takes one more string, in time in proportion to it. The caller shows that it has no zero byte. Where memory is
+    /// refused, the writer is as it was.
+    pub fn push(&mut self, string: &[u8]) -> Result<(), AllocError>
+        requires no_zero { HasNoZero string.now }
+        ensures ok { OnOk result (self.new ≡ record self.old { strings = self.old.strings ++ string.now ∷ [] }) }
+        ensures err { OnErr result (self.new ≡ self.old) }
+    {
+        let same = common_prefix(&self.last, string);
+        self.push_agreeing(string, same)
+    }
+
+    /// Takes one more string as [`push`](SectionWriter::push), in time in proportion to the bytes behind those in which it
+    /// agrees with the one before; at the head of a block, where it is written whole, to its length. The caller shows that it
+    /// has no zero byte, and that it agrees exactly so far with the one before. Where memory is refused, the writer is as it was.
+    pub fn push_agreeing(&mut self, string: &[u8], same: usize) -> Result<(), AllocError>
+        requires no_zero { HasNoZero string.now }
+        requires same { same ≡ agreed (last_of self.old) string.now }
+        ensures ok { OnOk result (self.new ≡ record self.old { strings = self.old.strings ++ string.now ∷ [] }) }
+        ensures err { OnErr result (self.new ≡ self.old) }
+    {
+        let head = self.count % self.block_size as u64 == 0;
+        let blocks = self.starts.len();
+        let place = self.packed.len();
+        let folded = fold(
+            head,
+            same,
+            string,
+            &mut self.last,
+            &mut self.starts,
+            &mut self.packed,
+        );
+        if folded.is_err() {
+            self.starts.truncate(blocks);
+            self.packed.truncate(place);
+            return folded;
+        }
+        self.count += 1;
+        Ok(())
+    }
+
+    /// Appends the canonical section of the strings, as [`put_section`](crate::put_section). The caller shows that a
+    /// section can hold them. Where memory is refused, `out` is as it was.
+    pub fn finish(self, out: &mut Vec<u8>) -> Result<(), AllocError>
+        requires strings { AreStrings self.strings }
+        ensures ok { OnOk result (out.new.items ≡ out.old.items ++ canonical self.block_size self.strings) }
+        // What was appended is a section.
+        ensures section { OnOk result (IsSection (canonical_parts self.block_size self.strings (length out.old.items)) out.new.items (length out.old.items)) }
+        ensures err { OnErr result (out.new.items ≡ out.old.items) }
+    {
+        let mut starts = self.starts;
+        starts.push(self.packed.len() as u64)?;
+        put_parts(self.count, self.block_size, &starts, &self.packed, out)
+    }
+}

@@ -1,0 +1,70 @@
+-- Reading dictionary strings in a line, step by step.
+use Rattle.std.proofs.Common.{◌≡◌, ◌≢◌, ℕ, false, eqb, ne_eqb, List, [], ◌∷◌, ◌++◌, length, Option, Some, None, Result, Ok, Err, refl, sym, ap, ◌∙◌, append_assoc, arith}
+use Rattle.std.proofs.lemmas.List.{append-nil}
+use Rattle.hdt_terms.specs.declared.fault.LineReason.TheVariants.{BadEscape}
+use Rattle.hdt_terms.specs.declared.fault.Stop.{Stop}
+use Rattle.hdt_terms.specs.Appending.{Appended, itself}
+use Rattle.hdt_terms.specs.RawReading.{raw_letter, raw_escape, raw_from, raw_at}
+use Rattle.hdt_terms.specs.Reading.{stops, with_front}
+use Rattle.hdt_terms.proofs.Appends.{appended}
+use Rattle.hdt_terms.proofs.Stops.{front_err}
+
+abbrev Reading : Type 0
+Reading = Result (List ℕ × List ℕ) Stop
+
+-- what was read before, and what is read here, is what is read of all
+abbrev pub GoesOn : List ℕ → List ℕ → List ℕ → List ℕ → Type 0
+GoesOn out rest old bytes = with_front out (raw_at rest) ≡ with_front old (raw_at bytes)
+
+regroup : (front mid : List ℕ) (read : Reading) → with_front front (with_front mid read) ≡ with_front (front ++ mid) read
+regroup front mid (Ok x) = ap (λ l. Ok (l, x.1)) (sym (append_assoc front mid x.0))
+regroup front mid (Err e) = refl
+
+pub at_tab : (rest : List ℕ) → raw_at (9 ∷ rest) ≡ Ok ([], 9 ∷ rest)
+unfolding raw_from
+at_tab rest = refl
+
+pub at_byte : (c : ℕ) (rest : List ℕ) → eqb c 9 ≡ false → eqb c 92 ≡ false → raw_at (c ∷ rest) ≡ with_front (c ∷ []) (raw_at rest)
+unfolding raw_from
+at_byte c rest e f = rw (e, f) refl
+
+pub at_escape : (e b : ℕ) (rest : List ℕ) → raw_letter e ≡ Some b → raw_at (92 ∷ e ∷ rest) ≡ with_front (b ∷ []) (raw_at rest)
+unfolding raw_from
+at_escape e b rest h = rw h refl
+
+pub at_bad : (rest : List ℕ) → raw_escape rest rest ≡ stops BadEscape rest → raw_at (92 ∷ rest) ≡ stops BadEscape (92 ∷ rest)
+unfolding raw_from
+at_bad [] h = refl
+at_bad (e ∷ rest) h = case (raw_letter e) refl
+  where
+    case : (l : Option ℕ) → raw_letter e ≡ l → raw_at (92 ∷ e ∷ rest) ≡ stops BadEscape (92 ∷ e ∷ rest)
+    case None p = rw p refl
+    case (Some b) p = absurd (let q = rw p at h in cc)
+
+pub nothing_there : (rest : List ℕ) → length rest ≡ 0 → raw_at rest ≡ Ok ([], rest)
+unfolding raw_from
+nothing_there [] e = refl
+nothing_there (c ∷ rest) e = absurd (omega arith)
+
+module _ (out rest old bytes : List ℕ) (so_far : GoesOn out rest old bytes) where
+  ends_here : raw_at rest ≡ Ok ([], rest) → Appended itself old out rest (raw_at bytes)
+  ends_here e = appended old out rest (raw_at bytes) (sym so_far ∙ ap (with_front out) e ∙ ap (λ l. Ok (l, rest)) (append-nil out))
+
+  pub tab_read : (tail : List ℕ) → rest ≡ 9 ∷ tail → Appended itself old out rest (raw_at bytes)
+  tab_read tail e = ends_here (ap raw_at e ∙ at_tab tail ∙ ap (λ l. Ok ([], l)) (sym e))
+
+  pub end_read : length rest ≡ 0 → Appended itself old out rest (raw_at bytes)
+  end_read e = ends_here (nothing_there rest e)
+
+  goes : (b : ℕ) (behind new : List ℕ) → raw_at rest ≡ with_front (b ∷ []) (raw_at behind) → new ≡ out ++ b ∷ [] → GoesOn new behind old bytes
+  goes b behind new e grown = ap (λ l. with_front l (raw_at behind)) grown ∙ sym (regroup out (b ∷ []) (raw_at behind)) ∙ sym (ap (with_front out) e) ∙ so_far
+
+  pub byte_goes : (c : ℕ) (tail new : List ℕ) → rest ≡ c ∷ tail → c ≢ 9 → c ≢ 92 → new ≡ out ++ c ∷ [] → GoesOn new tail old bytes
+  byte_goes c tail new e t s grown = goes c tail new (ap raw_at e ∙ at_byte c tail (ne_eqb c 9 t) (ne_eqb c 92 s)) grown
+
+  pub escape_goes : (e b : ℕ) (tail behind new : List ℕ) → rest ≡ 92 ∷ tail → tail ≡ e ∷ behind → raw_letter e ≡ Some b → new ≡ out ++ b ∷ [] → GoesOn new behind old bytes
+  escape_goes e b tail behind new p q l grown = goes b behind new (ap raw_at (p ∙ ap (λ t. 92 ∷ t) q) ∙ at_escape e b behind l) grown
+
+  pub bad_read : (tail : List ℕ) → rest ≡ 92 ∷ tail → raw_escape tail tail ≡ stops BadEscape tail → raw_at bytes ≡ Err (record { left = length rest; reason = BadEscape })
+  bad_read tail p h =
+      front_err old (raw_at bytes) _ (sym so_far ∙ ap (with_front out) (ap raw_at p ∙ at_bad tail h ∙ ap (λ l. Err (record { left = length l; reason = BadEscape })) (sym p)))

@@ -1,0 +1,149 @@
+-- What is read of a request is spelled there.
+use Rattle.std.proofs.Common.{◌≡◌, ℕ, eqb, List, [], ◌∷◌, ◌++◌, Option, None, Some, Ok, refl, ap, subst, ◌∙◌, inl, inr}
+use Rattle.std.specs.Prelude.{IsUtf8}
+use Rattle.std.proofs.lemmas.Bool.{eqb-true}
+use Rattle.hdt_terms.specs.declared.fault.LineReason.TheVariants.{Syntax}
+use Rattle.hdt_terms.specs.declared.line.Role.{Role}
+use Rattle.hdt_terms.specs.declared.line.Role.TheVariants.{Subject, Predicate, Object}
+use Rattle.hdt_terms.specs.declared.term.Term.{Term}
+use Rattle.hdt_terms.specs.LineReading.{role_here, is_comment, is_bare, bare_at}
+use Rattle.hdt_terms.specs.Lines.{IsBare}
+use Rattle.hdt_terms.specs.Reading.{◌>>=◌, stops, after_blanks}
+use Rattle.hdt_terms.specs.RequestReading.{as_part, part_here, part_at, stop_here, stop_at, request_at}
+use Rattle.hdt_terms.specs.Requests.{Asked, SpelledPart, IsStop, SpelledRequest}
+use Rattle.hdt_terms.specs.Spelling.{AreBlanks}
+use Rattle.hdt_terms.proofs.Cases.{bind_ok, chosen, ok_is, some_is}
+use Rattle.hdt_terms.proofs.LineFound.{IsOf, bare_found, comment_found, here_found}
+use Rattle.hdt_terms.proofs.LiteralFound.{passed}
+use Rattle.hdt_terms.proofs.Parts.{behind_any}
+use Rattle.hdt_terms.proofs.Utf8.{blanks_utf8}
+
+-- ---- a word
+
+abbrev nothing : Option Term
+nothing = None
+
+abbrev given : Term → Option Term
+given term = Some term
+
+-- ? or a term of the role was read behind blanks, and the rest follows it
+record PartFound (role : Role) (bytes : List ℕ) (part : Option Term) (rest : List ℕ) : Type 0 where
+  pub before : List ℕ
+  pub text : List ℕ
+  pub blanks : AreBlanks before
+  pub spelled : SpelledPart (IsOf role) text part
+  pub whole : bytes ≡ before ++ (text ++ rest)
+  pub utf8 : IsUtf8 rest
+
+part_here_found : (role : Role) (bytes here : List ℕ) (part : Option Term) (rest before : List ℕ) → IsUtf8 here → AreBlanks before → bytes ≡ before ++ here → part_here role here ≡ Ok (part, rest)
+    → PartFound role bytes part rest
+unfolding part_here
+part_here_found role bytes [] part rest before utf8 are whole e = absurd cc
+part_here_found role bytes (c ∷ cs) None rest before utf8 are whole e =
+    elim (chosen (eqb c 63) (Ok (None, cs)) (role_here role (c ∷ cs) >>= as_part) (Ok (None, rest)) e) [
+      | inl p ↦
+          let same : cs ≡ rest = ap (λ x. x.1) (ok_is (nothing, cs) (nothing, rest) p.1) in
+          record {
+            before = before;
+            text = 63 ∷ [];
+            blanks = are;
+            spelled = refl;
+            whole = whole ∙ ap (λ b. before ++ b ∷ cs) (eqb-true c 63 p.0) ∙ ap (λ l. before ++ 63 ∷ l) same;
+            utf8 = subst IsUtf8 same (behind_any (c ∷ cs) cs c refl (eqb-true c 63 p.0) utf8);
+          }
+      | inr p ↦
+          let b = bind_ok (role_here role (c ∷ cs)) as_part (None, rest) p.1 in
+          let same : given b.0.0 ≡ nothing = ap (λ x. x.0) (ok_is (given b.0.0, b.0.1) (nothing, rest) b.2) in absurd cc
+    ]
+part_here_found role bytes (c ∷ cs) (Some term) rest before utf8 are whole e =
+    elim (chosen (eqb c 63) (Ok (None, cs)) (role_here role (c ∷ cs) >>= as_part) (Ok (Some term, rest)) e) [
+      | inl p ↦ let same : nothing ≡ given term = ap (λ x. x.0) (ok_is (nothing, cs) (given term, rest) p.1) in absurd cc
+      | inr p ↦
+          let b = bind_ok (role_here role (c ∷ cs)) as_part (Some term, rest) p.1 in
+          let same = ok_is (given b.0.0, b.0.1) (given term, rest) b.2 in
+          let read : role_here role (c ∷ cs) ≡ Ok (term, rest) = b.1 ∙ ap (λ t. Ok (t, b.0.1)) (some_is b.0.0 term (ap (λ x. x.0) same)) ∙ ap (λ l. Ok (term, l)) (ap (λ x. x.1) same) in
+          let f = here_found role bytes (c ∷ cs) term rest before utf8 are whole read in
+          record { before = f.before; text = f.text; blanks = f.blanks; spelled = (f.spelled, f.is_of); whole = f.whole; utf8 = f.utf8 }
+    ]
+
+part_found : (role : Role) (bytes : List ℕ) (part : Option Term) (rest : List ℕ) → IsUtf8 bytes → part_at role bytes ≡ Ok (part, rest) → PartFound role bytes part rest
+unfolding part_at
+part_found role bytes part rest utf8 e =
+    let p = passed bytes in
+    part_here_found role bytes (after_blanks bytes) part rest p.blanks (blanks_utf8 bytes utf8) p.are p.whole e
+
+-- ---- the end
+
+record StopFound (bytes : List ℕ) : Type 0 where
+  pub before : List ℕ
+  pub stop : List ℕ
+  pub behind : List ℕ
+  pub blanks : AreBlanks before
+  pub is_stop : IsStop stop
+  pub bare : IsBare behind
+  pub whole : bytes ≡ before ++ (stop ++ behind)
+
+stop_here_found : (bytes here before : List ℕ) (done : Unit {0}) → AreBlanks before → bytes ≡ before ++ here → stop_here here ≡ Ok done → StopFound bytes
+unfolding is_bare
+stop_here_found bytes [] before done are whole e =
+    record { before = before; stop = []; behind = []; blanks = are; is_stop = inl refl; bare = record { before = []; comment = []; blanks = refl; is_comment = tt; whole = refl }; whole = whole }
+stop_here_found bytes (c ∷ cs) before done are whole e =
+    elim (chosen (eqb c 46) (bare_at (after_blanks cs)) (bare_at (c ∷ cs)) (Ok done) e) [
+      | inl p ↦
+          elim (chosen (is_comment (after_blanks cs)) (Ok tt) (stops Syntax (after_blanks cs)) (Ok done) p.1) [
+            | inl q ↦ record { before = before; stop = 46 ∷ []; behind = cs; blanks = are; is_stop = inr refl; bare = bare_found cs q.0; whole = whole ∙ ap (λ b. before ++ b ∷ cs) (eqb-true c 46 p.0) }
+            | inr q ↦ absurd cc
+          ]
+      | inr p ↦
+          elim (chosen (is_comment (c ∷ cs)) (Ok tt) (stops Syntax (c ∷ cs)) (Ok done) p.1) [
+            | inl q ↦
+                record {
+                  before = before;
+                  stop = [];
+                  behind = c ∷ cs;
+                  blanks = are;
+                  is_stop = inl refl;
+                  bare = record { before = []; comment = c ∷ cs; blanks = refl; is_comment = comment_found (c ∷ cs) q.0; whole = refl };
+                  whole = whole;
+                }
+            | inr q ↦ absurd cc
+          ]
+    ]
+
+stop_found : (bytes : List ℕ) (done : Unit {0}) → stop_at bytes ≡ Ok done → StopFound bytes
+unfolding stop_at
+stop_found bytes done e = let p = passed bytes in stop_here_found bytes (after_blanks bytes) p.blanks done p.are p.whole e
+
+-- ---- a request
+
+pub request_found : (text : List ℕ) (asked : Asked) → IsUtf8 text → request_at text ≡ Ok asked → SpelledRequest text asked
+unfolding request_at
+request_found text asked utf8 e =
+    let s = bind_ok (part_at Subject text) (λ x. part_at Predicate x.1 >>= λ y. part_at Object y.1 >>= λ z. stop_at z.1 >>= λ _. Ok (record { s = x.0; p = y.0; o = z.0 })) asked e in
+    let p = bind_ok (part_at Predicate s.0.1) (λ y. part_at Object y.1 >>= λ z. stop_at z.1 >>= λ _. Ok (record { s = s.0.0; p = y.0; o = z.0 })) asked s.2 in
+    let o = bind_ok (part_at Object p.0.1) (λ z. stop_at z.1 >>= λ _. Ok (record { s = s.0.0; p = p.0.0; o = z.0 })) asked p.2 in
+    let d = bind_ok (stop_at o.0.1) (λ _. Ok (record { s = s.0.0; p = p.0.0; o = o.0.0 })) asked o.2 in
+    let fs = part_found Subject text s.0.0 s.0.1 utf8 s.1 in
+    let fp = part_found Predicate s.0.1 p.0.0 p.0.1 fs.utf8 p.1 in
+    let fo = part_found Object p.0.1 o.0.0 o.0.1 fp.utf8 o.1 in
+    let fd = stop_found o.0.1 d.0 d.1 in
+    let made : SpelledRequest text (record { s = s.0.0; p = p.0.0; o = o.0.0 }) = record {
+      before_s = fs.before;
+      before_p = fp.before;
+      before_o = fo.before;
+      before_stop = fd.before;
+      blanks = (fs.blanks, fp.blanks, fo.blanks, fd.blanks);
+      s = fs.text;
+      p = fp.text;
+      o = fo.text;
+      stop = fd.stop;
+      behind = fd.behind;
+      subject = fs.spelled;
+      predicate = fp.spelled;
+      object = fo.spelled;
+      is_stop = fd.is_stop;
+      bare = fd.bare;
+      whole =
+          fs.whole ∙ ap (λ l. fs.before ++ (fs.text ++ l)) (fp.whole ∙ ap (λ l. fp.before ++ (fp.text ++ l)) (fo.whole ∙ ap (λ l. fo.before ++ (fo.text ++ l)) fd.whole));
+    } in
+    subst (SpelledRequest text) (ok_is _ asked d.2) made

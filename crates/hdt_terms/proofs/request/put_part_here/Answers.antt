@@ -1,0 +1,10 @@
+use Rattle.std.proofs.Common.{ne_eqb}
+use Rattle.hdt_terms.proofs.Parts.{behind_any, part_read}
+use Rattle.hdt_terms.proofs.request.put_part_here.Goals as goal
+
+pub returns-then-first-eq63-clause-utf8 : goal.returns-then-first-eq63-clause-utf8
+returns-then-first-eq63-clause-utf8 c = behind_any c.args.bytes.now c.in-Some.rest.now c.in-Some.first.now c.in-Some.ensures.cases.0 c.if-first-eq63.true c.requires
+
+pub returns-in-Ok-clause-reads : goal.returns-in-Ok-clause-reads
+returns-in-Ok-clause-reads c =
+    part_read c.args.role c.args.bytes.now c.in-Some.rest.now c.in-Some.first.now c.in-Some.ensures.cases.0 (ne_eqb c.in-Some.first.now 63 c.if-first-eq63.false) _ _ (rw c.clear.ensures.items at c.in-Ok.ensures.reads)

@@ -1,0 +1,138 @@
+//! Reading a request of dictionary strings.
+ghost use Rattle.std.specs.Prelude.{◌≡◌, ◌++◌, [], Ok, Err, Option, MatchOption, IfOk};
+ghost use Rattle.hdt_terms.specs.Appending.{Appends, itself};
+ghost use Rattle.hdt_terms.specs.RawReading.{raw_letter, raw_escape, raw_at, tab_at, nothing_at, raw_request_at, raw_request_in, is_raw_given, FillsRaw, HoldsRaw, IsLetterAt};
+ghost use Rattle.hdt_terms.specs.Reading.{Gives};
+
+use crate::encoding::check_utf8;
+use crate::fault::{LineReason, ReadError, TermFault, fault_of, refuse};
+use crate::line::is_bare;
+
+/// What a backslash and a letter stand for.
+fn letter(letter: u8) -> Option<u8>
+    ensures { result ≡ raw_letter letter }
+{
+    match letter {
+        b'\\' => Some(b'\\'),
+        b'n' => Some(b'\n'),
+        b'r' => Some(b'\r'),
+        b't' => Some(b'\t'),
+        _ => None,
+    }
+}
+
+/// The byte for what stands behind a backslash, and what follows it.
+fn letter_at(rest: &[u8]) -> Option<(u8, &[u8])>
+    ensures { IsLetterAt (λ x. x.0) (λ x. x.1.now) rest.now result }
+{
+    let Some((first, behind)) = rest.split_first() else {
+        return None;
+    };
+    match letter(*first) {
+        Some(byte) => Some((byte, behind)),
+        None => None,
+    }
+}
+
+/// Appends the string that stands here, its escapes resolved, and answers the bytes from the tab behind it on.
+fn append_raw<'a>(bytes: &'a [u8], out: &mut Vec<u8>) -> Result<&'a [u8], ReadError>
+    ensures { Appends itself out.old.items out.new.items (λ rest. rest.now) result (raw_at bytes.now) }
+{
+    let mut rest = bytes;
+    'bytes: while let Some((first, tail)) = rest.split_first() {
+        match *first {
+            b'\t' => return Ok(rest),
+            b'\\' => {
+                let Some((byte, behind)) = letter_at(tail) else {
+                    return refuse(LineReason::BadEscape, rest.len());
+                };
+                out.push(byte)?;
+                rest = behind;
+            }
+            byte => {
+                out.push(byte)?;
+                rest = tail;
+            }
+        }
+    }
+    Ok(rest)
+}
+
+/// Puts the string that stands here into the buffer, and answers the bytes from the tab behind it on.
+fn put_raw<'a>(bytes: &'a [u8], out: &mut Vec<u8>) -> Result<&'a [u8], ReadError>
+    ensures { Appends itself [] out.new.items (λ rest. rest.now) result (raw_at bytes.now) }
+{
+    out.clear();
+    append_raw(bytes, out)
+}
+
+/// What follows the tab here.
+fn behind_tab(bytes: &[u8]) -> Result<&[u8], ReadError>
+    ensures { Gives (λ rest. rest.now) result (tab_at bytes.now) }
+{
+    match bytes {
+        [b'\t', behind @ ..] => Ok(behind),
+        _ => refuse(LineReason::Syntax, bytes.len()),
+    }
+}
+
+/// Nothing stands here.
+fn read_nothing(bytes: &[u8]) -> Result<(), ReadError>
+    ensures { Gives (λ _. tt) result (nothing_at bytes.now) }
+{
+    if bytes.is_empty() {
+        return Ok(());
+    }
+    refuse(LineReason::Syntax, bytes.len())
+}
+
+/// Puts the three strings of a line into the buffers.
+#[tactic(auto, unfolding(crate::specs::RawReading::raw_request_at))]
+fn put_raws(text: &[u8], s: &mut Vec<u8>, p: &mut Vec<u8>, o: &mut Vec<u8>) -> Result<(), ReadError>
+    ensures { FillsRaw s.new.items p.new.items o.new.items result (raw_request_at text.now) }
+{
+    let rest = put_raw(text, s)?;
+    let rest = behind_tab(rest)?;
+    let rest = put_raw(rest, p)?;
+    let rest = behind_tab(rest)?;
+    let rest = put_raw(rest, o)?;
+    read_nothing(rest)
+}
+
+/// Whether a string is given, and not any.
+fn is_given(string: &[u8]) -> bool
+    ensures { result ≡ is_raw_given string.now }
+{
+    string != b"?".as_slice()
+}
+
+/// What a line asks for by dictionary strings: which of subject, predicate and object are given, or `None` where it has nothing
+/// but blanks and a comment. A request is three strings with one tab between two of them; in a string `\\`, `\n`, `\r` and `\t`
+/// stand for a backslash, a line feed, a carriage return and a tab. `?` is any. The three strings then stand in the buffers.
+/// Once these have grown, a call allocates nothing; time is in proportion to the line.
+///
+/// # Errors
+///
+/// The fault that stands in the line, with its column in bytes from 1: [`LineReason::NotUtf8`], [`LineReason::BadEscape`] at
+/// the backslash, and [`LineReason::Syntax`] where a tab is missing, at the line's end, or is one too many.
+/// [`LineReason::OutOfMemory`], with the column 0, comes only where memory was refused. After a fault the buffers hold anything.
+pub fn read_raw_request(
+    text: &[u8],
+    s: &mut Vec<u8>,
+    p: &mut Vec<u8>,
+    o: &mut Vec<u8>,
+) -> Result<Option<[bool; 3]>, TermFault>
+    ensures { HoldsRaw s.new.items p.new.items o.new.items result (raw_request_in text.now) }
+{
+    match check_utf8(text) {
+        Ok(()) => {}
+        Err(fault) => return Err(fault),
+    }
+    if is_bare(text) {
+        return Ok(None);
+    }
+    match put_raws(text, s, p, o) {
+        Ok(()) => Ok(Some([is_given(s), is_given(p), is_given(o)])),
+        Err(error) => Err(fault_of(text.len(), error)),
+    }
+}

@@ -1,0 +1,124 @@
+//! Reading a request: a line of three words, each a term or `?` for any.
+ghost use Rattle.std.specs.Prelude.{◌≡◌, [], IfOk, IsUtf8};
+ghost use Rattle.hdt_terms.specs.RequestReading.{part_here, part_at, stop_at, request_at, request_in, FillsPart, FillsAsked, HoldsRequest};
+ghost use Rattle.hdt_terms.specs.LineReading.{bare_at};
+ghost use Rattle.hdt_terms.specs.Reading.{Gives};
+
+use crate::encoding::check_utf8;
+use crate::fault::{LineReason, ReadError, TermFault, fault_of, refuse};
+use crate::line::{Role, append_here, is_bare, is_comment};
+use crate::literal::after_blanks;
+
+/// Puts the string of the term of the role that begins here into the buffer, where it is not `?`: whether there is a term,
+/// and the bytes after it.
+#[tactic(auto, unfolding(crate::specs::RequestReading::part_here))]
+fn put_part_here<'a>(
+    role: Role,
+    bytes: &'a [u8],
+    out: &mut Vec<u8>,
+) -> Result<(bool, &'a [u8]), ReadError>
+    requires { IsUtf8 bytes.now }
+    ensures reads { FillsPart (λ x. x.0) (λ x. x.1.now) out.new.items result (part_here role bytes.now) }
+    ensures utf8 { IfOk result (λ x. IsUtf8 x.1.now) }
+{
+    out.clear();
+    let Some((first, rest)) = bytes.split_first() else {
+        return refuse(LineReason::Syntax, bytes.len());
+    };
+    if *first == b'?' {
+        return Ok((false, rest));
+    }
+    match append_here(role, bytes, out) {
+        Ok(rest) => Ok((true, rest)),
+        Err(error) => Err(error),
+    }
+}
+
+/// The same behind tabs and spaces.
+#[tactic(auto, unfolding(crate::specs::RequestReading::part_at))]
+fn put_part<'a>(
+    role: Role,
+    bytes: &'a [u8],
+    out: &mut Vec<u8>,
+) -> Result<(bool, &'a [u8]), ReadError>
+    requires { IsUtf8 bytes.now }
+    ensures reads { FillsPart (λ x. x.0) (λ x. x.1.now) out.new.items result (part_at role bytes.now) }
+    ensures utf8 { IfOk result (λ x. IsUtf8 x.1.now) }
+{
+    put_part_here(role, after_blanks(bytes), out)
+}
+
+/// Nothing, or a comment.
+fn read_bare(bytes: &[u8]) -> Result<(), ReadError>
+    ensures { Gives (λ _. tt) result (bare_at bytes.now) }
+{
+    if !is_comment(bytes) {
+        return refuse(LineReason::Syntax, bytes.len());
+    }
+    Ok(())
+}
+
+/// A full stop or none behind tabs and spaces, and then nothing or a comment.
+#[tactic(auto, unfolding(crate::specs::RequestReading::stop_at))]
+fn read_stop(bytes: &[u8]) -> Result<(), ReadError>
+    ensures { Gives (λ _. tt) result (stop_at bytes.now) }
+{
+    let bytes = after_blanks(bytes);
+    let Some((first, behind)) = bytes.split_first() else {
+        return Ok(());
+    };
+    if *first == b'.' {
+        return read_bare(after_blanks(behind));
+    }
+    read_bare(bytes)
+}
+
+/// Puts the strings of the terms of a request into the buffers: which of them there are.
+#[tactic(auto, unfolding(crate::specs::RequestReading::request_at))]
+fn put_parts(
+    text: &[u8],
+    s: &mut Vec<u8>,
+    p: &mut Vec<u8>,
+    o: &mut Vec<u8>,
+) -> Result<[bool; 3], ReadError>
+    requires { IsUtf8 text.now }
+    ensures { FillsAsked s.new.items p.new.items o.new.items result (request_at text.now) }
+{
+    let (subject, rest) = put_part(Role::Subject, text, s)?;
+    let (predicate, rest) = put_part(Role::Predicate, rest, p)?;
+    let (object, rest) = put_part(Role::Object, rest, o)?;
+    read_stop(rest)?;
+    Ok([subject, predicate, object])
+}
+
+/// What a line asks for: which of subject, predicate and object are given, or `None` where it has nothing but blanks and a
+/// comment. A request is subject, predicate and object, each a term as it may stand there in a triple, or `?` for any, and
+/// then a full stop or none, and a comment or none; blanks may be missing where they may in a triple. So each line of a
+/// document is a request. The dictionary strings of the terms that are given then stand in the three buffers, and nothing
+/// else. Once these have grown, a call allocates nothing; time is in proportion to the line.
+///
+/// # Errors
+///
+/// The fault that stands in the line, with its column in bytes from 1, as [`crate::Lines::next_triple`] would tell it.
+/// [`LineReason::OutOfMemory`], with the column 0, comes only where memory was refused. After a fault the buffers hold
+/// anything.
+pub fn read_request(
+    text: &[u8],
+    s: &mut Vec<u8>,
+    p: &mut Vec<u8>,
+    o: &mut Vec<u8>,
+) -> Result<Option<[bool; 3]>, TermFault>
+    ensures { HoldsRequest s.new.items p.new.items o.new.items result (request_in text.now) }
+{
+    match check_utf8(text) {
+        Ok(()) => {}
+        Err(fault) => return Err(fault),
+    }
+    if is_bare(text) {
+        return Ok(None);
+    }
+    match put_parts(text, s, p, o) {
+        Ok(given) => Ok(Some(given)),
+        Err(error) => Err(fault_of(text.len(), error)),
+    }
+}
