@@ -127,7 +127,8 @@ fn are_all_answered(
 ) -> Result<bool, AllocError> {
     let requests = times(alloc, request, 100_000)?;
     let answers = times(alloc, answer, 100_000)?;
-    let mut out = Counted::new(Vec::new(alloc));
+    // (a writer that grew would seem to fail where memory is refused)
+    let mut out = Counted::new(Vec::with_capacity(alloc, answers.len())?);
     let seen = answered(alloc, asking, source_of(&requests, ALL), &mut out)?;
     Ok(seen == Ok(false) && out.into_inner() == answers)
 }
