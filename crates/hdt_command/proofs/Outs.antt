@@ -1,0 +1,57 @@
+-- Which commands come with the path of a file that they make.
+use Rattle.std.proofs.Common.{◌≡◌, List, Option, None, Some, inl, inr, string_bytes}
+use Rattle.std.specs.Prelude.{IsSomeAnd, MatchOption, option_map}
+use Rattle.std.specs.declared.alloc.Global.{Global}
+use Rattle.std.specs.declared.string.String.{String}
+use Rattle.clap.specs.Words.{Row, Text}
+use Rattle.hdt_command.specs.declared.request.Action.{Action}
+use Rattle.hdt_command.specs.declared.request.Action.TheVariants.{Head, Verify, VerifyTight, Strings, Nth, Number, Find, Search, Answer, Build, Rewrite}
+use Rattle.hdt_command.specs.declared.request.Request.{Request}
+use Rattle.hdt_command.specs.Answer.{HasOut, MakesFile, ReadsFile}
+use Rattle.hdt_command.specs.Words.{Asks, AsksAction, AsksFor, AsksToMake, Wants}
+
+reads : (name : Text) (rows : List Row) (action : Action) → AsksAction name rows action → ReadsFile action
+reads name rows Head h = tt
+reads name rows Verify h = tt
+reads name rows VerifyTight h = tt
+reads name rows (Strings role) h = tt
+reads name rows (Nth role n) h = tt
+reads name rows (Number role x) h = tt
+reads name rows (Find given numbers) h = tt
+reads name rows (Search given form most) h = tt
+reads name rows (Answer asking) h = tt
+reads name rows (Build options) h = h
+reads name rows (Rewrite b) h = h
+
+makes : (name : Text) (rows : List Row) (action : Action) → AsksToMake name rows action → MakesFile action
+makes name rows Head h = h
+makes name rows Verify h = h
+makes name rows VerifyTight h = h
+makes name rows (Strings role) h = h
+makes name rows (Nth role n) h = h
+makes name rows (Number role x) h = h
+makes name rows (Find given numbers) h = h
+makes name rows (Search given form most) h = h
+makes name rows (Answer asking) h = h
+makes name rows (Build options) h = tt
+makes name rows (Rewrite b) h = tt
+
+without : (A B : Type 0) (out : Option (String Global)) → option_map string_bytes out ≡ None → A → MatchOption out A (λ path. B)
+without A B None e h = h
+without A B (Some path) e h = absurd cc
+
+with : (A B : Type 0) (P : String Global → Type 0) (out : Option (String Global)) → IsSomeAnd out P → B → MatchOption out A (λ path. B)
+with A B P None some h = absurd some
+with A B P (Some path) some h = h
+
+asked : (name : Text) (rows : List Row) (request : Request) → AsksFor name rows request → HasOut request
+asked name rows request (inl h) = without _ _ request.out h.out (reads name rows request.action h.action)
+asked name rows request (inr h) = with _ _ _ request.out h.out (makes name rows request.action h.action)
+
+entered : (command : Option (Text × List Row)) (request : Request) → Asks command request → HasOut request
+entered None request h = absurd h
+entered (Some command) request h = asked command.0 command.1 request h
+
+-- what words want comes with such a path where it makes a file
+pub wanted_out : (words : List Text) (request : Request) → Wants words request → HasOut request
+wanted_out words request w = entered _ request w.wanted.asked

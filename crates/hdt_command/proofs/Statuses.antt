@@ -1,0 +1,148 @@
+-- What a status says of the outcome that it was made of.
+use Rattle.std.proofs.Common.{◌≡◌, ◌≢◌, ◌⊎◌, ◌∙◌, ℕ, Bool, true, false, cond, Option, refl, inl, inr, subst, sym}
+use Rattle.std.specs.Prelude.{List, Result, Ok, Err, MatchResult, IfOk, IfErr, OnOk}
+use Rattle.clap.specs.Words.{Text}
+use Rattle.hdt_command.specs.declared.fault.ToolFault.{ToolFault}
+use Rattle.hdt_command.specs.declared.fault.ToolFault.TheVariants.{File, Input, NoTriples, NoSuchTerm, NoSuchNumber, NotATerm, BadOptions, Read, Write, OutOfMemory}
+use Rattle.hdt_command.specs.declared.fault.UsageFault.{UsageFault}
+use Rattle.hdt_command.specs.declared.request.Call.{Call}
+use Rattle.hdt_command.specs.declared.request.Action.{Action}
+use Rattle.hdt_command.specs.Answer.{Reports}
+use Rattle.hdt_command.specs.Words.{IsRefused, WantsSo}
+use Rattle.hdt_command.specs.Lines.{fault_status}
+use Rattle.hdt_command.specs.Status.{Ends, IsCommandStatus, IsRefusalStatus}
+use Rattle.hdt_command.proofs.Refused.{so}
+
+-- a fault that is not the writer's, or one that is
+by_writer : {A B : Type 0} (fault : ToolFault) → (((n : ℕ) → fault ≢ Write n) → A) → ((n : ℕ) → fault ≡ Write n → B) → A ⊎ B
+by_writer (File fault) other write = inl (other (λ n is. absurd cc))
+by_writer (Input fault) other write = inl (other (λ n is. absurd cc))
+by_writer NoTriples other write = inl (other (λ n is. absurd cc))
+by_writer BadOptions other write = inl (other (λ n is. absurd cc))
+by_writer NoSuchTerm other write = inl (other (λ n is. absurd cc))
+by_writer NoSuchNumber other write = inl (other (λ n is. absurd cc))
+by_writer (NotATerm role m) other write = inl (other (λ n is. absurd cc))
+by_writer Read other write = inl (other (λ n is. absurd cc))
+by_writer (Write m) other write = inr (write m refl)
+by_writer OutOfMemory other write = inl (other (λ n is. absurd cc))
+
+-- a command's status, also where memory for the line of its fault was refused
+pub command_status : (outcome : Result (Unit {0}) ToolFault) (status : ℕ)
+    → MatchResult outcome (λ _. status ≡ 0) (λ fault. (status ≡ fault_status fault) ⊎ (status ≡ 4)) → IsCommandStatus status
+command_status (Ok done) status h = inl h
+command_status (Err fault) status (inl h) = inr (fault, h)
+command_status (Err fault) status (inr h) = inr (OutOfMemory, h)
+
+-- the status of answers
+pub answers_status : (outcome : Result Bool ToolFault) (status : ℕ) → MatchResult outcome (λ faulty. status ≡ cond faulty 1 0) (λ fault. (status ≡ fault_status fault) ⊎ (status ≡ 4)) → IsCommandStatus status
+answers_status (Ok true) status h = inr (NoTriples, h)
+answers_status (Ok false) status h = inl h
+answers_status (Err fault) status (inl h) = inr (fault, h)
+answers_status (Err fault) status (inr h) = inr (OutOfMemory, h)
+
+-- no fault ends with 0
+not_done : (fault : ToolFault) (status : ℕ) → (status ≡ fault_status fault) ⊎ (status ≡ 4) → status ≡ 0 → ⊥
+not_done (File fault) status (inl h) is = absurd cc
+not_done (Input fault) status (inl h) is = absurd cc
+not_done NoTriples status (inl h) is = absurd cc
+not_done BadOptions status (inl h) is = absurd cc
+not_done NoSuchTerm status (inl h) is = absurd cc
+not_done NoSuchNumber status (inl h) is = absurd cc
+not_done (NotATerm role n) status (inl h) is = absurd cc
+not_done Read status (inl h) is = absurd cc
+not_done (Write n) status (inl h) is = absurd cc
+not_done OutOfMemory status (inl h) is = absurd cc
+not_done fault status (inr h) is = absurd cc
+
+-- where the status of answers is 0, all were given and none is a fault
+abbrev IsAnswersStatus : Result Bool ToolFault → ℕ → Type 0
+IsAnswersStatus outcome status = MatchResult outcome (λ faulty. status ≡ cond faulty 1 0) (λ fault. (status ≡ fault_status fault) ⊎ (status ≡ 4))
+
+pub answers_done : (P : Bool → Type 0) (outcome : Result Bool ToolFault) (status : ℕ) → IsAnswersStatus outcome status → IfOk outcome P → status ≡ 0 → P false
+answers_done P (Ok true) status of ok is = absurd cc
+answers_done P (Ok false) status of ok is = ok
+answers_done P (Err fault) status of ok is = absurd (not_done fault status of is)
+
+pub no_fault_done : {A : Type 0} (outcome : Result Bool ToolFault) (status : ℕ) → IsAnswersStatus outcome status → OnOk outcome A → status ≡ 0 → A
+no_fault_done (Ok faulty) status of ok is = ok
+no_fault_done (Err fault) status of ok is = absurd (not_done fault status of is)
+
+-- else one is a fault, or a fault stopped them
+pub answers_stopped : {A : Type 0} (P : Bool → Type 0) (Q : ToolFault → Type 0) (outcome : Result Bool ToolFault) (status : ℕ) → IsAnswersStatus outcome status → IfOk outcome P → IfErr outcome (λ e. A ⊎ Q e) → status ≢ 0
+    → A ⊎ (((status ≡ 1) × P true) ⊎ ((e : ToolFault) × ((status ≡ fault_status e) ⊎ (status ≡ 4)) × Q e))
+answers_stopped P Q (Ok true) status of ok err not = inr (inl (of, ok))
+answers_stopped P Q (Ok false) status of ok err not = absurd (not of)
+answers_stopped P Q (Err fault) status of ok (inl a) not = inl a
+answers_stopped P Q (Err fault) status of ok (inr q) not = inr (inr (fault, of, q))
+
+-- where the status is 0, what is so of a command that was done is so
+pub if_done : {A : Type 0} (outcome : Result (Unit {0}) ToolFault) (status : ℕ) → MatchResult outcome (λ _. status ≡ 0) (λ fault. (status ≡ fault_status fault) ⊎ (status ≡ 4))
+    → OnOk outcome A → status ≡ 0 → A
+if_done (Ok done) status of ok is = ok
+if_done (Err fault) status of ok is = absurd (not_done fault status of is)
+
+-- the status that stands with the line of a fault, where there is memory for it
+pub told_status : {S E : Type 0} (fault : ToolFault) (line : Result (ℕ × S) E) (status : ℕ) → IfOk line (λ said. said.0 ≡ fault_status fault)
+    → MatchResult line (λ said. status ≡ said.0) (λ _. status ≡ 4) → (status ≡ fault_status fault) ⊎ (status ≡ 4)
+told_status fault (Ok said) status is h = inl (h ∙ is)
+told_status fault (Err e) status is h = inr h
+
+pub second : {A B C : Type 0} → (B → C) → A ⊎ B → A ⊎ C
+second f (inl a) = inl a
+second f (inr b) = inr (f b)
+
+-- with status 1 nothing was written
+first : {A C D : Type 0} → (D → ⊥) → A ⊎ (D × C) → A
+first not (inl a) = a
+first not (inr h) = absurd (not h.0)
+
+pub still_at_1 : (A C : Type 0) (outcome : Result (Unit {0}) ToolFault) (status : ℕ) → MatchResult outcome (λ _. status ≡ 0) (λ fault. (status ≡ fault_status fault) ⊎ (status ≡ 4))
+    → IfErr outcome (λ fault. ((n : ℕ) → fault ≢ Write n) → A ⊎ ((fault ≡ OutOfMemory) × C)) → status ≡ 1 → A
+still_at_1 A C (Ok done) status of unwritten is = absurd cc
+still_at_1 A C (Err fault) status (inr memory) unwritten is = absurd cc
+still_at_1 A C (Err (File fault)) status (inl h) unwritten is = first (λ e. cc) (unwritten (λ n e. absurd cc))
+still_at_1 A C (Err (Input fault)) status (inl h) unwritten is = first (λ e. cc) (unwritten (λ n e. absurd cc))
+still_at_1 A C (Err NoTriples) status (inl h) unwritten is = first (λ e. cc) (unwritten (λ n e. absurd cc))
+still_at_1 A C (Err NoSuchTerm) status (inl h) unwritten is = first (λ e. cc) (unwritten (λ n e. absurd cc))
+still_at_1 A C (Err NoSuchNumber) status (inl h) unwritten is = first (λ e. cc) (unwritten (λ n e. absurd cc))
+still_at_1 A C (Err (NotATerm role m)) status (inl h) unwritten is = first (λ e. cc) (unwritten (λ n e. absurd cc))
+still_at_1 A C (Err BadOptions) status (inl h) unwritten is = absurd cc
+still_at_1 A C (Err Read) status (inl h) unwritten is = absurd cc
+still_at_1 A C (Err (Write m)) status (inl h) unwritten is = absurd cc
+still_at_1 A C (Err OutOfMemory) status (inl h) unwritten is = absurd cc
+
+-- where the status is not 0, nothing was written, or the writer failed, or memory was refused in the midst
+joined : {A B C D : Type 0} → (A ⊎ (D × C)) ⊎ B → A ⊎ (B ⊎ C)
+joined (inl (inl a)) = inl a
+joined (inl (inr h)) = inr (inr h.1)
+joined (inr b) = inr (inl b)
+
+pub stopped : {A B C : Type 0} (outcome : Result (Unit {0}) ToolFault) (status : ℕ) → MatchResult outcome (λ _. status ≡ 0) (λ fault. (status ≡ fault_status fault) ⊎ (status ≡ 4))
+    → IfErr outcome (λ fault. ((n : ℕ) → fault ≢ Write n) → A ⊎ ((fault ≡ OutOfMemory) × C)) → IfErr outcome (λ fault. (n : ℕ) → fault ≡ Write n → B) → status ≢ 0 → A ⊎ (B ⊎ C)
+stopped (Ok done) status of unwritten write not = absurd (not of)
+stopped (Err fault) status of unwritten write not = joined (by_writer fault unwritten write)
+
+-- a fault that goes to memory is told as it is, or as want of memory
+either_way : {A : Type 0} → A ⊎ A → A
+either_way (inl a) = a
+either_way (inr a) = a
+
+pub told_in_memory : (action : Action) (before : Option (List ℕ)) (fault told : ToolFault) → ((n : ℕ) → fault ≡ Write n → told ≡ OutOfMemory) → (((n : ℕ) → fault ≢ Write n) → told ≡ fault)
+    → Reports action before fault → Reports action before told
+told_in_memory action before fault told memory other h =
+    either_way (by_writer fault (λ not. subst (Reports action before) (sym (other not)) h)
+    (λ n is. subst (Reports action before) (sym (memory n is)) (record { after = h.after; tells = tt })))
+
+pub kept_in_memory : (outcome : Result (Unit {0}) ToolFault) (fault told kind : ToolFault) → outcome ≡ Err fault → (((n : ℕ) → fault ≢ Write n) → told ≡ fault) → ((n : ℕ) → kind ≢ Write n)
+    → outcome ≡ Err kind → told ≡ kind
+kept_in_memory outcome fault told kind is other not e =
+    let same : fault ≡ kind = cc in
+    other (λ n w. not n (sym same ∙ w)) ∙ same
+
+-- the status of what the words ask for is one that the words end with
+pub ends : {X E : Type 0} (texts : X → List Text) (words : Result X E) (asked : Result Call UsageFault) (status : ℕ)
+    → IfOk asked (λ asked. MatchResult words (λ w. WantsSo (texts w) asked) (λ _. ⊥)) → IfErr asked (λ fault. IfOk words (λ w. IsRefused (texts w) fault))
+    → MatchResult asked (λ _. IsCommandStatus status) (λ fault. IsRefusalStatus fault status) → IfOk words (λ w. Ends (texts w) status)
+ends texts (Ok w) (Ok asked) status wanted refused of = inl (record { request = asked.request; wanted = so (texts w) asked wanted; ends = of })
+ends texts (Ok w) (Err fault) status wanted refused of = inr (record { fault = fault; refused = refused; ends = of })
+ends texts (Err e) asked status wanted refused of = tt

@@ -1,0 +1,49 @@
+-- The strings that find triples, and the lines of the triples' numbers.
+use Rattle.std.proofs.Common.{◌≡◌, ℕ, List, [], ◌∷◌, ◌++◌, Option, None, Some, length, map, refl, sym, ap, ◌∙◌, append_assoc, arith, get_or}
+use Rattle.std.specs.Prelude.{IsSomeAnd, MatchOption, option_map, vec_len}
+use Rattle.std.specs.declared.alloc.Global.{Global}
+use Rattle.std.specs.declared.vec.Vec.{Vec}
+use Rattle.hdt_dict.specs.Strings.{Lent}
+use Rattle.hdt_triples.specs.Counting.{Triple}
+use Rattle.hdt_file.specs.File.{GraphParts}
+use Rattle.hdt_file.specs.TextWriting.{limited}
+use Rattle.hdt_file.specs.declared.fault.DumpFault.{DumpFault}
+use Rattle.hdt_file.specs.declared.fault.DumpFault.TheVariants as dumping
+use Rattle.hdt_command.specs.declared.request.Form.{Form}
+use Rattle.hdt_command.specs.Faults.{dump_fault_of}
+use Rattle.hdt_command.specs.TriplesText.{Given, AreLent, Finds, TellsFound, TellsTriples, numbers_line, numbers_lines}
+
+-- an array of three is its elements
+three : (given : Given) (a b c : Option (Vec ℕ Global)) → length given ≡ 3 → given ≡ get_or given 0 a ∷ get_or given 1 b ∷ get_or given 2 c ∷ []
+three [] a b c n = absurd (omega arith)
+three (x ∷ []) a b c n = absurd (omega arith)
+three (x ∷ y ∷ []) a b c n = absurd (omega arith)
+three (x ∷ y ∷ z ∷ []) a b c n = refl
+three (x ∷ y ∷ z ∷ w ∷ rest) a b c n = absurd (omega arith)
+
+-- a string, lent
+pub lent_part : (a : Option (Vec ℕ Global)) (x : Option Lent) → MatchOption a (x ≡ None) (λ v. IsSomeAnd x (λ y. (y.now ≡ v.items) × (length y.now ≡ vec_len v)))
+    → option_map (λ s. s.now) x ≡ option_map (λ v. v.items) a
+lent_part None x h = ap (option_map (λ s. s.now)) h
+lent_part (Some v) None h = absurd h
+lent_part (Some v) (Some y) h = ap Some h.0
+
+pub are_lent : (given : Given) (a b c : Option (Vec ℕ Global)) (x y z : Option Lent) → length given ≡ 3
+    → option_map (λ s. s.now) x ≡ option_map (λ v. v.items) (get_or given 0 a) → option_map (λ s. s.now) y ≡ option_map (λ v. v.items) (get_or given 1 b)
+    → option_map (λ s. s.now) z ≡ option_map (λ v. v.items) (get_or given 2 c) → AreLent given (x ∷ y ∷ z ∷ [])
+are_lent given a b c x y z n one two last =
+    let whole = ap (λ (xs : Given). map (option_map (λ v. v.items)) xs) (three given a b c n) in cc
+
+-- a triple's line stands behind the text
+pub one_line : (text new all : List ℕ) (t : Triple) (left rest : List Triple) → left ≡ t ∷ rest → new ≡ text ++ numbers_line t → text ++ numbers_lines left ≡ all
+    → new ++ numbers_lines rest ≡ all
+one_line text new all t left rest first is h =
+    ap (λ (x : List ℕ). x ++ numbers_lines rest) is ∙ append_assoc text (numbers_line t) (numbers_lines rest)
+    ∙ sym (ap (λ (ts : List Triple). text ++ numbers_lines ts) first) ∙ h
+
+-- why the triples that strings find do not print
+pub tells_found : (g : GraphParts) (given : Given) (found : List Triple) (form : Form) (most : Option ℕ) (e : DumpFault) → Finds g given found → TellsTriples form g (limited most found) e
+    → TellsFound g given form most (dump_fault_of e)
+tells_found g given found form most (dumping.NotATerm role n) finds h = (h.0, record { found = found; finds = finds; holds = h.1 })
+tells_found g given found form most (dumping.Write n) finds h = absurd h
+tells_found g given found form most dumping.OutOfMemory finds h = tt

@@ -1,0 +1,35 @@
+use Rattle.std.proofs.Common.{◌≡◌, ◌∙◌, List, ℕ, Result, Ok, Err, ap, sym}
+use Rattle.std.proofs.lemmas.Result.{err_from_is_err_and}
+use Rattle.hdt_wire.specs.declared.fault.Fault.{Fault}
+use Rattle.hdt_wire.specs.Exact.{seen}
+use Rattle.hdt_wire.specs.Rows.{Gives}
+use Rattle.hdt_file.specs.Faults.{fault_of}
+use Rattle.hdt_file.specs.Tight.{tight_in}
+use Rattle.hdt_file.specs.Views.{lens_of}
+use Rattle.hdt_file.specs.declared.fault.OpenFault.{OpenFault}
+use Rattle.hdt_file.specs.declared.fault.OpenFault.TheVariants as opening
+use Rattle.hdt_command.specs.Answer.{IsTold}
+use Rattle.hdt_command.specs.Faults.{tool_fault_of}
+use Rattle.hdt_command.specs.Verdict.{verdict}
+use Rattle.hdt_command.specs.declared.request.Action.TheVariants.{VerifyTight}
+use Rattle.hdt_command.proofs.answer.tight_verdict_of.Goals as goal
+
+-- a fault is that of the rows, whatever is seen of their value
+fault_of_rows : {A B : Type 0} (view : A → B) (rows : Result A Fault) (fault : Fault) → seen view rows ≡ Err fault → rows ≡ Err fault
+fault_of_rows view (Ok x) fault e = absurd cc
+fault_of_rows view (Err f) fault e = let is : f ≡ fault = cc in ap Err is
+
+-- and it is told
+told : (bytes : List ℕ) (e : OpenFault) → Gives {X = List ℕ} fault_of (λ lens. lens) (Err e) (seen lens_of (tight_in bytes)) → IsTold VerifyTight bytes (tool_fault_of e)
+told bytes (opening.Fault fault) h = fault_of_rows lens_of (tight_in bytes) fault h
+told bytes opening.OutOfMemory h = tt
+
+pub returns-in_err-lens-clause-err : goal.returns-in_err-lens-clause-err
+returns-in_err-lens-clause-err c =
+    let p = err_from_is_err_and c.from_residual.result c.from_residual.ensures.1 in
+    rw (p.1, p.2) (told c.args.bytes.now c.in_err-lens.field-0.0 c.in_err-lens.ensures.exact)
+
+pub returns-clause-ok : goal.returns-clause-ok
+returns-clause-ok c =
+    let found = c.in_ok-lens.ensures.found in
+    record { graph = found.value; stands = found.is; printed = c.in_ok-verdict.ensures ∙ ap verdict (sym found.seen_as) }

@@ -1,0 +1,15 @@
+use Rattle.std.proofs.Common.{◌≡◌, ◌-◌, vec_len}
+use Rattle.std.specs.Prelude.{◌^◌}
+use Rattle.std.specs.Io.KnownBytes.{Consumes}
+use Rattle.hdt_wire.specs.Counted.{inner, failures}
+use Rattle.hdt_command.proofs.running.read_all.Given as goal
+
+abbrev pub invariant-reads : goal.invariant-reads
+invariant-reads g l = record {
+  read : Consumes (g.R.Read.remaining (inner l.fn.input)) (g.R.Read.remaining (inner l.input)) l.bytes.items;
+  well : failures l.input ≡ failures l.fn.input;
+}
+
+-- a vector has fewer than 2^63 bytes, and each piece is one at least
+abbrev pub decreases-reads : goal.decreases-reads
+decreases-reads g l = 2 ^ 63 - vec_len l.bytes

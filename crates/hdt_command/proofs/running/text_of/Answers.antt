@@ -1,0 +1,36 @@
+use Rattle.std.proofs.Common.{◌↔◌, subst, sym}
+use Rattle.std.specs.Prelude.{IsErrOf}
+use Rattle.std.proofs.lemmas.Result.{IfOk-weaker, IfErr-weaker}
+use Rattle.hdt_wire.specs.Counted.{inner}
+use Rattle.hdt_build.specs.Options.{AreRight}
+use Rattle.hdt_build.specs.declared.options.Options.{Options}
+use Rattle.hdt_command.specs.Answer.{IfBuild, Makes, ReadsFile}
+use Rattle.hdt_command.specs.Whole.{query_action, whole_action}
+use Rattle.hdt_command.specs.declared.whole.Whole.{Whole}
+use Rattle.hdt_command.specs.declared.fault.ToolFault.TheVariants.{BadOptions}
+use Rattle.hdt_command.proofs.Making.{nothing_built, no_options, not_writing, reads_file}
+use Rattle.hdt_command.proofs.running.text_of.Goals as goal
+
+pub returns-in-Query-clause-ok : goal.returns-in-Query-clause-ok
+returns-in-Query-clause-ok g c =
+    let left = g.R.Read.remaining in
+    let query = c.in-Query.query in
+    IfOk-weaker c.file_text.result _ _
+    (λ text h. subst (λ (w : Whole). Makes (whole_action w) (left (inner c.args.input.now)) (left (inner c.file_text.new.input)) text.items c.args.made.now.items c.args.made.now.items) (sym c.in-Query.is)
+    (nothing_built (query_action query) (reads_file query) (left (inner c.args.input.now)) (left (inner c.file_text.new.input)) text.items c.args.made.now.items h))
+    c.file_text.ensures.ok
+
+pub returns-in-Query-clause-bad : goal.returns-in-Query-clause-bad
+returns-in-Query-clause-bad g c =
+    no_options (whole_action c.args.whole) _ (subst (λ (w : Whole). ReadsFile (whole_action w)) (sym c.in-Query.is) (reads_file c.in-Query.query))
+
+pub returns-in-Query-clause-unread : goal.returns-in-Query-clause-unread
+returns-in-Query-clause-unread g c =
+    no_options (whole_action c.args.whole) _ (subst (λ (w : Whole). ReadsFile (whole_action w)) (sym c.in-Query.is) (reads_file c.in-Query.query))
+
+pub returns-in-Query-clause-others : goal.returns-in-Query-clause-others
+returns-in-Query-clause-others g c = IfErr-weaker c.file_text.result _ _ not_writing c.file_text.ensures.others
+
+pub returns-in-Build-clause-bad : goal.returns-in-Build-clause-bad
+returns-in-Build-clause-bad g c =
+    subst (λ (w : Whole). IfBuild (whole_action w) (λ (options : Options). IsErrOf c.built_text.result BadOptions ↔ (AreRight options → ⊥))) (sym c.in-Build.is) c.built_text.ensures.bad

@@ -1,0 +1,5 @@
+use Rattle.hdt_command.proofs.Statuses.{command_status}
+use Rattle.hdt_command.proofs.status.stored.Goals as goal
+
+pub returns : goal.returns
+returns c = command_status c.build_to.result c.done.result c.done.ensures

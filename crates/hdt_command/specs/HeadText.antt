@@ -1,0 +1,20 @@
+-- What `hdt head` prints: five lines, each a label, a space and a text, and a
+-- line feed at its end; then the header body as it is.
+use Rattle.std.specs.Prelude.{ℕ, List, [], ◌∷◌, ◌++◌, codes, length}
+use Rattle.std.specs.Fmt.{decimal}
+use Rattle.hdt_wire.specs.Control.{Block}
+use Rattle.hdt_file.specs.Head.{HeadParts}
+use Rattle.hdt_command.specs.Escaping.{escaped}
+
+abbrev pub line : List ℕ → List ℕ → List ℕ
+line label text = label ++ 32 ∷ escaped text ++ 10 ∷ []
+
+-- the two lines of a control block
+abbrev pub block_lines : List ℕ → Block → List ℕ
+block_lines name block = line name block.format ++ line (codes "properties") block.properties
+
+abbrev pub length_line : ℕ → List ℕ
+length_line n = codes "length " ++ decimal n ++ 10 ∷ []
+
+unfoldable pub head_text : HeadParts → List ℕ
+head_text head = block_lines (codes "global") head.global ++ block_lines (codes "header") head.header ++ length_line (length head.body) ++ head.body

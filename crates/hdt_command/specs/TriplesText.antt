@@ -1,0 +1,97 @@
+-- What `find` and `dump` print: the triples that have the strings that are given, or any where none is.
+use Rattle.std.specs.Prelude.{◌≡◌, ◌↔◌, ℕ, Bool, true, false, List, [], ◌∷◌, ◌++◌, Option, Some, map, length, option_map}
+use Rattle.std.specs.Fmt.{decimal}
+use Rattle.std.specs.List.{flat_map}
+use Rattle.std.specs.declared.alloc.Global.{Global}
+use Rattle.std.specs.declared.vec.Vec.{Vec}
+use Rattle.hdt_dict.specs.Strings.{Lent}
+use Rattle.hdt_wire.specs.declared.role.Role.{Role}
+use Rattle.hdt_triples.specs.Counting.{Triple}
+use Rattle.hdt_triples.specs.declared.pattern.Pattern.{Pattern}
+use Rattle.hdt_file.specs.Denoted.{denoted}
+use Rattle.hdt_file.specs.File.{GraphParts}
+use Rattle.hdt_file.specs.Search.{IsPattern}
+use Rattle.hdt_file.specs.Text.{IsFirstIn, IsTextOf}
+use Rattle.hdt_file.specs.TextWriting.{chosen, limited}
+use Rattle.hdt_file.specs.declared.fault.DumpFault.{DumpFault}
+use Rattle.hdt_file.specs.declared.fault.DumpFault.TheVariants as dumping
+use Rattle.hdt_command.specs.declared.request.Form.{Form}
+use Rattle.hdt_command.specs.declared.request.Form.TheVariants.{Lines, Numbers, Count}
+use Rattle.hdt_command.specs.declared.fault.ToolFault.{ToolFault}
+use Rattle.hdt_command.specs.declared.fault.ToolFault.TheVariants.{File, Input, NoTriples, NoSuchTerm, NoSuchNumber, NotATerm, BadOptions, Read, Write, OutOfMemory}
+
+-- the strings that are given for subject, predicate and object, each or none
+abbrev pub Given : Type 0
+Given = List (Option (Vec ℕ Global))
+
+-- the same strings, lent from somewhere
+abbrev pub AreLent : Given → List (Option Lent) → Type 0
+AreLent given lent = map (option_map (λ x. x.now)) lent ≡ map (option_map (λ x. x.items)) given
+
+-- the triples that strings find, each or none of subject, predicate and object: the matches of the pattern of their numbers, or none
+-- where there is no such pattern
+pub record FindsStrings (g : GraphParts) (strings : List (Option (List ℕ))) (found : List Triple) : Type 0 where
+  pub lent : List (Option Lent)
+  pub same : map (option_map (λ x. x.now)) lent ≡ strings
+  pub pattern : Option Pattern
+  pub exact : (p : Pattern) → (pattern ≡ Some p) ↔ IsPattern g lent p
+  pub matching : found ≡ chosen g pattern
+
+abbrev pub Finds : GraphParts → Given → List Triple → Type 0
+Finds g given found = FindsStrings g (map (option_map (λ x. x.items)) given) found
+
+-- of the triples that the strings find this holds
+pub record FindsWith (g : GraphParts) (given : Given) (Holds : List Triple → Type 0) : Type 0 where
+  pub found : List Triple
+  pub finds : Finds g given found
+  pub holds : Holds found
+
+-- the line of a triple's numbers: subject, predicate and object, with spaces between them
+abbrev pub numbers_line : Triple → List ℕ
+numbers_line t = decimal t.0 ++ 32 ∷ (decimal t.1 ++ 32 ∷ (decimal t.2 ++ 10 ∷ []))
+
+-- a line for each triple, in order
+abbrev pub numbers_lines : List Triple → List ℕ
+numbers_lines found = flat_map numbers_line found
+
+-- the line with how many there are
+abbrev pub count_line : List Triple → List ℕ
+count_line found = decimal (length found) ++ 10 ∷ []
+
+-- numbers or N-Triples, by a flag
+abbrev pub form_of : Bool → Form
+form_of false = Lines
+form_of true = Numbers
+
+-- triples print as the text: in N-Triples, as the lines of their numbers, or as how many they are
+abbrev pub PrintsTriples : Form → GraphParts → List Triple → List ℕ → Type 0
+PrintsTriples Lines g found text = IsTextOf (denoted g found) text
+PrintsTriples Numbers g found text = text ≡ numbers_lines found
+PrintsTriples Count g found text = text ≡ count_line found
+
+-- why triples do not print
+abbrev pub TellsTriples : Form → GraphParts → List Triple → DumpFault → Type 0
+TellsTriples form g found (dumping.NotATerm role n) = (form ≡ Lines) × IsFirstIn g found role n
+TellsTriples form g found (dumping.Write n) = ⊥
+TellsTriples form g found dumping.OutOfMemory = Unit {0}
+
+-- the triples that the strings find, or at most so many of the first, print as the text
+abbrev pub PrintsFound : GraphParts → Given → Form → Option ℕ → List ℕ → Type 0
+PrintsFound g given form most text = FindsWith g given (λ found. PrintsTriples form g (limited most found) text)
+
+-- in N-Triples: the first string of these triples that is no term has this role and number
+abbrev pub LacksTermIn : GraphParts → Given → Form → Option ℕ → Role → ℕ → Type 0
+LacksTermIn g given form most role n = (form ≡ Lines) × FindsWith g given (λ found. IsFirstIn g (limited most found) role n)
+
+-- why these triples do not print: a string that is no term, or want of memory
+abbrev pub TellsFound : GraphParts → Given → Form → Option ℕ → ToolFault → Type 0
+TellsFound g given form most (File fault) = ⊥
+TellsFound g given form most (Input fault) = ⊥
+TellsFound g given form most NoTriples = ⊥
+TellsFound g given form most BadOptions = ⊥
+TellsFound g given form most NoSuchTerm = ⊥
+TellsFound g given form most NoSuchNumber = ⊥
+TellsFound g given form most (NotATerm role n) = LacksTermIn g given form most role n
+TellsFound g given form most Read = ⊥
+TellsFound g given form most (Write n) = ⊥
+TellsFound g given form most OutOfMemory = Unit {0}

@@ -1,0 +1,241 @@
+//! Requests that are answered one by one over a graph.
+ghost use Rattle.std.specs.Prelude.{◌≡◌, ◌≢◌, ◌+◌, ◌<◌, ◌∷◌, [], ◌++◌, ◌||◌, ℕ, List, Option, None, Some, Ok, true, false, option_map, if◌then◌else◌, IfOk, IfErr, OnOk, IsErrOf, string_bytes};
+ghost use Rattle.hdt_wire.specs.Counted.{inner, failures};
+ghost use Rattle.hdt_terms.specs.Documents.{AreLines, FaultBehind};
+ghost use Rattle.hdt_terms.specs.Taking.{left, line_number};
+ghost use Rattle.hdt_terms.specs.declared.fault.LineReason.TheVariants as reasons;
+ghost use Rattle.hdt_file.specs.TextWriting.{chosen, limited};
+ghost use Rattle.hdt_file.specs.Views.{graph_seen};
+ghost use Rattle.hdt_command.specs.Dialogue.{AnswersFound, AnswersInput, AnswersLine, AnswersSome, Gone, IsStop, ReadsWanted, ended, fault_comment, given_of, lines_left, most_bytes, no_term_comment, wanted_in};
+ghost use Rattle.hdt_command.specs.TriplesText.{FindsStrings};
+
+use crate::fault::ToolFault;
+use crate::lines::role_name;
+use crate::printed_strings::write_piece;
+use crate::printed_triples::graph_triples_text;
+use crate::request::Asking;
+use hdt_dict::Role;
+use hdt_file::{DumpFault, Graph};
+use hdt_seq::Steps;
+use hdt_terms::{
+    LineFault, LineReason, Lines, TermFault, read_raw_request, read_request, run_of_texts,
+};
+use hdt_triples::Pattern;
+use hdt_wire::Counted;
+use std::alloc::{AllocError, Global};
+use std::io::{Read, Write};
+
+/// What a line asks for, by terms or by dictionary strings, whose strings then stand in the buffers.
+fn read_line(
+    raw: bool,
+    text: &[u8],
+    subject: &mut Vec<u8>,
+    predicate: &mut Vec<u8>,
+    object: &mut Vec<u8>,
+) -> Result<Option<[bool; 3]>, TermFault>
+    ensures { ReadsWanted result subject.new.items predicate.new.items object.new.items (wanted_in raw text.now) }
+{
+    if raw {
+        return read_raw_request(text, subject, predicate, object);
+    }
+    read_request(text, subject, predicate, object)
+}
+
+/// The string, where it is given.
+fn given_part(given: bool, string: &[u8]) -> Option<&[u8]>
+    ensures { option_map (λ x. x.now) result ≡ (if given then Some string.now else None) }
+{
+    if given { Some(string) } else { None }
+}
+
+/// The pattern of the numbers of the strings that are given, where each is in its role.
+fn asked_pattern(
+    graph: &Graph<'_>,
+    given: [bool; 3],
+    subject: &[u8],
+    predicate: &[u8],
+    object: &[u8],
+) -> Option<Pattern>
+    ensures { FindsStrings (graph_seen graph.now) (given_of given subject.now predicate.now object.now) (chosen (graph_seen graph.now) result) }
+{
+    let lent = [
+        given_part(given[0], subject),
+        given_part(given[1], predicate),
+        given_part(given[2], object),
+    ];
+    graph.pattern(lent, &mut Steps::new())
+}
+
+/// The comment that tells the fault of a line.
+fn fault_comment_line(alloc: Global, line: u64, fault: TermFault) -> Result<String, AllocError>
+    ensures { IfOk result (λ text. string_bytes text ≡ fault_comment line fault) }
+{
+    let column = fault.column;
+    let number = fault.reason.number();
+    let name = fault.reason.name();
+    format!(in alloc; "# line {line} column {column}: {number} {name}\n")
+}
+
+/// The answer of a line with a fault.
+fn fault_answer(alloc: Global, line: u64, fault: TermFault) -> Result<Vec<u8>, AllocError>
+    ensures { IfOk result (λ answer. answer.items ≡ ended (fault_comment line fault)) }
+{
+    let text = fault_comment_line(alloc, line, fault)?;
+    let mut answer = text.into_bytes();
+    answer.push(b'\n')?;
+    Ok(answer)
+}
+
+/// The answer that tells a string that is no term.
+fn no_term_answer(alloc: Global, role: Role, number: u64) -> Result<Vec<u8>, AllocError>
+    ensures { IfOk result (λ answer. answer.items ≡ ended (no_term_comment role number)) }
+{
+    let role = role_name(role);
+    let text = format!(in alloc; "# {role} {number} is not a term\n\n")?;
+    Ok(text.into_bytes())
+}
+
+/// The answer of a pattern, or of nothing, and whether it tells a string that is no term.
+fn found_answer(
+    alloc: Global,
+    graph: &Graph<'_>,
+    asking: Asking,
+    pattern: Option<Pattern>,
+) -> Result<(bool, Vec<u8>), AllocError>
+    ensures { IfOk result (λ x. AnswersFound asking.form (graph_seen graph.now) (limited asking.most (chosen (graph_seen graph.now) pattern)) x.0 x.1.items) }
+{
+    match graph_triples_text(alloc, graph, pattern, asking.form, asking.most) {
+        Ok(mut text) => {
+            text.push(b'\n')?;
+            Ok((false, text))
+        }
+        Err(DumpFault::NotATerm(role, number)) => Ok((true, no_term_answer(alloc, role, number)?)),
+        Err(_) => Err(AllocError),
+    }
+}
+
+/// The answer of a line, which has this number, and whether it is a fault.
+fn line_answer(
+    alloc: Global,
+    graph: &Graph<'_>,
+    asking: Asking,
+    line: u64,
+    text: &[u8],
+    subject: &mut Vec<u8>,
+    predicate: &mut Vec<u8>,
+    object: &mut Vec<u8>,
+) -> Result<(bool, Vec<u8>), AllocError>
+    ensures { IfOk result (λ x. AnswersLine (graph_seen graph.now) asking (line, text.now) x.0 x.1.items) }
+{
+    match read_line(asking.raw, text, subject, predicate, object) {
+        Ok(None) => Ok((false, Vec::new(alloc))),
+        Ok(Some(given)) => {
+            let pattern = asked_pattern(graph, given, subject, predicate, object);
+            found_answer(alloc, graph, asking, pattern)
+        }
+        Err(fault) => match fault.reason {
+            LineReason::OutOfMemory => Err(AllocError),
+            _ => Ok((true, fault_answer(alloc, line, fault)?)),
+        },
+    }
+}
+
+/// More bytes than any input has.
+const MOST_BYTES: u64 = 9_223_372_036_854_775_807;
+
+/// The next line of a run, where there is one.
+fn next_line<R: Read>(
+    lines: &mut Lines,
+    input: &mut Counted<R>,
+    text: &mut Vec<u8>,
+) -> Result<bool, LineFault>
+    requires { lines.old.failed ≡ None }
+    ensures more { (all : Option (List ℕ)) (done : List (ℕ × List ℕ)) → Gone lines.old all (left lines.old (R.remaining (inner input.old))) done → result ≡ Ok true →
+        Gone lines.new all (left lines.new (R.remaining (inner input.new))) (done ++ (line_number lines.new, text.new.items) ∷ []) }
+    ensures all { (all : Option (List ℕ)) (done : List (ℕ × List ℕ)) → Gone lines.old all (left lines.old (R.remaining (inner input.old))) done → result ≡ Ok false →
+        AreLines most_bytes all done }
+    ensures fault { (all : Option (List ℕ)) (done : List (ℕ × List ℕ)) → Gone lines.old all (left lines.old (R.remaining (inner input.old))) done →
+        IfErr result (λ f. FaultBehind f most_bytes all (R.remaining (inner input.new)) done) }
+    ensures fewer { result ≡ Ok true → lines_left lines.new < lines_left lines.old }
+    ensures well { OnOk result (lines.new.failed ≡ None) }
+    ensures read { IfErr result (λ f. f.reason ≡ reasons.Read → failures input.new ≡ failures input.old + 1) }
+    ensures still { IfErr result (λ f. f.reason ≢ reasons.Read → failures input.new ≡ failures input.old) }
+    ensures count { OnOk result (failures input.new ≡ failures input.old) }
+{
+    run_of_texts();
+    lines.next_text(input, text)
+}
+
+/// Why answering stops where a line can't be read.
+fn stop_of(fault: LineFault) -> ToolFault
+    ensures { IsStop fault result }
+{
+    match fault.reason {
+        LineReason::Read => ToolFault::Read,
+        LineReason::OutOfMemory => ToolFault::OutOfMemory,
+        _ => ToolFault::Input(fault),
+    }
+}
+
+/// Whether one of two holds.
+fn either(one: bool, other: bool) -> bool
+    ensures { result ≡ one || other }
+{
+    one || other
+}
+
+/// Answers the requests of a reader, line by line up to its end: each answer is written before the next line is read. It tells
+/// whether one of the answers is a fault. Memory is that of the longest request and of the longest answer, which is made whole as
+/// [`graph_text_up_to`](hdt_file::graph_text_up_to) makes it; the time of a request is that of its search and its text.
+///
+/// # Errors
+///
+/// [`ToolFault::Read`] where the reader failed, [`ToolFault::Write`] where the writer did, [`ToolFault::Input`] where there are
+/// more bytes than [`Lines`] takes, and [`ToolFault::OutOfMemory`]; what was answered before stays whole.
+pub fn answer_requests<R: Read, W: Write>(
+    alloc: Global,
+    graph: &Graph<'_>,
+    asking: Asking,
+    input: &mut Counted<R>,
+    out: &mut Counted<W>,
+) -> Result<bool, ToolFault>
+    // The writer has gained the answers of all lines of the input, in order, and whether one is a fault is told.
+    ensures ok { IfOk result (AnswersInput (graph_seen graph.now) asking (R.remaining (inner input.old)) (W.contents (inner out.old)) (W.contents (inner out.new))) }
+    ensures writer_well { OnOk result (failures out.new ≡ failures out.old) }
+    // It has gained whole answers of the lines before, or of the writer's failure exactly the first n bytes of the answers.
+    // Where a line can't be read, want of memory aside, they are the answers of all lines that came whole, and the fault stands behind these.
+    ensures stopped { IfErr result (AnswersSome (graph_seen graph.now) asking (R.remaining (inner input.old)) (R.remaining (inner input.new))
+        (W.contents (inner out.old)) (W.contents (inner out.new)) (failures out.old) (failures out.new)) }
+    ensures read { IsErrOf result ToolFault.Read → failures input.new ≡ failures input.old + 1 }
+    ensures reader_told { IfErr result (λ e. e ≢ ToolFault.Read → failures input.new ≡ failures input.old) }
+    ensures reader_well { OnOk result (failures input.new ≡ failures input.old) }
+{
+    run_of_texts();
+    let mut lines = Lines::new(alloc, MOST_BYTES)?;
+    let mut text = Vec::new(alloc);
+    let mut subject = Vec::new(alloc);
+    let mut predicate = Vec::new(alloc);
+    let mut object = Vec::new(alloc);
+    let mut written = 0;
+    let mut faulty = false;
+    'lines: loop {
+        match next_line(&mut lines, input, &mut text) {
+            Ok(true) => {}
+            Ok(false) => return Ok(faulty),
+            Err(fault) => return Err(stop_of(fault)),
+        }
+        let line = lines.line_number();
+        let (is_fault, answer) = line_answer(
+            alloc,
+            graph,
+            asking,
+            line,
+            &text,
+            &mut subject,
+            &mut predicate,
+            &mut object,
+        )?;
+        written = write_piece(&answer, written, out)?;
+        faulty = either(faulty, is_fault);
+    }
+}

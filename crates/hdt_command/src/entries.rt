@@ -1,0 +1,241 @@
+//! The entries that `clap` states for a command.
+ghost use Rattle.std.specs.Prelude.{◌≡◌, ◌≢◌, ℕ, List, [], IfOk, IfErr, IsSome, MatchOption, Some, codes, string_bytes};
+ghost use Rattle.clap.specs.Words.{first_of, one_of, found_of, rows_of};
+ghost use Rattle.hdt_build.specs.declared.options.Options.{Options};
+ghost use Rattle.hdt_wire.specs.declared.role.Role.{Role};
+ghost use Rattle.hdt_command.specs.Words.{AsksAction, ComesWithout, ComesWithoutOr, IsFaultOf, IsMisspelt, IsMisspeltPart, IsStringOf, IsFinding, Misspells, StatesFlag, StatesForm, StatesMost, StatesNumber, StatesOptions, StatesString, StatesWord, TellsTerm};
+ghost use Rattle.hdt_command.specs.Lines.{word_name};
+ghost use Rattle.hdt_command.specs.Table.{role_name};
+
+use crate::fault::{UsageFault, Word};
+use crate::request::{Action, Asking, Form};
+use clap::ArgMatches;
+use hdt_build::Options;
+use hdt_dict::Role;
+use hdt_terms::{LineReason, TermFault, parse_string};
+use std::alloc::Global;
+
+/// The fault of a word that `clap` does not state.
+pub fn missing(alloc: Global) -> UsageFault
+    ensures { ComesWithout ⊥ result }
+{
+    UsageFault::text(alloc, "error: a word is missing")
+}
+
+/// The text of a word.
+pub fn text_at<'m>(alloc: Global, matches: &ArgMatches<'m>, id: &str) -> Result<String, UsageFault>
+    ensures ok { IfOk result (λ text. first_of id.now (rows_of (found_of matches.now)) ≡ Some (string_bytes text)) }
+    ensures refused { IfErr result (ComesWithout (IsSome (first_of id.now (rows_of (found_of matches.now))))) }
+{
+    match matches.get_str(id) {
+        Some(text) => Ok(String::from_str(alloc, text)?),
+        None => Err(missing(alloc)),
+    }
+}
+
+/// The role that a word names.
+fn role_named(alloc: Global, text: &str) -> Result<Role, UsageFault>
+    ensures ok { IfOk result (λ role. text.now ≡ role_name role) }
+    ensures refused { IfErr result (ComesWithout ((role : Role) × (text.now ≡ role_name role))) }
+{
+    match text {
+        "subject" => Ok(Role::Subject),
+        "predicate" => Ok(Role::Predicate),
+        "object" => Ok(Role::Object),
+        _ => Err(missing(alloc)),
+    }
+}
+
+/// The role of the word ROLE.
+pub fn role_at<'m>(alloc: Global, matches: &ArgMatches<'m>) -> Result<Role, UsageFault>
+    ensures ok { IfOk result (λ role. first_of (codes "ROLE") (rows_of (found_of matches.now)) ≡ Some (role_name role)) }
+    ensures refused { IfErr result (ComesWithout ((role : Role) × (first_of (codes "ROLE") (rows_of (found_of matches.now)) ≡ Some (role_name role)))) }
+{
+    match matches.get_str("ROLE") {
+        Some(text) => role_named(alloc, text),
+        None => Err(missing(alloc)),
+    }
+}
+
+/// The number of the word N.
+pub fn number_at<'m>(alloc: Global, matches: &ArgMatches<'m>) -> Result<u64, UsageFault>
+    ensures ok { IfOk result (λ n. StatesNumber 64 (one_of (codes "N") (rows_of (found_of matches.now))) n) }
+    ensures refused { IfErr result (ComesWithout ((n : ℕ) × StatesNumber 64 (one_of (codes "N") (rows_of (found_of matches.now))) n)) }
+{
+    match matches.get_one::<u64>("N") {
+        Some(number) => Ok(number),
+        None => Err(missing(alloc)),
+    }
+}
+
+/// The number of the option `--block-size`.
+pub fn block_size_at<'m>(alloc: Global, matches: &ArgMatches<'m>) -> Result<u32, UsageFault>
+    ensures ok { IfOk result (λ n. StatesNumber 32 (one_of (codes "block-size") (rows_of (found_of matches.now))) n) }
+    ensures refused { IfErr result (ComesWithout ((n : ℕ) × StatesNumber 32 (one_of (codes "block-size") (rows_of (found_of matches.now))) n)) }
+{
+    match matches.get_one::<u32>("block-size") {
+        Some(number) => Ok(number),
+        None => Err(missing(alloc)),
+    }
+}
+
+/// The options of `build`: those that are given, or the ones that stand for them.
+pub fn options_at<'m>(alloc: Global, matches: &ArgMatches<'m>) -> Result<Options, UsageFault>
+    ensures ok { IfOk result (λ options. StatesOptions (rows_of (found_of matches.now)) options) }
+    ensures refused { IfErr result (ComesWithout ((options : Options) × StatesOptions (rows_of (found_of matches.now)) options)) }
+{
+    let base = text_at(alloc, matches, "base")?;
+    Ok(Options {
+        block_size: block_size_at(alloc, matches)?,
+        base: base.into_bytes(),
+    })
+}
+
+/// What `verify` asks for, by `--tight`.
+pub fn verify_at<'m>(matches: &ArgMatches<'m>) -> Action
+    ensures { AsksAction (codes "verify") (rows_of (found_of matches.now)) result }
+{
+    if matches.get_flag("tight") {
+        return Action::VerifyTight;
+    }
+    Action::Verify
+}
+
+/// Whether `--progress` is among the words.
+pub fn progress_at<'m>(matches: &ArgMatches<'m>) -> bool
+    ensures { StatesFlag (one_of (codes "progress") (rows_of (found_of matches.now))) result }
+{
+    matches.get_flag("progress")
+}
+
+/// The fault of a word that was read as a term.
+fn term_fault(word: Word, fault: TermFault) -> UsageFault
+    ensures { TellsTerm word fault result }
+{
+    match fault.reason {
+        LineReason::OutOfMemory => UsageFault::OutOfMemory,
+        _ => UsageFault::Word { word, fault },
+    }
+}
+
+/// The dictionary string that a text gives: itself where it is taken as it is, else that of the term that it spells.
+fn string_of(alloc: Global, word: Word, text: &[u8], raw: bool) -> Result<Vec<u8>, UsageFault>
+    ensures ok { IfOk result (λ x. IsStringOf raw text.now x.items) }
+    ensures refused { IfErr result (ComesWithoutOr (Unit {0}) (IsFaultOf word raw text.now)) }
+{
+    if raw {
+        return Ok(text.to_vec(alloc)?);
+    }
+    let mut string = Vec::new(alloc);
+    match parse_string(text, &mut string) {
+        Ok(()) => Ok(string),
+        Err(fault) => Err(term_fault(word, fault)),
+    }
+}
+
+/// The dictionary string that the word TERM gives: itself with `--raw`, else that of the term that it spells.
+pub fn string_at<'m>(alloc: Global, matches: &ArgMatches<'m>) -> Result<Vec<u8>, UsageFault>
+    ensures ok { IfOk result (λ x. StatesString (one_of (codes "raw") (rows_of (found_of matches.now)))
+        (first_of (codes "TERM") (rows_of (found_of matches.now))) x.items) }
+    ensures refused { IfErr result (ComesWithoutOr (IsSome (first_of (codes "TERM") (rows_of (found_of matches.now))))
+        (λ word fault. (word ≡ Word.Term) × IsMisspelt (rows_of (found_of matches.now)) Word.Term fault)) }
+{
+    let raw = matches.get_flag("raw");
+    match matches.get_str("TERM") {
+        Some(text) => string_of(alloc, Word::Term, text.as_bytes(), raw),
+        None => Err(missing(alloc)),
+    }
+}
+
+/// The dictionary string that a text gives, or none where it is `?`.
+fn part_of(alloc: Global, word: Word, text: &str, raw: bool) -> Result<Option<Vec<u8>>, UsageFault>
+    ensures ok { IfOk result (λ part. MatchOption part (text.now ≡ codes "?") (λ x. (text.now ≢ codes "?") × IsStringOf raw text.now x.items)) }
+    ensures refused { IfErr result (ComesWithoutOr (Unit {0}) (λ other fault. (text.now ≢ codes "?") × IsFaultOf word raw text.now other fault)) }
+{
+    if text == "?" {
+        return Ok(None);
+    }
+    Ok(Some(string_of(alloc, word, text.as_bytes(), raw)?))
+}
+
+/// The dictionary string that the word S, P or O gives: none where it is `?`, itself with `--raw`, else that of the term that
+/// it spells.
+fn part_at<'m>(
+    alloc: Global,
+    matches: &ArgMatches<'m>,
+    word: Word,
+) -> Result<Option<Vec<u8>>, UsageFault>
+    ensures ok { IfOk result (StatesWord (rows_of (found_of matches.now)) word) }
+    ensures refused { IfErr result (ComesWithoutOr (IsSome (first_of (word_name word) (rows_of (found_of matches.now))))
+        (λ other fault. (other ≡ word) × IsMisspeltPart (rows_of (found_of matches.now)) word fault)) }
+{
+    let raw = matches.get_flag("raw");
+    match matches.get_str(word.name()) {
+        Some(text) => part_of(alloc, word, text, raw),
+        None => Err(missing(alloc)),
+    }
+}
+
+/// What `find` prints, by `--count` and `--numbers`.
+fn form_at<'m>(matches: &ArgMatches<'m>) -> Form
+    ensures { StatesForm (rows_of (found_of matches.now)) result }
+{
+    if matches.get_flag("count") {
+        return Form::Count;
+    }
+    if matches.get_flag("numbers") {
+        return Form::Numbers;
+    }
+    Form::Lines
+}
+
+/// The number of the option `--most`, where it is given.
+fn most_at<'m>(matches: &ArgMatches<'m>) -> Option<u64>
+    ensures { StatesMost (rows_of (found_of matches.now)) result }
+{
+    match matches.get_one::<u64>("most") {
+        Some(most) => Some(most),
+        None => None,
+    }
+}
+
+/// The command that `find` is by its strings, its form and the number that it goes up to.
+fn found_action(given: [Option<Vec<u8>>; 3], form: Form, most: Option<u64>) -> Action
+    ensures { IsFinding given form most result }
+{
+    match (form, most) {
+        (Form::Lines, None) => Action::Find {
+            given,
+            numbers: false,
+        },
+        (Form::Numbers, None) => Action::Find {
+            given,
+            numbers: true,
+        },
+        _ => Action::Search { given, form, most },
+    }
+}
+
+/// What `find` asks for: S, P and O are read in turn.
+pub fn find_at<'m>(alloc: Global, matches: &ArgMatches<'m>) -> Result<Action, UsageFault>
+    ensures ok { IfOk result (AsksAction (codes "find") (rows_of (found_of matches.now))) }
+    ensures refused { IfErr result (ComesWithoutOr ((action : Action) × AsksAction (codes "find") (rows_of (found_of matches.now)) action)
+        (Misspells (codes "find") (rows_of (found_of matches.now)))) }
+{
+    let subject = part_at(alloc, matches, Word::Subject)?;
+    let predicate = part_at(alloc, matches, Word::Predicate)?;
+    let object = part_at(alloc, matches, Word::Object)?;
+    let given = [subject, predicate, object];
+    Ok(found_action(given, form_at(matches), most_at(matches)))
+}
+
+/// What `answer` asks for.
+pub fn answer_at<'m>(matches: &ArgMatches<'m>) -> Action
+    ensures { AsksAction (codes "answer") (rows_of (found_of matches.now)) result }
+{
+    Action::Answer(Asking {
+        form: form_at(matches),
+        most: most_at(matches),
+        raw: matches.get_flag("raw"),
+    })
+}

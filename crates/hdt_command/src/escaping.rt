@@ -1,0 +1,27 @@
+//! Texts and strings as they print on one line.
+ghost use Rattle.std.specs.Prelude.{◌≡◌, ◌++◌, OnOk};
+ghost use Rattle.hdt_command.specs.Escaping.{escaped_byte, escaped};
+
+use std::alloc::AllocError;
+
+/// Appends what a byte of a text prints as.
+fn put_escaped_byte(byte: u8, out: &mut Vec<u8>) -> Result<(), AllocError>
+    ensures { OnOk result (out.new.items ≡ out.old.items ++ escaped_byte byte) }
+{
+    match byte {
+        b'\\' => out.extend_from_slice(b"\\\\"),
+        b'\n' => out.extend_from_slice(b"\\n"),
+        b'\r' => out.extend_from_slice(b"\\r"),
+        _ => Ok(out.push(byte)?),
+    }
+}
+
+/// Appends a text with its backslashes, line feeds and carriage returns escaped.
+pub fn put_escaped(text: &[u8], out: &mut Vec<u8>) -> Result<(), AllocError>
+    ensures { OnOk result (out.new.items ≡ out.old.items ++ escaped text.now) }
+{
+    'bytes: for &byte in text {
+        put_escaped_byte(byte, out)?;
+    }
+    Ok(())
+}

@@ -1,0 +1,217 @@
+//! What can go wrong: with a command line, and with a command.
+ghost use Rattle.std.specs.Prelude.{◌≡◌};
+ghost use Rattle.hdt_command.specs.declared.fault.UsageFault.TheVariants.{OutOfMemory as usage_memory};
+ghost use Rattle.hdt_command.specs.declared.fault.ToolFault.TheVariants.{OutOfMemory, File};
+ghost use Rattle.hdt_command.specs.Faults.{line_fault_of};
+
+use hdt_build::{BuildFault, RewriteFault};
+use hdt_dict::Role;
+use hdt_file::{DumpFault, OpenFault};
+use hdt_terms::{LineFault, LineReason, TermFault};
+use hdt_wire::Fault;
+use std::alloc::{AllocError, AllocFailed, Global};
+use thiserror::Error;
+
+/// A word of a command line that is an N-Triples term.
+#[derive(Clone, Copy, Debug, PartialEq, Eq)]
+pub enum Word {
+    /// The TERM of `number`.
+    Term,
+    /// The S of `find`.
+    Subject,
+    /// The P of `find`.
+    Predicate,
+    /// The O of `find`.
+    Object,
+}
+
+impl Word {
+    ghost use Rattle.hdt_command.specs.Lines.{word_name};
+
+    /// The word's name in the help.
+    pub fn name(self) -> &'static str
+        ensures { result.now ≡ word_name self }
+    {
+        match self {
+            Word::Term => "TERM",
+            Word::Subject => "S",
+            Word::Predicate => "P",
+            Word::Object => "O",
+        }
+    }
+}
+
+/// Why a command line gives no request.
+#[derive(Debug, Drop)]
+pub enum UsageFault {
+    /// The words are wrong; the text says how, without a line feed at its end.
+    Usage(String),
+    /// Help or the version was asked for; the text is that, without a line feed at its end.
+    Help(String),
+    /// A word is no N-Triples term.
+    Word {
+        /// Which word.
+        word: Word,
+        /// What is wrong with it, and in which column of it; never want of memory.
+        fault: TermFault,
+    },
+    /// Memory was refused.
+    OutOfMemory,
+}
+
+impl UsageFault {
+    ghost use Rattle.hdt_command.specs.Words.{SaysUsage};
+
+    /// The fault of a command line with this text.
+    pub fn text(alloc: Global, text: &str) -> UsageFault
+        ensures { SaysUsage text.now result }
+    {
+        match String::from_str(alloc, text) {
+            Ok(text) => UsageFault::Usage(text),
+            Err(_) => UsageFault::OutOfMemory,
+        }
+    }
+}
+
+impl<T: Drop> From<AllocFailed<T>> for UsageFault {
+    ghost from_gives = { λ _ e. e ≡ usage_memory };
+
+    fn from(_error: AllocFailed<T>) -> UsageFault {
+        UsageFault::OutOfMemory
+    }
+}
+
+impl From<AllocError> for UsageFault {
+    ghost from_gives = { λ _ e. e ≡ usage_memory };
+
+    fn from(_error: AllocError) -> UsageFault {
+        UsageFault::OutOfMemory
+    }
+}
+
+/// Why a command stopped. The program prints the lines of [`crate::lines::fault_line`], never the texts here.
+#[derive(Clone, Copy, Debug, PartialEq, Eq, Error)]
+pub enum ToolFault {
+    /// The input has a fault.
+    #[error("the file has a fault: {0}")]
+    File(Fault),
+    /// The input is no N-Triples document. The reason is never a failure of the reader or want of memory: those are faults of
+    /// their own here.
+    #[error("the input has a fault: {0}")]
+    Input(LineFault),
+    /// The input is a document without triples, of which no file is built.
+    #[error("no triples")]
+    NoTriples,
+    /// The role has no such string.
+    #[error("no such term")]
+    NoSuchTerm,
+    /// The role has no string with such a number.
+    #[error("no such number")]
+    NoSuchNumber,
+    /// The string of this role with this number, from 1, is no term of the role, so the triple has no N-Triples line.
+    #[error("a string that is not a term: {0:?} {1}")]
+    NotATerm(Role, u64),
+    /// The block size or the base is not one that a file can be built with, or the block size not one to rewrite it with.
+    #[error("bad options")]
+    BadOptions,
+    /// The reader failed, or the file could not be opened.
+    #[error("reading failed")]
+    Read,
+    /// The writer failed after it had taken so many bytes.
+    #[error("writing failed after {0} bytes")]
+    Write(u64),
+    /// Memory was refused.
+    #[error("out of memory")]
+    OutOfMemory,
+}
+
+/// The fault of a line of the input, or of the reader.
+pub fn line_fault(fault: LineFault) -> ToolFault
+    ensures { result ≡ line_fault_of fault }
+{
+    match fault.reason {
+        LineReason::Read => ToolFault::Read,
+        _ => ToolFault::Input(fault),
+    }
+}
+
+impl From<Fault> for ToolFault {
+    ghost from_gives = { λ fault e. e ≡ File fault };
+
+    fn from(fault: Fault) -> ToolFault {
+        ToolFault::File(fault)
+    }
+}
+
+impl From<OpenFault> for ToolFault {
+    ghost use Rattle.hdt_command.specs.Faults.{tool_fault_of};
+
+    ghost from_gives = { λ fault e. e ≡ tool_fault_of fault };
+
+    fn from(fault: OpenFault) -> ToolFault {
+        match fault {
+            OpenFault::Fault(fault) => ToolFault::File(fault),
+            OpenFault::OutOfMemory => ToolFault::OutOfMemory,
+        }
+    }
+}
+
+impl From<DumpFault> for ToolFault {
+    ghost use Rattle.hdt_command.specs.Faults.{dump_fault_of};
+
+    ghost from_gives = { λ fault e. e ≡ dump_fault_of fault };
+
+    fn from(fault: DumpFault) -> ToolFault {
+        match fault {
+            DumpFault::NotATerm(role, number) => ToolFault::NotATerm(role, number),
+            DumpFault::Write(count) => ToolFault::Write(count),
+            DumpFault::OutOfMemory => ToolFault::OutOfMemory,
+        }
+    }
+}
+
+impl From<BuildFault> for ToolFault {
+    ghost use Rattle.hdt_command.specs.Faults.{build_fault_of};
+
+    ghost from_gives = { λ fault e. e ≡ build_fault_of fault };
+
+    fn from(fault: BuildFault) -> ToolFault {
+        match fault {
+            BuildFault::Line(fault) => line_fault(fault),
+            BuildFault::NoTriples => ToolFault::NoTriples,
+            BuildFault::BadOptions => ToolFault::BadOptions,
+            BuildFault::OutOfMemory => ToolFault::OutOfMemory,
+            BuildFault::Write(count) => ToolFault::Write(count),
+        }
+    }
+}
+
+impl From<RewriteFault> for ToolFault {
+    ghost use Rattle.hdt_command.specs.Faults.{rewrite_fault_of};
+
+    ghost from_gives = { λ fault e. e ≡ rewrite_fault_of fault };
+
+    fn from(fault: RewriteFault) -> ToolFault {
+        match fault {
+            RewriteFault::BadOptions => ToolFault::BadOptions,
+            RewriteFault::OutOfMemory => ToolFault::OutOfMemory,
+            RewriteFault::Write(count) => ToolFault::Write(count),
+        }
+    }
+}
+
+impl<T: Drop> From<AllocFailed<T>> for ToolFault {
+    ghost from_gives = { λ _ e. e ≡ OutOfMemory };
+
+    fn from(_error: AllocFailed<T>) -> ToolFault {
+        ToolFault::OutOfMemory
+    }
+}
+
+impl From<AllocError> for ToolFault {
+    ghost from_gives = { λ _ e. e ≡ OutOfMemory };
+
+    fn from(_error: AllocError) -> ToolFault {
+        ToolFault::OutOfMemory
+    }
+}

@@ -1,0 +1,40 @@
+//! What the command `hdt` does: reads its words, does what they ask for, prints one line of what went wrong, and tells the status
+//! that the program ends with. hdt_tool is that program.
+//!
+//! The layer's promise: each request's output is the stated function of the input, and a fault that is told is the one that stands
+//! in it.
+//!
+//! In reading order: `request` and `fault`, what is asked for and what can go wrong; `commands`, `entries` and `words`, how the words
+//! of a command line ask for it, by the table of `clap`; `escaping`, `printed_head`, `printed_verdict`, `printed_strings`,
+//! `printed_triples` and `printed_built`, the texts; `whole` and `answer`, which text a command has; `dialogue`, requests that are
+//! answered one by one; `running`, all commands from a reader to a writer; `lines`, what is told of a fault; `progress`, `replacing` and
+//! `status`, the same with the files, the streams and the status of the program.
+#![tactic(auto)]
+
+mod answer;
+mod commands;
+mod dialogue;
+mod entries;
+mod escaping;
+mod fault;
+mod lines;
+mod printed_built;
+mod printed_head;
+mod printed_strings;
+mod printed_triples;
+mod printed_verdict;
+mod progress;
+mod replacing;
+mod request;
+mod running;
+mod status;
+mod whole;
+mod words;
+
+pub use dialogue::answer_requests;
+pub use fault::{ToolFault, UsageFault, Word};
+pub use lines::{fault_line, usage_line};
+pub use request::{Action, Asking, Call, Form, Request};
+pub use running::{answer_file, run, run_in};
+pub use status::{done, open_fault, status_of, words_of};
+pub use words::{parse_all_words, parse_words};

@@ -1,0 +1,50 @@
+//! What `hdt head` prints.
+ghost use Rattle.std.specs.Prelude.{◌≡◌, ◌++◌, OnOk, IfOk, string_bytes};
+ghost use Rattle.hdt_wire.specs.Control.{block_of};
+ghost use Rattle.hdt_file.specs.Head.{parts_of};
+ghost use Rattle.hdt_command.specs.HeadText.{line, block_lines, length_line, head_text};
+
+use crate::escaping::put_escaped;
+use hdt_file::Head;
+use hdt_wire::Control;
+use std::alloc::{AllocError, Global};
+
+/// Appends a line: a label, a space and a text.
+fn put_line(label: &str, text: &[u8], out: &mut Vec<u8>) -> Result<(), AllocError>
+    ensures { OnOk result (out.new.items ≡ out.old.items ++ line label.now text.now) }
+{
+    out.extend_from_slice(label.as_bytes())?;
+    out.push(b' ')?;
+    put_escaped(text, out)?;
+    Ok(out.push(b'\n')?)
+}
+
+/// Appends the two lines of a block: its name with its format text, and its property text.
+fn put_block(name: &str, block: &Control<'_>, out: &mut Vec<u8>) -> Result<(), AllocError>
+    ensures { OnOk result (out.new.items ≡ out.old.items ++ block_lines name.now (block_of block.now)) }
+{
+    put_line(name, block.format(), out)?;
+    put_line("properties", block.properties(), out)
+}
+
+/// The line of a length.
+#[tactic(auto, using(std::proofs::Common::append_assoc))]
+fn length_line(alloc: Global, length: usize) -> Result<String, AllocError>
+    ensures { IfOk result (λ line. string_bytes line ≡ length_line length) }
+{
+    format!(in alloc; "length {length}\n")
+}
+
+/// The text that `hdt head` prints of a head: five lines, and the header body as it is.
+#[tactic(auto, unfolding(crate::specs::HeadText::head_text))]
+pub fn head_text(alloc: Global, head: &Head<'_>) -> Result<Vec<u8>, AllocError>
+    ensures { IfOk result (λ text. text.items ≡ head_text (parts_of head.now)) }
+{
+    let body = head.body();
+    let mut text = Vec::new(alloc);
+    put_block("global", &head.global(), &mut text)?;
+    put_block("header", &head.header(), &mut text)?;
+    text.extend_from_slice(length_line(alloc, body.len())?.as_bytes())?;
+    text.extend_from_slice(body)?;
+    Ok(text)
+}

@@ -1,0 +1,150 @@
+//! What the commands on the strings of a role print.
+ghost use Rattle.std.specs.Prelude.{◌≡◌, ◌+◌, ◌∷◌, ◌++◌, ◌≢◌, ◌⊎◌, ℕ, List, [], OnOk, IfOk, IfErr, None, Some, length};
+ghost use Rattle.std.specs.Fmt.{decimal};
+ghost use Rattle.std.specs.Io.KnownBytes.{Appends};
+ghost use Rattle.hdt_wire.specs.Counted.{inner, failures};
+ghost use Rattle.hdt_dict.specs.Numbered.{numbered};
+ghost use Rattle.hdt_file.specs.LayoutView.{layout_seen};
+ghost use Rattle.hdt_file.specs.Views.{strings_in};
+ghost use Rattle.hdt_command.specs.Answer.{FailsAfter, IsCut};
+ghost use Rattle.hdt_command.specs.Escaping.{escaped};
+ghost use Rattle.hdt_command.specs.StringsText.{string_line, string_lines, PrintsString, PrintsNumber};
+
+use crate::escaping::put_escaped;
+use crate::fault::ToolFault;
+use hdt_dict::Role;
+use hdt_file::Layout;
+use hdt_seq::Steps;
+use hdt_wire::Counted;
+use std::alloc::{AllocError, Global};
+use std::io::Write;
+
+/// Appends a number in decimal.
+pub fn put_number(number: u64, out: &mut Vec<u8>) -> Result<(), AllocError>
+    ensures { OnOk result (out.new.items ≡ out.old.items ++ decimal number) }
+{
+    let text = number.to_string(*out.allocator())?;
+    out.extend_from_slice(text.as_bytes())
+}
+
+/// Appends a string's line: its number, a tab, the string.
+fn put_string_line(number: u64, string: &[u8], out: &mut Vec<u8>) -> Result<(), AllocError>
+    ensures { OnOk result (out.new.items ≡ out.old.items ++ string_line number string.now) }
+{
+    put_number(number, out)?;
+    out.push(b'\t')?;
+    put_escaped(string, out)?;
+    Ok(out.push(b'\n')?)
+}
+
+/// How many bytes of lines are kept before they are written.
+const PIECE: usize = 65_536;
+
+/// Writes a piece of a text behind so many bytes of it: how many bytes of the text are written then. A text of more bytes than a
+/// number counts ends as want of memory.
+pub fn write_piece<W: Write>(
+    piece: &[u8],
+    written: u64,
+    out: &mut Counted<W>,
+) -> Result<u64, ToolFault>
+    ensures count { IfOk result (λ n. n ≡ written + length piece.now) }
+    ensures ok { OnOk result (Appends (W.contents (inner out.old)) (W.contents (inner out.new)) piece.now) }
+    ensures well { OnOk result (failures out.new ≡ failures out.old) }
+    ensures err { IfErr result (λ e. ((e ≡ ToolFault.OutOfMemory) × (out.new ≡ out.old)) ⊎ ((m : ℕ) × (e ≡ ToolFault.Write (written + m))
+        × FailsAfter m piece.now (W.contents (inner out.old)) (W.contents (inner out.new)) (failures out.old) (failures out.new))) }
+{
+    let Some(end) = written.checked_add(piece.len() as u64) else {
+        return Err(ToolFault::OutOfMemory);
+    };
+    match out.write_all(piece) {
+        Ok(()) => Ok(end),
+        Err(count) => Err(ToolFault::Write(written + count)),
+    }
+}
+
+/// Writes the lines that are kept, where they fill a piece, so that none is kept: how many bytes are written then.
+fn write_full<W: Write>(
+    text: &mut Vec<u8>,
+    written: u64,
+    out: &mut Counted<W>,
+) -> Result<u64, ToolFault>
+    // What is written is taken from the front of what is kept.
+    ensures ok { IfOk result (λ n. (part : List ℕ) × (n ≡ written + length part) × (text.old.items ≡ part ++ text.new.items)
+        × Appends (W.contents (inner out.old)) (W.contents (inner out.new)) part) }
+    ensures well { OnOk result (failures out.new ≡ failures out.old) }
+    ensures err { IfErr result (λ e. ((e ≡ ToolFault.OutOfMemory) × (out.new ≡ out.old)) ⊎ ((m : ℕ) × (e ≡ ToolFault.Write (written + m))
+        × FailsAfter m text.old.items (W.contents (inner out.old)) (W.contents (inner out.new)) (failures out.old) (failures out.new))) }
+{
+    if text.len() < PIECE {
+        return Ok(written);
+    }
+    let written = write_piece(text, written, out)?;
+    text.clear();
+    Ok(written)
+}
+
+/// Prints the lines of all strings of a role, in pieces: kept is at most a piece beside the line of one string.
+pub fn print_strings<W: Write>(
+    alloc: Global,
+    layout: &Layout<'_>,
+    role: Role,
+    out: &mut Counted<W>,
+) -> Result<(), ToolFault>
+    ensures ok { OnOk result (Appends (W.contents (inner out.old)) (W.contents (inner out.new))
+        (string_lines 1 (strings_in (layout_seen layout.now) role))) }
+    ensures well { OnOk result (failures out.new ≡ failures out.old) }
+    // The writer failed behind a beginning of the lines, or memory was refused behind one.
+    ensures cut { IfErr result (λ e. IsCut e (string_lines 1 (strings_in (layout_seen layout.now) role))
+        (W.contents (inner out.old)) (W.contents (inner out.new)) (failures out.old) (failures out.new)) }
+{
+    let mut text = Vec::new(alloc);
+    let mut written = 0;
+    let mut strings = layout.strings(alloc, role);
+    'strings: while let Some(number) = strings.next()? {
+        put_string_line(number, strings.last(), &mut text)?;
+        written = write_full(&mut text, written, out)?;
+    }
+    write_piece(&text, written, out)?;
+    Ok(())
+}
+
+/// The line of the string of a role that has this number.
+pub fn string_text(
+    alloc: Global,
+    layout: &Layout<'_>,
+    role: Role,
+    number: u64,
+) -> Result<Vec<u8>, ToolFault>
+    ensures ok { IfOk result (λ text. PrintsString (strings_in (layout_seen layout.now) role) number text.items) }
+    ensures err { IfErr result (λ e. (e ≡ ToolFault.OutOfMemory)
+        ⊎ ((e ≡ ToolFault.NoSuchNumber) × (numbered (strings_in (layout_seen layout.now) role) number ≡ None))) }
+{
+    let mut string = Vec::new(alloc);
+    if !layout.string_of(role, number, &mut string, &mut Steps::new())? {
+        return Err(ToolFault::NoSuchNumber);
+    }
+    let mut text = Vec::new(alloc);
+    put_escaped(&string, &mut text)?;
+    text.push(b'\n')?;
+    Ok(text)
+}
+
+/// The line of a string's number in a role.
+pub fn number_text(
+    alloc: Global,
+    layout: &Layout<'_>,
+    role: Role,
+    string: &[u8],
+) -> Result<Vec<u8>, ToolFault>
+    ensures ok { IfOk result (λ text. PrintsNumber (strings_in (layout_seen layout.now) role) string.now text.items) }
+    ensures err { IfErr result (λ e. (e ≡ ToolFault.OutOfMemory)
+        ⊎ ((e ≡ ToolFault.NoSuchTerm) × ((n : ℕ) → numbered (strings_in (layout_seen layout.now) role) n ≢ Some string.now))) }
+{
+    let Some(number) = layout.number_of(role, string, &mut Steps::new()) else {
+        return Err(ToolFault::NoSuchTerm);
+    };
+    let mut text = Vec::new(alloc);
+    put_number(number, &mut text)?;
+    text.push(b'\n')?;
+    Ok(text)
+}

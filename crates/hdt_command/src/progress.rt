@@ -1,0 +1,120 @@
+//! How far the reading of the input has come, told as it goes on.
+ghost use Rattle.std.specs.Prelude.{◌≡◌, ◌++◌, IfOk, OnOk};
+ghost use Rattle.hdt_command.specs.ProgressText.{of_text, progress_line};
+
+use crate::printed_strings::put_number;
+use hdt_wire::Counted;
+use std::alloc::{AllocError, Global};
+use std::io::{self, Read, Write};
+
+/// How many bytes are read from one line to the next, at least.
+const STEP: u64 = 16 << 20;
+
+/// How many lines are told at most where the size is known, beside the last.
+const LINES: u64 = 100;
+
+/// A reader that tells a writer how many bytes it has read: now and then, and at its end. Without a writer it tells nothing. A
+/// line that can't be made or written is passed over.
+#[derive(Drop)]
+pub struct Watched<R: Read, W: Write> {
+    alloc: Global,
+    input: R,
+    told: Option<Counted<W>>,
+    /// How many bytes there are, where that is known.
+    size: Option<u64>,
+    read: u64,
+    /// How many bytes are read when the next line is told.
+    next: u64,
+}
+
+/// Appends of how many bytes they are.
+fn put_size(size: Option<u64>, out: &mut Vec<u8>) -> Result<(), AllocError>
+    ensures { OnOk result (out.new.items ≡ out.old.items ++ of_text size) }
+{
+    if let Some(size) = size {
+        out.extend_from_slice(b" of ")?;
+        put_number(size, out)?;
+    }
+    Ok(())
+}
+
+/// The line of so many bytes that were read, and of how many they are.
+#[tactic(auto, using(std::proofs::Common::append_assoc))]
+fn line_of(alloc: Global, read: u64, size: Option<u64>) -> Result<Vec<u8>, AllocError>
+    ensures { IfOk result (λ text. text.items ≡ progress_line read size) }
+{
+    let mut text = Vec::new(alloc);
+    text.extend_from_slice(b"hdt: read ")?;
+    put_number(read, &mut text)?;
+    put_size(size, &mut text)?;
+    text.extend_from_slice(b" bytes\n")?;
+    Ok(text)
+}
+
+impl<R: Read, W: Write + Drop> Watched<R, W> {
+    /// A reader of `input`, which has so many bytes where that is known, that tells `told`.
+    pub fn new(alloc: Global, input: R, told: Option<W>, size: Option<u64>) -> Watched<R, W>
+        ensures { result.input ≡ input }
+    {
+        Watched {
+            alloc,
+            input,
+            told: told.map(Counted::new),
+            size,
+            read: 0,
+            next: STEP,
+        }
+    }
+
+    /// How many bytes there are, where that is known.
+    pub fn size(&self) -> Option<u64>
+        ensures { result ≡ self.now.size }
+    {
+        self.size
+    }
+
+    /// Tells how far it has come.
+    fn tell(&mut self)
+        ensures { self.new.input ≡ self.old.input }
+    {
+        let step = self.size.unwrap_or(0) / LINES;
+        self.next = self.read.saturating_add(step.max(STEP));
+        let Some(out) = &mut self.told else {
+            return;
+        };
+        if let Ok(line) = line_of(self.alloc, self.read, self.size) {
+            let _ = out.write_all(&line);
+        }
+    }
+
+    /// Counts bytes that were read, of so much room, and tells where it is time; behind the last nothing is told.
+    fn count(&mut self, bytes: usize, room: usize)
+        ensures { self.new.input ≡ self.old.input }
+    {
+        self.read = self.read.saturating_add(bytes as u64);
+        let ended = bytes == 0 && room > 0;
+        if ended || self.read >= self.next {
+            self.tell();
+        }
+        if ended {
+            self.told = None;
+        }
+    }
+}
+
+impl<R: Read, W: Write + Drop> Read for Watched<R, W> {
+    ghost use Rattle.std.specs.Io.{ReadsAtMost};
+    ghost use Rattle.std.specs.Io.KnownBytes.{ReadConsumes};
+
+    // It gives the bytes of its input.
+    ghost remaining = { λ s. R.remaining s.input };
+
+    fn read(&mut self, buf: &mut [u8]) -> io::Result<usize>
+        ensures bound { ReadsAtMost result buf.new }
+        ensures bytes { ReadConsumes (R.remaining self.old.input) (R.remaining self.new.input) result buf.new }
+    {
+        let count = self.input.read(buf)?;
+        self.count(count, buf.len());
+        Ok(count)
+    }
+}

@@ -1,0 +1,87 @@
+//! Commands by how they print: in pieces, or a text that is made whole before it is written.
+ghost use Rattle.std.specs.Prelude.{◌≡◌};
+ghost use Rattle.hdt_command.specs.Whole.{printing_action};
+
+use crate::request::{Action, Asking, Form};
+use hdt_build::Options;
+use hdt_dict::Role;
+
+/// A command that makes a text of the file that it reads, and nothing else.
+#[derive(Clone, Copy, Drop)]
+pub enum Query<'a> {
+    /// As [`Action::Head`].
+    Head,
+    /// As [`Action::Verify`].
+    Verify,
+    /// As [`Action::VerifyTight`].
+    VerifyTight,
+    /// As [`Action::Nth`].
+    Nth(Role, u64),
+    /// As [`Action::Number`].
+    Number(Role, &'a Vec<u8>),
+    /// As [`Action::Find`].
+    Find {
+        /// The strings of subject, predicate and object; any where there is none.
+        given: &'a [Option<Vec<u8>>; 3],
+        /// Whether the triples' numbers are printed, in place of N-Triples.
+        numbers: bool,
+    },
+    /// As [`Action::Search`].
+    Search {
+        /// The strings of subject, predicate and object; any where there is none.
+        given: &'a [Option<Vec<u8>>; 3],
+        /// What is printed of them.
+        form: Form,
+        /// How many are taken at most; all where there is none.
+        most: Option<u64>,
+    },
+    /// As [`Action::Answer`].
+    Answer(Asking),
+}
+
+/// A command whose text is made whole before it is written.
+#[derive(Clone, Copy, Drop)]
+pub enum Whole<'a> {
+    /// As [`Action::Build`].
+    Build(&'a Options),
+    /// As [`Action::Rewrite`].
+    Rewrite(u32),
+    /// A command that makes no file.
+    Query(Query<'a>),
+}
+
+/// A command by how it prints.
+#[derive(Clone, Copy, Drop)]
+pub enum Printing<'a> {
+    /// As [`Action::Strings`]: in pieces.
+    Pieces(Role),
+    /// A text that is made whole.
+    Whole(Whole<'a>),
+}
+
+/// How a command prints.
+pub fn printing_of(action: &Action) -> Printing<'_>
+    ensures { printing_action result ≡ action.now }
+{
+    let query = match action {
+        Action::Strings(role) => return Printing::Pieces(*role),
+        Action::Build(options) => return Printing::Whole(Whole::Build(options)),
+        Action::Rewrite(block_size) => return Printing::Whole(Whole::Rewrite(*block_size)),
+        Action::Head => Query::Head,
+        Action::Verify => Query::Verify,
+        Action::VerifyTight => Query::VerifyTight,
+        Action::Nth(role, number) => Query::Nth(*role, *number),
+        Action::Number(role, string) => Query::Number(*role, string),
+        Action::Find { given, numbers } => Query::Find {
+            given,
+            numbers: *numbers,
+        },
+        Action::Search { given, form, most } => Query::Search {
+            given,
+            form: *form,
+            most: *most,
+        },
+        Action::Answer(asking) => Query::Answer(*asking),
+    };
+    Printing::Whole(Whole::Query(query))
+}

@@ -1,0 +1,183 @@
+//! The command line of `hdt`.
+ghost use Rattle.std.specs.Prelude.{◌≡◌, IfOk, IfErr, codes, map};
+ghost use Rattle.clap.specs.Words.{found_of, one_of, rows_of, kind_of};
+ghost use Rattle.hdt_command.specs.Answer.{HasOut};
+ghost use Rattle.hdt_command.specs.Words.{AsksAction, AsksFor, AsksOfFile, AsksOfFiles, AsksToMake, ComesWithout, ComesWithoutOr, IsRefused, Misspells, StatesFlag, TellsKind, Wants, WantsSo};
+ghost use Rattle.hdt_command.specs.Table.{AreRoles};
+ghost use Rattle.hdt_command.specs.declared.request.Action.{Action};
+ghost use Rattle.hdt_command.specs.declared.request.Request.{Request};
+
+use crate::commands::table_of;
+use crate::entries::{
+    answer_at, block_size_at, find_at, missing, number_at, options_at, progress_at, role_at,
+    string_at, text_at, verify_at,
+};
+use crate::fault::UsageFault;
+use crate::request::{Action, Call, Request};
+use clap::error::ErrorKind;
+use clap::{ArgMatches, Error};
+use std::alloc::{AllocError, Global};
+
+/// The text of an error, without the line feed at its end.
+fn text_of(alloc: Global, error: &Error) -> Result<String, AllocError> {
+    let text = error.to_string(alloc)?;
+    String::from_str(alloc, text.as_str().trim_end())
+}
+
+/// The fault of a refused command line.
+fn refusal(alloc: Global, error: &Error) -> UsageFault
+    ensures { TellsKind (kind_of error.now) result }
+{
+    let Ok(text) = text_of(alloc, error) else {
+        return UsageFault::OutOfMemory;
+    };
+    match error.kind() {
+        ErrorKind::OutOfMemory => UsageFault::OutOfMemory,
+        ErrorKind::DisplayHelp | ErrorKind::DisplayVersion => UsageFault::Help(text),
+        _ => UsageFault::Usage(text),
+    }
+}
+
+/// The command that a name with its entries asks for.
+fn action_of<'m>(alloc: Global, name: &str, matches: &ArgMatches<'m>) -> Result<Action, UsageFault>
+    ensures ok { IfOk result (AsksAction name.now (rows_of (found_of matches.now))) }
+    ensures refused { IfErr result (ComesWithoutOr ((action : Action) × AsksAction name.now (rows_of (found_of matches.now)) action)
+        (Misspells name.now (rows_of (found_of matches.now)))) }
+{
+    match name {
+        "head" => Ok(Action::Head),
+        "verify" => Ok(verify_at(matches)),
+        "strings" => Ok(Action::Strings(role_at(alloc, matches)?)),
+        "string" => Ok(Action::Nth(role_at(alloc, matches)?, number_at(alloc, matches)?)),
+        "number" => Ok(Action::Number(role_at(alloc, matches)?, string_at(alloc, matches)?)),
+        "find" => find_at(alloc, matches),
+        "answer" => Ok(answer_at(matches)),
+        "dump" => Ok(Action::Find {
+            given: [None, None, None],
+            numbers: false,
+        }),
+        _ => Err(missing(alloc)),
+    }
+}
+
+/// What a command on a file with its words asks for.
+fn file_request<'m>(
+    alloc: Global,
+    name: &str,
+    matches: &ArgMatches<'m>,
+) -> Result<Request, UsageFault>
+    ensures ok { IfOk result (λ request. AsksOfFile name.now (rows_of (found_of matches.now)) request) }
+    ensures refused { IfErr result (ComesWithoutOr ((request : Request) × AsksOfFile name.now (rows_of (found_of matches.now)) request)
+        (Misspells name.now (rows_of (found_of matches.now)))) }
+{
+    Ok(Request {
+        action: action_of(alloc, name, matches)?,
+        file: text_at(alloc, matches, "FILE")?,
+        out: None,
+    })
+}
+
+/// What a command that makes a file makes, by its name with its entries.
+fn making_of<'m>(alloc: Global, name: &str, matches: &ArgMatches<'m>) -> Result<Action, UsageFault>
+    ensures ok { IfOk result (AsksToMake name.now (rows_of (found_of matches.now))) }
+    ensures refused { IfErr result (ComesWithout ((action : Action) × AsksToMake name.now (rows_of (found_of matches.now)) action)) }
+{
+    match name {
+        "build" => Ok(Action::Build(options_at(alloc, matches)?)),
+        "rewrite" => Ok(Action::Rewrite(block_size_at(alloc, matches)?)),
+        _ => Err(missing(alloc)),
+    }
+}
+
+/// What a command that makes a file asks for with its words.
+fn making_request<'m>(
+    alloc: Global,
+    name: &str,
+    matches: &ArgMatches<'m>,
+) -> Result<Request, UsageFault>
+    ensures ok { IfOk result (AsksOfFiles name.now (rows_of (found_of matches.now))) }
+    ensures refused { IfErr result (ComesWithout ((request : Request) × AsksOfFiles name.now (rows_of (found_of matches.now)) request)) }
+{
+    Ok(Request {
+        action: making_of(alloc, name, matches)?,
+        file: text_at(alloc, matches, "IN")?,
+        out: Some(text_at(alloc, matches, "OUT")?),
+    })
+}
+
+/// What a command with its words asks for.
+fn request_of<'m>(
+    alloc: Global,
+    name: &str,
+    matches: &ArgMatches<'m>,
+) -> Result<Request, UsageFault>
+    ensures ok { IfOk result (λ request. AsksFor name.now (rows_of (found_of matches.now)) request) }
+    ensures refused { IfErr result (ComesWithoutOr ((request : Request) × AsksFor name.now (rows_of (found_of matches.now)) request)
+        (Misspells name.now (rows_of (found_of matches.now)))) }
+{
+    match name {
+        "build" | "rewrite" => making_request(alloc, name, matches),
+        _ => file_request(alloc, name, matches),
+    }
+}
+
+/// What a command with its words asks for, and how.
+fn asked_of<'m>(alloc: Global, name: &str, matches: &ArgMatches<'m>) -> Result<Call, UsageFault>
+    ensures ok { IfOk result (λ asked. AsksFor name.now (rows_of (found_of matches.now)) asked.request) }
+    ensures progress { IfOk result (λ asked. StatesFlag (one_of (codes "progress") (rows_of (found_of matches.now))) asked.progress) }
+    ensures refused { IfErr result (ComesWithoutOr ((request : Request) × AsksFor name.now (rows_of (found_of matches.now)) request)
+        (Misspells name.now (rows_of (found_of matches.now)))) }
+{
+    Ok(Call {
+        request: request_of(alloc, name, matches)?,
+        progress: progress_at(matches),
+    })
+}
+
+/// Reads a command line by the table of commands.
+fn parse_with<'a>(
+    alloc: Global,
+    roles: &'a [&'a str],
+    words: &'a [&'a str],
+) -> Result<Call, UsageFault>
+    requires { AreRoles roles }
+    ensures ok { IfOk result (WantsSo (map (λ word. word.now) words.now)) }
+    ensures refused { IfErr result (IsRefused (map (λ word. word.now) words.now)) }
+{
+    let command = table_of(alloc, roles)?;
+    let matches = match command.try_get_matches_from(words) {
+        Ok(matches) => matches,
+        Err(error) => return Err(refusal(alloc, &error)),
+    };
+    match matches.subcommand() {
+        Some((name, entries)) => asked_of(alloc, name, entries),
+        None => Err(missing(alloc)),
+    }
+}
+
+/// The words for the roles.
+const ROLES: [&str; 3] = ["subject", "predicate", "object"];
+
+/// Reads a command line, the program's name first.
+#[tactic(auto, using(crate::proofs::Refused::so))]
+pub fn parse_words<'a>(alloc: Global, words: &'a [&'a str]) -> Result<Request, UsageFault>
+    // The request is the one that the words want, by what `clap` states of them under the table of commands.
+    ensures ok { IfOk result (Wants (map (λ word. word.now) words.now)) }
+    // `build` and `rewrite` come with the path of the file that they make, and no other command does.
+    ensures out { IfOk result HasOut }
+    // Help and the version are given only where `clap` may give them; a fault of a term is told where it stands in TERM, or in the first of S, P and
+    // O that is not fine; other words are refused only where they want no request.
+    ensures refused { IfErr result (IsRefused (map (λ word. word.now) words.now)) }
+{
+    Ok(parse_all_words(alloc, words)?.request)
+}
+
+/// Reads a command line, the program's name first, as [`parse_words`] does, with `--progress`.
+pub fn parse_all_words<'a>(alloc: Global, words: &'a [&'a str]) -> Result<Call, UsageFault>
+    // The words want the request, and `--progress` stands among them exactly where it is told.
+    ensures ok { IfOk result (WantsSo (map (λ word. word.now) words.now)) }
+    ensures out { IfOk result (λ asked. HasOut asked.request) }
+    ensures refused { IfErr result (IsRefused (map (λ word. word.now) words.now)) }
+{
+    parse_with(alloc, &ROLES, words)
+}

@@ -1,7 +1,0 @@
-use Rattle.std.proofs.Common.{map, string_bytes}
-use Rattle.hdt_tool.proofs.Statuses.{ends}
-use Rattle.hdt_tool.proofs.status_of.Goals as goal
-
-pub returns-clause-given : goal.returns-clause-given
-returns-clause-given c =
-    ends (λ words. map string_bytes words.items) c.args.words c.asked.result c.answered.result c.asked.ensures.ok c.asked.ensures.refused c.answered.ensures
