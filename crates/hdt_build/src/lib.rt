@@ -59,6 +59,7 @@ mod run;
 mod sections;
 #[cfg(test)]
 mod tests;
+mod ties;
 mod triples;
 mod used;
 
