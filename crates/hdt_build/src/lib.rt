@@ -46,6 +46,7 @@ mod once;
 mod options;
 mod parted;
 mod placed;
+mod queue;
 mod reading;
 #[cfg(test)]
 mod renewing_tests;
