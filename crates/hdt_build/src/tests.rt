@@ -376,11 +376,12 @@ fn colliding(alloc: Global, count: u64) -> Result<Arena, AllocError> {
 fn is_put_again(alloc: Global, count: u64) -> Result<bool, AllocError> {
     let mut strings = Interner::new(alloc)?;
     strings.places_of(alloc, &colliding(alloc, count)?)?;
-    let first = colliding(alloc, 1)?;
-    let places = strings.places_of(alloc, &first)?;
+    let places = strings.places_of(alloc, &colliding(alloc, 1)?)?;
     let at = places.first().copied().unwrap_or(0) as usize;
     let list = strings.into_list();
-    Ok(at < list.len() && list.get(at) == first.get(0))
+    let mut text = Vec::new(alloc);
+    put_colliding(0, &mut text)?;
+    Ok(at < list.len() && list.get(at) == text.as_slice())
 }
 
 #[test]
