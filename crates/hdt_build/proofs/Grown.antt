@@ -20,6 +20,10 @@ map_same f g (x ∷ xs) h =
     let r = map_same f g xs (All-tail (λ x. f x ≡ g x) x xs h) in
     λ i. e i ∷ r i
 
+-- the triples of strings that are kept
+pub graph_kept : (xs ys : List (List ℕ)) → GoesOn xs ys → (ids : List Triple) → AreWithin (length xs) ids → triples_of ys ids ≡ triples_of xs ids
+graph_kept xs ys g ids h = map_same (triple_at ys) (triple_at xs) ids (λ n d below. same_strings _ _ _ _ _ _ (g.kept _ (h.subjects n d below)) (g.kept _ (h.predicates n d below)) (g.kept _ (h.objects n d below)))
+
 module _ (xs ys : List (List ℕ)) (g : GoesOn xs ys) (ids : List Triple) (h : AreWithin (length xs) ids) (t : Triple) where
   pub sound_more : t.0 < length ys → t.1 < length ys → t.2 < length ys → AreWithin (length ys) (ids ++ t ∷ [])
   sound_more s p o = record {
@@ -33,6 +37,6 @@ module _ (xs ys : List (List ℕ)) (g : GoesOn xs ys) (ids : List Triple) (h : A
 
   pub graph_more : (s p o : List ℕ) → get_or ys t.0 [] ≡ s → get_or ys t.1 [] ≡ p → get_or ys t.2 [] ≡ o → triples_of ys (ids ++ t ∷ []) ≡ triples_of xs ids ++ (s, p, o) ∷ []
   graph_more s p o a b c =
-      let old = map_same (triple_at ys) (triple_at xs) ids (λ n d below. same_strings _ _ _ _ _ _ (g.kept _ (h.subjects n d below)) (g.kept _ (h.predicates n d below)) (g.kept _ (h.objects n d below))) in
+      let old = graph_kept xs ys g ids h in
       let new : triple_at ys t ≡ (s, p, o) = same_strings _ _ _ _ _ _ a b c in
       map_push (triple_at ys) ids t ∙ (λ n. old n ++ new n ∷ [])

@@ -15,6 +15,7 @@ pub mod Moving
 pub mod Naming
 mod Filling
 mod Using
+mod Waiting
 mod Parting
 pub mod Placing
 pub mod Ranking

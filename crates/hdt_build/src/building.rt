@@ -31,7 +31,7 @@ fn built(
     requires right { AreRight options.now }
     ensures { IfOk result (λ made. IsBuilt options.now (graph_of document) made.0.items made.1) }
 {
-    let (list, ids) = document.into_parts();
+    let (list, ids) = document.into_parts(alloc)?;
     let form = form_of(alloc, list, ids, options.block_size)?;
     let header = header_body(alloc, options.base.as_slice(), form.triples.len() as u64)?;
     whole_file(alloc, header.as_slice(), form)

@@ -1,40 +1,25 @@
 //! The triples of a document, over strings that are kept once.
-ghost use Rattle.std.specs.Prelude.{◌≡◌, ◌<◌, ◌++◌, ◌∷◌, [], length, slice_index_or, IfOk, OnOk, IsTrue, ◌↔◌};
-ghost use Rattle.std.specs.List.{All};
-ghost use Rattle.hdt_build.specs.Documents.{graph_of, IsSound};
-ghost use Rattle.hdt_build.specs.Texts.{GoesOn};
+ghost use Rattle.std.specs.Prelude.{◌≡◌, ◌++◌, ◌∷◌, [], length, IfOk, OnOk, IsTrue, ◌↔◌};
+ghost use Rattle.hdt_build.specs.Documents.{graph_of, IsSound, AreWithin};
+ghost use Rattle.hdt_build.specs.Graph.{triples_of};
 
 use crate::interner::Interner;
+use crate::queue::Queue;
+use crate::triples::replace;
 use hdt_dict::Arena;
 use std::alloc::{AllocError, Global};
 
-/// The triples of a document, as places in one list of strings, whatever their roles.
+/// How many triples wait at most. So many strings are looked up together that their waits for memory overlap, and so few that they
+/// lie near.
+const MOST: usize = 256;
+
+/// The triples of a document, as places in one list of strings, whatever their roles. Those that came last wait until their
+/// strings are looked up together.
 #[derive(Drop)]
 pub struct Document {
     terms: Interner,
     ids: Vec<(u64, u64, u64)>,
-}
-
-/// A place of a subject in the list, at whose end it is put where none is known. Where the triple before has the same
-/// subject, it isn't looked up.
-fn subject_place(
-    alloc: Global,
-    list: &mut Interner,
-    ids: &[(u64, u64, u64)],
-    subject: &[u8],
-) -> Result<usize, AllocError>
-    requires { All (λ t. t.0 < length list.old) ids.now }
-    ensures within { IfOk result (λ i. i < length list.new) }
-    ensures is { IfOk result (λ i. slice_index_or list.new i [] ≡ subject.now) }
-    ensures list { OnOk result (GoesOn list.old list.new) }
-{
-    if let Some((before, _, _)) = ids.last() {
-        let before = *before as usize;
-        if list.list().get(before) == subject {
-            return Ok(before);
-        }
-    }
-    list.place_of(alloc, subject)
+    queue: Queue,
 }
 
 impl Document {
@@ -46,6 +31,7 @@ impl Document {
         Ok(Document {
             terms: Interner::new(alloc)?,
             ids: Vec::new(alloc),
+            queue: Queue::new(alloc)?,
         })
     }
 
@@ -55,10 +41,38 @@ impl Document {
         ensures graph { OnOk result (graph_of self.new ≡ graph_of self.old ++ (s.now, p.now, o.now) ∷ []) }
         ensures sound { OnOk result (IsSound self.new) }
     {
-        let i = subject_place(alloc, &mut self.terms, self.ids.as_slice(), s)?;
-        let j = self.terms.place_of(alloc, p)?;
-        let k = self.terms.place_of(alloc, o)?;
-        self.ids.push((i as u64, j as u64, k as u64))?;
+        self.make_room(alloc)?;
+        self.queue.add(s, p, o)
+    }
+
+    /// Looks up the strings of the triples that wait, where there are many.
+    fn make_room(&mut self, alloc: Global) -> Result<(), AllocError>
+        requires { IsSound self.old }
+        ensures graph { OnOk result (graph_of self.new ≡ graph_of self.old) }
+        ensures sound { OnOk result (IsSound self.new) }
+    {
+        if self.queue.ids.len() < MOST {
+            return Ok(());
+        }
+        self.look_up(alloc)
+    }
+
+    /// Looks up the strings of the triples that wait. Where memory is refused, the document is of no more use.
+    fn look_up(&mut self, alloc: Global) -> Result<(), AllocError>
+        requires { IsSound self.old }
+        ensures graph { OnOk result (triples_of self.new.terms self.new.ids.items ≡ graph_of self.old) }
+        ensures sound { OnOk result (IsSound self.new) }
+        ensures none { OnOk result (self.new.queue.ids.items ≡ []) }
+    {
+        let places = self.terms.places_of(alloc, &self.queue.strings)?;
+        replace(
+            &mut self.queue.ids,
+            places.as_slice(),
+            places.as_slice(),
+            places.as_slice(),
+        );
+        self.ids.extend_from_slice(self.queue.ids.as_slice())?;
+        self.queue = Queue::new(alloc)?;
         Ok(())
     }
 
@@ -66,15 +80,22 @@ impl Document {
     pub fn is_empty(&self) -> bool
         ensures { IsTrue result ↔ (graph_of self.now ≡ []) }
     {
-        self.ids.is_empty()
+        self.ids.is_empty() && self.queue.ids.is_empty()
     }
 
     /// The strings, without what finds their places, and the triples.
-    pub fn into_parts(self) -> (Arena, Vec<(u64, u64, u64)>)
-        ensures terms { result.0 ≡ self.terms }
-        ensures ids { result.1.items ≡ self.ids.items }
+    pub fn into_parts(self, alloc: Global) -> Result<(Arena, Vec<(u64, u64, u64)>), AllocError>
+        requires { IsSound self }
+        ensures graph { IfOk result (λ parts. triples_of parts.0 parts.1.items ≡ graph_of self) }
+        ensures within { IfOk result (λ parts. AreWithin (length parts.0) parts.1.items) }
     {
-        let Document { terms, ids } = self;
-        (terms.into_list(), ids)
+        let mut document = self;
+        document.look_up(alloc)?;
+        let Document {
+            terms,
+            ids,
+            queue: _,
+        } = document;
+        Ok((terms.into_list(), ids))
     }
 }

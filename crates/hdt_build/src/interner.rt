@@ -1,5 +1,6 @@
 //! Strings kept once, as far as a cache of their places remembers them.
 ghost use Rattle.std.specs.Prelude.{◌≡◌, ◌<◌, ◌≤◌, ◌++◌, ◌∷◌, [], ℕ, List, ◌+◌, IfSome, length, slice_index_or, vec_len, IfOk, OnOk, OnErr};
+ghost use Rattle.hdt_build.specs.Placed.{AreRanks};
 ghost use Rattle.hdt_build.specs.Texts.{GoesOn};
 
 use hdt_dict::Arena;
@@ -62,6 +63,59 @@ fn find(list: &Arena, slots: &[u64], text: &[u8], hash: u64) -> Option<usize>
     None
 }
 
+/// The hashes of strings.
+fn hashes_of(alloc: Global, strings: &Arena) -> Result<Vec<u64>, AllocError>
+    ensures { IfOk result (λ made. length made.items ≡ length strings.now) }
+{
+    let mut made = Vec::with_capacity(alloc, strings.len())?;
+    'strings: for at in 0..strings.len() {
+        made.push(hash(strings.get(at)))?;
+    }
+    Ok(made)
+}
+
+/// The place that an entry for a hash has, or one past all places. Which of several entries doesn't matter. No step waits for
+/// another one.
+fn guess(slots: &[u64], hash: u64) -> usize {
+    let mut place = 0;
+    for entry in slots {
+        if (*entry ^ hash) >> 32 == 0 {
+            place = *entry & 0xFFFF_FFFF;
+        }
+    }
+    (place as usize).wrapping_sub(1)
+}
+
+/// Where strings with these hashes may stand. Their slots are fetched side by side.
+fn guesses_of(alloc: Global, slots: &[u64], hashes: &[u64]) -> Result<Vec<usize>, AllocError>
+    requires { 8 ≤ length slots.now }
+    ensures { IfOk result (λ made. length made.items ≡ length hashes.now) }
+{
+    let mut made = Vec::with_capacity(alloc, hashes.len())?;
+    for hash in hashes {
+        let from = first_slot(slots, *hash);
+        made.push(guess(&slots[from..from + PROBES], *hash))?;
+    }
+    Ok(made)
+}
+
+/// Whether a string of a list begins as a text.
+fn begins_alike(list: &Arena, at: usize, text: &[u8]) -> bool {
+    at < list.len() && list.get(at).first() == text.first()
+}
+
+/// Drops the guesses whose strings begin otherwise. These are fetched side by side.
+fn check(list: &Arena, strings: &Arena, guesses: &mut Vec<usize>)
+    requires { length guesses.old.items ≡ length strings.now }
+    ensures { length guesses.new.items ≡ length guesses.old.items }
+{
+    'strings: for at in 0..strings.len() {
+        if !begins_alike(list, guesses[at], strings.get(at)) {
+            guesses[at] = usize::MAX;
+        }
+    }
+}
+
 /// Puts an entry into the first free slot of those for its hash, or else over the last one.
 fn put(slots: &mut [u64], entry: u64)
     requires { 8 ≤ length slots.old }
@@ -109,13 +163,6 @@ impl Interner {
         })
     }
 
-    /// The strings, each at its place.
-    pub fn list(&self) -> &Arena
-        ensures { result.now ≡ self.now }
-    {
-        &self.list
-    }
-
     /// The strings alone, without what finds their places.
     pub fn into_list(self) -> Arena
         ensures { result ≡ self }
@@ -124,19 +171,43 @@ impl Interner {
         list
     }
 
-    /// A place of a string in the list, at whose end it is put where the cache doesn't know one.
-    pub fn place_of(&mut self, alloc: Global, text: &[u8]) -> Result<usize, AllocError>
+    /// A place of a string in the list, at whose end it is put where neither the guess is right nor the cache knows one.
+    fn place_of(
+        &mut self,
+        alloc: Global,
+        text: &[u8],
+        hash: u64,
+        guess: usize,
+    ) -> Result<usize, AllocError>
         ensures within { IfOk result (λ i. i < length self.new) }
         ensures is { IfOk result (λ i. slice_index_or self.new i [] ≡ text.now) }
         ensures list { OnOk result (GoesOn self.old self.new) }
         ensures err { OnErr result (self.new ≡ self.old) }
     {
-        let hash = hash(text);
+        if guess < self.list.len() && self.list.get(guess) == text {
+            return Ok(guess);
+        }
         let from = first_slot(self.slots.as_slice(), hash);
         match find(&self.list, &self.slots[from..from + PROBES], text, hash) {
             Some(at) => Ok(at),
             None => self.add(alloc, text, hash),
         }
+    }
+
+    /// A place in the list for each of other strings, which are put at its end where the cache doesn't know one.
+    pub fn places_of(&mut self, alloc: Global, strings: &Arena) -> Result<Vec<u64>, AllocError>
+        ensures places { IfOk result (λ made. AreRanks strings.now self.new made.items) }
+        ensures list { OnOk result (GoesOn self.old self.new) }
+    {
+        let hashes = hashes_of(alloc, strings)?;
+        let mut guesses = guesses_of(alloc, self.slots.as_slice(), hashes.as_slice())?;
+        check(&self.list, strings, &mut guesses);
+        let mut places = Vec::with_capacity(alloc, strings.len())?;
+        'strings: for at in 0..strings.len() {
+            let place = self.place_of(alloc, strings.get(at), hashes[at], guesses[at])?;
+            places.push(place as u64)?;
+        }
+        Ok(places)
     }
 
     /// Puts a string at the end, whether or not it is in the list.

@@ -3,6 +3,7 @@
 use super::*;
 use crate::interner::Interner;
 use crate::tests::options;
+use hdt_dict::Arena;
 use hdt_file::{Graph, open, verify_tight};
 use hdt_seq::Steps;
 use hdt_wire::{Counted, Role};
@@ -339,23 +340,25 @@ fn long_strings_and_bases(rt: HostRuntime) -> Result<(), Fail> {
 
 // ---- many strings of one role
 
-/// Puts the strings of so many numbers into the list.
-fn put_numbered(alloc: Global, strings: &mut Interner, count: u32) -> Result<(), AllocError> {
+/// The strings of so many numbers.
+fn numbered(alloc: Global, count: u32) -> Result<Arena, AllocError> {
+    let mut made = Arena::new(alloc)?;
     let mut text = Vec::new(alloc);
     for number in 0..count {
         text.clear();
         put_string(b's', number, &mut text)?;
-        strings.place_of(alloc, &text)?;
+        made.push(&text)?;
     }
-    Ok(())
+    Ok(made)
 }
 
 /// How many strings are listed where each is put twice.
 fn listed_of_twice(alloc: Global, count: u32) -> Result<usize, AllocError> {
     let mut strings = Interner::new(alloc)?;
-    put_numbered(alloc, &mut strings, count)?;
-    put_numbered(alloc, &mut strings, count)?;
-    Ok(strings.list().len())
+    let texts = numbered(alloc, count)?;
+    strings.places_of(alloc, &texts)?;
+    strings.places_of(alloc, &texts)?;
+    Ok(strings.into_list().len())
 }
 
 /// Strings that were put are found again, but for a few that the cache has lost, also where it has grown since.

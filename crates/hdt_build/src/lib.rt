@@ -21,8 +21,8 @@
 //! ```
 //!
 //! In reading order: `options`, `report` and `fault`, what is asked for and what is answered; `interner`, strings
-//! kept once, and where they stand; `document`, triples as places of strings; `reading`, the lines of an input; `keys`, `merging`
-//! and `placed`, the places in the strings' order; `once`, the strings each once; `used`, which of them triples use in a role;
+//! kept once, and where they stand; `queue`, triples that wait until their strings are looked up together; `document`, triples as places of
+//! strings; `reading`, the lines of an input; `keys`, `ties`, `merging` and `placed`, the places in the strings' order; `once`, the strings each once; `used`, which of them triples use in a role;
 //! `parted`, the sections as filters of them, with their numbers; `triples` and `form`, the four
 //! sections and triples as numbers; `header` and `file`, the bytes; `building`, all of it; `laws`. For rewriting: `kept`, which
 //! strings the new sections have; `run`, these one after another; `sections`, written from two runs each, with the new numbers, which `renumbering` keeps;
@@ -46,6 +46,7 @@ mod once;
 mod options;
 mod parted;
 mod placed;
+mod queue;
 mod reading;
 #[cfg(test)]
 mod renewing_tests;
@@ -59,6 +60,7 @@ mod run;
 mod sections;
 #[cfg(test)]
 mod tests;
+mod ties;
 mod triples;
 mod used;
 

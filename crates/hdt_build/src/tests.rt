@@ -2,6 +2,7 @@
 //! of each kind of term, stands in tests/run.
 use super::*;
 use crate::interner::Interner;
+use hdt_dict::Arena;
 use hdt_terms::{LineFault, LineReason};
 use hdt_wire::Counted;
 use std::alloc::{AllocError, Global};
@@ -360,29 +361,32 @@ fn put_colliding(n: u64, out: &mut Vec<u8>) -> Result<(), AllocError> {
     out.extend_from_slice(&0x9e37_79b9_7f4a_7c15_u64.to_le_bytes())
 }
 
-/// Puts that many of these strings.
-fn put_all(alloc: Global, strings: &mut Interner, count: u64) -> Result<(), AllocError> {
+/// That many of these strings.
+fn colliding(alloc: Global, count: u64) -> Result<Arena, AllocError> {
+    let mut made = Arena::new(alloc)?;
     let mut text = Vec::new(alloc);
     for n in 0..count {
         put_colliding(n, &mut text)?;
-        strings.place_of(alloc, &text)?;
+        made.push(&text)?;
     }
-    Ok(())
+    Ok(made)
 }
 
-/// Whether the first of them is put once more, and stands at its place.
-fn is_put_again(alloc: Global, strings: &mut Interner) -> Result<bool, AllocError> {
+/// Whether the first of them is put once more after the others, and stands at its place.
+fn is_put_again(alloc: Global, count: u64) -> Result<bool, AllocError> {
+    let mut strings = Interner::new(alloc)?;
+    strings.places_of(alloc, &colliding(alloc, count)?)?;
+    let places = strings.places_of(alloc, &colliding(alloc, 1)?)?;
+    let at = places.first().copied().unwrap_or(0) as usize;
+    let list = strings.into_list();
     let mut text = Vec::new(alloc);
     put_colliding(0, &mut text)?;
-    let at = strings.place_of(alloc, &text)?;
-    Ok(strings.list().get(at) == text.as_slice())
+    Ok(at < list.len() && list.get(at) == text.as_slice())
 }
 
 #[test]
 fn strings_of_one_hash(rt: HostRuntime) -> Result<(), Fail> {
-    let mut strings = Interner::new(rt.alloc())?;
-    put_all(rt.alloc(), &mut strings, 200_000)?;
     // The cache has lost nearly all of them.
-    assert!(rt; is_put_again(rt.alloc(), &mut strings)?, "not put again");
+    assert!(rt; is_put_again(rt.alloc(), 200_000)?, "not put again");
     Ok(())
 }

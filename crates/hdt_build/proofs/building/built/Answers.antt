@@ -9,18 +9,18 @@ use Rattle.hdt_build.proofs.building.built.Goals as goal
 
 pub whole_file-requires-clause-sections : goal.whole_file-requires-clause-sections
 whole_file-requires-clause-sections c =
-    let form : IsForm (graph_of c.args.document) (sections_of c.in_ok-form.form.sections) c.in_ok-form.form.triples.items = rw (c.into_parts-list.ensures.terms, c.into_parts-list.ensures.ids) at c.in_ok-form.ensures.form in
+    let form : IsForm (graph_of c.args.document) (sections_of c.in_ok-form.form.sections) c.in_ok-form.form.triples.items = rw c.in_ok-list.ensures.graph at c.in_ok-form.ensures.form in
     form_sections _ _ _ form c.requires.texts
 
 pub whole_file-requires-clause-triples : goal.whole_file-requires-clause-triples
 whole_file-requires-clause-triples c =
-    let form : IsForm (graph_of c.args.document) (sections_of c.in_ok-form.form.sections) c.in_ok-form.form.triples.items = rw (c.into_parts-list.ensures.terms, c.into_parts-list.ensures.ids) at c.in_ok-form.ensures.form in
+    let form : IsForm (graph_of c.args.document) (sections_of c.in_ok-form.form.sections) c.in_ok-form.form.triples.items = rw c.in_ok-list.ensures.graph at c.in_ok-form.ensures.form in
     writable (sections_of c.in_ok-form.form.sections) c.in_ok-form.form.triples.items form
     (some_triple (graph_of c.args.document) (sections_of c.in_ok-form.form.sections) c.in_ok-form.form.triples.items form c.requires.some)
 
 pub returns : goal.returns
 returns c =
-    let form : IsForm (graph_of c.args.document) (sections_of c.in_ok-form.form.sections) c.in_ok-form.form.triples.items = rw (c.into_parts-list.ensures.terms, c.into_parts-list.ensures.ids) at c.in_ok-form.ensures.form in
+    let form : IsForm (graph_of c.args.document) (sections_of c.in_ok-form.form.sections) c.in_ok-form.form.triples.items = rw c.in_ok-list.ensures.graph at c.in_ok-form.ensures.form in
     let ts = c.in_ok-form.form.triples in
     let many : vec_len ts ≡ length ts.items = omega (arith, ts.ok.0) in
     all_built (λ v. v.items) c.whole_file.result c.args.options.now (graph_of c.args.document) (sections_of c.in_ok-form.form.sections) ts.items c.in_ok-header.header.items

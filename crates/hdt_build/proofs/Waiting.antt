@@ -1,0 +1,36 @@
+-- Triples that waited, over strings that are known now.
+use Rattle.std.proofs.Common.{◌≡◌, ◌∙◌, ℕ, ◌<◌, List, [], ◌∷◌, ◌++◌, length, get_or, refl, ap, arith}
+use Rattle.std.specs.List.{All}
+use Rattle.std.proofs.lemmas.List.Elements.{All-append, All-weaker}
+use Rattle.std.proofs.lemmas.List.{map-append}
+use Rattle.hdt_triples.specs.Counting.{Triple}
+use Rattle.hdt_file.specs.Denoted.{StringTriple}
+use Rattle.hdt_build.specs.Documents.{AreWithin}
+use Rattle.hdt_build.specs.Graph.{triple_at, triples_of}
+use Rattle.hdt_build.specs.Texts.{GoesOn}
+use Rattle.hdt_build.proofs.Grown.{graph_kept}
+
+-- each of the first strings of xs stands in ys, at the place that ns have for it
+pub record AreFound (xs ys : List (List ℕ)) (ns : List ℕ) : Type 0 where
+  pub within : (k : ℕ) → k < length ns → get_or ns k 0 < length ys
+  pub is : (k : ℕ) → k < length ns → get_or ys (get_or ns k 0) [] ≡ get_or xs k []
+
+-- where no triples are listed, there are no places of any
+pub no_ids : (xs : List (List ℕ)) (ids : List Triple) (rest : List StringTriple) → triples_of xs ids ++ rest ≡ [] → ids ≡ []
+no_ids xs [] rest e = refl
+no_ids xs (t ∷ ids) rest e = absurd cc
+
+-- triples behind others, whose strings are kept
+module _ (xs ys : List (List ℕ)) (g : GoesOn xs ys) (ids more : List Triple) (h : AreWithin (length xs) ids) (m : AreWithin (length ys) more) where
+  pub joined_is : triples_of ys (ids ++ more) ≡ triples_of xs ids ++ triples_of ys more
+  joined_is = map-append (triple_at ys) ids more ∙ ap (λ ts. ts ++ triples_of ys more) (graph_kept xs ys g ids h)
+
+  pub joined_within : AreWithin (length ys) (ids ++ more)
+  joined_within = record {
+    subjects = both (λ t. t.0) h.subjects m.subjects;
+    predicates = both (λ t. t.1) h.predicates m.predicates;
+    objects = both (λ t. t.2) h.objects m.objects;
+  }
+    where
+      both : (f : Triple → ℕ) → All (λ t. f t < length xs) ids → All (λ t. f t < length ys) more → All (λ t. f t < length ys) (ids ++ more)
+      both f old new = All-append (λ (t : Triple). f t < length ys) ids more (All-weaker (λ (t : Triple). f t < length xs) (λ (t : Triple). f t < length ys) (λ t below. omega (arith, below, g.longer)) ids old) new

@@ -1,0 +1,73 @@
+//! Triples that wait until their strings are looked up.
+ghost use Rattle.std.specs.Prelude.{◌≡◌, ◌<◌, ◌++◌, ◌∷◌, [], length, slice_index_or, IfOk, OnOk, IsTrue, ◌↔◌};
+ghost use Rattle.std.specs.List.{All};
+ghost use Rattle.hdt_build.specs.Documents.{waiting_in, IsQueue};
+ghost use Rattle.hdt_build.specs.Texts.{GoesOn};
+
+use hdt_dict::Arena;
+use std::alloc::{AllocError, Global};
+
+/// Triples as places in a list of their own strings. A string is listed each time that it comes, but for a subject that the triple
+/// before has too.
+#[derive(Drop)]
+pub struct Queue {
+    pub strings: Arena,
+    pub ids: Vec<(u64, u64, u64)>,
+}
+
+/// Puts a string at the end of a list, and answers its place.
+fn listed(list: &mut Arena, text: &[u8]) -> Result<usize, AllocError>
+    ensures within { IfOk result (λ i. i < length list.new) }
+    ensures is { IfOk result (λ i. slice_index_or list.new i [] ≡ text.now) }
+    ensures list { OnOk result (GoesOn list.old list.new) }
+{
+    let at = list.len();
+    list.push(text)?;
+    Ok(at)
+}
+
+/// A place of a subject in the list, at whose end it is put where the triple before has another one.
+fn subject_place(
+    list: &mut Arena,
+    ids: &[(u64, u64, u64)],
+    subject: &[u8],
+) -> Result<usize, AllocError>
+    requires { All (λ t. t.0 < length list.old) ids.now }
+    ensures within { IfOk result (λ i. i < length list.new) }
+    ensures is { IfOk result (λ i. slice_index_or list.new i [] ≡ subject.now) }
+    ensures list { OnOk result (GoesOn list.old list.new) }
+{
+    if let Some((before, _, _)) = ids.last() {
+        let before = *before as usize;
+        if list.get(before) == subject {
+            return Ok(before);
+        }
+    }
+    listed(list, subject)
+}
+
+impl Queue {
+    /// The queue without triples.
+    pub fn new(alloc: Global) -> Result<Queue, AllocError>
+        ensures ids { IfOk result (λ made. made.ids.items ≡ []) }
+        ensures sound { IfOk result IsQueue }
+    {
+        Ok(Queue {
+            strings: Arena::new(alloc)?,
+            ids: Vec::new(alloc),
+        })
+    }
+
+    /// Puts a triple at the end. Where memory is refused, the queue is of no more use.
+    pub fn add(&mut self, s: &[u8], p: &[u8], o: &[u8]) -> Result<(), AllocError>
+        requires { IsQueue self.old }
+        ensures graph { OnOk result (waiting_in self.new ≡ waiting_in self.old ++ (s.now, p.now, o.now) ∷ []) }
+        ensures sound { OnOk result (IsQueue self.new) }
+    {
+        let i = subject_place(&mut self.strings, self.ids.as_slice(), s)?;
+        let j = listed(&mut self.strings, p)?;
+        let k = listed(&mut self.strings, o)?;
+        self.ids.push((i as u64, j as u64, k as u64))?;
+        Ok(())
+    }
+}
