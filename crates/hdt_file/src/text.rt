@@ -23,6 +23,9 @@ use hdt_wire::Counted;
 use std::alloc::{AllocError, Global};
 use std::io::Write;
 
+/// The triples that a list has room for at first.
+const LISTED: usize = 16;
+
 /// The matches, or at most so many of the first, in a list.
 fn listed(
     alloc: Global,
@@ -34,7 +37,7 @@ fn listed(
 {
     let mut matches = found;
     let mut room = most.unwrap_or(u64::MAX);
-    let mut triples = Vec::new(alloc);
+    let mut triples = Vec::with_capacity(alloc, LISTED)?;
     'triples: while room > 0 {
         let Some(triple) = matches.next() else {
             return Ok(triples);
@@ -48,7 +51,8 @@ fn listed(
 /// How many bytes of blocks may be read for each string of the dictionary, before one walk along all strings is cheaper.
 const READ_FOR_A_STRING: u64 = 32;
 
-/// Whether looking up the strings of triples one by one reads fewer bytes than a walk along the dictionary takes time for.
+/// Whether looking up the strings of triples one by one reads fewer bytes than a walk along the dictionary takes time for. The
+/// heads of the objects' blocks, which lie anywhere, are looked at one soon after another, so they wait for memory together.
 fn are_few(layout: &Layout<'_>, triples: &[(u64, u64, u64)]) -> bool {
     let dictionary = &layout.dictionary;
     let [_, shared, subjects, predicates, objects] = layout.lens();
@@ -61,7 +65,8 @@ fn are_few(layout: &Layout<'_>, triples: &[(u64, u64, u64)]) -> bool {
         let read = dictionary
             .block_len(Role::Subject, *subject)
             .saturating_add(dictionary.block_len(Role::Predicate, *predicate))
-            .saturating_add(dictionary.block_len(Role::Object, *object));
+            .saturating_add(dictionary.block_len(Role::Object, *object))
+            .saturating_add(dictionary.block_head(Role::Object, *object).len() as u64);
         if left < read {
             return false;
         }
@@ -69,6 +74,9 @@ fn are_few(layout: &Layout<'_>, triples: &[(u64, u64, u64)]) -> bool {
     }
     true
 }
+
+/// The bytes that a text has room for at first.
+const TEXT: usize = 4096;
 
 /// The text of triples, each string of which is looked up: for few of them.
 fn looked_up_text(
@@ -79,8 +87,8 @@ fn looked_up_text(
     ensures ok { IfOk result (λ text. IsTextOf (denoted (layout_seen layout.now) triples.now) text.items) }
     ensures err { IfErr result (TellsFirstIn (layout_seen layout.now) triples.now) }
 {
-    let mut speller = Speller::new(alloc);
-    let mut text = Vec::new(alloc);
+    let mut speller = Speller::new(alloc)?;
+    let mut text = Vec::with_capacity(alloc, TEXT)?;
     'triples: for at in 0..triples.len() {
         append_line(layout, triples[at], &mut speller, &mut text)?;
     }

@@ -35,7 +35,7 @@ fn append_string(
 }
 
 impl<'a> Section<'a> {
-    ghost use Rattle.hdt_front.specs.Strings.{block_bytes, section_of};
+    ghost use Rattle.hdt_front.specs.Strings.{block_bytes, block_head, section_of};
     ghost use Rattle.hdt_front.specs.Section.{string_place};
 
     /// Appends string n, counted from 1; the caller shows that there is one. It unfolds one block at most, in as many
@@ -67,6 +67,16 @@ impl<'a> Section<'a> {
         let block = (n - 1) / self.packed.block;
         let start = self.packed.starts.get(block);
         self.packed.starts.get(block + 1).saturating_sub(start)
+    }
+
+    /// The first string of the block of string n, counted from 1, lent from the input: unfolding the string begins with it. The
+    /// caller shows that there is such a string. It takes one look, and no memory.
+    pub fn head_of(&self, n: u64) -> &'a [u8]
+        requires from_one { 1 ≤ n }
+        requires within { n ≤ length (strings_of self.now) }
+        ensures { result.now ≡ block_head self.now (n - 1) }
+    {
+        self.head((n - 1) / self.packed.block)
     }
 
     /// The place of string n, counted from 1, in bytes from the start of the input: where its piece begins, which is
