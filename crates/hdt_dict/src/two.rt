@@ -4,7 +4,7 @@ ghost use Rattle.hdt_front.specs.Looks.{section_looks};
 ghost use Rattle.hdt_front.specs.Strings.{strings_of, section_of, block_size};
 ghost use Rattle.hdt_front.specs.Numbering.{place};
 ghost use Rattle.hdt_dict.specs.Numbered.{numbered, Appends};
-ghost use Rattle.hdt_dict.specs.Views.{string_block, string_block_of_two, string_head, string_head_of_two};
+ghost use Rattle.hdt_dict.specs.Views.{string_block, string_block_of_two, string_bytes, string_bytes_of_two};
 
 use hdt_front::Section;
 use hdt_seq::Steps;
@@ -92,23 +92,23 @@ pub(crate) fn block_in_two(first: &Section<'_>, second: &Section<'_>, n: u64) ->
     block_in_one(second, n - first.len())
 }
 
-/// The head of the block of string n of a section; empty where there is no such string.
-pub(crate) fn head_in_one<'a>(section: &Section<'a>, n: u64) -> &'a [u8]
-    ensures { result.now ≡ string_head section.now n }
+/// The packed bytes of the block of string n of a section; none where there is no such string.
+pub(crate) fn bytes_in_one<'a>(section: &Section<'a>, n: u64) -> &'a [u8]
+    ensures { result.now ≡ string_bytes section.now n }
 {
     if 1 <= n && n <= section.len() {
-        section.head_of(n)
+        section.block(n)
     } else {
         &[]
     }
 }
 
 /// The same of two sections, one after the other.
-pub(crate) fn head_in_two<'a>(first: &Section<'a>, second: &Section<'a>, n: u64) -> &'a [u8]
-    ensures { result.now ≡ string_head_of_two first.now second.now n }
+pub(crate) fn bytes_in_two<'a>(first: &Section<'a>, second: &Section<'a>, n: u64) -> &'a [u8]
+    ensures { result.now ≡ string_bytes_of_two first.now second.now n }
 {
     if n <= first.len() {
-        return head_in_one(first, n);
+        return bytes_in_one(first, n);
     }
-    head_in_one(second, n - first.len())
+    bytes_in_one(second, n - first.len())
 }
