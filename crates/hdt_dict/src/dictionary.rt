@@ -12,7 +12,10 @@ ghost use Rattle.hdt_dict.specs.Numbered.{numbered, Appends};
 ghost use Rattle.hdt_wire.specs.declared.role.Role.{Role};
 
 use crate::apart::{check_objects, check_subjects};
-use crate::two::{block_in_one, block_in_two, number_in_two, string_in_one, string_in_two};
+use crate::two::{
+    block_in_one, block_in_two, bytes_in_one, bytes_in_two, number_in_two, string_in_one,
+    string_in_two,
+};
 use hdt_front::{ReadFault, Section};
 use hdt_seq::Steps;
 use hdt_wire::{Kind, Role, read_control};
@@ -39,7 +42,7 @@ pub struct Dictionary<'a> {
 
 impl<'a> Dictionary<'a> {
     ghost use Rattle.hdt_dict.specs.Looks.{role_looks, role_block};
-    ghost use Rattle.hdt_dict.specs.Views.{dictionary_of, role_string_block};
+    ghost use Rattle.hdt_dict.specs.Views.{dictionary_of, role_string_block, role_string_bytes};
 
     /// Reads by rows.
     #[tactic(auto, unfolding(crate::specs::Dictionary::dictionary_at, crate::specs::Dictionary::rows_above_strings, crate::specs::Views::dictionary_of, hdt_front::specs::Strings::section_of, hdt_wire::specs::Control::block_of))]
@@ -204,6 +207,19 @@ impl<'a> Dictionary<'a> {
             Role::Subject => block_in_two(&self.shared, &self.subjects, n),
             Role::Predicate => block_in_one(&self.predicates, n),
             Role::Object => block_in_two(&self.shared, &self.objects, n),
+        }
+    }
+
+    /// The packed bytes of the block of string n of a role, numbers from 1, lent from the input: looking the string up reads
+    /// no others of it. Where there is no such string there are none. It takes two looks, and no memory.
+    #[tactic(auto, unfolding(crate::specs::Views::role_string_bytes))]
+    pub fn block(&self, role: Role, n: u64) -> &'a [u8]
+        ensures { result.now ≡ role_string_bytes self.now role n }
+    {
+        match role {
+            Role::Subject => bytes_in_two(&self.shared, &self.subjects, n),
+            Role::Predicate => bytes_in_one(&self.predicates, n),
+            Role::Object => bytes_in_two(&self.shared, &self.objects, n),
         }
     }
 

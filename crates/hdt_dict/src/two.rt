@@ -4,7 +4,7 @@ ghost use Rattle.hdt_front.specs.Looks.{section_looks};
 ghost use Rattle.hdt_front.specs.Strings.{strings_of, section_of, block_size};
 ghost use Rattle.hdt_front.specs.Numbering.{place};
 ghost use Rattle.hdt_dict.specs.Numbered.{numbered, Appends};
-ghost use Rattle.hdt_dict.specs.Views.{string_block, string_block_of_two};
+ghost use Rattle.hdt_dict.specs.Views.{string_block, string_block_of_two, string_bytes, string_bytes_of_two};
 
 use hdt_front::Section;
 use hdt_seq::Steps;
@@ -90,4 +90,25 @@ pub(crate) fn block_in_two(first: &Section<'_>, second: &Section<'_>, n: u64) ->
         return block_in_one(first, n);
     }
     block_in_one(second, n - first.len())
+}
+
+/// The packed bytes of the block of string n of a section; none where there is no such string.
+pub(crate) fn bytes_in_one<'a>(section: &Section<'a>, n: u64) -> &'a [u8]
+    ensures { result.now ≡ string_bytes section.now n }
+{
+    if 1 <= n && n <= section.len() {
+        section.block(n)
+    } else {
+        &[]
+    }
+}
+
+/// The same of two sections, one after the other.
+pub(crate) fn bytes_in_two<'a>(first: &Section<'a>, second: &Section<'a>, n: u64) -> &'a [u8]
+    ensures { result.now ≡ string_bytes_of_two first.now second.now n }
+{
+    if n <= first.len() {
+        return bytes_in_one(first, n);
+    }
+    bytes_in_one(second, n - first.len())
 }

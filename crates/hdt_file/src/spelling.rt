@@ -1,5 +1,5 @@
 //! The strings of a graph as terms of N-Triples.
-ghost use Rattle.std.specs.Prelude.{◌≡◌, ◌↔◌, ◌++◌, ◌∷◌, [], Some, IfErr, OnOk, OnErr, IsErrOf, IsTrue};
+ghost use Rattle.std.specs.Prelude.{◌≡◌, ◌↔◌, ◌++◌, ◌∷◌, [], None, Some, IfErr, IfOk, OnOk, OnErr, IsErrOf, IsTrue};
 ghost use Rattle.hdt_terms.specs.Strings.{kind_of};
 ghost use Rattle.hdt_terms.specs.declared.term.Term.{Term};
 ghost use Rattle.hdt_terms.specs.declared.fault.StringFault.TheVariants as StringFaultOf;
@@ -71,14 +71,17 @@ struct Spelled {
     text: Vec<u8>,
 }
 
+/// The bytes that a buffer for a term or a string has at first: most have no more.
+const TERM: usize = 128;
+
 impl Spelled {
-    fn new(alloc: Global) -> Spelled
-        ensures { result.number ≡ None }
+    fn new(alloc: Global) -> Result<Spelled, AllocError>
+        ensures { IfOk result (λ s. s.number ≡ None) }
     {
-        Spelled {
+        Ok(Spelled {
             number: None,
-            text: Vec::new(alloc),
-        }
+            text: Vec::with_capacity(alloc, TERM)?,
+        })
     }
 
     /// Spells string n of a role, where the last one was another.
@@ -116,17 +119,17 @@ pub struct Speller {
 
 impl Speller {
     /// A speller that has spelled nothing.
-    pub fn new(alloc: Global) -> Speller
-        ensures subject { result.subject.number ≡ None }
-        ensures predicate { result.predicate.number ≡ None }
-        ensures object { result.object.number ≡ None }
+    pub fn new(alloc: Global) -> Result<Speller, AllocError>
+        ensures subject { IfOk result (λ s. s.subject.number ≡ None) }
+        ensures predicate { IfOk result (λ s. s.predicate.number ≡ None) }
+        ensures object { IfOk result (λ s. s.object.number ≡ None) }
     {
-        Speller {
-            string: Vec::new(alloc),
-            subject: Spelled::new(alloc),
-            predicate: Spelled::new(alloc),
-            object: Spelled::new(alloc),
-        }
+        Ok(Speller {
+            string: Vec::with_capacity(alloc, TERM)?,
+            subject: Spelled::new(alloc)?,
+            predicate: Spelled::new(alloc)?,
+            object: Spelled::new(alloc)?,
+        })
     }
 
     /// Spells the terms of a triple, each where the last one was another.

@@ -17,11 +17,14 @@ use crate::graph::Graph;
 use crate::layout::Layout;
 use crate::spelling::{Speller, append_line};
 use crate::tables::{append_lines, tables_of};
-use hdt_dict::Role;
+use hdt_dict::{Dictionary, Role};
 use hdt_triples::{Matches, Pattern};
 use hdt_wire::Counted;
 use std::alloc::{AllocError, Global};
 use std::io::Write;
+
+/// The triples that a list has room for at first.
+const LISTED: usize = 16;
 
 /// The matches, or at most so many of the first, in a list.
 fn listed(
@@ -34,7 +37,7 @@ fn listed(
 {
     let mut matches = found;
     let mut room = most.unwrap_or(u64::MAX);
-    let mut triples = Vec::new(alloc);
+    let mut triples = Vec::with_capacity(alloc, LISTED)?;
     'triples: while room > 0 {
         let Some(triple) = matches.next() else {
             return Ok(triples);
@@ -48,8 +51,21 @@ fn listed(
 /// How many bytes of blocks may be read for each string of the dictionary, before one walk along all strings is cheaper.
 const READ_FOR_A_STRING: u64 = 32;
 
-/// Whether looking up the strings of triples one by one reads fewer bytes than a walk along the dictionary takes time for.
-fn are_few(layout: &Layout<'_>, triples: &[(u64, u64, u64)]) -> bool {
+/// A string's number with the length of its block, which the triple before may have told.
+fn with_len(dictionary: &Dictionary<'_>, role: Role, number: u64, last: (u64, u64)) -> (u64, u64) {
+    if number == last.0 {
+        return last;
+    }
+    (number, dictionary.block_len(role, number))
+}
+
+/// The blocks of the objects of triples, where looking up all strings one by one reads fewer bytes than a walk along the
+/// dictionary takes time for.
+fn few_blocks<'a>(
+    alloc: Global,
+    layout: &Layout<'a>,
+    triples: &[(u64, u64, u64)],
+) -> Result<Option<Vec<&'a [u8]>>, AllocError> {
     let dictionary = &layout.dictionary;
     let [_, shared, subjects, predicates, objects] = layout.lens();
     let mut left = shared
@@ -57,30 +73,66 @@ fn are_few(layout: &Layout<'_>, triples: &[(u64, u64, u64)]) -> bool {
         .saturating_add(predicates)
         .saturating_add(objects)
         .saturating_mul(READ_FOR_A_STRING);
+    let mut last_subject = (0, 0);
+    let mut last_predicate = (0, 0);
+    let mut blocks = Vec::with_capacity(alloc, LISTED)?;
     for (subject, predicate, object) in triples {
-        let read = dictionary
-            .block_len(Role::Subject, *subject)
-            .saturating_add(dictionary.block_len(Role::Predicate, *predicate))
-            .saturating_add(dictionary.block_len(Role::Object, *object));
+        let block = dictionary.block(Role::Object, *object);
+        last_subject = with_len(dictionary, Role::Subject, *subject, last_subject);
+        last_predicate = with_len(dictionary, Role::Predicate, *predicate, last_predicate);
+        let read = last_subject
+            .1
+            .saturating_add(last_predicate.1)
+            .saturating_add(block.len() as u64);
         if left < read {
-            return false;
+            return Ok(None);
         }
         left -= read;
+        blocks.push(block)?;
     }
-    true
+    Ok(Some(blocks))
 }
+
+/// How far apart bytes are looked at.
+const APART: usize = 64;
+
+/// The sum of the bytes of a block that are looked at.
+fn looked_at(block: &[u8]) -> usize {
+    let mut sum: usize = 0;
+    for piece in block.chunks(APART) {
+        sum = sum.wrapping_add(usize::from(piece[0]));
+    }
+    sum
+}
+
+/// The same of several blocks. They lie anywhere: so all are looked at, one soon after another and with no test of what is
+/// there, and wait for memory together.
+fn all_looked_at(blocks: &[&[u8]]) -> usize {
+    let mut sum: usize = 0;
+    for block in blocks {
+        sum = sum.wrapping_add(looked_at(block));
+    }
+    sum
+}
+
+/// The bytes that a text has room for at first, for each line.
+const LINE: usize = 160;
+
+/// For how many lines it has room at first, at most.
+const LINES: usize = 64;
 
 /// The text of triples, each string of which is looked up: for few of them.
 fn looked_up_text(
     alloc: Global,
     layout: &Layout<'_>,
     triples: &[(u64, u64, u64)],
+    room: usize,
 ) -> Result<Vec<u8>, DumpFault>
     ensures ok { IfOk result (λ text. IsTextOf (denoted (layout_seen layout.now) triples.now) text.items) }
     ensures err { IfErr result (TellsFirstIn (layout_seen layout.now) triples.now) }
 {
-    let mut speller = Speller::new(alloc);
-    let mut text = Vec::new(alloc);
+    let mut speller = Speller::new(alloc)?;
+    let mut text = Vec::with_capacity(alloc, room)?;
     'triples: for at in 0..triples.len() {
         append_line(layout, triples[at], &mut speller, &mut text)?;
     }
@@ -123,10 +175,13 @@ fn found_text(
     ensures err { IfErr result (TellsFirstIn (layout_seen layout.now) (limited most (left_of found.entry))) }
 {
     let triples = listed(alloc, found, most)?;
-    if are_few(layout, &triples) {
-        return looked_up_text(alloc, layout, &triples);
+    match few_blocks(alloc, layout, &triples)? {
+        Some(blocks) => {
+            let lines = all_looked_at(&blocks).min(triples.len()).min(LINES);
+            looked_up_text(alloc, layout, &triples, lines * LINE)
+        }
+        None => tabled_text(alloc, layout, &triples),
     }
-    tabled_text(alloc, layout, &triples)
 }
 
 /// The text of the matches of a pattern with a subject: its triples are found by directories of the marks, which are counted

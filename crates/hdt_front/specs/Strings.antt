@@ -1,6 +1,6 @@
 -- A section that was read, as its contracts see it.
 use Rattle.std.specs.Prelude.{ℕ, List, [], ◌-◌, ◌+◌, ◌/◌}
-use Rattle.std.specs.Prelude.{get_or}
+use Rattle.std.specs.Prelude.{get_or, take, drop}
 use Rattle.hdt_seq.specs.Numbers.{numbers_of}
 use Rattle.hdt_front.specs.Unfolding.{unfolded}
 use Rattle.hdt_front.specs.Section.{SectionParts}
@@ -31,3 +31,7 @@ blocks_of s = (s.packed.count + (s.packed.block - 1)) / s.packed.block
 -- how many packed bytes the block of string i has, counted from 0: from its head to the next one, or to the end
 unfoldable pub block_bytes : Section → ℕ → ℕ
 block_bytes s i = get_or (numbers_of s.packed.starts) (i / s.packed.block + 1) 0 - get_or (numbers_of s.packed.starts) (i / s.packed.block) 0
+
+-- the packed bytes of that block
+unfoldable pub packed_block : Section → ℕ → List ℕ
+packed_block s i = take (block_bytes s i) (drop (get_or (numbers_of s.packed.starts) (i / s.packed.block) 0) s.packed.bytes.now)

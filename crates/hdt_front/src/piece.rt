@@ -41,6 +41,7 @@ pub(crate) fn read_or_zero(rest: &[u8]) -> (u64, usize)
 }
 
 /// The piece of a string: how much it keeps, its text, and what is left after it.
+#[inline(always)]
 #[tactic(auto, unfolding(crate::specs::Unfolding::kept, crate::specs::Unfolding::text_of, crate::specs::Unfolding::text_from, crate::specs::Unfolding::after_piece))]
 pub(crate) fn piece_of(head: bool, rest: &[u8]) -> (u64, &[u8], &[u8])
     requires { zero_in (text_from head rest.now) < length (text_from head rest.now) }

@@ -35,7 +35,7 @@ fn append_string(
 }
 
 impl<'a> Section<'a> {
-    ghost use Rattle.hdt_front.specs.Strings.{block_bytes, section_of};
+    ghost use Rattle.hdt_front.specs.Strings.{block_bytes, packed_block, section_of};
     ghost use Rattle.hdt_front.specs.Section.{string_place};
 
     /// Appends string n, counted from 1; the caller shows that there is one. It unfolds one block at most, in as many
@@ -67,6 +67,19 @@ impl<'a> Section<'a> {
         let block = (n - 1) / self.packed.block;
         let start = self.packed.starts.get(block);
         self.packed.starts.get(block + 1).saturating_sub(start)
+    }
+
+    /// The packed bytes of the block of string n, counted from 1, lent from the input: unfolding the string reads no others. The
+    /// caller shows that there is such a string. It takes two looks, and no memory; the bytes themselves are not looked at.
+    #[tactic(auto, using(std::proofs::lemmas::List::take_min), unfolding(crate::specs::Strings::packed_block))]
+    pub fn block(&self, n: u64) -> &'a [u8]
+        requires from_one { 1 ≤ n }
+        requires within { n ≤ length (strings_of self.now) }
+        ensures { result.now ≡ packed_block self.now (n - 1) }
+    {
+        let len = self.block_len(n) as usize;
+        let bytes = self.from_head((n - 1) / self.packed.block);
+        bytes.split_at(len.min(bytes.len())).0
     }
 
     /// The place of string n, counted from 1, in bytes from the start of the input: where its piece begins, which is

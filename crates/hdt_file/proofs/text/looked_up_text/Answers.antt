@@ -33,7 +33,7 @@ returns-in_err-append_line-clause-err c =
     let t = get_or ts l.at (0, 0, 0) in
     let rest = drop (l.at + 1) ts in
     let split : drop l.at ts ≡ t ∷ rest = drop_more ts l.at (0, 0, 0) c.triples-test.true in
-    let p = err_from_is_err_and c.from_residual.result c.from_residual.ensures.1 in
+    let p = err_from_is_err_and c.from_residual-in_err-append_line.result c.from_residual-in_err-append_line.ensures.1 in
     rw (p.1, p.2) (stops g ts rest t c.in_err-append_line.field-0.0 (subst (SameFirst g ts) split l.invariant.first) c.in_err-append_line.ensures.err)
 
 pub returns-clause-ok : goal.returns-clause-ok
