@@ -6,14 +6,14 @@ use Rattle.std.specs.declared.cmp.Ordering.TheVariants.{Less}
 use Rattle.std.specs.Cmp.Lexicographic.{nat_list_cmp_total}
 use Rattle.std.proofs.lemmas.List.{get_or_push, length_push}
 use Rattle.std.proofs.lemmas.List.Elements.{Contains-get_or}
-use Rattle.hdt_front.specs.Agreeing.{agree_back, agree_so, all_agree, left_turns}
+use Rattle.hdt_front.specs.Laws.Agreeing.{agree_back, agree_so, all_agree, left_turns}
 use Rattle.hdt_front.specs.Searching.{agreed}
 use Rattle.hdt_front.specs.Section.{before}
 use Rattle.hdt_dict.specs.Strings.{string_cmp}
 use Rattle.hdt_file.specs.File.{GraphParts}
 use Rattle.hdt_build.specs.declared.kept.Part.{Part}
 use Rattle.hdt_build.specs.declared.run.Run.{Run}
-use Rattle.hdt_build.specs.Kept.{IsRun, Tell}
+use Rattle.hdt_build.specs.Inside.Kept.{IsRunOfStrings, Tell}
 
 -- of two strings the one that agrees further with a string before the other is the lesser
 further_first : (last a b : List ℕ) → agreed last b < agreed last a → string_cmp last b ≡ Less → (string_cmp a b ≡ Less) × (agreed a b ≡ agreed last b)
@@ -49,7 +49,7 @@ pub last_written : (strings : List (List ℕ)) (x : List ℕ) → last_in (strin
 last_written strings x = get_or_push ([] ∷ strings) x [] (length (strings ++ x ∷ [])) (omega (arith, length_push strings x))
 
 -- what is known of a run's agreement is no part of what it is
-pub same_run : (g : GraphParts) (p : Part) (run : Run) (n : ℕ) → IsRun g p run → (let new : Run = record run { same = n } in IsRun g p new)
+pub same_run : (g : GraphParts) (p : Part) (run : Run) (n : ℕ) → IsRunOfStrings g p run → (let new : Run = record run { same = n } in IsRunOfStrings g p new)
 same_run g p run n r = record {
   stands = r.stands;
   within = r.within;

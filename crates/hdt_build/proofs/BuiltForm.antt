@@ -2,7 +2,7 @@
 use Rattle.std.proofs.Common.{◌≡◌, ℕ, ◌<◌, ◌∙◌, List, [], length, ap, sym, subst, Result, Ok, Err}
 use Rattle.std.specs.Prelude.{IfOk}
 use Rattle.hdt_dict.specs.Split.{FourLists}
-use Rattle.hdt_dict.specs.SplitLaws.{split_sections}
+use Rattle.hdt_dict.specs.Laws.Split.{split_sections}
 use Rattle.hdt_dict.specs.Writing.{AreSections}
 use Rattle.hdt_triples.specs.Counting.{Triple}
 use Rattle.hdt_build.specs.declared.options.Options.{Options}

@@ -8,18 +8,18 @@ use Rattle.std.proofs.lemmas.List.{get_or-map, length-map, get_or_default}
 use Rattle.std.proofs.lemmas.List.Elements.{All-contains, All-map, Contains-append_left, Contains-append_right, Contains-append_cases, Contains-get_or}
 use Rattle.std.proofs.lemmas.Map.Keys.{Less-from_sorted}
 use Rattle.hdt_dict.specs.Strings.{SameMembers}
-use Rattle.hdt_dict.specs.StringsLaws.{member_cases}
+use Rattle.hdt_dict.specs.Laws.Strings.{member_cases}
 use Rattle.hdt_dict.specs.Split.{FourLists, IsSplit}
 use Rattle.hdt_build.specs.Graph.{subject_terms, object_terms}
-use Rattle.hdt_dict.specs.MembersLaws.{SameMembers-map, Contains-map, Contains-from_map, All-from_members, All-same_members}
-use Rattle.hdt_build.specs.Numbers.{term_at}
-use Rattle.hdt_build.specs.Parted.{ArePartsOf}
+use Rattle.hdt_dict.specs.Laws.Members.{SameMembers-map, Contains-map, Contains-from_map, All-from_members, All-same_members}
+use Rattle.hdt_build.specs.Inside.Numbers.{term_numbered}
+use Rattle.hdt_build.specs.Inside.Parted.{ArePartsOf}
 use Rattle.hdt_triples.specs.Counting.{Triple}
 use Rattle.hdt_triples.specs.Uses.{part}
 use Rattle.hdt_wire.specs.declared.role.Role.TheVariants.{Subject, Predicate, Object}
 use Rattle.hdt_build.proofs.Moving.{map_along}
 use Rattle.hdt_file.specs.Denoted.{StringTriple}
-use Rattle.hdt_build.specs.Graph.{InRange, IsForm, triple_at, triples_of, triple_cmp, AscendingTriples, numbers_at}
+use Rattle.hdt_build.specs.Graph.{InRange, IsForm, string_triple_at, string_triples_of, triple_cmp, AscendingTriples, renumbered_triple}
 use Rattle.hdt_build.proofs.Naming.{string_triple, same_strings, term_in}
 use Rattle.hdt_build.proofs.Distinct.{number_unique, subjects_distinct}
 use Rattle.hdt_triples.specs.Order.{triple_in, AreWritable}
@@ -52,9 +52,9 @@ module _ {ss ps os : List (List ℕ)} (d : FourLists) (h : IsSplit ss ps os d) w
 -- the triples of strings that the numbers of their parts denote
 module _ (xs : List (List ℕ)) (ids : List Triple) (d : FourLists) (nodes names : List ℕ) (h : ArePartsOf xs ids d nodes names) where
   abbrev new : Triple → Triple
-  new t = numbers_at nodes names nodes t
+  new t = renumbered_triple nodes names nodes t
 
-  one_denoted : (t : Triple) → Contains ids t → string_triple d (new t) ≡ triple_at xs t
+  one_denoted : (t : Triple) → Contains ids t → string_triple d (new t) ≡ string_triple_at xs t
   one_denoted t there = same_strings _ _ _ _ _ _
       (h.subjects_are t.0 (Contains-map (part Subject) ids t there)).is
       (h.predicates_are t.1 (Contains-map (part Predicate) ids t there)).is
@@ -67,13 +67,13 @@ module _ (xs : List (List ℕ)) (ids : List Triple) (d : FourLists) (nodes names
       let o = h.objects_are t.2 (Contains-map (part Object) ids t there) in
       ((s.from_one, s.within), (p.from_one, p.within), (o.from_one, o.within))
 
-  pub parts_form : (ts : List Triple) → AscendingTriples ts → SameMembers ts (map (numbers_at nodes names nodes) ids) → IsForm (triples_of xs ids) d ts
+  pub parts_form : (ts : List Triple) → AscendingTriples ts → SameMembers ts (map (renumbered_triple nodes names nodes) ids) → IsForm (string_triples_of xs ids) d ts
   parts_form ts up same = record {
     sections = h.sections;
     ascending = up;
     in_range = All-same_members (InRange d) (map new ids) ts same (All-map (InRange d) new ids (All-from_members (λ t. InRange d (new t)) ids one_in_range));
     denotes = subst (SameMembers (map (string_triple d) ts))
-        (map_along (string_triple d) new (triple_at xs) ids (All-from_members (λ t. string_triple d (new t) ≡ triple_at xs t) ids one_denoted))
+        (map_along (string_triple d) new (string_triple_at xs) ids (All-from_members (λ t. string_triple d (new t) ≡ string_triple_at xs t) ids one_denoted))
         (SameMembers-map (string_triple d) ts (map new ids) same);
   }
 
@@ -86,7 +86,7 @@ module _ {g : List StringTriple} (d : FourLists) (ts : List Triple) (h : IsForm 
       ]
 
   -- each string of a subject occurs
-  occurs_as : (x : List ℕ) → Contains (subject_terms d) x → (t : Triple) × Contains ts t × (term_at (subject_terms d) t.0 ≡ x)
+  occurs_as : (x : List ℕ) → Contains (subject_terms d) x → (t : Triple) × Contains ts t × (term_numbered (subject_terms d) t.0 ≡ x)
   occurs_as x in_terms =
       let r = Contains-from_map (λ (t : StringTriple). t.0) g x (subject_term d h.sections x in_terms) in
       let s = Contains-from_map (string_triple d) ts r.0 ((h.denotes r.0).1 r.1) in
@@ -95,7 +95,7 @@ module _ {g : List StringTriple} (d : FourLists) (ts : List Triple) (h : IsForm 
   -- each number of a subject occurs
   pub occurs : (n : ℕ) → 0 < n → n ≤ length (subject_terms d) → (t : Triple) × Contains ts t × (t.0 ≡ n)
   occurs n a b =
-      let r = occurs_as (term_at (subject_terms d) n) (term_in (subject_terms d) n a b) in
+      let r = occurs_as (term_numbered (subject_terms d) n) (term_in (subject_terms d) n a b) in
       let range = All-contains (InRange d) ts r.0 h.in_range r.1 in
       (r.0, r.1, number_unique (subject_terms d) (subjects_distinct d h.sections) r.0.0 n range.0.0 range.0.1 a b r.2)
 

@@ -10,7 +10,7 @@ use Rattle.std.proofs.lemmas.Map.Keys.{Less-from_sorted}
 use Rattle.hdt_dict.specs.Strings.{IsAscending, string_cmp}
 use Rattle.hdt_dict.specs.Split.{FourLists, IsSplit}
 use Rattle.hdt_build.specs.Graph.{subject_terms, predicate_terms, object_terms}
-use Rattle.hdt_build.specs.Numbers.{term_at}
+use Rattle.hdt_build.specs.Inside.Numbers.{term_numbered}
 use Rattle.hdt_build.proofs.Naming.{term_is}
 
 -- equal strings stand at one place
@@ -63,7 +63,7 @@ module _ (xs ys : List (List ℕ)) (no_both : (x : List ℕ) → Contains xs x �
   }
 
 -- one number for a string
-pub number_unique : (terms : List (List ℕ)) → Distinct terms → (m n : ℕ) → 0 < m → m ≤ length terms → 0 < n → n ≤ length terms → term_at terms m ≡ term_at terms n → m ≡ n
+pub number_unique : (terms : List (List ℕ)) → Distinct terms → (m n : ℕ) → 0 < m → m ≤ length terms → 0 < n → n ≤ length terms → term_numbered terms m ≡ term_numbered terms n → m ≡ n
 number_unique terms h m n a b c d same = let e = h.one (m - 1) (n - 1) (omega arith) (omega arith) (sym (term_is terms m a) ∙ same ∙ term_is terms n c) in omega arith
 
 module _ {ss ps os : List (List ℕ)} (d : FourLists) (h : IsSplit ss ps os d) where

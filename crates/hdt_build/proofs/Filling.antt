@@ -4,7 +4,7 @@ use Rattle.std.proofs.lemmas.Bool.{cases_lt, cases_eq}
 use Rattle.std.proofs.lemmas.List.{get_or_past}
 use Rattle.std.proofs.lemmas.Map.Keys.{Less-from_sorted}
 use Rattle.hdt_dict.specs.Strings.{IsAscending, string_cmp}
-use Rattle.hdt_build.specs.Parted.{flag_at, IsFilled}
+use Rattle.hdt_build.specs.Inside.Parted.{flag_at, IsFilled}
 use Rattle.hdt_build.proofs.Joining.{InWork, Ahead, begun, taken}
 
 -- a flag is a yes before the end alone

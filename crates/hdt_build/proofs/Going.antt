@@ -2,18 +2,18 @@
 use Rattle.std.proofs.Common.{◌≡◌, ◌∙◌, ℕ, ◌+◌, ◌-◌, ◌<◌, List, [], ◌∷◌, length, drop, get_or, Option, Some, refl, ap, sym, arith}
 use Rattle.std.proofs.lemmas.List.{get_or-drop, drop-drop, length-drop}
 use Rattle.hdt_dict.specs.Walking.{Progress, stepped_by, next_number}
-use Rattle.hdt_build.specs.Kept.{Stands}
-use Rattle.hdt_build.specs.Numbers.{term_at}
+use Rattle.hdt_build.specs.Inside.Kept.{HasGiven}
+use Rattle.hdt_build.specs.Inside.Numbers.{term_numbered}
 use Rattle.hdt_build.proofs.Naming.{term_is}
 
 pub record Goes (all : List (List ℕ)) (w new : Progress) (n : ℕ) : Type 0 where
   pub number : n ≡ w.given + 1
   pub given : new.given ≡ w.given + 1
-  pub last : new.last ≡ term_at all (w.given + 1)
-  pub stands : Stands all new
+  pub last : new.last ≡ term_numbered all (w.given + 1)
+  pub stands : HasGiven all new
   pub fewer : length new.ahead < length w.ahead
 
-goes_by : (all : List (List ℕ)) (w new : Progress) (n : ℕ) (ahead : List (List ℕ)) → Stands all w → w.ahead ≡ ahead → next_number w ahead ≡ Some n → new ≡ stepped_by w ahead → Goes all w new n
+goes_by : (all : List (List ℕ)) (w new : Progress) (n : ℕ) (ahead : List (List ℕ)) → HasGiven all w → w.ahead ≡ ahead → next_number w ahead ≡ Some n → new ≡ stepped_by w ahead → Goes all w new n
 goes_by all w new n [] s is some step = absurd (cc)
 goes_by all w new n (x ∷ xs) s is some step =
     let next : drop w.given all ≡ x ∷ xs = sym s.ahead ∙ is in
@@ -31,7 +31,7 @@ goes_by all w new n (x ∷ xs) s is some step =
       fewer = omega (arith, ap (λ (p : Progress). length p.ahead) step, ap length is);
     }
 
-pub goes : (all : List (List ℕ)) (w new : Progress) (n : ℕ) → Stands all w → next_number w w.ahead ≡ Some n → new ≡ stepped_by w w.ahead → Goes all w new n
+pub goes : (all : List (List ℕ)) (w new : Progress) (n : ℕ) → HasGiven all w → next_number w w.ahead ≡ Some n → new ≡ stepped_by w w.ahead → Goes all w new n
 goes all w new n s some step = goes_by all w new n w.ahead s refl some step
 
 counted_by : (w new : Progress) (n : ℕ) (ahead : List (List ℕ)) → next_number w ahead ≡ Some n → new ≡ stepped_by w ahead → (n ≡ w.given + 1) × (new.given ≡ n)
@@ -41,9 +41,9 @@ counted_by w new n (x ∷ xs) some step = let given : new.given ≡ w.given + 1 
 pub counted : (w new : Progress) (n : ℕ) → next_number w w.ahead ≡ Some n → new ≡ stepped_by w w.ahead → (n ≡ w.given + 1) × (new.given ≡ n)
 counted w new n some step = counted_by w new n w.ahead some step
 
-ended_by : (all : List (List ℕ)) (w : Progress) (ahead : List (List ℕ)) (r : Option ℕ) → Stands all w → w.ahead ≡ ahead → r ≡ next_number w ahead → ((k : ℕ) → r ≡ Some k → ⊥) → w.given ≡ length all
+ended_by : (all : List (List ℕ)) (w : Progress) (ahead : List (List ℕ)) (r : Option ℕ) → HasGiven all w → w.ahead ≡ ahead → r ≡ next_number w ahead → ((k : ℕ) → r ≡ Some k → ⊥) → w.given ≡ length all
 ended_by all w [] r s is e none = omega (arith, s.within, ap length (sym is ∙ s.ahead), length-drop w.given all)
 ended_by all w (x ∷ xs) r s is e none = absurd (none (w.given + 1) e)
 
-pub ended : (all : List (List ℕ)) (w : Progress) (r : Option ℕ) → Stands all w → r ≡ next_number w w.ahead → ((k : ℕ) → r ≡ Some k → ⊥) → w.given ≡ length all
+pub ended : (all : List (List ℕ)) (w : Progress) (r : Option ℕ) → HasGiven all w → r ≡ next_number w w.ahead → ((k : ℕ) → r ≡ Some k → ⊥) → w.given ≡ length all
 ended all w r s e none = ended_by all w w.ahead r s refl e none

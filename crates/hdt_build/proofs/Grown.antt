@@ -4,9 +4,9 @@ use Rattle.std.specs.List.{All}
 use Rattle.std.proofs.lemmas.List.{map_push}
 use Rattle.std.proofs.lemmas.List.Elements.{All-head, All-tail, All-push, All-weaker}
 use Rattle.hdt_triples.specs.Counting.{Triple}
-use Rattle.hdt_build.specs.Documents.{AreWithin}
-use Rattle.hdt_build.specs.Graph.{triple_at, triples_of}
-use Rattle.hdt_build.specs.Texts.{GoesOn}
+use Rattle.hdt_build.specs.Inside.Documents.{AreBelow}
+use Rattle.hdt_build.specs.Graph.{string_triple_at, string_triples_of}
+use Rattle.hdt_build.specs.Inside.Texts.{GoesOn}
 use Rattle.hdt_build.proofs.Naming.{same_strings}
 
 pub goes_on : (xs ys zs : List (List ℕ)) → GoesOn xs ys → GoesOn ys zs → GoesOn xs zs
@@ -21,11 +21,11 @@ map_same f g (x ∷ xs) h =
     λ i. e i ∷ r i
 
 -- the triples of strings that are kept
-pub graph_kept : (xs ys : List (List ℕ)) → GoesOn xs ys → (ids : List Triple) → AreWithin (length xs) ids → triples_of ys ids ≡ triples_of xs ids
-graph_kept xs ys g ids h = map_same (triple_at ys) (triple_at xs) ids (λ n d below. same_strings _ _ _ _ _ _ (g.kept _ (h.subjects n d below)) (g.kept _ (h.predicates n d below)) (g.kept _ (h.objects n d below)))
+pub graph_kept : (xs ys : List (List ℕ)) → GoesOn xs ys → (ids : List Triple) → AreBelow (length xs) ids → string_triples_of ys ids ≡ string_triples_of xs ids
+graph_kept xs ys g ids h = map_same (string_triple_at ys) (string_triple_at xs) ids (λ n d below. same_strings _ _ _ _ _ _ (g.kept _ (h.subjects n d below)) (g.kept _ (h.predicates n d below)) (g.kept _ (h.objects n d below)))
 
-module _ (xs ys : List (List ℕ)) (g : GoesOn xs ys) (ids : List Triple) (h : AreWithin (length xs) ids) (t : Triple) where
-  pub sound_more : t.0 < length ys → t.1 < length ys → t.2 < length ys → AreWithin (length ys) (ids ++ t ∷ [])
+module _ (xs ys : List (List ℕ)) (g : GoesOn xs ys) (ids : List Triple) (h : AreBelow (length xs) ids) (t : Triple) where
+  pub sound_more : t.0 < length ys → t.1 < length ys → t.2 < length ys → AreBelow (length ys) (ids ++ t ∷ [])
   sound_more s p o = record {
     subjects = more (λ t. t.0) h.subjects s;
     predicates = more (λ t. t.1) h.predicates p;
@@ -35,8 +35,8 @@ module _ (xs ys : List (List ℕ)) (g : GoesOn xs ys) (ids : List Triple) (h : A
       more : (f : Triple → ℕ) → All (λ t. f t < length xs) ids → f t < length ys → All (λ t. f t < length ys) (ids ++ t ∷ [])
       more f all new = All-push (λ (t : Triple). f t < length ys) ids t (All-weaker (λ (t : Triple). f t < length xs) (λ (t : Triple). f t < length ys) (λ t below. omega (arith, below, g.longer)) ids all) new
 
-  pub graph_more : (s p o : List ℕ) → get_or ys t.0 [] ≡ s → get_or ys t.1 [] ≡ p → get_or ys t.2 [] ≡ o → triples_of ys (ids ++ t ∷ []) ≡ triples_of xs ids ++ (s, p, o) ∷ []
+  pub graph_more : (s p o : List ℕ) → get_or ys t.0 [] ≡ s → get_or ys t.1 [] ≡ p → get_or ys t.2 [] ≡ o → string_triples_of ys (ids ++ t ∷ []) ≡ string_triples_of xs ids ++ (s, p, o) ∷ []
   graph_more s p o a b c =
       let old = graph_kept xs ys g ids h in
-      let new : triple_at ys t ≡ (s, p, o) = same_strings _ _ _ _ _ _ a b c in
-      map_push (triple_at ys) ids t ∙ (λ n. old n ++ new n ∷ [])
+      let new : string_triple_at ys t ≡ (s, p, o) = same_strings _ _ _ _ _ _ a b c in
+      map_push (string_triple_at ys) ids t ∙ (λ n. old n ++ new n ∷ [])

@@ -12,7 +12,7 @@ use Rattle.std.proofs.lemmas.List.Splits.{slice_split_at}
 use Rattle.std.proofs.lemmas.List.Sums.{AllPass-from_list_all}
 use Rattle.hdt_wire.specs.Control.{HasNoZero}
 use Rattle.hdt_wire.specs.Property.{property_value, is, value_of}
-use Rattle.hdt_wire.specs.RowLaws.{not-true}
+use Rattle.hdt_wire.specs.Laws.Row.{not-true}
 use Rattle.hdt_file.specs.Decimal.{Decimal}
 use Rattle.hdt_file.specs.Head.{StatesLength}
 use Rattle.hdt_build.specs.Header.{length_property}

@@ -7,19 +7,19 @@ use Rattle.std.proofs.lemmas.List.Elements.{All-map}
 use Rattle.hdt_wire.specs.declared.role.Role.{Role}
 use Rattle.hdt_wire.specs.declared.role.Role.TheVariants.{Subject, Predicate, Object}
 use Rattle.hdt_front.specs.Section.{AreStrings}
-use Rattle.hdt_dict.specs.MembersLaws.{Contains-map}
-use Rattle.hdt_dict.specs.Texts.{IsText}
+use Rattle.hdt_dict.specs.Laws.Members.{Contains-map}
+use Rattle.hdt_dict.specs.Texts.{IsDictionaryString}
 use Rattle.hdt_triples.specs.Counting.{Triple}
 use Rattle.hdt_triples.specs.Patterns.{agrees, matches}
 use Rattle.hdt_triples.specs.Uses.{part, Uses}
 use Rattle.hdt_triples.specs.declared.pattern.Pattern.{Pattern}
-use Rattle.hdt_file.specs.Denoted.{strings_of}
+use Rattle.hdt_file.specs.Denoted.{strings_for}
 use Rattle.hdt_file.specs.File.{GraphParts}
 use Rattle.hdt_file.specs.Graph.{IsGraph}
 use Rattle.hdt_file.specs.Views.{strings_in}
 use Rattle.hdt_file.specs.Denoted.{StringTriple}
 use Rattle.hdt_build.specs.Layouts.{denoted_by}
-use Rattle.hdt_build.specs.Numbers.{term_at}
+use Rattle.hdt_build.specs.Inside.Numbers.{term_numbered}
 use Rattle.hdt_build.specs.Reading.{AreTexts}
 use Rattle.hdt_build.proofs.Naming.{term_is}
 
@@ -35,26 +35,26 @@ matches_all p (t ∷ ts) s q o = rw (agrees_all p t s q o) (ap (λ (us : List Tr
 
 -- ---- the strings of a graph
 
-text_of : (xs : List (List ℕ)) (i : ℕ) → AreStrings xs → i < length xs → IsText (get_or xs i [])
+text_of : (xs : List (List ℕ)) (i : ℕ) → AreStrings xs → i < length xs → IsDictionaryString (get_or xs i [])
 text_of xs i h lt = record { utf8 = h.utf8 i lt; no_zero = h.no_zero i lt }
 
-text_of_two : (xs ys : List (List ℕ)) (i : ℕ) → AreStrings xs → AreStrings ys → i < length (xs ++ ys) → IsText (get_or (xs ++ ys) i [])
+text_of_two : (xs ys : List (List ℕ)) (i : ℕ) → AreStrings xs → AreStrings ys → i < length (xs ++ ys) → IsDictionaryString (get_or (xs ++ ys) i [])
 text_of_two xs ys i h k lt =
     let long = length-append xs ys in
     elim (cases_lt i (length xs)) [
-      | inl below ↦ subst IsText (sym (get_or_append_left xs ys [] i below)) (text_of xs i h below)
+      | inl below ↦ subst IsDictionaryString (sym (get_or_append_left xs ys [] i below)) (text_of xs i h below)
       | inr above ↦
           let at : length xs + (i - length xs) ≡ i = omega (arith, above) in
-          subst IsText (sym (sym (ap (λ (j : ℕ). get_or (xs ++ ys) j []) at) ∙ get_or-append-add xs ys (i - length xs) [])) (text_of ys (i - length xs) k (omega (arith, lt, long, above)))
+          subst IsDictionaryString (sym (sym (ap (λ (j : ℕ). get_or (xs ++ ys) j []) at) ∙ get_or-append-add xs ys (i - length xs) [])) (text_of ys (i - length xs) k (omega (arith, lt, long, above)))
     ]
 
-place_text : (g : GraphParts) → IsGraph g → (role : Role) (n : ℕ) → 1 ≤ n → n ≤ length (strings_in g role) → IsText (get_or (strings_in g role) (n - 1) [])
+place_text : (g : GraphParts) → IsGraph g → (role : Role) (n : ℕ) → 1 ≤ n → n ≤ length (strings_in g role) → IsDictionaryString (get_or (strings_in g role) (n - 1) [])
 place_text g h Subject n from to = text_of_two g.dictionary.shared g.dictionary.subjects (n - 1) h.shared h.subjects (omega (arith, from, to))
 place_text g h Predicate n from to = text_of g.dictionary.predicates (n - 1) h.predicates (omega (arith, from, to))
 place_text g h Object n from to = text_of_two g.dictionary.shared g.dictionary.objects (n - 1) h.shared h.objects (omega (arith, from, to))
 
-pub string_text : (g : GraphParts) → IsGraph g → (role : Role) (n : ℕ) → 1 ≤ n → n ≤ length (strings_in g role) → IsText (term_at (strings_in g role) n)
-string_text g h role n from to = subst IsText (sym (term_is (strings_in g role) n from)) (place_text g h role n from to)
+pub string_text : (g : GraphParts) → IsGraph g → (role : Role) (n : ℕ) → 1 ≤ n → n ≤ length (strings_in g role) → IsDictionaryString (term_numbered (strings_in g role) n)
+string_text g h role n from to = subst IsDictionaryString (sym (term_is (strings_in g role) n from)) (place_text g h role n from to)
 
 -- a triple of a graph: in each role its number is that of a string, and used
 pub record IsOf (g : GraphParts) (t : Triple) : Type 0 where
@@ -83,13 +83,13 @@ all_of g h k d lt =
     to t s p o Object = o
 
 pub some_denoted : (g : GraphParts) → IsGraph g → 0 < length (denoted_by g)
-some_denoted g h = omega (arith, h.some, length-map g.triples (strings_of g))
+some_denoted g h = omega (arith, h.some, length-map g.triples (strings_for g))
 
 pub denoted_texts : (g : GraphParts) → IsGraph g → AreTexts (denoted_by g)
 denoted_texts g h =
     let all = all_of g h in
     record {
-      subjects_are = All-map IsText (λ (t : StringTriple). t.0) (denoted_by g) (All-map (λ (t : StringTriple). IsText t.0) (strings_of g) g.triples (λ k d lt. let t = all k d lt in string_text g h Subject _ (t.from Subject) (t.to Subject)));
-      predicates_are = All-map IsText (λ (t : StringTriple). t.1) (denoted_by g) (All-map (λ (t : StringTriple). IsText t.1) (strings_of g) g.triples (λ k d lt. let t = all k d lt in string_text g h Predicate _ (t.from Predicate) (t.to Predicate)));
-      objects_are = All-map IsText (λ (t : StringTriple). t.2) (denoted_by g) (All-map (λ (t : StringTriple). IsText t.2) (strings_of g) g.triples (λ k d lt. let t = all k d lt in string_text g h Object _ (t.from Object) (t.to Object)));
+      subjects_are = All-map IsDictionaryString (λ (t : StringTriple). t.0) (denoted_by g) (All-map (λ (t : StringTriple). IsDictionaryString t.0) (strings_for g) g.triples (λ k d lt. let t = all k d lt in string_text g h Subject _ (t.from Subject) (t.to Subject)));
+      predicates_are = All-map IsDictionaryString (λ (t : StringTriple). t.1) (denoted_by g) (All-map (λ (t : StringTriple). IsDictionaryString t.1) (strings_for g) g.triples (λ k d lt. let t = all k d lt in string_text g h Predicate _ (t.from Predicate) (t.to Predicate)));
+      objects_are = All-map IsDictionaryString (λ (t : StringTriple). t.2) (denoted_by g) (All-map (λ (t : StringTriple). IsDictionaryString t.2) (strings_for g) g.triples (λ k d lt. let t = all k d lt in string_text g h Object _ (t.from Object) (t.to Object)));
     }

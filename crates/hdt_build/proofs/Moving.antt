@@ -4,20 +4,20 @@ use Rattle.std.specs.List.{All}
 use Rattle.std.proofs.lemmas.List.{get_or_default, same_lists, length-map, get_or-map, take-append-le, take_all}
 use Rattle.std.proofs.lemmas.List.Elements.{All-head, All-tail, All-map}
 use Rattle.hdt_triples.specs.Counting.{Triple}
-use Rattle.hdt_build.specs.Documents.{AreWithin}
-use Rattle.hdt_build.specs.Graph.{numbers_at, triple_at, triples_of}
-use Rattle.hdt_build.specs.Placed.{AreRanks}
+use Rattle.hdt_build.specs.Inside.Documents.{AreBelow}
+use Rattle.hdt_build.specs.Graph.{renumbered_triple, string_triple_at, string_triples_of}
+use Rattle.hdt_build.specs.Inside.Placed.{AreRanks}
 use Rattle.hdt_build.proofs.Naming.{same_strings}
 
 -- what is written back to a vector whose triples were all replaced
 pub all_replaced : (sn pn on : List ℕ) (len : ℕ) (old new rest : List Triple) → len ≡ length old → length new ≡ length old
-    → ((k : ℕ) → k < length old → get_or new k (0, 0, 0) ≡ numbers_at sn pn on (get_or old k (0, 0, 0))) → take len (new ++ rest) ≡ map (numbers_at sn pn on) old
+    → ((k : ℕ) → k < length old → get_or new k (0, 0, 0) ≡ renumbered_triple sn pn on (get_or old k (0, 0, 0))) → take len (new ++ rest) ≡ map (renumbered_triple sn pn on) old
 all_replaced sn pn on len old new rest is long each =
     take-append-le len new rest (omega arith) ∙ take_all len new (omega arith)
-    ∙ same_lists new (map (numbers_at sn pn on) old) (omega (arith, length-map old (numbers_at sn pn on)))
+    ∙ same_lists new (map (renumbered_triple sn pn on) old) (omega (arith, length-map old (renumbered_triple sn pn on)))
     (λ k d below.
     let in' : k < length old = omega arith in
-    get_or_default new k d (0, 0, 0) below ∙ each k in' ∙ sym (get_or-map (numbers_at sn pn on) old k (0, 0, 0) d in'))
+    get_or_default new k d (0, 0, 0) below ∙ each k in' ∙ sym (get_or-map (renumbered_triple sn pn on) old k (0, 0, 0) d in'))
 
 -- two functions, one after the other, that do on a list what a third does
 pub map_along : {X Y Z : Type 0} (f : Y → Z) (g : X → Y) (h : X → Z) (xs : List X) → All (λ x. f (g x) ≡ h x) xs → map f (map g xs) ≡ map h xs
@@ -28,13 +28,13 @@ map_along f g h (x ∷ xs) all =
     λ i. e i ∷ r i
 
 -- the places replaced by the ranks of their strings
-module _ (xs ys : List (List ℕ)) (ns : List ℕ) (r : AreRanks xs ys ns) (ids : List Triple) (h : AreWithin (length xs) ids) where
-  pub moved_is : triples_of ys (map (numbers_at ns ns ns) ids) ≡ triples_of xs ids
-  moved_is = map_along (triple_at ys) (numbers_at ns ns ns) (triple_at xs) ids (λ k d lt. same_strings _ _ _ _ _ _ (r.is _ (h.subjects k d lt)) (r.is _ (h.predicates k d lt)) (r.is _ (h.objects k d lt)))
+module _ (xs ys : List (List ℕ)) (ns : List ℕ) (r : AreRanks xs ys ns) (ids : List Triple) (h : AreBelow (length xs) ids) where
+  pub moved_is : string_triples_of ys (map (renumbered_triple ns ns ns) ids) ≡ string_triples_of xs ids
+  moved_is = map_along (string_triple_at ys) (renumbered_triple ns ns ns) (string_triple_at xs) ids (λ k d lt. same_strings _ _ _ _ _ _ (r.is _ (h.subjects k d lt)) (r.is _ (h.predicates k d lt)) (r.is _ (h.objects k d lt)))
 
-  pub moved_within : AreWithin (length ys) (map (numbers_at ns ns ns) ids)
+  pub moved_within : AreBelow (length ys) (map (renumbered_triple ns ns ns) ids)
   moved_within = record {
-    subjects = All-map (λ (t : Triple). t.0 < length ys) (numbers_at ns ns ns) ids (λ k t lt. r.within _ (h.subjects k t lt));
-    predicates = All-map (λ (t : Triple). t.1 < length ys) (numbers_at ns ns ns) ids (λ k t lt. r.within _ (h.predicates k t lt));
-    objects = All-map (λ (t : Triple). t.2 < length ys) (numbers_at ns ns ns) ids (λ k t lt. r.within _ (h.objects k t lt));
+    subjects = All-map (λ (t : Triple). t.0 < length ys) (renumbered_triple ns ns ns) ids (λ k t lt. r.within _ (h.subjects k t lt));
+    predicates = All-map (λ (t : Triple). t.1 < length ys) (renumbered_triple ns ns ns) ids (λ k t lt. r.within _ (h.predicates k t lt));
+    objects = All-map (λ (t : Triple). t.2 < length ys) (renumbered_triple ns ns ns) ids (λ k t lt. r.within _ (h.objects k t lt));
   }

@@ -5,22 +5,22 @@ use Rattle.std.proofs.lemmas.List.Elements.{Contains-get_or}
 use Rattle.std.proofs.lemmas.Option.{unwrap_or-slice_get}
 use Rattle.hdt_dict.specs.Split.{FourLists}
 use Rattle.hdt_triples.specs.Counting.{Triple}
-use Rattle.hdt_file.specs.Denoted.{StringTriple, strings_of}
-use Rattle.hdt_build.specs.Layouts.{parts_of}
-use Rattle.hdt_build.specs.Numbers.{term_at}
+use Rattle.hdt_file.specs.Denoted.{StringTriple, strings_for}
+use Rattle.hdt_build.specs.Layouts.{graph_parts_of}
+use Rattle.hdt_build.specs.Inside.Numbers.{term_numbered}
 
 -- what the numbers of a triple stand for in the sections
 abbrev pub string_triple : FourLists → Triple → StringTriple
-string_triple d t = strings_of (parts_of [] d []) t
+string_triple d t = strings_for (graph_parts_of [] d []) t
 
 pub same_strings : (a b c d e f : List ℕ) → a ≡ b → c ≡ d → e ≡ f → let l : StringTriple = (a, c, e) in let r : StringTriple = (b, d, f) in l ≡ r
 same_strings a b c d e f p q r = cc
 
-pub term_is : (xs : List (List ℕ)) (n : ℕ) → 1 ≤ n → term_at xs n ≡ get_or xs (n - 1) []
+pub term_is : (xs : List (List ℕ)) (n : ℕ) → 1 ≤ n → term_numbered xs n ≡ get_or xs (n - 1) []
 term_is xs zero from = absurd (omega (arith, from))
 term_is xs (suc i) from =
     let at : i ≡ suc i - 1 = omega arith in
     unwrap_or-slice_get xs i [] ∙ ap (λ (k : ℕ). get_or xs k []) at
 
-pub term_in : (xs : List (List ℕ)) (n : ℕ) → 1 ≤ n → n ≤ length xs → Contains xs (term_at xs n)
+pub term_in : (xs : List (List ℕ)) (n : ℕ) → 1 ≤ n → n ≤ length xs → Contains xs (term_numbered xs n)
 term_in xs n from to = subst (Contains xs) (sym (term_is xs n from)) (Contains-get_or xs (n - 1) [] (omega (arith, from, to)))

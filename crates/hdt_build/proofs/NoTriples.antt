@@ -9,7 +9,7 @@ use Rattle.hdt_build.specs.declared.fault.BuildFault.TheVariants as faults
 use Rattle.hdt_build.specs.declared.options.Options.{Options}
 use Rattle.hdt_build.specs.declared.report.Report.{Report}
 use Rattle.hdt_build.specs.Built.{Builds}
-use Rattle.hdt_build.specs.Reading.{most, strings_of, Tells, ReadFailed}
+use Rattle.hdt_build.specs.Reading.{most, term_strings, TellsBuildFault, ReadFailed}
 use Rattle.hdt_build.proofs.OneDocument.{one_document, no_fault}
 
 -- nothing is built of it
@@ -17,10 +17,10 @@ pub none_built : (one : (text : List ℕ) (x y : Option Triple) → Line text x 
 none_built one options bytes made report h none =
     let same : h.read.triples ≡ [] = one_document one bytes h.read.triples [] h.read.document.0 none in
     let some : 0 < length h.graph = h.built.file.some in
-    omega (arith, some, ap length (h.read.strings ∙ ap (λ (ts : List Triple). map strings_of ts) same))
+    omega (arith, some, ap length (h.read.strings ∙ ap (λ (ts : List Triple). map term_strings ts) same))
 
 -- a fault that is told is this, or that the reader failed, or want of memory
-pub none_told : (apart : (text : List ℕ) (x : Option Triple) (fault : TermFault) → Line text x → LineFaultStands text fault → ⊥) (bytes : List ℕ) (after : Option (List ℕ)) (e : BuildFault) → Tells (Some bytes) after e → Document bytes [] → length bytes ≤ most
+pub none_told : (apart : (text : List ℕ) (x : Option Triple) (fault : TermFault) → Line text x → LineFaultStands text fault → ⊥) (bytes : List ℕ) (after : Option (List ℕ)) (e : BuildFault) → TellsBuildFault (Some bytes) after e → Document bytes [] → length bytes ≤ most
     → (e ≡ faults.NoTriples) ⊎ ((e ≡ faults.OutOfMemory) ⊎ ReadFailed e)
 none_told apart bytes after (faults.Line fault) h none short = inr (inr (⊎_elim (λ read. read) (λ memory. absurd (h.1 memory)) (no_fault apart bytes [] fault most after none short h.0)))
 none_told apart bytes after faults.NoTriples h none short = inl refl

@@ -11,7 +11,7 @@ use Rattle.hdt_terms.specs.declared.triple.Triple.{Triple}
 use Rattle.hdt_terms.specs.Chars.{is_end}
 use Rattle.hdt_terms.specs.Documents.{FaultInDocument}
 use Rattle.hdt_terms.specs.LineReading.{LineFaultStands}
-use Rattle.hdt_terms.specs.Lines.{NoEnd, Line, EndedLines, Document, triples_of}
+use Rattle.hdt_terms.specs.Lines.{NoEnd, Line, EndedLines, Document, triples_of_lines}
 use Rattle.hdt_terms.specs.Taking.{StandsInLine, StandsInText}
 
 -- ---- the first end of a text is found in one way
@@ -70,7 +70,7 @@ module _ (one : (text : List ℕ) (x y : Option Triple) → Line text x → Line
   pub one_document : (bytes : List ℕ) (ts us : List Triple) → Document bytes ts → Document bytes us → ts ≡ us
   one_document bytes ts us p q =
       p.triples_are
-      ∙ ap (λ (l : List (Option Triple)). triples_of l) (lines_are p.lines q.lines p.front p.last q.front q.last p.last_line q.last_line p.ended p.no_end p.is_line q.ended q.no_end q.is_line (sym p.cut ∙ q.cut))
+      ∙ ap (λ (l : List (Option Triple)). triples_of_lines l) (lines_are p.lines q.lines p.front p.last q.front q.last p.last_line q.last_line p.ended p.no_end p.is_line q.ended q.no_end q.is_line (sym p.cut ∙ q.cut))
       ∙ sym q.triples_are
 
 -- the text of a line, with its end or the last

@@ -5,16 +5,16 @@ use Rattle.std.proofs.lemmas.List.Elements.{All-contains}
 use Rattle.hdt_wire.specs.Control.{HasNoZero}
 use Rattle.hdt_wire.specs.declared.role.Role.{Role}
 use Rattle.hdt_wire.specs.declared.role.Role.TheVariants.{Subject, Predicate, Object}
-use Rattle.hdt_dict.specs.MembersLaws.{Contains-map, Contains-from_map}
+use Rattle.hdt_dict.specs.Laws.Members.{Contains-map, Contains-from_map}
 use Rattle.hdt_dict.specs.Split.{IsSplit}
 use Rattle.hdt_dict.specs.Strings.{IsAscending}
-use Rattle.hdt_dict.specs.Texts.{IsText}
+use Rattle.hdt_dict.specs.Texts.{IsDictionaryString}
 use Rattle.hdt_triples.specs.Counting.{Triple}
 use Rattle.hdt_triples.specs.Uses.{part, Uses}
-use Rattle.hdt_build.specs.Documents.{AreWithin}
-use Rattle.hdt_build.specs.Graph.{subjects_of, predicates_of, objects_of, triple_at, triples_of}
-use Rattle.hdt_build.specs.Numbers.{IsNumberOf}
-use Rattle.hdt_build.specs.Parted.{flag_at, AreUsed, AreNumbered, ArePartsOf, IsFilled, IsWanted}
+use Rattle.hdt_build.specs.Inside.Documents.{AreBelow}
+use Rattle.hdt_build.specs.Graph.{subjects_of, predicates_of, objects_of, string_triple_at, string_triples_of}
+use Rattle.hdt_build.specs.Inside.Numbers.{IsNumberOf}
+use Rattle.hdt_build.specs.Inside.Parted.{flag_at, AreUsed, AreNumbered, ArePartsOf, IsFilled, IsWanted}
 use Rattle.hdt_build.specs.Reading.{AreTexts}
 use Rattle.hdt_build.proofs.Distinct.{Distinct-ascending}
 use Rattle.hdt_build.proofs.Joining.{number_in_front, number_behind}
@@ -24,37 +24,37 @@ use Rattle.hdt_build.proofs.Runs.{either}
 module _ (xs : List (List ℕ)) (ids : List Triple) where
   -- ---- what triples use in a role, and the strings that their graph has there
 
-  part_at : (role : Role) (t : Triple) → part role (triple_at xs t) ≡ get_or xs (part role t) []
+  part_at : (role : Role) (t : Triple) → part role (string_triple_at xs t) ≡ get_or xs (part role t) []
   part_at Subject t = refl
   part_at Predicate t = refl
   part_at Object t = refl
 
-  named : (role : Role) (x : List ℕ) (k : ℕ) → Uses ids role k → get_or xs k [] ≡ x → Contains (map (part role) (triples_of xs ids)) x
+  named : (role : Role) (x : List ℕ) (k : ℕ) → Uses ids role k → get_or xs k [] ≡ x → Contains (map (part role) (string_triples_of xs ids)) x
   named role x k used is =
       let t = Contains-from_map (part role) ids k used in
-      subst (Contains (map (part role) (triples_of xs ids))) (part_at role t.0 ∙ (ap (λ (n : ℕ). get_or xs n []) t.2 ∙ is))
-      (Contains-map (part role) (triples_of xs ids) (triple_at xs t.0) (Contains-map (triple_at xs) ids t.0 t.1))
+      subst (Contains (map (part role) (string_triples_of xs ids))) (part_at role t.0 ∙ (ap (λ (n : ℕ). get_or xs n []) t.2 ∙ is))
+      (Contains-map (part role) (string_triples_of xs ids) (string_triple_at xs t.0) (Contains-map (string_triple_at xs) ids t.0 t.1))
 
-  placed : (role : Role) (x : List ℕ) → Contains (map (part role) (triples_of xs ids)) x → (k : ℕ) × Uses ids role k × (get_or xs k [] ≡ x)
+  placed : (role : Role) (x : List ℕ) → Contains (map (part role) (string_triples_of xs ids)) x → (k : ℕ) × Uses ids role k × (get_or xs k [] ≡ x)
   placed role x there =
-      let s = Contains-from_map (part role) (triples_of xs ids) x there in
-      let t = Contains-from_map (triple_at xs) ids s.0 s.1 in
+      let s = Contains-from_map (part role) (string_triples_of xs ids) x there in
+      let t = Contains-from_map (string_triple_at xs) ids s.0 s.1 in
       (part role t.0, Contains-map (part role) ids t.0 t.1, sym (part_at role t.0) ∙ (ap (part role) t.2 ∙ s.2))
 
-  role_texts : AreTexts (triples_of xs ids) → (role : Role) → All IsText (map (part role) (triples_of xs ids))
+  role_texts : AreTexts (string_triples_of xs ids) → (role : Role) → All IsDictionaryString (map (part role) (string_triples_of xs ids))
   role_texts h Subject = h.subjects_are
   role_texts h Predicate = h.predicates_are
   role_texts h Object = h.objects_are
 
-  pub used_text : AreTexts (triples_of xs ids) → (role : Role) (flags : List Bool) → AreUsed ids role flags → (k : ℕ) → flag_at flags k ≡ true → HasNoZero (get_or xs k [])
-  used_text h role flags u k on = (All-contains IsText (map (part role) (triples_of xs ids)) (get_or xs k []) (role_texts h role) (named role (get_or xs k []) k ((u k).0 on) refl)).no_zero
+  pub used_text : AreTexts (string_triples_of xs ids) → (role : Role) (flags : List Bool) → AreUsed ids role flags → (k : ℕ) → flag_at flags k ≡ true → HasNoZero (get_or xs k [])
+  used_text h role flags u k on = (All-contains IsDictionaryString (map (part role) (string_triples_of xs ids)) (get_or xs k []) (role_texts h role) (named role (get_or xs k []) k ((u k).0 on) refl)).no_zero
 
-  role_within : AreWithin (length xs) ids → (role : Role) → All (λ t. part role t < length xs) ids
+  role_within : AreBelow (length xs) ids → (role : Role) → All (λ t. part role t < length xs) ids
   role_within h Subject = h.subjects
   role_within h Predicate = h.predicates
   role_within h Object = h.objects
 
-  module _ (up : IsAscending xs) (within : AreWithin (length xs) ids) where
+  module _ (up : IsAscending xs) (within : AreBelow (length xs) ids) where
     used_within : (role : Role) (k : ℕ) → Uses ids role k → k < length xs
     used_within role k used = let t = Contains-from_map (part role) ids k used in subst (λ (n : ℕ). n < length xs) t.2 (All-contains (λ t. part role t < length xs) ids t.0 (role_within within role) t.1)
 
@@ -75,7 +75,7 @@ module _ (xs : List (List ℕ)) (ids : List Triple) where
       module _ (sh su pr ob : List (List ℕ)) (n0 n1 n2 n3 m0 m1 : List ℕ)
           (a : IsFilled xs (IsWanted s o true) 0 sh n0 n1) (b : IsFilled xs (IsWanted s o false) (length sh) su n1 n2)
           (c : IsFilled xs (IsWanted p p true) 0 pr m0 m1) (e : IsFilled xs (IsWanted o s false) (length sh) ob n2 n3) where
-        is_split : IsSplit (subjects_of (triples_of xs ids)) (predicates_of (triples_of xs ids)) (objects_of (triples_of xs ids)) (record { shared = sh; subjects = su; predicates = pr; objects = ob })
+        is_split : IsSplit (subjects_of (string_triples_of xs ids)) (predicates_of (string_triples_of xs ids)) (objects_of (string_triples_of xs ids)) (record { shared = sh; subjects = su; predicates = pr; objects = ob })
         is_split = record {
           shared_ascend = a.ascend;
           subjects_ascend = b.ascend;

@@ -12,7 +12,7 @@ use Rattle.hdt_file.specs.File.{GraphParts}
 use Rattle.hdt_file.specs.Graph.{IsGraph}
 use Rattle.hdt_build.specs.declared.kept.Part.{Part}
 use Rattle.hdt_build.specs.declared.run.Run.{Run}
-use Rattle.hdt_build.specs.Kept.{role_of, Keeps, cut_of, end_of, IsRun, IsRunFrom, IsPut, Agrees, Tell}
+use Rattle.hdt_build.specs.Inside.Kept.{role_of, KeepsNumber, cut_of, end_of, IsRunOfStrings, IsRunFrom, IsPut, Agrees, Tell}
 use Rattle.hdt_build.proofs.Agreement.{last_in, tell, last_less}
 use Rattle.hdt_build.proofs.Joining.{InWork, Ahead, turn, begun, taken}
 use Rattle.hdt_build.proofs.RunOrder.{kept_before, cut_before, run_up, run_apart}
@@ -28,14 +28,14 @@ module _ (g : GraphParts) (h : IsGraph g) (p : Part) (count : ℕ) (before : Lis
 
   -- what was written where the one run stands at i, and the other at j
   abbrev pub Written : ℕ → ℕ → List (List ℕ) → List ℕ → Type 0
-  Written i j strings after = InWork (λ k. Keeps g p (k + 1)) text (Ahead i (cut_of g p) j (end_of g p)) count strings before after
+  Written i j strings after = InWork (λ k. KeepsNumber g p (k + 1)) text (Ahead i (cut_of g p) j (end_of g p)) count strings before after
 
   pub put_begun : (one two : Run) → IsRunFrom g p 0 one → IsRunFrom g p (cut_of g p) two → Written one.at two.at [] before
   put_begun one two a b =
-      begun (λ k. Keeps g p (k + 1)) text count before one.at (cut_of g p) two.at (end_of g p)
+      begun (λ k. KeepsNumber g p (k + 1)) text count before one.at (cut_of g p) two.at (end_of g p)
       (kept_before g h p) (λ k lt. a.passed k (omega arith) lt) b.passed
 
-  module _ (one two : Run) (a : IsRun g p one) (a_end : one.end ≡ cut_of g p) (b : IsRun g p two) (b_end : two.end ≡ end_of g p) (b_from : cut_of g p ≤ two.at)
+  module _ (one two : Run) (a : IsRunOfStrings g p one) (a_end : one.end ≡ cut_of g p) (b : IsRunOfStrings g p two) (b_end : two.end ≡ end_of g p) (b_from : cut_of g p ≤ two.at)
       (strings : List (List ℕ)) (after : List ℕ) (work : Written one.at two.at strings after) where
     -- the strings at which the runs stand come after the last one that was written
     pub both_tell : one.at < one.end → two.at < two.end → Agrees (last_in strings) one → Agrees (last_in strings) two → Tell one two
@@ -49,7 +49,7 @@ module _ (g : GraphParts) (h : IsGraph g) (p : Part) (count : ℕ) (before : Lis
     pub first_put : (new : Run) (v : ℕ) → one.at < one.end → (two.at < two.end → string_cmp one.strings.last two.strings.last ≡ Less) → IsRunFrom g p (one.at + 1) new
         → one.at < length after → v ≡ count + (length strings + 1) → Written new.at two.at (strings ++ text one.at ∷ []) (set after one.at v)
     first_put new v there less next in' is =
-        taken (λ k. Keeps g p (k + 1)) text count before one.at (cut_of g p) two.at (end_of g p) new.at v strings after work
+        taken (λ k. KeepsNumber g p (k + 1)) text count before one.at (cut_of g p) two.at (end_of g p) new.at v strings after work
         (a.here there).kept (omega (arith, there, a_end)) in' is next.onward next.passed
         (λ k lt to. run_up g h p one.at k lt (omega (arith, to, cut_before g h p)) (inl to)) other
       where
@@ -65,9 +65,9 @@ module _ (g : GraphParts) (h : IsGraph g) (p : Part) (count : ℕ) (before : Lis
     pub second_put : (new : Run) (v : ℕ) → two.at < two.end → (one.at < one.end → string_cmp one.strings.last two.strings.last ≢ Less) → IsRunFrom g p (two.at + 1) new
         → two.at < length after → v ≡ count + (length strings + 1) → Written one.at new.at (strings ++ text two.at ∷ []) (set after two.at v)
     second_put new v there less next in' is =
-        turn (λ k. Keeps g p (k + 1)) text count before new.at (end_of g p) one.at (cut_of g p) (strings ++ text two.at ∷ []) (set after two.at v)
-        (taken (λ k. Keeps g p (k + 1)) text count before two.at (end_of g p) one.at (cut_of g p) new.at v strings after
-        (turn (λ k. Keeps g p (k + 1)) text count before one.at (cut_of g p) two.at (end_of g p) strings after work)
+        turn (λ k. KeepsNumber g p (k + 1)) text count before new.at (end_of g p) one.at (cut_of g p) (strings ++ text two.at ∷ []) (set after two.at v)
+        (taken (λ k. KeepsNumber g p (k + 1)) text count before two.at (end_of g p) one.at (cut_of g p) new.at v strings after
+        (turn (λ k. KeepsNumber g p (k + 1)) text count before one.at (cut_of g p) two.at (end_of g p) strings after work)
         (b.here there).kept (omega (arith, there, b_end)) in' is next.onward next.passed
         (λ k lt to. run_up g h p two.at k lt to (inr b_from)) other)
       where

@@ -6,13 +6,13 @@ use Rattle.std.proofs.lemmas.List.{get_or_append_left, get_or-append_right, leng
 use Rattle.std.proofs.lemmas.List.Elements.{All-head, All-tail, All-map, Contains-get_or}
 use Rattle.hdt_wire.specs.declared.role.Role.{Role}
 use Rattle.hdt_wire.specs.declared.role.Role.TheVariants.{Subject, Predicate, Object}
-use Rattle.hdt_dict.specs.MembersLaws.{Contains-map, Contains-from_map, SameMembers-map, All-same_members}
+use Rattle.hdt_dict.specs.Laws.Members.{Contains-map, Contains-from_map, SameMembers-map, All-same_members}
 use Rattle.hdt_dict.specs.Split.{FourLists, IsSplit}
 use Rattle.hdt_dict.specs.Strings.{SameMembers}
-use Rattle.hdt_dict.specs.StringsLaws.{member_cases}
+use Rattle.hdt_dict.specs.Laws.Strings.{member_cases}
 use Rattle.hdt_triples.specs.Counting.{Triple}
 use Rattle.hdt_triples.specs.Uses.{part, Uses}
-use Rattle.hdt_file.specs.Denoted.{string_of, strings_of}
+use Rattle.hdt_file.specs.Denoted.{string_of, strings_for}
 use Rattle.hdt_file.specs.File.{GraphParts}
 use Rattle.hdt_file.specs.Graph.{IsGraph}
 use Rattle.hdt_file.specs.Views.{strings_in}
@@ -20,9 +20,9 @@ use Rattle.hdt_build.specs.declared.kept.Part.{Part}
 use Rattle.hdt_build.specs.declared.kept.Part.TheVariants as parts
 use Rattle.hdt_build.specs.declared.sections.Numbers.{Numbers}
 use Rattle.hdt_build.specs.Graph.{IsForm, InRange, AscendingTriples, subjects_of, predicates_of, objects_of}
-use Rattle.hdt_build.specs.Kept.{role_of, IsBoth, Keeps, IsNumberBehind, IsPut, AreRewritten, renumbered, new_number}
+use Rattle.hdt_build.specs.Inside.Kept.{role_of, IsBoth, KeepsNumber, IsNumberBehind, IsPut, AreRewritten, renumbered, new_number}
 use Rattle.hdt_build.specs.Layouts.{denoted_by}
-use Rattle.hdt_build.specs.Numbers.{IsNumberOf, term_at}
+use Rattle.hdt_build.specs.Inside.Numbers.{IsNumberOf, term_numbered}
 use Rattle.hdt_build.proofs.Distinct.{Distinct-ascending}
 use Rattle.hdt_build.proofs.Joining.{number_in_front, number_behind}
 use Rattle.hdt_build.proofs.Keeping.{IsOf, all_of}
@@ -30,13 +30,13 @@ use Rattle.hdt_build.proofs.Naming.{string_triple, same_strings, term_is, term_i
 use Rattle.hdt_build.proofs.RunOrder.{ascends_of, used_range, kept_used}
 
 -- where a string of two lists stands
-side : (xs ys : List (List ℕ)) (n : ℕ) → 1 ≤ n → n ≤ length (xs ++ ys) → ((n ≤ length xs) × (get_or xs (n - 1) [] ≡ term_at (xs ++ ys) n)) ⊎ Contains ys (term_at (xs ++ ys) n)
+side : (xs ys : List (List ℕ)) (n : ℕ) → 1 ≤ n → n ≤ length (xs ++ ys) → ((n ≤ length xs) × (get_or xs (n - 1) [] ≡ term_numbered (xs ++ ys) n)) ⊎ Contains ys (term_numbered (xs ++ ys) n)
 side xs ys n from to = elim (cases_lt (n - 1) (length xs)) [
   | inl front ↦ inl (omega (arith, from, front), sym (term_is (xs ++ ys) n from ∙ get_or_append_left xs ys [] (n - 1) front))
   | inr back ↦ inr (subst (Contains ys) (sym (term_is (xs ++ ys) n from ∙ get_or-append_right xs ys (length xs) (n - 1) [] refl back)) (Contains-get_or ys (n - 1 - length xs) [] (omega (arith, from, to, back, length-append xs ys))))
 ]
 
-part_of : (g : GraphParts) (role : Role) (t : Triple) → part role (strings_of g t) ≡ string_of g role (part role t)
+part_of : (g : GraphParts) (role : Role) (t : Triple) → part role (strings_for g t) ≡ string_of g role (part role t)
 part_of g Subject t = refl
 part_of g Predicate t = refl
 part_of g Object t = refl
@@ -48,12 +48,12 @@ module _ (g : GraphParts) (h : IsGraph g) where
   named role x n used is =
       let t = Contains-from_map (part role) g.triples n used in
       subst (Contains (map (part role) (denoted_by g))) (part_of g role t.0 ∙ (ap (string_of g role) t.2 ∙ is))
-      (Contains-map (part role) (denoted_by g) (strings_of g t.0) (Contains-map (strings_of g) g.triples t.0 t.1))
+      (Contains-map (part role) (denoted_by g) (strings_for g t.0) (Contains-map (strings_for g) g.triples t.0 t.1))
 
   numbered : (role : Role) (x : List ℕ) → Contains (map (part role) (denoted_by g)) x → (n : ℕ) × Uses g.triples role n × (string_of g role n ≡ x)
   numbered role x there =
       let s = Contains-from_map (part role) (denoted_by g) x there in
-      let t = Contains-from_map (strings_of g) g.triples s.0 s.1 in
+      let t = Contains-from_map (strings_for g) g.triples s.0 s.1 in
       (part role t.0, Contains-map (part role) g.triples t.0 t.1, sym (part_of g role t.0) ∙ (ap (part role) t.2 ∙ s.2))
 
   -- ---- a string that is a subject and an object is shared
@@ -106,15 +106,15 @@ module _ (g : GraphParts) (h : IsGraph g) where
     back : (n : ℕ) → Uses g.triples (role_of p) n → n - 1 + 1 ≡ n
     back n used = omega (arith, (used_range g h (role_of p) n used).0)
 
-    put_number : (n : ℕ) → Keeps g p n → IsNumberBehind count strings (string_of g (role_of p) n) (get_or after (n - 1) 0)
+    put_number : (n : ℕ) → KeepsNumber g p n → IsNumberBehind count strings (string_of g (role_of p) n) (get_or after (n - 1) 0)
     put_number n keep =
         let e = back n (kept_used g h p n keep) in
-        subst (λ (m : ℕ). IsNumberBehind count strings (string_of g (role_of p) m) (get_or after (n - 1) 0)) e (put.numbers (n - 1) (subst (Keeps g p) (sym e) keep))
+        subst (λ (m : ℕ). IsNumberBehind count strings (string_of g (role_of p) m) (get_or after (n - 1) 0)) e (put.numbers (n - 1) (subst (KeepsNumber g p) (sym e) keep))
 
-    put_other : (n : ℕ) → Uses g.triples (role_of p) n → (Keeps g p n → ⊥) → get_or after (n - 1) 0 ≡ get_or before (n - 1) 0
-    put_other n used none = put.others (n - 1) (λ keep. none (subst (Keeps g p) (back n used) keep))
+    put_other : (n : ℕ) → Uses g.triples (role_of p) n → (KeepsNumber g p n → ⊥) → get_or after (n - 1) 0 ≡ get_or before (n - 1) 0
+    put_other n used none = put.others (n - 1) (λ keep. none (subst (KeepsNumber g p) (back n used) keep))
 
-    put_has : (n : ℕ) (x : List ℕ) → Keeps g p n → string_of g (role_of p) n ≡ x → Contains strings x
+    put_has : (n : ℕ) (x : List ℕ) → KeepsNumber g p n → string_of g (role_of p) n ≡ x → Contains strings x
     put_has n x keep is =
         let e = (put_number n keep).is_number in
         subst (Contains strings) (e.is ∙ is) (term_in strings (put_number n keep).number e.from_one e.within)
@@ -207,10 +207,10 @@ module _ (g : GraphParts) (h : IsGraph g) where
         let o = r.objects_are t.2 (of.used Object) in
         ((s.from_one, s.within), (p.from_one, p.within), (o.from_one, o.within))
 
-    one_denoted : (t : Triple) → IsOf g t → string_triple d (renumbered numbers t) ≡ strings_of g t
+    one_denoted : (t : Triple) → IsOf g t → string_triple d (renumbered numbers t) ≡ strings_for g t
     one_denoted t of = same_strings _ _ _ _ _ _ (r.subjects_are t.0 (of.used Subject)).is (r.predicates_are t.1 (of.used Predicate)).is (r.objects_are t.2 (of.used Object)).is
 
-    all_denoted : (ts : List Triple) → All (IsOf g) ts → map (string_triple d) (map (renumbered numbers) ts) ≡ map (strings_of g) ts
+    all_denoted : (ts : List Triple) → All (IsOf g) ts → map (string_triple d) (map (renumbered numbers) ts) ≡ map (strings_for g) ts
     all_denoted [] all = refl
     all_denoted (t ∷ ts) all =
         let e = one_denoted t (All-head (IsOf g) t ts all) in

@@ -8,7 +8,7 @@ use Rattle.std.proofs.lemmas.Map.Keys.{Less-from_sorted, sorted_from_all_adjacen
 use Rattle.hdt_wire.specs.declared.role.Role.{Role}
 use Rattle.hdt_wire.specs.declared.role.Role.TheVariants.{Subject, Predicate, Object}
 use Rattle.hdt_front.specs.Section.{AreStrings}
-use Rattle.hdt_dict.specs.MembersLaws.{Contains-from_map}
+use Rattle.hdt_dict.specs.Laws.Members.{Contains-from_map}
 use Rattle.hdt_dict.specs.Strings.{IsAscending, string_cmp}
 use Rattle.hdt_triples.specs.Uses.{part, Uses}
 use Rattle.hdt_file.specs.Denoted.{string_of}
@@ -17,35 +17,35 @@ use Rattle.hdt_file.specs.Graph.{IsGraph}
 use Rattle.hdt_file.specs.Views.{strings_in}
 use Rattle.hdt_build.specs.declared.kept.Part.{Part}
 use Rattle.hdt_build.specs.declared.kept.Part.TheVariants as parts
-use Rattle.hdt_build.specs.Kept.{role_of, Keeps, cut_of, end_of}
-use Rattle.hdt_build.specs.Numbers.{term_at}
+use Rattle.hdt_build.specs.Inside.Kept.{role_of, KeepsNumber, cut_of, end_of}
+use Rattle.hdt_build.specs.Inside.Numbers.{term_numbered}
 use Rattle.hdt_build.proofs.Distinct.{Distinct, Distinct-ascending, Distinct-append}
 use Rattle.hdt_build.proofs.Keeping.{IsOf, all_of}
 use Rattle.hdt_build.proofs.Naming.{term_is}
 
 -- ---- the string at a place, counted from 0
 
-term_there : (xs : List (List ℕ)) (k : ℕ) → term_at xs (k + 1) ≡ get_or xs k []
+term_there : (xs : List (List ℕ)) (k : ℕ) → term_numbered xs (k + 1) ≡ get_or xs k []
 term_there xs k = term_is xs (k + 1) (omega arith) ∙ ap (λ (i : ℕ). get_or xs i []) (omega arith)
 
 pub ascends_of : (xs : List (List ℕ)) → AreStrings xs → IsAscending xs
 ascends_of xs h = sorted_from_all_adjacent nat_list_cmp_total xs [] h.ascend
 
-up_alone : (xs : List (List ℕ)) (k m : ℕ) → AreStrings xs → k < m → m < length xs → string_cmp (term_at xs (k + 1)) (term_at xs (m + 1)) ≡ Less
+up_alone : (xs : List (List ℕ)) (k m : ℕ) → AreStrings xs → k < m → m < length xs → string_cmp (term_numbered xs (k + 1)) (term_numbered xs (m + 1)) ≡ Less
 up_alone xs k m h lt in' = rw (term_there xs k, term_there xs m) (Less-from_sorted string_cmp xs k m [] (ascends_of xs h) lt in')
 
 module _ (xs ys : List (List ℕ)) (k m : ℕ) where
-  up_front : AreStrings xs → k < m → m < length xs → string_cmp (term_at (xs ++ ys) (k + 1)) (term_at (xs ++ ys) (m + 1)) ≡ Less
+  up_front : AreStrings xs → k < m → m < length xs → string_cmp (term_numbered (xs ++ ys) (k + 1)) (term_numbered (xs ++ ys) (m + 1)) ≡ Less
   up_front h lt in' =
       rw (term_there (xs ++ ys) k, term_there (xs ++ ys) m, get_or_append_left xs ys [] k (omega (arith, lt, in')), get_or_append_left xs ys [] m in')
       (Less-from_sorted string_cmp xs k m [] (ascends_of xs h) lt in')
 
-  up_back : AreStrings ys → length xs ≤ k → k < m → m < length (xs ++ ys) → string_cmp (term_at (xs ++ ys) (k + 1)) (term_at (xs ++ ys) (m + 1)) ≡ Less
+  up_back : AreStrings ys → length xs ≤ k → k < m → m < length (xs ++ ys) → string_cmp (term_numbered (xs ++ ys) (k + 1)) (term_numbered (xs ++ ys) (m + 1)) ≡ Less
   up_back h from lt in' =
       rw (term_there (xs ++ ys) k, term_there (xs ++ ys) m, get_or-append_right xs ys (length xs) k [] refl from, get_or-append_right xs ys (length xs) m [] refl (omega (arith, from, lt)))
       (Less-from_sorted string_cmp ys (k - length xs) (m - length xs) [] (ascends_of ys h) (omega (arith, from, lt)) (omega (arith, from, lt, in', length-append xs ys)))
 
-  up_two : AreStrings xs → AreStrings ys → k < m → m < length (xs ++ ys) → (m < length xs) ⊎ (length xs ≤ k) → string_cmp (term_at (xs ++ ys) (k + 1)) (term_at (xs ++ ys) (m + 1)) ≡ Less
+  up_two : AreStrings xs → AreStrings ys → k < m → m < length (xs ++ ys) → (m < length xs) ⊎ (length xs ≤ k) → string_cmp (term_numbered (xs ++ ys) (k + 1)) (term_numbered (xs ++ ys) (m + 1)) ≡ Less
   up_two h e lt in' (inl front) = up_front h lt front
   up_two h e lt in' (inr back) = up_back e back lt in'
 
@@ -64,13 +64,13 @@ module _ (g : GraphParts) (h : IsGraph g) where
 
   -- ---- the runs of the strings that a section may keep
 
-  pub kept_used : (p : Part) (n : ℕ) → Keeps g p n → Uses g.triples (role_of p) n
+  pub kept_used : (p : Part) (n : ℕ) → KeepsNumber g p n → Uses g.triples (role_of p) n
   kept_used parts.Shared n k = k.1
   kept_used parts.Subjects n k = k.0
   kept_used parts.Predicates n k = k
   kept_used parts.Objects n k = k.0
 
-  pub kept_before : (p : Part) (k : ℕ) → Keeps g p (k + 1) → k < end_of g p
+  pub kept_before : (p : Part) (k : ℕ) → KeepsNumber g p (k + 1) → k < end_of g p
   kept_before parts.Shared k keep = omega (arith, keep.0)
   kept_before parts.Subjects k keep = omega (arith, (used_range Subject (k + 1) keep.0).1)
   kept_before parts.Predicates k keep = omega (arith, (used_range Predicate (k + 1) keep).1)

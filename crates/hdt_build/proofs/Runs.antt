@@ -6,14 +6,14 @@ use Rattle.std.proofs.lemmas.Bool.{eqb-false}
 use Rattle.std.proofs.lemmas.List.{length-append, map_push}
 use Rattle.std.proofs.lemmas.List.Elements.{All-push}
 use Rattle.std.proofs.lemmas.List.Sums.{AllPass-from_list_all}
-use Rattle.hdt_wire.specs.RowLaws.{not-true}
-use Rattle.hdt_dict.specs.Texts.{IsText}
+use Rattle.hdt_wire.specs.Laws.Row.{not-true}
+use Rattle.hdt_dict.specs.Texts.{IsDictionaryString}
 use Rattle.hdt_terms.specs.declared.fault.LineFault.{LineFault}
 use Rattle.hdt_terms.specs.declared.fault.LineReason.TheVariants.{Read}
 use Rattle.hdt_terms.specs.declared.triple.Triple.{Triple}
 use Rattle.hdt_build.specs.declared.fault.BuildFault.{BuildFault}
 use Rattle.hdt_terms.specs.Documents.{IsDocument, Ran, FaultInDocument}
-use Rattle.hdt_terms.specs.LineReading.{AreStrings}
+use Rattle.hdt_terms.specs.LineReading.{AreTripleStrings}
 use Rattle.hdt_terms.specs.Lines.{SpelledTriple}
 use Rattle.hdt_terms.specs.Taking.{State, TakesTriple, start, left}
 use Rattle.hdt_terms.specs.Terms as terms
@@ -21,7 +21,7 @@ use Rattle.hdt_terms.specs.Terms.{str}
 use Rattle.hdt_file.specs.Denoted.{StringTriple}
 use Rattle.hdt_build.specs.Graph.{subjects_of, predicates_of, objects_of}
 use Rattle.hdt_build.proofs.Naming.{same_strings}
-use Rattle.hdt_build.specs.Reading.{most, strings_of, IsGraphIn, AreTexts, IsFaultOf, ReadFailed, Tells}
+use Rattle.hdt_build.specs.Reading.{most, term_strings, IsGraphIn, AreTexts, IsToldAs, ReadFailed, TellsBuildFault}
 
 pub either : (b : Bool) → (b ≡ true) ⊎ (b ≡ false)
 either true = inl refl
@@ -30,16 +30,16 @@ either false = inr refl
 -- the triples so far, as strings
 pub record Run (s : State) (input mid : Option (List ℕ)) (graph : List StringTriple) : Type 0 where
   pub triples : List Triple
-  pub strings : graph ≡ map strings_of triples
+  pub strings : graph ≡ map term_strings triples
   pub going : s.ended ≡ false → Ran most s input mid triples
   pub ended : s.ended ≡ true → IsDocument most input triples
   pub end : s.ended ≡ true → (s.held ≡ []) × IsAtEnd mid
 
-strings_more : (graph : List StringTriple) (triples : List Triple) (triple : Triple) (s p o : List ℕ) → graph ≡ map strings_of triples → AreStrings triple s p o
-    → graph ++ (s, p, o) ∷ [] ≡ map strings_of (triples ++ triple ∷ [])
+strings_more : (graph : List StringTriple) (triples : List Triple) (triple : Triple) (s p o : List ℕ) → graph ≡ map term_strings triples → AreTripleStrings triple s p o
+    → graph ++ (s, p, o) ∷ [] ≡ map term_strings (triples ++ triple ∷ [])
 strings_more graph triples triple s p o is t =
-    let one : let l : StringTriple = (s, p, o) in l ≡ strings_of triple = same_strings _ _ _ _ _ _ t.s_is t.p_is t.o_is in
-    (λ i. is i ++ one i ∷ []) ∙ sym (map_push strings_of triples triple)
+    let one : let l : StringTriple = (s, p, o) in l ≡ term_strings triple = same_strings _ _ _ _ _ _ t.s_is t.p_is t.o_is in
+    (λ i. is i ++ one i ∷ []) ∙ sym (map_push term_strings triples triple)
 
 -- behind a last line without an end nothing is left
 nothing_left : (old new : State) (x y : Option (List ℕ)) (triple : Triple) → TakesTriple old new x y triple → new.ended ≡ true → (new.held ≡ []) × IsAtEnd y
@@ -51,7 +51,7 @@ at_end held None none e = tt
 at_end held (Some xs) none e = sym (ap (λ (ys : List ℕ). ys ++ xs) none) ∙ e
 
 -- one more triple
-pub run_on : (s new : State) (input mid after : Option (List ℕ)) (graph : List StringTriple) (triple : Triple) (a b c : List ℕ) → Run s input mid graph → s.ended ≡ false → AreStrings triple a b c
+pub run_on : (s new : State) (input mid after : Option (List ℕ)) (graph : List StringTriple) (triple : Triple) (a b c : List ℕ) → Run s input mid graph → s.ended ≡ false → AreTripleStrings triple a b c
     → ((triples : List Triple) → Ran most s input mid triples → new.ended ≡ false → Ran most new input after (triples ++ triple ∷ []))
     → ((triples : List Triple) → Ran most s input mid triples → new.ended ≡ true → IsDocument most input (triples ++ triple ∷ []))
     → TakesTriple s new mid after triple
@@ -66,18 +66,18 @@ run_on s new input mid after graph triple a b c r still are on last taken = reco
 
 -- ---- texts
 
-text_of : (x : List ℕ) → terms.IsText x → IsText x
+text_of : (x : List ℕ) → terms.IsText x → IsDictionaryString x
 text_of x h = record {
   utf8 = h.utf8;
   no_zero = λ k d lt. eqb-false _ _ (not-true _ (AllPass-from_list_all (λ (c : ℕ). not (eqb c 0)) x h.no_zero k d lt));
 }
 
-pub texts_more : (graph : List StringTriple) (triple : Triple) (s p o : List ℕ) → AreTexts graph → AreStrings triple s p o
+pub texts_more : (graph : List StringTriple) (triple : Triple) (s p o : List ℕ) → AreTexts graph → AreTripleStrings triple s p o
     → terms.IsText (str triple.s) → terms.IsText (str triple.p) → terms.IsText (str triple.o) → AreTexts (graph ++ (s, p, o) ∷ [])
 texts_more graph triple s p o h are a b c = record {
-  subjects_are = subst (All IsText) (sym (map_push (λ (t : StringTriple). t.0) graph (s, p, o))) (All-push IsText (subjects_of graph) s h.subjects_are (subst IsText (sym are.s_is) (text_of (str triple.s) a)));
-  predicates_are = subst (All IsText) (sym (map_push (λ (t : StringTriple). t.1) graph (s, p, o))) (All-push IsText (predicates_of graph) p h.predicates_are (subst IsText (sym are.p_is) (text_of (str triple.p) b)));
-  objects_are = subst (All IsText) (sym (map_push (λ (t : StringTriple). t.2) graph (s, p, o))) (All-push IsText (objects_of graph) o h.objects_are (subst IsText (sym are.o_is) (text_of (str triple.o) c)));
+  subjects_are = subst (All IsDictionaryString) (sym (map_push (λ (t : StringTriple). t.0) graph (s, p, o))) (All-push IsDictionaryString (subjects_of graph) s h.subjects_are (subst IsDictionaryString (sym are.s_is) (text_of (str triple.s) a)));
+  predicates_are = subst (All IsDictionaryString) (sym (map_push (λ (t : StringTriple). t.1) graph (s, p, o))) (All-push IsDictionaryString (predicates_of graph) p h.predicates_are (subst IsDictionaryString (sym are.p_is) (text_of (str triple.p) b)));
+  objects_are = subst (All IsDictionaryString) (sym (map_push (λ (t : StringTriple). t.2) graph (s, p, o))) (All-push IsDictionaryString (objects_of graph) o h.objects_are (subst IsDictionaryString (sym are.o_is) (text_of (str triple.o) c)));
 }
 
 -- no triples have no strings
@@ -118,11 +118,11 @@ run_begins s input graph e none h = record {
   end = λ end. absurd (let f : s.ended ≡ false = ap (λ (t : State). t.ended) e in cc);
 }
 
-pub told_of : (before after : Option (List ℕ)) (fault : LineFault) (told : BuildFault) → IsFaultOf fault told → FaultInDocument fault most before after → Tells before after told
-told_of before after fault told (inl e) h = subst (Tells before after) (sym e.1) tt
-told_of before after fault told (inr e) h = subst (Tells before after) (sym e.1) (h, e.0)
+pub told_of : (before after : Option (List ℕ)) (fault : LineFault) (told : BuildFault) → IsToldAs fault told → FaultInDocument fault most before after → TellsBuildFault before after told
+told_of before after fault told (inl e) h = subst (TellsBuildFault before after) (sym e.1) tt
+told_of before after fault told (inr e) h = subst (TellsBuildFault before after) (sym e.1) (h, e.0)
 
-empty_map : (triples : List Triple) → map strings_of triples ≡ [] → triples ≡ []
+empty_map : (triples : List Triple) → map term_strings triples ≡ [] → triples ≡ []
 empty_map [] e = refl
 empty_map (t ∷ ts) e = absurd cc
 
@@ -131,6 +131,6 @@ pub no_triples : (input : Option (List ℕ)) (graph : List StringTriple) → IsG
 no_triples input graph h none = subst (IsDocument most input) (empty_map h.triples (sym h.strings ∙ none)) h.document
 
 -- a fault that doesn't tell of the reader comes of a fault that doesn't
-pub not_read : (fault : LineFault) (told : BuildFault) → IsFaultOf fault told → (ReadFailed told → ⊥) → fault.reason ≢ Read
+pub not_read : (fault : LineFault) (told : BuildFault) → IsToldAs fault told → (ReadFailed told → ⊥) → fault.reason ≢ Read
 not_read fault told (inl memory) unread e = absurd cc
 not_read fault told (inr line) unread e = unread (subst ReadFailed (sym line.1) e)

@@ -4,7 +4,7 @@ use Rattle.std.specs.List.{Contains}
 use Rattle.std.proofs.lemmas.List.Elements.{All-contains, Contains-append_cases}
 use Rattle.hdt_wire.specs.declared.role.Role.{Role}
 use Rattle.hdt_wire.specs.declared.role.Role.TheVariants.{Subject, Predicate, Object}
-use Rattle.hdt_dict.specs.MembersLaws.{Contains-map, Contains-from_map}
+use Rattle.hdt_dict.specs.Laws.Members.{Contains-map, Contains-from_map}
 use Rattle.hdt_dict.specs.Split.{FourLists, IsSplit}
 use Rattle.hdt_triples.specs.Counting.{Triple}
 use Rattle.hdt_triples.specs.Uses.{part, Uses}
@@ -12,8 +12,8 @@ use Rattle.hdt_file.specs.Tight.{IsTight}
 use Rattle.hdt_file.specs.Denoted.{StringTriple}
 use Rattle.hdt_build.specs.Graph.{InRange, IsForm, predicate_terms, object_terms}
 use Rattle.hdt_build.proofs.Naming.{string_triple, term_in}
-use Rattle.hdt_build.specs.Layouts.{parts_of}
-use Rattle.hdt_build.specs.Numbers.{term_at}
+use Rattle.hdt_build.specs.Layouts.{graph_parts_of}
+use Rattle.hdt_build.specs.Inside.Numbers.{term_numbered}
 use Rattle.hdt_build.proofs.Denoting.{occurs}
 use Rattle.hdt_build.proofs.Distinct.{number_unique, predicates_distinct, objects_distinct}
 
@@ -27,7 +27,7 @@ object_term {os = os} d h x a =
 module _ {g : List StringTriple} (d : FourLists) (ts : List Triple) (h : IsForm g d ts) where
   predicate_occurs : (n : ℕ) → 0 < n → n ≤ length (predicate_terms d) → (t : Triple) × Contains ts t × (t.1 ≡ n)
   predicate_occurs n a b =
-      let x = term_at (predicate_terms d) n in
+      let x = term_numbered (predicate_terms d) n in
       let r = Contains-from_map (λ (t : StringTriple). t.1) g x ((h.sections.predicates x).0 (term_in (predicate_terms d) n a b)) in
       let s = Contains-from_map (string_triple d) ts r.0 ((h.denotes r.0).1 r.1) in
       let range = All-contains (InRange d) ts s.0 h.in_range s.1 in
@@ -35,7 +35,7 @@ module _ {g : List StringTriple} (d : FourLists) (ts : List Triple) (h : IsForm 
 
   object_occurs : (n : ℕ) → 0 < n → n ≤ length (object_terms d) → (t : Triple) × Contains ts t × (t.2 ≡ n)
   object_occurs n a b =
-      let x = term_at (object_terms d) n in
+      let x = term_numbered (object_terms d) n in
       let r = Contains-from_map (λ (t : StringTriple). t.2) g x (object_term d h.sections x (term_in (object_terms d) n a b)) in
       let s = Contains-from_map (string_triple d) ts r.0 ((h.denotes r.0).1 r.1) in
       let range = All-contains (InRange d) ts s.0 h.in_range s.1 in
@@ -44,7 +44,7 @@ module _ {g : List StringTriple} (d : FourLists) (ts : List Triple) (h : IsForm 
   found : (role : Role) (n : ℕ) (t : Triple) → Contains ts t → part role t ≡ n → Uses ts role n
   found role n t there is = subst (Uses ts role) is (Contains-map (part role) ts t there)
 
-  pub form_tight : (header : List ℕ) → IsTight (parts_of header d ts)
+  pub form_tight : (header : List ℕ) → IsTight (graph_parts_of header d ts)
   form_tight header Subject n from to = let t = occurs d ts h n from to in found Subject n t.0 t.1 t.2
   form_tight header Predicate n from to = let t = predicate_occurs n from to in found Predicate n t.0 t.1 t.2
   form_tight header Object n from to = let t = object_occurs n from to in found Object n t.0 t.1 t.2

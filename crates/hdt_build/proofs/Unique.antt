@@ -6,7 +6,7 @@ use Rattle.std.proofs.lemmas.List.Elements.{All-contains}
 use Rattle.hdt_dict.specs.Strings.{SameMembers, string_cmp}
 use Rattle.hdt_dict.specs.Split.{FourLists, IsSplit}
 use Rattle.hdt_build.specs.Graph.{subject_terms, predicate_terms, object_terms}
-use Rattle.hdt_dict.specs.MembersLaws.{SameMembers-map, SameMembers-trans, Contains-map, Contains-from_map, ascending_unique}
+use Rattle.hdt_dict.specs.Laws.Members.{SameMembers-map, SameMembers-trans, Contains-map, Contains-from_map, ascending_unique}
 use Rattle.hdt_triples.specs.Counting.{Triple}
 use Rattle.hdt_file.specs.Denoted.{StringTriple}
 use Rattle.hdt_build.specs.Graph.{InRange, IsForm, triple_cmp}

@@ -5,10 +5,10 @@ use Rattle.std.proofs.lemmas.Bool.{cases_lt, cases_eq}
 use Rattle.std.proofs.lemmas.List.{get_or_default, get_or-set_same, get_or-set_other}
 use Rattle.std.proofs.lemmas.List.Elements.{Contains-get_or}
 use Rattle.hdt_wire.specs.declared.role.Role.{Role}
-use Rattle.hdt_dict.specs.MembersLaws.{Contains-map, Contains-from_map}
+use Rattle.hdt_dict.specs.Laws.Members.{Contains-map, Contains-from_map}
 use Rattle.hdt_triples.specs.Counting.{Triple}
 use Rattle.hdt_triples.specs.Uses.{part}
-use Rattle.hdt_build.specs.Parted.{flag_at, AreUsed}
+use Rattle.hdt_build.specs.Inside.Parted.{flag_at, AreUsed}
 
 module _ (ts : List Triple) (role : Role) where
   abbrev number : ℕ → ℕ

@@ -5,9 +5,9 @@ use Rattle.std.proofs.lemmas.List.Elements.{All-append, All-weaker}
 use Rattle.std.proofs.lemmas.List.{map-append}
 use Rattle.hdt_triples.specs.Counting.{Triple}
 use Rattle.hdt_file.specs.Denoted.{StringTriple}
-use Rattle.hdt_build.specs.Documents.{AreWithin}
-use Rattle.hdt_build.specs.Graph.{triple_at, triples_of}
-use Rattle.hdt_build.specs.Texts.{GoesOn}
+use Rattle.hdt_build.specs.Inside.Documents.{AreBelow}
+use Rattle.hdt_build.specs.Graph.{string_triple_at, string_triples_of}
+use Rattle.hdt_build.specs.Inside.Texts.{GoesOn}
 use Rattle.hdt_build.proofs.Grown.{graph_kept}
 
 -- each of the first strings of xs stands in ys, at the place that ns have for it
@@ -16,16 +16,16 @@ pub record AreFound (xs ys : List (List ℕ)) (ns : List ℕ) : Type 0 where
   pub is : (k : ℕ) → k < length ns → get_or ys (get_or ns k 0) [] ≡ get_or xs k []
 
 -- where no triples are listed, there are no places of any
-pub no_ids : (xs : List (List ℕ)) (ids : List Triple) (rest : List StringTriple) → triples_of xs ids ++ rest ≡ [] → ids ≡ []
+pub no_ids : (xs : List (List ℕ)) (ids : List Triple) (rest : List StringTriple) → string_triples_of xs ids ++ rest ≡ [] → ids ≡ []
 no_ids xs [] rest e = refl
 no_ids xs (t ∷ ids) rest e = absurd cc
 
 -- triples behind others, whose strings are kept
-module _ (xs ys : List (List ℕ)) (g : GoesOn xs ys) (ids more : List Triple) (h : AreWithin (length xs) ids) (m : AreWithin (length ys) more) where
-  pub joined_is : triples_of ys (ids ++ more) ≡ triples_of xs ids ++ triples_of ys more
-  joined_is = map-append (triple_at ys) ids more ∙ ap (λ ts. ts ++ triples_of ys more) (graph_kept xs ys g ids h)
+module _ (xs ys : List (List ℕ)) (g : GoesOn xs ys) (ids more : List Triple) (h : AreBelow (length xs) ids) (m : AreBelow (length ys) more) where
+  pub joined_is : string_triples_of ys (ids ++ more) ≡ string_triples_of xs ids ++ string_triples_of ys more
+  joined_is = map-append (string_triple_at ys) ids more ∙ ap (λ ts. ts ++ string_triples_of ys more) (graph_kept xs ys g ids h)
 
-  pub joined_within : AreWithin (length ys) (ids ++ more)
+  pub joined_within : AreBelow (length ys) (ids ++ more)
   joined_within = record {
     subjects = both (λ t. t.0) h.subjects m.subjects;
     predicates = both (λ t. t.1) h.predicates m.predicates;

@@ -36,7 +36,7 @@ pub record Writes (options : Options) (input before after : Option (List ℕ)) (
   pub written : Appends before after bytes
 
 -- only its first n bytes have
-pub record Begins (options : Options) (input before after : Option (List ℕ)) (n : ℕ) : Type 0 where
+pub record WritesBeginning (options : Options) (input before after : Option (List ℕ)) (n : ℕ) : Type 0 where
   pub bytes : List ℕ
   pub report : Report
   pub builds : Builds options input bytes report

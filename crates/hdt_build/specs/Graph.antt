@@ -9,7 +9,7 @@ use Rattle.hdt_dict.specs.Strings.{SameMembers}
 use Rattle.hdt_triples.specs.Counting.{Triple, Counts}
 use Rattle.hdt_triples.specs.Order.{IsInRange}
 use Rattle.hdt_file.specs.Denoted.{StringTriple}
-use Rattle.hdt_build.specs.Layouts.{denoted_by, parts_of}
+use Rattle.hdt_build.specs.Layouts.{denoted_by, graph_parts_of}
 
 abbrev pub subjects_of : List StringTriple → List (List ℕ)
 subjects_of g = map (λ t. t.0) g
@@ -32,8 +32,8 @@ abbrev pub object_terms : FourLists → List (List ℕ)
 object_terms d = d.shared ++ d.objects
 
 -- how many there are
-abbrev pub counts_of : FourLists → Counts
-counts_of d = record { subjects = length (subject_terms d); predicates = length (predicate_terms d); objects = length (object_terms d) }
+abbrev pub list_counts : FourLists → Counts
+list_counts d = record { subjects = length (subject_terms d); predicates = length (predicate_terms d); objects = length (object_terms d) }
 
 -- ---- number triples
 
@@ -50,7 +50,7 @@ AscendingTriples = IsStrictlySortedBy triple_cmp
 
 -- each number of a triple is from 1 to the count of its role
 abbrev pub InRange : FourLists → Triple → Type 0
-InRange d t = IsInRange (counts_of d) t
+InRange d t = IsInRange (list_counts d) t
 
 -- The dictionary and the number triples of a graph: the sections hold exactly the strings that it uses in their roles,
 -- the triples ascend, and a file of these, whatever its header body, denotes exactly the graph.
@@ -58,17 +58,17 @@ pub record IsForm (g : List StringTriple) (d : FourLists) (ts : List Triple) : T
   pub sections : IsSplit (subjects_of g) (predicates_of g) (objects_of g) d
   pub ascending : AscendingTriples ts
   pub in_range : All (InRange d) ts
-  pub denotes : SameMembers (denoted_by (parts_of [] d ts)) g
+  pub denotes : SameMembers (denoted_by (graph_parts_of [] d ts)) g
 
 -- ---- triples as places in a list of strings
 
-abbrev pub triple_at : List (List ℕ) → Triple → StringTriple
-triple_at xs t = (slice_index_or xs t.0 [], slice_index_or xs t.1 [], slice_index_or xs t.2 [])
+abbrev pub string_triple_at : List (List ℕ) → Triple → StringTriple
+string_triple_at xs t = (slice_index_or xs t.0 [], slice_index_or xs t.1 [], slice_index_or xs t.2 [])
 
 -- their string triples
-abbrev pub triples_of : List (List ℕ) → List Triple → List StringTriple
-triples_of xs ids = map (triple_at xs) ids
+abbrev pub string_triples_of : List (List ℕ) → List Triple → List StringTriple
+string_triples_of xs ids = map (string_triple_at xs) ids
 
 -- what three lists of numbers have at the places of a triple
-abbrev pub numbers_at : (sn pn on : List ℕ) → Triple → Triple
-numbers_at sn pn on t = (slice_index sn t.0, slice_index pn t.1, slice_index on t.2)
+abbrev pub renumbered_triple : (sn pn on : List ℕ) → Triple → Triple
+renumbered_triple sn pn on t = (slice_index sn t.0, slice_index pn t.1, slice_index on t.2)

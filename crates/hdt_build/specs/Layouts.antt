@@ -1,10 +1,11 @@
 -- What a canonical file is, to those who read it.
-use Rattle.std.specs.Prelude.{◌≡◌, ◌≢◌, ℕ, ◌<◌, List, [], ◌∷◌, length, slice_index_or, Ok}
+use Rattle.std.specs.Prelude.{◌≡◌, ℕ, ◌<◌, List, [], ◌∷◌, length, Ok}
 use Rattle.hdt_wire.specs.Exact.{seen}
 use Rattle.hdt_dict.specs.Split.{FourLists}
 use Rattle.hdt_dict.specs.Strings.{SameMembers}
 use Rattle.hdt_file.specs.Denoted.{StringTriple, denoted}
 use Rattle.hdt_file.specs.File.{GraphParts, IsLayout, graph_in}
+use Rattle.hdt_file.specs.StringTriples.{AreOnce}
 use Rattle.hdt_file.specs.Tight.{IsTight, tight_in}
 use Rattle.hdt_file.specs.Views.{lens_of}
 use Rattle.hdt_triples.specs.Counting.{Triple}
@@ -14,13 +15,9 @@ use Rattle.hdt_build.specs.declared.report.Report.{Report}
 abbrev pub denoted_by : GraphParts → List StringTriple
 denoted_by g = denoted g g.triples
 
--- no member stands at two places
-abbrev pub AreOnce : List StringTriple → Type 0
-AreOnce ts = (i j : ℕ) (x : StringTriple) → i < j → j < length ts → slice_index_or ts i x ≢ slice_index_or ts j x
-
 -- the file as its users see it
-abbrev pub parts_of : List ℕ → FourLists → List Triple → GraphParts
-parts_of header d ts = record {
+abbrev pub graph_parts_of : List ℕ → FourLists → List Triple → GraphParts
+graph_parts_of header d ts = record {
   header = header;
   dictionary = record { shared = d.shared; subjects = d.subjects; predicates = d.predicates; objects = d.objects };
   triples = ts;

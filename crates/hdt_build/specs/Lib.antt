@@ -1,15 +1,9 @@
 pub mod Built
 pub mod Canonical
-pub mod Documents
 pub mod Graph
 pub mod Header
-pub mod Keys
-pub mod Kept
 pub mod Layouts
-pub mod Numbers
 pub mod Options
-pub mod Parted
-pub mod Placed
 pub mod Reading
 pub mod Rewritten
-pub mod Texts
+pub mod Inside

@@ -1,7 +1,7 @@
 -- The graph of an N-Triples document, and the faults of one.
 use Rattle.std.specs.Prelude.{◌≡◌, ◌≢◌, ◌⊎◌, ℕ, List, [], map, Option, ⊤}
 use Rattle.std.specs.List.{All}
-use Rattle.hdt_dict.specs.Texts.{IsText}
+use Rattle.hdt_dict.specs.Texts.{IsDictionaryString}
 use Rattle.hdt_terms.specs.declared.fault.LineReason.TheVariants.{OutOfMemory, Read}
 use Rattle.hdt_terms.specs.declared.fault.LineFault.{LineFault}
 use Rattle.hdt_terms.specs.declared.triple.Triple.{Triple}
@@ -17,32 +17,32 @@ abbrev pub most : ℕ
 most = 9223372036854775807
 
 -- the dictionary strings of a triple's terms
-abbrev pub strings_of : Triple → StringTriple
-strings_of t = (str t.s, str t.p, str t.o)
+abbrev pub term_strings : Triple → StringTriple
+term_strings t = (str t.s, str t.p, str t.o)
 
 -- the input is a document, and these are the strings of its triples, in their order and with repeats
 pub record IsGraphIn (input : Option (List ℕ)) (graph : List StringTriple) : Type 0 where
   pub triples : List Triple
   pub document : IsDocument most input triples
-  pub strings : graph ≡ map strings_of triples
+  pub strings : graph ≡ map term_strings triples
 
 -- each string is UTF-8 without a zero byte
 pub record AreTexts (graph : List StringTriple) : Type 0 where
-  pub subjects_are : All IsText (subjects_of graph)
-  pub predicates_are : All IsText (predicates_of graph)
-  pub objects_are : All IsText (objects_of graph)
+  pub subjects_are : All IsDictionaryString (subjects_of graph)
+  pub predicates_are : All IsDictionaryString (predicates_of graph)
+  pub objects_are : All IsDictionaryString (objects_of graph)
 
 -- what a fault tells of the input before the call and after it, where the options are right
-abbrev pub Tells : Option (List ℕ) → Option (List ℕ) → BuildFault → Type 0
-Tells before after (faults.Line fault) = FaultInDocument fault most before after × (fault.reason ≢ OutOfMemory)
-Tells before after faults.NoTriples = IsDocument most before []
-Tells before after faults.BadOptions = ⊥
-Tells before after faults.OutOfMemory = ⊤
-Tells before after (faults.Write n) = ⊥
+abbrev pub TellsBuildFault : Option (List ℕ) → Option (List ℕ) → BuildFault → Type 0
+TellsBuildFault before after (faults.Line fault) = FaultInDocument fault most before after × (fault.reason ≢ OutOfMemory)
+TellsBuildFault before after faults.NoTriples = IsDocument most before []
+TellsBuildFault before after faults.BadOptions = ⊥
+TellsBuildFault before after faults.OutOfMemory = ⊤
+TellsBuildFault before after (faults.Write n) = ⊥
 
 -- the fault of a document, as a builder tells it
-abbrev pub IsFaultOf : LineFault → BuildFault → Type 0
-IsFaultOf fault told = ((fault.reason ≡ OutOfMemory) × (told ≡ faults.OutOfMemory)) ⊎ ((fault.reason ≢ OutOfMemory) × (told ≡ faults.Line fault))
+abbrev pub IsToldAs : LineFault → BuildFault → Type 0
+IsToldAs fault told = ((fault.reason ≡ OutOfMemory) × (told ≡ faults.OutOfMemory)) ⊎ ((fault.reason ≢ OutOfMemory) × (told ≡ faults.Line fault))
 
 -- the fault tells that the reader failed
 abbrev pub ReadFailed : BuildFault → Type 0

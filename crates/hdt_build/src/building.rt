@@ -2,10 +2,10 @@
 ghost use Rattle.std.specs.Prelude.{◌≡◌, ◌≢◌, ◌<◌, ◌+◌, ◌↔◌, ℕ, length, IfOk, IfErr, OnOk, IsErrOf};
 ghost use Rattle.std.specs.Io.KnownBytes.{IsAtEnd};
 ghost use Rattle.hdt_wire.specs.Counted.{inner, failures};
-ghost use Rattle.hdt_build.specs.Built.{IsBuilt, Builds, Writes, Begins};
-ghost use Rattle.hdt_build.specs.Documents.{graph_of, IsSound};
+ghost use Rattle.hdt_build.specs.Built.{IsBuilt, Builds, Writes, WritesBeginning};
+ghost use Rattle.hdt_build.specs.Inside.Documents.{document_graph, IsSound};
 ghost use Rattle.hdt_build.specs.Options.{AreRight};
-ghost use Rattle.hdt_build.specs.Reading.{AreTexts, Tells, ReadFailed};
+ghost use Rattle.hdt_build.specs.Reading.{AreTexts, TellsBuildFault, ReadFailed};
 
 use crate::document::Document;
 use crate::fault::BuildFault;
@@ -26,10 +26,10 @@ fn built(
     options: &Options,
 ) -> Result<(Vec<u8>, Report), AllocError>
     requires sound { IsSound document }
-    requires texts { AreTexts (graph_of document) }
-    requires some { 0 < length (graph_of document) }
+    requires texts { AreTexts (document_graph document) }
+    requires some { 0 < length (document_graph document) }
     requires right { AreRight options.now }
-    ensures { IfOk result (λ made. IsBuilt options.now (graph_of document) made.0.items made.1) }
+    ensures { IfOk result (λ made. IsBuilt options.now (document_graph document) made.0.items made.1) }
 {
     let (list, ids) = document.into_parts(alloc)?;
     let form = form_of(alloc, list, ids, options.block_size)?;
@@ -46,7 +46,7 @@ fn read_and_build<R: Read>(
     requires { AreRight options.now }
     ensures found { IfOk result (λ made. Builds options.now (R.remaining (inner input.old)) made.0.items made.1) }
     ensures end { OnOk result (IsAtEnd (R.remaining (inner input.new))) }
-    ensures told { IfErr result (Tells (R.remaining (inner input.old)) (R.remaining (inner input.new))) }
+    ensures told { IfErr result (TellsBuildFault (R.remaining (inner input.old)) (R.remaining (inner input.new))) }
     ensures read { IfErr result (λ e. ReadFailed e → failures input.new ≡ failures input.old + 1) }
     ensures still { IfErr result (λ e. (ReadFailed e → ⊥) → failures input.new ≡ failures input.old) }
     ensures count { OnOk result (failures input.new ≡ failures input.old) }
@@ -87,7 +87,7 @@ pub fn build_bytes<R: Read>(
     ensures bad { IsErrOf result BuildFault.BadOptions ↔ (AreRight options.now → ⊥) }
     ensures unread { IsErrOf result BuildFault.BadOptions → input.new ≡ input.old }
     // Any other fault is one that stands in the input.
-    ensures told { IfErr result (λ e. e ≢ BuildFault.BadOptions → Tells (R.remaining (inner input.old)) (R.remaining (inner input.new)) e) }
+    ensures told { IfErr result (λ e. e ≢ BuildFault.BadOptions → TellsBuildFault (R.remaining (inner input.old)) (R.remaining (inner input.new)) e) }
     // The reader failed in this call where the fault says so, and at no other answer.
     ensures read { IfErr result (λ e. ReadFailed e → failures input.new ≡ failures input.old + 1) }
     ensures still { IfErr result (λ e. (ReadFailed e → ⊥) → failures input.new ≡ failures input.old) }
@@ -121,14 +121,14 @@ pub fn build<R: Read, W: Write>(
     ensures bad { IsErrOf result BuildFault.BadOptions ↔ (AreRight options.now → ⊥) }
     ensures unread { IsErrOf result BuildFault.BadOptions → input.new ≡ input.old }
     // Any other fault than that of writing is one that stands in the input.
-    ensures told { IfErr result (λ e. e ≢ BuildFault.BadOptions → ((n : ℕ) → e ≢ BuildFault.Write n) → Tells (R.remaining (inner input.old)) (R.remaining (inner input.new)) e) }
+    ensures told { IfErr result (λ e. e ≢ BuildFault.BadOptions → ((n : ℕ) → e ≢ BuildFault.Write n) → TellsBuildFault (R.remaining (inner input.old)) (R.remaining (inner input.new)) e) }
     // The reader failed in this call where the fault says so, and at no other answer.
     ensures read { IfErr result (λ e. ReadFailed e → failures input.new ≡ failures input.old + 1) }
     ensures still { IfErr result (λ e. (ReadFailed e → ⊥) → failures input.new ≡ failures input.old) }
     ensures count { OnOk result (failures input.new ≡ failures input.old) }
     // The writer failed in this call, and has gained exactly the first n bytes.
     ensures write { IfErr result (λ e. (n : ℕ) → e ≡ BuildFault.Write n → (failures out.new ≡ failures out.old + 1)
-        × Begins options.now (R.remaining (inner input.old)) (W.contents (inner out.old)) (W.contents (inner out.new)) n) }
+        × WritesBeginning options.now (R.remaining (inner input.old)) (W.contents (inner out.old)) (W.contents (inner out.new)) n) }
     // At Ok it has not failed, and at any other fault nothing was written.
     ensures well { OnOk result (failures out.new ≡ failures out.old) }
     ensures unwritten { IfErr result (λ e. ((n : ℕ) → e ≢ BuildFault.Write n) → out.new ≡ out.old) }

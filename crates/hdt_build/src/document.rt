@@ -1,7 +1,7 @@
 //! The triples of a document, over strings that are kept once.
 ghost use Rattle.std.specs.Prelude.{◌≡◌, ◌++◌, ◌∷◌, [], length, IfOk, OnOk, IsTrue, ◌↔◌};
-ghost use Rattle.hdt_build.specs.Documents.{graph_of, IsSound, AreWithin};
-ghost use Rattle.hdt_build.specs.Graph.{triples_of};
+ghost use Rattle.hdt_build.specs.Inside.Documents.{document_graph, IsSound, AreBelow};
+ghost use Rattle.hdt_build.specs.Graph.{string_triples_of};
 
 use crate::interner::Interner;
 use crate::queue::Queue;
@@ -25,7 +25,7 @@ pub struct Document {
 impl Document {
     /// The document without triples.
     pub fn new(alloc: Global) -> Result<Document, AllocError>
-        ensures graph { IfOk result (λ made. graph_of made ≡ []) }
+        ensures graph { IfOk result (λ made. document_graph made ≡ []) }
         ensures sound { IfOk result IsSound }
     {
         Ok(Document {
@@ -38,7 +38,7 @@ impl Document {
     /// Puts a triple at the end. Where memory is refused, the document is of no more use.
     pub fn add(&mut self, alloc: Global, s: &[u8], p: &[u8], o: &[u8]) -> Result<(), AllocError>
         requires { IsSound self.old }
-        ensures graph { OnOk result (graph_of self.new ≡ graph_of self.old ++ (s.now, p.now, o.now) ∷ []) }
+        ensures graph { OnOk result (document_graph self.new ≡ document_graph self.old ++ (s.now, p.now, o.now) ∷ []) }
         ensures sound { OnOk result (IsSound self.new) }
     {
         self.make_room(alloc)?;
@@ -48,7 +48,7 @@ impl Document {
     /// Looks up the strings of the triples that wait, where there are many.
     fn make_room(&mut self, alloc: Global) -> Result<(), AllocError>
         requires { IsSound self.old }
-        ensures graph { OnOk result (graph_of self.new ≡ graph_of self.old) }
+        ensures graph { OnOk result (document_graph self.new ≡ document_graph self.old) }
         ensures sound { OnOk result (IsSound self.new) }
     {
         if self.queue.ids.len() < MOST {
@@ -60,7 +60,7 @@ impl Document {
     /// Looks up the strings of the triples that wait. Where memory is refused, the document is of no more use.
     fn look_up(&mut self, alloc: Global) -> Result<(), AllocError>
         requires { IsSound self.old }
-        ensures graph { OnOk result (triples_of self.new.terms self.new.ids.items ≡ graph_of self.old) }
+        ensures graph { OnOk result (string_triples_of self.new.terms self.new.ids.items ≡ document_graph self.old) }
         ensures sound { OnOk result (IsSound self.new) }
         ensures none { OnOk result (self.new.queue.ids.items ≡ []) }
     {
@@ -78,7 +78,7 @@ impl Document {
 
     /// Whether there is no triple.
     pub fn is_empty(&self) -> bool
-        ensures { IsTrue result ↔ (graph_of self.now ≡ []) }
+        ensures { IsTrue result ↔ (document_graph self.now ≡ []) }
     {
         self.ids.is_empty() && self.queue.ids.is_empty()
     }
@@ -86,8 +86,8 @@ impl Document {
     /// The strings, without what finds their places, and the triples.
     pub fn into_parts(self, alloc: Global) -> Result<(Arena, Vec<(u64, u64, u64)>), AllocError>
         requires { IsSound self }
-        ensures graph { IfOk result (λ parts. triples_of parts.0 parts.1.items ≡ graph_of self) }
-        ensures within { IfOk result (λ parts. AreWithin (length parts.0) parts.1.items) }
+        ensures graph { IfOk result (λ parts. string_triples_of parts.0 parts.1.items ≡ document_graph self) }
+        ensures within { IfOk result (λ parts. AreBelow (length parts.0) parts.1.items) }
     {
         let mut document = self;
         document.look_up(alloc)?;

@@ -6,7 +6,7 @@ ghost use Rattle.hdt_triples.specs.Counting.{Triple};
 ghost use Rattle.hdt_triples.specs.Order.{AreWritable};
 ghost use Rattle.hdt_build.specs.Built.{report_of};
 ghost use Rattle.hdt_build.specs.Canonical.{canonical_head, canonical_file};
-ghost use Rattle.hdt_build.specs.Kept.{AreBlocks, sections_of};
+ghost use Rattle.hdt_build.specs.Inside.Kept.{AreBlocks, sections_in_work};
 
 use crate::form::Form;
 use crate::header::length_property;
@@ -31,10 +31,10 @@ pub fn put_head(alloc: Global, header: &[u8], out: &mut Vec<u8>) -> Result<(), A
 /// The canonical file of a header body, the four sections and the number triples of a graph. The sections are let go before the
 /// triples are written.
 fn canonical_file(alloc: Global, header: &[u8], form: Form) -> Result<Vec<u8>, AllocError>
-    requires sections { AreSections (sections_of form.sections) }
+    requires sections { AreSections (sections_in_work form.sections) }
     requires triples { AreWritable form.triples.items }
     requires blocks { AreBlocks form.sections.shared.block_size form.sections }
-    ensures { IfOk result (λ bytes. bytes.items ≡ canonical_file header.now form.sections.shared.block_size (sections_of form.sections) form.triples.items) }
+    ensures { IfOk result (λ bytes. bytes.items ≡ canonical_file header.now form.sections.shared.block_size (sections_in_work form.sections) form.triples.items) }
 {
     let Form { sections, triples } = form;
     let mut bytes = Vec::new(alloc);
@@ -53,7 +53,7 @@ fn canonical_file(alloc: Global, header: &[u8], form: Form) -> Result<Vec<u8>, A
 /// The numbers of a file with these sections and triples, without its length.
 #[tactic(auto, unfolding(crate::specs::Built::report_of))]
 fn counts_of(form: &Form) -> Report
-    ensures { result ≡ report_of (sections_of form.now.sections) form.now.triples.items [] }
+    ensures { result ≡ report_of (sections_in_work form.now.sections) form.now.triples.items [] }
 {
     Report {
         triples: form.triples.len() as u64,
@@ -78,11 +78,11 @@ fn report_of(counts: Report, bytes: &[u8]) -> Report
 
 /// The canonical file of a header body, the four sections and the number triples of a graph; and its numbers.
 pub fn whole_file(alloc: Global, header: &[u8], form: Form) -> Result<(Vec<u8>, Report), AllocError>
-    requires sections { AreSections (sections_of form.sections) }
+    requires sections { AreSections (sections_in_work form.sections) }
     requires triples { AreWritable form.triples.items }
     requires blocks { AreBlocks form.sections.shared.block_size form.sections }
-    ensures bytes { IfOk result (λ made. made.0.items ≡ canonical_file header.now form.sections.shared.block_size (sections_of form.sections) form.triples.items) }
-    ensures report { IfOk result (λ made. made.1 ≡ report_of (sections_of form.sections) form.triples.items made.0.items) }
+    ensures bytes { IfOk result (λ made. made.0.items ≡ canonical_file header.now form.sections.shared.block_size (sections_in_work form.sections) form.triples.items) }
+    ensures report { IfOk result (λ made. made.1 ≡ report_of (sections_in_work form.sections) form.triples.items made.0.items) }
 {
     let counts = counts_of(&form);
     let bytes = canonical_file(alloc, header, form)?;

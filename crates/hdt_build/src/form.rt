@@ -1,8 +1,8 @@
 //! The sections and the number triples of a graph.
 ghost use Rattle.std.specs.Prelude.{◌≤◌, length, IfOk};
-ghost use Rattle.hdt_build.specs.Documents.{AreWithin};
-ghost use Rattle.hdt_build.specs.Graph.{triples_of, IsForm};
-ghost use Rattle.hdt_build.specs.Kept.{AreBlocks, sections_of};
+ghost use Rattle.hdt_build.specs.Inside.Documents.{AreBelow};
+ghost use Rattle.hdt_build.specs.Graph.{string_triples_of, IsForm};
+ghost use Rattle.hdt_build.specs.Inside.Kept.{AreBlocks, sections_in_work};
 ghost use Rattle.hdt_build.specs.Reading.{AreTexts};
 
 use crate::once::distinct;
@@ -28,10 +28,10 @@ pub fn form_of(
     ids: Vec<(u64, u64, u64)>,
     block_size: u32,
 ) -> Result<Form, AllocError>
-    requires within { AreWithin (length list) ids.items }
-    requires texts { AreTexts (triples_of list ids.items) }
+    requires within { AreBelow (length list) ids.items }
+    requires texts { AreTexts (string_triples_of list ids.items) }
     requires block { 1 ≤ block_size }
-    ensures form { IfOk result (λ made. IsForm (triples_of list ids.items) (sections_of made.sections) made.triples.items) }
+    ensures form { IfOk result (λ made. IsForm (string_triples_of list ids.items) (sections_in_work made.sections) made.triples.items) }
     ensures blocks { IfOk result (λ made. AreBlocks block_size made.sections) }
 {
     let mut triples = ids;

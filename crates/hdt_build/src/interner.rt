@@ -1,7 +1,7 @@
 //! Strings kept once, as far as a cache of their places remembers them.
 ghost use Rattle.std.specs.Prelude.{◌≡◌, ◌<◌, ◌≤◌, ◌++◌, ◌∷◌, [], ℕ, List, ◌+◌, IfSome, length, slice_index_or, vec_len, IfOk, OnOk, OnErr};
-ghost use Rattle.hdt_build.specs.Placed.{AreRanks};
-ghost use Rattle.hdt_build.specs.Texts.{GoesOn};
+ghost use Rattle.hdt_build.specs.Inside.Placed.{AreRanks};
+ghost use Rattle.hdt_build.specs.Inside.Texts.{GoesOn};
 
 use hdt_dict::Arena;
 use std::alloc::{AllocError, Global};

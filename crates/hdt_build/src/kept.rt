@@ -1,7 +1,7 @@
 //! Which strings of a graph the sections keep when it is written anew.
 ghost use Rattle.std.specs.Prelude.{◌≡◌, ◌<◌, ◌≤◌, ◌+◌, ◌↔◌, ℕ, IsTrue};
 ghost use Rattle.hdt_file.specs.Views.{graph_seen};
-ghost use Rattle.hdt_build.specs.Kept.{role_of, IsBoth, Keeps, cut_of, end_of};
+ghost use Rattle.hdt_build.specs.Inside.Kept.{role_of, IsBoth, KeepsNumber, cut_of, end_of};
 
 use hdt_dict::Role;
 use hdt_file::Graph;
@@ -37,7 +37,7 @@ fn is_both(graph: &Graph<'_>, n: u64, steps: &mut Steps) -> bool
 
 /// Whether the new section has the string with a number of its role.
 fn is_kept(graph: &Graph<'_>, part: Part, n: u64, steps: &mut Steps) -> bool
-    ensures { IsTrue result ↔ Keeps (graph_seen graph.now) part n }
+    ensures { IsTrue result ↔ KeepsNumber (graph_seen graph.now) part n }
 {
     match part {
         Part::Shared => is_both(graph, n, steps),
@@ -52,8 +52,8 @@ pub fn kept_from(graph: &Graph<'_>, part: Part, from: u64, end: u64) -> u64
     requires { from ≤ end }
     ensures from { from ≤ result }
     ensures within { result ≤ end }
-    ensures kept { result < end → Keeps (graph_seen graph.now) part (result + 1) }
-    ensures passed { (k : ℕ) → from ≤ k → k < result → Keeps (graph_seen graph.now) part (k + 1) → ⊥ }
+    ensures kept { result < end → KeepsNumber (graph_seen graph.now) part (result + 1) }
+    ensures passed { (k : ℕ) → from ≤ k → k < result → KeepsNumber (graph_seen graph.now) part (k + 1) → ⊥ }
 {
     let mut steps = Steps::new();
     for place in from..end {

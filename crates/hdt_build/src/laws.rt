@@ -11,7 +11,7 @@ ghost use Rattle.hdt_file.specs.File.{GraphParts};
 ghost use Rattle.hdt_build.specs.Header.{header_body};
 ghost use Rattle.hdt_build.specs.Layouts.{IsLayoutOf, IsVerified};
 ghost use Rattle.hdt_build.specs.Options.{AreRight, IsBlockSize};
-ghost use Rattle.hdt_build.specs.Reading.{most, Tells, ReadFailed};
+ghost use Rattle.hdt_build.specs.Reading.{most, TellsBuildFault, ReadFailed};
 ghost use Rattle.hdt_build.specs.Rewritten.{IsRewritten};
 ghost use Rattle.hdt_build.specs.declared.fault.BuildFault.{BuildFault};
 ghost use Rattle.hdt_build.specs.declared.options.Options.{Options};
@@ -66,7 +66,7 @@ pub fn one_document()
 /// out: so that is told exactly of such a document.
 pub fn no_triples_are_told()
     ensures unbuilt { (options : Options) (bytes made : List ℕ) (report : Report) → Builds options (Some bytes) made report → Document bytes [] → ⊥ }
-    ensures told { (bytes : List ℕ) (after : Option (List ℕ)) (e : BuildFault) → Tells (Some bytes) after e → Document bytes [] → length bytes ≤ most
+    ensures told { (bytes : List ℕ) (after : Option (List ℕ)) (e : BuildFault) → TellsBuildFault (Some bytes) after e → Document bytes [] → length bytes ≤ most
         → (e ≡ BuildFault.NoTriples) ⊎ ((e ≡ BuildFault.OutOfMemory) ⊎ ReadFailed e) }
 {
     line_or_fault();

@@ -2,7 +2,7 @@
 ghost use Rattle.std.specs.Prelude.{◌≡◌, ◌+◌, length, IfOk, OnOk, IsTrue, ◌↔◌};
 ghost use Rattle.hdt_front.specs.Canonical.{lent_texts};
 ghost use Rattle.hdt_dict.specs.Strings.{IsAscending};
-ghost use Rattle.hdt_build.specs.Placed.{ArePlaced, AreRanks, IsJoined, IsLast};
+ghost use Rattle.hdt_build.specs.Inside.Placed.{ArePlaced, AreRanks, IsJoined, IsLast};
 
 use hdt_dict::Arena;
 use std::alloc::{AllocError, Global};

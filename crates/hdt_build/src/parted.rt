@@ -3,10 +3,10 @@ ghost use Rattle.std.specs.Prelude.{◌≡◌, ◌≤◌, ◌<◌, ℕ, [], leng
 ghost use Rattle.hdt_front.specs.Canonical.{lent_texts};
 ghost use Rattle.hdt_wire.specs.Control.{HasNoZero};
 ghost use Rattle.hdt_dict.specs.Strings.{IsAscending};
-ghost use Rattle.hdt_build.specs.Documents.{AreWithin};
-ghost use Rattle.hdt_build.specs.Graph.{triples_of};
-ghost use Rattle.hdt_build.specs.Kept.{AreBlocks, sections_of};
-ghost use Rattle.hdt_build.specs.Parted.{IsWanted, IsFilled, ArePartsOf};
+ghost use Rattle.hdt_build.specs.Inside.Documents.{AreBelow};
+ghost use Rattle.hdt_build.specs.Graph.{string_triples_of};
+ghost use Rattle.hdt_build.specs.Inside.Kept.{AreBlocks, sections_in_work};
+ghost use Rattle.hdt_build.specs.Inside.Parted.{IsWanted, IsFilled, ArePartsOf};
 ghost use Rattle.hdt_build.specs.Reading.{AreTexts};
 
 use crate::sections::Sections;
@@ -81,10 +81,10 @@ pub fn parted(
     block_size: u32,
 ) -> Result<Numbered, AllocError>
     requires ascend { IsAscending (lent_texts strings.now) }
-    requires within { AreWithin (length strings.now) triples.now }
-    requires texts { AreTexts (triples_of (lent_texts strings.now) triples.now) }
+    requires within { AreBelow (length strings.now) triples.now }
+    requires texts { AreTexts (string_triples_of (lent_texts strings.now) triples.now) }
     requires block { 1 ≤ block_size }
-    ensures parts { IfOk result (λ made. ArePartsOf (lent_texts strings.now) triples.now (sections_of made.sections) made.nodes.items made.predicates.items) }
+    ensures parts { IfOk result (λ made. ArePartsOf (lent_texts strings.now) triples.now (sections_in_work made.sections) made.nodes.items made.predicates.items) }
     ensures blocks { IfOk result (λ made. AreBlocks block_size made.sections) }
 {
     let len = strings.len();

@@ -1,8 +1,8 @@
 //! Triples that wait until their strings are looked up.
 ghost use Rattle.std.specs.Prelude.{◌≡◌, ◌<◌, ◌++◌, ◌∷◌, [], length, slice_index_or, IfOk, OnOk, IsTrue, ◌↔◌};
 ghost use Rattle.std.specs.List.{All};
-ghost use Rattle.hdt_build.specs.Documents.{waiting_in, IsQueue};
-ghost use Rattle.hdt_build.specs.Texts.{GoesOn};
+ghost use Rattle.hdt_build.specs.Inside.Documents.{waiting_in, IsQueue};
+ghost use Rattle.hdt_build.specs.Inside.Texts.{GoesOn};
 
 use hdt_dict::Arena;
 use std::alloc::{AllocError, Global};

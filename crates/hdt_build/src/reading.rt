@@ -3,8 +3,8 @@ ghost use Rattle.std.specs.Prelude.{◌≡◌, ◌+◌, ◌≢◌, Ok, IfOk, IfE
 ghost use Rattle.std.specs.Io.KnownBytes.{IsAtEnd};
 ghost use Rattle.hdt_wire.specs.Counted.{inner, failures};
 ghost use Rattle.hdt_terms.specs.declared.fault.LineReason.TheVariants as reasons;
-ghost use Rattle.hdt_build.specs.Documents.{graph_of, IsSound};
-ghost use Rattle.hdt_build.specs.Reading.{IsGraphIn, AreTexts, Tells, IsFaultOf, ReadFailed};
+ghost use Rattle.hdt_build.specs.Inside.Documents.{document_graph, IsSound};
+ghost use Rattle.hdt_build.specs.Reading.{IsGraphIn, AreTexts, TellsBuildFault, IsToldAs, ReadFailed};
 
 use crate::document::Document;
 use crate::fault::BuildFault;
@@ -18,7 +18,7 @@ const MOST: u64 = 9_223_372_036_854_775_807;
 
 /// The fault of a document, as a builder tells it.
 fn fault_of(fault: LineFault) -> BuildFault
-    ensures { IsFaultOf fault result }
+    ensures { IsToldAs fault result }
 {
     match fault.reason {
         LineReason::OutOfMemory => BuildFault::OutOfMemory,
@@ -28,11 +28,11 @@ fn fault_of(fault: LineFault) -> BuildFault
 
 /// The triples of the document that the reader gives.
 pub fn read_graph<R: Read>(alloc: Global, input: &mut Counted<R>) -> Result<Document, BuildFault>
-    ensures found { IfOk result (λ document. IsGraphIn (R.remaining (inner input.old)) (graph_of document)) }
+    ensures found { IfOk result (λ document. IsGraphIn (R.remaining (inner input.old)) (document_graph document)) }
     ensures sound { IfOk result IsSound }
-    ensures texts { IfOk result (λ document. AreTexts (graph_of document)) }
+    ensures texts { IfOk result (λ document. AreTexts (document_graph document)) }
     ensures end { OnOk result (IsAtEnd (R.remaining (inner input.new))) }
-    ensures told { IfErr result (Tells (R.remaining (inner input.old)) (R.remaining (inner input.new))) }
+    ensures told { IfErr result (TellsBuildFault (R.remaining (inner input.old)) (R.remaining (inner input.new))) }
     ensures read { IfErr result (λ e. ReadFailed e → failures input.new ≡ failures input.old + 1) }
     ensures still { IfErr result (λ e. (ReadFailed e → ⊥) → failures input.new ≡ failures input.old) }
     ensures some { IfErr result (λ e. e ≢ BuildFault.NoTriples) }

@@ -1,6 +1,6 @@
 //! The new numbers of a role.
 ghost use Rattle.std.specs.Prelude.{◌≡◌, ◌<◌, ◌≤◌, ◌+◌, ◌-◌, ℕ, length, slice_index, IsTrue};
-ghost use Rattle.hdt_build.specs.Kept.{new_number};
+ghost use Rattle.hdt_build.specs.Inside.Kept.{new_number};
 
 /// The new number of each number of a role that triples use. Where all strings stay where they were, which is so in a file
 /// without unused strings, none is looked up.

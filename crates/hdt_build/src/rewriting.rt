@@ -3,7 +3,7 @@ ghost use Rattle.std.specs.Prelude.{◌≡◌, ◌≢◌, [], ◌+◌, ◌↔◌
 ghost use Rattle.hdt_wire.specs.Counted.{inner, failures};
 ghost use Rattle.hdt_file.specs.Views.{graph_seen};
 ghost use Rattle.hdt_build.specs.Built.{report_of};
-ghost use Rattle.hdt_build.specs.Kept.{sections_of};
+ghost use Rattle.hdt_build.specs.Inside.Kept.{sections_in_work};
 ghost use Rattle.hdt_build.specs.Options.{IsBlockSize};
 ghost use Rattle.hdt_build.specs.Rewritten.{IsRewritten, WritesAgain, BeginsAgain};
 
@@ -23,7 +23,7 @@ use std::io::Write;
 /// The numbers of a file with these sections, without its triples.
 #[tactic(auto, unfolding(crate::specs::Built::report_of))]
 fn report_of(sections: &Sections) -> Report
-    ensures { result ≡ report_of (sections_of sections.now) [] [] }
+    ensures { result ≡ report_of (sections_in_work sections.now) [] [] }
 {
     Report {
         triples: 0,

@@ -1,9 +1,9 @@
 //! The strings of one ascending run that a section keeps, given one after another.
 ghost use Rattle.std.specs.Prelude.{◌≡◌, ◌<◌, ◌≤◌, ◌+◌, List, ℕ, length, IsTrue, IsFalse, IfOk, OnOk};
-ghost use Rattle.hdt_front.specs.InWork.{last_of};
+ghost use Rattle.hdt_front.specs.InWork.{last_string};
 ghost use Rattle.hdt_front.specs.Searching.{agreed};
 ghost use Rattle.hdt_file.specs.Views.{graph_seen, strings_in};
-ghost use Rattle.hdt_build.specs.Kept.{role_of, Stands, StandsBehind, IsRunFrom, Agrees};
+ghost use Rattle.hdt_build.specs.Inside.Kept.{role_of, HasGiven, StandsBehind, IsRunFrom, Agrees};
 
 use crate::kept::{Part, kept_from, role_of};
 use hdt_dict::Strings;
@@ -27,7 +27,7 @@ pub struct Run<'a> {
 /// so far at least.
 fn go_to(strings: &mut Strings<'_>, number: u64) -> Result<usize, AllocError>
     requires { strings.old.given < number }
-    ensures stands { OnOk result ((all : List (List ℕ)) → Stands all strings.old → number ≤ length all → StandsBehind all number strings.new) }
+    ensures stands { OnOk result ((all : List (List ℕ)) → HasGiven all strings.old → number ≤ length all → StandsBehind all number strings.new) }
     ensures kept { IfOk result (λ k. k ≤ agreed strings.old.last strings.new.last) }
 {
     let mut kept = strings.last().len();
@@ -44,7 +44,7 @@ fn go_to(strings: &mut Strings<'_>, number: u64) -> Result<usize, AllocError>
 }
 
 impl<'a> Run<'a> {
-    ghost use Rattle.hdt_build.specs.Kept.{IsRun};
+    ghost use Rattle.hdt_build.specs.Inside.Kept.{IsRunOfStrings};
 
     /// The run from one place up to another, where nothing was written yet.
     pub fn new(
@@ -73,7 +73,7 @@ impl<'a> Run<'a> {
     /// Goes on to the first string from a place on that is kept, and answers how many bytes at its front it keeps of the one that
     /// was unfolded last.
     fn seek(&mut self, graph: &Graph<'_>, part: Part, from: u64) -> Result<usize, AllocError>
-        requires stands { Stands (strings_in (graph_seen graph.now) (role_of part)) self.old.strings }
+        requires stands { HasGiven (strings_in (graph_seen graph.now) (role_of part)) self.old.strings }
         requires behind { self.old.strings.given ≤ from }
         requires from { from ≤ self.old.end }
         requires within { self.old.end ≤ length (strings_in (graph_seen graph.now) (role_of part)) }
@@ -97,12 +97,12 @@ impl<'a> Run<'a> {
         part: Part,
         out: &SectionWriter,
     ) -> Result<(), AllocError>
-        requires run { IsRun (graph_seen graph.now) part self.old }
+        requires run { IsRunOfStrings (graph_seen graph.now) part self.old }
         requires there { self.old.at < self.old.end }
-        requires written { last_of out.now ≡ self.old.strings.last }
+        requires written { last_string out.now ≡ self.old.strings.last }
         ensures run { OnOk result (IsRunFrom (graph_seen graph.now) part (self.old.at + 1) self.new) }
         ensures end { OnOk result (self.new.end ≡ self.old.end) }
-        ensures same { OnOk result (Agrees (last_of out.now) self.new) }
+        ensures same { OnOk result (Agrees (last_string out.now) self.new) }
     {
         let kept = self.seek(graph, part, self.at + 1)?;
         self.same = compared_from(out.last(), self.strings.last(), kept).1;

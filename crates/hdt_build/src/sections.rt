@@ -1,13 +1,13 @@
 //! The sections of the strings that triples use, and the new numbers of these.
 ghost use Rattle.std.specs.Prelude.{◌≡◌, ◌≢◌, ◌<◌, ◌≤◌, ◌+◌, ◌^◌, ◌++◌, ◌∷◌, [], ℕ, length, set, slice_index, IsTrue, IsFalse, IfOk, OnOk};
 ghost use Rattle.std.specs.declared.cmp.Ordering.TheVariants.{Less};
-ghost use Rattle.hdt_front.specs.InWork.{last_of};
+ghost use Rattle.hdt_front.specs.InWork.{last_string};
 ghost use Rattle.hdt_front.specs.Searching.{agreed};
 ghost use Rattle.hdt_dict.specs.Strings.{string_cmp};
 ghost use Rattle.hdt_file.specs.Denoted.{string_of};
 ghost use Rattle.hdt_file.specs.Views.{graph_seen, strings_in};
 ghost use Rattle.hdt_wire.specs.declared.role.Role.TheVariants as roles;
-ghost use Rattle.hdt_build.specs.Kept.{role_of, end_of, IsRun, IsRunFrom, Agrees, Tell, IsPut, AreRewritten, AreBlocks, sections_of};
+ghost use Rattle.hdt_build.specs.Inside.Kept.{role_of, end_of, IsRunOfStrings, IsRunFrom, Agrees, Tell, IsPut, AreRewritten, AreBlocks, sections_in_work};
 
 use crate::kept::{Part, ends_of};
 use crate::renumbering::{Numbering, numbering_of};
@@ -57,15 +57,15 @@ fn take(
     out: &mut SectionWriter,
     numbers: &mut Vec<u64>,
 ) -> Result<(), AllocError>
-    requires run { IsRun (graph_seen graph.now) part run.old }
+    requires run { IsRunOfStrings (graph_seen graph.now) part run.old }
     requires there { run.old.at < run.old.end }
     requires noted { run.old.at < length numbers.old.items }
     requires few { count + length out.old.strings + 1 < 2 ^ 64 }
-    requires same { Agrees (last_of out.old) run.old }
+    requires same { Agrees (last_string out.old) run.old }
     ensures run { OnOk result (IsRunFrom (graph_seen graph.now) part (run.old.at + 1) run.new) }
     ensures end { OnOk result (run.new.end ≡ run.old.end) }
     ensures string { OnOk result (out.new ≡ record out.old { strings = out.old.strings ++ string_of (graph_seen graph.now) (role_of part) (run.old.at + 1) ∷ [] }) }
-    ensures same { OnOk result (Agrees (last_of out.new) run.new) }
+    ensures same { OnOk result (Agrees (last_string out.new) run.new) }
     ensures number { OnOk result (numbers.new.items ≡ set numbers.old.items run.old.at (count + (length out.old.strings + 1))) }
 {
     graph.is_graph();
@@ -154,7 +154,7 @@ pub fn new_sections(
     block_size: u32,
 ) -> Result<(Sections, Numbers), AllocError>
     requires { 1 ≤ block_size }
-    ensures rewritten { IfOk result (λ made. AreRewritten (graph_seen graph.now) (sections_of made.0) made.1) }
+    ensures rewritten { IfOk result (λ made. AreRewritten (graph_seen graph.now) (sections_in_work made.0) made.1) }
     ensures blocks { IfOk result (λ made. AreBlocks block_size made.0) }
 {
     graph.is_graph();

@@ -3,8 +3,8 @@ ghost use Rattle.std.specs.Prelude.{◌≡◌, ◌<◌, map, length, IsTrue, IfO
 ghost use Rattle.std.specs.List.{All};
 ghost use Rattle.hdt_dict.specs.Strings.{SameMembers};
 ghost use Rattle.hdt_file.specs.Views.{graph_seen};
-ghost use Rattle.hdt_build.specs.Graph.{AscendingTriples, numbers_at};
-ghost use Rattle.hdt_build.specs.Kept.{renumbered};
+ghost use Rattle.hdt_build.specs.Graph.{AscendingTriples, renumbered_triple};
+ghost use Rattle.hdt_build.specs.Inside.Kept.{renumbered};
 
 use crate::sections::Numbers;
 use hdt_file::Graph;
@@ -28,7 +28,7 @@ pub fn replace(
     requires subjects_within { All (λ t. t.0 < length subjects.now) triples.old.items }
     requires predicates_within { All (λ t. t.1 < length predicates.now) triples.old.items }
     requires objects_within { All (λ t. t.2 < length objects.now) triples.old.items }
-    ensures { triples.new.items ≡ map (numbers_at subjects.now predicates.now objects.now) triples.old.items }
+    ensures { triples.new.items ≡ map (renumbered_triple subjects.now predicates.now objects.now) triples.old.items }
 {
     for triple in triples.iter_mut() {
         let (s, p, o) = *triple;

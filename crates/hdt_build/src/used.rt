@@ -2,7 +2,7 @@
 ghost use Rattle.std.specs.Prelude.{◌≡◌, ◌↔◌, ◌<◌, ℕ, length, slice_index_or, true, false, IfOk};
 ghost use Rattle.std.specs.List.{All};
 ghost use Rattle.hdt_triples.specs.Uses.{part, Uses};
-ghost use Rattle.hdt_build.specs.Parted.{AreUsed};
+ghost use Rattle.hdt_build.specs.Inside.Parted.{AreUsed};
 
 use hdt_dict::Role;
 use std::alloc::{AllocError, Global};

@@ -29,11 +29,11 @@ closed = 18446744073709551613
 -- ---- roles and their strings
 
 -- the role that C names by a number
-abbrev pub role_at : ℕ → Option Role
-role_at zero = Some Subject
-role_at (suc zero) = Some Predicate
-role_at (suc (suc zero)) = Some Object
-role_at (suc (suc (suc n))) = None
+abbrev pub role_by_number : ℕ → Option Role
+role_by_number zero = Some Subject
+role_by_number (suc zero) = Some Predicate
+role_by_number (suc (suc zero)) = Some Object
+role_by_number (suc (suc (suc n))) = None
 
 -- how many strings the role has
 abbrev pub count_in : GraphParts → Option Role → ℕ
@@ -41,9 +41,9 @@ count_in g None = absent
 count_in g (Some role) = length (strings_in g role)
 
 -- its string with this number
-abbrev pub string_at : GraphParts → Option Role → ℕ → Option (List ℕ)
-string_at g None n = None
-string_at g (Some role) n = numbered (strings_in g role) n
+abbrev pub string_numbered : GraphParts → Option Role → ℕ → Option (List ℕ)
+string_numbered g None n = None
+string_numbered g (Some role) n = numbered (strings_in g role) n
 
 -- the answer is the number of the string among these, or there is none
 pub record IsNumberIn (strings : List (List ℕ)) (string : List ℕ) (answer : ℕ) : Type 0 where
@@ -51,21 +51,21 @@ pub record IsNumberIn (strings : List (List ℕ)) (string : List ℕ) (answer : 
   pub none : ((n : ℕ) → numbered strings n ≡ Some string → ⊥) → answer ≡ absent
 
 -- its number in the role
-abbrev pub IsNumber : GraphParts → Option Role → List ℕ → ℕ → Type 0
-IsNumber g None string answer = answer ≡ absent
-IsNumber g (Some role) string answer = IsNumberIn (strings_in g role) string answer
+abbrev pub AnswersNumber : GraphParts → Option Role → List ℕ → ℕ → Type 0
+AnswersNumber g None string answer = answer ≡ absent
+AnswersNumber g (Some role) string answer = IsNumberIn (strings_in g role) string answer
 
 -- the string was put, and its length is the answer, or memory was refused; or there is none
-abbrev pub Puts : Option (List ℕ) → ℕ → List ℕ → List ℕ → Type 0
-Puts None answer old new = (answer ≡ absent) × (new ≡ old)
-Puts (Some string) answer old new = ((answer ≡ length string) × (new ≡ laid_over string old)) ⊎ ((answer ≡ no_memory) × (new ≡ old))
+abbrev pub PutsOut : Option (List ℕ) → ℕ → List ℕ → List ℕ → Type 0
+PutsOut None answer old new = (answer ≡ absent) × (new ≡ old)
+PutsOut (Some string) answer old new = ((answer ≡ length string) × (new ≡ laid_over string old)) ⊎ ((answer ≡ no_memory) × (new ≡ old))
 
 -- ---- matches
 
 -- a part of what is searched, which C gives by a flag
-abbrev pub part : ℕ → Lent → Option Lent
-part zero x = None
-part (suc n) x = Some x
+abbrev pub part_if_given : ℕ → Lent → Option Lent
+part_if_given zero x = None
+part_if_given (suc n) x = Some x
 
 -- the triples that have each string that is given in its role: the matches of the pattern of their numbers, or none where
 -- a string isn't in its role
@@ -74,7 +74,7 @@ pub record AreMatches (g : GraphParts) (given : List (Option Lent)) (found : Lis
   pub none : ((p : Pattern) → IsPattern g given p → ⊥) → found ≡ []
 
 -- so many triples match
-pub record Counts (g : GraphParts) (given : List (Option Lent)) (answer : ℕ) : Type 0 where
+pub record CountsMatches (g : GraphParts) (given : List (Option Lent)) (answer : ℕ) : Type 0 where
   pub found : List Triple
   pub are : AreMatches g given found
   pub count : answer ≡ length found
@@ -84,7 +84,7 @@ abbrev pub numbers : Triple → List ℕ
 numbers t = t.0 ∷ t.1 ∷ t.2 ∷ []
 
 -- the matches without the first ones were put, as many as fit, and their count is the answer
-pub record Finds (g : GraphParts) (given : List (Option Lent)) (skip answer : ℕ) (old new : List (List ℕ)) : Type 0 where
+pub record FindsPortion (g : GraphParts) (given : List (Option Lent)) (skip answer : ℕ) (old new : List (List ℕ)) : Type 0 where
   pub found : List Triple
   pub are : AreMatches g given found
   pub count : answer ≡ length (take (length old) (drop skip found))

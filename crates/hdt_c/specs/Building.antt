@@ -3,7 +3,7 @@ use Rattle.std.specs.Prelude.{◌≡◌, ◌⊎◌, ⊤, ℕ, List, [], ◌∷�
 use Rattle.hdt_terms.specs.Reasons.{line_reason_number}
 use Rattle.hdt_build.specs.Built.{Builds}
 use Rattle.hdt_build.specs.Options.{AreRight}
-use Rattle.hdt_build.specs.Reading.{Tells}
+use Rattle.hdt_build.specs.Reading.{TellsBuildFault}
 use Rattle.hdt_build.specs.declared.fault.BuildFault.{BuildFault}
 use Rattle.hdt_build.specs.declared.fault.BuildFault.TheVariants as faults
 use Rattle.hdt_build.specs.declared.options.Options.{Options}
@@ -14,67 +14,67 @@ use Rattle.hdt_c.specs.declared.bytes.HdtBytes.{HdtBytes}
 use Rattle.hdt_c.specs.declared.report.HdtReport.{HdtReport}
 
 -- the options of a base IRI and a block size
-pub record Given (base : List ℕ) (b : ℕ) (options : Options) : Type 0 where
+pub record AreGivenOptions (base : List ℕ) (b : ℕ) (options : Options) : Type 0 where
   pub base_is : options.base.items ≡ base
   pub size_is : options.block_size ≡ b
 
 -- triples, then strings: shared, subjects, predicates, objects
-abbrev pub counts_of : Report → List ℕ
-counts_of r = r.triples ∷ r.shared ∷ r.subjects ∷ r.predicates ∷ r.objects ∷ []
+abbrev pub report_counts : Report → List ℕ
+report_counts r = r.triples ∷ r.shared ∷ r.subjects ∷ r.predicates ∷ r.objects ∷ []
 
 -- of a file that was built
 abbrev pub built : Report → HdtReport
-built r = record { reason = 0; line = 0; column = 0; counts = counts_of r }
+built r = record { reason = 0; line = 0; column = 0; counts = report_counts r }
 
 -- a reason that has no line
-abbrev pub for_reason : ℕ → HdtReport
-for_reason n = record { reason = n; line = 0; column = 0; counts = no_counts }
+abbrev pub report_for : ℕ → HdtReport
+report_for n = record { reason = n; line = 0; column = 0; counts = no_counts }
 
 -- what is told of a fault
-abbrev pub told : BuildFault → HdtReport
-told (faults.Line fault) = record { reason = line_reason_number fault.reason; line = fault.line; column = fault.column; counts = no_counts }
-told faults.NoTriples = for_reason 251
-told faults.BadOptions = for_reason 252
-told faults.OutOfMemory = for_reason 255
-told (faults.Write n) = for_reason 255
+abbrev pub report_told : BuildFault → HdtReport
+report_told (faults.Line fault) = record { reason = line_reason_number fault.reason; line = fault.line; column = fault.column; counts = no_counts }
+report_told faults.NoTriples = report_for 251
+report_told faults.BadOptions = report_for 252
+report_told faults.OutOfMemory = report_for 255
+report_told (faults.Write n) = report_for 255
 
 -- the text is a document, and the bytes are the canonical file of its graph
-pub record IsBuilt (text base : List ℕ) (b : ℕ) (bytes : List ℕ) (report : Report) : Type 0 where
+pub record BuildsText (text base : List ℕ) (b : ℕ) (bytes : List ℕ) (report : Report) : Type 0 where
   pub options : Options
-  pub given : Given base b options
+  pub given : AreGivenOptions base b options
   pub builds : Builds options (Some text) bytes report
 
 -- the options can't be taken
 pub record AreBad (base : List ℕ) (b : ℕ) : Type 0 where
   pub options : Options
-  pub given : Given base b options
+  pub given : AreGivenOptions base b options
   pub bad : AreRight options → ⊥
 
 -- the text has the fault
 pub record InText (text : List ℕ) (fault : BuildFault) : Type 0 where
   pub after : Option (List ℕ)
-  pub told : Tells (Some text) after fault
+  pub told : TellsBuildFault (Some text) after fault
 
 -- the text or the options have the fault; want of memory says nothing of them
-abbrev pub Stands : List ℕ → List ℕ → ℕ → BuildFault → Type 0
-Stands text base b faults.BadOptions = AreBad base b
-Stands text base b faults.OutOfMemory = ⊤
-Stands text base b fault = InText text fault
+abbrev pub HasBuildFault : List ℕ → List ℕ → ℕ → BuildFault → Type 0
+HasBuildFault text base b faults.BadOptions = AreBad base b
+HasBuildFault text base b faults.OutOfMemory = ⊤
+HasBuildFault text base b fault = InText text fault
 
 -- the bytes are the file
-pub record Done (text base : List ℕ) (b : ℕ) (out : HdtBytes) (told_is : HdtReport) : Type 0 where
+pub record BuildsBytes (text base : List ℕ) (b : ℕ) (out : HdtBytes) (told_is : HdtReport) : Type 0 where
   pub bytes : List ℕ
   pub report : Report
-  pub is : IsBuilt text base b bytes report
+  pub is : BuildsText text base b bytes report
   pub made : Are out bytes
   pub told : told_is ≡ built report
 
 -- there are no bytes, for a fault
-pub record Failed (text base : List ℕ) (b : ℕ) (out : HdtBytes) (told_is : HdtReport) : Type 0 where
+pub record FailsToBuild (text base : List ℕ) (b : ℕ) (out : HdtBytes) (told_is : HdtReport) : Type 0 where
   pub fault : BuildFault
-  pub stands : Stands text base b fault
+  pub stands : HasBuildFault text base b fault
   pub made : AreNone out
-  pub told : told_is ≡ told fault
+  pub told : told_is ≡ report_told fault
 
 abbrev pub TellsBuilt : List ℕ → List ℕ → ℕ → HdtBytes → HdtReport → Type 0
-TellsBuilt text base b out report = Done text base b out report ⊎ Failed text base b out report
+TellsBuilt text base b out report = BuildsBytes text base b out report ⊎ FailsToBuild text base b out report

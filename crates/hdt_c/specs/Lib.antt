@@ -3,8 +3,8 @@ pub mod Building
 pub mod Bytes
 pub mod Handle
 pub mod Held
-pub mod Kept
 pub mod Rewriting
 pub mod Room
 pub mod Texts
 pub mod Told
+pub mod Inside

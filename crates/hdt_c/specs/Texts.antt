@@ -15,8 +15,8 @@ use Rattle.hdt_c.specs.declared.bytes.HdtBytes.{HdtBytes}
 use Rattle.hdt_c.specs.declared.telling.HdtTelling.{HdtTelling}
 
 -- a reason that has no string
-abbrev pub for_reason : ℕ → HdtTelling
-for_reason n = record { reason = n; role = 0; number = 0 }
+abbrev pub telling_for : ℕ → HdtTelling
+telling_for n = record { reason = n; role = 0; number = 0 }
 
 -- the number by which C names a role
 abbrev pub role_number : Role → ℕ
@@ -25,13 +25,13 @@ role_number Predicate = 1
 role_number Object = 2
 
 -- what is told of a fault
-abbrev pub told : DumpFault → HdtTelling
-told (faults.NotATerm role n) = record { reason = 250; role = role_number role; number = n }
-told (faults.Write n) = for_reason 255
-told faults.OutOfMemory = for_reason 255
+abbrev pub telling_told : DumpFault → HdtTelling
+telling_told (faults.NotATerm role n) = record { reason = 250; role = role_number role; number = n }
+telling_told (faults.Write n) = telling_for 255
+telling_told faults.OutOfMemory = telling_for 255
 
 -- the text of the matches
-pub record IsText (g : GraphParts) (given : List (Option Lent)) (text : List ℕ) : Type 0 where
+pub record IsTextOfMatches (g : GraphParts) (given : List (Option Lent)) (text : List ℕ) : Type 0 where
   pub found : List Triple
   pub are : AreMatches g given found
   pub is : IsTextOf (denoted g found) text
@@ -43,24 +43,24 @@ pub record IsNoTerm (g : GraphParts) (given : List (Option Lent)) (role : Role) 
   pub first : IsFirstIn g found role n
 
 -- the matches have the fault; want of memory says nothing of them
-abbrev pub Stands : GraphParts → List (Option Lent) → DumpFault → Type 0
-Stands g given (faults.NotATerm role n) = IsNoTerm g given role n
-Stands g given (faults.Write n) = ⊥
-Stands g given faults.OutOfMemory = ⊤
+abbrev pub HasTextFault : GraphParts → List (Option Lent) → DumpFault → Type 0
+HasTextFault g given (faults.NotATerm role n) = IsNoTerm g given role n
+HasTextFault g given (faults.Write n) = ⊥
+HasTextFault g given faults.OutOfMemory = ⊤
 
 -- the bytes are the text of the matches
-pub record Done (g : GraphParts) (given : List (Option Lent)) (out : HdtBytes) (telling : HdtTelling) : Type 0 where
+pub record PrintsBytes (g : GraphParts) (given : List (Option Lent)) (out : HdtBytes) (telling : HdtTelling) : Type 0 where
   pub text : List ℕ
-  pub is : IsText g given text
+  pub is : IsTextOfMatches g given text
   pub bytes : Are out text
-  pub told : telling ≡ for_reason 0
+  pub told : telling ≡ telling_for 0
 
 -- there are no bytes, for a fault
-pub record Failed (g : GraphParts) (given : List (Option Lent)) (out : HdtBytes) (telling : HdtTelling) : Type 0 where
+pub record FailsToPrint (g : GraphParts) (given : List (Option Lent)) (out : HdtBytes) (telling : HdtTelling) : Type 0 where
   pub fault : DumpFault
-  pub stands : Stands g given fault
+  pub stands : HasTextFault g given fault
   pub bytes : AreNone out
-  pub told : telling ≡ told fault
+  pub told : telling ≡ telling_told fault
 
 abbrev pub TellsText : GraphParts → List (Option Lent) → HdtBytes → HdtTelling → Type 0
-TellsText g given out telling = Done g given out telling ⊎ Failed g given out telling
+TellsText g given out telling = PrintsBytes g given out telling ⊎ FailsToPrint g given out telling

@@ -13,8 +13,8 @@ abbrev pub no_counts : List ℕ
 no_counts = 0 ∷ 0 ∷ 0 ∷ 0 ∷ 0 ∷ []
 
 -- a reason that has no place
-abbrev pub for_reason : ℕ → HdtVerdict
-for_reason n = record { reason = n; place = 0; counts = no_counts }
+abbrev pub verdict_for : ℕ → HdtVerdict
+verdict_for n = record { reason = n; place = 0; counts = no_counts }
 
 -- of a file: its counts, or the number and the place of its fault
 abbrev pub verdict_on : Result GraphParts Fault → HdtVerdict
@@ -22,11 +22,11 @@ verdict_on (Ok graph) = record { reason = 0; place = 0; counts = lens_of graph }
 verdict_on (Err fault) = record { reason = reason_number fault.reason; place = fault.place; counts = no_counts }
 
 -- that, or memory was refused
-abbrev pub Tells : HdtVerdict → Result GraphParts Fault → Type 0
-Tells v read = (v ≡ for_reason 255) ⊎ (v ≡ verdict_on read)
+abbrev pub TellsVerdict : HdtVerdict → Result GraphParts Fault → Type 0
+TellsVerdict v read = (v ≡ verdict_for 255) ⊎ (v ≡ verdict_on read)
 
 -- the verdict of a result of a call
-abbrev pub told : Result (List ℕ) OpenFault → HdtVerdict
-told (Ok counts) = record { reason = 0; place = 0; counts = counts }
-told (Err (opens.Fault fault)) = record { reason = reason_number fault.reason; place = fault.place; counts = no_counts }
-told (Err opens.OutOfMemory) = for_reason 255
+abbrev pub verdict_told : Result (List ℕ) OpenFault → HdtVerdict
+verdict_told (Ok counts) = record { reason = 0; place = 0; counts = counts }
+verdict_told (Err (opens.Fault fault)) = record { reason = reason_number fault.reason; place = fault.place; counts = no_counts }
+verdict_told (Err opens.OutOfMemory) = verdict_for 255

@@ -1,7 +1,7 @@
 //! Asking a graph for counts, numbers and strings.
 ghost use Rattle.std.specs.Prelude.{◌≡◌, Some, length};
 ghost use Rattle.hdt_file.specs.Views.{graph_seen, strings_in};
-ghost use Rattle.hdt_c.specs.Answers.{IsNumber, IsNumberIn, Puts, closed, count_in, role_at, string_at};
+ghost use Rattle.hdt_c.specs.Answers.{AnswersNumber, IsNumberIn, PutsOut, closed, count_in, role_by_number, string_numbered};
 ghost use Rattle.hdt_c.specs.Handle.{IsClosed, OfGraph, SameGraph};
 ghost use Rattle.hdt_c.specs.Room.{laid_over};
 
@@ -24,7 +24,7 @@ pub(crate) const CLOSED: u64 = 18_446_744_073_709_551_613;
 
 /// The role that C names by a number.
 fn role_at(number: u32) -> Option<Role>
-    ensures { result ≡ role_at number }
+    ensures { result ≡ role_by_number number }
 {
     match number {
         0 => Some(Role::Subject),
@@ -53,7 +53,7 @@ pub extern "C" fn hdt_len(alloc: Global, graph: &mut HdtGraph) -> u64
 
 /// How many strings a role has.
 fn count_in(graph: &Graph<'static>, role: u32) -> u64
-    ensures { result ≡ count_in (graph_seen graph.now) (role_at role) }
+    ensures { result ≡ count_in (graph_seen graph.now) (role_by_number role) }
 {
     match role_at(role) {
         Some(role) => graph.count(role),
@@ -64,7 +64,7 @@ fn count_in(graph: &Graph<'static>, role: u32) -> u64
 /// How many strings a role has.
 #[unsafe(no_mangle)]
 pub extern "C" fn hdt_count(alloc: Global, graph: &mut HdtGraph, role: u32) -> u64
-    ensures exact { OfGraph graph.old (λ g. result ≡ count_in g (role_at role)) }
+    ensures exact { OfGraph graph.old (λ g. result ≡ count_in g (role_by_number role)) }
     ensures closed { IsClosed graph.old → result ≡ closed }
     ensures kept { SameGraph graph.old graph.new }
 {
@@ -90,7 +90,7 @@ fn number_in(graph: &Graph<'static>, role: Role, string: &[u8]) -> u64
 
 /// The same of a role that C names.
 fn number_of(graph: &Graph<'static>, role: u32, string: &[u8]) -> u64
-    ensures { IsNumber (graph_seen graph.now) (role_at role) string.now result }
+    ensures { AnswersNumber (graph_seen graph.now) (role_by_number role) string.now result }
 {
     match role_at(role) {
         Some(role) => number_in(graph, role, string),
@@ -101,7 +101,7 @@ fn number_of(graph: &Graph<'static>, role: u32, string: &[u8]) -> u64
 /// The number of a string in a role, from 1.
 #[unsafe(no_mangle)]
 pub extern "C" fn hdt_number(alloc: Global, graph: &mut HdtGraph, role: u32, string: &[u8]) -> u64
-    ensures exact { OfGraph graph.old (λ g. IsNumber g (role_at role) string.now result) }
+    ensures exact { OfGraph graph.old (λ g. AnswersNumber g (role_by_number role) string.now result) }
     ensures closed { IsClosed graph.old → result ≡ closed }
     ensures kept { SameGraph graph.old graph.new }
 {
@@ -117,7 +117,7 @@ pub extern "C" fn hdt_number(alloc: Global, graph: &mut HdtGraph, role: u32, str
 
 /// Puts a string into room.
 fn put_string(alloc: Global, graph: &Graph<'static>, role: u32, number: u64, room: &mut [u8]) -> u64
-    ensures { Puts (string_at (graph_seen graph.now) (role_at role) number) result room.old room.new }
+    ensures { PutsOut (string_numbered (graph_seen graph.now) (role_by_number role) number) result room.old room.new }
 {
     let Some(role) = role_at(role) else {
         return ABSENT;
@@ -142,7 +142,7 @@ pub extern "C" fn hdt_string(
     number: u64,
     out: &mut [u8],
 ) -> u64
-    ensures exact { OfGraph graph.old (λ g. Puts (string_at g (role_at role) number) result out.old out.new) }
+    ensures exact { OfGraph graph.old (λ g. PutsOut (string_numbered g (role_by_number role) number) result out.old out.new) }
     ensures closed { IsClosed graph.old → (result ≡ closed) × (out.new ≡ out.old) }
     ensures kept { SameGraph graph.old graph.new }
 {

@@ -1,6 +1,6 @@
 //! Building a file of N-Triples.
 ghost use Rattle.std.specs.Prelude.{◌≡◌, IfOk, IfErr};
-ghost use Rattle.hdt_c.specs.Building.{IsBuilt, Stands, TellsBuilt, built, for_reason, told};
+ghost use Rattle.hdt_c.specs.Building.{BuildsText, HasBuildFault, TellsBuilt, built, report_for, report_told};
 
 use crate::bytes::HdtBytes;
 use crate::report::HdtReport;
@@ -14,7 +14,7 @@ const NO_TRIPLES: u32 = 251;
 
 /// A reason that has no line.
 fn for_reason(reason: u32) -> HdtReport
-    ensures { result ≡ for_reason reason }
+    ensures { result ≡ report_for reason }
 {
     HdtReport {
         reason,
@@ -44,7 +44,7 @@ fn built(report: Report) -> HdtReport
 
 /// What is told of a fault.
 fn told(fault: BuildFault) -> HdtReport
-    ensures { result ≡ told fault }
+    ensures { result ≡ report_told fault }
 {
     match fault {
         BuildFault::Line(line) => HdtReport {
@@ -66,8 +66,8 @@ fn file_of(
     base: &[u8],
     block_size: u32,
 ) -> Result<(Vec<u8>, Report), BuildFault>
-    ensures ok { IfOk result (λ made. IsBuilt text.now base.now block_size made.0.items made.1) }
-    ensures err { IfErr result (Stands text.now base.now block_size) }
+    ensures ok { IfOk result (λ made. BuildsText text.now base.now block_size made.0.items made.1) }
+    ensures err { IfErr result (HasBuildFault text.now base.now block_size) }
 {
     let options = Options {
         block_size,

@@ -1,6 +1,6 @@
 //! The handle of bytes.
 ghost use Rattle.std.specs.Prelude.{◌≡◌, true};
-ghost use Rattle.hdt_c.specs.Kept.{is_bytes};
+ghost use Rattle.hdt_c.specs.Inside.Kept.{is_bytes};
 
 use crate::address::Address;
 use crate::held::Held;

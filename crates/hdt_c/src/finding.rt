@@ -3,7 +3,7 @@ ghost use Rattle.std.specs.Prelude.{◌≡◌, ◌∷◌, [], map, take, drop, l
 ghost use Rattle.hdt_file.specs.TextWriting.{chosen};
 ghost use Rattle.hdt_file.specs.Views.{graph_seen};
 ghost use Rattle.hdt_triples.specs.Left.{left_of};
-ghost use Rattle.hdt_c.specs.Answers.{AreMatches, Counts, Finds, closed, numbers, part};
+ghost use Rattle.hdt_c.specs.Answers.{AreMatches, CountsMatches, FindsPortion, closed, numbers, part_if_given};
 ghost use Rattle.hdt_c.specs.Handle.{IsClosed, OfGraph, SameGraph};
 ghost use Rattle.hdt_c.specs.Room.{laid_over};
 
@@ -17,7 +17,7 @@ use std::alloc::Global;
 
 /// A part of what is searched: any, or a string.
 pub(crate) fn part(has: u32, string: &[u8]) -> Option<&[u8]>
-    ensures { result ≡ part has string.entry }
+    ensures { result ≡ part_if_given has string.entry }
 {
     if has == 0 { None } else { Some(string) }
 }
@@ -77,14 +77,14 @@ fn find_into(
     skip: u64,
     room: &mut [[u64; 3]],
 ) -> u64
-    ensures { Finds (graph_seen graph.now) given.entry skip result room.old room.new }
+    ensures { FindsPortion (graph_seen graph.now) given.entry skip result room.old room.new }
 {
     put_matches(skipped(found(graph, given), skip), room)
 }
 
 /// How many triples match.
 fn count_matches(graph: &Graph<'static>, given: [Option<&[u8]>; 3]) -> u64
-    ensures { Counts (graph_seen graph.now) given.entry result }
+    ensures { CountsMatches (graph_seen graph.now) given.entry result }
 {
     match pattern_of(graph, given) {
         Some(pattern) => graph.matching(pattern, &mut Steps::new()),
@@ -106,7 +106,7 @@ pub extern "C" fn hdt_find(
     skip: u64,
     out: &mut [[u64; 3]],
 ) -> u64
-    ensures exact { OfGraph graph.old (λ g. Finds g (part has_s s.entry ∷ part has_p p.entry ∷ part has_o o.entry ∷ []) skip result out.old out.new) }
+    ensures exact { OfGraph graph.old (λ g. FindsPortion g (part_if_given has_s s.entry ∷ part_if_given has_p p.entry ∷ part_if_given has_o o.entry ∷ []) skip result out.old out.new) }
     ensures closed { IsClosed graph.old → (result ≡ closed) × (out.new ≡ out.old) }
     ensures kept { SameGraph graph.old graph.new }
 {
@@ -133,7 +133,7 @@ pub extern "C" fn hdt_matching(
     has_o: u32,
     o: &[u8],
 ) -> u64
-    ensures exact { OfGraph graph.old (λ g. Counts g (part has_s s.entry ∷ part has_p p.entry ∷ part has_o o.entry ∷ []) result) }
+    ensures exact { OfGraph graph.old (λ g. CountsMatches g (part_if_given has_s s.entry ∷ part_if_given has_p p.entry ∷ part_if_given has_o o.entry ∷ []) result) }
     ensures closed { IsClosed graph.old → result ≡ closed }
     ensures kept { SameGraph graph.old graph.new }
 {

@@ -1,6 +1,6 @@
 //! The handle of a graph.
 ghost use Rattle.std.specs.Prelude.{◌≡◌, true};
-ghost use Rattle.hdt_c.specs.Kept.{is_graph};
+ghost use Rattle.hdt_c.specs.Inside.Kept.{is_graph};
 
 use crate::held::Held;
 

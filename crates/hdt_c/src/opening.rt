@@ -2,11 +2,11 @@
 ghost use Rattle.std.specs.Prelude.{◌≡◌, ◌≢◌, OnErr, OnOk};
 ghost use Rattle.hdt_wire.specs.Exact.{seen};
 ghost use Rattle.hdt_wire.specs.Rows.{Gives};
-ghost use Rattle.hdt_file.specs.Faults.{fault_of};
+ghost use Rattle.hdt_file.specs.Faults.{open_fault_of};
 ghost use Rattle.hdt_file.specs.File.{IsLayout, graph_in};
 ghost use Rattle.hdt_file.specs.Views.{graph_seen, lens_of};
-ghost use Rattle.hdt_c.specs.Handle.{IsClosed, IsOpen, Opens};
-ghost use Rattle.hdt_c.specs.Told.{Tells, for_reason};
+ghost use Rattle.hdt_c.specs.Handle.{IsClosed, IsOpen, IsOpened};
+ghost use Rattle.hdt_c.specs.Told.{TellsVerdict, verdict_for};
 
 use crate::handle::HdtGraph;
 use crate::kept::Kept;
@@ -31,8 +31,8 @@ fn open_into(
     bytes: &'static [u8],
     graph: &mut HdtGraph,
 ) -> Result<[u64; 5], OpenFault>
-    ensures told { Gives fault_of (λ lens. lens) result (seen lens_of (graph_in bytes.now)) }
-    ensures ok { OnOk result (Opens bytes.now graph.new) }
+    ensures told { Gives open_fault_of (λ lens. lens) result (seen lens_of (graph_in bytes.now)) }
+    ensures ok { OnOk result (IsOpened bytes.now graph.new) }
     ensures err { OnErr result (graph.new ≡ graph.old) }
 {
     let opened = open(alloc, bytes)?;
@@ -55,11 +55,11 @@ pub extern "C" fn hdt_open(
     verdict: &mut HdtVerdict,
 )
     // The verdict on the bytes, or memory was refused.
-    ensures told { IsClosed graph.old → Tells verdict.new (graph_in bytes.now) }
+    ensures told { IsClosed graph.old → TellsVerdict verdict.new (graph_in bytes.now) }
     // A graph that is open already is refused, and stays.
-    ensures refused { IsOpen graph.old → verdict.new ≡ for_reason 254 }
+    ensures refused { IsOpen graph.old → verdict.new ≡ verdict_for 254 }
     // Reason 0: the graph is open, and holds what the bytes lay out. Any other: it is as it was.
-    ensures opened { verdict.new.reason ≡ 0 → Opens bytes.now graph.new }
+    ensures opened { verdict.new.reason ≡ 0 → IsOpened bytes.now graph.new }
     ensures left { verdict.new.reason ≢ 0 → graph.new ≡ graph.old }
 {
     if graph.state == 1 {

@@ -1,7 +1,7 @@
 //! Taking a graph out of its handle, and putting it back.
 ghost use Rattle.std.specs.Prelude.{◌≡◌, ◌≢◌, Some, None, IfSome, IsSome, true};
 ghost use Rattle.hdt_c.specs.declared.kept.Kept.TheVariants as kept;
-ghost use Rattle.hdt_c.specs.Kept.{is_graph};
+ghost use Rattle.hdt_c.specs.Inside.Kept.{is_graph};
 
 use crate::handle::HdtGraph;
 use crate::held::Held;

@@ -1,10 +1,10 @@
 //! The N-Triples text of a graph.
 ghost use Rattle.std.specs.Prelude.{◌≡◌, ◌∷◌, [], IfOk, IfErr};
 ghost use Rattle.hdt_file.specs.Views.{graph_seen};
-ghost use Rattle.hdt_c.specs.Answers.{part};
+ghost use Rattle.hdt_c.specs.Answers.{part_if_given};
 ghost use Rattle.hdt_c.specs.Bytes.{AreNone};
 ghost use Rattle.hdt_c.specs.Handle.{IsClosed, OfGraph, SameGraph};
-ghost use Rattle.hdt_c.specs.Texts.{IsText, Stands, TellsText, for_reason, role_number, told};
+ghost use Rattle.hdt_c.specs.Texts.{IsTextOfMatches, HasTextFault, TellsText, telling_for, role_number, telling_told};
 
 use crate::bytes::HdtBytes;
 use crate::finding::{part, pattern_of};
@@ -24,7 +24,7 @@ const IS_CLOSED: u32 = 253;
 
 /// A reason that has no string.
 fn for_reason(reason: u32) -> HdtTelling
-    ensures { result ≡ for_reason reason }
+    ensures { result ≡ telling_for reason }
 {
     HdtTelling {
         reason,
@@ -46,7 +46,7 @@ fn role_number(role: Role) -> u32
 
 /// What is told of a fault.
 fn told(fault: DumpFault) -> HdtTelling
-    ensures { result ≡ told fault }
+    ensures { result ≡ telling_told fault }
 {
     match fault {
         DumpFault::NotATerm(role, number) => HdtTelling {
@@ -64,8 +64,8 @@ fn text_of(
     graph: &Graph<'static>,
     given: [Option<&[u8]>; 3],
 ) -> Result<Vec<u8>, DumpFault>
-    ensures ok { IfOk result (λ text. IsText (graph_seen graph.now) given.entry text.items) }
-    ensures err { IfErr result (Stands (graph_seen graph.now) given.entry) }
+    ensures ok { IfOk result (λ text. IsTextOfMatches (graph_seen graph.now) given.entry text.items) }
+    ensures err { IfErr result (HasTextFault (graph_seen graph.now) given.entry) }
 {
     graph_text(alloc, graph, pattern_of(graph, given))
 }
@@ -105,8 +105,8 @@ pub extern "C" fn hdt_text(
     out: &mut HdtBytes,
     telling: &mut HdtTelling,
 )
-    ensures exact { OfGraph graph.old (λ g. TellsText g (part has_s s.entry ∷ part has_p p.entry ∷ part has_o o.entry ∷ []) out.new telling.new) }
-    ensures closed { IsClosed graph.old → (telling.new ≡ for_reason 253) × AreNone out.new }
+    ensures exact { OfGraph graph.old (λ g. TellsText g (part_if_given has_s s.entry ∷ part_if_given has_p p.entry ∷ part_if_given has_o o.entry ∷ []) out.new telling.new) }
+    ensures closed { IsClosed graph.old → (telling.new ≡ telling_for 253) × AreNone out.new }
     ensures kept { SameGraph graph.old graph.new }
 {
     match graph.take(alloc) {

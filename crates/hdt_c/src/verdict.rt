@@ -1,7 +1,7 @@
 //! Verifying.
 ghost use Rattle.std.specs.Prelude.{◌≡◌, IsOk};
 ghost use Rattle.hdt_file.specs.File.{graph_in};
-ghost use Rattle.hdt_c.specs.Told.{Tells, for_reason, told};
+ghost use Rattle.hdt_c.specs.Told.{TellsVerdict, verdict_for, verdict_told};
 
 use hdt_file::{OpenFault, verify};
 use std::alloc::Global;
@@ -27,7 +27,7 @@ pub struct HdtVerdict {
 
 /// The verdict of a result.
 pub(crate) fn told(got: Result<[u64; 5], OpenFault>) -> HdtVerdict
-    ensures exact { result ≡ told got }
+    ensures exact { result ≡ verdict_told got }
     ensures done { result.reason ≡ 0 → IsOk got }
 {
     match got {
@@ -47,7 +47,7 @@ pub(crate) fn told(got: Result<[u64; 5], OpenFault>) -> HdtVerdict
 
 /// A verdict of a reason alone.
 pub(crate) fn for_reason(reason: u32) -> HdtVerdict
-    ensures { result ≡ for_reason reason }
+    ensures { result ≡ verdict_for reason }
 {
     HdtVerdict {
         reason,
@@ -60,7 +60,7 @@ pub(crate) fn for_reason(reason: u32) -> HdtVerdict
 #[unsafe(no_mangle)]
 pub extern "C" fn hdt_verify(alloc: Global, bytes: &[u8], verdict: &mut HdtVerdict)
     // That on what the bytes read as, or memory was refused.
-    ensures { Tells verdict.new (graph_in bytes.now) }
+    ensures { TellsVerdict verdict.new (graph_in bytes.now) }
 {
     *verdict = told(verify(alloc, bytes));
 }

@@ -16,7 +16,7 @@ use Rattle.hdt_dict.specs.Strings.{Lent}
 use Rattle.std.proofs.KnownBytes.{Appends-nil, Appends-trans}
 use Rattle.hdt_file.specs.File.{GraphParts}
 use Rattle.hdt_command.specs.declared.request.Asking.{Asking}
-use Rattle.hdt_command.specs.Dialogue.{AnswersLine, AnswersLines, AnswersSome, AreSome, Gone, IsBehind, IsStop, IsStopped, given_of, most_bytes}
+use Rattle.hdt_command.specs.Dialogue.{AnswersLine, AnswersLines, AnswersSome, AreSome, Gone, IsBehind, IsStopFor, IsStopped, given_of, most_bytes}
 
 or_assoc : (a b c : Bool) → (a || b) || c ≡ a || (b || c)
 or_assoc true b c = refl
@@ -87,7 +87,7 @@ take-append-add (x ∷ xs) ys m = ap (λ k. take k (x ∷ (xs ++ ys))) (one_more
 -- ---- what stopped the answers
 
 -- a line that could not be read
-pub stopped_by : (fault : LineFault) (e : ToolFault) (text : List ℕ) (a b : Option (List ℕ)) (f h : ℕ) → IsStop fault e → h ≡ f → Appends a b text → IsStopped e text a b f h
+pub stopped_by : (fault : LineFault) (e : ToolFault) (text : List ℕ) (a b : Option (List ℕ)) (f h : ℕ) → IsStopFor fault e → h ≡ f → Appends a b text → IsStopped e text a b f h
 stopped_by fault (File x) text a b f h is same gained = absurd is
 stopped_by fault (Input x) text a b f h is same gained = (same, gained)
 stopped_by fault NoTriples text a b f h is same gained = absurd is
@@ -115,7 +115,7 @@ read_fault : (fault : LineFault) → fault.reason ≡ reasons.Read → fault.col
 read_fault fault is none = ap (λ k. record { line = fault.line; column = k; reason = fault.reason }) none ∙ ap (λ r. record { line = fault.line; column = 0; reason = r }) is
 
 -- and it stands behind the lines that were answered
-pub stopped_behind : (fault : LineFault) (e : ToolFault) (input given : Option (List ℕ)) (lines : List (ℕ × List ℕ)) → IsStop fault e → FaultBehind fault most_bytes input given lines → IsBehind e input given lines
+pub stopped_behind : (fault : LineFault) (e : ToolFault) (input given : Option (List ℕ)) (lines : List (ℕ × List ℕ)) → IsStopFor fault e → FaultBehind fault most_bytes input given lines → IsBehind e input given lines
 stopped_behind fault (File x) input given lines is h = absurd is
 stopped_behind fault (Input x) input given lines is h =
     (ap (λ f. f.reason) is.0 ∙ too_long fault.reason (length h.front) h.left given h.fault_is is.1 is.2, subst (λ f. FaultBehind f most_bytes input given lines) (sym is.0) h)
@@ -167,7 +167,7 @@ cut_answer contents failed g asking input given start out new lines line faulty 
 
 -- a line that could not be read, behind answers
 pub unread_line : (g : GraphParts) (asking : Asking) (s : State) (input mid given written_before written_after : Option (List ℕ)) (lines : List (ℕ × List ℕ)) (faulty : Bool) (text : List ℕ) (failed_before failed_after : ℕ)
-    (fault : LineFault) (e : ToolFault) → Gone s input mid lines → AnswersLines g asking lines faulty text → Appends written_before written_after text → failed_after ≡ failed_before → IsStop fault e
+    (fault : LineFault) (e : ToolFault) → Gone s input mid lines → AnswersLines g asking lines faulty text → Appends written_before written_after text → failed_after ≡ failed_before → IsStopFor fault e
     → FaultBehind fault most_bytes input given lines → AnswersSome g asking input given written_before written_after failed_before failed_after e
 unread_line g asking s input mid given written_before written_after lines faulty text failed_before failed_after fault e gone all gained same is h = record {
   lines = lines;

@@ -17,7 +17,7 @@ use Rattle.hdt_command.specs.declared.request.Action.{Action}
 use Rattle.hdt_command.specs.declared.request.Form.{Form}
 use Rattle.hdt_command.specs.declared.request.Request.{Request}
 use Rattle.hdt_command.specs.declared.request.Action.TheVariants as action
-use Rattle.hdt_command.specs.Words.{AsksAction, AsksFor, AsksOfFile, AsksOfFiles, AsksToMake, ComesWithout, ComesWithoutOr, IsFaultOf, IsMisspelt, IsMisspeltPart, IsFinding, IsStringOf, IsUsed, IsUnused, Misspells, StatesForm, StatesMost, StatesOptions, StatesPart, StatesString, StatesWords, TellsTerm}
+use Rattle.hdt_command.specs.Words.{AsksAction, AsksFor, AsksOfFile, AsksOfFiles, AsksToMake, ComesWithout, ComesWithoutOr, IsFaultOfWord, IsMisspelt, IsMisspeltPart, IsFinding, IsStringOf, IsUsed, IsUnused, Misspells, StatesForm, StatesMost, StatesOptions, StatesPart, StatesString, StatesWords, TellsTerm}
 use Rattle.hdt_command.specs.Lines.{word_name}
 use Rattle.hdt_command.specs.TriplesText.{Given}
 
@@ -26,7 +26,7 @@ some_is a b e = cc
 
 -- a fault of the term that a text was to spell
 pub told_term : (word : TermWord) (text : List ℕ) (raw : Bool) (fault : TermFault) (r : UsageFault) → raw ≡ false → TellsTerm word fault r → (fault ≡ out_of_memory) ⊎ FaultIn text fault
-    → ComesWithoutOr (Unit {0}) (IsFaultOf word raw text) r
+    → ComesWithoutOr (Unit {0}) (IsFaultOfWord word raw text) r
 told_term word text raw fault (Help said) unused k h = absurd k
 told_term word text raw fault (Usage said) unused k h = absurd k
 told_term word text raw fault (Word other told) unused k (inl e) = absurd (k.2 (ap (λ (f : TermFault). f.reason) e))
@@ -46,12 +46,12 @@ states_part raw entry text flag (Some x) on off is h = (λ any. h.0 (some_is _ _
 
 -- the fault of a word stands in its entry
 in_entry : (word : TermWord) (rows : List Row) (text : List ℕ) (flag : Bool) (other : TermWord) (fault : TermFault) → (IsUsed (one_of (codes "raw") rows) → flag ≡ true)
-    → first_of (word_name word) rows ≡ Some text → IsFaultOf word flag text other fault → IsMisspelt rows word fault
+    → first_of (word_name word) rows ≡ Some text → IsFaultOfWord word flag text other fault → IsMisspelt rows word fault
 in_entry word rows text flag other fault on is h =
     (λ used. let bad : true ≡ false = sym (on used) ∙ h.1 in absurd cc, subst (λ (e : Option Text). IsSomeAnd e (λ t. FaultIn t fault)) (sym is) h.2)
 
 pub misspelt : (word : TermWord) (rows : List Row) (text : List ℕ) (flag : Bool) (r : UsageFault) → (IsUsed (one_of (codes "raw") rows) → flag ≡ true)
-    → first_of (word_name word) rows ≡ Some text → ComesWithoutOr (Unit {0}) (IsFaultOf word flag text) r
+    → first_of (word_name word) rows ≡ Some text → ComesWithoutOr (Unit {0}) (IsFaultOfWord word flag text) r
     → ComesWithoutOr (IsSome (first_of (word_name word) rows)) (λ other fault. (other ≡ word) × IsMisspelt rows word fault) r
 misspelt word rows text flag (Help said) on is h = absurd h
 misspelt word rows text flag (Usage said) on is h = λ _. h tt
@@ -59,7 +59,7 @@ misspelt word rows text flag (Word other fault) on is h = (h.0, in_entry word ro
 misspelt word rows text flag OutOfMemory on is h = tt
 
 pub misspelt_part : (word : TermWord) (rows : List Row) (text : List ℕ) (flag : Bool) (r : UsageFault) → (IsUsed (one_of (codes "raw") rows) → flag ≡ true)
-    → first_of (word_name word) rows ≡ Some text → ComesWithoutOr (Unit {0}) (λ other fault. (text ≢ codes "?") × IsFaultOf word flag text other fault) r
+    → first_of (word_name word) rows ≡ Some text → ComesWithoutOr (Unit {0}) (λ other fault. (text ≢ codes "?") × IsFaultOfWord word flag text other fault) r
     → ComesWithoutOr (IsSome (first_of (word_name word) rows)) (λ other fault. (other ≡ word) × IsMisspeltPart rows word fault) r
 misspelt_part word rows text flag (Help said) on is h = absurd h
 misspelt_part word rows text flag (Usage said) on is h = λ _. h tt

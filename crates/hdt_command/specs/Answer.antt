@@ -8,7 +8,7 @@ use Rattle.hdt_file.specs.Tight.{IsTightLayout, tight_in}
 use Rattle.hdt_file.specs.Views.{lens_of, strings_in}
 use Rattle.hdt_build.specs.Built.{Builds}
 use Rattle.hdt_build.specs.Options.{AreRight, IsBlockSize}
-use Rattle.hdt_build.specs.Reading.{Tells as TellsOf}
+use Rattle.hdt_build.specs.Reading.{TellsBuildFault as TellsOf}
 use Rattle.hdt_build.specs.Rewritten.{IsRewritten}
 use Rattle.hdt_build.specs.declared.fault.BuildFault.{BuildFault}
 use Rattle.hdt_build.specs.declared.fault.BuildFault.TheVariants as building

@@ -82,8 +82,8 @@ abbrev pub ended : List ℕ → List ℕ
 ended text = text ++ 10 ∷ []
 
 -- an answer without a fault: the text of the triples
-abbrev pub TellsTriples : Form → GraphParts → List Triple → List ℕ → Type 0
-TellsTriples form g found answer = (text : List ℕ) × PrintsTriples form g found text × (answer ≡ ended text)
+abbrev pub AnswersTriples : Form → GraphParts → List Triple → List ℕ → Type 0
+AnswersTriples form g found answer = (text : List ℕ) × PrintsTriples form g found text × (answer ≡ ended text)
 
 -- in N-Triples the first string of the triples that is no term is told, and nothing else
 abbrev pub TellsNoTerm : Form → GraphParts → List Triple → List ℕ → Type 0
@@ -91,7 +91,7 @@ TellsNoTerm form g found answer = (role : Role) × (n : ℕ) × (form ≡ Lines)
 
 -- the answer of the triples that were found, and whether it is a fault
 abbrev pub AnswersFound : Form → GraphParts → List Triple → Bool → List ℕ → Type 0
-AnswersFound form g found false answer = TellsTriples form g found answer
+AnswersFound form g found false answer = AnswersTriples form g found answer
 AnswersFound form g found true answer = TellsNoTerm form g found answer
 
 -- the answer of what was read of line n: none where it is bare, its fault, or the first of what the strings find
@@ -125,11 +125,11 @@ abbrev pub lines_left : State → ℕ
 lines_left s = if s.ended then 0 else s.limit - s.taken + 1
 
 -- why answering stops where a line can't be read
-abbrev pub IsStop : LineFault → ToolFault → Type 0
-IsStop fault Read = fault.reason ≡ reasons.Read
-IsStop fault OutOfMemory = fault.reason ≡ reasons.OutOfMemory
-IsStop fault (Input told) = (told ≡ fault) × (fault.reason ≢ reasons.Read) × (fault.reason ≢ reasons.OutOfMemory)
-IsStop fault other = ⊥
+abbrev pub IsStopFor : LineFault → ToolFault → Type 0
+IsStopFor fault Read = fault.reason ≡ reasons.Read
+IsStopFor fault OutOfMemory = fault.reason ≡ reasons.OutOfMemory
+IsStopFor fault (Input told) = (told ≡ fault) × (fault.reason ≢ reasons.Read) × (fault.reason ≢ reasons.OutOfMemory)
+IsStopFor fault other = ⊥
 
 -- the writer has gained the answers of all lines of the input
 pub record AnswersInput (g : GraphParts) (asking : Asking) (input written_before written_after : Option (List ℕ)) (faulty : Bool) : Type 0 where

@@ -6,12 +6,12 @@ use Rattle.hdt_wire.specs.Control.{Block}
 use Rattle.hdt_file.specs.Head.{HeadParts}
 use Rattle.hdt_command.specs.Escaping.{escaped}
 
-abbrev pub line : List ℕ → List ℕ → List ℕ
-line label text = label ++ 32 ∷ escaped text ++ 10 ∷ []
+abbrev pub labelled_line : List ℕ → List ℕ → List ℕ
+labelled_line label text = label ++ 32 ∷ escaped text ++ 10 ∷ []
 
 -- the two lines of a control block
 abbrev pub block_lines : List ℕ → Block → List ℕ
-block_lines name block = line name block.format ++ line (codes "properties") block.properties
+block_lines name block = labelled_line name block.format ++ labelled_line (codes "properties") block.properties
 
 abbrev pub length_line : ℕ → List ℕ
 length_line n = codes "length " ++ decimal n ++ 10 ∷ []

@@ -8,8 +8,8 @@ pub mod Answer
 pub mod Dialogue
 pub mod Faults
 pub mod Lines
-pub mod ProgressText
 pub mod Table
 pub mod Words
 pub mod Status
 pub mod Whole
+pub mod Inside

@@ -55,8 +55,8 @@ abbrev pub numbers_lines : List Triple → List ℕ
 numbers_lines found = flat_map numbers_line found
 
 -- the line with how many there are
-abbrev pub count_line : List Triple → List ℕ
-count_line found = decimal (length found) ++ 10 ∷ []
+abbrev pub how_many_line : List Triple → List ℕ
+how_many_line found = decimal (length found) ++ 10 ∷ []
 
 -- numbers or N-Triples, by a flag
 abbrev pub form_of : Bool → Form
@@ -67,7 +67,7 @@ form_of true = Numbers
 abbrev pub PrintsTriples : Form → GraphParts → List Triple → List ℕ → Type 0
 PrintsTriples Lines g found text = IsTextOf (denoted g found) text
 PrintsTriples Numbers g found text = text ≡ numbers_lines found
-PrintsTriples Count g found text = text ≡ count_line found
+PrintsTriples Count g found text = text ≡ how_many_line found
 
 -- why triples do not print
 abbrev pub TellsTriples : Form → GraphParts → List Triple → DumpFault → Type 0

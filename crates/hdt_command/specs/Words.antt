@@ -269,5 +269,5 @@ abbrev pub IsStringOf : Bool → Text → List ℕ → Type 0
 IsStringOf raw text x = (raw ≡ true → x ≡ text) × (raw ≡ false → SpellsString text [] x)
 
 -- the word is told, its text is not taken as it is, and this fault stands in it
-abbrev pub IsFaultOf : TermWord → Bool → Text → TermWord → TermFault → Type 0
-IsFaultOf word raw text other fault = (other ≡ word) × (raw ≡ false) × FaultIn text fault
+abbrev pub IsFaultOfWord : TermWord → Bool → Text → TermWord → TermFault → Type 0
+IsFaultOfWord word raw text other fault = (other ≡ word) × (raw ≡ false) × FaultIn text fault

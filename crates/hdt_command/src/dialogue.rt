@@ -6,7 +6,7 @@ ghost use Rattle.hdt_terms.specs.Taking.{left, line_number};
 ghost use Rattle.hdt_terms.specs.declared.fault.LineReason.TheVariants as reasons;
 ghost use Rattle.hdt_file.specs.TextWriting.{chosen, limited};
 ghost use Rattle.hdt_file.specs.Views.{graph_seen};
-ghost use Rattle.hdt_command.specs.Dialogue.{AnswersFound, AnswersInput, AnswersLine, AnswersSome, Gone, IsStop, ReadsWanted, ended, fault_comment, given_of, lines_left, most_bytes, no_term_comment, wanted_in};
+ghost use Rattle.hdt_command.specs.Dialogue.{AnswersFound, AnswersInput, AnswersLine, AnswersSome, Gone, IsStopFor, ReadsWanted, ended, fault_comment, given_of, lines_left, most_bytes, no_term_comment, wanted_in};
 ghost use Rattle.hdt_command.specs.TriplesText.{FindsStrings};
 
 use crate::fault::ToolFault;
@@ -168,7 +168,7 @@ fn next_line<R: Read>(
 
 /// Why answering stops where a line can't be read.
 fn stop_of(fault: LineFault) -> ToolFault
-    ensures { IsStop fault result }
+    ensures { IsStopFor fault result }
 {
     match fault.reason {
         LineReason::Read => ToolFault::Read,

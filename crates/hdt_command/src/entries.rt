@@ -3,7 +3,7 @@ ghost use Rattle.std.specs.Prelude.{◌≡◌, ◌≢◌, ℕ, List, [], IfOk, I
 ghost use Rattle.clap.specs.Words.{first_of, one_of, found_of, rows_of};
 ghost use Rattle.hdt_build.specs.declared.options.Options.{Options};
 ghost use Rattle.hdt_wire.specs.declared.role.Role.{Role};
-ghost use Rattle.hdt_command.specs.Words.{AsksAction, ComesWithout, ComesWithoutOr, IsFaultOf, IsMisspelt, IsMisspeltPart, IsStringOf, IsFinding, Misspells, StatesFlag, StatesForm, StatesMost, StatesNumber, StatesOptions, StatesString, StatesWord, TellsTerm};
+ghost use Rattle.hdt_command.specs.Words.{AsksAction, ComesWithout, ComesWithoutOr, IsFaultOfWord, IsMisspelt, IsMisspeltPart, IsStringOf, IsFinding, Misspells, StatesFlag, StatesForm, StatesMost, StatesNumber, StatesOptions, StatesString, StatesWord, TellsTerm};
 ghost use Rattle.hdt_command.specs.Lines.{word_name};
 ghost use Rattle.hdt_command.specs.Table.{role_name};
 
@@ -121,7 +121,7 @@ fn term_fault(word: Word, fault: TermFault) -> UsageFault
 /// The dictionary string that a text gives: itself where it is taken as it is, else that of the term that it spells.
 fn string_of(alloc: Global, word: Word, text: &[u8], raw: bool) -> Result<Vec<u8>, UsageFault>
     ensures ok { IfOk result (λ x. IsStringOf raw text.now x.items) }
-    ensures refused { IfErr result (ComesWithoutOr (Unit {0}) (IsFaultOf word raw text.now)) }
+    ensures refused { IfErr result (ComesWithoutOr (Unit {0}) (IsFaultOfWord word raw text.now)) }
 {
     if raw {
         return Ok(text.to_vec(alloc)?);
@@ -150,7 +150,7 @@ pub fn string_at<'m>(alloc: Global, matches: &ArgMatches<'m>) -> Result<Vec<u8>,
 /// The dictionary string that a text gives, or none where it is `?`.
 fn part_of(alloc: Global, word: Word, text: &str, raw: bool) -> Result<Option<Vec<u8>>, UsageFault>
     ensures ok { IfOk result (λ part. MatchOption part (text.now ≡ codes "?") (λ x. (text.now ≢ codes "?") × IsStringOf raw text.now x.items)) }
-    ensures refused { IfErr result (ComesWithoutOr (Unit {0}) (λ other fault. (text.now ≢ codes "?") × IsFaultOf word raw text.now other fault)) }
+    ensures refused { IfErr result (ComesWithoutOr (Unit {0}) (λ other fault. (text.now ≢ codes "?") × IsFaultOfWord word raw text.now other fault)) }
 {
     if text == "?" {
         return Ok(None);

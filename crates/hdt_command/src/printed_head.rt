@@ -2,7 +2,7 @@
 ghost use Rattle.std.specs.Prelude.{◌≡◌, ◌++◌, OnOk, IfOk, string_bytes};
 ghost use Rattle.hdt_wire.specs.Control.{block_of};
 ghost use Rattle.hdt_file.specs.Head.{parts_of};
-ghost use Rattle.hdt_command.specs.HeadText.{line, block_lines, length_line, head_text};
+ghost use Rattle.hdt_command.specs.HeadText.{labelled_line, block_lines, length_line, head_text};
 
 use crate::escaping::put_escaped;
 use hdt_file::Head;
@@ -11,7 +11,7 @@ use std::alloc::{AllocError, Global};
 
 /// Appends a line: a label, a space and a text.
 fn put_line(label: &str, text: &[u8], out: &mut Vec<u8>) -> Result<(), AllocError>
-    ensures { OnOk result (out.new.items ≡ out.old.items ++ line label.now text.now) }
+    ensures { OnOk result (out.new.items ≡ out.old.items ++ labelled_line label.now text.now) }
 {
     out.extend_from_slice(label.as_bytes())?;
     out.push(b' ')?;
@@ -30,7 +30,7 @@ fn put_block(name: &str, block: &Control<'_>, out: &mut Vec<u8>) -> Result<(), A
 /// The line of a length.
 #[tactic(auto, using(std::proofs::Common::append_assoc))]
 fn length_line(alloc: Global, length: usize) -> Result<String, AllocError>
-    ensures { IfOk result (λ line. string_bytes line ≡ length_line length) }
+    ensures { IfOk result (λ labelled_line. string_bytes labelled_line ≡ length_line length) }
 {
     format!(in alloc; "length {length}\n")
 }

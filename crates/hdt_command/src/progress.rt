@@ -1,6 +1,6 @@
 //! How far the reading of the input has come, told as it goes on.
 ghost use Rattle.std.specs.Prelude.{◌≡◌, ◌++◌, IfOk, OnOk};
-ghost use Rattle.hdt_command.specs.ProgressText.{of_text, progress_line};
+ghost use Rattle.hdt_command.specs.Inside.ProgressText.{of_text, progress_line};
 
 use crate::printed_strings::put_number;
 use hdt_wire::Counted;

@@ -3,12 +3,12 @@ use Rattle.std.proofs.Common.{◌≡◌, ◌+◌, ◌++◌, ◌<◌, ◌≤◌, 
 use Rattle.hdt_wire.specs.declared.control.Kind.TheVariants as kinds
 use Rattle.hdt_wire.specs.Control.{control}
 use Rattle.hdt_wire.specs.Rows.{Stands}
-use Rattle.hdt_wire.specs.RowLaws.{Stands-after}
+use Rattle.hdt_wire.specs.Laws.Row.{Stands-after}
 use Rattle.hdt_front.specs.Canonical.{canonical}
 use Rattle.hdt_dict.specs.Dictionary.{IsDictionary}
 use Rattle.hdt_dict.specs.Split.{FourLists}
 use Rattle.hdt_dict.specs.Writing.{AreSections, mapping, canonical_dictionary, canonical_dictionary_parts}
-use Rattle.hdt_dict.specs.WritingLaws.{dictionary_stands}
+use Rattle.hdt_dict.specs.Laws.Writing.{dictionary_stands}
 
 -- one more part behind what was appended
 more : (old x r s y : List ℕ) → r ≡ old ++ x → s ≡ r ++ y → s ≡ old ++ (x ++ y)

@@ -5,12 +5,12 @@ use Rattle.hdt_front.specs.declared.section.Section.{Section}
 use Rattle.hdt_front.specs.Numbering.{place}
 use Rattle.hdt_front.specs.Strings.{strings_of, section_of}
 use Rattle.hdt_front.specs.Walks.{placed_of}
-use Rattle.hdt_front.specs.WalkLaws.{strings_placed, ascends_placed}
+use Rattle.hdt_front.specs.Laws.Walk.{strings_placed, ascends_placed}
 use Rattle.hdt_dict.specs.declared.dictionary.Dictionary.{Dictionary}
 use Rattle.hdt_wire.specs.declared.role.Role.{Role}
 use Rattle.hdt_wire.specs.declared.role.Role.TheVariants.{Subject, Predicate, Object}
 use Rattle.hdt_dict.specs.Dictionary.{AreApart, terms}
-use Rattle.hdt_dict.specs.DictionaryLaws.{apart_exact}
+use Rattle.hdt_dict.specs.Laws.Dictionary.{apart_exact}
 use Rattle.hdt_dict.specs.Numbered.{numbered}
 use Rattle.hdt_dict.specs.Views.{dictionary_of}
 use Rattle.hdt_dict.proofs.Numbering.{Distinct, distinct_ascending, distinct-append, inverse}

@@ -10,10 +10,10 @@ use Rattle.std.proofs.lemmas.List.{get_or_default}
 use Rattle.std.proofs.lemmas.Map.Lookups.{exact_bytes}
 use Rattle.std.proofs.lemmas.Map.Keys.{Less-from_sorted}
 use Rattle.std.proofs.lemmas.Slice.Eq.{bytes_eq-Decides}
-use Rattle.hdt_dict.specs.MergeLaws.{has_here, has_past}
-use Rattle.hdt_dict.specs.Merging.{ArePassed, IsFirstAlone, AreEqual}
+use Rattle.hdt_dict.specs.Laws.Merge.{has_here, has_past}
+use Rattle.hdt_dict.specs.Inside.Merging.{ArePassed, IsFirstAlone, AreEqual}
 use Rattle.hdt_dict.specs.Strings.{IsAscending, string_cmp}
-use Rattle.hdt_dict.specs.StringsLaws.{Contains-has}
+use Rattle.hdt_dict.specs.Laws.Strings.{Contains-has}
 
 itself : (x : List ℕ) → string_cmp x x ≡ Equal
 itself x = tied_itself nat_list_cmp_total x

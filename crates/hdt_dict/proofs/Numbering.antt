@@ -9,11 +9,11 @@ use Rattle.std.proofs.lemmas.Slice.Eq.{bytes_eq-Decides}
 use Rattle.std.proofs.lemmas.Option.{slice_get_within}
 use Rattle.hdt_front.specs.StringRows.{precedes}
 use Rattle.hdt_front.specs.Numbering.{place}
-use Rattle.hdt_front.specs.Walking.{Placed, After, Ascends, strings}
-use Rattle.hdt_dict.specs.Overlap.{is_in}
+use Rattle.hdt_front.specs.Walking.{Placed, After, PlacedAscend, strings}
+use Rattle.hdt_dict.specs.Inside.Overlap.{is_in}
 use Rattle.hdt_dict.specs.Dictionary.{AreApart}
 use Rattle.hdt_dict.proofs.Rows.{has-is_in, is_in-append}
-use Rattle.hdt_dict.specs.StringsLaws.{has-Contains}
+use Rattle.hdt_dict.specs.Laws.Strings.{has-Contains}
 use Rattle.hdt_dict.specs.Numbered.{numbered}
 use Rattle.hdt_dict.proofs.Overlaps.{not_ahead}
 
@@ -46,7 +46,7 @@ distinct_after : (s : List ℕ) (ps : List Placed) → After s ps → Distinct (
 distinct_after s [] a = (refl, tt)
 distinct_after s (p ∷ ps) a = (not_ahead s s (p ∷ ps) a (not_itself s), distinct_after p.string ps a.1)
 
-pub distinct_ascending : (ps : List Placed) → Ascends ps → Distinct (strings ps)
+pub distinct_ascending : (ps : List Placed) → PlacedAscend ps → Distinct (strings ps)
 distinct_ascending [] a = tt
 distinct_ascending (p ∷ ps) a = distinct_after p.string ps a
 

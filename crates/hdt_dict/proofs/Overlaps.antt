@@ -9,8 +9,8 @@ use Rattle.std.specs.Cmp.Lexicographic.{slice_cmp}
 use Rattle.std.proofs.lemmas.Cmp.{nat_list_cmp_total, alike_right}
 use Rattle.std.proofs.lemmas.Map.Text.{is_eq-slice_cmp}
 use Rattle.hdt_front.specs.StringRows.{precedes}
-use Rattle.hdt_front.specs.Walking.{Placed, After, Ascends, first_order, first_string, next_place}
-use Rattle.hdt_dict.specs.Overlap.{is_among, first_place, not_less, is_first}
+use Rattle.hdt_front.specs.Walking.{Placed, After, PlacedAscend, first_order, first_string, next_place}
+use Rattle.hdt_dict.specs.Inside.Overlap.{is_string_of, first_place, not_less, is_first}
 
 abbrev order : List ℕ → List ℕ → Ordering
 order x y = slice_cmp nat_cmp x y
@@ -41,13 +41,13 @@ not_after s p x Equal e h k =
     let both : true ≡ false = sym same ∙ k in absurd (cc)
 not_after s p x Greater e h k = (sym (is_eq-slice_cmp p x) ∙ ap is_eq e, ap is_lt e)
 
-pub not_ahead : (s x : List ℕ) (ps : List Placed) → After s ps → precedes s x ≡ false → is_among ps x ≡ false
+pub not_ahead : (s x : List ℕ) (ps : List Placed) → After s ps → precedes s x ≡ false → is_string_of ps x ≡ false
 not_ahead s x [] a h = refl
 not_ahead s x (p ∷ ps) a h =
     let n = not_after s p.string x (order p.string x) refl a.0 h in
-    ap (λ b. b || is_among ps x) n.0 ∙ not_ahead p.string x ps a.1 n.1
+    ap (λ b. b || is_string_of ps x) n.0 ∙ not_ahead p.string x ps a.1 n.1
 
-pub ascends_tail : (s : List ℕ) (ps : List Placed) → After s ps → Ascends ps
+pub ascends_tail : (s : List ℕ) (ps : List Placed) → After s ps → PlacedAscend ps
 ascends_tail s [] a = tt
 ascends_tail s (p ∷ ps) a = a.1
 
@@ -57,31 +57,31 @@ or_false : (b c : Bool) → c ≡ false → b ≡ (b || c)
 or_false true c e = refl
 or_false false c e = sym e
 
-first_is_by : (b : Bool) (x : List ℕ) (p : Placed) (ps : List Placed) → precedes p.string x ≡ b → After p.string ps → (is_first x (not_less x ps) ≡ is_among ps x)
-    → is_first x (cond b (not_less x ps) (p ∷ ps)) ≡ is_among (p ∷ ps) x
-first_is_by true x p ps e a rest = rest ∙ sym (ap (λ b. b || is_among ps x) (apart p.string x e))
-first_is_by false x p ps e a rest = is_eq-slice_cmp p.string x ∙ or_false (bytes_eq p.string x) (is_among ps x) (not_ahead p.string x ps a e)
+first_is_by : (b : Bool) (x : List ℕ) (p : Placed) (ps : List Placed) → precedes p.string x ≡ b → After p.string ps → (is_first x (not_less x ps) ≡ is_string_of ps x)
+    → is_first x (cond b (not_less x ps) (p ∷ ps)) ≡ is_string_of (p ∷ ps) x
+first_is_by true x p ps e a rest = rest ∙ sym (ap (λ b. b || is_string_of ps x) (apart p.string x e))
+first_is_by false x p ps e a rest = is_eq-slice_cmp p.string x ∙ or_false (bytes_eq p.string x) (is_string_of ps x) (not_ahead p.string x ps a e)
 
 -- the string comes next where it is one of the list
-pub first_is : (x : List ℕ) (ps : List Placed) → Ascends ps → is_first x (not_less x ps) ≡ is_among ps x
+pub first_is : (x : List ℕ) (ps : List Placed) → PlacedAscend ps → is_first x (not_less x ps) ≡ is_string_of ps x
 first_is x [] a = refl
 first_is x (p ∷ ps) a = first_is_by (precedes p.string x) x p ps refl a (first_is x ps (ascends_tail p.string ps a))
 
-among_left_by : (b : Bool) (x z : List ℕ) (p : Placed) (ps : List Placed) → precedes p.string x ≡ b → precedes x z ≡ true → is_among (not_less x ps) z ≡ is_among ps z
-    → is_among (cond b (not_less x ps) (p ∷ ps)) z ≡ is_among (p ∷ ps) z
-among_left_by true x z p ps e h rest = rest ∙ sym (ap (λ b. b || is_among ps z) (apart p.string z (trans p.string x z e h)))
+among_left_by : (b : Bool) (x z : List ℕ) (p : Placed) (ps : List Placed) → precedes p.string x ≡ b → precedes x z ≡ true → is_string_of (not_less x ps) z ≡ is_string_of ps z
+    → is_string_of (cond b (not_less x ps) (p ∷ ps)) z ≡ is_string_of (p ∷ ps) z
+among_left_by true x z p ps e h rest = rest ∙ sym (ap (λ b. b || is_string_of ps z) (apart p.string z (trans p.string x z e h)))
 among_left_by false x z p ps e h rest = refl
 
 -- of the strings after it none is passed
-pub among_left : (x z : List ℕ) (ps : List Placed) → precedes x z ≡ true → is_among (not_less x ps) z ≡ is_among ps z
+pub among_left : (x z : List ℕ) (ps : List Placed) → precedes x z ≡ true → is_string_of (not_less x ps) z ≡ is_string_of ps z
 among_left x z [] h = refl
 among_left x z (p ∷ ps) h = among_left_by (precedes p.string x) x z p ps refl h (among_left x z ps h)
 
-ascends_left_by : (b : Bool) (x : List ℕ) (p : Placed) (ps : List Placed) → After p.string ps → Ascends (not_less x ps) → Ascends (cond b (not_less x ps) (p ∷ ps))
+ascends_left_by : (b : Bool) (x : List ℕ) (p : Placed) (ps : List Placed) → After p.string ps → PlacedAscend (not_less x ps) → PlacedAscend (cond b (not_less x ps) (p ∷ ps))
 ascends_left_by true x p ps a rest = rest
 ascends_left_by false x p ps a rest = a
 
-pub ascends_left : (x : List ℕ) (ps : List Placed) → Ascends ps → Ascends (not_less x ps)
+pub ascends_left : (x : List ℕ) (ps : List Placed) → PlacedAscend ps → PlacedAscend (not_less x ps)
 ascends_left x [] a = tt
 ascends_left x (p ∷ ps) a = ascends_left_by (precedes p.string x) x p ps a (ascends_left x ps (ascends_tail p.string ps a))
 
@@ -116,7 +116,7 @@ string_of : (p : Placed) (ps : List Placed) (x : List ℕ) → first_string (p �
 string_of p ps x e = cc
 
 -- a string that doesn't pass the test, and a test that answers the same of the strings after it
-pub turns : (v : List Placed) (x : List ℕ) (f g : List ℕ → Bool) → first_string v ≡ Some x → Ascends v → f x ≡ false → ((z : List ℕ) → precedes x z ≡ true → g z ≡ f z)
+pub turns : (v : List Placed) (x : List ℕ) (f g : List ℕ → Bool) → first_string v ≡ Some x → PlacedAscend v → f x ≡ false → ((z : List ℕ) → precedes x z ≡ true → g z ≡ f z)
     → first_place g (drop 1 v) ≡ first_place f v
 turns [] x f g e a fails same = absurd (cc)
 turns (p ∷ ps) x f g e a fails same =
@@ -128,25 +128,25 @@ pub meets : (v : List Placed) (x : List ℕ) (f : List ℕ → Bool) → first_s
 meets [] x f e holds = absurd (cc)
 meets (p ∷ ps) x f e holds = sym (ap (λ b. cond b (Some p.place) (first_place f ps)) (ap f (string_of p ps x e) ∙ holds))
 
-pub ascends_drop : (v : List Placed) → Ascends v → Ascends (drop 1 v)
+pub ascends_drop : (v : List Placed) → PlacedAscend v → PlacedAscend (drop 1 v)
 ascends_drop [] a = tt
 ascends_drop (p ∷ ps) a = ascends_tail p.string ps a
 
 -- ---- what `reaches` answers, and what it leaves
 
-pub reached : (x : List ℕ) (v w : List Placed) (b : Bool) → Ascends v → b ≡ is_first x w → w ≡ not_less x v → b ≡ is_among v x
+pub reached : (x : List ℕ) (v w : List Placed) (b : Bool) → PlacedAscend v → b ≡ is_first x w → w ≡ not_less x v → b ≡ is_string_of v x
 reached x v w b a found left = found ∙ ap (is_first x) left ∙ first_is x v a
 
-pub ascends_after : (x : List ℕ) (v w : List Placed) → Ascends v → w ≡ not_less x v → Ascends w
-ascends_after x v w a left = subst Ascends (sym left) (ascends_left x v a)
+pub ascends_after : (x : List ℕ) (v w : List Placed) → PlacedAscend v → w ≡ not_less x v → PlacedAscend w
+ascends_after x v w a left = subst PlacedAscend (sym left) (ascends_left x v a)
 
-pub among_after : (x : List ℕ) (v w : List Placed) → w ≡ not_less x v → (z : List ℕ) → precedes x z ≡ true → is_among w z ≡ is_among v z
-among_after x v w left z h = ap (λ (l : List Placed). is_among l z) left ∙ among_left x z v h
+pub among_after : (x : List ℕ) (v w : List Placed) → w ≡ not_less x v → (z : List ℕ) → precedes x z ≡ true → is_string_of w z ≡ is_string_of v z
+among_after x v w left z h = ap (λ (l : List Placed). is_string_of l z) left ∙ among_left x z v h
 
-pub ascends_passed : (v w : List Placed) → Ascends v → w ≡ drop 1 v → Ascends w
-ascends_passed v w a left = subst Ascends (sym left) (ascends_drop v a)
+pub ascends_passed : (v w : List Placed) → PlacedAscend v → w ≡ drop 1 v → PlacedAscend w
+ascends_passed v w a left = subst PlacedAscend (sym left) (ascends_drop v a)
 
-pub turned : (v w : List Placed) (x : List ℕ) (f g : List ℕ → Bool) → first_string v ≡ Some x → Ascends v → w ≡ drop 1 v → f x ≡ false → ((z : List ℕ) → precedes x z ≡ true → g z ≡ f z)
+pub turned : (v w : List Placed) (x : List ℕ) (f g : List ℕ → Bool) → first_string v ≡ Some x → PlacedAscend v → w ≡ drop 1 v → f x ≡ false → ((z : List ℕ) → precedes x z ≡ true → g z ≡ f z)
     → first_place g w ≡ first_place f v
 turned v w x f g e a left fails same = ap (first_place g) left ∙ turns v x f g e a fails same
 
@@ -168,10 +168,10 @@ or_both a b c d e f = ap (λ a. a || b) e ∙ ap (λ b. c || b) f
 -- ---- the cursors stand before their sections
 
 pub answered : (r : Result (Option ℕ) AllocError) (list one two list' one' two' : List Placed)
-    → IfOk r (λ r. r ≡ first_place (λ x. is_among one x || is_among two x) list) → list ≡ list' → one ≡ one' → two ≡ two'
-    → IfOk r (λ r. r ≡ first_place (λ x. is_among one' x || is_among two' x) list')
+    → IfOk r (λ r. r ≡ first_place (λ x. is_string_of one x || is_string_of two x) list) → list ≡ list' → one ≡ one' → two ≡ two'
+    → IfOk r (λ r. r ≡ first_place (λ x. is_string_of one' x || is_string_of two' x) list')
 answered (Ok r) list one two list' one' two' h e f g =
-    h ∙ ap (λ v. first_place (λ x. is_among v x || is_among two x) list) f
-    ∙ ap (λ w. first_place (λ x. is_among one' x || is_among w x) list) g
-    ∙ ap (first_place (λ x. is_among one' x || is_among two' x)) e
+    h ∙ ap (λ v. first_place (λ x. is_string_of v x || is_string_of two x) list) f
+    ∙ ap (λ w. first_place (λ x. is_string_of one' x || is_string_of w x) list) g
+    ∙ ap (first_place (λ x. is_string_of one' x || is_string_of two' x)) e
 answered (Err r) list one two list' one' two' h e f g = tt

@@ -13,15 +13,15 @@ use Rattle.hdt_front.specs.declared.section.Section.{Section}
 use Rattle.hdt_front.specs.Unfolding.{is_head, string_of_piece, after_piece}
 use Rattle.hdt_front.specs.StringRows.{Packing, place_at}
 use Rattle.hdt_front.specs.Facts.{rest_at, before_at}
-use Rattle.hdt_front.specs.StringSteps.{string_is}
+use Rattle.hdt_front.specs.Laws.StringSteps.{string_is}
 use Rattle.hdt_front.specs.Section.{string_place}
 use Rattle.hdt_front.specs.Packed.{packing_of}
 use Rattle.hdt_front.specs.Strings.{strings_of, section_of}
 use Rattle.hdt_front.specs.Walking.{Placed, placed_from}
-use Rattle.hdt_front.specs.WalkLaws.{strings_placed}
+use Rattle.hdt_front.specs.Laws.Walk.{strings_placed}
 use Rattle.hdt_front.specs.Walks.{placed_of}
 use Rattle.hdt_dict.specs.Strings.{has}
-use Rattle.hdt_dict.specs.Overlap.{is_in, is_among, first_place, none_met}
+use Rattle.hdt_dict.specs.Inside.Overlap.{is_in, is_string_of, first_place, none_met}
 use Rattle.hdt_dict.specs.Dictionary.{apart_row, apart_at}
 
 -- ---- a string of a list, tested from either side
@@ -108,16 +108,16 @@ section_rows others s f same =
     ∙ ap (λ n. rows_from (apart_row others (section_of s)) 0 n) (many_placed s)
 
 -- a subject that is shared
-pub shared_rows : (shared subjects : Section) → none_met (first_place (is_among (placed_of shared)) (placed_of subjects)) ≡ apart_at (strings_of shared) (section_of subjects)
+pub shared_rows : (shared subjects : Section) → none_met (first_place (is_string_of (placed_of shared)) (placed_of subjects)) ≡ apart_at (strings_of shared) (section_of subjects)
 shared_rows shared subjects =
-    section_rows (strings_of shared) subjects (is_among (placed_of shared)) (λ x. ap (λ l. is_in l x) (strings_placed shared) ∙ sym (has-is_in (strings_of shared) x))
+    section_rows (strings_of shared) subjects (is_string_of (placed_of shared)) (λ x. ap (λ l. is_in l x) (strings_placed shared) ∙ sym (has-is_in (strings_of shared) x))
 
 -- an object that is shared or a subject
 pub other_rows : (shared subjects objects : Section)
-    → none_met (first_place (λ x. is_among (placed_of shared) x || is_among (placed_of subjects) x) (placed_of objects)) ≡ apart_at (strings_of shared ++ strings_of subjects) (section_of objects)
+    → none_met (first_place (λ x. is_string_of (placed_of shared) x || is_string_of (placed_of subjects) x) (placed_of objects)) ≡ apart_at (strings_of shared ++ strings_of subjects) (section_of objects)
 other_rows shared subjects objects =
-    section_rows (strings_of shared ++ strings_of subjects) objects (λ x. is_among (placed_of shared) x || is_among (placed_of subjects) x) (λ x.
-    ap (λ l. is_in l x || is_among (placed_of subjects) x) (strings_placed shared)
+    section_rows (strings_of shared ++ strings_of subjects) objects (λ x. is_string_of (placed_of shared) x || is_string_of (placed_of subjects) x) (λ x.
+    ap (λ l. is_in l x || is_string_of (placed_of subjects) x) (strings_placed shared)
     ∙ ap (λ l. is_in (strings_of shared) x || is_in l x) (strings_placed subjects)
     ∙ sym (is_in-append (strings_of shared) (strings_of subjects) x)
     ∙ sym (has-is_in (strings_of shared ++ strings_of subjects) x))

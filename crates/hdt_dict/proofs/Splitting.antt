@@ -3,9 +3,9 @@ use Rattle.std.proofs.Common.{◌≡◌, ℕ, List, Bool, not}
 use Rattle.std.specs.List.{Contains, filter}
 use Rattle.std.proofs.lemmas.List.Kept.{IsStrictlySortedBy-filter}
 use Rattle.hdt_dict.specs.Strings.{string_cmp, has, SameMembers, IsAscending}
-use Rattle.hdt_dict.specs.MembersLaws.{Contains-from_filter, Contains-filter}
-use Rattle.hdt_dict.specs.StringsLaws.{has-Contains, Contains-has}
-use Rattle.hdt_dict.specs.MergeLaws.{lacks, lacks-back}
+use Rattle.hdt_dict.specs.Laws.Members.{Contains-from_filter, Contains-filter}
+use Rattle.hdt_dict.specs.Laws.Strings.{has-Contains, Contains-has}
+use Rattle.hdt_dict.specs.Laws.Merge.{lacks, lacks-back}
 use Rattle.hdt_dict.specs.Split.{FourLists, IsSplit}
 
 -- what is left of an ascending list ascends

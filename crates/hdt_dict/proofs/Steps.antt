@@ -2,12 +2,12 @@
 use Rattle.std.proofs.Common.{◌≡◌, ℕ, ◌+◌, ◌≤◌, Bool, true, false, not, List, [], ◌∷◌, ◌++◌, length, Option, Some, None, refl, sym, ap, ◌∙◌, subst, arith, append-nil}
 use Rattle.std.specs.Prelude.{is_some}
 use Rattle.hdt_front.specs.declared.section.Section.{Section}
-use Rattle.hdt_front.specs.Agreeing.{agree_back}
+use Rattle.hdt_front.specs.Laws.Agreeing.{agree_back}
 use Rattle.hdt_front.specs.Searching.{agreed}
 use Rattle.hdt_front.specs.Strings.{strings_of}
 use Rattle.hdt_front.specs.Walking.{Placed, Way, strings, next_place, first_agreed, further, further_by}
 use Rattle.hdt_front.specs.Walks.{placed_of}
-use Rattle.hdt_front.specs.WalkLaws.{strings_placed}
+use Rattle.hdt_front.specs.Laws.Walk.{strings_placed}
 use Rattle.hdt_dict.specs.Walking.{Progress, stepped, stepped_by, next_number}
 
 pub starts : (s : Section) (rest : List (List ℕ)) → strings (placed_of s) ++ rest ≡ strings_of s ++ rest

@@ -4,9 +4,9 @@ use Rattle.std.specs.declared.cmp.Ordering.TheVariants.{Less, Equal, Greater}
 use Rattle.std.specs.Bool.{◌==◌}
 use Rattle.std.specs.Ordering.{ordering_index, is_eq}
 use Rattle.hdt_front.specs.Searching.{agreed}
-use Rattle.hdt_front.specs.Agreeing.{agree_back, all_agree, left_turns, right_turns}
-use Rattle.hdt_front.specs.Walking.{Placed, Ascends, first_string, next_agreed}
-use Rattle.hdt_dict.specs.Overlap.{is_among, not_less, Lies, Turns}
+use Rattle.hdt_front.specs.Laws.Agreeing.{agree_back, all_agree, left_turns, right_turns}
+use Rattle.hdt_front.specs.Walking.{Placed, PlacedAscend, first_string, next_agreed}
+use Rattle.hdt_dict.specs.Inside.Overlap.{is_string_of, not_less, Lies, Turns}
 use Rattle.hdt_dict.proofs.Overlaps.{reached}
 
 -- ---- the cursor moves on
@@ -58,5 +58,5 @@ tells Less b e = sym e
 tells Equal b e = sym e
 tells Greater b e = sym e
 
-pub is_met : (x : List ℕ) (v w : List Placed) (lie : Ordering × ℕ) (b : Bool) → Ascends v → Lies lie w x → w ≡ not_less x v → b ≡ (ordering_index lie.0 == 1) → is_among v x ≡ b
+pub is_met : (x : List ℕ) (v w : List Placed) (lie : Ordering × ℕ) (b : Bool) → PlacedAscend v → Lies lie w x → w ≡ not_less x v → b ≡ (ordering_index lie.0 == 1) → is_string_of v x ≡ b
 is_met x v w lie b a l left e = sym (reached x v w (is_eq lie.0) a (ap is_eq l.0) left) ∙ tells lie.0 b e

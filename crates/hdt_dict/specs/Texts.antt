@@ -4,6 +4,6 @@ use Rattle.std.specs.Str.{IsUtf8}
 use Rattle.hdt_wire.specs.Control.{HasNoZero}
 
 -- the string is UTF-8 and has no zero byte
-pub record IsText (string : List ℕ) : Type 0 where
+pub record IsDictionaryString (string : List ℕ) : Type 0 where
   pub utf8 : IsUtf8 string
   pub no_zero : HasNoZero string

@@ -1,11 +1,11 @@
 //! The rows after the four sections: no string stands in two of shared, subjects and objects.
 ghost use Rattle.std.specs.Prelude.{◌≡◌, ◌||◌, ◌++◌, IfOk};
 ghost use Rattle.hdt_wire.specs.Rows.{Gives};
-ghost use Rattle.hdt_front.specs.Faults.{fault_of};
+ghost use Rattle.hdt_front.specs.Faults.{read_fault_of};
 ghost use Rattle.hdt_front.specs.Strings.{strings_of, section_of};
 ghost use Rattle.hdt_front.specs.Walks.{placed_of};
 ghost use Rattle.hdt_dict.specs.Dictionary.{apart_at};
-ghost use Rattle.hdt_dict.specs.Overlap.{is_among, first_place, none_met};
+ghost use Rattle.hdt_dict.specs.Inside.Overlap.{is_string_of, first_place, none_met};
 
 use crate::overlap::{first_in, first_in_two};
 use hdt_front::{Cursor, ReadFault, Section};
@@ -31,7 +31,7 @@ fn shared_subject(
     shared: &Section<'_>,
     subjects: &Section<'_>,
 ) -> Result<Option<usize>, AllocError>
-    ensures { IfOk result (λ r. r ≡ first_place (is_among (placed_of shared.now)) (placed_of subjects.now)) }
+    ensures { IfOk result (λ r. r ≡ first_place (is_string_of (placed_of shared.now)) (placed_of subjects.now)) }
 {
     let mut list = Cursor::new(alloc, subjects)?;
     let mut other = Cursor::new(alloc, shared)?;
@@ -45,7 +45,7 @@ fn other_object(
     subjects: &Section<'_>,
     objects: &Section<'_>,
 ) -> Result<Option<usize>, AllocError>
-    ensures { IfOk result (λ r. r ≡ first_place (λ x. is_among (placed_of shared.now) x || is_among (placed_of subjects.now) x) (placed_of objects.now)) }
+    ensures { IfOk result (λ r. r ≡ first_place (λ x. is_string_of (placed_of shared.now) x || is_string_of (placed_of subjects.now) x) (placed_of objects.now)) }
 {
     let mut list = Cursor::new(alloc, objects)?;
     let mut one = Cursor::new(alloc, shared)?;
@@ -60,7 +60,7 @@ pub(crate) fn check_subjects(
     shared: &Section<'_>,
     subjects: &Section<'_>,
 ) -> Result<(), ReadFault>
-    ensures { Gives fault_of (λ x. x) result (apart_at (strings_of shared.now) (section_of subjects.now)) }
+    ensures { Gives read_fault_of (λ x. x) result (apart_at (strings_of shared.now) (section_of subjects.now)) }
 {
     match none_met(shared_subject(alloc, shared, subjects)?) {
         Ok(()) => Ok(()),
@@ -76,7 +76,7 @@ pub(crate) fn check_objects(
     subjects: &Section<'_>,
     objects: &Section<'_>,
 ) -> Result<(), ReadFault>
-    ensures { Gives fault_of (λ x. x) result (apart_at (strings_of shared.now ++ strings_of subjects.now) (section_of objects.now)) }
+    ensures { Gives read_fault_of (λ x. x) result (apart_at (strings_of shared.now ++ strings_of subjects.now) (section_of objects.now)) }
 {
     match none_met(other_object(alloc, shared, subjects, objects)?) {
         Ok(()) => Ok(()),

@@ -1,7 +1,7 @@
 //! An arena: byte strings, kept one after another in one vector.
 ghost use Rattle.std.specs.Prelude.{◌≡◌, ◌<◌, ◌≤◌, ◌++◌, ◌∷◌, [], ℕ, List, map, length, slice_index_or, IfOk, OnOk, OnErr};
 ghost use Rattle.std.specs.List.{slice_range};
-ghost use Rattle.hdt_dict.specs.Arena.{texts, AreStarts};
+ghost use Rattle.hdt_dict.specs.Arena.{arena_texts, AreTextStarts};
 
 use std::alloc::{AllocError, Global};
 use std::marker::Model;
@@ -32,9 +32,9 @@ fn part(bytes: &[u8], from: usize, end: usize) -> &[u8]
 impl Model for Arena {
     ghost Value = { List (List ℕ) };
 
-    ghost view = { λ s. texts s.bytes.items s.starts.items };
+    ghost view = { λ s. arena_texts s.bytes.items s.starts.items };
 
-    ghost invariant = { λ s. AreStarts s.bytes.items s.starts.items };
+    ghost invariant = { λ s. AreTextStarts s.bytes.items s.starts.items };
 }
 
 impl Arena {
@@ -52,8 +52,8 @@ impl Arena {
 
     /// An arena of bytes that were put one after another, with the place where each string begins and the last one ends.
     pub fn of(bytes: Vec<u8>, starts: Vec<usize>) -> Arena
-        requires { AreStarts bytes.items starts.items }
-        ensures { result ≡ texts bytes.items starts.items }
+        requires { AreTextStarts bytes.items starts.items }
+        ensures { result ≡ arena_texts bytes.items starts.items }
     {
         Arena { bytes, starts }
     }

@@ -3,12 +3,12 @@ ghost use Rattle.std.specs.Prelude.{◌≡◌, ◌<◌, ◌≤◌, ◌+◌, ◌-
 ghost use Rattle.hdt_wire.specs.Rows.{Gives};
 ghost use Rattle.hdt_wire.specs.declared.fault.Fault.{Fault as FaultIs};
 ghost use Rattle.hdt_front.specs.declared.fault.ReadFault.TheVariants.{Fault as FaultOf};
-ghost use Rattle.hdt_front.specs.Faults.{fault_of};
+ghost use Rattle.hdt_front.specs.Faults.{read_fault_of};
 ghost use Rattle.hdt_front.specs.Numbering.{place};
 ghost use Rattle.hdt_front.specs.Strings.{strings_of, section_of};
 ghost use Rattle.hdt_front.specs.Section.{AreStrings, string_place};
 ghost use Rattle.hdt_dict.specs.Dictionary.{AreApart, DictionaryParts, IsDictionary, terms, section_number, apart_at, dictionary_at, rows_above_strings};
-ghost use Rattle.hdt_dict.specs.Numbered.{numbered, Appends};
+ghost use Rattle.hdt_dict.specs.Numbered.{numbered, AppendsString};
 ghost use Rattle.hdt_wire.specs.declared.role.Role.{Role};
 
 use crate::apart::{check_objects, check_subjects};
@@ -51,7 +51,7 @@ impl<'a> Dictionary<'a> {
         bytes: &'a [u8],
         at: usize,
     ) -> Result<(Dictionary<'a>, usize), ReadFault>
-        ensures exact { Gives fault_of (λ r. dictionary_of r.0) result (dictionary_at bytes.now at) }
+        ensures exact { Gives read_fault_of (λ r. dictionary_of r.0) result (dictionary_at bytes.now at) }
         ensures without_memory { (f : FaultIs) → rows_above_strings bytes.now at ≡ Err f → result ≡ Err (FaultOf f) }
         ensures next { IfOk result (λ r. r.1 ≡ (dictionary_of r.0).objects.end) }
         ensures few { IfOk result (λ r. (role : Role) → length (terms (dictionary_of r.0) role) ≤ length bytes.now) }
@@ -89,9 +89,9 @@ impl<'a> Dictionary<'a> {
         // What is read stands there.
         ensures found { IfOk result (λ r. IsDictionary (dictionary_of r.0) bytes.now at) }
         // What stands there is read, unless memory ran out.
-        ensures only { (d : DictionaryParts) → IsDictionary d bytes.now at → Gives fault_of (λ r. dictionary_of r.0) result (Ok d) }
+        ensures only { (d : DictionaryParts) → IsDictionary d bytes.now at → Gives read_fault_of (λ r. dictionary_of r.0) result (Ok d) }
         // Otherwise it is the one fault that stands.
-        ensures exact { Gives fault_of (λ r. dictionary_of r.0) result (dictionary_at bytes.now at) }
+        ensures exact { Gives read_fault_of (λ r. dictionary_of r.0) result (dictionary_at bytes.now at) }
         // A fault that stands above all strings is answered without memory.
         ensures without_memory { (f : FaultIs) → rows_above_strings bytes.now at ≡ Err f → result ≡ Err (FaultOf f) }
         ensures next { IfOk result (λ r. r.1 ≡ (dictionary_of r.0).objects.end) }
@@ -184,7 +184,7 @@ impl<'a> Dictionary<'a> {
         out: &mut Vec<u8>,
         steps: &mut Steps,
     ) -> Result<bool, AllocError>
-        ensures ok { IfOk result (λ b. Appends (numbered (terms (dictionary_of self.now) role) n) b out.old.items out.new.items) }
+        ensures ok { IfOk result (λ b. AppendsString (numbered (terms (dictionary_of self.now) role) n) b out.old.items out.new.items) }
         ensures err { OnErr result (out.new.items ≡ out.old.items) }
         ensures cost { steps.new ≤ steps.old + role_block (dictionary_of self.now) role }
         ensures absent { numbered (terms (dictionary_of self.now) role) n ≡ None → IsOk result }

@@ -4,7 +4,7 @@ ghost use Rattle.hdt_wire.specs.Rows.{IsBytes, Stands};
 ghost use Rattle.hdt_wire.specs.Exact.{Exactly, OneValue, OneFault};
 ghost use Rattle.hdt_dict.specs.Dictionary.{DictionaryParts, IsDictionary, dictionary_at};
 ghost use Rattle.hdt_dict.specs.Split.{FourLists, IsSplit};
-ghost use Rattle.hdt_dict.specs.Texts.{IsText};
+ghost use Rattle.hdt_dict.specs.Texts.{IsDictionaryString};
 ghost use Rattle.hdt_dict.specs.Writing.{AreSections, canonical_dictionary, canonical_dictionary_parts};
 
 /// The rows of a dictionary answer exactly what stands at the place.
@@ -27,5 +27,5 @@ pub fn dictionary_is_read_again()
 /// The sections of strings that are UTF-8 without zero bytes are what a dictionary can hold.
 pub fn split_makes_sections()
     ensures { (subjects predicates objects : List (List ℕ)) (d : FourLists) → IsSplit subjects predicates objects d
-        → All IsText subjects → All IsText predicates → All IsText objects → AreSections d }
+        → All IsDictionaryString subjects → All IsDictionaryString predicates → All IsDictionaryString objects → AreSections d }
 {}

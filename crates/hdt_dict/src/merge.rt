@@ -3,7 +3,7 @@ ghost use Rattle.std.specs.Prelude.{◌≡◌, ◌⊎◌, ◌+◌, ◌<◌, ◌�
 ghost use Rattle.std.specs.declared.cmp.Ordering.TheVariants.{Less, Equal, Greater};
 ghost use Rattle.std.specs.List.{filter};
 ghost use Rattle.hdt_front.specs.Canonical.{lent_texts};
-ghost use Rattle.hdt_dict.specs.Merging.{ArePassed, IsFirstAlone, AreEqual};
+ghost use Rattle.hdt_dict.specs.Inside.Merging.{ArePassed, IsFirstAlone, AreEqual};
 ghost use Rattle.hdt_dict.specs.Strings.{IsAscending, has};
 
 use std::alloc::{AllocError, Global};

@@ -1,7 +1,7 @@
 //! Strings that stand in two sections, found by walking the sections side by side.
 ghost use Rattle.std.specs.Prelude.{◌≡◌, ◌||◌, List, Bool, ℕ, OnOk, IfOk};
-ghost use Rattle.hdt_dict.specs.Overlap.{is_among, first_place, not_less, Lies, Turns};
-ghost use Rattle.hdt_front.specs.Walking.{Ascends};
+ghost use Rattle.hdt_dict.specs.Inside.Overlap.{is_string_of, first_place, not_less, Lies, Turns};
+ghost use Rattle.hdt_front.specs.Walking.{PlacedAscend};
 
 use hdt_front::Cursor;
 use std::alloc::AllocError;
@@ -45,9 +45,9 @@ pub(crate) fn first_in(
     list: &mut Cursor<'_>,
     other: &mut Cursor<'_>,
 ) -> Result<Option<usize>, AllocError>
-    requires list { Ascends list.old }
-    requires other { Ascends other.old }
-    ensures { IfOk result (λ r. r ≡ first_place (is_among other.old) list.old) }
+    requires list { PlacedAscend list.old }
+    requires other { PlacedAscend other.old }
+    ensures { IfOk result (λ r. r ≡ first_place (is_string_of other.old) list.old) }
 {
     let mut kept = 0;
     let mut lie = (Ordering::Less, 0);
@@ -67,10 +67,10 @@ pub(crate) fn first_in_two(
     one: &mut Cursor<'_>,
     two: &mut Cursor<'_>,
 ) -> Result<Option<usize>, AllocError>
-    requires list { Ascends list.old }
-    requires one { Ascends one.old }
-    requires two { Ascends two.old }
-    ensures { IfOk result (λ r. r ≡ first_place (λ x. is_among one.old x || is_among two.old x) list.old) }
+    requires list { PlacedAscend list.old }
+    requires one { PlacedAscend one.old }
+    requires two { PlacedAscend two.old }
+    ensures { IfOk result (λ r. r ≡ first_place (λ x. is_string_of one.old x || is_string_of two.old x) list.old) }
 {
     let mut kept = 0;
     let mut first = (Ordering::Less, 0);

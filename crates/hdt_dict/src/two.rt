@@ -3,7 +3,7 @@ ghost use Rattle.std.specs.Prelude.{◌≡◌, ◌<◌, ◌≤◌, ◌+◌, ◌^
 ghost use Rattle.hdt_front.specs.Looks.{section_looks};
 ghost use Rattle.hdt_front.specs.Strings.{strings_of, section_of, block_size};
 ghost use Rattle.hdt_front.specs.Numbering.{place};
-ghost use Rattle.hdt_dict.specs.Numbered.{numbered, Appends};
+ghost use Rattle.hdt_dict.specs.Numbered.{numbered, AppendsString};
 ghost use Rattle.hdt_dict.specs.Views.{string_block, string_block_of_two, string_bytes, string_bytes_of_two};
 
 use hdt_front::Section;
@@ -38,7 +38,7 @@ pub(crate) fn string_in_one(
     out: &mut Vec<u8>,
     steps: &mut Steps,
 ) -> Result<bool, AllocError>
-    ensures ok { IfOk result (λ b. Appends (numbered (strings_of section.now) n) b out.old.items out.new.items) }
+    ensures ok { IfOk result (λ b. AppendsString (numbered (strings_of section.now) n) b out.old.items out.new.items) }
     ensures err { OnErr result (out.new.items ≡ out.old.items) }
     ensures cost { steps.new ≤ steps.old + block_size section.now }
     ensures absent { numbered (strings_of section.now) n ≡ None → IsOk result }
@@ -59,7 +59,7 @@ pub(crate) fn string_in_two(
     out: &mut Vec<u8>,
     steps: &mut Steps,
 ) -> Result<bool, AllocError>
-    ensures ok { IfOk result (λ b. Appends (numbered (strings_of first.now ++ strings_of second.now) n) b out.old.items out.new.items) }
+    ensures ok { IfOk result (λ b. AppendsString (numbered (strings_of first.now ++ strings_of second.now) n) b out.old.items out.new.items) }
     ensures err { OnErr result (out.new.items ≡ out.old.items) }
     ensures cost { steps.new ≤ steps.old + max (block_size first.now) (block_size second.now) }
     ensures absent { numbered (strings_of first.now ++ strings_of second.now) n ≡ None → IsOk result }

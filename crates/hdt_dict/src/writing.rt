@@ -11,7 +11,7 @@ use hdt_wire::{Kind, put_control};
 use std::alloc::{AllocError, Global};
 
 /// Appends a dictionary; an `Err` may leave a beginning of it behind.
-#[tactic(auto, using(crate::specs::WritingLaws::mapping_no_zero), unfolding(crate::specs::Writing::canonical_dictionary, crate::specs::Split::lent_lists_of))]
+#[tactic(auto, using(crate::specs::Laws::Writing::mapping_no_zero), unfolding(crate::specs::Writing::canonical_dictionary, crate::specs::Split::lent_lists_of))]
 fn append_dictionary(
     alloc: Global,
     parts: &LentParts<'_>,
@@ -82,7 +82,7 @@ pub fn put_dictionary(
 }
 
 /// Appends a dictionary of sections in work; an `Err` may leave a beginning of it behind.
-#[tactic(auto, using(crate::specs::WritingLaws::mapping_no_zero))]
+#[tactic(auto, using(crate::specs::Laws::Writing::mapping_no_zero))]
 fn append_written(
     shared: SectionWriter,
     subjects: SectionWriter,

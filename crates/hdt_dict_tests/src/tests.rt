@@ -2,7 +2,7 @@
 //! computed by a program of its own.
 ghost use Rattle.std.specs.Prelude.{◌≡◌, ◌≤◌, IsTrue, IfOk, All};
 ghost use Rattle.hdt_front.specs.Canonical.{texts, lent_texts};
-ghost use Rattle.hdt_dict.specs.Texts.{IsText};
+ghost use Rattle.hdt_dict.specs.Texts.{IsDictionaryString};
 
 use hdt_dict::*;
 use hdt_front::ReadFault;
@@ -516,14 +516,14 @@ fn many_strings(rt: HostRuntime) -> Result<(), Fail> {
 
 /// Whether the bytes are UTF-8 without a zero byte.
 fn is_text(bytes: &[u8]) -> bool
-    ensures { IsTrue result → IsText bytes.now }
+    ensures { IsTrue result → IsDictionaryString bytes.now }
 {
     std::str::from_utf8(bytes).is_ok() && !bytes.contains(&0)
 }
 
 /// Whether all of them are.
 pub(crate) fn are_texts(list: &[&[u8]]) -> bool
-    ensures { IsTrue result → All IsText (lent_texts list.now) }
+    ensures { IsTrue result → All IsDictionaryString (lent_texts list.now) }
 {
     for text in list {
         if !is_text(*text) {
@@ -617,7 +617,7 @@ fn lend<'a>(alloc: Global, list: &'a [Vec<u8>]) -> Result<Vec<&'a [u8]>, AllocEr
 
 /// Whether all vectors hold UTF-8 without a zero byte.
 fn hold_texts(alloc: Global, list: &[Vec<u8>]) -> Result<bool, AllocError>
-    ensures { IfOk result (λ held. IsTrue held → All IsText (texts list.now)) }
+    ensures { IfOk result (λ held. IsTrue held → All IsDictionaryString (texts list.now)) }
 {
     let slices = lend(alloc, list)?;
     Ok(are_texts(slices.as_slice()))

@@ -21,7 +21,7 @@ use Rattle.hdt_triples.specs.Counting.{Triple}
 use Rattle.hdt_triples.specs.Order.{TripleLess, AreAscending, IsFrom1, IsInRange}
 use Rattle.hdt_triples.specs.Patterns.{admits, agrees, matches}
 use Rattle.hdt_triples.specs.declared.pattern.Pattern.{Pattern}
-use Rattle.hdt_file.specs.Denoted.{StringTriple, string_of, strings_of, denoted}
+use Rattle.hdt_file.specs.Denoted.{StringTriple, string_of, strings_for, denoted}
 use Rattle.hdt_file.specs.File.{GraphParts}
 use Rattle.hdt_file.specs.Graph.{IsGraph, counts_of}
 use Rattle.hdt_file.specs.Search.{IsPart, IsPattern, part_given}
@@ -151,7 +151,7 @@ is_part xs (Some x) n within h = has_string xs n within ∙ ap Some (sym ((bytes
 in_role : (g : GraphParts) (t : Triple) → IsInRange (counts_of g.dictionary) t → IsFrom1 t.0 (length (strings_in g Subject)) × IsFrom1 t.1 (length (strings_in g Predicate)) × IsFrom1 t.2 (length (strings_in g Object))
 in_role g t range = range
 
-triple_agrees : (g : GraphParts) → IsGraph g → (given : List (Option Lent)) (p : Pattern) → IsPattern g given p → (t : Triple) → IsInRange (counts_of g.dictionary) t → agrees p t ≡ is_wanted given (strings_of g t)
+triple_agrees : (g : GraphParts) → IsGraph g → (given : List (Option Lent)) (p : Pattern) → IsPattern g given p → (t : Triple) → IsInRange (counts_of g.dictionary) t → agrees p t ≡ is_wanted given (strings_for g t)
 triple_agrees g is given p wants t range =
     let s = part_agrees (strings_in g Subject) (role_once g is Subject) (part_given given 0) p.s t.0 wants.subject range.0 in
     let q = part_agrees (strings_in g Predicate) (role_once g is Predicate) (part_given given 1) p.p t.1 wants.predicate range.1 in
@@ -185,7 +185,7 @@ module _ {X Y : Type 0} (f : X → Y) (p : X → Bool) (q : Y → Bool) where
 pub matches_denoted : (g : GraphParts) (given : List (Option Lent)) (p : Pattern) → IsGraph g → IsPattern g given p → denoted g (matches p g.triples) ≡ filter (is_wanted given) (denoted g g.triples)
 unfolding matches
 matches_denoted g given p is wants =
-    map-filter (strings_of g) (agrees p) (is_wanted given) g.triples (λ t i h. triple_agrees g is given p wants t (in_range g is t i h))
+    map-filter (strings_for g) (agrees p) (is_wanted given) g.triples (λ t i h. triple_agrees g is given p wants t (in_range g is t i h))
 
 false_is : (b : Bool) → (b ≡ true → ⊥) → b ≡ false
 false_is true h = absurd (h refl)
@@ -202,7 +202,7 @@ and_right false b h = absurd (cc)
 pattern_for : List (Option Lent) → Triple → Pattern
 pattern_for given t = record { s = number_for (part_given given 0) t.0; p = number_for (part_given given 1) t.1; o = number_for (part_given given 2) t.2 }
 
-is_pattern : (g : GraphParts) (given : List (Option Lent)) (t : Triple) → IsInRange (counts_of g.dictionary) t → is_wanted given (strings_of g t) ≡ true → IsPattern g given (pattern_for given t)
+is_pattern : (g : GraphParts) (given : List (Option Lent)) (t : Triple) → IsInRange (counts_of g.dictionary) t → is_wanted given (strings_for g t) ≡ true → IsPattern g given (pattern_for given t)
 unfolding pattern_for
 is_pattern g given t range h =
     let s = admits_string (part_given given 0) (string_of g Subject t.0) in
@@ -217,8 +217,8 @@ is_pattern g given t range h =
 
 pub none_denoted : (g : GraphParts) (given : List (Option Lent)) → IsGraph g → ((p : Pattern) → IsPattern g given p → ⊥) → filter (is_wanted given) (denoted g g.triples) ≡ []
 none_denoted g given is none =
-    filter_none (strings_of g) (λ _. true) (is_wanted given) g.triples
-    (λ t i h. false_is (is_wanted given (strings_of g t)) (λ has. none (pattern_for given t) (is_pattern g given t (in_range g is t i h) has)))
+    filter_none (strings_for g) (λ _. true) (is_wanted given) g.triples
+    (λ t i h. false_is (is_wanted given (strings_for g t)) (λ has. none (pattern_for given t) (is_pattern g given t (in_range g is t i h) has)))
 
 -- ---- no string triple stands twice
 
@@ -249,7 +249,7 @@ same_number xs once m n hm hn same =
 triple_is : (t u : Triple) → t.0 ≡ u.0 → t.1 ≡ u.1 → t.2 ≡ u.2 → t ≡ u
 triple_is (a, b, c) (d, e, f) s p o = cc
 
-same_triple : (g : GraphParts) → IsGraph g → (t u : Triple) → IsInRange (counts_of g.dictionary) t → IsInRange (counts_of g.dictionary) u → strings_of g t ≡ strings_of g u → t ≡ u
+same_triple : (g : GraphParts) → IsGraph g → (t u : Triple) → IsInRange (counts_of g.dictionary) t → IsInRange (counts_of g.dictionary) u → strings_for g t ≡ strings_for g u → t ≡ u
 same_triple g is t u ht hu same =
     let s = same_number (strings_in g Subject) (role_once g is Subject) t.0 u.0 ht.0 hu.0 (ap (λ (x : StringTriple). x.0) same) in
     let p = same_number (strings_in g Predicate) (role_once g is Predicate) t.1 u.1 ht.1 hu.1 (ap (λ (x : StringTriple). x.1) same) in
@@ -257,9 +257,9 @@ same_triple g is t u ht hu same =
     triple_is t u s p o
 
 -- what stands at a place of a mapped list is of what stands there
-mapped : (g : GraphParts) (ts : List Triple) (i : ℕ) (x : StringTriple) → slice_get (denoted g ts) i ≡ Some x → (t : Triple) × (slice_get ts i ≡ Some t) × (strings_of g t ≡ x)
+mapped : (g : GraphParts) (ts : List Triple) (i : ℕ) (x : StringTriple) → slice_get (denoted g ts) i ≡ Some x → (t : Triple) × (slice_get ts i ≡ Some t) × (strings_for g t ≡ x)
 mapped g [] i x h = absurd (cc)
-mapped g (t ∷ ts) zero x h = (t, refl, some_is (strings_of g t) x h)
+mapped g (t ∷ ts) zero x h = (t, refl, some_is (strings_for g t) x h)
 mapped g (t ∷ ts) (suc i) x h = mapped g ts i x h
 
 strings_once : (g : GraphParts) → IsGraph g → StandOnce (denoted g g.triples)

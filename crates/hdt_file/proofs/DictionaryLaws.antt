@@ -1,11 +1,11 @@
 -- The rows of the front of a file are exact: what they answer stands there, and what stands there they answer.
 use Rattle.std.proofs.Common.{ℕ, ◌^◌, ◌<◌, List, length, refl}
 use Rattle.hdt_wire.specs.Rows.{IsBytes}
-use Rattle.hdt_wire.specs.RowLaws.{bound}
+use Rattle.hdt_wire.specs.Laws.Row.{bound}
 use Rattle.hdt_wire.specs.Exact.{Exactly}
-use Rattle.hdt_wire.specs.ExactLaws.{answered}
+use Rattle.hdt_wire.specs.Laws.Exact.{answered}
 use Rattle.hdt_dict.specs.Dictionary.{dictionary_at}
-use Rattle.hdt_dict.specs.DictionaryLaws.{dictionary_exact}
+use Rattle.hdt_dict.specs.Laws.Dictionary.{dictionary_exact}
 use Rattle.hdt_file.specs.Head.{head_at_start, IsHead}
 use Rattle.hdt_file.proofs.HeadLaws.{head_found, head_only}
 use Rattle.hdt_file.specs.Dictionary.{HeadAndDictionary, IsHeadAndDictionary, dictionary_after_head}

@@ -8,7 +8,7 @@ use Rattle.std.proofs.lemmas.Str.Ascii.{IsAscii-nil, IsAscii-cons}
 use Rattle.hdt_terms.specs.declared.term.Term.{Term}
 use Rattle.hdt_terms.specs.declared.triple.Triple.{Triple}
 use Rattle.hdt_terms.specs.Chars.{is_end}
-use Rattle.hdt_terms.specs.Lines.{NoEnd, SpelledTriple, EndedLines, triples_of, Document}
+use Rattle.hdt_terms.specs.Lines.{NoEnd, SpelledTriple, EndedLines, triples_of_lines, Document}
 use Rattle.hdt_terms.specs.Spelling.{Spelled}
 use Rattle.hdt_terms.specs.Terms.{IsGrammarTerm}
 use Rattle.hdt_terms.specs.Writing.{written}
@@ -82,7 +82,7 @@ module _ (spelled : (term : Term) → IsGrammarTerm term → Spelled (written te
       let w = body_within t h.0 in
       (body t, 10, flat_map line ts, line_cut t (flat_map line ts), refl, w.1, (w.0, triple_spelled x t each.0 h.0), lines_are xs ts each.1 h.1)
 
-  triples_are : (triples : List Triple) → triples ≡ triples_of (map Some triples ++ None ∷ [])
+  triples_are : (triples : List Triple) → triples ≡ triples_of_lines (map Some triples ++ None ∷ [])
   triples_are [] = refl
   triples_are (t ∷ ts) = ap (λ (more : List Triple). t ∷ more) (triples_are ts)
 

@@ -4,11 +4,11 @@ use Rattle.std.proofs.lemmas.Bool.{eqb-true}
 use Rattle.std.proofs.lemmas.Bool.Decides.{Decides-eqb}
 use Rattle.hdt_wire.specs.declared.fault.Reason.TheVariants.{TrailingBytes}
 use Rattle.hdt_wire.specs.Rows.{IsBytes}
-use Rattle.hdt_wire.specs.RowLaws.{bound, held}
+use Rattle.hdt_wire.specs.Laws.Row.{bound, held}
 use Rattle.hdt_wire.specs.Exact.{Exactly, OneValue, OneFault}
-use Rattle.hdt_wire.specs.ExactLaws.{ok_is, answered, one_value, value_or_fault}
+use Rattle.hdt_wire.specs.Laws.Exact.{ok_is, answered, one_value, value_or_fault}
 use Rattle.hdt_triples.specs.Triples.{triples_at}
-use Rattle.hdt_triples.specs.TriplesLaws.{triples_exact}
+use Rattle.hdt_triples.specs.Laws.Triples.{triples_exact}
 use Rattle.hdt_file.specs.Dictionary.{HeadAndDictionary, dictionary_after_head}
 use Rattle.hdt_file.proofs.DictionaryLaws.{front_exact}
 use Rattle.hdt_file.specs.File.{FileParts, IsFile, counts_in, file_at_start, GraphParts, graph_of, IsLayout, graph_in}

@@ -1,7 +1,7 @@
 -- A layout is of a graph: ascending, disjoint sections, and an ascending triple list in range.
 use Rattle.std.proofs.Common.{ℕ, List, subst, arith}
-use Rattle.hdt_triples.specs.CountingLaws.{length-triples}
-use Rattle.hdt_triples.specs.OrderLaws.{triples_ascend, triples_in_range}
+use Rattle.hdt_triples.specs.Laws.Counting.{length-triples}
+use Rattle.hdt_triples.specs.Laws.Order.{triples_ascend, triples_in_range}
 use Rattle.hdt_triples.specs.Triples.{bitmap_of}
 use Rattle.hdt_file.specs.File.{FileParts, IsFile, counts_in, GraphParts, graph_of, IsLayout}
 use Rattle.hdt_file.specs.Graph.{IsGraph}

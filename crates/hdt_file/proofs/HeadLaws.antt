@@ -6,9 +6,9 @@ use Rattle.hdt_wire.specs.declared.fault.Fault.{Fault}
 use Rattle.hdt_wire.specs.declared.control.Kind.{Kind}
 use Rattle.hdt_wire.specs.declared.control.Kind.TheVariants.{Global, Header}
 use Rattle.hdt_wire.specs.Rows.{bytes_at, IsBytes}
-use Rattle.hdt_wire.specs.RowLaws.{bound, bytes_found, bytes_only}
+use Rattle.hdt_wire.specs.Laws.Row.{bound, bytes_found, bytes_only}
 use Rattle.hdt_wire.specs.Control.{Block, IsBlock, block_at, control_at, format_text}
-use Rattle.hdt_wire.specs.ControlLaws.{control_found, control_only, stands_fits}
+use Rattle.hdt_wire.specs.Laws.Control.{control_found, control_only, stands_fits}
 use Rattle.hdt_wire.specs.Property.{property_value}
 use Rattle.hdt_file.specs.Decimal.{Decimal, decimal_number}
 use Rattle.hdt_file.proofs.DecimalLaws.{decimal_found, decimal_only}

@@ -2,8 +2,8 @@
 use Rattle.std.proofs.Common.{◌≡◌, ℕ, zero, suc, ◌+◌, ◌<◌, ◌≤◌, Bool, true, List, [], ◌∷◌, ◌++◌, length, map, set, get_or, take, drop, Option, Some, refl, sym, ap, ◌∙◌, append_assoc, append-nil, subst, inl, inr, arith}
 use Rattle.std.specs.Option.{unwrap_or}
 use Rattle.std.proofs.lemmas.List.{get_or-drop, get_or-map, get_or-take, length-append, length-drop, length-map, length-take}
-use Rattle.hdt_dict.specs.Arena.{AreStarts, texts}
-use Rattle.hdt_dict.specs.ArenaLaws.{none, none_starts, starts_push, texts_push}
+use Rattle.hdt_dict.specs.Arena.{AreTextStarts, arena_texts}
+use Rattle.hdt_dict.specs.Laws.Arena.{none, none_starts, starts_push, texts_push}
 use Rattle.hdt_dict.specs.Numbered.{numbered}
 use Rattle.hdt_dict.specs.Walking.{Progress, stepped_by, next_number}
 use Rattle.hdt_wire.specs.declared.role.Role.{Role}
@@ -15,8 +15,8 @@ use Rattle.hdt_terms.specs.Writing.{written}
 use Rattle.hdt_triples.specs.Counting.{Triple}
 use Rattle.hdt_file.specs.File.{GraphParts}
 use Rattle.hdt_triples.specs.Uses.{part}
-use Rattle.hdt_file.specs.Denoted.{string_of, strings_of}
-use Rattle.hdt_file.specs.Pieces.{behind, is_marked, IsPiece, ArePieces, ArePiecesFor, AreTables, AppendsPiece, GrowsByMarked, GrowsByPiece, HasPieces, piece_in, piece_of}
+use Rattle.hdt_file.specs.Denoted.{string_of, strings_for}
+use Rattle.hdt_file.specs.Inside.Pieces.{behind, is_marked, IsLinePiece, AreLinePieces, ArePiecesFor, AreTables, AppendsPiece, GrowsByMarked, GrowsByPiece, HasPieces, piece_in, line_piece}
 use Rattle.hdt_file.specs.Text.{HasTerm, HasNoTerm, IsBefore, IsFirstOf}
 use Rattle.hdt_file.specs.TextWriting.{AppendsTerm, AppendsLine, TellsString, TellsFirstOf}
 use Rattle.hdt_file.specs.declared.fault.DumpFault.{DumpFault}
@@ -39,14 +39,14 @@ some_behind Predicate e = absurd (omega (arith, e))
 some_behind Object e = absurd (omega (arith, e))
 
 -- a piece of no bytes is that of a string that is no term
-pub no_term : (role : Role) (string piece : List ℕ) → length piece ≡ 0 → IsPiece role string piece → HasNoTerm role string
+pub no_term : (role : Role) (string piece : List ℕ) → length piece ≡ 0 → IsLinePiece role string piece → HasNoTerm role string
 no_term role string piece e (inl h) = absurd (some_behind role (omega (arith, e, ap length h.2, length-append (written h.0) (behind role))))
 no_term role string piece e (inr h) = h.1
 
 -- what is written of a term, and what follows it, is its piece
 pub term_grown : (role : Role) (string old with_term new : List ℕ) → AppendsTerm role string old with_term → new ≡ with_term ++ behind role → GrowsByPiece role string old new
 term_grown role string old with_term new h e = record {
-  piece = piece_of role h.term;
+  piece = line_piece role h.term;
   is = inl (h.term, h.is, refl);
   grown = e ∙ ap (λ (x : List ℕ). x ++ behind role) h.grown ∙ append_assoc old (written h.term) (behind role);
 }
@@ -59,21 +59,21 @@ none_grown role string old new h e = record {
 }
 
 -- a piece of some bytes is that of a term
-pub piece_appended : (role : Role) (string piece old new : List ℕ) → (length piece ≡ 0 → ⊥) → IsPiece role string piece → new ≡ old ++ piece → AppendsPiece role string old new
+pub piece_appended : (role : Role) (string piece old new : List ℕ) → (length piece ≡ 0 → ⊥) → IsLinePiece role string piece → new ≡ old ++ piece → AppendsPiece role string old new
 piece_appended role string piece old new some (inl h) e = record { term = h.0; is = h.1; grown = e ∙ ap (λ (x : List ℕ). old ++ x) h.2 }
 piece_appended role string piece old new some (inr h) e = absurd (some (ap length h.0))
 
 -- the piece of string n, where its number is marked; the numbers of the strings go on from m
-at_from : (role : Role) (marks : List Bool) (m : ℕ) (strings pieces : List (List ℕ)) (i : ℕ) → ArePieces role marks m strings pieces → is_marked marks (m + i) ≡ true
-    → IsPiece role (unwrap_or (numbered strings (suc i)) []) (piece_in pieces (suc i))
+at_from : (role : Role) (marks : List Bool) (m : ℕ) (strings pieces : List (List ℕ)) (i : ℕ) → AreLinePieces role marks m strings pieces → is_marked marks (m + i) ≡ true
+    → IsLinePiece role (unwrap_or (numbered strings (suc i)) []) (piece_in pieces (suc i))
 at_from role marks m [] [] i h marked = inr (refl, empty_none role)
 at_from role marks m [] (y ∷ ys) i h marked = absurd h
 at_from role marks m (x ∷ xs) [] i h marked = absurd h
 at_from role marks m (x ∷ xs) (y ∷ ys) zero h marked = let here : m + 0 ≡ m = omega arith in h.0 (subst (λ k. is_marked marks k ≡ true) here marked)
 at_from role marks m (x ∷ xs) (y ∷ ys) (suc i) h marked = let next : m + suc i ≡ m + 1 + i = omega arith in at_from role marks (m + 1) xs ys i h.1 (subst (λ k. is_marked marks k ≡ true) next marked)
 
-pub at : (role : Role) (marks : List Bool) (strings pieces : List (List ℕ)) (n : ℕ) → ArePieces role marks 1 strings pieces → is_marked marks n ≡ true
-    → IsPiece role (unwrap_or (numbered strings n) []) (piece_in pieces n)
+pub at : (role : Role) (marks : List Bool) (strings pieces : List (List ℕ)) (n : ℕ) → AreLinePieces role marks 1 strings pieces → is_marked marks n ≡ true
+    → IsLinePiece role (unwrap_or (numbered strings n) []) (piece_in pieces n)
 at role marks strings pieces zero h marked = inr (refl, empty_none role)
 at role marks strings pieces (suc i) h marked = let next : suc i ≡ 1 + i = omega arith in at_from role marks 1 strings pieces i h (subst (λ k. is_marked marks k ≡ true) next marked)
 
@@ -85,12 +85,12 @@ piece_taken : (g : GraphParts) (role : Role) (ts : List Triple) (pieces : List (
 piece_taken g role ts pieces n h i below =
     let inside : i < length ts = omega (arith, below, length-take n ts) in
     let first : i < n = omega (arith, below, length-take n ts) in
-    subst (λ (t : Triple). IsPiece role (string_of g role (part role t)) (piece_in pieces (part role t))) (sym (get_or-take n ts i (0, 0, 0) first)) (h i inside)
+    subst (λ (t : Triple). IsLinePiece role (string_of g role (part role t)) (piece_in pieces (part role t))) (sym (get_or-take n ts i (0, 0, 0) first)) (h i inside)
 
 piece_behind : (g : GraphParts) (role : Role) (ts : List Triple) (pieces : List (List ℕ)) (n : ℕ) → ArePiecesFor g role ts pieces → ArePiecesFor g role (drop n ts) pieces
 piece_behind g role ts pieces n h i below =
     let inside : n + i < length ts = omega (arith, below, length-drop n ts) in
-    subst (λ (t : Triple). IsPiece role (string_of g role (part role t)) (piece_in pieces (part role t))) (sym (get_or-drop n ts i (0, 0, 0))) (h (n + i) inside)
+    subst (λ (t : Triple). IsLinePiece role (string_of g role (part role t)) (piece_in pieces (part role t))) (sym (get_or-drop n ts i (0, 0, 0))) (h (n + i) inside)
 
 pub pieces_taken : (g : GraphParts) (ts : List Triple) (tables : Tables) (n : ℕ) → AreTables g ts tables → AreTables g (take n ts) tables
 pieces_taken g ts tables n h = record {
@@ -106,8 +106,8 @@ pieces_behind g ts tables n h = record {
   objects = piece_behind g Object ts tables.objects n h.objects;
 }
 
-pub stands : (role : Role) (string p q : List ℕ) → p ≡ q → IsPiece role string q → IsPiece role string p
-stands role string p q e h = subst (IsPiece role string) (sym e) h
+pub stands : (role : Role) (string p q : List ℕ) → p ≡ q → IsLinePiece role string q → IsLinePiece role string p
+stands role string p q e h = subst (IsLinePiece role string) (sym e) h
 
 -- ---- marks
 
@@ -163,9 +163,9 @@ line_made g t old a b new one two three =
 -- ---- the first string that is no term
 
 pub subject_told : (g : GraphParts) (t : Triple) (e : DumpFault) → TellsString Subject t.0 (string_of g Subject t.0) e → TellsFirstOf g t e
-subject_told g t (NotATerm role n) h = subst (λ (r : Role). IsFirstOf (strings_of g t) r × (n ≡ part r t)) (sym h.0) (record { none = h.2; earlier = earlier }, h.1)
+subject_told g t (NotATerm role n) h = subst (λ (r : Role). IsFirstOf (strings_for g t) r × (n ≡ part r t)) (sym h.0) (record { none = h.2; earlier = earlier }, h.1)
   where
-    earlier : (other : Role) → IsBefore other Subject → HasTerm other (part other (strings_of g t))
+    earlier : (other : Role) → IsBefore other Subject → HasTerm other (part other (strings_for g t))
     earlier Subject before = absurd before
     earlier Predicate before = absurd before
     earlier Object before = absurd before
@@ -174,9 +174,9 @@ subject_told g t OutOfMemory h = tt
 
 pub predicate_told : (g : GraphParts) (t : Triple) (old new : List ℕ) (e : DumpFault) → AppendsPiece Subject (string_of g Subject t.0) old new
     → TellsString Predicate t.1 (string_of g Predicate t.1) e → TellsFirstOf g t e
-predicate_told g t old new (NotATerm role n) s h = subst (λ (r : Role). IsFirstOf (strings_of g t) r × (n ≡ part r t)) (sym h.0) (record { none = h.2; earlier = earlier }, h.1)
+predicate_told g t old new (NotATerm role n) s h = subst (λ (r : Role). IsFirstOf (strings_for g t) r × (n ≡ part r t)) (sym h.0) (record { none = h.2; earlier = earlier }, h.1)
   where
-    earlier : (other : Role) → IsBefore other Predicate → HasTerm other (part other (strings_of g t))
+    earlier : (other : Role) → IsBefore other Predicate → HasTerm other (part other (strings_for g t))
     earlier Subject before = (s.term, s.is)
     earlier Predicate before = absurd before
     earlier Object before = absurd before
@@ -185,9 +185,9 @@ predicate_told g t old new OutOfMemory s h = tt
 
 pub object_told : (g : GraphParts) (t : Triple) (a b c d : List ℕ) (e : DumpFault) → AppendsPiece Subject (string_of g Subject t.0) a b → AppendsPiece Predicate (string_of g Predicate t.1) c d
     → TellsString Object t.2 (string_of g Object t.2) e → TellsFirstOf g t e
-object_told g t a b c d (NotATerm role n) s p h = subst (λ (r : Role). IsFirstOf (strings_of g t) r × (n ≡ part r t)) (sym h.0) (record { none = h.2; earlier = earlier }, h.1)
+object_told g t a b c d (NotATerm role n) s p h = subst (λ (r : Role). IsFirstOf (strings_for g t) r × (n ≡ part r t)) (sym h.0) (record { none = h.2; earlier = earlier }, h.1)
   where
-    earlier : (other : Role) → IsBefore other Object → HasTerm other (part other (strings_of g t))
+    earlier : (other : Role) → IsBefore other Object → HasTerm other (part other (strings_for g t))
     earlier Subject before = (s.term, s.is)
     earlier Predicate before = (p.term, p.is)
     earlier Object before = absurd before
@@ -198,31 +198,31 @@ object_told g t a b c d OutOfMemory s p h = tt
 
 -- whatever pieces the strings ahead have, whose numbers go on from n, behind those that were made they are those of all
 abbrev pub GoOn : Role → List Bool → List (List ℕ) → ℕ → List (List ℕ) → List (List ℕ) → Type 0
-GoOn role marks all n ahead made = (more : List (List ℕ)) → ArePieces role marks n ahead more → ArePieces role marks 1 all (made ++ more)
+GoOn role marks all n ahead made = (more : List (List ℕ)) → AreLinePieces role marks n ahead more → AreLinePieces role marks 1 all (made ++ more)
 
 -- bytes, and where the pieces among them begin, up to the strings ahead
 pub record PiecesTo (role : Role) (marks : List Bool) (all : List (List ℕ)) (n : ℕ) (ahead : List (List ℕ)) (bytes starts : List ℕ) : Type 0 where
-  pub are : AreStarts bytes starts
-  pub go_on : GoOn role marks all n ahead (texts bytes starts)
+  pub are : AreTextStarts bytes starts
+  pub go_on : GoOn role marks all n ahead (arena_texts bytes starts)
 
 pub begins : (role : Role) (marks : List Bool) (all : List (List ℕ)) → PiecesTo role marks all 1 all [] (0 ∷ [])
-begins role marks all = record { are = none_starts; go_on = λ more are. subst (λ (made : List (List ℕ)). ArePieces role marks 1 all (made ++ more)) (sym none) are }
+begins role marks all = record { are = none_starts; go_on = λ more are. subst (λ (made : List (List ℕ)). AreLinePieces role marks 1 all (made ++ more)) (sym none) are }
 
 pub one_more : (role : Role) (marks : List Bool) (all xs : List (List ℕ)) (n : ℕ) (x bytes starts new : List ℕ) (end : ℕ) → PiecesTo role marks all n (x ∷ xs) bytes starts
     → GrowsByMarked (is_marked marks n) role x bytes new → end ≡ length new → PiecesTo role marks all (n + 1) xs new (starts ++ end ∷ [])
 one_more role marks all xs n x bytes starts new end h grows long =
     let piece = grows.piece in
     let wide : end ≡ length bytes + length piece = long ∙ ap length grows.grown ∙ length-append bytes piece in
-    let made : texts new (starts ++ end ∷ []) ≡ texts bytes starts ++ piece ∷ [] =
-    ap (λ (b : List ℕ). texts b (starts ++ end ∷ [])) grows.grown ∙ texts_push bytes starts piece end h.are wide in
+    let made : arena_texts new (starts ++ end ∷ []) ≡ arena_texts bytes starts ++ piece ∷ [] =
+    ap (λ (b : List ℕ). arena_texts b (starts ++ end ∷ [])) grows.grown ∙ texts_push bytes starts piece end h.are wide in
     record {
-      are = subst (λ (b : List ℕ). AreStarts b (starts ++ end ∷ [])) (sym grows.grown) (starts_push bytes starts piece end h.are wide);
-      go_on = λ more are. subst (λ (m : List (List ℕ)). ArePieces role marks 1 all (m ++ more)) (sym made)
-          (subst (ArePieces role marks 1 all) (sym (append_assoc (texts bytes starts) (piece ∷ []) more)) (h.go_on (piece ∷ more) (grows.is, are)));
+      are = subst (λ (b : List ℕ). AreTextStarts b (starts ++ end ∷ [])) (sym grows.grown) (starts_push bytes starts piece end h.are wide);
+      go_on = λ more are. subst (λ (m : List (List ℕ)). AreLinePieces role marks 1 all (m ++ more)) (sym made)
+          (subst (AreLinePieces role marks 1 all) (sym (append_assoc (arena_texts bytes starts) (piece ∷ []) more)) (h.go_on (piece ∷ more) (grows.is, are)));
     }
 
-pub all_made : (role : Role) (marks : List Bool) (all : List (List ℕ)) (n : ℕ) (made : List (List ℕ)) → GoOn role marks all n [] made → ArePieces role marks 1 all made
-all_made role marks all n made h = subst (ArePieces role marks 1 all) (append-nil made) (h [] tt)
+pub all_made : (role : Role) (marks : List Bool) (all : List (List ℕ)) (n : ℕ) (made : List (List ℕ)) → GoOn role marks all n [] made → AreLinePieces role marks 1 all made
+all_made role marks all n made h = subst (AreLinePieces role marks 1 all) (append-nil made) (h [] tt)
 
 -- where a walk gives a string, it stands ahead, and its number is the next one; where it gives none, nothing is ahead
 pub given : (w new : Progress) (k : ℕ) (xs : List (List ℕ)) → next_number w xs ≡ Some k → new ≡ stepped_by w xs → xs ≡ new.last ∷ new.ahead

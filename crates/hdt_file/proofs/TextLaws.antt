@@ -8,7 +8,7 @@ use Rattle.hdt_wire.specs.declared.role.Role.{Role}
 use Rattle.hdt_wire.specs.declared.role.Role.TheVariants.{Subject, Predicate, Object}
 use Rattle.hdt_file.specs.File.{GraphParts}
 use Rattle.hdt_triples.specs.Uses.{part}
-use Rattle.hdt_file.specs.Denoted.{StringTriple, strings_of, denoted}
+use Rattle.hdt_file.specs.Denoted.{StringTriple, strings_for, denoted}
 use Rattle.hdt_file.specs.Text.{TermTriple, IsTermOf, AreTermsOf, Pairwise, line, IsTextOf, IsBefore, IsFirstOf, IsFirstIn}
 
 -- no two dictionary terms have one string
@@ -69,7 +69,7 @@ same_role Object Object x f g = refl
 pub one_first : (g : GraphParts) (ts : List Triple) (role other : Role) (m n : ℕ) → IsFirstIn g ts role m → IsFirstIn g ts other n → (role ≡ other) × (m ≡ n)
 one_first g [] role other m n f h = absurd f
 one_first g (t ∷ ts) role other m n (inl f) (inl h) =
-    let e = same_role role other (strings_of g t) f.0 h.0 in
+    let e = same_role role other (strings_for g t) f.0 h.0 in
     (e, f.1 ∙ ap (λ (r : Role). part r t) e ∙ sym h.1)
 one_first g (t ∷ ts) role other m n (inl f) (inr h) = let has = h.0 role in absurd (f.0.none has.0 has.1)
 one_first g (t ∷ ts) role other m n (inr f) (inl h) = let has = f.0 other in absurd (h.0.none has.0 has.1)

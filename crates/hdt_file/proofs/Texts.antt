@@ -8,9 +8,9 @@ use Rattle.hdt_wire.specs.declared.role.Role.TheVariants.{Subject, Predicate, Ob
 use Rattle.hdt_triples.specs.Counting.{Triple}
 use Rattle.hdt_file.specs.File.{GraphParts}
 use Rattle.hdt_triples.specs.Uses.{part}
-use Rattle.hdt_file.specs.Denoted.{string_of, strings_of, denoted}
+use Rattle.hdt_file.specs.Denoted.{string_of, strings_for, denoted}
 use Rattle.hdt_file.specs.Text.{TermTriple, IsTermOf, AreTermsOf, HasTerm, IsBefore, IsFirstOf, IsFirstIn, IsTextOf, Pairwise, line}
-use Rattle.hdt_file.specs.Spelling.{HasTerms, KeepsTerm, spelled_line}
+use Rattle.hdt_file.specs.Inside.Spelling.{HasTerms, KeepsTerm, spelled_line}
 use Rattle.hdt_file.specs.TextWriting.{AppendsTerm, AppendsLine, AppendsText, TellsString, TellsFirstOf, TellsFirstIn}
 use Rattle.hdt_file.specs.declared.spelling.Speller.{Speller}
 use Rattle.hdt_file.specs.declared.fault.DumpFault.{DumpFault}
@@ -28,7 +28,7 @@ one_more n found items new t left rest first is h =
 -- ---- one line
 
 pub are_terms : (g : GraphParts) (t : Triple) (terms : TermTriple) → IsTermOf Subject (string_of g Subject t.0) terms.0 → IsTermOf Predicate (string_of g Predicate t.1) terms.1
-    → IsTermOf Object (string_of g Object t.2) terms.2 → AreTermsOf (strings_of g t) terms
+    → IsTermOf Object (string_of g Object t.2) terms.2 → AreTermsOf (strings_for g t) terms
 are_terms g t terms s p o Subject = s
 are_terms g t terms s p o Predicate = p
 are_terms g t terms s p o Object = o
@@ -55,17 +55,17 @@ line_appended g t s old new h is =
     }
 
 -- a string that is no term is the first of its triple where those before it are terms
-told_first : (g : GraphParts) (t : Triple) (role : Role) (e : DumpFault) → ((other : Role) → IsBefore other role → HasTerm other (part other (strings_of g t)))
-    → TellsString role (part role t) (part role (strings_of g t)) e → TellsFirstOf g t e
+told_first : (g : GraphParts) (t : Triple) (role : Role) (e : DumpFault) → ((other : Role) → IsBefore other role → HasTerm other (part other (strings_for g t)))
+    → TellsString role (part role t) (part role (strings_for g t)) e → TellsFirstOf g t e
 told_first g t role (NotATerm other n) earlier h =
-    subst (λ (r : Role). IsFirstOf (strings_of g t) r × (n ≡ part r t)) (sym h.0) (record { none = h.2; earlier = earlier }, h.1)
+    subst (λ (r : Role). IsFirstOf (strings_for g t) r × (n ≡ part r t)) (sym h.0) (record { none = h.2; earlier = earlier }, h.1)
 told_first g t role (Write k) earlier h = h
 told_first g t role OutOfMemory earlier h = tt
 
 pub subject_first : (g : GraphParts) (t : Triple) (e : DumpFault) → TellsString Subject t.0 (string_of g Subject t.0) e → TellsFirstOf g t e
 subject_first g t e h = told_first g t Subject e earlier h
   where
-    earlier : (other : Role) → IsBefore other Subject → HasTerm other (part other (strings_of g t))
+    earlier : (other : Role) → IsBefore other Subject → HasTerm other (part other (strings_for g t))
     earlier Subject before = absurd before
     earlier Predicate before = absurd before
     earlier Object before = absurd before
@@ -74,7 +74,7 @@ pub predicate_first : (g : GraphParts) (t : Triple) (e : DumpFault) (s : List �
     → TellsFirstOf g t e
 predicate_first g t e s subject h = told_first g t Predicate e earlier h
   where
-    earlier : (other : Role) → IsBefore other Predicate → HasTerm other (part other (strings_of g t))
+    earlier : (other : Role) → IsBefore other Predicate → HasTerm other (part other (strings_for g t))
     earlier Subject before = (subject.term, subject.is)
     earlier Predicate before = absurd before
     earlier Object before = absurd before
@@ -83,7 +83,7 @@ pub object_first : (g : GraphParts) (t : Triple) (e : DumpFault) (s p : List ℕ
     → TellsString Object t.2 (string_of g Object t.2) e → TellsFirstOf g t e
 object_first g t e s p subject predicate h = told_first g t Object e earlier h
   where
-    earlier : (other : Role) → IsBefore other Object → HasTerm other (part other (strings_of g t))
+    earlier : (other : Role) → IsBefore other Object → HasTerm other (part other (strings_for g t))
     earlier Subject before = (subject.term, subject.is)
     earlier Predicate before = (predicate.term, predicate.is)
     earlier Object before = absurd before
@@ -98,7 +98,7 @@ GoesOn g all left text = (more : List ℕ) → IsTextOf (denoted g left) more �
 abbrev pub SameFirst : GraphParts → List Triple → List Triple → Type 0
 SameFirst g all left = (role : Role) (n : ℕ) → IsFirstIn g left role n → IsFirstIn g all role n
 
-with_line : (g : GraphParts) (t : Triple) (ts : List Triple) (terms : TermTriple) (more : List ℕ) → AreTermsOf (strings_of g t) terms → IsTextOf (denoted g ts) more
+with_line : (g : GraphParts) (t : Triple) (ts : List Triple) (terms : TermTriple) (more : List ℕ) → AreTermsOf (strings_for g t) terms → IsTextOf (denoted g ts) more
     → IsTextOf (denoted g (t ∷ ts)) (line terms ++ more)
 with_line g t ts terms more are h = record { terms = terms ∷ h.terms; each = (are, h.each); whole = ap (λ (x : List ℕ). line terms ++ x) h.whole }
 

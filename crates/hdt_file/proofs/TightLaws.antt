@@ -7,15 +7,15 @@ use Rattle.hdt_wire.specs.declared.fault.Reason.TheVariants.{Unused}
 use Rattle.hdt_wire.specs.declared.role.Role.{Role}
 use Rattle.hdt_wire.specs.declared.role.Role.TheVariants.{Subject, Predicate, Object}
 use Rattle.hdt_wire.specs.Rows.{◌>>=◌, IsBytes}
-use Rattle.hdt_wire.specs.RowLaws.{bound}
+use Rattle.hdt_wire.specs.Laws.Row.{bound}
 use Rattle.hdt_wire.specs.Exact.{Exactly, OneValue, OneFault}
-use Rattle.hdt_wire.specs.ExactLaws.{ok_is, each_row, all_rows, last_held, holds_on, value_or_fault}
+use Rattle.hdt_wire.specs.Laws.Exact.{ok_is, each_row, all_rows, last_held, holds_on, value_or_fault}
 use Rattle.hdt_front.specs.Section.{string_place}
 use Rattle.hdt_dict.specs.Dictionary.{DictionaryParts, section_number, terms}
 use Rattle.hdt_triples.specs.Counting.{Triple, triples_of}
 use Rattle.hdt_triples.specs.Triples.{bitmap_of}
 use Rattle.hdt_triples.specs.Uses.{Uses, uses}
-use Rattle.hdt_triples.specs.UsesLaws.{uses_found, uses_only}
+use Rattle.hdt_triples.specs.Laws.Uses.{uses_found, uses_only}
 use Rattle.hdt_file.specs.File.{FileParts, GraphParts, file_at_start, graph_of, graph_in}
 use Rattle.hdt_file.proofs.FileLaws.{file_exact}
 use Rattle.hdt_file.specs.Tight.{IsTight, IsTightLayout, is_used, used_row, section_used, strings_used, tight_in}

@@ -16,8 +16,8 @@ abbrev pub string_of : GraphParts → Role → ℕ → List ℕ
 string_of g role n = unwrap_or (numbered (strings_in g role) n) []
 
 -- each number replaced by its string
-abbrev pub strings_of : GraphParts → Triple → StringTriple
-strings_of g t = (string_of g Subject t.0, string_of g Predicate t.1, string_of g Object t.2)
+abbrev pub strings_for : GraphParts → Triple → StringTriple
+strings_for g t = (string_of g Subject t.0, string_of g Predicate t.1, string_of g Object t.2)
 
 abbrev pub denoted : GraphParts → List Triple → List StringTriple
-denoted g ts = map (strings_of g) ts
+denoted g ts = map (strings_for g) ts

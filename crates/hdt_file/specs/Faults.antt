@@ -7,9 +7,9 @@ use Rattle.hdt_file.specs.declared.fault.OpenFault.{OpenFault}
 use Rattle.hdt_file.specs.declared.fault.OpenFault.TheVariants as opens
 
 -- the fault that an error is, where it is one; want of memory is none
-abbrev pub fault_of : OpenFault → Option Fault
-fault_of opens.OutOfMemory = None
-fault_of (opens.Fault f) = Some f
+abbrev pub open_fault_of : OpenFault → Option Fault
+open_fault_of opens.OutOfMemory = None
+open_fault_of (opens.Fault f) = Some f
 
 -- the same error, of a part that was read
 abbrev pub of_part : ReadFault → OpenFault

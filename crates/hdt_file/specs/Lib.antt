@@ -8,13 +8,12 @@ pub mod Graph
 pub mod Head
 pub mod LayoutView
 pub mod Parts
-pub mod PartsLaws
 pub mod PartsViews
 pub mod Search
-pub mod Spelling
 pub mod StringTriples
-pub mod Pieces
 pub mod Text
 pub mod TextWriting
 pub mod Tight
 pub mod Views
+pub mod Laws
+pub mod Inside

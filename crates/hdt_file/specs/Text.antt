@@ -11,7 +11,7 @@ use Rattle.hdt_wire.specs.declared.role.Role.TheVariants.{Subject, Predicate, Ob
 use Rattle.hdt_triples.specs.Counting.{Triple}
 use Rattle.hdt_file.specs.File.{GraphParts}
 use Rattle.hdt_triples.specs.Uses.{part}
-use Rattle.hdt_file.specs.Denoted.{StringTriple, strings_of}
+use Rattle.hdt_file.specs.Denoted.{StringTriple, strings_for}
 
 abbrev pub TermTriple : Type 0
 TermTriple = Term × Term × Term
@@ -75,5 +75,5 @@ pub record IsFirstOf (strings : StringTriple) (role : Role) : Type 0 where
 abbrev pub IsFirstIn : GraphParts → List Triple → Role → ℕ → Type 0
 IsFirstIn g [] role number = ⊥
 IsFirstIn g (t ∷ ts) role number =
-    (IsFirstOf (strings_of g t) role × (number ≡ part role t))
-    ⊎ (((other : Role) → HasTerm other (part other (strings_of g t))) × IsFirstIn g ts role number)
+    (IsFirstOf (strings_for g t) role × (number ≡ part role t))
+    ⊎ (((other : Role) → HasTerm other (part other (strings_for g t))) × IsFirstIn g ts role number)

@@ -9,7 +9,7 @@ use Rattle.hdt_triples.specs.Patterns.{matches}
 use Rattle.hdt_triples.specs.declared.pattern.Pattern.{Pattern}
 use Rattle.hdt_file.specs.File.{GraphParts}
 use Rattle.hdt_triples.specs.Uses.{part}
-use Rattle.hdt_file.specs.Denoted.{strings_of, denoted}
+use Rattle.hdt_file.specs.Denoted.{strings_for, denoted}
 use Rattle.hdt_file.specs.Text.{TermTriple, IsTermOf, AreTermsOf, HasNoTerm, IsFirstOf, IsFirstIn, IsTextOf, line}
 use Rattle.hdt_file.specs.declared.fault.DumpFault.{DumpFault}
 use Rattle.hdt_file.specs.declared.fault.DumpFault.TheVariants.{NotATerm, Write, OutOfMemory}
@@ -39,12 +39,12 @@ TellsString role n string OutOfMemory = ⊤
 -- the text has grown by the line of a triple
 pub record AppendsLine (g : GraphParts) (t : Triple) (old new : List ℕ) : Type 0 where
   pub terms : TermTriple
-  pub are : AreTermsOf (strings_of g t) terms
+  pub are : AreTermsOf (strings_for g t) terms
   pub grown : new ≡ old ++ line terms
 
 -- the first string of the triple that is no term of its role is told
 abbrev pub TellsFirstOf : GraphParts → Triple → DumpFault → Type 0
-TellsFirstOf g t (NotATerm role n) = IsFirstOf (strings_of g t) role × (n ≡ part role t)
+TellsFirstOf g t (NotATerm role n) = IsFirstOf (strings_for g t) role × (n ≡ part role t)
 TellsFirstOf g t (Write k) = ⊥
 TellsFirstOf g t OutOfMemory = ⊤
 

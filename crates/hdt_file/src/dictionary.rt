@@ -5,7 +5,7 @@ ghost use Rattle.hdt_wire.specs.Exact.{Exactly};
 ghost use Rattle.hdt_wire.specs.declared.role.Role.{Role};
 ghost use Rattle.hdt_dict.specs.Dictionary.{terms};
 ghost use Rattle.hdt_dict.specs.Views.{dictionary_of};
-ghost use Rattle.hdt_file.specs.Faults.{fault_of};
+ghost use Rattle.hdt_file.specs.Faults.{open_fault_of};
 ghost use Rattle.hdt_file.specs.Dictionary.{HeadAndDictionary, IsHeadAndDictionary, described, dictionary_after_head};
 
 use crate::fault::OpenFault;
@@ -19,7 +19,7 @@ fn read_rows<'a>(
     alloc: Global,
     bytes: &'a [u8],
 ) -> Result<(Head<'a>, Dictionary<'a>, usize), OpenFault>
-    ensures exact { Gives fault_of described result (dictionary_after_head bytes.now) }
+    ensures exact { Gives open_fault_of described result (dictionary_after_head bytes.now) }
     ensures next { IfOk result (λ r. r.2 ≡ (dictionary_of r.1).objects.end) }
     ensures few { IfOk result (λ r. (role : Role) → length (terms (dictionary_of r.1) role) ≤ length bytes.now) }
 {
@@ -45,9 +45,9 @@ pub fn read_dictionary<'a>(
     // What is read stands at the front.
     ensures found { IfOk result (λ r. IsHeadAndDictionary (described r) bytes.now) }
     // What stands there is read, unless memory ran out.
-    ensures only { (front : HeadAndDictionary) → IsHeadAndDictionary front bytes.now → Gives fault_of described result (Ok front) }
+    ensures only { (front : HeadAndDictionary) → IsHeadAndDictionary front bytes.now → Gives open_fault_of described result (Ok front) }
     // Otherwise it is the one fault that stands.
-    ensures exact { Gives fault_of described result (dictionary_after_head bytes.now) }
+    ensures exact { Gives open_fault_of described result (dictionary_after_head bytes.now) }
     ensures next { IfOk result (λ r. r.2 ≡ (dictionary_of r.1).objects.end) }
     // A role has at most as many strings as the input has bytes.
     ensures few { IfOk result (λ r. (role : Role) → length (terms (dictionary_of r.1) role) ≤ length bytes.now) }

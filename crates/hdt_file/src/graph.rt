@@ -32,7 +32,7 @@ pub struct Graph<'a> {
 impl<'a> Graph<'a> {
     ghost use Rattle.std.specs.Prelude.{◌∷◌, ◌↔◌, ◌≤◌, ◌+◌, [], Some, None, IsOk, OnErr, IsTrue};
     ghost use Rattle.hdt_front.specs.Numbering.{place};
-    ghost use Rattle.hdt_dict.specs.Numbered.{numbered, Appends};
+    ghost use Rattle.hdt_dict.specs.Numbered.{numbered, AppendsString};
     ghost use Rattle.hdt_triples.specs.Uses.{Uses};
     ghost use Rattle.hdt_file.specs.Graph.{IsGraph};
     ghost use Rattle.hdt_file.specs.LayoutView.{layout_seen};
@@ -138,7 +138,7 @@ impl<'a> Graph<'a> {
         out: &mut Vec<u8>,
         steps: &mut Steps,
     ) -> Result<bool, AllocError>
-        ensures ok { IfOk result (λ appended. Appends (numbered (strings_in (graph_seen self.now) role) n) appended out.old.items out.new.items) }
+        ensures ok { IfOk result (λ appended. AppendsString (numbered (strings_in (graph_seen self.now) role) n) appended out.old.items out.new.items) }
         ensures err { OnErr result (out.new.items ≡ out.old.items) }
         ensures cost { steps.new ≤ steps.old + role_block (dictionary_in (graph_parts self.now)) role }
         ensures absent { numbered (strings_in (graph_seen self.now) role) n ≡ None → IsOk result }

@@ -1,7 +1,7 @@
 //! A whole file as it lies in its bytes, with nothing kept beside them.
 ghost use Rattle.std.specs.Prelude.{◌≡◌, ℕ, length, IfOk, Ok};
 ghost use Rattle.hdt_dict.specs.Views.{dictionary_of};
-ghost use Rattle.hdt_triples.specs.CountsView.{counts_of};
+ghost use Rattle.hdt_triples.specs.CountsView.{counts_seen};
 ghost use Rattle.hdt_triples.specs.ListedViews.{roles_of};
 ghost use Rattle.hdt_file.specs.File.{counts_in};
 
@@ -33,7 +33,7 @@ pub struct Layout<'a> {
 
 /// How many strings each role of a dictionary has.
 fn counts_in(dictionary: &Dictionary<'_>) -> Counts
-    ensures { counts_of result ≡ counts_in (dictionary_of dictionary.now) }
+    ensures { counts_seen result ≡ counts_in (dictionary_of dictionary.now) }
 {
     Counts {
         subjects: dictionary.count(Role::Subject),
@@ -46,24 +46,24 @@ fn counts_in(dictionary: &Dictionary<'_>) -> Counts
 impl<'a> Layout<'a> {
     ghost use Rattle.std.specs.Prelude.{◌↔◌, ◌≤◌, ◌<◌, ◌+◌, ◌*◌, ◌^◌, ◌∷◌, [], Option, Some, None, IsOk, OnErr};
     ghost use Rattle.hdt_wire.specs.Rows.{Gives};
-    ghost use Rattle.hdt_dict.specs.Numbered.{numbered, Appends};
+    ghost use Rattle.hdt_dict.specs.Numbered.{numbered, AppendsString};
     ghost use Rattle.hdt_triples.specs.Bounds.{walking_steps};
     ghost use Rattle.hdt_triples.specs.Left.{left_of, limit_of};
     ghost use Rattle.hdt_triples.specs.Patterns.{matches};
-    ghost use Rattle.hdt_file.specs.Faults.{fault_of};
+    ghost use Rattle.hdt_file.specs.Faults.{open_fault_of};
     ghost use Rattle.hdt_file.specs.File.{GraphParts, IsLayout, graph_in};
     ghost use Rattle.hdt_file.specs.LayoutView.{layout_seen};
     ghost use Rattle.hdt_dict.specs.Looks.{role_block, role_looks};
     ghost use Rattle.hdt_file.specs.Parts.{bitmap_in, dictionary_in, parts_in};
-    ghost use Rattle.hdt_file.specs.PartsLaws.{parts_rows};
+    ghost use Rattle.hdt_file.specs.Laws.Parts.{parts_rows};
     ghost use Rattle.hdt_file.specs.PartsViews.{layout_parts};
     ghost use Rattle.hdt_file.specs.Search.{IsPart, IsPattern, given_looks, part_looks};
     ghost use Rattle.hdt_file.specs.Views.{lens_of, strings_in};
 
     /// Reads by rows.
-    #[tactic(auto, unfolding(crate::specs::PartsLaws::parts_rows, crate::specs::PartsViews::layout_parts))]
+    #[tactic(auto, unfolding(crate::specs::Laws::Parts::parts_rows, crate::specs::PartsViews::layout_parts))]
     fn read_rows(alloc: Global, bytes: &'a [u8]) -> Result<Layout<'a>, OpenFault>
-        ensures { Gives fault_of layout_parts result (parts_rows bytes.now) }
+        ensures { Gives open_fault_of layout_parts result (parts_rows bytes.now) }
     {
         let (head, dictionary, at) = read_dictionary(alloc, bytes)?;
         let (triples, end) = Triples::read(bytes, at, counts_in(&dictionary))?;
@@ -81,11 +81,11 @@ impl<'a> Layout<'a> {
         // The bytes are a layout of the graph that is answered.
         ensures found { IfOk result (λ layout. IsLayout bytes.now (layout_seen layout)) }
         // The graph of any layout of these bytes is answered, unless memory ran out.
-        ensures only { (graph : GraphParts) → IsLayout bytes.now graph → Gives fault_of layout_seen result (Ok graph) }
+        ensures only { (graph : GraphParts) → IsLayout bytes.now graph → Gives open_fault_of layout_seen result (Ok graph) }
         // Otherwise it is the one fault that stands.
-        ensures exact { Gives fault_of layout_seen result (graph_in bytes.now) }
+        ensures exact { Gives open_fault_of layout_seen result (graph_in bytes.now) }
         // Its parts lie where the bytes have them.
-        ensures parts { Gives fault_of layout_parts result (parts_in bytes.now) }
+        ensures parts { Gives open_fault_of layout_parts result (parts_in bytes.now) }
     {
         Layout::read_rows(alloc, bytes)
     }
@@ -141,7 +141,7 @@ impl<'a> Layout<'a> {
         out: &mut Vec<u8>,
         steps: &mut Steps,
     ) -> Result<bool, AllocError>
-        ensures ok { IfOk result (λ appended. Appends (numbered (strings_in (layout_seen self.now) role) n) appended out.old.items out.new.items) }
+        ensures ok { IfOk result (λ appended. AppendsString (numbered (strings_in (layout_seen self.now) role) n) appended out.old.items out.new.items) }
         ensures err { OnErr result (out.new.items ≡ out.old.items) }
         ensures cost { steps.new ≤ steps.old + role_block (dictionary_in (layout_parts self.now)) role }
         ensures absent { numbered (strings_in (layout_seen self.now) role) n ≡ None → IsOk result }

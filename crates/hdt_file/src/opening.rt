@@ -2,7 +2,7 @@
 ghost use Rattle.std.specs.Prelude.{◌≡◌, ◌⊎◌, ◌<◌, ◌^◌, ℕ, List, length, Ok, IfOk};
 ghost use Rattle.hdt_wire.specs.Exact.{Exactly, OneFault, OneValue, Seen, seen};
 ghost use Rattle.hdt_wire.specs.Rows.{Gives, IsBytes};
-ghost use Rattle.hdt_file.specs.Faults.{fault_of};
+ghost use Rattle.hdt_file.specs.Faults.{open_fault_of};
 ghost use Rattle.hdt_file.specs.File.{FileParts, IsFile, GraphParts, IsLayout, graph_in};
 ghost use Rattle.hdt_file.specs.Graph.{IsGraph};
 ghost use Rattle.hdt_file.specs.LayoutView.{layout_seen};
@@ -18,8 +18,8 @@ use std::alloc::Global;
 /// The graph of a layout, with the directories and the lists of its triples.
 #[tactic(auto, unfolding(crate::specs::Views::graph_seen, crate::specs::PartsViews::graph_parts, crate::specs::LayoutView::layout_seen, crate::specs::PartsViews::layout_parts))]
 pub(crate) fn with_lists(alloc: Global, layout: Layout<'_>) -> Result<Graph<'_>, OpenFault>
-    ensures seen { Gives fault_of graph_seen result (Ok (layout_seen layout.entry)) }
-    ensures parts { Gives fault_of graph_parts result (Ok (layout_parts layout.entry)) }
+    ensures seen { Gives open_fault_of graph_seen result (Ok (layout_seen layout.entry)) }
+    ensures parts { Gives open_fault_of graph_parts result (Ok (layout_parts layout.entry)) }
 {
     let Ok(indexed) = layout.triples.with_directories(alloc) else {
         return Err(OpenFault::OutOfMemory);
@@ -36,8 +36,8 @@ pub(crate) fn with_lists(alloc: Global, layout: Layout<'_>) -> Result<Graph<'_>,
 
 /// Opens by rows.
 fn open_rows<'a>(alloc: Global, bytes: &'a [u8]) -> Result<Graph<'a>, OpenFault>
-    ensures seen { Gives fault_of graph_seen result (graph_in bytes.now) }
-    ensures parts { Gives fault_of graph_parts result (parts_in bytes.now) }
+    ensures seen { Gives open_fault_of graph_seen result (graph_in bytes.now) }
+    ensures parts { Gives open_fault_of graph_parts result (parts_in bytes.now) }
 {
     let layout = Layout::read(alloc, bytes)?;
     with_lists(alloc, layout)
@@ -56,18 +56,18 @@ pub fn open<'a>(alloc: Global, bytes: &'a [u8]) -> Result<Graph<'a>, OpenFault>
     // The bytes are a layout of the graph that is answered.
     ensures found { IfOk result (λ graph. IsLayout bytes.now (graph_seen graph)) }
     // The graph of any layout of these bytes is answered, unless memory ran out.
-    ensures only { (graph : GraphParts) → IsLayout bytes.now graph → Gives fault_of graph_seen result (Ok graph) }
+    ensures only { (graph : GraphParts) → IsLayout bytes.now graph → Gives open_fault_of graph_seen result (Ok graph) }
     // Otherwise it is the one fault that stands.
-    ensures exact { Gives fault_of graph_seen result (graph_in bytes.now) }
+    ensures exact { Gives open_fault_of graph_seen result (graph_in bytes.now) }
     // Its parts are as the bytes have them: by their block sizes and marks the costs of its calls are told.
-    ensures parts { Gives fault_of graph_parts result (parts_in bytes.now) }
+    ensures parts { Gives open_fault_of graph_parts result (parts_in bytes.now) }
 {
     open_rows(alloc, bytes)
 }
 
 /// Verifies by rows.
 fn verify_rows(alloc: Global, bytes: &[u8]) -> Result<[u64; 5], OpenFault>
-    ensures { Gives fault_of (λ lens. lens) result (seen lens_of (graph_in bytes.now)) }
+    ensures { Gives open_fault_of (λ lens. lens) result (seen lens_of (graph_in bytes.now)) }
 {
     let layout = Layout::read(alloc, bytes)?;
     Ok(layout.lens())
@@ -80,9 +80,9 @@ pub fn verify(alloc: Global, bytes: &[u8]) -> Result<[u64; 5], OpenFault>
     // The bytes are a layout of a graph, of which these are the counts.
     ensures found { IfOk result (λ lens. Seen lens_of (IsLayout bytes.now) lens) }
     // The counts of any layout of these bytes are answered, unless memory ran out.
-    ensures only { (graph : GraphParts) → IsLayout bytes.now graph → Gives fault_of (λ lens. lens) result (Ok (lens_of graph)) }
+    ensures only { (graph : GraphParts) → IsLayout bytes.now graph → Gives open_fault_of (λ lens. lens) result (Ok (lens_of graph)) }
     // Otherwise it is the one fault that stands.
-    ensures exact { Gives fault_of (λ lens. lens) result (seen lens_of (graph_in bytes.now)) }
+    ensures exact { Gives open_fault_of (λ lens. lens) result (seen lens_of (graph_in bytes.now)) }
 {
     verify_rows(alloc, bytes)
 }

@@ -5,7 +5,7 @@ ghost use Rattle.hdt_terms.specs.declared.term.Term.{Term};
 ghost use Rattle.hdt_terms.specs.declared.fault.StringFault.TheVariants as StringFaultOf;
 ghost use Rattle.hdt_file.specs.Denoted.{string_of};
 ghost use Rattle.hdt_file.specs.Text.{FitsRole, HasNoTerm};
-ghost use Rattle.hdt_file.specs.Spelling.{HasTerms, KeepsTerm, KeepsTerms, spelled_line};
+ghost use Rattle.hdt_file.specs.Inside.Spelling.{HasTerms, KeepsTerm, KeepsTerms, spelled_line};
 ghost use Rattle.hdt_file.specs.TextWriting.{AppendsLine, AppendsTerm, TellsFirstOf, TellsString};
 ghost use Rattle.hdt_file.specs.LayoutView.{layout_seen};
 

@@ -2,7 +2,7 @@
 ghost use Rattle.std.specs.Prelude.{◌≡◌, ◌++◌, ℕ, List, map, IfOk, IfErr, OnOk};
 ghost use Rattle.hdt_file.specs.File.{GraphParts};
 ghost use Rattle.hdt_triples.specs.Uses.{part};
-ghost use Rattle.hdt_file.specs.Pieces.{AreMarked, ArePieces, ArePiecesFor, AreTables, AppendsPiece, GrowsByMarked, GrowsByPiece, HasPieces, IsPiece, behind, is_marked, piece_in};
+ghost use Rattle.hdt_file.specs.Inside.Pieces.{AreMarked, AreLinePieces, ArePiecesFor, AreTables, AppendsPiece, GrowsByMarked, GrowsByPiece, HasPieces, IsLinePiece, behind, is_marked, piece_in};
 ghost use Rattle.hdt_file.specs.TextWriting.{AppendsLine, AppendsText, TellsFirstIn, TellsFirstOf, TellsString};
 ghost use Rattle.hdt_file.specs.LayoutView.{layout_seen};
 ghost use Rattle.hdt_file.specs.Views.{strings_in};
@@ -102,7 +102,7 @@ fn pieces_of(
     role: Role,
     marks: &[bool],
 ) -> Result<Arena, AllocError>
-    ensures { IfOk result (λ arena. ArePieces role marks.now 1 (strings_in (layout_seen layout.now) role) arena) }
+    ensures { IfOk result (λ arena. AreLinePieces role marks.now 1 (strings_in (layout_seen layout.now) role) arena) }
 {
     let mut bytes = Vec::new(alloc);
     let mut starts = Vec::new(alloc);
@@ -155,8 +155,8 @@ fn piece_in(pieces: &Arena, n: u64) -> &[u8]
 
 /// Appends a piece; nothing is that of a string that is no term.
 fn append_piece(role: Role, n: u64, piece: &[u8], out: &mut Vec<u8>) -> Result<(), DumpFault>
-    ensures ok { OnOk result ((string : List ℕ) → IsPiece role string piece.now → AppendsPiece role string out.old.items out.new.items) }
-    ensures err { IfErr result (λ e. (string : List ℕ) → IsPiece role string piece.now → TellsString role n string e) }
+    ensures ok { OnOk result ((string : List ℕ) → IsLinePiece role string piece.now → AppendsPiece role string out.old.items out.new.items) }
+    ensures err { IfErr result (λ e. (string : List ℕ) → IsLinePiece role string piece.now → TellsString role n string e) }
 {
     if piece.is_empty() {
         return Err(DumpFault::NotATerm(role, n));

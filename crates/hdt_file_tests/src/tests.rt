@@ -1,6 +1,6 @@
 ghost use Rattle.std.specs.Prelude.{IsTrue, All};
 ghost use Rattle.hdt_front.specs.Canonical.{lent_texts};
-ghost use Rattle.hdt_dict.specs.Texts.{IsText};
+ghost use Rattle.hdt_dict.specs.Texts.{IsDictionaryString};
 
 use hdt_dict::{Role, put_lent_dictionary, split_lent};
 use hdt_file::*;
@@ -595,14 +595,14 @@ fn texts_of(alloc: Global, numerals: &[u8]) -> Result<Vec<&[u8]>, AllocError> {
 
 /// Whether the bytes are UTF-8 without a zero byte.
 fn is_text(bytes: &[u8]) -> bool
-    ensures { IsTrue result → IsText bytes.now }
+    ensures { IsTrue result → IsDictionaryString bytes.now }
 {
     std::str::from_utf8(bytes).is_ok() && !bytes.contains(&0)
 }
 
 /// Whether all of them are.
 fn are_texts(list: &[&[u8]]) -> bool
-    ensures { IsTrue result → All IsText (lent_texts list.now) }
+    ensures { IsTrue result → All IsDictionaryString (lent_texts list.now) }
 {
     for text in list {
         if !is_text(*text) {

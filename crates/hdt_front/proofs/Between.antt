@@ -7,7 +7,7 @@ use Rattle.std.specs.Ordering.{ordering_then, ord_min, nat_cmp}
 use Rattle.hdt_front.specs.Searching.{order, agreed, IsLess}
 use Rattle.hdt_front.specs.Strings.{strings_of, blocks_of}
 use Rattle.hdt_front.specs.Packed.{packing_of}
-use Rattle.hdt_front.specs.StringSteps.{length-unfolded}
+use Rattle.hdt_front.specs.Laws.StringSteps.{length-unfolded}
 use Rattle.hdt_front.specs.declared.section.Section.{Section}
 use Rattle.hdt_front.proofs.Ascent.{Ascends, after}
 use Rattle.hdt_front.proofs.Lies.{some_block, head_inside, ascends}

@@ -5,11 +5,11 @@ use Rattle.std.proofs.lemmas.Bool.{eqb-false, and_parts, and_from}
 use Rattle.std.proofs.lemmas.List.{get_or_default}
 use Rattle.std.proofs.lemmas.List.Sums.{prefix_len_passes, position_or_len_is}
 use Rattle.hdt_wire.specs.Rows.{zero_in}
-use Rattle.hdt_wire.specs.RowLaws.{not-true}
+use Rattle.hdt_wire.specs.Laws.Row.{not-true}
 use Rattle.hdt_wire.specs.Control.{HasNoZero}
 use Rattle.hdt_front.specs.StringRows.{precedes}
 use Rattle.hdt_front.specs.Folding.{NoZero, Ascending}
-use Rattle.hdt_front.specs.FoldingLaws.{nonzero_from, nonzero_to}
+use Rattle.hdt_front.specs.Laws.Folding.{nonzero_from, nonzero_to}
 
 pub no_zero : (s : List ℕ) → zero_in s ≡ length s → NoZero s
 no_zero s e =

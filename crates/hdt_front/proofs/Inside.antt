@@ -5,7 +5,7 @@ use Rattle.std.proofs.Math.Nat.{mul-mod_left}
 use Rattle.hdt_wire.specs.declared.fault.Fault.{Fault}
 use Rattle.hdt_wire.specs.Rows.{SpelledAt}
 use Rattle.hdt_wire.specs.VByte.{VByte, vbyte_at}
-use Rattle.hdt_wire.specs.VByteLaws.{vbyte_only}
+use Rattle.hdt_wire.specs.Laws.VByte.{vbyte_only}
 
 -- the next string is the first of the next block, or the next of this one
 pub next_block : (i b inside : ℕ) → inside ≡ i % b → inside + 1 ≡ b → 0 ≡ (i + 1) % b

@@ -13,13 +13,13 @@ use Rattle.hdt_front.specs.declared.section.Section.{Section}
 use Rattle.hdt_wire.specs.Rows.{zero_in}
 use Rattle.hdt_front.specs.Unfolding.{is_head, string_of_piece, after_piece, unfolded}
 use Rattle.hdt_front.specs.Folding.{NoZero}
-use Rattle.hdt_front.specs.StringsFound.{string_no_zero}
-use Rattle.hdt_front.specs.StringSteps.{length-unfolded}
+use Rattle.hdt_front.specs.Laws.StringsFound.{string_no_zero}
+use Rattle.hdt_front.specs.Laws.StringSteps.{length-unfolded}
 use Rattle.hdt_front.proofs.Following.{zero_none}
 use Rattle.hdt_front.specs.Numbering.{place}
 use Rattle.hdt_front.specs.Packed.{packing_of}
 use Rattle.hdt_front.specs.Strings.{strings_of, blocks_of, block_size}
-use Rattle.hdt_front.specs.StringsLaws.{count_is}
+use Rattle.hdt_front.specs.Laws.Strings.{count_is}
 use Rattle.hdt_front.proofs.Ascent.{place_found}
 use Rattle.hdt_front.proofs.Lies.{ascends, some_block, no_strings}
 

@@ -4,8 +4,8 @@ use Rattle.std.proofs.lemmas.List.{take-append-drop}
 use Rattle.hdt_front.specs.Unfolding.{is_head, kept, text_of, string_of_piece}
 use Rattle.hdt_front.specs.StringRows.{Packing}
 use Rattle.hdt_front.specs.Walking.{Placed, Way, placed_from, first_agreed}
-use Rattle.hdt_front.specs.WalkSteps.{Moves}
-use Rattle.hdt_front.specs.CanonicalLaws.{front_agrees}
+use Rattle.hdt_front.specs.Laws.WalkSteps.{Moves}
+use Rattle.hdt_front.specs.Laws.Canonical.{front_agrees}
 use Rattle.hdt_front.proofs.AgreeLaws.{agreed, keeps_agree}
 
 front_kept : (h : Bool) (last rest : List ℕ) → kept h rest ≤ length last → kept h rest ≤ agreed (string_of_piece h last rest) last

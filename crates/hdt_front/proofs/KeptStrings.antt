@@ -5,16 +5,16 @@ use Rattle.std.proofs.lemmas.List.Elements.{All-nil, All-push}
 use Rattle.std.proofs.lemmas.List.Folds.{concat-append}
 use Rattle.hdt_wire.specs.Control.{HasNoZero}
 use Rattle.hdt_wire.specs.Rows.{Stands}
-use Rattle.hdt_wire.specs.RowLaws.{Stands-after}
+use Rattle.hdt_wire.specs.Laws.Row.{Stands-after}
 use Rattle.hdt_front.specs.Unfolding.{is_head, after_piece, unfolded}
 use Rattle.hdt_front.specs.Folding.{ArePieces}
-use Rattle.hdt_front.specs.FoldingLaws.{nonzero_to}
-use Rattle.hdt_front.specs.StringSteps.{length-unfolded}
-use Rattle.hdt_front.specs.StringsOnly.{piece_stands}
+use Rattle.hdt_front.specs.Laws.Folding.{nonzero_to}
+use Rattle.hdt_front.specs.Laws.StringSteps.{length-unfolded}
+use Rattle.hdt_front.specs.Laws.StringsOnly.{piece_stands}
 use Rattle.hdt_front.specs.Section.{AreStrings, IsSection, before}
 use Rattle.hdt_front.specs.SectionWriting.{section_spelling}
 use Rattle.hdt_front.specs.Canonical.{piece_of, pieces_from, starts_from, packed_of, starts_of, canonical, canonical_parts}
-use Rattle.hdt_front.specs.CanonicalLaws.{many_pieces, enough_bytes, folded, canonical_stands}
+use Rattle.hdt_front.specs.Laws.Canonical.{many_pieces, enough_bytes, folded, canonical_stands}
 use Rattle.hdt_front.specs.InWork.{heads_from, AreKept}
 
 -- ---- strings are unfolded from their pieces

@@ -9,12 +9,12 @@ use Rattle.hdt_wire.specs.Rows.{zero_in}
 use Rattle.hdt_front.specs.Unfolding.{is_head, kept, text_from, text_of, string_of_piece, after_piece, unfolded}
 use Rattle.hdt_front.specs.StringRows.{Packing, strings_at, precedes}
 use Rattle.hdt_front.specs.Facts.{RowHolds, rest_at, before_at}
-use Rattle.hdt_front.specs.StringSteps.{row_at, string_is, rest_is, length-unfolded}
+use Rattle.hdt_front.specs.Laws.StringSteps.{row_at, string_is, rest_is, length-unfolded}
 use Rattle.hdt_front.proofs.Ascent.{Ascends}
 use Rattle.hdt_front.specs.declared.section.Section.{Section}
 use Rattle.hdt_front.specs.Looks.{section_looks}
 use Rattle.hdt_front.specs.Strings.{blocks_of, section_of}
-use Rattle.hdt_front.specs.StringsLaws.{count_is}
+use Rattle.hdt_front.specs.Laws.Strings.{count_is}
 use Rattle.hdt_seq.specs.Width.{digits}
 
 -- where there is a block, its size is at least 1

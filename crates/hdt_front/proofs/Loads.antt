@@ -10,7 +10,8 @@ use Rattle.std.specs.List.{common_prefix_len, prefix_len}
 use Rattle.std.proofs.lemmas.List.Sums.{common_prefix_len-le}
 use lib.Lanes.{chunk, mask_l, top, zip2}
 use Rattle.hdt_wire.specs.Rows.{zero_in}
-use Rattle.hdt_front.specs.Reaching.{Reaches, first_set, is_plain, plain_in}
+use Rattle.hdt_wire.specs.Masks.{first_set}
+use Rattle.hdt_front.specs.Inside.Reaching.{Reaches, is_plain, plain_in}
 
 abbrev agreed : List ℕ → List ℕ → ℕ
 agreed a b = common_prefix_len nat_eq a b

@@ -7,8 +7,8 @@ use Rattle.std.proofs.lemmas.Str.{IsCharBoundary-before_ascii}
 use Rattle.std.proofs.lemmas.List.{get_or-take, get_or-drop}
 use Rattle.hdt_front.specs.Unfolding.{is_head}
 use Rattle.hdt_front.specs.StringRows.{Packing, precedes, opened_at, string_row}
-use Rattle.hdt_front.specs.Reaching.{plain_in}
-use Rattle.hdt_front.specs.PlainPieces.{IsPlainPiece}
+use Rattle.hdt_front.specs.Inside.Reaching.{plain_in}
+use Rattle.hdt_front.specs.Inside.PlainPieces.{IsPlainPiece}
 use Rattle.hdt_front.proofs.Inside.{one_byte}
 use Rattle.hdt_front.proofs.Loads.{plain_text, plain_byte}
 use Rattle.hdt_front.proofs.Order.{kept_order, first_decides}

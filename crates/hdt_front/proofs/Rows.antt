@@ -5,7 +5,7 @@ use Rattle.hdt_wire.specs.Rows.{◌>>=◌}
 use Rattle.hdt_front.specs.declared.fault.ReadFault.{ReadFault}
 use Rattle.hdt_front.specs.declared.fault.ReadFault.TheVariants as faults
 use Rattle.std.specs.Prelude.{IfSome}
-use Rattle.hdt_front.specs.Faults.{fault_of}
+use Rattle.hdt_front.specs.Faults.{read_fault_of}
 use Rattle.hdt_front.specs.StringRows.{Packing, string_row, strings_at}
 
 one_more : (n i : ℕ) → i < n → n - i ≡ suc (n - (i + 1))
@@ -19,8 +19,8 @@ goes_on p n i before rest next after all h one so_far =
     ap (λ k. strings_at p k i before rest) (one_more n i h) ∙ ap (λ r. r >>= (λ x. strings_at p (n - (i + 1)) (i + 1) x.0 x.1)) one in
     sym e ∙ so_far
 
-pub stops : (e : ReadFault) (p : Packing) (n i : ℕ) (before rest : List ℕ) (all : Result (Unit {0}) Fault) → i < n → IfSome (fault_of e) (λ f. string_row p i before rest ≡ Err f)
-    → strings_at p (n - i) i before rest ≡ all → IfSome (fault_of e) (λ f. all ≡ Err f)
+pub stops : (e : ReadFault) (p : Packing) (n i : ℕ) (before rest : List ℕ) (all : Result (Unit {0}) Fault) → i < n → IfSome (read_fault_of e) (λ f. string_row p i before rest ≡ Err f)
+    → strings_at p (n - i) i before rest ≡ all → IfSome (read_fault_of e) (λ f. all ≡ Err f)
 unfolding strings_at
 stops faults.OutOfMemory p n i before rest all h one so_far = tt
 stops (faults.Fault f) p n i before rest all h one so_far =

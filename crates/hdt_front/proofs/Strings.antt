@@ -9,7 +9,7 @@ use Rattle.hdt_front.specs.Unfolding.{is_head, kept, text_from, text_of, string_
 use Rattle.hdt_front.specs.StringRows.{Packing, strings_at}
 use Rattle.hdt_front.specs.Facts.{rest_at, before_at}
 use Rattle.hdt_front.specs.Unfolding.{unfolded}
-use Rattle.hdt_front.specs.StringSteps.{row_at, string_is, rest_is}
+use Rattle.hdt_front.specs.Laws.StringSteps.{row_at, string_is, rest_is}
 
 -- the string before piece k of block q; before the head none
 abbrev pub so_far : ℕ → ℕ → ℕ → List ℕ → List ℕ

@@ -5,6 +5,6 @@ use Rattle.hdt_front.specs.declared.fault.ReadFault.{ReadFault}
 use Rattle.hdt_front.specs.declared.fault.ReadFault.TheVariants as faults
 
 -- the fault that an error is, where it is one; want of memory is none
-abbrev pub fault_of : ReadFault → Option Fault
-fault_of faults.OutOfMemory = None
-fault_of (faults.Fault f) = Some f
+abbrev pub read_fault_of : ReadFault → Option Fault
+read_fault_of faults.OutOfMemory = None
+read_fault_of (faults.Fault f) = Some f

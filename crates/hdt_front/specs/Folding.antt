@@ -29,16 +29,16 @@ ArePieces b i before (string ∷ strings) [] = ⊥
 ArePieces b i before (string ∷ strings) (piece ∷ pieces) = IsPiece (is_head b i) before string piece × ArePieces b (i + 1) string strings pieces
 
 -- each start is the place of the first piece of its block, and the last one is the end
-unfoldable pub AreStarts : ℕ → ℕ → ℕ → List (List ℕ) → List ℕ → Type 0
-AreStarts b i at [] starts = 0 < i → get_or starts ((i + (b - 1)) / b) 0 ≡ at
-AreStarts b i at (piece ∷ pieces) starts = (is_head b i ≡ true → get_or starts (i / b) 0 ≡ at) × AreStarts b (i + 1) (at + length piece) pieces starts
+unfoldable pub AreBlockStarts : ℕ → ℕ → ℕ → List (List ℕ) → List ℕ → Type 0
+AreBlockStarts b i at [] starts = 0 < i → get_or starts ((i + (b - 1)) / b) 0 ≡ at
+AreBlockStarts b i at (piece ∷ pieces) starts = (is_head b i ≡ true → get_or starts (i / b) 0 ≡ at) × AreBlockStarts b (i + 1) (at + length piece) pieces starts
 
 -- strings from number i on, folded after the string before, and their starts
 pub record Folded (b i at : ℕ) (before : List ℕ) (strings : List (List ℕ)) (bytes starts : List ℕ) : Type 0 where
   pub pieces : List (List ℕ)
   pub each : ArePieces b i before strings pieces
   pub joined : bytes ≡ concat pieces
-  pub places : AreStarts b i at pieces starts
+  pub places : AreBlockStarts b i at pieces starts
 
 unfoldable pub NoZero : List ℕ → Type 0
 NoZero [] = Unit {0}

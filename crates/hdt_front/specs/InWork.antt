@@ -12,8 +12,8 @@ pub record SectionInWork : Type 0 where
   pub strings : List (List ℕ)
 
 -- the last one; where there is none yet, the empty text
-abbrev pub last_of : SectionInWork → List ℕ
-last_of w = before w.strings (length w.strings)
+abbrev pub last_string : SectionInWork → List ℕ
+last_string w = before w.strings (length w.strings)
 
 -- where the blocks of pieces begin, the first piece number i at a place
 unfoldable pub heads_from : ℕ → ℕ → ℕ → List (List ℕ) → List ℕ

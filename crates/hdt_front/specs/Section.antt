@@ -16,7 +16,7 @@ use Rattle.hdt_wire.specs.Control.{HasNoZero}
 use Rattle.hdt_wire.specs.VByte.{vbyte_at}
 use Rattle.hdt_seq.specs.Sequence.{Sequence, place_of_entry, byte_at, code8_at, packed_at}
 use Rattle.hdt_seq.specs.Numbers.{numbers_at}
-use Rattle.hdt_wire.specs.ExactLeaves.{IsNumber}
+use Rattle.hdt_wire.specs.VByte.{IsNumber}
 use Rattle.hdt_seq.specs.ExactSequences.{IsNumberSequence}
 use Rattle.hdt_front.specs.Unfolding.{is_head, unfolded}
 use Rattle.hdt_front.specs.Facts.{rest_at}
@@ -105,14 +105,14 @@ pub record PackedParts : Type 0 where
 
 -- what the head of a section says: how many strings, packed into how many bytes, in blocks of how many, and the place
 -- of the starts
-pub record HeadParts : Type 0 where
+pub record SectionHeadParts : Type 0 where
   pub count : ℕ
   pub size : ℕ
   pub block_size : ℕ
   pub starts_place : ℕ
 
 -- the rows of the head, from top to bottom
-unfoldable pub head_at : List ℕ → ℕ → Result HeadParts Fault
+unfoldable pub head_at : List ℕ → ℕ → Result SectionHeadParts Fault
 head_at bytes at = do
   kind ← byte_at bytes at
   _ ← demand (kind.0 == 2) at SectionKind

@@ -1,18 +1,11 @@
--- The bytes that are written for a section are that section where they stand.
-use Rattle.std.proofs.Common.{ℕ, ◌+◌, ◌<◌, ◌^◌, List, [], ◌∷◌, ◌++◌, length, refl, sym, subst}
-use Rattle.std.specs.Prelude.{slice_index}
+-- The bytes that are written for a section, and what can be written.
+use Rattle.std.proofs.Common.{ℕ, ◌<◌, ◌^◌, List, ◌∷◌, ◌++◌, length}
 use Rattle.byteorder.specs.Endian.{little_bytes}
 use Rattle.hdt_wire.specs.Check.{code8, code32}
-use Rattle.hdt_wire.specs.Rows.{Stands}
-use Rattle.hdt_wire.specs.RowLaws.{Stands-front, Stands-back}
-use Rattle.hdt_wire.specs.VByte.{VByte, vbyte}
-use Rattle.hdt_wire.specs.VByteLaws.{vbyte_spells}
-use Rattle.hdt_seq.specs.SequenceLaws.{stands_spelled}
-use Rattle.hdt_seq.specs.Numbers.{IsNumbers, numbers_places_from, numbers_spelling}
-use Rattle.hdt_seq.specs.NumbersReading.{numbers_spells}
-use Rattle.hdt_seq.specs.PackingLaws.{EachFits}
-use Rattle.hdt_wire.specs.ExactLeaves.{IsNumber}
-use Rattle.hdt_front.specs.Section.{HasStarts, AreFolded, AreStrings, IsSection}
+use Rattle.hdt_wire.specs.VByte.{vbyte}
+use Rattle.hdt_seq.specs.Numbers.{numbers_spelling}
+use Rattle.hdt_seq.specs.Little.{EachFits}
+use Rattle.hdt_front.specs.Section.{HasStarts, AreFolded, AreStrings}
 
 abbrev pub section_head : ℕ → ℕ → ℕ → List ℕ
 section_head count size block_size = 2 ∷ (vbyte count ++ (vbyte size ++ vbyte block_size))
@@ -24,7 +17,7 @@ section_spelling count block_size starts packed =
     head ++ code8 head ∷ (numbers_spelling starts ++ (packed ++ little_bytes 4 (code32 packed)))
 
 -- what can be written
-pub record CanStand (strings : List (List ℕ)) (block_size : ℕ) (starts packed : List ℕ) : Type 0 where
+pub record CanBeWritten (strings : List (List ℕ)) (block_size : ℕ) (starts packed : List ℕ) : Type 0 where
   pub few : length strings < 2 ^ 64
   pub short : length packed < 2 ^ 64
   pub block : block_size < 2 ^ 64
@@ -34,56 +27,3 @@ pub record CanStand (strings : List (List ℕ)) (block_size : ℕ) (starts packe
   pub started : HasStarts (length strings) block_size starts
   pub folded : AreFolded block_size strings packed starts
   pub strings_are : AreStrings strings
-
-number_stands : (v : ℕ) (bytes : List ℕ) (at end : ℕ) → v < 2 ^ 64 → Stands bytes at (vbyte v) end → IsNumber v bytes at end
-number_stands v bytes at end lt s = record { spelled = stands_spelled VByte bytes at (vbyte v) v end s (vbyte_spells v lt); below = lt }
-
-pub section_stands : (strings : List (List ℕ)) (b : ℕ) (starts packed bytes : List ℕ) (at end : ℕ) → CanStand strings b starts packed
-    → Stands bytes at (section_spelling (length strings) b starts packed) end
-    → IsSection (record {
-      strings = strings;
-      block_size = b;
-      packed = packed;
-      packed_place = at + length (section_head (length strings) (length packed) b) + 1 + length (numbers_spelling starts);
-      end = end;
-    }) bytes at
-section_stands strings b starts packed bytes at end can s =
-    let vn = vbyte (length strings) in
-    let vm = vbyte (length packed) in
-    let head : List ℕ = section_head (length strings) (length packed) b in
-    let tail : List ℕ = packed ++ little_bytes 4 (code32 packed) in
-    let rest : List ℕ = code8 head ∷ (numbers_spelling starts ++ tail) in
-    let h = Stands-front bytes at head rest end s in
-    let kind = Stands-front bytes at (2 ∷ []) (vn ++ (vm ++ vbyte b)) (at + length head) h in
-    let t1 = Stands-back bytes at (2 ∷ []) (vn ++ (vm ++ vbyte b)) (at + length head) h in
-    let n = Stands-front bytes (at + 1) vn (vm ++ vbyte b) (at + length head) t1 in
-    let t2 = Stands-back bytes (at + 1) vn (vm ++ vbyte b) (at + length head) t1 in
-    let m = Stands-front bytes (at + 1 + length vn) vm (vbyte b) (at + length head) t2 in
-    let block = Stands-back bytes (at + 1 + length vn) vm (vbyte b) (at + length head) t2 in
-    let c = Stands-back bytes at head rest end s in
-    let code = Stands-front bytes (at + length head) (code8 head ∷ []) (numbers_spelling starts ++ tail) end c in
-    let t3 = Stands-back bytes (at + length head) (code8 head ∷ []) (numbers_spelling starts ++ tail) end c in
-    let place : ℕ = at + length head + 1 in
-    let numbers = Stands-front bytes place (numbers_spelling starts) tail end t3 in
-    record {
-      size_place = at + 1 + length vn;
-      block_place = at + 1 + length vn + length vm;
-      code_place = at + length head;
-      starts_place = place;
-      starts = record { items = starts; places = numbers_places_from place (slice_index bytes (place + 1)) (length starts); end = place + length (numbers_spelling starts) };
-      kind = kind;
-      count = number_stands (length strings) bytes (at + 1) (at + 1 + length vn) can.few n;
-      size = number_stands (length packed) bytes (at + 1 + length vn) (at + 1 + length vn + length vm) can.short m;
-      block = number_stands b bytes (at + 1 + length vn + length vm) (at + length head) can.block block;
-      code = subst (λ (t : List ℕ). Stands bytes (at + length head) (code8 t ∷ []) place) (sym h.here) code;
-      some = can.some;
-      starts_stand = record {
-        spelled = stands_spelled IsNumbers bytes place (numbers_spelling starts) starts _ numbers (numbers_spells starts can.few_starts can.starts_fit);
-        places = refl;
-      };
-      started = can.started;
-      place = refl;
-      packed = Stands-back bytes place (numbers_spelling starts) tail end t3;
-      folded = can.folded;
-      strings = can.strings_are;
-    }

@@ -29,9 +29,9 @@ After x [] = Unit {0}
 After x (p ∷ ps) = (precedes x p.string ≡ true) × After p.string ps
 
 -- strings that ascend
-abbrev pub Ascends : List Placed → Type 0
-Ascends [] = Unit {0}
-Ascends (p ∷ ps) = After p.string ps
+abbrev pub PlacedAscend : List Placed → Type 0
+PlacedAscend [] = Unit {0}
+PlacedAscend (p ∷ ps) = After p.string ps
 
 -- what a walk has: the string that it unfolded last, and those still to come
 pub record Way : Type 0 where

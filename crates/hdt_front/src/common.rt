@@ -2,7 +2,7 @@
 ghost use Rattle.std.specs.Prelude.{◌≡◌, ◌≤◌, ◌<◌, ◌+◌, length, min, take, slice_index, nat_eq};
 ghost use Rattle.hdt_wire.specs.Rows.{zero_in};
 ghost use Rattle.std.specs.List.{common_prefix_len};
-ghost use Rattle.hdt_front.specs.Reaching.{Reaches};
+ghost use Rattle.hdt_front.specs.Inside.Reaching.{Reaches};
 ghost use Rattle.hdt_front.specs.Searching.{order, agreed};
 
 use crate::scan::{LANES, first_set};

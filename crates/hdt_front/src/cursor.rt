@@ -1,7 +1,7 @@
 //! A cursor over the strings of a section: it stands on one, and is moved on.
 ghost use Rattle.std.specs.Prelude.{◌≡◌, ◌≤◌, ◌<◌, [], length, Ok, IsOk, OnOk, OnErr, IfOk, drop, option_copied};
 ghost use Rattle.hdt_front.specs.Walks.{placed_of};
-ghost use Rattle.hdt_front.specs.Walking.{first_string, first_order, first_agreed, next_agreed, next_place, Ascends};
+ghost use Rattle.hdt_front.specs.Walking.{first_string, first_order, first_agreed, next_agreed, next_place, PlacedAscend};
 
 use crate::common::compared_from;
 use crate::section::Section;
@@ -31,7 +31,7 @@ impl<'a> Cursor<'a> {
     /// A cursor on the first string. It takes the memory of that string.
     pub fn new(alloc: Global, section: &Section<'a>) -> Result<Cursor<'a>, AllocError>
         ensures is { IfOk result (λ c. c ≡ placed_of section.now) }
-        ensures ascends { IfOk result (λ c. Ascends c) }
+        ensures ascends { IfOk result (λ c. PlacedAscend c) }
     {
         let mut walk = Walk::new(alloc, section);
         let place = walk.next()?;

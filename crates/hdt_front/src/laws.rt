@@ -9,7 +9,7 @@ ghost use Rattle.hdt_front.specs.Numbering.{place};
 ghost use Rattle.hdt_front.specs.Strings.{strings_of, blocks_of, block_size};
 ghost use Rattle.hdt_front.specs.Canonical.{canonical, canonical_parts};
 ghost use Rattle.hdt_front.specs.Section.{SectionParts, AreStrings, IsSection, section_at, string_place};
-ghost use Rattle.hdt_front.specs.SectionWriting.{CanStand, section_head, section_spelling};
+ghost use Rattle.hdt_front.specs.SectionWriting.{CanBeWritten, section_head, section_spelling};
 
 /// The rows of a section answer exactly what stands at the place.
 pub fn sections_are_exact()
@@ -36,7 +36,7 @@ pub fn section_is_read_again()
     ensures again { (b : ℕ) (strings : List (List ℕ)) (before after : List ℕ) → 1 ≤ b → b < 2 ^ 64 → AreStrings strings
         → IsBytes (before ++ canonical b strings ++ after) → length (before ++ canonical b strings ++ after) < 2 ^ 64
         → section_at (before ++ canonical b strings ++ after) (length before) ≡ Ok (canonical_parts b strings (length before)) }
-    ensures folded { (strings : List (List ℕ)) (b : ℕ) (starts packed bytes : List ℕ) (at end : ℕ) → CanStand strings b starts packed
+    ensures folded { (strings : List (List ℕ)) (b : ℕ) (starts packed bytes : List ℕ) (at end : ℕ) → CanBeWritten strings b starts packed
         → Stands bytes at (section_spelling (length strings) b starts packed) end
         → IsSection (record {
           strings = strings;

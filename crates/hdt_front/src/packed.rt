@@ -43,7 +43,7 @@ fn demand_string(valid: bool, later: bool, place: usize) -> Result<(), Fault>
 
 impl<'a> Packed<'a> {
     ghost use Rattle.hdt_front.specs.Packed.{packing_of};
-    ghost use Rattle.hdt_front.specs.Faults.{fault_of};
+    ghost use Rattle.hdt_front.specs.Faults.{read_fault_of};
 
     /// The place of what is left.
     pub(crate) fn place(&self, rest: &[u8]) -> usize
@@ -125,7 +125,7 @@ impl<'a> Packed<'a> {
         requires left { length rest.now ≤ length self.now.bytes.now }
         requires utf8 { is_utf8 before.old.items ≡ true }
         ensures utf8 { IfOk result (λ after. is_utf8 before.new.items ≡ true) }
-        ensures exact { Gives fault_of (λ after. (before.new.items, after.now)) result (string_row (packing_of self.now) i before.old.items rest.now) }
+        ensures exact { Gives read_fault_of (λ after. (before.new.items, after.now)) result (string_row (packing_of self.now) i before.old.items rest.now) }
         ensures left { IfOk result (λ after. length after.now ≤ length rest.now) }
     {
         let (kept, text) = self.opened(i, inside, rest)?;
@@ -154,7 +154,7 @@ impl<'a> Packed<'a> {
         requires left { length rest.now ≤ length self.now.bytes.now }
         requires utf8 { is_utf8 before.old.items ≡ true }
         ensures utf8 { IfOk result (λ after. is_utf8 before.new.items ≡ true) }
-        ensures exact { Gives fault_of (λ after. (before.new.items, after.now)) result (string_row (packing_of self.now) i before.old.items rest.now) }
+        ensures exact { Gives read_fault_of (λ after. (before.new.items, after.now)) result (string_row (packing_of self.now) i before.old.items rest.now) }
         ensures left { IfOk result (λ after. length after.now ≤ length rest.now) }
     {
         if inside > 0 {
@@ -169,7 +169,7 @@ impl<'a> Packed<'a> {
 
     /// Checks all strings.
     pub(crate) fn check(&self, alloc: Global) -> Result<(), ReadFault>
-        ensures { Gives fault_of (λ x. x) result (strings_at (packing_of self.now) self.now.count 0 [] self.now.bytes.now) }
+        ensures { Gives read_fault_of (λ x. x) result (strings_at (packing_of self.now) self.now.count 0 [] self.now.bytes.now) }
     {
         let mut before = Vec::new(alloc);
         let mut rest = self.bytes;

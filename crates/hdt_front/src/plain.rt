@@ -1,7 +1,7 @@
 //! The usual piece: behind the head of a block, with a kept length of one byte and an ASCII text.
 ghost use Rattle.std.specs.Prelude.{◌≡◌, true, IfSome};
 ghost use Rattle.std.specs.Str.{is_utf8};
-ghost use Rattle.hdt_front.specs.PlainPieces.{IsPlainPiece};
+ghost use Rattle.hdt_front.specs.Inside.PlainPieces.{IsPlainPiece};
 
 use crate::scan::plain_len;
 

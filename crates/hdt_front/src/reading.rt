@@ -4,7 +4,7 @@ ghost use Rattle.hdt_wire.specs.declared.fault.Reason.TheVariants.{BlockPlace as
 ghost use Rattle.hdt_wire.specs.declared.fault.Fault.{Fault as FaultIs};
 ghost use Rattle.hdt_wire.specs.Rows.{demand as demand_is, Gives, Reads};
 ghost use Rattle.hdt_front.specs.declared.fault.ReadFault.TheVariants.{Fault as FaultOf};
-ghost use Rattle.hdt_front.specs.PackedReading.{head_read, parts_read};
+ghost use Rattle.hdt_front.specs.Inside.PackedReading.{head_read, packed_parts_read};
 ghost use Rattle.hdt_seq.specs.Numbers.{numbers_of, numbers_places};
 ghost use Rattle.hdt_seq.specs.Sequence.{place_of_entry};
 ghost use Rattle.hdt_front.specs.Section.{SectionParts, IsSection, head_at, packed_parts_at, section_at, starts_counted};
@@ -53,7 +53,7 @@ struct Head {
 }
 
 /// The rows of the head.
-#[tactic(auto, unfolding(crate::specs::Section::head_at, crate::specs::PackedReading::head_read))]
+#[tactic(auto, unfolding(crate::specs::Section::head_at, crate::specs::Inside::PackedReading::head_read))]
 fn read_head(bytes: &[u8], at: usize) -> Result<Head, Fault>
     ensures exact { Reads head_read result (head_at bytes.now at) }
     ensures some { IfOk result (λ h. 0 < h.count → 0 < h.block) }
@@ -76,9 +76,9 @@ fn read_head(bytes: &[u8], at: usize) -> Result<Head, Fault>
 }
 
 /// The rows above those of the strings: they take no memory.
-#[tactic(auto, unfolding(crate::specs::Section::packed_parts_at, crate::specs::PackedReading::head_read, crate::specs::PackedReading::parts_read))]
+#[tactic(auto, unfolding(crate::specs::Section::packed_parts_at, crate::specs::Inside::PackedReading::head_read, crate::specs::Inside::PackedReading::packed_parts_read))]
 fn read_packed<'a>(bytes: &'a [u8], at: usize) -> Result<(Packed<'a>, usize), Fault>
-    ensures exact { Reads parts_read result (packed_parts_at bytes.now at) }
+    ensures exact { Reads packed_parts_read result (packed_parts_at bytes.now at) }
     ensures end { IfOk result (λ r. (at + length r.0.bytes.now < r.1) × (r.1 ≤ length bytes.now)) }
 {
     let head = read_head(bytes, at)?;
@@ -102,16 +102,16 @@ fn read_packed<'a>(bytes: &'a [u8], at: usize) -> Result<(Packed<'a>, usize), Fa
 
 impl<'a> Section<'a> {
     ghost use Rattle.hdt_front.specs.Strings.{strings_of, section_of};
-    ghost use Rattle.hdt_front.specs.Faults.{fault_of};
+    ghost use Rattle.hdt_front.specs.Faults.{read_fault_of};
 
     /// Reads by rows.
-    #[tactic(auto, unfolding(crate::specs::Section::section_at, crate::specs::PackedReading::parts_read, crate::specs::Strings::section_of, crate::specs::Strings::strings_of))]
+    #[tactic(auto, unfolding(crate::specs::Section::section_at, crate::specs::Inside::PackedReading::packed_parts_read, crate::specs::Strings::section_of, crate::specs::Strings::strings_of))]
     fn read_rows(
         alloc: Global,
         bytes: &'a [u8],
         at: usize,
     ) -> Result<(Section<'a>, usize), ReadFault>
-        ensures exact { Gives fault_of (λ r. section_of r.0) result (section_at bytes.now at) }
+        ensures exact { Gives read_fault_of (λ r. section_of r.0) result (section_at bytes.now at) }
         ensures without_memory { (f : FaultIs) → packed_parts_at bytes.now at ≡ Err f → result ≡ Err (FaultOf f) }
         ensures next { IfOk result (λ r. r.1 ≡ (section_of r.0).end) }
         ensures end { IfOk result (λ r. (at + length r.0.packed.bytes.now < r.1) × (r.1 ≤ length bytes.now)) }
@@ -137,9 +137,9 @@ impl<'a> Section<'a> {
         // What is read stands there.
         ensures found { IfOk result (λ r. IsSection (section_of r.0) bytes.now at) }
         // What stands there is read, unless memory ran out.
-        ensures only { (s : SectionParts) → IsSection s bytes.now at → Gives fault_of (λ r. section_of r.0) result (Ok s) }
+        ensures only { (s : SectionParts) → IsSection s bytes.now at → Gives read_fault_of (λ r. section_of r.0) result (Ok s) }
         // Otherwise it is the one fault that stands.
-        ensures exact { Gives fault_of (λ r. section_of r.0) result (section_at bytes.now at) }
+        ensures exact { Gives read_fault_of (λ r. section_of r.0) result (section_at bytes.now at) }
         // A fault that stands above the strings, the code of the packed bytes among them, is answered without memory.
         ensures without_memory { (f : FaultIs) → packed_parts_at bytes.now at ≡ Err f → result ≡ Err (FaultOf f) }
         ensures next { IfOk result (λ r. r.1 ≡ (section_of r.0).end) }

@@ -2,7 +2,8 @@
 ghost use Rattle.std.specs.Prelude.{◌≡◌, ◌≤◌, ◌<◌, ◌+◌, true, length, take};
 ghost use Rattle.std.specs.Str.{is_utf8};
 ghost use Rattle.hdt_wire.specs.Rows.{zero_in};
-ghost use Rattle.hdt_front.specs.Reaching.{Reaches, first_set, plain_in};
+ghost use Rattle.hdt_wire.specs.Masks.{first_set};
+ghost use Rattle.hdt_front.specs.Inside.Reaching.{Reaches, plain_in};
 
 use hdt_wire::zero_in;
 use std::simd::prelude::*;

@@ -74,7 +74,7 @@ impl<'a> Section<'a> {
 
     /// The last block whose head isn't greater than the sought string, by halving. The heads between two agree with it
     /// as far as both of these do.
-    #[tactic(auto, using(hdt_seq::specs::WidthLaws::digits_split))]
+    #[tactic(auto, using(hdt_seq::specs::Laws::Width::digits_split))]
     fn block_of(&self, x: &[u8], steps: &mut Steps) -> Landed<'a>
         requires some { 0 < blocks_of self.now }
         requires sought { zero_in x.now ≡ length x.now }

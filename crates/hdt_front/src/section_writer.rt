@@ -7,7 +7,7 @@ ghost use Rattle.hdt_front.specs.Section.{AreStrings, IsSection};
 ghost use Rattle.hdt_front.specs.SectionWriting.{section_head, section_spelling};
 ghost use Rattle.hdt_front.specs.Searching.{agreed};
 ghost use Rattle.hdt_front.specs.Canonical.{piece_with, piece_of, canonical, canonical_parts};
-ghost use Rattle.hdt_front.specs.InWork.{last_of};
+ghost use Rattle.hdt_front.specs.InWork.{last_string};
 
 use crate::common::common_prefix;
 use crate::unfold::unfold;
@@ -199,7 +199,7 @@ impl SectionWriter {
 
     /// The string that was handed in last; none yet: empty.
     pub fn last(&self) -> &[u8]
-        ensures { result.now ≡ last_of self.now }
+        ensures { result.now ≡ last_string self.now }
     {
         &self.last
     }
@@ -220,7 +220,7 @@ impl SectionWriter {
     /// has no zero byte, and that it agrees exactly so far with the one before. Where memory is refused, the writer is as it was.
     pub fn push_agreeing(&mut self, string: &[u8], same: usize) -> Result<(), AllocError>
         requires no_zero { HasNoZero string.now }
-        requires same { same ≡ agreed (last_of self.old) string.now }
+        requires same { same ≡ agreed (last_string self.old) string.now }
         ensures ok { OnOk result (self.new ≡ record self.old { strings = self.old.strings ++ string.now ∷ [] }) }
         ensures err { OnErr result (self.new ≡ self.old) }
     {

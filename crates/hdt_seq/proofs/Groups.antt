@@ -1,7 +1,7 @@
 -- The counts of a directory at the group that holds a place.
 use Rattle.std.proofs.Common.{◌≡◌, ℕ, ◌+◌, ◌-◌, ◌*◌, ◌/◌, ◌%◌, ◌<◌, ◌≤◌, List, Bool, length, slice_index, min, ap, ◌∙◌, arith, inl, inr, ◌⊎◌}
 use Rattle.hdt_seq.specs.Marks.{marks_before}
-use Rattle.hdt_seq.specs.MarksLaws.{marks_past}
+use Rattle.hdt_seq.specs.Laws.Marks.{marks_past}
 use Rattle.hdt_seq.specs.Directory.{AreGroupCounts}
 
 -- the group begins at the place less what is inside

@@ -6,7 +6,7 @@ use Rattle.byteorder.specs.Endian.{little_number}
 use Rattle.byteorder.specs.Numbers.{little_from-cons}
 use Rattle.hdt_wire.specs.Rows.{IsBytes}
 use Rattle.hdt_seq.specs.Little.{little}
-use Rattle.hdt_seq.specs.LittleLaws.{little-drop, little-take, little_byte, little_small, mod_less}
+use Rattle.hdt_seq.specs.Laws.Little.{little-drop, little-take, little_byte, little_small, mod_less}
 
 front : (n : ℕ) (bs : List ℕ) → n ≤ length bs → little_number n bs ≡ little (take n bs)
 front zero bs le = refl

@@ -10,9 +10,9 @@ use Rattle.hdt_seq.specs.declared.numbers.Numbers.{Numbers}
 use Rattle.hdt_seq.specs.declared.bits.Bits.{Bits}
 use Rattle.hdt_seq.specs.Sequence.{Sequence}
 use Rattle.hdt_seq.specs.Numbers.{IsNumbers, numbers_of, numbers_places, numbers_places_from, numbers_and_end, numbers_read, numbers_at}
-use Rattle.hdt_seq.specs.NumbersReading.{numbers_found, numbers_only}
+use Rattle.hdt_seq.specs.Laws.NumbersReading.{numbers_found, numbers_only}
 use Rattle.hdt_seq.specs.Bits.{IsBits, bits_of, bits_places, bits_places_from, bits_and_end, bits_read, bits_at}
-use Rattle.hdt_seq.specs.BitsReading.{bits_found, bits_only}
+use Rattle.hdt_seq.specs.Laws.BitsReading.{bits_found, bits_only}
 
 -- more bytes than there are at all
 pub too_many : (bytes : List ℕ) (at n : ℕ) → length bytes < n → bytes_at n bytes at ≡ Err (record { place = at; reason = Truncated })

@@ -6,7 +6,7 @@ use Rattle.std.proofs.lemmas.List.FromFn.{take-map-range_with_len, sum_by-map-ra
 use Rattle.std.specs.List.{range_with_len, count_by}
 use Rattle.std.specs.Int.Count.{ones}
 use Rattle.hdt_seq.specs.Little.{little, bit, bits}
-use Rattle.hdt_seq.specs.LittleLaws.{mod_less}
+use Rattle.hdt_seq.specs.Laws.Little.{mod_less}
 use Rattle.hdt_seq.specs.Marks.{marks_before}
 
 -- ---- the ones of a number

@@ -1,6 +1,6 @@
 -- Packed bytes (rdfhdt.org, "HDT binary format", Log sequence, Bitmap): the bytes, least first, are one number,
 -- and its binary digits, least first, are cut into entries of a fixed width, or taken one by one.
-use Rattle.std.specs.Prelude.{ℕ, ◌+◌, ◌*◌, ◌/◌, ◌%◌, ◌^◌, ◌==◌, List, [], ◌∷◌, length, Bool, cond, map}
+use Rattle.std.specs.Prelude.{ℕ, ◌+◌, ◌*◌, ◌/◌, ◌%◌, ◌^◌, ◌<◌, ◌==◌, List, [], ◌∷◌, length, get_or, Bool, cond, map}
 use Rattle.std.specs.List.{range_with_len}
 use Rattle.byteorder.specs.Endian.{little_bytes}
 
@@ -47,3 +47,7 @@ bit_number b = cond b 1 0
 -- the bytes that hold the bits; those after the last one are 0
 unfoldable pub packed_bits : List Bool → List ℕ
 packed_bits xs = packed 1 (map bit_number xs)
+
+-- each entry has no more binary digits than the width
+abbrev pub EachFits : ℕ → List ℕ → Type 0
+EachFits width xs = (i : ℕ) → get_or xs i 0 < 2 ^ width

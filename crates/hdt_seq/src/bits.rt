@@ -71,7 +71,7 @@ impl<'a> Bits<'a> {
     }
 
     /// How many bits there are: at least 1, below 2^64.
-    #[tactic(auto, using(crate::specs::BitsLaws::bits_len))]
+    #[tactic(auto, using(crate::specs::Laws::Bits::bits_len))]
     pub fn len(&self) -> u64
         ensures { result ≡ length (bits_of self.now) }
     {
@@ -79,7 +79,7 @@ impl<'a> Bits<'a> {
     }
 
     /// Whether bit i, counted from 0, is 1; the caller shows that there is one.
-    #[tactic(auto, using(crate::specs::BitsLaws::bit_within, crate::specs::BitsLaws::bits_get))]
+    #[tactic(auto, using(crate::specs::Laws::Bits::bit_within, crate::specs::Laws::Bits::bits_get))]
     pub fn get(&self, i: u64) -> bool
         requires { i < length (bits_of self.now) }
         ensures { slice_get (bits_of self.now) i ≡ Some result }
@@ -96,7 +96,7 @@ impl<'a> Bits<'a> {
     }
 
     /// The place of the byte that holds bit i, in bytes from the start of the input.
-    #[tactic(auto, using(crate::specs::BitsLaws::bit_within), unfolding(crate::specs::Bits::bits_places))]
+    #[tactic(auto, using(crate::specs::Laws::Bits::bit_within), unfolding(crate::specs::Bits::bits_places))]
     pub fn entry_place(&self, i: u64) -> u64
         requires { i < length (bits_of self.now) }
         ensures { result ≡ place_of_entry (bits_places self.now) i }

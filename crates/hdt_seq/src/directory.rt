@@ -58,7 +58,7 @@ impl Directory {
 
     /// How many marks stand before place i, places being counted from 0, in at most 8 steps and with no memory. The
     /// caller shows that i is at most the length, at which all marks are counted, in one step.
-    #[tactic(auto, unfolding(crate::specs::Directory::counts_kept), using(crate::specs::MarksLaws::marks_le, crate::proofs::Groups::group_end))]
+    #[tactic(auto, unfolding(crate::specs::Directory::counts_kept), using(crate::specs::Laws::Marks::marks_le, crate::proofs::Groups::group_end))]
     pub fn rank(&self, bits: &Bits<'_>, i: u64, steps: &mut Steps) -> u64
         requires counted { IsDirectoryOf self.now (bits_of bits.now) }
         requires within { i ≤ length (bits_of bits.now) }
@@ -121,7 +121,7 @@ impl Directory {
     }
 
     /// The group that holds mark k, with the count of marks before it, by halving.
-    #[tactic(auto, unfolding(crate::specs::Directory::counts_kept), using(crate::specs::WidthLaws::digits_split))]
+    #[tactic(auto, unfolding(crate::specs::Directory::counts_kept), using(crate::specs::Laws::Width::digits_split))]
     fn group_of(&self, k: u64, steps: &mut Steps) -> (u64, u64)
         requires some { 1 < length (counts_kept self.now) }
         requires first { slice_index (counts_kept self.now) 0 ≡ 0 }
@@ -152,7 +152,7 @@ impl Directory {
 }
 
 /// How many marks stand from a place on and before another: a step for each word.
-#[tactic(auto, using(crate::specs::MarksLaws::marks_le))]
+#[tactic(auto, using(crate::specs::Laws::Marks::marks_le))]
 fn marks_between(bits: &Bits<'_>, from: u64, to: u64, steps: &mut Steps) -> u64
     requires order { from ≤ to }
     requires within { to ≤ length (bits_of bits.now) }

@@ -73,7 +73,7 @@ impl<'a> Numbers<'a> {
     }
 
     /// How many entries there are: below 2^64.
-    #[tactic(auto, using(crate::specs::NumbersLaws::numbers_len))]
+    #[tactic(auto, using(crate::specs::Laws::Numbers::numbers_len))]
     pub fn len(&self) -> u64
         ensures { result ≡ length (numbers_of self.now) }
     {
@@ -81,7 +81,7 @@ impl<'a> Numbers<'a> {
     }
 
     /// Entry i, counted from 0; the caller shows that there is one.
-    #[tactic(auto, using(crate::specs::NumbersLaws::number_within, crate::specs::NumbersLaws::numbers_get))]
+    #[tactic(auto, using(crate::specs::Laws::Numbers::number_within, crate::specs::Laws::Numbers::numbers_get))]
     pub fn get(&self, i: u64) -> u64
         requires { i < length (numbers_of self.now) }
         ensures { result ≡ slice_index (numbers_of self.now) i }
@@ -99,7 +99,7 @@ impl<'a> Numbers<'a> {
 
     /// The place of entry i, in bytes from the start of the input: the byte that holds its first bit. An entry of no
     /// bits lies where the packed bytes begin.
-    #[tactic(auto, using(crate::specs::NumbersLaws::number_within), unfolding(crate::specs::Numbers::numbers_places))]
+    #[tactic(auto, using(crate::specs::Laws::Numbers::number_within), unfolding(crate::specs::Numbers::numbers_places))]
     pub fn entry_place(&self, i: u64) -> u64
         requires { i < length (numbers_of self.now) }
         ensures { result ≡ place_of_entry (numbers_places self.now) i }

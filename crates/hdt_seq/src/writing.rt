@@ -3,7 +3,7 @@ ghost use Rattle.std.specs.Prelude.{◌≡◌, ◌+◌, ◌^◌, ◌<◌, ◌++�
 ghost use Rattle.hdt_wire.specs.Rows.{IsBytes};
 ghost use Rattle.hdt_wire.specs.Control.{Keeps};
 ghost use Rattle.hdt_seq.specs.Width.{width_of};
-ghost use Rattle.hdt_seq.specs.PackingLaws.{EachFits};
+ghost use Rattle.hdt_seq.specs.Little.{EachFits};
 ghost use Rattle.hdt_seq.specs.Numbers.{IsNumbers, numbers_at, numbers_places_from, numbers_spelling};
 ghost use Rattle.hdt_seq.specs.Bits.{IsBits, bits_at, bits_places_from, bits_spelling};
 

@@ -2,9 +2,9 @@
 use Rattle.std.proofs.Common.{◌≡◌, ℕ, true, false, List, [], ◌∷◌, ◌++◌, ◌+◌, take, Option, None, Some, Ok, inl, inr, sym, refl, subst}
 use Rattle.hdt_terms.specs.declared.fault.LineFault.{LineFault}
 use Rattle.hdt_terms.specs.declared.triple.Triple.{Triple}
-use Rattle.hdt_terms.specs.LineReading.{triple_in}
+use Rattle.hdt_terms.specs.LineReading.{line_triple}
 use Rattle.hdt_terms.specs.Lines.{NoEnd, Line, BareLines}
-use Rattle.hdt_terms.specs.Taking.{State, left, take_line, Takes, OneLine, TakesTriple, TakesRest, Stands, Finds, FaultOfTriple}
+use Rattle.hdt_terms.specs.Taking.{State, left, take_line, Takes, OneLine, TakesTriple, TakesRest, FaultIsAhead, FindsLine, FaultOfTriple}
 use Rattle.hdt_terms.proofs.Counting.{BareLines-append, Takes-trans}
 use Rattle.hdt_terms.proofs.LineFound.{line_found}
 use Rattle.hdt_terms.proofs.Taken.{Grew-same, LineTaken, line_taken, one_line, whole_line, stands_in_triple, stands_behind}
@@ -48,15 +48,15 @@ module _ (a s new : State) (before mid after : Option (List ℕ)) (front text : 
 
 -- ---- a line that is ready
 
-module _ (a s : State) (before given : Option (List ℕ)) (n : ℕ) (found : Finds (Ok (Some n)) a s before (left s given) given) where
-  pub ready_fault : (fault : LineFault) → (fault.line ≡ s.ends + 1) × FaultOfTriple fault.reason fault.column (take n s.held) → Stands fault a before given
+module _ (a s : State) (before given : Option (List ℕ)) (n : ℕ) (found : FindsLine (Ok (Some n)) a s before (left s given) given) where
+  pub ready_fault : (fault : LineFault) → (fault.line ≡ s.ends + 1) × FaultOfTriple fault.reason fault.column (take n s.held) → FaultIsAhead fault a before given
   ready_fault fault h =
       let ready = found.3 in
       stands_behind fault a s before (left s given) given found.0 found.1 found.2 h.0
       (stands_in_triple fault.reason fault.column s.taken s.limit (left s given) given (take n s.held) ready.utf8 ready.triple ready.front.no_end
       (whole_line s.held s.held given given n s.taken s.limit (Grew-same s.held given) ready.front found.1.within) h.1)
 
-  pub ready_taken : (new : State) (triple : Triple) → new ≡ take_line s n → triple_in (take n s.held) ≡ Ok triple → TakesTriple a new before (left new given) triple
+  pub ready_taken : (new : State) (triple : Triple) → new ≡ take_line s n → line_triple (take n s.held) ≡ Ok triple → TakesTriple a new before (left new given) triple
   ready_taken new triple is e =
       let ready = found.3 in
       let taken : LineTaken s new (take n s.held) (left s given) (left new given) =

@@ -3,7 +3,7 @@ use Rattle.std.proofs.Common.{◌≡◌, ℕ, ◌+◌, ◌-◌, ◌≤◌, ◌<�
 use Rattle.std.proofs.Math.Seq.{take-add}
 use Rattle.std.proofs.lemmas.List.{drop-take, drop-drop, length-append, length-drop, length-take-le}
 use Rattle.std.specs.Io.KnownBytes.{Consumes}
-use Rattle.hdt_terms.specs.Filling.{Grew}
+use Rattle.hdt_terms.specs.Inside.Filling.{Grew}
 
 -- past the first n of them
 pub skipped : (xs held : List ℕ) (start end n : ℕ) → start ≤ end → end ≤ length xs → take (end - start) (drop start xs) ≡ held → n ≤ length held

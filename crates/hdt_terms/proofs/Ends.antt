@@ -11,9 +11,9 @@ use Rattle.hdt_terms.specs.declared.fault.LineReason.{LineReason}
 use Rattle.hdt_terms.specs.declared.fault.LineReason.TheVariants.{Syntax, NotUtf8, BadEscape, RelativeIri, IriCharacter, ZeroCharacter, Read, OutOfMemory, TooLong}
 use Rattle.hdt_terms.specs.declared.lanes.Class.TheVariants.{Text, AsciiLine}
 use Rattle.hdt_terms.specs.Chars.{is_end}
-use Rattle.hdt_terms.specs.Lanes.{PassBetween, passes}
+use Rattle.hdt_terms.specs.Inside.Lanes.{PassBetween, passes}
 use Rattle.hdt_terms.specs.Lines.{NoEnd}
-use Rattle.hdt_terms.specs.Filling.{Grew, FoundEnd, ReadMore, LineFront, Filled}
+use Rattle.hdt_terms.specs.Inside.Filling.{Grew, FoundEnd, ReadMore, LineFront, Filled}
 
 pub Grew-trans : (x y z : List ℕ) (a b c : Option (List ℕ)) → Grew x y a b → Grew y z b c → Grew x z a c
 Grew-trans x y z a b c p q = (p.0 ++ q.0, q.1 ∙ ap (λ l. l ++ q.0) p.1 ∙ append_assoc x p.0 q.0, Consumes-trans a b c p.0 q.0 p.2 q.2)

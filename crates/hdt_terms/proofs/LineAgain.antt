@@ -12,7 +12,7 @@ use Rattle.hdt_terms.specs.declared.term.Term.TheVariants as terms
 use Rattle.hdt_terms.specs.declared.triple.Triple.{Triple}
 use Rattle.hdt_terms.specs.Chars.{is_blank, is_pn_chars}
 use Rattle.hdt_terms.specs.Labels.{label_rest, dotted}
-use Rattle.hdt_terms.specs.LineReading.{begins, role_here, role_at, is_comment, is_bare, closed_here, closed_at, triple_at, triple_in, line_in}
+use Rattle.hdt_terms.specs.LineReading.{begins, role_here, role_at, is_comment, is_bare, closed_here, closed_at, line_triple_at, line_triple, line_in}
 use Rattle.hdt_terms.specs.Lines.{IsComment, IsBare, IsSubject, IsPredicate, SpelledTriple, Line}
 use Rattle.hdt_terms.specs.Reading.{after_blanks, suffix_after, suffix_at, term_at}
 use Rattle.hdt_terms.specs.Spelling.{AreBlanks, Spelled, SpelledTerm}
@@ -159,8 +159,8 @@ closed_again before behind are bare = ap closed_here (after_blanks-blanks before
 -- ---- a triple
 
 module _ (text : List ℕ) (triple : Triple) (h : SpelledTriple text triple) where
-  pub triple_again : triple_at text ≡ Ok triple
-  unfolding triple_at
+  pub triple_again : line_triple_at text ≡ Ok triple
+  unfolding line_triple_at
   triple_again =
       let s = role_again Subject h.before_s h.s (h.before_p ++ (h.p ++ (h.before_o ++ (h.o ++ (h.before_stop ++ 46 ∷ h.behind))))) triple.s h.blanks.0 h.subject.0 h.subject.1
       (closes_subject triple.s triple.p h.before_p h.p _ h.subject.1 h.blanks.1 h.predicate.0.form h.predicate.1) in
@@ -180,6 +180,6 @@ module _ (text : List ℕ) (triple : Triple) (h : SpelledTriple text triple) whe
 -- ---- a line
 
 pub line_again : (text : List ℕ) (x : Option Triple) → Line text x → line_in text ≡ Ok x
-unfolding line_in triple_in
+unfolding line_in line_triple
 line_again text None h = checked_ok text _ h.0 ∙ rw (bare_again text h.1) refl
 line_again text (Some triple) h = checked_ok text _ h.0 ∙ rw (triple_not_bare text triple h.1, triple_again text triple h.1) refl

@@ -12,7 +12,7 @@ use Rattle.hdt_terms.specs.declared.term.Term.{Term}
 use Rattle.hdt_terms.specs.declared.term.Term.TheVariants as terms
 use Rattle.hdt_terms.specs.declared.triple.Triple.{Triple}
 use Rattle.hdt_terms.specs.Faults.{checked}
-use Rattle.hdt_terms.specs.LineReading.{begins, role_here, role_at, is_comment, is_bare, bare_at, closed_here, closed_at, triple_at, triple_in, line_in, located}
+use Rattle.hdt_terms.specs.LineReading.{begins, role_here, role_at, is_comment, is_bare, bare_at, closed_here, closed_at, line_triple_at, line_triple, line_in, located}
 use Rattle.hdt_terms.specs.Lines.{IsComment, IsBare, IsSubject, IsPredicate, SpelledTriple, Line}
 use Rattle.hdt_terms.specs.Reading.{◌>>=◌, stops, after_blanks, term_at}
 use Rattle.hdt_terms.specs.Spelling.{AreBlanks, Spelled}
@@ -124,8 +124,8 @@ closed_found bytes done e = let p = passed bytes in closed_here_found bytes (aft
 
 -- ---- a triple
 
-pub triple_found : (text : List ℕ) (triple : Triple) → IsUtf8 text → triple_at text ≡ Ok triple → SpelledTriple text triple
-unfolding triple_at
+pub triple_found : (text : List ℕ) (triple : Triple) → IsUtf8 text → line_triple_at text ≡ Ok triple → SpelledTriple text triple
+unfolding line_triple_at
 triple_found text triple utf8 e =
     let s = bind_ok (role_at Subject text) (λ x. role_at Predicate x.1 >>= λ y. role_at Object y.1 >>= λ z. closed_at z.1 >>= λ _. Ok (record { s = x.0; p = y.0; o = z.0 })) triple e in
     let p = bind_ok (role_at Predicate s.0.1) (λ y. role_at Object y.1 >>= λ z. closed_at z.1 >>= λ _. Ok (record { s = s.0.0; p = y.0; o = z.0 })) triple s.2 in
@@ -161,9 +161,9 @@ located_ok : (text : List ℕ) (triple : Triple) (r : Result Triple Stop) → lo
 located_ok text triple (Ok x) e = cc
 located_ok text triple (Err stop) e = absurd cc
 
-pub line_found : (text : List ℕ) (triple : Triple) → IsUtf8 text → triple_in text ≡ Ok triple → Line text (Some triple)
-unfolding triple_in
-line_found text triple utf8 e = (utf8, triple_found text triple utf8 (located_ok text triple (triple_at text) e))
+pub line_found : (text : List ℕ) (triple : Triple) → IsUtf8 text → line_triple text ≡ Ok triple → Line text (Some triple)
+unfolding line_triple
+line_found text triple utf8 e = (utf8, triple_found text triple utf8 (located_ok text triple (line_triple_at text) e))
 
 -- ---- a line that is not UTF-8
 
@@ -171,6 +171,6 @@ pub line_not_utf8 : (text : List ℕ) → ¬ (IsUtf8 text) → line_in text ≡ 
 unfolding line_in checked
 line_not_utf8 text none = rw (not_valid text none) refl
 
-pub line_fault : (text : List ℕ) (fault : TermFault) → IsUtf8 text → is_bare text ≡ false → triple_in text ≡ Err fault → line_in text ≡ Err fault
+pub line_fault : (text : List ℕ) (fault : TermFault) → IsUtf8 text → is_bare text ≡ false → line_triple text ≡ Err fault → line_in text ≡ Err fault
 unfolding line_in
 line_fault text fault utf8 some e = checked_ok text _ utf8 ∙ rw (some, e) refl

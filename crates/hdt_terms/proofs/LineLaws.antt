@@ -3,7 +3,7 @@ use Rattle.std.proofs.Common.{◌≡◌, true, List, ℕ, Option, None, Some, Re
 use Rattle.std.specs.Prelude.{IsUtf8}
 use Rattle.hdt_terms.specs.declared.fault.TermFault.{TermFault}
 use Rattle.hdt_terms.specs.declared.triple.Triple.{Triple}
-use Rattle.hdt_terms.specs.LineReading.{is_bare, triple_in, as_line, line_in, LineFaultStands}
+use Rattle.hdt_terms.specs.LineReading.{is_bare, line_triple, as_line, line_in, LineFaultStands}
 use Rattle.hdt_terms.specs.Lines.{Line}
 use Rattle.hdt_terms.proofs.Cases.{chosen}
 use Rattle.hdt_terms.proofs.LawsLemmas.{checked_utf8}
@@ -26,7 +26,7 @@ refused_is f g e = cc
 read_or_refused : (x : Option Triple) (fault : TermFault) → read x ≡ refused fault → ⊥
 read_or_refused x fault e = cc
 
-as_line_found : (text : List ℕ) (r : Result Triple TermFault) (x : Option Triple) → IsUtf8 text → triple_in text ≡ r → as_line r ≡ read x → Line text x
+as_line_found : (text : List ℕ) (r : Result Triple TermFault) (x : Option Triple) → IsUtf8 text → line_triple text ≡ r → as_line r ≡ read x → Line text x
 as_line_found text (Ok triple) None utf8 h e = absurd cc
 as_line_found text (Ok triple) (Some other) utf8 h e = let is : Ok triple ≡ Ok other = cc in line_found text other utf8 (h ∙ is)
 as_line_found text (Err fault) x utf8 h e = absurd cc
@@ -39,9 +39,9 @@ pub line_read : (text : List ℕ) (x : Option Triple) → line_in text ≡ Ok x 
 unfolding line_in
 line_read text x e =
     let utf8 = checked_utf8 text _ x e in
-    elim (chosen (is_bare text) (read None) (as_line (triple_in text)) (read x) (sym (checked_ok text _ utf8) ∙ e)) [
+    elim (chosen (is_bare text) (read None) (as_line (line_triple text)) (read x) (sym (checked_ok text _ utf8) ∙ e)) [
       | inl p ↦ bare_line text x utf8 p.0 p.1
-      | inr p ↦ as_line_found text (triple_in text) x utf8 refl p.1
+      | inr p ↦ as_line_found text (line_triple text) x utf8 refl p.1
     ]
 
 pub line_or_fault : (text : List ℕ) → ((x : Option Triple) × Line text x) ⊎ ((fault : TermFault) × LineFaultStands text fault)

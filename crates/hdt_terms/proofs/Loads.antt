@@ -6,7 +6,8 @@ use Rattle.std.proofs.lemmas.List.{length-map}
 use Rattle.std.proofs.lemmas.List.Sums.{prefix_len-le-length, prefix_len_passes, prefix_len_stops}
 use Rattle.std.specs.List.{prefix_len}
 use lib.Lanes.{chunk, mask_l, top}
-use Rattle.hdt_terms.specs.Lanes.{IsRun, first_set}
+use Rattle.hdt_wire.specs.Masks.{first_set}
+use Rattle.hdt_terms.specs.Inside.Lanes.{IsRunOfBytes}
 
 run_is : (p : ℕ → Bool) (v : List ℕ) (n : ℕ) → length v ≡ n → n ≤ 64 → first_set (mask_l (map p v)) n ≡ prefix_len (λ x. not (p x)) v
 run_is p v n long few =
@@ -18,7 +19,7 @@ run_is p v n long few =
 -- the lanes z were computed one by one from a load, and a byte passes exactly where the top bit of its lane is not set
 pub run_of : (test : ℕ → Bool) (d : List ℕ) (i n r : ℕ) (z : List ℕ) → i + n ≤ length d → n ≤ 64 → ((k : ℕ) → Fits w8 (get_or d k 0))
     → r ≡ first_set (mask_l (map (top 7) z) % 2 ^ 64) n → (f : ℕ → ℕ) → z ≡ map f (chunk i n d)
-    → agree_below (λ x. not (top 7 (f x))) test 256 ≡ true → IsRun test d i n r
+    → agree_below (λ x. not (top 7 (f x))) test 256 ≡ true → IsRunOfBytes test d i n r
 run_of test d i n r z room few fits found f lanes all =
     let v = chunk i n d in
     let long = length-chunk i n d room in

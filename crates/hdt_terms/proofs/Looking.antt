@@ -5,7 +5,7 @@ use Rattle.std.specs.Str.Lossy.{utf8_valid_len}
 use Rattle.hdt_terms.specs.declared.fault.LineFault.{LineFault}
 use Rattle.hdt_terms.specs.declared.fault.LineReason.TheVariants.{NotUtf8}
 use Rattle.hdt_terms.specs.declared.fault.TermFault.{TermFault}
-use Rattle.hdt_terms.specs.LineReading.{is_bare, triple_in}
+use Rattle.hdt_terms.specs.LineReading.{is_bare, line_triple}
 use Rattle.hdt_terms.specs.Faults.{out_of_memory}
 use Rattle.hdt_terms.specs.Table.{not_utf8_at}
 use Rattle.hdt_terms.specs.Taking.{State, Looked, FaultOfTriple}
@@ -25,6 +25,6 @@ not_text s text f fault none is told = (
       ∙ ap (λ k. Err (record { column = k; reason = NotUtf8 })) (sym (ap (λ (x : LineFault). x.column) told ∙ ap (λ (x : TermFault). x.column) is)),
 )
 
-pub no_triple : (s : State) (text : List ℕ) (f : TermFault) (fault : LineFault) → IsUtf8 text → (f ≡ out_of_memory) ⊎ (triple_in text ≡ Err f)
+pub no_triple : (s : State) (text : List ℕ) (f : TermFault) (fault : LineFault) → IsUtf8 text → (f ≡ out_of_memory) ⊎ (line_triple text ≡ Err f)
     → fault ≡ record { line = s.ends + 1; column = f.column; reason = f.reason } → (fault.line ≡ s.ends + 1) × FaultOfTriple fault.reason fault.column text
 no_triple s text f fault utf8 h told = rw told (refl, fault_of_triple text f utf8 h)

@@ -10,8 +10,8 @@ use Rattle.hdt_terms.specs.declared.fault.LineReason.TheVariants.{OutOfMemory}
 use Rattle.hdt_terms.specs.declared.triple.Triple.{Triple}
 use Rattle.hdt_terms.specs.Chars.{is_end}
 use Rattle.hdt_terms.specs.Documents.{IsDocument, FaultInDocument, Ran}
-use Rattle.hdt_terms.specs.Lines.{NoEnd, Line, SpelledTriple, EndedLines, triples_of, line_ends, ends_in_cr}
-use Rattle.hdt_terms.specs.Taking.{State, start, left, line_number, Takes, TakesTriple, TakesRest, WholeLine, Stands, StandsInLine}
+use Rattle.hdt_terms.specs.Lines.{NoEnd, Line, SpelledTriple, EndedLines, triples_of_lines, line_ends, ends_in_cr}
+use Rattle.hdt_terms.specs.Taking.{State, start, left, line_number, Takes, TakesTriple, TakesRest, WholeLine, FaultIsAhead, StandsInLine}
 use Rattle.hdt_terms.proofs.Counting.{EndedLines-append, Takes-trans, line_ends-append, line_ends-no_end, line_ends-ended, none_after}
 use Rattle.hdt_terms.proofs.LineAgain.{triple_not_bare}
 
@@ -28,7 +28,7 @@ ran_begins limit all = record {
   triples_are = refl;
 }
 
-triples-append : (xs ys : List (Option Triple)) → triples_of (xs ++ ys) ≡ triples_of xs ++ triples_of ys
+triples-append : (xs ys : List (Option Triple)) → triples_of_lines (xs ++ ys) ≡ triples_of_lines xs ++ triples_of_lines ys
 triples-append xs ys = filter_map-append (λ x. x) xs ys
 
 -- one more line with a triple, and its end
@@ -45,7 +45,7 @@ ran_on limit s new all mid after triples triple r t going =
         takes = Takes-trans (start limit) s new all mid after r.front (t.0 ++ t.1) r.takes t.2;
         triples_are =
             ap (λ l. l ++ triple ∷ []) r.triples_are
-            ∙ ap (λ l. triples_of r.lines ++ l) (sym (triples-append t.3.lines (Some triple ∷ []) ∙ ap (λ l. l ++ triple ∷ []) t.3.no_triples))
+            ∙ ap (λ l. triples_of_lines r.lines ++ l) (sym (triples-append t.3.lines (Some triple ∷ []) ∙ ap (λ l. l ++ triple ∷ []) t.3.no_triples))
             ∙ sym (triples-append r.lines (t.3.lines ++ Some triple ∷ []));
       }
       | inr w ↦ absurd (cc (w.1, going))
@@ -53,7 +53,7 @@ ran_on limit s new all mid after triples triple r t going =
 
 -- the last piece is taken
 finished : (limit : ℕ) (new : State) (all after : Option (List ℕ)) (front last : List ℕ) (lines : List (Option Triple)) (x : Option Triple) (triples : List Triple) → Takes (start limit) new all after (front ++ last)
-    → EndedLines lines front → NoEnd last → Line last x → IsAtEnd after → triples ≡ triples_of (lines ++ x ∷ []) → IsDocument limit all triples
+    → EndedLines lines front → NoEnd last → Line last x → IsAtEnd after → triples ≡ triples_of_lines (lines ++ x ∷ []) → IsDocument limit all triples
 finished limit new None after front last lines x triples t ended no_end line end are = tt
 finished limit new (Some a) None front last lines x triples t ended no_end line end are = absurd t.consumed
 finished limit new (Some a) (Some y) front last lines x triples t ended no_end line end are =
@@ -71,7 +71,7 @@ document_last limit s new all mid after triples triple r t end =
           finished limit new all after (r.front ++ t.0) t.1 (r.lines ++ t.3.lines) (Some triple) (triples ++ triple ∷ [])
           (subst (Takes (start limit) new all after) (sym (append_assoc r.front t.0 t.1)) (Takes-trans (start limit) s new all mid after r.front (t.0 ++ t.1) r.takes t.2))
           (EndedLines-append r.lines t.3.lines r.front t.0 r.ended t.3.ended) (subst NoEnd (sym w.0) t.4.2) (subst (λ l. Line l (Some triple)) (sym w.0) t.4.1) w.3
-          (ap (λ l. l ++ triple ∷ []) (r.triples_are ∙ sym (append-nil (triples_of r.lines)) ∙ ap (λ l. triples_of r.lines ++ l) (sym t.3.no_triples) ∙ sym (triples-append r.lines t.3.lines))
+          (ap (λ l. l ++ triple ∷ []) (r.triples_are ∙ sym (append-nil (triples_of_lines r.lines)) ∙ ap (λ l. triples_of_lines r.lines ++ l) (sym t.3.no_triples) ∙ sym (triples-append r.lines t.3.lines))
           ∙ sym (triples-append (r.lines ++ t.3.lines) (Some triple ∷ [])))
     ]
 
@@ -80,11 +80,11 @@ document_rest limit s new all mid after triples r t =
     finished limit new all after (r.front ++ t.0) t.1 (r.lines ++ t.3.lines) None triples
     (subst (Takes (start limit) new all after) (sym (append_assoc r.front t.0 t.1)) (Takes-trans (start limit) s new all mid after r.front (t.0 ++ t.1) r.takes t.2))
     (EndedLines-append r.lines t.3.lines r.front t.0 r.ended t.3.ended) t.5 t.4 t.8
-    (r.triples_are ∙ sym (append-nil (triples_of r.lines)) ∙ ap (λ l. triples_of r.lines ++ l) (sym t.3.no_triples) ∙ sym (triples-append r.lines t.3.lines)
-    ∙ sym (append-nil (triples_of (r.lines ++ t.3.lines))) ∙ sym (triples-append (r.lines ++ t.3.lines) (None ∷ [])))
+    (r.triples_are ∙ sym (append-nil (triples_of_lines r.lines)) ∙ ap (λ l. triples_of_lines r.lines ++ l) (sym t.3.no_triples) ∙ sym (triples-append r.lines t.3.lines)
+    ∙ sym (append-nil (triples_of_lines (r.lines ++ t.3.lines))) ∙ sym (triples-append (r.lines ++ t.3.lines) (None ∷ [])))
 
 -- a fault behind what was taken
-pub fault_behind : (fault : LineFault) (limit : ℕ) (s : State) (all mid given : Option (List ℕ)) (triples : List Triple) → Ran limit s all mid triples → Stands fault s mid given
+pub fault_behind : (fault : LineFault) (limit : ℕ) (s : State) (all mid given : Option (List ℕ)) (triples : List Triple) → Ran limit s all mid triples → FaultIsAhead fault s mid given
     → FaultInDocument fault limit all given
 fault_behind fault limit s all mid given triples r st =
     let taken : s.taken ≡ length r.front = r.takes.taken ∙ zero-add (length r.front) in
@@ -168,7 +168,7 @@ module _ (s new : State) (mid after given : Option (List ℕ)) (triple : Triple)
         | inr w ↦ (after, inr (subst (Consumes (prepend_known t.1 after) after) w.0 (taken_last after t.1), w.3, omega (arith, size, ap length w.0, t.2.taken, t.2.within, t.2.limit)))
       ]
 
-  memory_stands : Stands (record { line = line_number new; column = 0; reason = OutOfMemory }) s mid given
+  memory_stands : FaultIsAhead (record { line = line_number new; column = 0; reason = OutOfMemory }) s mid given
   memory_stands = record {
     front = t.0;
     rest = prepend_known t.1 after;
@@ -182,7 +182,7 @@ module _ (s new : State) (mid after given : Option (List ℕ)) (triple : Triple)
 pub memory_behind : (fault : LineFault) (limit : ℕ) (s new : State) (all mid after given : Option (List ℕ)) (triples : List Triple) (triple : Triple) → Ran limit s all mid triples → TakesTriple s new mid after triple
     → fault ≡ record { line = line_number new; column = 0; reason = OutOfMemory } → FaultInDocument fault limit all given
 memory_behind fault limit s new all mid after given triples triple r t is =
-    fault_behind fault limit s all mid given triples r (subst (λ (f : LineFault). Stands f s mid given) (sym is) (memory_stands s new mid after given triple t))
+    fault_behind fault limit s all mid given triples r (subst (λ (f : LineFault). FaultIsAhead f s mid given) (sym is) (memory_stands s new mid after given triple t))
 
 -- ---- of a run
 

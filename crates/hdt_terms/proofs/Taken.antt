@@ -11,10 +11,10 @@ use Rattle.hdt_terms.specs.declared.fault.LineReason.{LineReason}
 use Rattle.hdt_terms.specs.declared.fault.LineReason.TheVariants.{Syntax, NotUtf8, BadEscape, RelativeIri, IriCharacter, ZeroCharacter, Read, OutOfMemory, TooLong}
 use Rattle.hdt_terms.specs.declared.triple.Triple.{Triple}
 use Rattle.hdt_terms.specs.Chars.{is_end}
-use Rattle.hdt_terms.specs.Filling.{Grew, LineFront, Filled}
+use Rattle.hdt_terms.specs.Inside.Filling.{Grew, LineFront, Filled}
 use Rattle.hdt_terms.specs.LineReading.{is_bare}
 use Rattle.hdt_terms.specs.Lines.{NoEnd, Line, BareLines}
-use Rattle.hdt_terms.specs.Taking.{State, left, take_of, take_line, Takes, OneLine, WholeLine, StandsInLine, Stands, FaultOfTriple, Looked, Finds}
+use Rattle.hdt_terms.specs.Taking.{State, left, take_of, take_line, Takes, OneLine, WholeLine, StandsInLine, FaultIsAhead, FaultOfTriple, Looked, FindsLine}
 use Rattle.hdt_terms.specs.TakingText.{IsLineOf, TakesText}
 use Rattle.hdt_terms.proofs.LineFound.{line_fault}
 
@@ -194,7 +194,7 @@ stands_in_triple TooLong column taken limit before given text utf8 some no_end w
 
 -- lines without a triple, and then the line of the fault
 pub stands_behind : (fault : LineFault) (old s : State) (before mid given : Option (List ℕ)) (front : List ℕ) → Takes old s before mid front → BareLines front → fault.line ≡ s.ends + 1
-    → StandsInLine fault.reason fault.column s.taken s.limit mid given → Stands fault old before given
+    → StandsInLine fault.reason fault.column s.taken s.limit mid given → FaultIsAhead fault old before given
 stands_behind fault old s before mid given front t bare line h = record {
   front = front;
   rest = mid;
@@ -221,7 +221,7 @@ text_taken s held new given given' n most text filled others within going is e =
 
 module _ (a s held new : State) (before given given' : Option (List ℕ)) (n most : ℕ) (front : List ℕ) (takes : Takes a s before (left s given) front) (bare : BareLines front)
     (filled : Filled (Ok n) s.held held.held given given' most) (others : held ≡ record s { held = held.held }) (within : s.taken + length held.held ≤ s.limit) where
-  pub look_fault : (fault : LineFault) → Looked (Err fault) held (take n held.held) → Stands fault a before given'
+  pub look_fault : (fault : LineFault) → Looked (Err fault) held (take n held.held) → FaultIsAhead fault a before given'
   look_fault fault h =
       stands_behind fault a s before (left s given) given' front takes bare (h.0 ∙ ap (λ (x : State). x.ends + 1) others)
       (subst (λ r. StandsInLine r fault.column s.taken s.limit (left s given) given') (sym h.1)
@@ -230,7 +230,7 @@ module _ (a s held new : State) (before given given' : Option (List ℕ)) (n mos
   pub held_taken : s.ended ≡ false → new ≡ take_line held n → LineTaken s new (take n held.held) (left s given) (left new given')
   held_taken going is = line_held s held new given given' n most filled others within going is
 
-  pub held_ready : s.ended ≡ false → Looked (Ok false) held (take n held.held) → Finds (Ok (Some n)) a held before (left held given') given'
+  pub held_ready : s.ended ≡ false → Looked (Ok false) held (take n held.held) → FindsLine (Ok (Some n)) a held before (left held given') given'
   held_ready going seen = (
     front,
     subst (λ (t : State). Takes a t before (left t given') front) (sym others) (takes_held a s held.held before given given' front takes filled.0 within),

@@ -11,7 +11,7 @@ use Rattle.hdt_terms.specs.declared.pieces.Token.{Token}
 use Rattle.hdt_terms.specs.declared.pieces.Token.TheVariants.{Iri, Quoted}
 use Rattle.hdt_terms.specs.declared.triple.Triple.{Triple}
 use Rattle.hdt_terms.specs.Faults.{out_of_memory}
-use Rattle.hdt_terms.specs.LineReading.{begins, role_here, role_at, is_comment, bare_at, closed_here, closed_at, triple_at, triple_in, located}
+use Rattle.hdt_terms.specs.LineReading.{begins, role_here, role_at, is_comment, bare_at, closed_here, closed_at, line_triple_at, line_triple, located}
 use Rattle.hdt_terms.specs.Reading.{◌>>=◌, stops, after_blanks, term_at}
 use Rattle.hdt_terms.specs.Stands.{RowFails, StopsInside}
 use Rattle.hdt_terms.specs.Table.{StopsIri, no_iri, in_iri, relative, StopsSuffix, no_tag, no_caret, no_datatype, StopsTerm, no_term, iri, blank, string, suffix}
@@ -100,8 +100,8 @@ end_reason : (bytes : List ℕ) (s : Stop) → closed_at bytes ≡ stopped s →
 unfolding closed_at
 end_reason bytes s e = closed_reason (after_blanks bytes) s e
 
-triple_reason : (text : List ℕ) (s : Stop) → IsUtf8 text → triple_at text ≡ Err s → OfText s.reason
-unfolding triple_at
+triple_reason : (text : List ℕ) (s : Stop) → IsUtf8 text → line_triple_at text ≡ Err s → OfText s.reason
+unfolding line_triple_at
 triple_reason text s utf8 e =
     elim (bind_err (role_at Subject text) (λ x. role_at Predicate x.1 >>= λ y. role_at Object y.1 >>= λ z. closed_at z.1 >>= λ _. Ok (record { s = x.0; p = y.0; o = z.0 })) s e) [
       | inl h ↦ role_reason Subject text s utf8 h
@@ -124,7 +124,7 @@ triple_reason text s utf8 e =
           ]
     ]
 
-of_triple : (text : List ℕ) (column : ℕ) (reason : LineReason) → OfText reason → triple_in text ≡ Err (record { column = column; reason = reason }) → FaultOfTriple reason column text
+of_triple : (text : List ℕ) (column : ℕ) (reason : LineReason) → OfText reason → line_triple text ≡ Err (record { column = column; reason = reason }) → FaultOfTriple reason column text
 of_triple text column Syntax h e = e
 of_triple text column NotUtf8 h e = e
 of_triple text column BadEscape h e = e
@@ -139,7 +139,7 @@ located_reason : (text : List ℕ) (r : Result Triple Stop) (f : TermFault) → 
 located_reason text (Ok triple) f h e = absurd cc
 located_reason text (Err s) f h e = let is : s.reason ≡ f.reason = cc in subst OfText is (h s refl)
 
-pub fault_of_triple : (text : List ℕ) (f : TermFault) → IsUtf8 text → (f ≡ out_of_memory) ⊎ (triple_in text ≡ Err f) → FaultOfTriple f.reason f.column text
-unfolding triple_in
+pub fault_of_triple : (text : List ℕ) (f : TermFault) → IsUtf8 text → (f ≡ out_of_memory) ⊎ (line_triple text ≡ Err f) → FaultOfTriple f.reason f.column text
+unfolding line_triple
 fault_of_triple text f utf8 (inl memory) = subst (λ (x : TermFault). FaultOfTriple x.reason x.column text) (sym memory) refl
-fault_of_triple text f utf8 (inr e) = of_triple text f.column f.reason (located_reason text (triple_at text) f (λ s h. triple_reason text s utf8 h) e) e
+fault_of_triple text f utf8 (inr e) = of_triple text f.column f.reason (located_reason text (line_triple_at text) f (λ s h. triple_reason text s utf8 h) e) e

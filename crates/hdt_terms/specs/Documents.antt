@@ -4,7 +4,7 @@ use Rattle.std.specs.Io.KnownBytes.{Consumes}
 use Rattle.hdt_terms.specs.declared.fault.LineFault.{LineFault}
 use Rattle.hdt_terms.specs.declared.triple.Triple.{Triple}
 use Rattle.hdt_terms.specs.Chars.{is_end}
-use Rattle.hdt_terms.specs.Lines.{EndedLines, Document, triples_of, line_ends, ends_in_cr}
+use Rattle.hdt_terms.specs.Lines.{EndedLines, Document, triples_of_lines, line_ends, ends_in_cr}
 use Rattle.hdt_terms.specs.Taking.{State, start, Takes, StandsInLine}
 use Rattle.hdt_terms.specs.TakingText.{StandsUnread}
 
@@ -30,7 +30,7 @@ pub record Ran (limit : ℕ) (s : State) (input left : Option (List ℕ)) (tripl
   pub lines : List (Option Triple)
   pub ended : EndedLines lines front
   pub takes : Takes (start limit) s input left front
-  pub triples_are : triples ≡ triples_of lines
+  pub triples_are : triples ≡ triples_of_lines lines
 
 -- ---- the texts of an input's lines
 

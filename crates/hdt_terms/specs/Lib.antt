@@ -5,7 +5,6 @@ pub mod Tags
 pub mod Terms
 pub mod Strings
 pub mod Spelling
-pub mod Lanes
 pub mod Writing
 pub mod Reading
 pub mod Appending
@@ -18,7 +17,7 @@ pub mod Requests
 pub mod RequestReading
 pub mod RawReading
 pub mod RawRequests
-pub mod Filling
 pub mod Taking
 pub mod TakingText
 pub mod Documents
+pub mod Inside

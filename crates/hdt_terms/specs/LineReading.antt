@@ -50,8 +50,8 @@ unfoldable pub closed_at : List ℕ → Result (Unit {0}) Stop
 closed_at bytes = closed_here (after_blanks bytes)
 
 -- the triple of a line
-unfoldable pub triple_at : List ℕ → Result Triple Stop
-triple_at bytes =
+unfoldable pub line_triple_at : List ℕ → Result Triple Stop
+line_triple_at bytes =
     role_at Subject bytes >>= λ s.
     role_at Predicate s.1 >>= λ p.
     role_at Object p.1 >>= λ o.
@@ -63,8 +63,8 @@ located text (Ok x) = Ok x
 located text (Err stop) = Err (fault_at (length text) stop.left stop.reason)
 
 -- the triple of a line that is UTF-8 and not bare, or its fault
-unfoldable pub triple_in : List ℕ → Result Triple TermFault
-triple_in text = located text (triple_at text)
+unfoldable pub line_triple : List ℕ → Result Triple TermFault
+line_triple text = located text (line_triple_at text)
 
 abbrev pub as_line : Result Triple TermFault → Result (Option Triple) TermFault
 as_line (Ok triple) = Ok (Some triple)
@@ -72,7 +72,7 @@ as_line (Err fault) = Err fault
 
 -- The line's triple if it has one, or the fault that stands in it.
 unfoldable pub line_in : List ℕ → Result (Option Triple) TermFault
-line_in text = checked text (if is_bare text then Ok None else as_line (triple_in text))
+line_in text = checked text (if is_bare text then Ok None else as_line (line_triple text))
 
 -- The text is no line, and this is its fault.
 abbrev pub LineFaultStands : List ℕ → TermFault → Type 0
@@ -81,17 +81,17 @@ LineFaultStands text fault = line_in text ≡ Err fault
 -- ---- the strings of a triple
 
 -- these are the strings of the triple's terms
-pub record AreStrings (triple : Triple) (s p o : List ℕ) : Type 0 where
+pub record AreTripleStrings (triple : Triple) (s p o : List ℕ) : Type 0 where
   pub s_is : s ≡ str triple.s
   pub p_is : p ≡ str triple.p
   pub o_is : o ≡ str triple.o
 
 -- the buffers hold the strings of the triple that reading gives, unless memory ran out
 abbrev pub Fills : {X : Type 0} → List ℕ → List ℕ → List ℕ → Result X ReadError → Result Triple Stop → Type 0
-Fills s p o (Ok x) read = (triple : Triple) × (read ≡ Ok triple) × AreStrings triple s p o
+Fills s p o (Ok x) read = (triple : Triple) × (read ≡ Ok triple) × AreTripleStrings triple s p o
 Fills s p o (Err e) read = Fails e read
 
 -- the same of a whole line
-abbrev pub Holds : {X : Type 0} → List ℕ → List ℕ → List ℕ → Result X TermFault → Result Triple TermFault → Type 0
-Holds s p o (Ok x) read = (triple : Triple) × (read ≡ Ok triple) × AreStrings triple s p o
-Holds s p o (Err fault) read = (fault ≡ out_of_memory) ⊎ (read ≡ Err fault)
+abbrev pub HoldsTriple : {X : Type 0} → List ℕ → List ℕ → List ℕ → Result X TermFault → Result Triple TermFault → Type 0
+HoldsTriple s p o (Ok x) read = (triple : Triple) × (read ≡ Ok triple) × AreTripleStrings triple s p o
+HoldsTriple s p o (Err fault) read = (fault ≡ out_of_memory) ⊎ (read ≡ Err fault)

@@ -64,8 +64,8 @@ EndedLines [] bytes = bytes ≡ []
 EndedLines (x ∷ xs) bytes = (text : List ℕ) × (e : ℕ) × (rest : List ℕ) × (bytes ≡ text ++ e ∷ rest) × (is_end e ≡ true) × NoEnd text × Line text x × EndedLines xs rest
 
 -- the triples of lines that have one
-abbrev pub triples_of : List (Option Triple) → List Triple
-triples_of xs = filter_map (λ x. x) xs
+abbrev pub triples_of_lines : List (Option Triple) → List Triple
+triples_of_lines xs = filter_map (λ x. x) xs
 
 -- The bytes are cut at their line ends, and each piece is a line: lines with their ends, and a last piece, which may be empty.
 pub record Document (bytes : List ℕ) (triples : List Triple) : Type 0 where
@@ -77,13 +77,13 @@ pub record Document (bytes : List ℕ) (triples : List Triple) : Type 0 where
   pub ended : EndedLines lines front
   pub no_end : NoEnd last
   pub is_line : Line last last_line
-  pub triples_are : triples ≡ triples_of (lines ++ last_line ∷ [])
+  pub triples_are : triples ≡ triples_of_lines (lines ++ last_line ∷ [])
 
 -- lines without a triple, each with its end
 pub record BareLines (bytes : List ℕ) : Type 0 where
   pub lines : List (Option Triple)
   pub ended : EndedLines lines bytes
-  pub no_triples : triples_of lines ≡ []
+  pub no_triples : triples_of_lines lines ≡ []
 
 -- how many line ends the bytes have, U+000D U+000A being one; cr says whether the byte before them is U+000D
 abbrev pub line_ends : Bool → List ℕ → ℕ

@@ -6,8 +6,8 @@ use Rattle.hdt_terms.specs.declared.fault.LineReason.{LineReason}
 use Rattle.hdt_terms.specs.declared.fault.LineReason.TheVariants.{NotUtf8, Read, OutOfMemory, TooLong}
 use Rattle.hdt_terms.specs.declared.triple.Triple.{Triple}
 use Rattle.hdt_terms.specs.Chars.{is_end}
-use Rattle.hdt_terms.specs.Filling.{LineFront}
-use Rattle.hdt_terms.specs.LineReading.{LineFaultStands, is_bare, triple_in, AreStrings}
+use Rattle.hdt_terms.specs.Inside.Filling.{LineFront}
+use Rattle.hdt_terms.specs.LineReading.{LineFaultStands, is_bare, line_triple, AreTripleStrings}
 use Rattle.hdt_terms.specs.Lines.{NoEnd, Line, BareLines, line_ends, ends_in_cr}
 
 -- How far a reader of lines is.
@@ -86,7 +86,7 @@ StandsInLine OutOfMemory column taken limit before given = (column ≡ 0) × (Un
 StandsInLine reason column taken limit before given = StandsInText reason column taken limit before
 
 -- Lines without a triple, and then the line of the fault, counted on from what was taken.
-pub record Stands (fault : LineFault) (old : State) (before given : Option (List ℕ)) : Type 0 where
+pub record FaultIsAhead (fault : LineFault) (old : State) (before given : Option (List ℕ)) : Type 0 where
   pub front : List ℕ
   pub rest : Option (List ℕ)
   pub bare : BareLines front
@@ -109,16 +109,16 @@ abbrev pub TakesRest : State → State → Option (List ℕ) → Option (List �
 TakesRest old new before after = (front : List ℕ) × (last : List ℕ) × Takes old new before after (front ++ last) × BareLines front × Line last None × NoEnd last × (new.ended ≡ true) × (new.held ≡ []) × IsAtEnd after
 
 -- The next triple, the end, or the fault that stands.
-abbrev pub Answers : Result (Option Triple) LineFault → State → State → Option (List ℕ) → Option (List ℕ) → Option (List ℕ) → Type 0
-Answers (Ok None) old new before after given = TakesRest old new before after
-Answers (Ok (Some triple)) old new before after given = TakesTriple old new before after triple
-Answers (Err fault) old new before after given = Stands fault old before given
+abbrev pub TakesNext : Result (Option Triple) LineFault → State → State → Option (List ℕ) → Option (List ℕ) → Option (List ℕ) → Type 0
+TakesNext (Ok None) old new before after given = TakesRest old new before after
+TakesNext (Ok (Some triple)) old new before after given = TakesTriple old new before after triple
+TakesNext (Err fault) old new before after given = FaultIsAhead fault old before given
 
 -- The same where the triple's strings stand in three buffers.
 abbrev pub AnswersStrings : Result Bool LineFault → List ℕ → List ℕ → List ℕ → State → State → Option (List ℕ) → Option (List ℕ) → Option (List ℕ) → Type 0
-AnswersStrings (Ok true) s p o old new before after given = (triple : Triple) × AreStrings triple s p o × TakesTriple old new before after triple
+AnswersStrings (Ok true) s p o old new before after given = (triple : Triple) × AreTripleStrings triple s p o × TakesTriple old new before after triple
 AnswersStrings (Ok false) s p o old new before after given = TakesRest old new before after
-AnswersStrings (Err fault) s p o old new before after given = Stands fault old before given
+AnswersStrings (Err fault) s p o old new before after given = FaultIsAhead fault old before given
 
 -- only a triple's strings are left in the buffers
 abbrev pub NoStrings : Result Bool LineFault → List ℕ → List ℕ → List ℕ → Type 0
@@ -136,10 +136,10 @@ pub record Ready (n : ℕ) (s : State) (given : Option (List ℕ)) : Type 0 wher
   pub going : s.ended ≡ false
 
 -- lines without a triple are taken, up to a line with one, the end or a fault
-abbrev pub Finds : Result (Option ℕ) LineFault → State → State → Option (List ℕ) → Option (List ℕ) → Option (List ℕ) → Type 0
-Finds (Ok None) old new before after given = TakesRest old new before after
-Finds (Ok (Some n)) old new before after given = (front : List ℕ) × Takes old new before after front × BareLines front × Ready n new given
-Finds (Err fault) old new before after given = Stands fault old before given
+abbrev pub FindsLine : Result (Option ℕ) LineFault → State → State → Option (List ℕ) → Option (List ℕ) → Option (List ℕ) → Type 0
+FindsLine (Ok None) old new before after given = TakesRest old new before after
+FindsLine (Ok (Some n)) old new before after given = (front : List ℕ) × Takes old new before after front × BareLines front × Ready n new given
+FindsLine (Err fault) old new before after given = FaultIsAhead fault old before given
 
 -- what is said of the text of a line: whether it is bare, or its fault
 abbrev pub Looked : Result Bool LineFault → State → List ℕ → Type 0
@@ -152,13 +152,13 @@ abbrev pub FaultOfTriple : LineReason → ℕ → List ℕ → Type 0
 FaultOfTriple OutOfMemory column text = column ≡ 0
 FaultOfTriple Read column text = ⊥
 FaultOfTriple TooLong column text = ⊥
-FaultOfTriple reason column text = triple_in text ≡ Err (record { column = column; reason = reason })
+FaultOfTriple reason column text = line_triple text ≡ Err (record { column = column; reason = reason })
 
 -- the triple of a line that is not bare, or its fault
 abbrev pub Parsed : Result Triple LineFault → State → List ℕ → Type 0
-Parsed (Ok triple) s text = triple_in text ≡ Ok triple
+Parsed (Ok triple) s text = line_triple text ≡ Ok triple
 Parsed (Err fault) s text = (fault.line ≡ s.ends + 1) × FaultOfTriple fault.reason fault.column text
 
 abbrev pub ParsedStrings : Result (Unit {0}) LineFault → List ℕ → List ℕ → List ℕ → State → List ℕ → Type 0
-ParsedStrings (Ok done) s p o state text = (triple : Triple) × (triple_in text ≡ Ok triple) × AreStrings triple s p o
+ParsedStrings (Ok done) s p o state text = (triple : Triple) × (line_triple text ≡ Ok triple) × AreTripleStrings triple s p o
 ParsedStrings (Err fault) s p o state text = (fault.line ≡ state.ends + 1) × FaultOfTriple fault.reason fault.column text

@@ -2,7 +2,7 @@
 ghost use Rattle.std.specs.Prelude.{◌≡◌, ◌≢◌, IfErr, ℕ, ◌+◌, ◌-◌, ◌*◌, ◌<◌, ◌≤◌, List, [], length, drop, take, IfOk, OnOk, OnErr, IsErrOf, vec_len, replicate, ◌++◌};
 ghost use Rattle.std.specs.Io.KnownBytes.{Consumes, Keeps, IsAtEnd};
 ghost use Rattle.hdt_wire.specs.Counted.{inner, failures};
-ghost use Rattle.hdt_terms.specs.Filling.{ReadOnce};
+ghost use Rattle.hdt_terms.specs.Inside.Filling.{ReadOnce};
 ghost use Rattle.hdt_terms.specs.declared.fault.LineReason.TheVariants.{Read};
 
 use crate::fault::LineReason;

@@ -1,7 +1,7 @@
 //! Reading until a line is held.
 ghost use Rattle.std.specs.Prelude.{◌≡◌, ◌≢◌, IfOk, IfErr, ◌+◌, ◌≤◌, true, take, length, Some, OnOk, IsErrOf, IsUtf8};
 ghost use Rattle.hdt_wire.specs.Counted.{inner, failures};
-ghost use Rattle.hdt_terms.specs.Filling.{FoundEnd, ReadMore, Filled, text_len};
+ghost use Rattle.hdt_terms.specs.Inside.Filling.{FoundEnd, ReadMore, Filled, text_len};
 ghost use Rattle.hdt_terms.specs.Lines.{NoEnd};
 ghost use Rattle.hdt_terms.specs.declared.fault.LineReason.TheVariants.{Read};
 

@@ -3,7 +3,8 @@ ghost use Rattle.std.specs.Prelude.{◌≡◌, ◌+◌, ◌<◌, ◌≤◌, fals
 ghost use Rattle.hdt_terms.specs.declared.pieces.Token.TheVariants.{Iri, Quoted};
 ghost use Rattle.hdt_terms.specs.declared.lanes.Class.TheVariants.{Inside, AsciiText, Text, AsciiLine};
 ghost use Rattle.hdt_terms.specs.Chars.{is_end};
-ghost use Rattle.hdt_terms.specs.Lanes.{IsRun, PassBetween, bit_by_high, excluded_by_low, first_set, passes};
+ghost use Rattle.hdt_wire.specs.Masks.{first_set};
+ghost use Rattle.hdt_terms.specs.Inside.Lanes.{IsRunOfBytes, PassBetween, bit_by_high, excluded_by_low, passes};
 
 use crate::chars::is_end;
 use crate::pieces::{Token, is_raw};
@@ -65,7 +66,7 @@ fn bit_by_high(v: u8x16) -> u8x16
 #[inline(always)]
 fn iri_run(bytes: &[u8], at: usize) -> usize
     requires { at + LANES ≤ length bytes.now }
-    ensures { IsRun (passes (Inside Iri)) bytes.now at LANES result }
+    ensures { IsRunOfBytes (passes (Inside Iri)) bytes.now at LANES result }
 {
     let v = u8x16::from_slice(&bytes[at..]);
     let excluded = excluded_by_low(v) & bit_by_high(v);
@@ -76,7 +77,7 @@ fn iri_run(bytes: &[u8], at: usize) -> usize
 #[inline(always)]
 fn string_run(bytes: &[u8], at: usize) -> usize
     requires { at + LANES ≤ length bytes.now }
-    ensures { IsRun (passes (Inside Quoted)) bytes.now at LANES result }
+    ensures { IsRunOfBytes (passes (Inside Quoted)) bytes.now at LANES result }
 {
     let v = u8x16::from_slice(&bytes[at..]);
     let stops = v.simd_eq(u8x16::splat(b'"'))
@@ -91,7 +92,7 @@ fn string_run(bytes: &[u8], at: usize) -> usize
 #[inline(always)]
 fn ascii_text_run(bytes: &[u8], at: usize) -> usize
     requires { at + LANES ≤ length bytes.now }
-    ensures { IsRun (passes AsciiText) bytes.now at LANES result }
+    ensures { IsRunOfBytes (passes AsciiText) bytes.now at LANES result }
 {
     let v = u8x16::from_slice(&bytes[at..]);
     let stops = v.simd_eq(u8x16::splat(0)) | v.simd_ge(u8x16::splat(0x80));
@@ -102,7 +103,7 @@ fn ascii_text_run(bytes: &[u8], at: usize) -> usize
 #[inline(always)]
 fn text_run(bytes: &[u8], at: usize) -> usize
     requires { at + LANES ≤ length bytes.now }
-    ensures { IsRun (passes Text) bytes.now at LANES result }
+    ensures { IsRunOfBytes (passes Text) bytes.now at LANES result }
 {
     let v = u8x16::from_slice(&bytes[at..]);
     let stops = v.simd_eq(u8x16::splat(b'\n')) | v.simd_eq(u8x16::splat(b'\r'));
@@ -113,7 +114,7 @@ fn text_run(bytes: &[u8], at: usize) -> usize
 #[inline(always)]
 fn ascii_line_run(bytes: &[u8], at: usize) -> usize
     requires { at + LANES ≤ length bytes.now }
-    ensures { IsRun (passes AsciiLine) bytes.now at LANES result }
+    ensures { IsRunOfBytes (passes AsciiLine) bytes.now at LANES result }
 {
     let v = u8x16::from_slice(&bytes[at..]);
     let stops = v.simd_eq(u8x16::splat(b'\n'))
@@ -126,7 +127,7 @@ fn ascii_line_run(bytes: &[u8], at: usize) -> usize
 #[inline(always)]
 fn load_run(class: Class, bytes: &[u8], at: usize) -> usize
     requires { at + LANES ≤ length bytes.now }
-    ensures { IsRun (passes class) bytes.now at LANES result }
+    ensures { IsRunOfBytes (passes class) bytes.now at LANES result }
 {
     match class {
         Class::Inside(Token::Iri) => iri_run(bytes, at),

@@ -1,9 +1,9 @@
 //! Reading one line.
 ghost use Rattle.std.specs.Prelude.{◌≡◌, [], ◌<◌, ◌^◌, length, IfOk, IsUtf8};
-ghost use Rattle.hdt_terms.specs.Appending.{Appends};
-ghost use Rattle.hdt_terms.specs.Faults.{Answers};
-ghost use Rattle.hdt_terms.specs.LineReading.{begins, role_here, role_at, is_comment, is_bare, closed_at, triple_at, triple_in, Fills, Holds};
-ghost use Rattle.hdt_terms.specs.Reading.{Gives};
+ghost use Rattle.hdt_terms.specs.Appending.{AppendsRead};
+ghost use Rattle.hdt_terms.specs.Faults.{IsRead};
+ghost use Rattle.hdt_terms.specs.LineReading.{begins, role_here, role_at, is_comment, is_bare, closed_at, line_triple_at, line_triple, Fills, HoldsTriple};
+ghost use Rattle.hdt_terms.specs.Reading.{GivesRead};
 ghost use Rattle.hdt_terms.specs.Terms.{str};
 
 use crate::dictionary::append_term;
@@ -54,7 +54,7 @@ pub fn is_bare(text: &[u8]) -> bool
 /// The full stop behind tabs and spaces, and then nothing or a comment.
 #[tactic(auto, unfolding(crate::specs::LineReading::closed_at))]
 fn read_end(bytes: &[u8]) -> Result<(), ReadError>
-    ensures { Gives (λ _. tt) result (closed_at bytes.now) }
+    ensures { GivesRead (λ _. tt) result (closed_at bytes.now) }
 {
     let bytes = after_blanks(bytes);
     let [b'.', behind @ ..] = bytes else {
@@ -71,7 +71,7 @@ fn read_end(bytes: &[u8]) -> Result<(), ReadError>
 #[tactic(auto, unfolding(crate::specs::LineReading::role_here))]
 fn read_here(alloc: Global, role: Role, bytes: &[u8]) -> Result<(Term, &[u8]), ReadError>
     requires { IsUtf8 bytes.now }
-    ensures reads { Gives (λ x. (x.0, x.1.now)) result (role_here role bytes.now) }
+    ensures reads { GivesRead (λ x. (x.0, x.1.now)) result (role_here role bytes.now) }
     ensures utf8 { IfOk result (λ x. IsUtf8 x.1.now) }
 {
     match bytes.split_first() {
@@ -84,7 +84,7 @@ fn read_here(alloc: Global, role: Role, bytes: &[u8]) -> Result<(Term, &[u8]), R
 #[tactic(auto, unfolding(crate::specs::LineReading::role_at))]
 fn read_role(alloc: Global, role: Role, bytes: &[u8]) -> Result<(Term, &[u8]), ReadError>
     requires { IsUtf8 bytes.now }
-    ensures reads { Gives (λ x. (x.0, x.1.now)) result (role_at role bytes.now) }
+    ensures reads { GivesRead (λ x. (x.0, x.1.now)) result (role_at role bytes.now) }
     ensures utf8 { IfOk result (λ x. IsUtf8 x.1.now) }
 {
     read_here(alloc, role, after_blanks(bytes))
@@ -98,7 +98,7 @@ pub fn append_here<'a>(
     out: &mut Vec<u8>,
 ) -> Result<&'a [u8], ReadError>
     requires { IsUtf8 bytes.now }
-    ensures reads { Appends str out.old.items out.new.items (λ rest. rest.now) result (role_here role bytes.now) }
+    ensures reads { AppendsRead str out.old.items out.new.items (λ rest. rest.now) result (role_here role bytes.now) }
     ensures utf8 { IfOk result (λ rest. IsUtf8 rest.now) }
 {
     match bytes.split_first() {
@@ -111,7 +111,7 @@ pub fn append_here<'a>(
 #[tactic(auto, unfolding(crate::specs::LineReading::role_at))]
 fn put_role<'a>(role: Role, bytes: &'a [u8], out: &mut Vec<u8>) -> Result<&'a [u8], ReadError>
     requires { IsUtf8 bytes.now }
-    ensures reads { Appends str [] out.new.items (λ rest. rest.now) result (role_at role bytes.now) }
+    ensures reads { AppendsRead str [] out.new.items (λ rest. rest.now) result (role_at role bytes.now) }
     ensures utf8 { IfOk result (λ rest. IsUtf8 rest.now) }
 {
     out.clear();
@@ -119,10 +119,10 @@ fn put_role<'a>(role: Role, bytes: &'a [u8], out: &mut Vec<u8>) -> Result<&'a [u
 }
 
 /// The triple of a line.
-#[tactic(auto, unfolding(crate::specs::LineReading::triple_at))]
+#[tactic(auto, unfolding(crate::specs::LineReading::line_triple_at))]
 fn read_terms(alloc: Global, text: &[u8]) -> Result<Triple, ReadError>
     requires { IsUtf8 text.now }
-    ensures { Gives (λ triple. triple) result (triple_at text.now) }
+    ensures { GivesRead (λ triple. triple) result (line_triple_at text.now) }
 {
     let (s, rest) = read_role(alloc, Role::Subject, text)?;
     let (p, rest) = read_role(alloc, Role::Predicate, rest)?;
@@ -132,7 +132,7 @@ fn read_terms(alloc: Global, text: &[u8]) -> Result<Triple, ReadError>
 }
 
 /// Puts the strings of the triple of a line into the buffers.
-#[tactic(auto, unfolding(crate::specs::LineReading::triple_at))]
+#[tactic(auto, unfolding(crate::specs::LineReading::line_triple_at))]
 fn put_strings(
     text: &[u8],
     s: &mut Vec<u8>,
@@ -140,7 +140,7 @@ fn put_strings(
     o: &mut Vec<u8>,
 ) -> Result<(), ReadError>
     requires { IsUtf8 text.now }
-    ensures { Fills s.new.items p.new.items o.new.items result (triple_at text.now) }
+    ensures { Fills s.new.items p.new.items o.new.items result (line_triple_at text.now) }
 {
     let rest = put_role(Role::Subject, text, s)?;
     let rest = put_role(Role::Predicate, rest, p)?;
@@ -149,10 +149,10 @@ fn put_strings(
 }
 
 /// The triple of a line, or the fault that stands in it.
-#[tactic(auto, unfolding(crate::specs::LineReading::triple_in))]
+#[tactic(auto, unfolding(crate::specs::LineReading::line_triple))]
 pub fn read_triple(alloc: Global, text: &[u8]) -> Result<Triple, TermFault>
     requires { IsUtf8 text.now }
-    ensures { Answers result (triple_in text.now) }
+    ensures { IsRead result (line_triple text.now) }
 {
     match read_terms(alloc, text) {
         Ok(triple) => Ok(triple),
@@ -161,7 +161,7 @@ pub fn read_triple(alloc: Global, text: &[u8]) -> Result<Triple, TermFault>
 }
 
 /// Puts the strings of the triple of a line into the buffers, or answers the fault that stands in the line.
-#[tactic(auto, unfolding(crate::specs::LineReading::triple_in))]
+#[tactic(auto, unfolding(crate::specs::LineReading::line_triple))]
 pub fn put_triple(
     text: &[u8],
     s: &mut Vec<u8>,
@@ -169,7 +169,7 @@ pub fn put_triple(
     o: &mut Vec<u8>,
 ) -> Result<(), TermFault>
     requires { IsUtf8 text.now }
-    ensures { Holds s.new.items p.new.items o.new.items result (triple_in text.now) }
+    ensures { HoldsTriple s.new.items p.new.items o.new.items result (line_triple text.now) }
 {
     match put_strings(text, s, p, o) {
         Ok(()) => Ok(()),

@@ -2,7 +2,7 @@
 ghost use Rattle.std.specs.Prelude.{◌≡◌, ◌≢◌, ◌+◌, ◌-◌, ◌==◌, ◌&&◌, if◌then◌else◌, take, slice_index, nat_lt, ◌^◌, ◌<◌, ◌≤◌, true, false, [], length, IfOk, OnOk, OnErr, IfErr, IsErrOf, IsUtf8, None, Some, Ok, Err, IfSome};
 ghost use Rattle.hdt_wire.specs.Counted.{inner, failures};
 ghost use Rattle.hdt_terms.specs.Chars.{is_end};
-ghost use Rattle.hdt_terms.specs.Filling.{Filled, text_len};
+ghost use Rattle.hdt_terms.specs.Inside.Filling.{Filled, text_len};
 ghost use Rattle.hdt_terms.specs.Lines.{NoEnd};
 ghost use Rattle.hdt_terms.specs.declared.fault.LineReason.TheVariants.{Read};
 
@@ -75,7 +75,7 @@ impl Lines {
     ghost use Rattle.std.specs.Prelude.{List, ℕ};
     ghost use Rattle.hdt_terms.specs.LineReading.{is_bare};
     ghost use Rattle.hdt_terms.specs.TakingText.{TakesText, StandsNext, AnswersText, NoText};
-    ghost use Rattle.hdt_terms.specs.Taking.{State, start, left, line_number, take_of, take_line, Looked, Parsed, ParsedStrings, Ready, Finds, Answers, AnswersStrings, NoStrings};
+    ghost use Rattle.hdt_terms.specs.Taking.{State, start, left, line_number, take_of, take_line, Looked, Parsed, ParsedStrings, Ready, FindsLine, TakesNext, AnswersStrings, NoStrings};
 
     /// A reader of lines that has taken nothing. The input may have so many bytes at most: where it has more,
     /// [`LineReason::TooLong`] stands behind the lines that are whole within the limit. It allocates 64 KiB, whatever the limit.
@@ -235,7 +235,7 @@ impl Lines {
     /// Takes lines without a triple, and answers how many bytes the text of the next line has; `None` at the end.
     fn find_line<R: Read>(&mut self, input: &mut Counted<R>) -> Result<Option<usize>, LineFault>
         requires { self.old.ended ≡ false }
-        ensures does { Finds result self.old self.new (left self.old (R.remaining (inner input.old)))
+        ensures does { FindsLine result self.old self.new (left self.old (R.remaining (inner input.old)))
             (left self.new (R.remaining (inner input.new))) (R.remaining (inner input.new)) }
         ensures count { OnOk result (failures input.new ≡ failures input.old) }
         ensures failed { IfErr result (λ f. f.reason ≡ Read → failures input.new ≡ failures input.old + 1) }
@@ -263,7 +263,7 @@ impl Lines {
     /// Takes the next line with a triple, and what stands before it.
     fn take_triple<R: Read>(&mut self, input: &mut Counted<R>) -> Result<Option<Triple>, LineFault>
         requires { self.old.ended ≡ false }
-        ensures does { Answers result self.old self.new (left self.old (R.remaining (inner input.old)))
+        ensures does { TakesNext result self.old self.new (left self.old (R.remaining (inner input.old)))
             (left self.new (R.remaining (inner input.new))) (R.remaining (inner input.new)) }
         ensures count { OnOk result (failures input.new ≡ failures input.old) }
         ensures failed { IfErr result (λ f. f.reason ≡ Read → failures input.new ≡ failures input.old + 1) }
@@ -329,7 +329,7 @@ impl Lines {
             (result ≡ Ok None) × (self.new ≡ self.old) × (input.new ≡ input.old) }
         // Until then the answer is that of what is left of the input.
         ensures answers { self.old.failed ≡ None → self.old.ended ≡ false →
-            Answers result self.old self.new (left self.old (R.remaining (inner input.old)))
+            TakesNext result self.old self.new (left self.old (R.remaining (inner input.old)))
             (left self.new (R.remaining (inner input.new))) (R.remaining (inner input.new)) }
         ensures fault { IfErr result (λ f. self.new.failed ≡ Some f) }
         // The reader failed in this call at a fault that says so, and at no other answer.

@@ -2,7 +2,7 @@
 ghost use Rattle.std.specs.Prelude.{◌≡◌, length, IsUtf8};
 ghost use Rattle.std.specs.Str.{bytes_eq};
 ghost use Rattle.hdt_terms.specs.Terms.{xsd_string};
-ghost use Rattle.hdt_terms.specs.Reading.{Gives, after_blanks, datatype_of, datatype_at, suffix_at, literal_at};
+ghost use Rattle.hdt_terms.specs.Reading.{GivesRead, after_blanks, datatype_of, datatype_at, suffix_at, literal_at};
 
 use crate::chars::is_blank;
 use crate::fault::{LineReason, ReadError, refuse};
@@ -52,7 +52,7 @@ fn datatype_of(iri: Vec<u8>) -> Suffix
 /// The datatype that begins here with `^^`, and the bytes after it.
 #[tactic(auto, unfolding(crate::specs::Reading::datatype_at))]
 fn read_datatype(alloc: Global, bytes: &[u8]) -> Result<(Suffix, &[u8]), ReadError>
-    ensures { Gives (λ x. (x.0, x.1.now)) result (datatype_at bytes.now) }
+    ensures { GivesRead (λ x. (x.0, x.1.now)) result (datatype_at bytes.now) }
 {
     let [b'^', b'^', rest @ ..] = bytes else {
         return refuse(LineReason::Syntax, bytes.len());
@@ -64,7 +64,7 @@ fn read_datatype(alloc: Global, bytes: &[u8]) -> Result<(Suffix, &[u8]), ReadErr
 /// What stands behind the closing quote, and the bytes after it.
 #[tactic(auto, unfolding(crate::specs::Reading::suffix_at))]
 fn read_suffix(alloc: Global, bytes: &[u8]) -> Result<(Suffix, &[u8]), ReadError>
-    ensures { Gives (λ x. (x.0, x.1.now)) result (suffix_at bytes.now) }
+    ensures { GivesRead (λ x. (x.0, x.1.now)) result (suffix_at bytes.now) }
 {
     let token = after_blanks(bytes);
     match token {
@@ -77,7 +77,7 @@ fn read_suffix(alloc: Global, bytes: &[u8]) -> Result<(Suffix, &[u8]), ReadError
 /// The literal that begins here, and the bytes after it.
 #[tactic(auto, unfolding(crate::specs::Reading::literal_at))]
 pub fn read_literal(alloc: Global, bytes: &[u8]) -> Result<(Term, &[u8]), ReadError>
-    ensures { Gives (λ x. (x.0, x.1.now)) result (literal_at bytes.now) }
+    ensures { GivesRead (λ x. (x.0, x.1.now)) result (literal_at bytes.now) }
 {
     let [b'"', rest @ ..] = bytes else {
         return refuse(LineReason::Syntax, bytes.len());

@@ -1,8 +1,8 @@
 //! Reading one term.
 ghost use Rattle.std.specs.Prelude.{◌≡◌, ◌⊎◌, Ok, IfOk, IfErr, OnOk, OnErr, IsUtf8};
 ghost use Rattle.hdt_terms.specs.declared.term.Term.{Term};
-ghost use Rattle.hdt_terms.specs.Faults.{Answers, Puts, out_of_memory, term_in};
-ghost use Rattle.hdt_terms.specs.Reading.{Gives, term_at};
+ghost use Rattle.hdt_terms.specs.Faults.{IsRead, PutsParsed, out_of_memory, term_in};
+ghost use Rattle.hdt_terms.specs.Reading.{GivesRead, term_at};
 ghost use Rattle.hdt_terms.specs.Spelling.{Spelled};
 ghost use Rattle.hdt_terms.specs.Table.{FaultIn};
 ghost use Rattle.hdt_terms.specs.Terms.{IsGrammarTerm};
@@ -23,7 +23,7 @@ use std::alloc::Global;
 #[tactic(auto, unfolding(crate::specs::Reading::term_at))]
 pub fn read_term(alloc: Global, bytes: &[u8]) -> Result<(Term, &[u8]), ReadError>
     requires { IsUtf8 bytes.now }
-    ensures { Gives (λ x. (x.0, x.1.now)) result (term_at bytes.now) }
+    ensures { GivesRead (λ x. (x.0, x.1.now)) result (term_at bytes.now) }
 {
     let Some((first, _)) = bytes.split_first() else {
         return refuse(LineReason::Syntax, bytes.len());
@@ -44,7 +44,7 @@ pub fn read_term(alloc: Global, bytes: &[u8]) -> Result<(Term, &[u8]), ReadError
 /// The term that the text spells, or the fault that stands in it.
 #[tactic(auto, unfolding(crate::specs::Faults::term_in, crate::specs::Faults::checked))]
 fn read_whole(alloc: Global, text: &[u8]) -> Result<Term, TermFault>
-    ensures reads { Answers result (term_in text.now) }
+    ensures reads { IsRead result (term_in text.now) }
     ensures utf8 { OnOk result (IsUtf8 text.now) }
 {
     check_utf8(text)?;
@@ -70,11 +70,11 @@ pub fn parse_term(alloc: Global, text: &[u8]) -> Result<Term, TermFault>
     // What is read is spelled so, and a term of the grammar.
     ensures found { IfOk result (λ term. Spelled text.now term × IsGrammarTerm term) }
     // What is spelled so is read, unless memory runs out.
-    ensures only { (term : Term) → Spelled text.now term → Answers result (Ok term) }
+    ensures only { (term : Term) → Spelled text.now term → IsRead result (Ok term) }
     // A fault is the one of the table of faults, unless memory ran out.
     ensures fault { IfErr result (λ fault. (fault ≡ out_of_memory) ⊎ FaultIn text.now fault) }
     // All of this at once: the term that the text spells, or the fault that stands in it.
-    ensures exact { Answers result (term_in text.now) }
+    ensures exact { IsRead result (term_in text.now) }
 {
     read_whole(alloc, text)
 }
@@ -83,7 +83,7 @@ pub fn parse_term(alloc: Global, text: &[u8]) -> Result<Term, TermFault>
 /// `out` may have grown.
 #[tactic(auto, unfolding(crate::specs::Faults::term_in, crate::specs::Faults::checked))]
 fn append_whole(text: &[u8], out: &mut Vec<u8>) -> Result<(), TermFault>
-    ensures reads { Puts text.now out.old.items out.new.items result }
+    ensures reads { PutsParsed text.now out.old.items out.new.items result }
     ensures utf8 { OnOk result (IsUtf8 text.now) }
     ensures kept { Extends out.old.items out.new.items }
 {
@@ -110,7 +110,7 @@ pub fn parse_string(text: &[u8], out: &mut Vec<u8>) -> Result<(), TermFault>
     // A fault is the one of the table of faults, unless memory ran out.
     ensures fault { IfErr result (λ fault. (fault ≡ out_of_memory) ⊎ FaultIn text.now fault) }
     // The string of the term that the text spells, or the fault that stands in it.
-    ensures exact { Puts text.now out.old.items out.new.items result }
+    ensures exact { PutsParsed text.now out.old.items out.new.items result }
     ensures err { OnErr result (out.new.items ≡ out.old.items) }
 {
     let len = out.len();

@@ -3,8 +3,8 @@ ghost use Rattle.std.specs.Prelude.{◌≡◌, ◌≤◌, ◌+◌, ◌^◌, ◌<
 ghost use Rattle.std.specs.Prelude.{ℕ, true, slice_index};
 ghost use Rattle.hdt_terms.specs.Chars.{echar};
 ghost use Rattle.hdt_terms.specs.Spelling.{close, is_raw};
-ghost use Rattle.hdt_terms.specs.Reading.{Gives, escaped, uchar, echar_at, iri_item, string_item, item, skip_of, inside, with_front};
-ghost use Rattle.hdt_terms.specs.Appending.{Appends, itself};
+ghost use Rattle.hdt_terms.specs.Reading.{GivesRead, escape_here, uchar, echar_at, iri_item, string_item, item, skip_of, inside, with_front};
+ghost use Rattle.hdt_terms.specs.Appending.{AppendsRead, itself};
 ghost use Rattle.hdt_terms.specs.Writing.{Extends};
 ghost use Rattle.hdt_terms.specs.declared.fault.ReadError.TheVariants.{Memory};
 
@@ -44,7 +44,7 @@ fn uchar(rest: &[u8]) -> Option<(char, usize)>
 /// The character that so many digits write, and one more than their number.
 fn escaped(len: usize, digits: &[u8]) -> Option<(char, usize)>
     requires { len ≤ 8 }
-    ensures value { result ≡ escaped len digits.now }
+    ensures value { result ≡ escape_here len digits.now }
     ensures within { IfSome result (λ x. x.1 ≤ length digits.now + 1) }
 {
     if digits.len() < len {
@@ -84,7 +84,7 @@ fn echar_at(rest: &[u8]) -> Option<(char, usize)>
 #[tactic(auto, unfolding(crate::specs::Reading::iri_item))]
 fn iri_item(first: u8, rest: &[u8]) -> Result<Item, ReadError>
     requires { length rest.now < 2 ^ 63 }
-    ensures value { Gives (λ x. x) result (iri_item first rest.now) }
+    ensures value { GivesRead (λ x. x) result (iri_item first rest.now) }
     ensures within { IfOk result (λ x. skip_of x ≤ length rest.now) }
 {
     let left = rest.len() + 1;
@@ -105,7 +105,7 @@ fn iri_item(first: u8, rest: &[u8]) -> Result<Item, ReadError>
 #[tactic(auto, unfolding(crate::specs::Reading::string_item))]
 fn string_item(first: u8, rest: &[u8]) -> Result<Item, ReadError>
     requires { length rest.now < 2 ^ 63 }
-    ensures value { Gives (λ x. x) result (string_item first rest.now) }
+    ensures value { GivesRead (λ x. x) result (string_item first rest.now) }
     ensures within { IfOk result (λ x. skip_of x ≤ length rest.now) }
 {
     let left = rest.len() + 1;
@@ -125,7 +125,7 @@ fn string_item(first: u8, rest: &[u8]) -> Result<Item, ReadError>
 /// What begins with this byte inside the token.
 fn next_item(token: Token, first: u8, rest: &[u8]) -> Result<Item, ReadError>
     requires { length rest.now < 2 ^ 63 }
-    ensures value { Gives (λ x. x) result (item token first rest.now) }
+    ensures value { GivesRead (λ x. x) result (item token first rest.now) }
     ensures within { IfOk result (λ x. skip_of x ≤ length rest.now) }
 {
     match token {
@@ -196,7 +196,7 @@ fn inside_by_items<'a>(
     bytes: &'a [u8],
     out: &mut Vec<u8>,
 ) -> Result<&'a [u8], ReadError>
-    ensures reads { Appends itself out.old.items out.new.items (λ rest. rest.now) result (inside token 0 bytes.now) }
+    ensures reads { AppendsRead itself out.old.items out.new.items (λ rest. rest.now) result (inside token 0 bytes.now) }
     ensures kept { Extends out.old.items out.new.items }
 {
     let mut rest = bytes;
@@ -223,7 +223,7 @@ fn inside_at_end<'a>(
     bytes: &'a [u8],
     out: &mut Vec<u8>,
 ) -> Result<&'a [u8], ReadError>
-    ensures reads { Appends itself out.old.items out.new.items (λ rest. rest.now) result (inside token 0 bytes.now) }
+    ensures reads { AppendsRead itself out.old.items out.new.items (λ rest. rest.now) result (inside token 0 bytes.now) }
     ensures kept { Extends out.old.items out.new.items }
 {
     match bytes.split_first() {
@@ -235,7 +235,7 @@ fn inside_at_end<'a>(
 /// Appends what stands inside a token, its escapes resolved, and answers the bytes after its end.
 #[inline(always)]
 pub fn inside<'a>(token: Token, bytes: &'a [u8], out: &mut Vec<u8>) -> Result<&'a [u8], ReadError>
-    ensures reads { Appends itself out.old.items out.new.items (λ rest. rest.now) result (inside token 0 bytes.now) }
+    ensures reads { AppendsRead itself out.old.items out.new.items (λ rest. rest.now) result (inside token 0 bytes.now) }
     ensures kept { Extends out.old.items out.new.items }
 {
     let rest = append_plain(token, bytes, out)?;
@@ -246,7 +246,7 @@ pub fn inside<'a>(token: Token, bytes: &'a [u8], out: &mut Vec<u8>) -> Result<&'
 /// memory than its bytes.
 #[inline(always)]
 pub fn read_inside(alloc: Global, token: Token, bytes: &[u8]) -> Result<(Vec<u8>, &[u8]), ReadError>
-    ensures { Gives (λ x. (x.0.items, x.1.now)) result (inside token 0 bytes.now) }
+    ensures { GivesRead (λ x. (x.0.items, x.1.now)) result (inside token 0 bytes.now) }
 {
     let (plain, rest) = bytes.split_at(plain_len(token, bytes));
     let mut value = Vec::from_slice(alloc, plain)?;

@@ -1,8 +1,8 @@
 //! Reading a request of dictionary strings.
 ghost use Rattle.std.specs.Prelude.{◌≡◌, ◌++◌, [], Ok, Err, Option, MatchOption, IfOk};
-ghost use Rattle.hdt_terms.specs.Appending.{Appends, itself};
+ghost use Rattle.hdt_terms.specs.Appending.{AppendsRead, itself};
 ghost use Rattle.hdt_terms.specs.RawReading.{raw_letter, raw_escape, raw_at, tab_at, nothing_at, raw_request_at, raw_request_in, is_raw_given, FillsRaw, HoldsRaw, IsLetterAt};
-ghost use Rattle.hdt_terms.specs.Reading.{Gives};
+ghost use Rattle.hdt_terms.specs.Reading.{GivesRead};
 
 use crate::encoding::check_utf8;
 use crate::fault::{LineReason, ReadError, TermFault, fault_of, refuse};
@@ -36,7 +36,7 @@ fn letter_at(rest: &[u8]) -> Option<(u8, &[u8])>
 
 /// Appends the string that stands here, its escapes resolved, and answers the bytes from the tab behind it on.
 fn append_raw<'a>(bytes: &'a [u8], out: &mut Vec<u8>) -> Result<&'a [u8], ReadError>
-    ensures { Appends itself out.old.items out.new.items (λ rest. rest.now) result (raw_at bytes.now) }
+    ensures { AppendsRead itself out.old.items out.new.items (λ rest. rest.now) result (raw_at bytes.now) }
 {
     let mut rest = bytes;
     'bytes: while let Some((first, tail)) = rest.split_first() {
@@ -60,7 +60,7 @@ fn append_raw<'a>(bytes: &'a [u8], out: &mut Vec<u8>) -> Result<&'a [u8], ReadEr
 
 /// Puts the string that stands here into the buffer, and answers the bytes from the tab behind it on.
 fn put_raw<'a>(bytes: &'a [u8], out: &mut Vec<u8>) -> Result<&'a [u8], ReadError>
-    ensures { Appends itself [] out.new.items (λ rest. rest.now) result (raw_at bytes.now) }
+    ensures { AppendsRead itself [] out.new.items (λ rest. rest.now) result (raw_at bytes.now) }
 {
     out.clear();
     append_raw(bytes, out)
@@ -68,7 +68,7 @@ fn put_raw<'a>(bytes: &'a [u8], out: &mut Vec<u8>) -> Result<&'a [u8], ReadError
 
 /// What follows the tab here.
 fn behind_tab(bytes: &[u8]) -> Result<&[u8], ReadError>
-    ensures { Gives (λ rest. rest.now) result (tab_at bytes.now) }
+    ensures { GivesRead (λ rest. rest.now) result (tab_at bytes.now) }
 {
     match bytes {
         [b'\t', behind @ ..] => Ok(behind),
@@ -78,7 +78,7 @@ fn behind_tab(bytes: &[u8]) -> Result<&[u8], ReadError>
 
 /// Nothing stands here.
 fn read_nothing(bytes: &[u8]) -> Result<(), ReadError>
-    ensures { Gives (λ _. tt) result (nothing_at bytes.now) }
+    ensures { GivesRead (λ _. tt) result (nothing_at bytes.now) }
 {
     if bytes.is_empty() {
         return Ok(());

@@ -2,7 +2,7 @@
 ghost use Rattle.std.specs.Prelude.{◌≡◌, [], IfOk, IsUtf8};
 ghost use Rattle.hdt_terms.specs.RequestReading.{part_here, part_at, stop_at, request_at, request_in, FillsPart, FillsAsked, HoldsRequest};
 ghost use Rattle.hdt_terms.specs.LineReading.{bare_at};
-ghost use Rattle.hdt_terms.specs.Reading.{Gives};
+ghost use Rattle.hdt_terms.specs.Reading.{GivesRead};
 
 use crate::encoding::check_utf8;
 use crate::fault::{LineReason, ReadError, TermFault, fault_of, refuse};
@@ -50,7 +50,7 @@ fn put_part<'a>(
 
 /// Nothing, or a comment.
 fn read_bare(bytes: &[u8]) -> Result<(), ReadError>
-    ensures { Gives (λ _. tt) result (bare_at bytes.now) }
+    ensures { GivesRead (λ _. tt) result (bare_at bytes.now) }
 {
     if !is_comment(bytes) {
         return refuse(LineReason::Syntax, bytes.len());
@@ -61,7 +61,7 @@ fn read_bare(bytes: &[u8]) -> Result<(), ReadError>
 /// A full stop or none behind tabs and spaces, and then nothing or a comment.
 #[tactic(auto, unfolding(crate::specs::RequestReading::stop_at))]
 fn read_stop(bytes: &[u8]) -> Result<(), ReadError>
-    ensures { Gives (λ _. tt) result (stop_at bytes.now) }
+    ensures { GivesRead (λ _. tt) result (stop_at bytes.now) }
 {
     let bytes = after_blanks(bytes);
     let Some((first, behind)) = bytes.split_first() else {

@@ -2,7 +2,7 @@
 use Rattle.std.proofs.Common.{◌≡◌, ℕ, ◌+◌, ◌-◌, ◌<◌, ◌≤◌, zero, suc, length, slice_index, ap, sym, ◌∙◌, arith}
 use Rattle.hdt_triples.specs.Counting.{BitmapTriples, Counts, AreTriples, subject_at, pair_of}
 use Rattle.hdt_seq.specs.Marks.{marks_before}
-use Rattle.hdt_seq.specs.MarksLaws.{marks_mono}
+use Rattle.hdt_seq.specs.Laws.Marks.{marks_mono}
 
 -- predicates ascend within a subject, and objects within a pair
 pub record Ascend (f : BitmapTriples) : Type 0 where

@@ -5,18 +5,18 @@ use Rattle.std.proofs.lemmas.List.{drop_more}
 use Rattle.std.specs.List.{All, range_with_len, slice_range}
 use Rattle.std.proofs.lemmas.List.Elements.{All-from_get_or}
 use Rattle.hdt_triples.specs.Counting.{AreGrouped}
-use Rattle.hdt_triples.specs.Lists.{IsKey, places_of, places_from, AreLists, AreParts}
+use Rattle.hdt_triples.specs.Lists.{IsListKey, places_of, places_from, AreLists, AreBounds}
 use Rattle.hdt_triples.proofs.CountLaws.{below_mono, below_le}
 
-pub parts_of_lists : (xs : List ℕ) (greatest : ℕ) (starts flat : List ℕ) → AreLists xs greatest starts flat → AreParts starts flat
+pub parts_of_lists : (xs : List ℕ) (greatest : ℕ) (starts flat : List ℕ) → AreLists xs greatest starts flat → AreBounds starts flat
 parts_of_lists xs greatest starts flat l = record {
   ordered = λ k h. omega (arith, l.begins k (omega (arith, h, l.starts_len)), l.begins (k + 1) (omega (arith, h, l.starts_len)), below_mono xs (k + 1) (k + 1 + 1) (omega arith));
   within = λ k h. omega (arith, l.begins k (omega (arith, h, l.starts_len)), l.flat_len, below_le xs (k + 1));
 }
 
 -- numbers in groups are keys
-pub keys_of : (marks : List Bool) (xs : List ℕ) (count : ℕ) → AreGrouped marks xs count → All (IsKey count) xs
-keys_of marks xs count g = All-from_get_or (IsKey count) xs 0 (λ i h. (g.from i h, g.to i h))
+pub keys_of : (marks : List Bool) (xs : List ℕ) (count : ℕ) → AreGrouped marks xs count → All (IsListKey count) xs
+keys_of marks xs count g = All-from_get_or (IsListKey count) xs 0 (λ i h. (g.from i h, g.to i h))
 
 -- no place has another key
 none_kept : (n : ℕ) (xs : List ℕ) (k a : ℕ) → ((i : ℕ) → a ≤ i → i < a + n → slice_index xs i ≢ k) → filter (λ i. slice_index xs i == k) (range_with_len a n) ≡ []
@@ -25,7 +25,7 @@ none_kept (suc n) xs k a none =
     ap (λ b. cond b (a ∷ filter (λ i. slice_index xs i == k) (range_with_len (a + 1) n)) (filter (λ i. slice_index xs i == k) (range_with_len (a + 1) n))) (ne_eqb (slice_index xs a) k (none a (omega arith) (omega arith)))
     ∙ none_kept n xs k (a + 1) (λ i l w. none i (omega (arith, l)) (omega (arith, w)))
 
-pub no_key : (xs : List ℕ) (greatest k : ℕ) → All (IsKey greatest) xs → (k ≡ 0) ⊎ (greatest < k) → places_of xs k ≡ []
+pub no_key : (xs : List ℕ) (greatest k : ℕ) → All (IsListKey greatest) xs → (k ≡ 0) ⊎ (greatest < k) → places_of xs k ≡ []
 no_key xs greatest k keys (inl e) = none_kept (length xs) xs k 0 (λ i l w same. omega (arith, same, e, (keys i 0 (omega (arith, w))).0))
 no_key xs greatest k keys (inr h) = none_kept (length xs) xs k 0 (λ i l w same. omega (arith, same, h, (keys i 0 (omega (arith, w))).1))
 

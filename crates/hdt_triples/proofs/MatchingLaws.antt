@@ -6,16 +6,16 @@ use Rattle.std.specs.List.{All}
 use Rattle.std.proofs.lemmas.Bool.{cases_eq}
 use Rattle.hdt_seq.specs.Directory.{groups}
 use Rattle.hdt_seq.specs.Width.{digits}
-use Rattle.hdt_seq.specs.MarksLaws.{marks_marked, marks_mono}
+use Rattle.hdt_seq.specs.Laws.Marks.{marks_marked, marks_mono}
 use Rattle.hdt_triples.specs.declared.pattern.Pattern.{Pattern}
 use Rattle.hdt_triples.specs.Counting.{BitmapTriples, IsMarked, Triple, triple_at, triples_of, subject_at, pair_of}
 use Rattle.hdt_triples.specs.Patterns.{agrees, admits, matches}
 use Rattle.hdt_triples.specs.Walking.{triples_from}
 use Rattle.hdt_triples.specs.Bounds.{jump, of_subject, of_predicate, of_object}
 use Rattle.hdt_triples.specs.Lists.{places_of, places_from, IsPlaceOf}
-use Rattle.hdt_triples.specs.Runs.{AreBetween, Edges, IsRun, PairsOf}
-use Rattle.hdt_triples.specs.Spots.{Between}
-use Rattle.hdt_triples.specs.OrderLaws.{pair_within}
+use Rattle.hdt_triples.specs.Inside.Runs.{AreBetween, Edges, IsRunOfTriples, PairsOf}
+use Rattle.hdt_triples.specs.Inside.Spots.{Between}
+use Rattle.hdt_triples.specs.Laws.Order.{pair_within}
 use Rattle.hdt_triples.proofs.WalkLaws.{matches_taken, matches_passed}
 use Rattle.hdt_triples.proofs.SubjectLaws.{skipped, none_left, own_subject, other_subject}
 use Rattle.hdt_triples.proofs.PredicateLaws.{Begins, own_predicate, predicate_entered, next_of}
@@ -56,7 +56,7 @@ count_between f p at end r =
       ap length (none_left (length f.zs - end) p f end (omega (arith, r.within)) r.over),
     )
 
-pub run_between : (f : BitmapTriples) (p : Pattern) (s q at end : ℕ) → IsRun f p s q at end → ((i : ℕ) → i < at → agrees p (triple_at f i) ≡ false) → AreBetween f p at end
+pub run_between : (f : BitmapTriples) (p : Pattern) (s q at end : ℕ) → IsRunOfTriples f p s q at end → ((i : ℕ) → i < at → agrees p (triple_at f i) ≡ false) → AreBetween f p at end
 run_between f p s q at end r before = record { ordered = r.ordered; within = r.within; before = before; all = r.all; over = r.over }
 
 -- where nothing is given they are all

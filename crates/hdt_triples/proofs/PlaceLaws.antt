@@ -3,20 +3,20 @@ use Rattle.std.proofs.Common.{◌≡◌, ℕ, ◌+◌, ◌-◌, ◌<◌, ◌≤�
 use Rattle.std.specs.Int.{from_bool}
 use Rattle.std.proofs.lemmas.Option.{slice_get_within}
 use Rattle.hdt_seq.specs.Marks.{marks_before}
-use Rattle.hdt_seq.specs.MarksLaws.{marks_marked, marks_unmarked}
+use Rattle.hdt_seq.specs.Laws.Marks.{marks_marked, marks_unmarked}
 use Rattle.hdt_triples.specs.Counting.{BitmapTriples, Counts, IsMarked, AreTriples}
-use Rattle.hdt_triples.specs.OrderLaws.{pair_within}
-use Rattle.hdt_triples.specs.Walking.{Stands}
+use Rattle.hdt_triples.specs.Laws.Order.{pair_within}
+use Rattle.hdt_triples.specs.Walking.{StandsAt}
 use Rattle.hdt_triples.specs.declared.place.Place.{Place}
 
 -- its pair is there
-pub within_pairs : (f : BitmapTriples) (p : Place) → IsMarked f → Stands f p → p.at < length f.zs → p.pair < length f.ys
+pub within_pairs : (f : BitmapTriples) (p : Place) → IsMarked f → StandsAt f p → p.at < length f.zs → p.pair < length f.ys
 within_pairs f p m s h = omega (arith, s.pair_is, pair_within f m p.at h)
 
 -- the place after it, as the mark at its triple and the one at its pair say
-pub goes_on : (f : BitmapTriples) (p : Place) (ends_pair marked : Bool) (pairs subjects : ℕ) → Stands f p → p.at < length f.zs
+pub goes_on : (f : BitmapTriples) (p : Place) (ends_pair marked : Bool) (pairs subjects : ℕ) → StandsAt f p → p.at < length f.zs
     → slice_get f.mz p.at ≡ Some ends_pair → slice_get f.my p.pair ≡ Some marked → pairs ≡ from_bool ends_pair → subjects ≡ from_bool (ends_pair && marked)
-    → Stands f (record { at = p.at + 1; pair = p.pair + pairs; subject = p.subject + subjects })
+    → StandsAt f (record { at = p.at + 1; pair = p.pair + pairs; subject = p.subject + subjects })
 goes_on f p false marked pairs subjects s h mark _ none same =
     let stays : p.pair ≡ p.pair + pairs = omega (arith, none) in
     record {
@@ -53,5 +53,5 @@ subjects_few counts f t =
     omega (arith, ap (marks_before f.my) end, marks_marked f.my last t.marked.last_pair, t.subjects last (omega (arith, within, t.marked.pairs)))
 
 -- its subject is at most the count
-pub subject_few : (counts : Counts) (f : BitmapTriples) (p : Place) → AreTriples counts f → Stands f p → p.at < length f.zs → p.subject ≤ counts.subjects
+pub subject_few : (counts : Counts) (f : BitmapTriples) (p : Place) → AreTriples counts f → StandsAt f p → p.at < length f.zs → p.subject ≤ counts.subjects
 subject_few counts f p t s h = omega (arith, s.subject_is, t.subjects p.pair (within_pairs f p t.marked s h))

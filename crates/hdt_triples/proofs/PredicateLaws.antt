@@ -9,10 +9,10 @@ use Rattle.hdt_triples.specs.Walking.{triples_from}
 use Rattle.hdt_triples.specs.Patterns.{agrees, matches}
 use Rattle.hdt_triples.specs.Bounds.{of_predicate, predicate_price, Pays, limit, counting, jump}
 use Rattle.hdt_triples.specs.Lists.{places_of, places_from}
-use Rattle.hdt_triples.specs.Spots.{Between, Inside, InPairs}
+use Rattle.hdt_triples.specs.Inside.Spots.{Between, IsInRun, InPairs}
 use Rattle.hdt_triples.specs.declared.spot.Spot.{Spot}
-use Rattle.hdt_seq.specs.MarksLaws.{marks_mono, marks_marked, marks_unmarked}
-use Rattle.hdt_triples.specs.OrderLaws.{pair_within}
+use Rattle.hdt_seq.specs.Laws.Marks.{marks_mono, marks_marked, marks_unmarked}
+use Rattle.hdt_triples.specs.Laws.Order.{pair_within}
 use Rattle.hdt_triples.proofs.WalkLaws.{from_start, matches_taken}
 use Rattle.hdt_triples.proofs.SubjectLaws.{none_left}
 use Rattle.hdt_triples.proofs.JumpLaws.{matches_jump}
@@ -50,7 +50,7 @@ predicate_entered f p q at start rest qs marked s split b =
     (λ i l w. other_predicate p (triple_at f i) (first.before (pair_of f i) (marks_mono f.mz at i l) (b.earlier i (omega (arith, w, e)))))
     ∙ ap (λ j. matches (of_predicate p) (triples_from f j)) e
 
-pub inside_entered : (f : BitmapTriples) (p q at start subject : ℕ) (rest qs : List ℕ) → Between f p rest at → rest ≡ q ∷ qs → Begins f q start → subject ≡ subject_at f q → Inside f p qs start subject
+pub inside_entered : (f : BitmapTriples) (p q at start subject : ℕ) (rest qs : List ℕ) → Between f p rest at → rest ≡ q ∷ qs → Begins f q start → subject ≡ subject_at f q → IsInRun f p qs start subject
 inside_entered f p q at start subject rest qs s split b subject_is =
     let first = first_place f.ys p (pair_of f at) q qs (sym split ∙ s.rest_is) in
     record {
@@ -68,7 +68,7 @@ not_last f at marked h e (inr over) =
     absurd (omega (arith, e, pair_within f marked at h, marked.each_pair, ap (marks_before f.mz) last))
 
 -- the next triple is of the same pair
-pub inside_goes_on : (f : BitmapTriples) (p at subject : ℕ) (rest : List ℕ) → IsMarked f → Inside f p rest at subject → slice_get f.mz at ≡ Some false → Inside f p rest (at + 1) subject
+pub inside_goes_on : (f : BitmapTriples) (p at subject : ℕ) (rest : List ℕ) → IsMarked f → IsInRun f p rest at subject → slice_get f.mz at ≡ Some false → IsInRun f p rest (at + 1) subject
 inside_goes_on f p at subject rest marked s mark =
     let e : pair_of f (at + 1) ≡ pair_of f at = marks_unmarked f.mz at mark in
     record {
@@ -79,7 +79,7 @@ inside_goes_on f p at subject rest marked s mark =
     }
 
 -- the pair ends
-pub inside_ends : (f : BitmapTriples) (p at subject : ℕ) (rest : List ℕ) → Inside f p rest at subject → slice_get f.mz at ≡ Some true → Between f p rest (at + 1)
+pub inside_ends : (f : BitmapTriples) (p at subject : ℕ) (rest : List ℕ) → IsInRun f p rest at subject → slice_get f.mz at ≡ Some true → Between f p rest (at + 1)
 inside_ends f p at subject rest s mark =
     let e : pair_of f (at + 1) ≡ pair_of f at + 1 = marks_marked f.mz at mark in
     record {
@@ -88,12 +88,12 @@ inside_ends f p at subject rest s mark =
       earlier = λ i h. omega (arith, e, marks_mono f.mz i at (omega (arith, h)));
     }
 
-pub inside_triple : (f : BitmapTriples) (p at subject : ℕ) (rest : List ℕ) → Inside f p rest at subject → triple_at f at ≡ (subject, p, slice_index f.zs at)
+pub inside_triple : (f : BitmapTriples) (p at subject : ℕ) (rest : List ℕ) → IsInRun f p rest at subject → triple_at f at ≡ (subject, p, slice_index f.zs at)
 inside_triple f p at subject rest s =
     ap (λ x. let t : Triple = (x, slice_index f.ys (pair_of f at), slice_index f.zs at) in t) (sym s.subject_is)
     ∙ ap (λ y. let t : Triple = (subject, y, slice_index f.zs at) in t) s.predicate_is
 
-pub predicate_taken : (f : BitmapTriples) (p at subject : ℕ) (rest : List ℕ) → Inside f p rest at subject
+pub predicate_taken : (f : BitmapTriples) (p at subject : ℕ) (rest : List ℕ) → IsInRun f p rest at subject
     → matches (of_predicate p) (triples_from f at) ≡ (subject, p, slice_index f.zs at) ∷ matches (of_predicate p) (triples_from f (at + 1))
 predicate_taken f p at subject rest s =
     matches_taken (of_predicate p) f at s.within (own_predicate p (triple_at f at) s.predicate_is)
@@ -118,7 +118,7 @@ pub predicate_pays_first : (f : BitmapTriples) (p steps : ℕ) → steps ≤ 20 
 unfolding limit predicate_price jump
 predicate_pays_first f p steps few = omega (arith, few, ap (λ ts. (digits (groups f.my) + digits (groups f.mz) + 20) * length (matches (of_predicate p) ts)) (from_start f))
 
-pub predicate_pays_on : (f : BitmapTriples) (p at start subject steps after : ℕ) (rest : List ℕ) → matches (of_predicate p) (triples_from f at) ≡ matches (of_predicate p) (triples_from f start) → Inside f p rest start subject
+pub predicate_pays_on : (f : BitmapTriples) (p at start subject steps after : ℕ) (rest : List ℕ) → matches (of_predicate p) (triples_from f at) ≡ matches (of_predicate p) (triples_from f start) → IsInRun f p rest start subject
     → after ≤ steps + (digits (groups f.mz) + 19) → Pays (predicate_price f p) f steps (triples_from f at) → Pays (predicate_price f p) f after (triples_from f (start + 1))
 unfolding limit predicate_price jump
 predicate_pays_on f p at start subject steps after rest jump s few pays =

@@ -10,9 +10,9 @@ use Rattle.hdt_triples.specs.Walking.{triples_from}
 use Rattle.hdt_triples.proofs.AscentLaws.{Ascend}
 use Rattle.hdt_triples.specs.Patterns.{agrees, admits, matches}
 use Rattle.hdt_triples.specs.Bounds.{pair_price, Pays, limit, jump}
-use Rattle.hdt_triples.specs.Runs.{IsPairOf, PairsOf, IsRun}
-use Rattle.hdt_seq.specs.MarksLaws.{marks_mono, marks_before_last}
-use Rattle.hdt_triples.specs.OrderLaws.{pair_within}
+use Rattle.hdt_triples.specs.Inside.Runs.{IsPairOf, PairsOf, IsRunOfTriples}
+use Rattle.hdt_seq.specs.Laws.Marks.{marks_mono, marks_before_last}
+use Rattle.hdt_triples.specs.Laws.Order.{pair_within}
 use Rattle.hdt_triples.proofs.WalkLaws.{matches_taken}
 use Rattle.hdt_triples.proofs.SubjectLaws.{none_left, skipped}
 use Rattle.hdt_triples.proofs.ObjectLaws.{other_object}
@@ -94,7 +94,7 @@ other_pair f pattern s p i given_s given_p none =
     ∙ both_false s p (triple_at f i).0 (triple_at f i).1 (admits pattern.o (triple_at f i).2) none (cases_eq s (triple_at f i).0)
 
 -- nothing at all
-pub no_run : (f : BitmapTriples) (pattern : Pattern) (s p : ℕ) → IsMarked f → pattern.s ≡ Some s → pattern.p ≡ Some p → ((q : ℕ) → IsPairOf f s p q → ⊥) → IsRun f pattern s p 0 0
+pub no_run : (f : BitmapTriples) (pattern : Pattern) (s p : ℕ) → IsMarked f → pattern.s ≡ Some s → pattern.p ≡ Some p → ((q : ℕ) → IsPairOf f s p q → ⊥) → IsRunOfTriples f pattern s p 0 0
 no_run f pattern s p marked given_s given_p none = record {
   ordered = omega arith;
   within = omega arith;
@@ -134,7 +134,7 @@ agree_parts pattern s p t given_s given_p first second third =
     ∙ ap (λ b. true && true && b) third
 
 -- all triples of the pair
-pub whole_run : (f : BitmapTriples) (pattern : Pattern) (s p q at end : ℕ) → IsMarked f → pattern.s ≡ Some s → pattern.p ≡ Some p → pattern.o ≡ None → IsPairRun f s p q at end → IsRun f pattern s p at end
+pub whole_run : (f : BitmapTriples) (pattern : Pattern) (s p q at end : ℕ) → IsMarked f → pattern.s ≡ Some s → pattern.p ≡ Some p → pattern.o ≡ None → IsPairRun f s p q at end → IsRunOfTriples f pattern s p at end
 whole_run f pattern s p q at end marked given_s given_p free r =
     let subject : (i : ℕ) → at ≤ i → i < end → subject_at f (pair_of f i) ≡ s = λ i l h. ap (subject_at f) (pair_here f s p q at end i r l h) ∙ r.pair.1 in
     let predicate : (i : ℕ) → at ≤ i → i < end → slice_index f.ys (pair_of f i) ≡ p = λ i l h. ap (slice_index f.ys) (pair_here f s p q at end i r l h) ∙ r.pair.2 in
@@ -167,7 +167,7 @@ one_before f pattern s p o q at end j i marked given_s given_p given_o r h below
     apart_by f pattern s p o q at end i marked given_s given_p given_o r (omega (arith, h, l, r.within)) (λ a w e. omega (arith, e, below i a l)) (cases_lt i at) (cases_lt i end)
 
 pub one_run : (f : BitmapTriples) (pattern : Pattern) (s p o q at end j : ℕ) → IsMarked f → Ascend f → pattern.s ≡ Some s → pattern.p ≡ Some p → pattern.o ≡ Some o → IsPairRun f s p q at end → at ≤ j → j < end
-    → slice_index f.zs j ≡ o → IsRun f pattern s p j (j + 1)
+    → slice_index f.zs j ≡ o → IsRunOfTriples f pattern s p j (j + 1)
 one_run f pattern s p o q at end j marked up given_s given_p given_o r l h is =
     let here : (i : ℕ) → j ≤ i → i < j + 1 → i ≡ j = λ i a w. omega (arith, a, w) in
     let pair : pair_of f j ≡ q = pair_here f s p q at end j r l h in
@@ -186,7 +186,7 @@ one_run f pattern s p o q at end j marked up given_s given_p given_o r l h is =
 
 -- and where it doesn't stand
 pub none_run : (f : BitmapTriples) (pattern : Pattern) (s p o q at end j : ℕ) → IsMarked f → pattern.s ≡ Some s → pattern.p ≡ Some p → pattern.o ≡ Some o → IsPairRun f s p q at end
-    → ((i : ℕ) → at ≤ i → i < end → slice_index f.zs i ≢ o) → IsRun f pattern s p 0 0
+    → ((i : ℕ) → at ≤ i → i < end → slice_index f.zs i ≢ o) → IsRunOfTriples f pattern s p 0 0
 none_run f pattern s p o q at end j marked given_s given_p given_o r none = record {
   ordered = omega arith;
   within = omega arith;
@@ -197,18 +197,18 @@ none_run f pattern s p o q at end j marked given_s given_p given_o r none = reco
 }
 
 -- the iterator
-pub run_over : (f : BitmapTriples) (pattern : Pattern) (s p at end : ℕ) → IsRun f pattern s p at end → end ≤ at → matches pattern (triples_from f at) ≡ []
+pub run_over : (f : BitmapTriples) (pattern : Pattern) (s p at end : ℕ) → IsRunOfTriples f pattern s p at end → end ≤ at → matches pattern (triples_from f at) ≡ []
 run_over f pattern s p at end r h =
     none_left (length f.zs - at) pattern f at (omega (arith, r.ordered, r.within)) (λ i l w. r.over i (omega (arith, h, l)) w)
 
-pub run_taken : (f : BitmapTriples) (pattern : Pattern) (s p at end : ℕ) → IsRun f pattern s p at end → at < end
+pub run_taken : (f : BitmapTriples) (pattern : Pattern) (s p at end : ℕ) → IsRunOfTriples f pattern s p at end → at < end
     → matches pattern (triples_from f at) ≡ (s, p, slice_index f.zs at) ∷ matches pattern (triples_from f (at + 1))
 run_taken f pattern s p at end r h =
     matches_taken pattern f at (omega (arith, h, r.within)) (r.all at (omega arith) h)
     ∙ ap (λ x. let t : Triple = (x, slice_index f.ys (pair_of f at), slice_index f.zs at) in t ∷ matches pattern (triples_from f (at + 1))) (r.subject_is at (omega arith) h)
     ∙ ap (λ y. let t : Triple = (s, y, slice_index f.zs at) in t ∷ matches pattern (triples_from f (at + 1))) (r.predicate_is at (omega arith) h)
 
-pub run_on : (f : BitmapTriples) (pattern : Pattern) (s p at end : ℕ) → IsRun f pattern s p at end → at < end → IsRun f pattern s p (at + 1) end
+pub run_on : (f : BitmapTriples) (pattern : Pattern) (s p at end : ℕ) → IsRunOfTriples f pattern s p at end → at < end → IsRunOfTriples f pattern s p (at + 1) end
 run_on f pattern s p at end r h = record {
   ordered = omega (arith, h);
   within = r.within;
@@ -218,15 +218,15 @@ run_on f pattern s p at end r h = record {
   over = r.over;
 }
 
-pub run_items : (f : BitmapTriples) (pattern : Pattern) (s p at end : ℕ) → IsRun f pattern s p at end → ((i : ℕ) → i < at → agrees pattern (triple_at f i) ≡ false) → matches pattern (triples_from f at) ≡ matches pattern (triples_of f)
+pub run_items : (f : BitmapTriples) (pattern : Pattern) (s p at end : ℕ) → IsRunOfTriples f pattern s p at end → ((i : ℕ) → i < at → agrees pattern (triple_at f i) ≡ false) → matches pattern (triples_from f at) ≡ matches pattern (triples_of f)
 run_items f pattern s p at end r none = sym (skipped pattern f at (omega (arith, r.ordered, r.within)) none)
 
-pub run_pays_first : (f : BitmapTriples) (pattern : Pattern) (s p at end steps : ℕ) → IsRun f pattern s p at end → ((i : ℕ) → i < at → agrees pattern (triple_at f i) ≡ false)
+pub run_pays_first : (f : BitmapTriples) (pattern : Pattern) (s p at end steps : ℕ) → IsRunOfTriples f pattern s p at end → ((i : ℕ) → i < at → agrees pattern (triple_at f i) ≡ false)
     → steps ≤ 2 * digits (groups f.my) + 2 * digits (groups f.mz) + 35 + digits (length f.ys) + digits (length f.zs) → Pays (pair_price f pattern) f steps (triples_from f at)
 unfolding limit pair_price jump
 run_pays_first f pattern s p at end steps r none few = omega (arith, few, ap length (run_items f pattern s p at end r none))
 
-pub run_pays_on : (f : BitmapTriples) (pattern : Pattern) (s p at end steps after : ℕ) → IsRun f pattern s p at end → at < end → after ≤ steps + 1 → Pays (pair_price f pattern) f steps (triples_from f at)
+pub run_pays_on : (f : BitmapTriples) (pattern : Pattern) (s p at end steps after : ℕ) → IsRunOfTriples f pattern s p at end → at < end → after ≤ steps + 1 → Pays (pair_price f pattern) f steps (triples_from f at)
     → Pays (pair_price f pattern) f after (triples_from f (at + 1))
 unfolding limit pair_price jump
 run_pays_on f pattern s p at end steps after r h few pays = omega (arith, few, pays, ap length (run_taken f pattern s p at end r h))

@@ -7,11 +7,11 @@ use Rattle.hdt_triples.specs.declared.pattern.Pattern.{Pattern}
 use Rattle.hdt_triples.specs.declared.place.Place.{Place}
 use Rattle.hdt_triples.specs.Counting.{BitmapTriples, IsMarked, Triple, triple_at, triples_of, subject_at, pair_of}
 use Rattle.hdt_triples.specs.Patterns.{agrees, admits, matches}
-use Rattle.hdt_triples.specs.Walking.{Stands, triples_from}
+use Rattle.hdt_triples.specs.Walking.{StandsAt, triples_from}
 use Rattle.hdt_triples.specs.Bounds.{subject_price, of_subject, Pays, limit, jump}
-use Rattle.hdt_seq.specs.MarksLaws.{marks_mono, marks_before_last}
+use Rattle.hdt_seq.specs.Laws.Marks.{marks_mono, marks_before_last}
 use Rattle.hdt_seq.specs.Marks.{marks_before}
-use Rattle.hdt_triples.specs.OrderLaws.{pair_within}
+use Rattle.hdt_triples.specs.Laws.Order.{pair_within}
 use Rattle.hdt_triples.proofs.WalkLaws.{from_start, matches_taken, matches_passed, matches_none}
 
 -- none agrees before a place
@@ -42,7 +42,7 @@ pub matches_skipped : (p : Pattern) (s : ℕ) (f : BitmapTriples) (j : ℕ) → 
 matches_skipped p s f j given h before = skipped p f j h (λ i l. other_subject p s (triple_at f i) given (before i l))
 
 -- where a later subject stands none of this one is left
-pub matches_over : (p : Pattern) (s : ℕ) (f : BitmapTriples) (at : Place) → p.s ≡ Some s → Stands f at → s < at.subject → matches p (triples_from f at.at) ≡ []
+pub matches_over : (p : Pattern) (s : ℕ) (f : BitmapTriples) (at : Place) → p.s ≡ Some s → StandsAt f at → s < at.subject → matches p (triples_from f at.at) ≡ []
 matches_over p s f at given st later =
     none_left (length f.zs - at.at) p f at.at (omega (arith, st.within))
     (λ i l w. other_subject p s (triple_at f i) given

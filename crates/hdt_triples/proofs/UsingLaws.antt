@@ -5,13 +5,13 @@ use Rattle.std.proofs.lemmas.List.{get_or-map, length-map}
 use Rattle.hdt_wire.specs.declared.role.Role.{Role}
 use Rattle.hdt_wire.specs.declared.role.Role.TheVariants.{Subject, Predicate, Object}
 use Rattle.hdt_seq.specs.Marks.{marks_before}
-use Rattle.hdt_seq.specs.MarksLaws.{none_before, some_place, marks_through, sooner, marks_le}
+use Rattle.hdt_seq.specs.Laws.Marks.{none_before, some_place, marks_through, sooner, marks_le}
 use Rattle.hdt_triples.specs.Counting.{BitmapTriples, IsMarked, pair_of, subject_at, triple_at, triples_of}
-use Rattle.hdt_triples.specs.CountingLaws.{length-triples, triple_is}
-use Rattle.hdt_triples.specs.OrderLaws.{pair_within}
+use Rattle.hdt_triples.specs.Laws.Counting.{length-triples, triple_is}
+use Rattle.hdt_triples.specs.Laws.Order.{pair_within}
 use Rattle.hdt_triples.specs.Lists.{places_of}
 use Rattle.hdt_triples.specs.Uses.{part, Uses, uses}
-use Rattle.hdt_triples.specs.UsesLaws.{uses_found, uses_only}
+use Rattle.hdt_triples.specs.Laws.Uses.{uses_found, uses_only}
 use Rattle.hdt_triples.proofs.ListsLaws.{first_place, no_place, places_from_start}
 use Rattle.hdt_triples.proofs.SubjectLaws.{subject_above}
 

@@ -2,5 +2,5 @@
 use Rattle.hdt_triples.specs.Counting as counting
 use Rattle.hdt_triples.specs.declared.counts.Counts.{Counts}
 
-abbrev pub counts_of : Counts → counting.Counts
-counts_of c = record { subjects = c.subjects; predicates = c.predicates; objects = c.objects }
+abbrev pub counts_seen : Counts → counting.Counts
+counts_seen c = record { subjects = c.subjects; predicates = c.predicates; objects = c.objects }

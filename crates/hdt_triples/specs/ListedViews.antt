@@ -2,7 +2,7 @@
 use Rattle.std.specs.Prelude.{ℕ, ◌+◌, length}
 use Rattle.hdt_seq.specs.Directory.{groups}
 use Rattle.hdt_triples.specs.Counting.{BitmapTriples, Counts}
-use Rattle.hdt_triples.specs.CountsView.{counts_of}
+use Rattle.hdt_triples.specs.CountsView.{counts_seen}
 use Rattle.hdt_triples.specs.declared.triples.Triples.{Triples}
 use Rattle.hdt_triples.specs.declared.indexed.IndexedTriples.{IndexedTriples}
 use Rattle.hdt_triples.specs.declared.listed.ListedTriples.{ListedTriples}
@@ -17,7 +17,7 @@ triples_listed t = triples_indexed t.indexed
 
 -- how many strings each role has, of which the triples are
 abbrev pub roles_of : Triples → Counts
-roles_of t = counts_of t.counts
+roles_of t = counts_seen t.counts
 
 -- a count for each group, and the total, of the marks of both kinds
 abbrev pub directories_held : BitmapTriples → ℕ

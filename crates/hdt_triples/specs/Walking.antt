@@ -5,7 +5,7 @@ use Rattle.hdt_triples.specs.Counting.{BitmapTriples, Triple, pair_of, subject_a
 use Rattle.hdt_triples.specs.declared.place.Place.{Place}
 
 -- the place of triple `at`, or the end, with what its marks say
-pub record Stands (f : BitmapTriples) (p : Place) : Type 0 where
+pub record StandsAt (f : BitmapTriples) (p : Place) : Type 0 where
   pub within : p.at ≤ length f.zs
   pub pair_is : p.pair ≡ pair_of f p.at
   pub subject_is : p.subject ≡ subject_at f p.pair

@@ -1,7 +1,7 @@
 //! Which triples can be written.
 ghost use Rattle.std.specs.Prelude.{◌≡◌, ◌+◌, ◌<◌, ◌≤◌, ℕ, true, length};
 ghost use Rattle.hdt_triples.specs.Order.{AreWritable, TripleLess};
-ghost use Rattle.hdt_triples.specs.Fitting.{CanStand};
+ghost use Rattle.hdt_triples.specs.Inside.Fitting.{CanFollow};
 
 /// Whether a triple can follow another: it comes after it, and its subject is the same or the next one.
 fn can_follow(before: (u64, u64, u64), next: (u64, u64, u64)) -> bool
@@ -18,8 +18,8 @@ fn can_follow(before: (u64, u64, u64), next: (u64, u64, u64)) -> bool
 /// Whether triple i can stand behind the one before it.
 fn can_stand(triples: &[(u64, u64, u64)], i: usize) -> bool
     requires { i < length triples.now }
-    ensures yes { result ≡ true → CanStand triples.now i }
-    ensures no { CanStand triples.now i → result ≡ true }
+    ensures yes { result ≡ true → CanFollow triples.now i }
+    ensures no { CanFollow triples.now i → result ≡ true }
 {
     let (subject, predicate, object) = triples[i];
     if predicate == 0 || object == 0 {

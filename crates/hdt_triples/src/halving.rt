@@ -7,7 +7,7 @@ use crate::look::entry;
 use hdt_seq::{Numbers, Steps};
 
 /// The first place of an ascending part whose entry is x or more, or its end, by halving.
-#[tactic(auto, using(hdt_seq::specs::WidthLaws::digits_split))]
+#[tactic(auto, using(hdt_seq::specs::Laws::Width::digits_split))]
 pub(crate) fn place_from(xs: &Numbers<'_>, from: u64, to: u64, x: u64, steps: &mut Steps) -> u64
     requires order { from ≤ to }
     requires within { to ≤ length (numbers_of xs.now) }

@@ -5,7 +5,7 @@ ghost use Rattle.hdt_seq.specs.Marks.{marks_before};
 ghost use Rattle.hdt_seq.specs.Width.{digits};
 ghost use Rattle.hdt_triples.specs.Counting.{pair_of, subject_at};
 ghost use Rattle.hdt_triples.specs.Views.{bitmap_read};
-ghost use Rattle.hdt_triples.specs.Walking.{Stands};
+ghost use Rattle.hdt_triples.specs.Walking.{StandsAt};
 
 use crate::place::Place;
 use crate::triples::Triples;
@@ -100,7 +100,7 @@ impl<'a> IndexedTriples<'a> {
     /// The place of a subject's first triple, or the end.
     #[tactic(auto, unfolding(crate::specs::Views::bitmap_read))]
     pub(crate) fn start_of(&self, subject: u64, steps: &mut Steps) -> Place
-        ensures stands { Stands (bitmap_read (triples_indexed self.now)) result }
+        ensures stands { StandsAt (bitmap_read (triples_indexed self.now)) result }
         ensures reached { result.at < length (bitmap_read (triples_indexed self.now)).zs → subject ≤ result.subject }
         ensures before { (i : ℕ) → i < result.at → subject_at (bitmap_read (triples_indexed self.now)) (pair_of (bitmap_read (triples_indexed self.now)) i) ≢ subject }
         ensures cost { steps.new ≤ steps.old + (digits (groups (bitmap_read (triples_indexed self.now)).my) + digits (groups (bitmap_read (triples_indexed self.now)).mz) + 17) }

@@ -1,7 +1,7 @@
 //! Triples with their lists by predicate and by object.
 ghost use Rattle.std.specs.Prelude.{◌≡◌, ◌≤◌, ◌+◌, ℕ, List, IfOk, IfErr};
 ghost use Rattle.std.specs.List.{All};
-ghost use Rattle.hdt_triples.specs.Lists.{AreLists, AreParts, IsKey, places_of};
+ghost use Rattle.hdt_triples.specs.Lists.{AreLists, AreBounds, IsListKey, places_of};
 ghost use Rattle.hdt_triples.specs.Views.{bitmap_read};
 
 use crate::counting::lists_by;
@@ -36,8 +36,8 @@ pub struct ListedTriples<'a> {
 
 /// The places of a key, by two looks.
 fn part<'a>(starts: &[u64], flat: &'a [u64], key: u64, steps: &mut Steps) -> &'a [u64]
-    requires { AreParts starts.now flat.now }
-    ensures is { (xs : List ℕ) (greatest : ℕ) → AreLists xs greatest starts.now flat.now → All (IsKey greatest) xs → result.now ≡ places_of xs key }
+    requires { AreBounds starts.now flat.now }
+    ensures is { (xs : List ℕ) (greatest : ℕ) → AreLists xs greatest starts.now flat.now → All (IsListKey greatest) xs → result.now ≡ places_of xs key }
     ensures cost { steps.new ≤ steps.old + 2 }
     ensures more { steps.old ≤ steps.new }
 {

@@ -6,7 +6,7 @@ ghost use Rattle.hdt_triples.specs.Bounds.{counting_steps, jump, of_object, of_p
 ghost use Rattle.hdt_triples.specs.Counting.{pair_of, triples_of};
 ghost use Rattle.hdt_triples.specs.Lists.{places_of};
 ghost use Rattle.hdt_triples.specs.Patterns.{matches};
-ghost use Rattle.hdt_triples.specs.Runs.{AreBetween, Edges};
+ghost use Rattle.hdt_triples.specs.Inside.Runs.{AreBetween, Edges};
 ghost use Rattle.hdt_triples.specs.Views.{bitmap_read};
 
 use crate::indexed::IndexedTriples;
@@ -52,7 +52,7 @@ impl<'a> IndexedTriples<'a> {
     ghost use Rattle.hdt_triples.specs.ListedViews.{triples_indexed};
 
     /// Where the triples of the pairs from one to another begin and end. Most pairs have one triple, as its mark tells.
-    #[tactic(auto, using(hdt_seq::specs::MarksLaws::sooner))]
+    #[tactic(auto, using(hdt_seq::specs::Laws::Marks::sooner))]
     fn edges(&self, first: u64, last: u64, steps: &mut Steps) -> (u64, u64)
         requires order { first ≤ last }
         requires within { last < length (bitmap_read (triples_indexed self.now)).ys }
@@ -118,7 +118,7 @@ impl<'a> IndexedTriples<'a> {
     }
 
     /// The predicate of the triple at a place, by counting marks.
-    #[tactic(auto, using(crate::specs::OrderLaws::pair_within), unfolding(crate::specs::Views::bitmap_read))]
+    #[tactic(auto, using(crate::specs::Laws::Order::pair_within), unfolding(crate::specs::Views::bitmap_read))]
     fn predicate_at(&self, at: u64, steps: &mut Steps) -> u64
         requires { at < length (bitmap_read (triples_indexed self.now)).zs }
         ensures is { result ≡ slice_index (bitmap_read (triples_indexed self.now)).ys (pair_of (bitmap_read (triples_indexed self.now)) at) }

@@ -31,7 +31,7 @@ impl<'a> IndexedTriples<'a> {
     ghost use Rattle.hdt_triples.specs.ListedViews.{triples_indexed};
 
     /// The triple of an object at one of its places: its pair and its subject by counting marks.
-    #[tactic(auto, using(crate::specs::OrderLaws::pair_within), unfolding(crate::specs::Views::bitmap_read))]
+    #[tactic(auto, using(crate::specs::Laws::Order::pair_within), unfolding(crate::specs::Views::bitmap_read))]
     fn triple_of_object(&self, at: u64, object: u64, steps: &mut Steps) -> (u64, u64, u64)
         requires { IsPlaceOf (bitmap_read (triples_indexed self.now)).zs object at }
         ensures is { result ≡ triple_at (bitmap_read (triples_indexed self.now)) at }

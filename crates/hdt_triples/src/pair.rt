@@ -5,7 +5,7 @@ ghost use Rattle.hdt_seq.specs.Width.{digits};
 ghost use Rattle.hdt_triples.specs.Bounds.{pair_price, Pays, limit};
 ghost use Rattle.hdt_triples.specs.Counting.{triple_at, triples_of};
 ghost use Rattle.hdt_triples.specs.Patterns.{agrees, matches};
-ghost use Rattle.hdt_triples.specs.Runs.{IsPairOf, IsRun, PairsOf};
+ghost use Rattle.hdt_triples.specs.Inside.Runs.{IsPairOf, IsRunOfTriples, PairsOf};
 ghost use Rattle.hdt_triples.specs.Views.{bitmap_read};
 ghost use Rattle.hdt_triples.specs.Walking.{triples_from};
 
@@ -26,7 +26,7 @@ pub struct PairMatches<'a> {
     at: u64,
     end: u64,
     steps: Steps,
-    ghost run: { IsRun (bitmap_read triples) pattern subject predicate at end },
+    ghost run: { IsRunOfTriples (bitmap_read triples) pattern subject predicate at end },
     pub ghost few: { Pays (pair_price (bitmap_read triples) pattern) (bitmap_read triples) steps (triples_from (bitmap_read triples) at) },
 }
 
@@ -81,7 +81,7 @@ impl<'a> IndexedTriples<'a> {
     ) -> (u64, u64)
         requires subject_given { pattern.s ≡ Some subject }
         requires predicate_given { pattern.p ≡ Some predicate }
-        ensures run { IsRun (bitmap_read (triples_indexed self.now)) pattern subject predicate result.0 result.1 }
+        ensures run { IsRunOfTriples (bitmap_read (triples_indexed self.now)) pattern subject predicate result.0 result.1 }
         ensures before { (i : ℕ) → i < result.0 → agrees pattern (triple_at (bitmap_read (triples_indexed self.now)) i) ≡ false }
         ensures cost { steps.new ≤ steps.old + (2 * digits (groups (bitmap_read (triples_indexed self.now)).my) + 2 * digits (groups (bitmap_read (triples_indexed self.now)).mz) + 35 + digits (length (bitmap_read (triples_indexed self.now)).ys) + digits (length (bitmap_read (triples_indexed self.now)).zs)) }
         ensures more { steps.old ≤ steps.new }

@@ -3,7 +3,7 @@ ghost use Rattle.std.specs.Prelude.{◌≡◌, ◌+◌, ◌<◌, ◌≤◌, leng
 ghost use Rattle.hdt_seq.specs.Marks.{marks_before};
 ghost use Rattle.hdt_triples.specs.Counting.{triple_at};
 ghost use Rattle.hdt_triples.specs.Views.{bitmap_read};
-ghost use Rattle.hdt_triples.specs.Walking.{Stands};
+ghost use Rattle.hdt_triples.specs.Walking.{StandsAt};
 
 use crate::look::{entry, mark};
 use crate::triples::Triples;
@@ -20,10 +20,10 @@ pub(crate) struct Place {
 #[tactic(auto, unfolding(crate::specs::Views::bitmap_read))]
 impl<'a> Triples<'a> {
     /// The place of the first triple.
-    #[tactic(auto, using(hdt_seq::specs::MarksLaws::none_before), unfolding(crate::specs::Views::bitmap_read))]
+    #[tactic(auto, using(hdt_seq::specs::Laws::Marks::none_before), unfolding(crate::specs::Views::bitmap_read))]
     pub(crate) fn first(&self) -> Place
         ensures at { result.at ≡ 0 }
-        ensures stands { Stands (bitmap_read self.now) result }
+        ensures stands { StandsAt (bitmap_read self.now) result }
     {
         Place {
             at: 0,
@@ -36,7 +36,7 @@ impl<'a> Triples<'a> {
     pub(crate) fn end(&self, subjects: u64) -> Place
         requires { subjects ≡ marks_before (bitmap_read self.now).my (length (bitmap_read self.now).my) }
         ensures at { result.at ≡ length (bitmap_read self.now).zs }
-        ensures stands { Stands (bitmap_read self.now) result }
+        ensures stands { StandsAt (bitmap_read self.now) result }
     {
         Place {
             at: self.zs.len(),
@@ -47,7 +47,7 @@ impl<'a> Triples<'a> {
 
     /// The triple at a place, by two looks.
     pub(crate) fn look(&self, place: Place, steps: &mut Steps) -> (u64, u64, u64)
-        requires stands { Stands (bitmap_read self.now) place }
+        requires stands { StandsAt (bitmap_read self.now) place }
         requires within { place.at < length (bitmap_read self.now).zs }
         ensures is { result ≡ triple_at (bitmap_read self.now) place.at }
         ensures cost { steps.new ≡ steps.old + 2 }
@@ -61,11 +61,11 @@ impl<'a> Triples<'a> {
 
     /// The place after a place, by at most two looks.
     pub(crate) fn go_on(&self, place: Place, steps: &mut Steps) -> Place
-        requires stands { Stands (bitmap_read self.now) place }
+        requires stands { StandsAt (bitmap_read self.now) place }
         requires within { place.at < length (bitmap_read self.now).zs }
         ensures at { result.at ≡ place.at + 1 }
         ensures later { place.subject ≤ result.subject }
-        ensures stands { Stands (bitmap_read self.now) result }
+        ensures stands { StandsAt (bitmap_read self.now) result }
         ensures cost { steps.new ≤ steps.old + 2 }
         ensures more { steps.old ≤ steps.new }
     {

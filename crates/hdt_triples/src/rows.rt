@@ -6,7 +6,7 @@ ghost use Rattle.hdt_seq.specs.Numbers.{numbers_of, numbers_places, numbers_read
 ghost use Rattle.hdt_seq.specs.Bits.{bits_of, bits_places, bits_read};
 ghost use Rattle.hdt_triples.specs.Counting.{AreTriples};
 ghost use Rattle.hdt_triples.specs.Triples.{earlier, entry_row, pair_row, pairs_at, objects_at, last_at, is_one, fit_at};
-ghost use Rattle.hdt_triples.specs.CountsView.{counts_of};
+ghost use Rattle.hdt_triples.specs.CountsView.{counts_seen};
 
 use crate::counts::Counts;
 use hdt_seq::{Bits, Numbers};
@@ -81,7 +81,7 @@ fn pair_stands(
     requires predicate_is { predicate ≡ slice_index (numbers_of ys.now) q }
     requires subject_is { subject ≡ marks_before (bits_of my.now) q + 1 }
     requires before_is { before ≡ earlier (bits_of my.now) (numbers_of ys.now) q }
-    ensures is { result ≡ pair_row (counts_of counts.now) (bits_of my.now) (bits_places my.now) (numbers_of ys.now) (numbers_places ys.now) q }
+    ensures is { result ≡ pair_row (counts_seen counts.now) (bits_of my.now) (bits_places my.now) (numbers_of ys.now) (numbers_places ys.now) q }
     ensures range { IfOk result (λ _. subject ≤ counts.now.subjects) }
 {
     demand(
@@ -102,11 +102,11 @@ fn pair_stands(
 }
 
 /// The rows of all pairs.
-#[tactic(auto, using(hdt_wire::specs::ItemLaws::rows_passed, hdt_wire::specs::ItemLaws::rows_stopped, hdt_wire::specs::ItemLaws::rows_over))]
+#[tactic(auto, using(hdt_wire::specs::Laws::Item::rows_passed, hdt_wire::specs::Laws::Item::rows_stopped, hdt_wire::specs::Laws::Item::rows_over))]
 fn pairs_stand(counts: &Counts, my: &Bits<'_>, ys: &Numbers<'_>) -> Result<(), Fault>
     requires same { length (bits_of my.now) ≡ length (numbers_of ys.now) }
     requires few { counts.now.subjects < 2 ^ 63 }
-    ensures { result ≡ pairs_at (counts_of counts.now) (bits_of my.now) (bits_places my.now) (numbers_of ys.now) (numbers_places ys.now) }
+    ensures { result ≡ pairs_at (counts_seen counts.now) (bits_of my.now) (bits_places my.now) (numbers_of ys.now) (numbers_places ys.now) }
 {
     let mut subject: u64 = 1;
     let mut before: u64 = 0;
@@ -124,7 +124,7 @@ fn pairs_stand(counts: &Counts, my: &Bits<'_>, ys: &Numbers<'_>) -> Result<(), F
 }
 
 /// The rows of the objects of all triples.
-#[tactic(auto, using(hdt_wire::specs::ItemLaws::rows_passed, hdt_wire::specs::ItemLaws::rows_stopped, hdt_wire::specs::ItemLaws::rows_over))]
+#[tactic(auto, using(hdt_wire::specs::Laws::Item::rows_passed, hdt_wire::specs::Laws::Item::rows_stopped, hdt_wire::specs::Laws::Item::rows_over))]
 fn objects_stand(mz: &Bits<'_>, zs: &Numbers<'_>, count: u64) -> Result<(), Fault>
     requires { length (bits_of mz.now) ≡ length (numbers_of zs.now) }
     ensures { result ≡ objects_at (bits_of mz.now) (numbers_of zs.now) (numbers_places zs.now) count }
@@ -173,7 +173,7 @@ fn fit_rows(
     requires some_pairs { 0 < length (bits_of my.now) }
     requires some_triples { 0 < length (bits_of mz.now) }
     requires few { counts.now.subjects < 2 ^ 63 }
-    ensures { (a b c d : ℕ) → result ≡ fit_at (counts_of counts.now) (bits_read (my.now, a)) (bits_read (mz.now, b)) (numbers_read (ys.now, c)) (numbers_read (zs.now, d)) }
+    ensures { (a b c d : ℕ) → result ≡ fit_at (counts_seen counts.now) (bits_read (my.now, a)) (bits_read (mz.now, b)) (numbers_read (ys.now, c)) (numbers_read (zs.now, d)) }
 {
     demand(
         my.len() == ys.len(),
@@ -207,8 +207,8 @@ pub fn fit(
     requires some_pairs { 0 < length (bits_of my.now) }
     requires some_triples { 0 < length (bits_of mz.now) }
     requires few { counts.now.subjects < 2 ^ 63 }
-    ensures exact { (a b c d : ℕ) → result ≡ fit_at (counts_of counts.now) (bits_read (my.now, a)) (bits_read (mz.now, b)) (numbers_read (ys.now, c)) (numbers_read (zs.now, d)) }
-    ensures fit { OnOk result (AreTriples (counts_of counts.now) (record { my = bits_of my.now; mz = bits_of mz.now; ys = numbers_of ys.now; zs = numbers_of zs.now })) }
+    ensures exact { (a b c d : ℕ) → result ≡ fit_at (counts_seen counts.now) (bits_read (my.now, a)) (bits_read (mz.now, b)) (numbers_read (ys.now, c)) (numbers_read (zs.now, d)) }
+    ensures fit { OnOk result (AreTriples (counts_seen counts.now) (record { my = bits_of my.now; mz = bits_of mz.now; ys = numbers_of ys.now; zs = numbers_of zs.now })) }
 {
     fit_rows(counts, my, mz, ys, zs)
 }

@@ -2,7 +2,7 @@
 ghost use Rattle.std.specs.Prelude.{◌≡◌, ◌<◌, false, length, map, nat_eq, slice_index_or, IfOk};
 ghost use Rattle.hdt_triples.specs.Groups.{last_marks};
 ghost use Rattle.hdt_triples.specs.Writing.{all_pairs, pair_eq, sequences_of};
-ghost use Rattle.hdt_triples.specs.SequencesView.{bitmap_made};
+ghost use Rattle.hdt_triples.specs.Inside.SequencesView.{bitmap_made};
 
 use std::alloc::{AllocError, Global};
 

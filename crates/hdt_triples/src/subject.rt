@@ -4,7 +4,7 @@ ghost use Rattle.hdt_triples.specs.Bounds.{subject_price, Pays, limit};
 ghost use Rattle.hdt_triples.specs.Counting.{triples_of};
 ghost use Rattle.hdt_triples.specs.Patterns.{matches};
 ghost use Rattle.hdt_triples.specs.Views.{bitmap_read};
-ghost use Rattle.hdt_triples.specs.Walking.{Stands, triples_from};
+ghost use Rattle.hdt_triples.specs.Walking.{StandsAt, triples_from};
 
 use crate::indexed::IndexedTriples;
 use crate::pattern::Pattern;
@@ -21,7 +21,7 @@ pub struct SubjectMatches<'a> {
     place: Place,
     steps: Steps,
     ghost given: { pattern.s ≡ Some subject },
-    ghost stands: { Stands (bitmap_read triples) place },
+    ghost stands: { StandsAt (bitmap_read triples) place },
     ghost reached: { place.at < length (bitmap_read triples).zs → subject ≤ place.subject },
     pub ghost few: { Pays (subject_price (bitmap_read triples) subject) (bitmap_read triples) steps (triples_from (bitmap_read triples) place.at) },
 }

@@ -4,7 +4,7 @@ ghost use Rattle.hdt_wire.specs.Rows.{Reads};
 ghost use Rattle.hdt_seq.specs.Numbers.{numbers_of};
 ghost use Rattle.hdt_seq.specs.Bits.{bits_of};
 ghost use Rattle.hdt_triples.specs.Counting.{AreTriples};
-ghost use Rattle.hdt_triples.specs.CountsView.{counts_of};
+ghost use Rattle.hdt_triples.specs.CountsView.{counts_seen};
 
 use crate::counts::Counts;
 use crate::rows::{fit, in_order, marks_before};
@@ -27,7 +27,7 @@ pub struct Triples<'a> {
     ghost few: { counts.subjects < 2 ^ 63 },
     ghost predicates_few: { counts.predicates < 2 ^ 63 },
     ghost objects_few: { counts.objects < 2 ^ 63 },
-    ghost fit: { AreTriples (counts_of counts) (record { my = bits_of my; mz = bits_of mz; ys = numbers_of ys; zs = numbers_of zs }) },
+    ghost fit: { AreTriples (counts_seen counts) (record { my = bits_of my; mz = bits_of mz; ys = numbers_of ys; zs = numbers_of zs }) },
 }
 
 #[tactic(auto, unfolding(crate::specs::Views::bitmap_read))]
@@ -44,9 +44,9 @@ impl<'a> Triples<'a> {
         requires subjects { counts.subjects < 2 ^ 63 }
         requires predicates { counts.predicates < 2 ^ 63 }
         requires objects { counts.objects < 2 ^ 63 }
-        ensures exact { Reads read_of result (triples_in (counts_of counts) bytes.now at) }
+        ensures exact { Reads read_of result (triples_in (counts_seen counts) bytes.now at) }
         ensures end { IfOk result (λ r. r.1 ≤ length bytes.now) }
-        ensures roles { IfOk result (λ r. roles_of r.0 ≡ counts_of counts) }
+        ensures roles { IfOk result (λ r. roles_of r.0 ≡ counts_seen counts) }
     {
         let block = read_control(bytes, at, Kind::Triples)?;
         demand(
@@ -81,14 +81,14 @@ impl<'a> Triples<'a> {
         requires predicates { counts.predicates ≤ length bytes.now }
         requires objects { counts.objects ≤ length bytes.now }
         // What is read stands at that place.
-        ensures found { IfOk result (λ r. Seen parts_read (λ t. IsTriples (counts_of counts) t bytes.now at) (read_of r)) }
+        ensures found { IfOk result (λ r. Seen parts_read (λ t. IsTriples (counts_seen counts) t bytes.now at) (read_of r)) }
         // What stands there is read, whatever follows.
-        ensures only { (t : TripleParts) → IsTriples (counts_of counts) t bytes.now at → Reads read_of result (Ok (parts_read t)) }
+        ensures only { (t : TripleParts) → IsTriples (counts_seen counts) t bytes.now at → Reads read_of result (Ok (parts_read t)) }
         // Otherwise it is the one fault that stands.
-        ensures exact { Reads read_of result (triples_in (counts_of counts) bytes.now at) }
+        ensures exact { Reads read_of result (triples_in (counts_seen counts) bytes.now at) }
         ensures end { IfOk result (λ r. r.1 ≤ length bytes.now) }
         // The triples are of so many strings.
-        ensures roles { IfOk result (λ r. roles_of r.0 ≡ counts_of counts) }
+        ensures roles { IfOk result (λ r. roles_of r.0 ≡ counts_seen counts) }
     {
         Triples::read_rows(bytes, at, counts)
     }
@@ -102,7 +102,7 @@ impl<'a> Triples<'a> {
 
     /// Triple j, counted from 0: its subject, its predicate and its object. It counts marks from the first on, so it
     /// costs time in proportion to the place.
-    #[tactic(auto, using(crate::specs::OrderLaws::pair_within), unfolding(crate::specs::Views::bitmap_read))]
+    #[tactic(auto, using(crate::specs::Laws::Order::pair_within), unfolding(crate::specs::Views::bitmap_read))]
     pub fn get(&self, j: u64) -> (u64, u64, u64)
         requires { j < length (bitmap_read self.now).zs }
         ensures { result ≡ triple_at (bitmap_read self.now) j }

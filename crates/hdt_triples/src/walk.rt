@@ -3,7 +3,7 @@ ghost use Rattle.std.specs.Prelude.{◌≡◌, ◌≤◌, ◌*◌, ◌<◌, ◌^
 ghost use Rattle.hdt_triples.specs.Counting.{triples_of};
 ghost use Rattle.hdt_triples.specs.Patterns.{matches};
 ghost use Rattle.hdt_triples.specs.Views.{bitmap_read};
-ghost use Rattle.hdt_triples.specs.Walking.{Stands};
+ghost use Rattle.hdt_triples.specs.Walking.{StandsAt};
 
 use crate::pattern::Pattern;
 use crate::place::Place;
@@ -17,7 +17,7 @@ pub struct WalkMatches<'a> {
     pattern: Pattern,
     place: Place,
     steps: Steps,
-    ghost stands: { Stands (bitmap_read triples) place },
+    ghost stands: { StandsAt (bitmap_read triples) place },
     ghost few: { steps ≤ 4 * place.at },
 }
 

@@ -3,7 +3,7 @@ ghost use Rattle.std.specs.Prelude.{◌≡◌, ◌++◌, ◌<◌, ◌^◌, lengt
 ghost use Rattle.hdt_wire.specs.Control.{Keeps};
 ghost use Rattle.hdt_triples.specs.Counting.{Counts};
 ghost use Rattle.hdt_triples.specs.Order.{AreFew, AreWithin, AreWritable};
-ghost use Rattle.hdt_triples.specs.SequencesView.{bitmap_made};
+ghost use Rattle.hdt_triples.specs.Inside.SequencesView.{bitmap_made};
 ghost use Rattle.hdt_triples.specs.Triples.{IsTriples};
 ghost use Rattle.hdt_triples.specs.Writing.{canonical_sequences, canonical_triples, canonical_triples_parts};
 
@@ -13,7 +13,7 @@ use hdt_wire::{Kind, put_control};
 use std::alloc::{AllocError, Global};
 
 /// Appends four sequences; an `Err` may leave a beginning of them behind.
-#[tactic(auto, using(crate::specs::WritingLaws::ordered_no_zero), unfolding(crate::specs::Writing::canonical_sequences, crate::specs::SequencesView::bitmap_made))]
+#[tactic(auto, using(crate::specs::Laws::Writing::ordered_no_zero), unfolding(crate::specs::Writing::canonical_sequences, crate::specs::Inside::SequencesView::bitmap_made))]
 fn append_sequences(made: &Sequences, out: &mut Vec<u8>) -> Result<(), AllocError>
     requires some_pairs { 0 < length made.now.my.items }
     requires some_triples { 0 < length made.now.mz.items }

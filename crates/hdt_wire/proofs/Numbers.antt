@@ -6,7 +6,7 @@ use Rattle.std.proofs.Math.Nat.{pow-suc, pow-le-pow_right, mul-le-mul}
 use Rattle.std.proofs.lemmas.Bool.{cases_lt, leb-true}
 use Rattle.std.proofs.lemmas.List.Sums.{prefix_len_stops, prefix_len-le-length}
 use Rattle.std.proofs.lemmas.List.{take_more, length-take}
-use Rattle.hdt_wire.specs.RowLaws.{not-false}
+use Rattle.hdt_wire.specs.Laws.Row.{not-false}
 use Rattle.hdt_wire.specs.VByte.{number_of}
 
 -- ---- the value of the digits so far

@@ -7,9 +7,9 @@ use Rattle.hdt_wire.specs.declared.control.Kind.{Kind}
 use Rattle.hdt_wire.specs.declared.control.Control.{Control}
 use Rattle.hdt_wire.specs.Rows.{Reads, IsBytes, SpelledAt}
 use Rattle.hdt_wire.specs.VByte.{VByte, vbyte_at}
-use Rattle.hdt_wire.specs.VByteLaws.{vbyte_found, vbyte_only, vbyte_bounded}
+use Rattle.hdt_wire.specs.Laws.VByte.{vbyte_found, vbyte_only, vbyte_bounded}
 use Rattle.hdt_wire.specs.Control.{Block, IsBlock, block_of, control_at}
-use Rattle.hdt_wire.specs.ControlLaws.{control_found}
+use Rattle.hdt_wire.specs.Laws.Control.{control_found}
 
 pub number_found : (bytes : List ℕ) (at : ℕ) (r : Result (ℕ × ℕ) Fault) → IsBytes bytes → r ≡ vbyte_at bytes at → IfOk r (λ x. SpelledAt VByte bytes at x.0 x.1)
 number_found bytes at (Ok x) fits e = vbyte_found bytes at x fits (sym e)

@@ -4,7 +4,7 @@ use Rattle.std.proofs.Math.Nat.{pow-suc}
 use Rattle.std.proofs.lemmas.Bool.{cases_lt}
 use Rattle.std.proofs.lemmas.List.{take_more_set}
 use Rattle.hdt_wire.specs.VByte.{digits_by, vbyte}
-use Rattle.hdt_wire.specs.VByteLaws.{digits_more, digits_last}
+use Rattle.hdt_wire.specs.Laws.VByte.{digits_more, digits_last}
 
 -- what a loop keeps, with len bytes written: the rest is written in the bytes that are left
 pub record Fits (len rest : ℕ) : Type 0 where

@@ -4,7 +4,7 @@ use Rattle.std.specs.Prelude.{◌≡◌, ℕ, zero, suc, ◌/◌, ◌+◌, ◌*�
 use Rattle.std.specs.List.{position_or_len}
 use Rattle.hdt_wire.specs.declared.fault.Fault.{Fault}
 use Rattle.hdt_wire.specs.declared.fault.Reason.TheVariants.{Truncated, OverlongNumber, NumberTooLarge}
-use Rattle.hdt_wire.specs.Rows.{◌>>=◌, demand}
+use Rattle.hdt_wire.specs.Rows.{◌>>=◌, SpelledAt, demand}
 
 -- The bytes spell the number. The last byte is the last digit and 128. Before it stands the least digit,
 -- and the bytes after it spell the rest, which isn't 0: so each number has one spelling.
@@ -48,3 +48,8 @@ vbyte_at bytes at =
       _ ← demand (nat_lt value (2 ^ 64)) at NumberTooLarge
       _ ← demand (last == 0 || not (slice_index seen last == 128)) at OverlongNumber
       Ok (value, at + last + 1)
+
+-- the number below 2 ^ 64 stands at the place, in its one spelling
+pub record IsNumber (v : ℕ) (bytes : List ℕ) (at end : ℕ) : Type 0 where
+  pub spelled : SpelledAt VByte bytes at v end
+  pub below : v < 2 ^ 64

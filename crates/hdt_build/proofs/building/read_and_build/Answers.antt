@@ -1,5 +1,5 @@
 use Rattle.std.proofs.lemmas.Result.{err_from_is_err_and}
-use Rattle.hdt_build.specs.Documents.{graph_of}
+use Rattle.hdt_build.specs.Inside.Documents.{document_graph}
 use Rattle.hdt_build.proofs.Runs.{no_triples}
 use Rattle.hdt_build.proofs.building.read_and_build.Goals as goal
 
@@ -34,7 +34,7 @@ returns-in_err-document-clause-end g c =
     rw p.1 tt
 
 pub returns-then-is_empty-clause-told : goal.returns-then-is_empty-clause-told
-returns-then-is_empty-clause-told g c = no_triples _ (graph_of c.in_ok-document.document) c.in_ok-document.ensures.found (c.is_empty.ensures.0 c.if-is_empty.true)
+returns-then-is_empty-clause-told g c = no_triples _ (document_graph c.in_ok-document.document) c.in_ok-document.ensures.found (c.is_empty.ensures.0 c.if-is_empty.true)
 
 pub returns-in_err-built-clause-found : goal.returns-in_err-built-clause-found
 returns-in_err-built-clause-found g c =
@@ -68,7 +68,7 @@ returns-in_err-built-clause-end g c =
 
 pub returns-clause-found : goal.returns-clause-found
 returns-clause-found g c = record {
-  graph = graph_of c.in_ok-document.document;
+  graph = document_graph c.in_ok-document.document;
   read = c.in_ok-document.ensures.found;
   built = c.in_ok-built.ensures;
 }

@@ -3,7 +3,7 @@ use Rattle.std.proofs.lemmas.List.{length-map}
 use Rattle.std.proofs.lemmas.Slice.Eq.{bytes_eq-Decides}
 use Rattle.hdt_front.specs.Canonical.{lent_texts}
 use Rattle.hdt_dict.specs.Strings.{nothing}
-use Rattle.hdt_dict.specs.StringsLaws.{string_at}
+use Rattle.hdt_dict.specs.Laws.Strings.{string_at}
 use Rattle.hdt_build.proofs.once.is_last.Goals as goal
 
 pub returns-in-Some : goal.returns-in-Some

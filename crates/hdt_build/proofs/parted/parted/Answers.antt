@@ -1,6 +1,6 @@
 use Rattle.std.proofs.Common.{ℕ, subst, sym, arith}
 use Rattle.std.proofs.lemmas.List.{length-map}
-use Rattle.hdt_build.specs.Documents.{AreWithin}
+use Rattle.hdt_build.specs.Inside.Documents.{AreBelow}
 use Rattle.hdt_front.specs.Canonical.{lent_texts}
 use Rattle.hdt_wire.specs.declared.role.Role.TheVariants.{Subject, Predicate, Object}
 use Rattle.hdt_build.proofs.Parting.{used_text, are_parts}
@@ -26,6 +26,6 @@ returns-clause-parts c =
     let p = rw (c.as_slice-5.ensures.value, c.as_slice-6.ensures.value) at c.in_ok-predicates.ensures.filled in
     let o = rw (c.as_slice-7.ensures.value, c.as_slice-8.ensures.value, c.len-count.ensures) at c.in_ok-objects.ensures.filled in
     are_parts (lent_texts c.args.strings.now) c.args.triples.now c.requires.ascend
-    (subst (λ (n : ℕ). AreWithin n c.args.triples.now) (sym long) c.requires.within) c.in_ok-s.s.items c.in_ok-p.p.items c.in_ok-o.o.items c.in_ok-s.ensures.used c.in_ok-p.ensures.used c.in_ok-o.ensures.used
+    (subst (λ (n : ℕ). AreBelow n c.args.triples.now) (sym long) c.requires.within) c.in_ok-s.s.items c.in_ok-p.p.items c.in_ok-o.o.items c.in_ok-s.ensures.used c.in_ok-p.ensures.used c.in_ok-o.ensures.used
     _ _ _ _ _ _ _ _ _ _ a b p o
     (omega (arith, long, c.in_ok-nodes.ensures.len, c.in_ok-nodes.nodes.ok.0)) (omega (arith, long, c.in_ok-names.ensures.len, c.in_ok-names.names.ok.0))

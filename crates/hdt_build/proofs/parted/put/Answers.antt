@@ -3,8 +3,8 @@ use Rattle.std.proofs.lemmas.List.{length-map, length_push}
 use Rattle.hdt_front.specs.Canonical.{lent_texts}
 use Rattle.hdt_front.specs.InWork.{SectionInWork}
 use Rattle.hdt_dict.specs.Strings.{nothing}
-use Rattle.hdt_dict.specs.StringsLaws.{string_at}
-use Rattle.hdt_build.specs.Parted.{IsWanted}
+use Rattle.hdt_dict.specs.Laws.Strings.{string_at}
+use Rattle.hdt_build.specs.Inside.Parted.{IsWanted}
 use Rattle.hdt_build.proofs.Filling.{flag_before, none_filled, one_filled, one_passed}
 use Rattle.hdt_build.proofs.parted.put.Goals as goal
 use Rattle.hdt_build.proofs.parted.put.Goals.{then-has+in_ok-push, else-has}

@@ -1,6 +1,6 @@
 use Rattle.std.proofs.Common.{◌≡◌, ◌≤◌, [], length, get_or}
 use Rattle.hdt_front.specs.Canonical.{lent_texts}
-use Rattle.hdt_build.specs.Parted.{IsWanted}
+use Rattle.hdt_build.specs.Inside.Parted.{IsWanted}
 use Rattle.hdt_build.proofs.Joining.{InWork, Ahead}
 use Rattle.hdt_build.proofs.parted.put.Given as goal
 

@@ -1,7 +1,7 @@
 use Rattle.std.proofs.Common.{◌≡◌, ℕ, List, false, refl, sym, ap, subst, ◌∙◌, ◌++◌, ◌∷◌, [], ⊎_elim, arith}
 use Rattle.hdt_terms.specs.declared.term.Term.{Term}
 use Rattle.hdt_terms.specs.Spelling.{Spelled}
-use Rattle.hdt_build.specs.Documents.{graph_of}
+use Rattle.hdt_build.specs.Inside.Documents.{document_graph}
 use Rattle.hdt_build.specs.Reading.{most, AreTexts}
 use Rattle.hdt_build.proofs.Runs.{Run, at_end, either, run_begins, run_on, texts_more, no_texts, line_of, triple_size, told_of, not_read}
 use Rattle.hdt_build.proofs.reading.read_graph.Goals as goal
@@ -12,7 +12,7 @@ triples-init g c =
       failed = ap (λ s. s.failed) c.in_ok-lines.ensures;
       sound = c.in_ok-document.ensures.sound;
       texts = subst AreTexts (sym c.in_ok-document.ensures.graph) no_texts;
-      run = run_begins c.in_ok-lines.lines _ (graph_of c.in_ok-document.document) c.in_ok-lines.ensures c.in_ok-document.ensures.graph (c.run_of_lines.ensures.begins most _);
+      run = run_begins c.in_ok-lines.lines _ (document_graph c.in_ok-document.document) c.in_ok-lines.ensures c.in_ok-document.ensures.graph (c.run_of_lines.ensures.begins most _);
       count = refl;
     }
 
@@ -35,8 +35,8 @@ triples-preserved g c =
     let s = c.next_strings.new.s.items in
     let p = c.next_strings.new.p.items in
     let o = c.next_strings.new.o.items in
-    let graph = graph_of c.triples.document in
-    let more : graph_of c.add.new.self ≡ graph ++ (s, p, o) ∷ [] =
+    let graph = document_graph c.triples.document in
+    let more : document_graph c.add.new.self ≡ graph ++ (s, p, o) ∷ [] =
     rw (c.as_slice.ensures.value, c.as_slice-in-Ok-true.ensures.value, c.as_slice-in-Ok-true-2.ensures.value) at c.in_ok-add-in-Ok-true.ensures.graph in
     let line = line_of _ _ c.triples.lines new taken.0 taken.2 in
     let text = λ (word : List ℕ) (term : Term) (spelled : Spelled word term). c.strings_are_texts.ensures.text term (c.strings_are_texts.ensures.grammar term (c.one_spelled.ensures.grammar word term spelled)) in

@@ -1,8 +1,8 @@
 use Rattle.std.proofs.Common.{◌≡◌, append_assoc, arith}
-use Rattle.hdt_dict.specs.SplitLaws.{split_sections}
+use Rattle.hdt_dict.specs.Laws.Split.{split_sections}
 use Rattle.hdt_file.specs.Views.{graph_seen}
 use Rattle.hdt_build.specs.Canonical.{canonical_file}
-use Rattle.hdt_build.specs.Kept.{sections_of}
+use Rattle.hdt_build.specs.Inside.Kept.{sections_in_work}
 use Rattle.hdt_build.specs.Layouts.{denoted_by}
 use Rattle.hdt_build.proofs.BuiltForm.{made_of, told_of}
 use Rattle.hdt_build.proofs.Denoting.{some_triple, writable}
@@ -14,12 +14,12 @@ pub put_written_dictionary-requires-clause-sections : goal.put_written_dictionar
 put_written_dictionary-requires-clause-sections c =
     let g = graph_seen c.args.graph.now in
     let texts = denoted_texts g c.is_graph.ensures in
-    split_sections _ _ _ (sections_of c.in_ok-sections.sections) c.in_ok-sections.ensures.rewritten.sections texts.subjects_are texts.predicates_are texts.objects_are
+    split_sections _ _ _ (sections_in_work c.in_ok-sections.sections) c.in_ok-sections.ensures.rewritten.sections texts.subjects_are texts.predicates_are texts.objects_are
 
 pub put_triples-requires : goal.put_triples-requires
 put_triples-requires c =
     let g = graph_seen c.args.graph.now in
-    let d = sections_of c.in_ok-sections.sections in
+    let d = sections_in_work c.in_ok-sections.sections in
     let form = rewritten_form g c.is_graph.ensures d _ c.in_ok-sections.ensures.rewritten c.in_ok-triples.triples.items c.in_ok-triples.ensures.ascending c.in_ok-triples.ensures.same in
     rw c.as_slice.ensures.value (writable d c.in_ok-triples.triples.items form (some_triple (denoted_by g) d c.in_ok-triples.triples.items form (some_denoted g c.is_graph.ensures)))
 
@@ -28,7 +28,7 @@ unfolding canonical_file
 returns c =
     let g = graph_seen c.args.graph.now in
     let h = c.is_graph.ensures in
-    let d = sections_of c.in_ok-sections.sections in
+    let d = sections_in_work c.in_ok-sections.sections in
     let ts = c.in_ok-triples.triples.items in
     let bytes = c.put_triples.new.out.items in
     let form = rewritten_form g h d _ c.in_ok-sections.ensures.rewritten ts c.in_ok-triples.ensures.ascending c.in_ok-triples.ensures.same in

@@ -1,6 +1,6 @@
 use Rattle.std.proofs.Common.{◌≡◌, ◌∙◌, ◌+◌, length, ap, sym, arith}
-use Rattle.hdt_front.specs.Agreeing.{all_agree, itself_agrees}
-use Rattle.hdt_build.specs.Numbers.{term_at}
+use Rattle.hdt_front.specs.Laws.Agreeing.{all_agree, itself_agrees}
+use Rattle.hdt_build.specs.Inside.Numbers.{term_numbered}
 use Rattle.hdt_build.proofs.Going.{goes, counted, ended}
 use Rattle.hdt_build.proofs.run.go_to.Goals as goal
 
@@ -18,7 +18,7 @@ returns-then-given-number-clause-stands c = λ all stands within.
     record {
       stands = go.stands;
       given = go.given ∙ is;
-      last = go.last ∙ ap (term_at all) is;
+      last = go.last ∙ ap (term_numbered all) is;
     }
 
 pub returns-then-given-number-clause-kept : goal.returns-then-given-number-clause-kept

@@ -1,9 +1,9 @@
 use Rattle.std.proofs.Common.{◌≡◌, ◌∙◌, ◌<◌, ℕ, List, length, ap, sym, refl, arith}
 use Rattle.std.proofs.lemmas.List.{length_push}
 use Rattle.hdt_front.specs.InWork.{SectionInWork}
-use Rattle.hdt_front.specs.InWork.{last_of}
+use Rattle.hdt_front.specs.InWork.{last_string}
 use Rattle.hdt_front.specs.Searching.{agreed}
-use Rattle.hdt_front.specs.Agreeing.{agree_so}
+use Rattle.hdt_front.specs.Laws.Agreeing.{agree_so}
 use Rattle.hdt_file.specs.Views.{graph_seen}
 use Rattle.hdt_build.proofs.Agreement.{last_written, same_run}
 use Rattle.hdt_build.proofs.Putting.{text, put_begun, both_tell, first_put, second_put, all_put}
@@ -23,8 +23,8 @@ strings-init c =
       two_is = from.is_run;
       two_end = two;
       two_from = from.onward;
-      one_same = λ there. c.in_ok-one.ensures.same ∙ ap (λ (w : SectionInWork). agreed (last_of w) c.in_ok-one.one.strings.last) (sym c.new-out.ensures);
-      two_same = λ there. c.in_ok-two.ensures.same ∙ ap (λ (w : SectionInWork). agreed (last_of w) c.in_ok-two.two.strings.last) (sym c.new-out.ensures);
+      one_same = λ there. c.in_ok-one.ensures.same ∙ ap (λ (w : SectionInWork). agreed (last_string w) c.in_ok-one.one.strings.last) (sym c.new-out.ensures);
+      two_same = λ there. c.in_ok-two.ensures.same ∙ ap (λ (w : SectionInWork). agreed (last_string w) c.in_ok-two.two.strings.last) (sym c.new-out.ensures);
       work = rw c.new-out.ensures (put_begun g c.is_graph.ensures c.args.part c.args.count c.args.numbers.now.items c.in_ok-one.one c.in_ok-two.two c.in_ok-one.ensures.run from);
       block = ap (λ (w : SectionInWork). w.block_size) c.new-out.ensures;
       few = rw c.new-out.ensures (omega (arith, one, two, from.onward, cut_before g c.is_graph.ensures c.args.part));
@@ -46,7 +46,7 @@ strings-preserved-then-first c =
     let h = c.is_graph.ensures in
     let first = c.comes_first-first.ensures.first c.if-first.true in
     let run = c.in_ok-take.ensures.run in
-    let last : last_of c.take.new.out ≡ c.strings.one.strings.last = ap last_of c.in_ok-take.ensures.string ∙ last_written c.strings.out.strings _ ∙ sym (i.one_is.here first.0).last in
+    let last : last_string c.take.new.out ≡ c.strings.one.strings.last = ap last_string c.in_ok-take.ensures.string ∙ last_written c.strings.out.strings _ ∙ sym (i.one_is.here first.0).last in
     record {
       one_is = run.is_run;
       one_end = c.in_ok-take.ensures.end ∙ i.one_end;
@@ -74,7 +74,7 @@ strings-preserved c =
       | else-is_there+then-is_there-2 w ↦ w.is_there-else-is_there.ensures.there w.if-is_there-2.true
     ] in
     let run = c.in_ok-take-2.ensures.run in
-    let last : last_of c.take-else-first.new.out ≡ c.strings.two.strings.last = ap last_of c.in_ok-take-2.ensures.string ∙ last_written c.strings.out.strings _ ∙ sym (i.two_is.here there).last in
+    let last : last_string c.take-else-first.new.out ≡ c.strings.two.strings.last = ap last_string c.in_ok-take-2.ensures.string ∙ last_written c.strings.out.strings _ ∙ sym (i.two_is.here there).last in
     record {
       one_is = same_run g c.args.part l.one c.comes_first-first.result.1 i.one_is;
       one_end = i.one_end;

@@ -1,6 +1,6 @@
 use Rattle.std.proofs.Common.{◌∙◌, map, ap, refl}
 use Rattle.hdt_file.specs.Views.{graph_seen}
-use Rattle.hdt_build.specs.Kept.{renumbered}
+use Rattle.hdt_build.specs.Inside.Kept.{renumbered}
 use Rattle.hdt_build.proofs.Keeping.{matches_all}
 use Rattle.hdt_build.proofs.triples.renumbered.Goals as goal
 

@@ -1,7 +1,7 @@
 use Rattle.std.proofs.Common.{◌≡◌, ◌++◌, map, length}
 use Rattle.hdt_triples.specs.Left.{left_of}
 use Rattle.hdt_file.specs.Views.{graph_seen}
-use Rattle.hdt_build.specs.Kept.{renumbered}
+use Rattle.hdt_build.specs.Inside.Kept.{renumbered}
 use Rattle.hdt_build.proofs.triples.renumbered.Given as goal
 
 abbrev pub invariant-triples : goal.invariant-triples

@@ -1,10 +1,10 @@
 use Rattle.std.proofs.Common.{◌≡◌, ℕ, ◌<◌, ◌≤◌, length, get_or}
-use Rattle.hdt_build.specs.Graph.{numbers_at}
+use Rattle.hdt_build.specs.Graph.{renumbered_triple}
 use Rattle.hdt_build.proofs.triples.replace.Given as goal
 
 abbrev pub invariant-loop-triple : goal.invariant-loop-triple
 invariant-loop-triple l = record {
   long : length l.triple-items ≡ length l.initial.triple-items;
-  done : (k : ℕ) → k < l.triple-index → get_or l.triple-items k (0, 0, 0) ≡ numbers_at l.subjects l.predicates l.objects (get_or l.initial.triple-items k (0, 0, 0));
+  done : (k : ℕ) → k < l.triple-index → get_or l.triple-items k (0, 0, 0) ≡ renumbered_triple l.subjects l.predicates l.objects (get_or l.initial.triple-items k (0, 0, 0));
   left : (k : ℕ) → l.triple-index ≤ k → get_or l.triple-items k (0, 0, 0) ≡ get_or l.initial.triple-items k (0, 0, 0);
 }

@@ -6,11 +6,11 @@ use Rattle.hdt_wire.specs.Counted.{inner}
 use Rattle.hdt_dict.specs.Strings.{Lent}
 use Rattle.hdt_build.specs.Built.{Builds}
 use Rattle.hdt_build.specs.Options.{AreRight}
-use Rattle.hdt_build.specs.Reading.{Tells}
+use Rattle.hdt_build.specs.Reading.{TellsBuildFault}
 use Rattle.hdt_build.specs.declared.fault.BuildFault.{BuildFault}
 use Rattle.hdt_build.specs.declared.fault.BuildFault.TheVariants.{Line, NoTriples, BadOptions, OutOfMemory, Write}
 use Rattle.hdt_build.specs.declared.options.Options.{Options}
-use Rattle.hdt_c.specs.Building.{Given, Stands}
+use Rattle.hdt_c.specs.Building.{AreGivenOptions, HasBuildFault}
 use Rattle.hdt_c.proofs.building.file_of.Goals as goal
 
 is_bad : BuildFault → Bool
@@ -21,8 +21,8 @@ is_bad OutOfMemory = false
 is_bad (Write n) = false
 
 -- a fault that is told stands
-stands : (text base : List ℕ) (b : ℕ) (options : Options) → Given base b options → (after : Option (List ℕ)) (fault : BuildFault)
-    → (fault ≡ BadOptions → AreRight options → ⊥) → (fault ≢ BadOptions → Tells (Some text) after fault) → Stands text base b fault
+stands : (text base : List ℕ) (b : ℕ) (options : Options) → AreGivenOptions base b options → (after : Option (List ℕ)) (fault : BuildFault)
+    → (fault ≡ BadOptions → AreRight options → ⊥) → (fault ≢ BadOptions → TellsBuildFault (Some text) after fault) → HasBuildFault text base b fault
 unfolding is_bad
 stands text base b options given after (Line fault) bad told = record { after = after; told = told (λ e. true≢false (sym (ap is_bad e))) }
 stands text base b options given after NoTriples bad told = record { after = after; told = told (λ e. true≢false (sym (ap is_bad e))) }
@@ -45,4 +45,4 @@ returns-clause-err c =
     let after : Option (List ℕ) = Some (inner c.build_bytes.new.input).now in
     stands c.args.text.now c.args.base.now c.args.block_size options (record { base_is = c.in_ok-from_slice.ensures.items; size_is = refl }) after c.in-Err.fault
     (λ e. (c.build_bytes.ensures.bad).0 (c.in-Err.is ∙ ap Err e))
-    (λ ne. subst (λ (input : Option (List ℕ)). Tells input after c.in-Err.fault) (ap (λ (s : Lent). Some s.now) c.new.ensures.inner) (c.in-Err.ensures.told ne))
+    (λ ne. subst (λ (input : Option (List ℕ)). TellsBuildFault input after c.in-Err.fault) (ap (λ (s : Lent). Some s.now) c.new.ensures.inner) (c.in-Err.ensures.told ne))

@@ -3,7 +3,7 @@ use Rattle.std.proofs.lemmas.Result.{err_from_is_err_and}
 use Rattle.hdt_wire.specs.declared.fault.Fault.{Fault}
 use Rattle.hdt_wire.specs.Exact.{seen}
 use Rattle.hdt_wire.specs.Rows.{Gives}
-use Rattle.hdt_file.specs.Faults.{fault_of}
+use Rattle.hdt_file.specs.Faults.{open_fault_of}
 use Rattle.hdt_file.specs.Tight.{tight_in}
 use Rattle.hdt_file.specs.Views.{lens_of}
 use Rattle.hdt_file.specs.declared.fault.OpenFault.{OpenFault}
@@ -20,7 +20,7 @@ fault_of_rows view (Ok x) fault e = absurd cc
 fault_of_rows view (Err f) fault e = let is : f ≡ fault = cc in ap Err is
 
 -- and it is told
-told : (bytes : List ℕ) (e : OpenFault) → Gives {X = List ℕ} fault_of (λ lens. lens) (Err e) (seen lens_of (tight_in bytes)) → IsTold VerifyTight bytes (tool_fault_of e)
+told : (bytes : List ℕ) (e : OpenFault) → Gives {X = List ℕ} open_fault_of (λ lens. lens) (Err e) (seen lens_of (tight_in bytes)) → IsTold VerifyTight bytes (tool_fault_of e)
 told bytes (opening.Fault fault) h = fault_of_rows lens_of (tight_in bytes) fault h
 told bytes opening.OutOfMemory h = tt
 

@@ -1,6 +1,6 @@
 use Rattle.std.proofs.Common.{◌≢◌, List, ℕ, codes, rules, subst}
 use Rattle.std.proofs.lemmas.Result.{err_from_is_err_and}
-use Rattle.hdt_command.specs.Words.{ComesWithoutOr, IsFaultOf}
+use Rattle.hdt_command.specs.Words.{ComesWithoutOr, IsFaultOfWord}
 use Rattle.hdt_command.proofs.Stated.{or_or}
 use Rattle.hdt_command.proofs.entries.part_of.Goals as goal
 
@@ -8,8 +8,8 @@ pub returns-in_err-string_of-clause-refused : goal.returns-in_err-string_of-clau
 returns-in_err-string_of-clause-refused c =
     let text = c.args.text.now in
     let some : text ≢ codes "?" = search rules in
-    let fault_of = IsFaultOf c.args.word c.args.raw text in
-    let told = subst (λ (t : List ℕ). ComesWithoutOr (Unit {0}) (IsFaultOf c.args.word c.args.raw t) c.in_err-string_of.field-0.0) c.as_bytes.ensures.value
+    let fault_of = IsFaultOfWord c.args.word c.args.raw text in
+    let told = subst (λ (t : List ℕ). ComesWithoutOr (Unit {0}) (IsFaultOfWord c.args.word c.args.raw t) c.in_err-string_of.field-0.0) c.as_bytes.ensures.value
     c.in_err-string_of.ensures.refused in
     let p = err_from_is_err_and c.from_residual.result c.from_residual.ensures.1 in
     rw (p.1, p.2) (or_or (Unit {0}) (Unit {0}) fault_of (λ other fault. (text ≢ codes "?") × fault_of other fault)

@@ -1,5 +1,5 @@
 use Rattle.std.proofs.Common.{ap, sym, ◌∙◌}
-use Rattle.hdt_dict.specs.Overlap.{none_met}
+use Rattle.hdt_dict.specs.Inside.Overlap.{none_met}
 use Rattle.hdt_dict.proofs.Rows.{other_rows}
 use Rattle.hdt_dict.proofs.apart.check_objects.Goals as goal
 

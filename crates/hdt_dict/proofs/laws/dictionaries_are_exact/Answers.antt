@@ -1,4 +1,4 @@
-use Rattle.hdt_dict.specs.DictionaryLaws.{dictionary_exact}
+use Rattle.hdt_dict.specs.Laws.Dictionary.{dictionary_exact}
 use Rattle.hdt_dict.proofs.laws.dictionaries_are_exact.Goals as goal
 
 pub returns : goal.returns

@@ -1,4 +1,4 @@
-use Rattle.hdt_dict.specs.WritingLaws.{dictionary_stands}
+use Rattle.hdt_dict.specs.Laws.Writing.{dictionary_stands}
 use Rattle.hdt_dict.proofs.laws.dictionary_is_read_again.Goals as goal
 
 pub returns : goal.returns

@@ -1,6 +1,6 @@
-use Rattle.hdt_wire.specs.ExactLaws.{one_value, value_or_fault}
+use Rattle.hdt_wire.specs.Laws.Exact.{one_value, value_or_fault}
 use Rattle.hdt_dict.specs.Dictionary.{IsDictionary, dictionary_at}
-use Rattle.hdt_dict.specs.DictionaryLaws.{dictionary_exact}
+use Rattle.hdt_dict.specs.Laws.Dictionary.{dictionary_exact}
 use Rattle.hdt_dict.proofs.laws.one_dictionary.Goals as goal
 
 pub returns-clause-one : goal.returns-clause-one

@@ -1,4 +1,4 @@
-use Rattle.hdt_dict.specs.SplitLaws.{split_sections}
+use Rattle.hdt_dict.specs.Laws.Split.{split_sections}
 use Rattle.hdt_dict.proofs.laws.split_makes_sections.Goals as goal
 
 pub returns : goal.returns

@@ -1,7 +1,7 @@
 use Rattle.std.proofs.Common.{◌≡◌, ◌≤◌, ◌+◌, ◌-◌, not, length, take}
 use Rattle.std.specs.List.{filter}
 use Rattle.hdt_front.specs.Canonical.{lent_texts}
-use Rattle.hdt_dict.specs.Merging.{ArePassed}
+use Rattle.hdt_dict.specs.Inside.Merging.{ArePassed}
 use Rattle.hdt_dict.specs.Strings.{has}
 use Rattle.hdt_dict.proofs.merge.merge.Given as goal
 

@@ -2,7 +2,7 @@ use Rattle.std.proofs.Common.{[], get_or, arith, sym, ◌∙◌}
 use Rattle.std.proofs.lemmas.List.{length-map}
 use Rattle.hdt_front.specs.Canonical.{lent_texts}
 use Rattle.hdt_dict.specs.Strings.{nothing}
-use Rattle.hdt_dict.specs.StringsLaws.{string_at}
+use Rattle.hdt_dict.specs.Laws.Strings.{string_at}
 use Rattle.hdt_dict.proofs.Merging.{turned, less_alone, past_alone, equal_both}
 use Rattle.hdt_dict.proofs.merge.next_of.Goals as goal
 

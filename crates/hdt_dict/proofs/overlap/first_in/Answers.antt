@@ -1,5 +1,5 @@
 use Rattle.std.proofs.Common.{true, false, sym, ◌∙◌}
-use Rattle.hdt_dict.specs.Overlap.{is_among}
+use Rattle.hdt_dict.specs.Inside.Overlap.{is_string_of}
 use Rattle.hdt_dict.proofs.Overlaps.{meets, turned, among_after, ascends_after, ascends_passed}
 use Rattle.hdt_dict.proofs.Turning.{first_turns, list_turned, is_met}
 use Rattle.hdt_dict.proofs.overlap.first_in.Goals as goal
@@ -14,7 +14,7 @@ returns-then-eq c =
     let l = c.loop-x in
     let x = c.in-Some.x.now in
     let met = is_met x l.other c.reaches.new.cursor c.in_ok-lie.lie true l.invariant.2 c.in_ok-lie.ensures.lies c.in_ok-lie.ensures.left c.if-eq.ensures in
-    c.place.ensures ∙ meets l.list x (is_among l.other) (sym c.in-Some.ensures) met ∙ l.invariant.0
+    c.place.ensures ∙ meets l.list x (is_string_of l.other) (sym c.in-Some.ensures) met ∙ l.invariant.0
 
 pub loop-x-preserved : goal.loop-x-preserved
 loop-x-preserved c =
@@ -22,7 +22,7 @@ loop-x-preserved c =
     let x = c.in-Some.x.now in
     let left = c.in_ok-lie.ensures.left in
     let none = is_met x l.other c.reaches.new.cursor c.in_ok-lie.lie false l.invariant.2 c.in_ok-lie.ensures.lies left c.if-eq.ensures in (
-      turned l.list c.pass_kept.new.self x (is_among l.other) (is_among c.reaches.new.cursor) (sym c.in-Some.ensures) l.invariant.1 c.in_ok-kept.ensures.ok none
+      turned l.list c.pass_kept.new.self x (is_string_of l.other) (is_string_of c.reaches.new.cursor) (sym c.in-Some.ensures) l.invariant.1 c.in_ok-kept.ensures.ok none
           (among_after x l.other c.reaches.new.cursor left) ∙ l.invariant.0,
       ascends_passed l.list c.pass_kept.new.self l.invariant.1 c.in_ok-kept.ensures.ok,
       ascends_after x l.other c.reaches.new.cursor l.invariant.2 left,

@@ -1,5 +1,5 @@
 use Rattle.std.proofs.Common.{true, false, ◌||◌, sym, ◌∙◌}
-use Rattle.hdt_dict.specs.Overlap.{is_among}
+use Rattle.hdt_dict.specs.Inside.Overlap.{is_string_of}
 use Rattle.hdt_dict.proofs.Overlaps.{meets, turned, among_after, ascends_after, ascends_passed, or_left, or_right, or_none, or_both}
 use Rattle.hdt_dict.proofs.Turning.{list_turned, is_met}
 use Rattle.hdt_dict.proofs.overlap.first_in_two.Goals as goal
@@ -9,11 +9,11 @@ pub returns-then-eq : goal.returns-then-eq
 returns-then-eq c =
     let l = c.loop-x in
     let x = c.in-Some.x.now in
-    c.place.ensures ∙ meets l.list x (λ x. is_among l.one x || is_among l.two x) (sym c.in-Some.ensures)
+    c.place.ensures ∙ meets l.list x (λ x. is_string_of l.one x || is_string_of l.two x) (sym c.in-Some.ensures)
     (elim c.then-eq.branch [
-      | then-eq-via-then-eq w ↦ or_left (is_among l.one x) (is_among l.two x)
+      | then-eq-via-then-eq w ↦ or_left (is_string_of l.one x) (is_string_of l.two x)
           (is_met x l.one c.reaches.new.cursor c.in_ok-first.first true l.invariant.2 c.in_ok-first.ensures.lies c.in_ok-first.ensures.left w.if-eq.ensures)
-      | then-eq-via-else-eq+then-eq-2 w ↦ or_right (is_among l.one x) (is_among l.two x)
+      | then-eq-via-else-eq+then-eq-2 w ↦ or_right (is_string_of l.one x) (is_string_of l.two x)
           (is_met x l.two c.reaches-in-Some.new.cursor c.in_ok-second.second true l.invariant.3 c.in_ok-second.ensures.lies c.in_ok-second.ensures.left w.if-eq-2.ensures)
     ])
     ∙ l.invariant.0
@@ -24,7 +24,7 @@ loop-x-preserved c =
     let x = c.in-Some.x.now in
     let in_one = is_met x l.one c.reaches.new.cursor c.in_ok-first.first false l.invariant.2 c.in_ok-first.ensures.lies c.in_ok-first.ensures.left c.if-eq.ensures in
     let in_two = is_met x l.two c.reaches-in-Some.new.cursor c.in_ok-second.second false l.invariant.3 c.in_ok-second.ensures.lies c.in_ok-second.ensures.left c.if-eq-2.ensures in (
-      turned l.list c.pass_kept.new.self x (λ x. is_among l.one x || is_among l.two x) (λ x. is_among c.reaches.new.cursor x || is_among c.reaches-in-Some.new.cursor x)
+      turned l.list c.pass_kept.new.self x (λ x. is_string_of l.one x || is_string_of l.two x) (λ x. is_string_of c.reaches.new.cursor x || is_string_of c.reaches-in-Some.new.cursor x)
           (sym c.in-Some.ensures) l.invariant.1 c.in_ok-kept.ensures.ok (or_none _ _ in_one in_two)
           (λ z h. or_both _ _ _ _ (among_after x l.one c.reaches.new.cursor c.in_ok-first.ensures.left z h) (among_after x l.two c.reaches-in-Some.new.cursor c.in_ok-second.ensures.left z h))
           ∙ l.invariant.0,

@@ -1,5 +1,5 @@
 use Rattle.std.proofs.Common.{◌≡◌, length}
-use Rattle.hdt_dict.specs.Overlap.{not_less, Lies}
+use Rattle.hdt_dict.specs.Inside.Overlap.{not_less, Lies}
 use Rattle.hdt_dict.proofs.overlap.reaches.Given as goal
 
 abbrev pub invariant-loop-cursor : goal.invariant-loop-cursor

@@ -3,7 +3,7 @@ use Rattle.std.specs.Borrow.{Bor}
 use Rattle.std.proofs.lemmas.List.{length-map}
 use Rattle.hdt_wire.specs.Control.{HasNoZero}
 use Rattle.hdt_dict.specs.Strings.{Lent, nothing}
-use Rattle.hdt_dict.specs.StringsLaws.{string_at}
+use Rattle.hdt_dict.specs.Laws.Strings.{string_at}
 use Rattle.hdt_dict_tests.proofs.writer_tests.in_work.Goals as goal
 
 pub push-requires : goal.push-requires

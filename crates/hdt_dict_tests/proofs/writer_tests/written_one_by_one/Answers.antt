@@ -1,4 +1,4 @@
-use Rattle.hdt_dict.specs.SplitLaws.{split_sections}
+use Rattle.hdt_dict.specs.Laws.Split.{split_sections}
 use Rattle.hdt_dict_tests.proofs.writer_tests.written_one_by_one.Goals as goal
 
 pub put_one_by_one-requires-clause-sections : goal.put_one_by_one-requires-clause-sections

@@ -2,7 +2,7 @@ use Rattle.std.proofs.Common.{◌≡◌, ◌+◌, ◌∷◌, List, drop, get_or,
 use Rattle.std.proofs.lemmas.List.{drop_all, drop_more}
 use Rattle.std.proofs.lemmas.Result.{err_from_is_err_and}
 use Rattle.hdt_triples.specs.Counting.{Triple}
-use Rattle.hdt_file.specs.Pieces.{piece_in}
+use Rattle.hdt_file.specs.Inside.Pieces.{piece_in}
 use Rattle.hdt_file.specs.TextWriting.{AppendsText, TellsFirstIn}
 use Rattle.hdt_file.proofs.Lines.{found_at, pieces_at}
 use Rattle.hdt_file.proofs.Texts.{line_and_text, no_text, tells_behind, tells_here}

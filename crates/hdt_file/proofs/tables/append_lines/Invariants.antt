@@ -1,6 +1,6 @@
 use Rattle.std.proofs.Common.{List, ℕ, drop}
 use Rattle.hdt_file.specs.File.{GraphParts}
-use Rattle.hdt_file.specs.Pieces.{AreTables}
+use Rattle.hdt_file.specs.Inside.Pieces.{AreTables}
 use Rattle.hdt_file.specs.TextWriting.{AppendsText, TellsFirstIn}
 use Rattle.hdt_file.specs.declared.fault.DumpFault.{DumpFault}
 use Rattle.hdt_file.proofs.tables.append_lines.Given as goal

@@ -1,6 +1,6 @@
 use Rattle.std.proofs.Common.{◌≡◌, ◌<◌, ℕ, true, slice_index_or}
 use Rattle.hdt_triples.specs.Uses.{part}
-use Rattle.hdt_file.specs.Pieces.{is_marked}
+use Rattle.hdt_file.specs.Inside.Pieces.{is_marked}
 use Rattle.hdt_file.proofs.tables.marks_of.Given as goal
 
 abbrev pub invariant-marked : goal.invariant-marked

@@ -1,5 +1,5 @@
 use Rattle.std.proofs.Common.{◌≡◌, map, take}
-use Rattle.hdt_file.specs.Pieces.{piece_in}
+use Rattle.hdt_file.specs.Inside.Pieces.{piece_in}
 use Rattle.hdt_file.proofs.tables.objects_of.Given as goal
 
 abbrev pub invariant-triples : goal.invariant-triples

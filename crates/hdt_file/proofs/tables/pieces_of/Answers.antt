@@ -1,7 +1,7 @@
 use Rattle.std.proofs.Common.{List, ℕ, Bool, ◌+◌, ◌∙◌, ap, length, subst, sym, arith}
-use Rattle.hdt_dict.specs.Arena.{texts}
+use Rattle.hdt_dict.specs.Arena.{arena_texts}
 use Rattle.hdt_file.specs.LayoutView.{layout_seen}
-use Rattle.hdt_file.specs.Pieces.{ArePieces, GrowsByMarked, is_marked}
+use Rattle.hdt_file.specs.Inside.Pieces.{AreLinePieces, GrowsByMarked, is_marked}
 use Rattle.hdt_file.specs.Views.{strings_in}
 use Rattle.hdt_file.proofs.Lines.{PiecesTo, GoOn, begins, one_more, all_made, given, numbered_next, ended}
 use Rattle.hdt_file.proofs.tables.pieces_of.Goals as goal
@@ -40,5 +40,5 @@ returns c =
     let w = c.strings.strings in
     let all = strings_in (layout_seen c.args.layout.now) role in
     let none = ended w w.ahead c.in_ok-number.field-0 c.in_ok-number.ensures.number (λ k. c.in_default.not-Some k) in
-    let made = subst (λ (ahead : List (List ℕ)). GoOn role marks all (w.given + 1) ahead (texts c.strings.bytes.items c.strings.starts.items)) none c.strings.invariant.go_on in
-    subst (ArePieces role marks 1 all) (sym c.of.ensures) (all_made role marks all (w.given + 1) (texts c.strings.bytes.items c.strings.starts.items) made)
+    let made = subst (λ (ahead : List (List ℕ)). GoOn role marks all (w.given + 1) ahead (arena_texts c.strings.bytes.items c.strings.starts.items)) none c.strings.invariant.go_on in
+    subst (AreLinePieces role marks 1 all) (sym c.of.ensures) (all_made role marks all (w.given + 1) (arena_texts c.strings.bytes.items c.strings.starts.items) made)

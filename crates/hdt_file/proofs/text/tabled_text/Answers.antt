@@ -4,7 +4,7 @@ use Rattle.std.proofs.lemmas.List.{take-append-drop}
 use Rattle.std.proofs.lemmas.Result.{err_from_is_err_and}
 use Rattle.hdt_triples.specs.Counting.{Triple}
 use Rattle.hdt_file.specs.LayoutView.{layout_seen}
-use Rattle.hdt_file.specs.Pieces.{AreTables}
+use Rattle.hdt_file.specs.Inside.Pieces.{AreTables}
 use Rattle.hdt_file.proofs.Lines.{pieces_taken, pieces_behind}
 use Rattle.hdt_file.proofs.Texts.{GoesOn, SameFirst, text_goes_on, first_goes_on, text_stops, none_left, ends}
 use Rattle.hdt_file.proofs.text.tabled_text.Goals as goal

@@ -1,6 +1,6 @@
 use Rattle.std.proofs.Common.{length}
 use Rattle.hdt_file.specs.LayoutView.{layout_seen}
-use Rattle.hdt_file.specs.Pieces.{AreTables}
+use Rattle.hdt_file.specs.Inside.Pieces.{AreTables}
 use Rattle.hdt_file.proofs.Texts.{GoesOn, SameFirst}
 use Rattle.hdt_file.proofs.text.tabled_text.Given as goal
 

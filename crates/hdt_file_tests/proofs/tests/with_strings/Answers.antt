@@ -1,4 +1,4 @@
-use Rattle.hdt_dict.specs.SplitLaws.{split_sections}
+use Rattle.hdt_dict.specs.Laws.Split.{split_sections}
 use Rattle.hdt_file_tests.proofs.tests.with_strings.Goals as goal
 
 pub put_lent_dictionary-requires-clause-sections : goal.put_lent_dictionary-requires-clause-sections

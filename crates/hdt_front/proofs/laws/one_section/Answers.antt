@@ -1,6 +1,6 @@
-use Rattle.hdt_wire.specs.ExactLaws.{one_value, value_or_fault}
+use Rattle.hdt_wire.specs.Laws.Exact.{one_value, value_or_fault}
 use Rattle.hdt_front.specs.Section.{IsSection, section_at}
-use Rattle.hdt_front.specs.SectionLaws.{section_exact}
+use Rattle.hdt_front.specs.Laws.Section.{section_exact}
 use Rattle.hdt_front.proofs.laws.one_section.Goals as goal
 
 pub returns-clause-one : goal.returns-clause-one

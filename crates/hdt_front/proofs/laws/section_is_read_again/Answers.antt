@@ -1,5 +1,5 @@
-use Rattle.hdt_front.specs.SectionWriting.{section_stands}
-use Rattle.hdt_front.specs.CanonicalLaws.{canonical_stands, canonical_again}
+use Rattle.hdt_front.specs.Laws.SectionWriting.{section_stands}
+use Rattle.hdt_front.specs.Laws.Canonical.{canonical_stands, canonical_again}
 use Rattle.hdt_front.proofs.laws.section_is_read_again.Goals as goal
 
 pub returns-clause-canonical : goal.returns-clause-canonical

@@ -1,4 +1,4 @@
-use Rattle.hdt_front.specs.SectionLaws.{section_exact}
+use Rattle.hdt_front.specs.Laws.Section.{section_exact}
 use Rattle.hdt_front.proofs.laws.sections_are_exact.Goals as goal
 
 pub returns : goal.returns

@@ -1,7 +1,7 @@
 use Rattle.std.proofs.Common.{ℕ, leb, cond, refl, arith}
 use Rattle.std.proofs.lemmas.Simd.{zip2_splat, zip2_of_maps, splat_is_map, length-chunk}
 use lib.Lanes.{chunk}
-use Rattle.hdt_front.specs.Reaching.{is_plain}
+use Rattle.hdt_front.specs.Inside.Reaching.{is_plain}
 use Rattle.hdt_front.proofs.Loads.{load_runs}
 use Rattle.hdt_front.proofs.scan.load_plain.Goals as goal
 

@@ -1,5 +1,5 @@
 use Rattle.std.proofs.Common.{◌≤◌, ◌-◌, length}
-use Rattle.hdt_front.specs.Reaching.{plain_in}
+use Rattle.hdt_front.specs.Inside.Reaching.{plain_in}
 use Rattle.hdt_front.proofs.scan.plain_len.Given as goal
 
 abbrev pub invariant-loop-at : goal.invariant-loop-at

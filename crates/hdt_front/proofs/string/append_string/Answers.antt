@@ -5,7 +5,7 @@ use Rattle.hdt_front.specs.Strings.{strings_of, blocks_of}
 use Rattle.hdt_front.specs.Packed.{packing_of}
 use Rattle.hdt_front.specs.Facts.{rest_at}
 use Rattle.hdt_front.specs.Unfolding.{kept}
-use Rattle.hdt_front.specs.StringSteps.{length-unfolded}
+use Rattle.hdt_front.specs.Laws.StringSteps.{length-unfolded}
 use Rattle.hdt_front.proofs.Lies.{head_lies}
 use Rattle.hdt_front.proofs.Strings.{so_far, unfolds_here, block_inside, string_whole, unfolded_over}
 use Rattle.hdt_front.proofs.string.append_string.Goals as goal

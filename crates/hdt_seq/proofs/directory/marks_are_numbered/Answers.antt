@@ -1,5 +1,5 @@
 use Rattle.std.proofs.Common.{refl}
-use Rattle.hdt_seq.specs.MarksLaws.{some_place, one_place, places_ascend, marks_through, marks_mono}
+use Rattle.hdt_seq.specs.Laws.Marks.{some_place, one_place, places_ascend, marks_through, marks_mono}
 use Rattle.hdt_seq.proofs.directory.marks_are_numbered.Goals as goal
 
 pub returns-clause-number : goal.returns-clause-number

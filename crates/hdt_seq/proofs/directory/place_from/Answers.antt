@@ -1,7 +1,7 @@
 use Rattle.std.proofs.Common.{arith, ap, ◌∙◌, ◌≡◌, ◌<◌, ◌+◌, length}
 use Rattle.hdt_seq.specs.Marks.{marks_before}
 use Rattle.hdt_seq.specs.Bits.{bits_of}
-use Rattle.hdt_seq.specs.MarksLaws.{sooner, sooner_than_end}
+use Rattle.hdt_seq.specs.Laws.Marks.{sooner, sooner_than_end}
 use Rattle.hdt_seq.proofs.directory.place_from.Goals as goal
 
 pub loop-left-init : goal.loop-left-init

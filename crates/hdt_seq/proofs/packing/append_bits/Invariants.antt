@@ -1,6 +1,6 @@
 use Rattle.std.proofs.Common.{take, map}
 use Rattle.hdt_seq.specs.Little.{bit_number}
-use Rattle.hdt_seq.specs.PackingLaws.{Packs}
+use Rattle.hdt_seq.specs.Laws.Packing.{Packs}
 use Rattle.hdt_seq.proofs.packing.append_bits.Given as goal
 
 abbrev pub invariant-loop-bit : goal.invariant-loop-bit

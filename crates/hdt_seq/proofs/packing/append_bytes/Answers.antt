@@ -2,7 +2,7 @@ use Rattle.std.proofs.Common.{◌++◌, take, List, Result, Ok, Err, ℕ, ap, �
 use Rattle.std.specs.Prelude.{OnOk, if◌then◌else◌}
 use Rattle.std.specs.Result.{is_ok}
 use Rattle.byteorder.specs.Endian.{little_bytes}
-use Rattle.hdt_seq.specs.PackingLaws.{bytes_front}
+use Rattle.hdt_seq.specs.Laws.Packing.{bytes_front}
 use Rattle.hdt_seq.proofs.packing.append_bytes.Goals as goal
 
 at_ok : {T E : Type 0} (r : Result T E) (new more old : List ℕ) → new ≡ (if is_ok r then more else old) → OnOk r (new ≡ more)

@@ -1,6 +1,6 @@
 use Rattle.std.proofs.Common.{take, refl, arith}
 use Rattle.std.proofs.lemmas.Result.{on_ok_weaker, on_err_weaker}
-use Rattle.hdt_seq.specs.PackingLaws.{Packs-word, Packs-next, Packs-end, Packs-keeps, EachFits-take}
+use Rattle.hdt_seq.specs.Laws.Packing.{Packs-word, Packs-next, Packs-end, Packs-keeps, EachFits-take}
 use Rattle.hdt_seq.proofs.packing.append_entries.Goals as goal
 
 pub append_entry-requires-clause-small : goal.append_entry-requires-clause-small

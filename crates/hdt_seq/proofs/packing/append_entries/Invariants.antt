@@ -1,5 +1,5 @@
 use Rattle.std.proofs.Common.{take}
-use Rattle.hdt_seq.specs.PackingLaws.{Packs}
+use Rattle.hdt_seq.specs.Laws.Packing.{Packs}
 use Rattle.hdt_seq.proofs.packing.append_entries.Given as goal
 
 abbrev pub invariant-loop-x : goal.invariant-loop-x

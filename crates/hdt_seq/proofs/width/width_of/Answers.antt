@@ -1,7 +1,7 @@
 use Rattle.std.proofs.Common.{ℕ, List, ◌≡◌, ◌-◌, ◌<◌, ◌^◌, max, arith, get_or, sym, ap, subst}
 use Rattle.std.specs.Int.Count.{count_leading_zeros}
 use Rattle.hdt_seq.specs.Width.{width_of, greatest, digits}
-use Rattle.hdt_seq.specs.WidthLaws.{digits_by_zeros, width_fits, width_least}
+use Rattle.hdt_seq.specs.Laws.Width.{digits_by_zeros, width_fits, width_least}
 use Rattle.hdt_seq.proofs.width.width_of.Goals as goal
 
 by_zeros : (xs : List ℕ) (g r : ℕ) → g ≡ greatest xs → g < 2 ^ 64 → r ≡ max (64 - count_leading_zeros 64 g) 1 → r ≡ width_of xs

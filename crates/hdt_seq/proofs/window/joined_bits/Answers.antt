@@ -1,5 +1,5 @@
 use Rattle.std.proofs.Common.{arith, ◌≡◌, ◌/◌, ◌%◌, ◌^◌, ◌∙◌, ap, take}
-use Rattle.hdt_seq.specs.LittleLaws.{short_whole}
+use Rattle.hdt_seq.specs.Laws.Little.{short_whole}
 use Rattle.hdt_seq.proofs.Joining.{of_nine}
 use Rattle.hdt_seq.proofs.window.joined_bits.Goals as goal
 use Rattle.hdt_seq.proofs.window.joined_bits.Goals.{then-rest-gt9, else-rest-gt9}

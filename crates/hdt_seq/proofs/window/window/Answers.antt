@@ -1,6 +1,6 @@
 use Rattle.std.proofs.Common.{arith, ◌/◌, ◌%◌, ◌^◌, ◌∙◌, ap}
 use Rattle.hdt_seq.specs.Little.{little}
-use Rattle.hdt_seq.specs.LittleLaws.{rest_whole}
+use Rattle.hdt_seq.specs.Laws.Little.{rest_whole}
 use Rattle.hdt_seq.proofs.Joining.{of_rest}
 use Rattle.hdt_seq.proofs.window.window.Goals as goal
 

@@ -1,4 +1,4 @@
-use Rattle.hdt_seq.specs.BitsReading.{bits_spells, bits_again, bits_begin_no_other}
+use Rattle.hdt_seq.specs.Laws.BitsReading.{bits_spells, bits_again, bits_begin_no_other}
 use Rattle.hdt_seq.proofs.writing.bits_are_read_again.Goals as goal
 
 pub returns-clause-spelled : goal.returns-clause-spelled

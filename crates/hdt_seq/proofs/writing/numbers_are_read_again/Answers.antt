@@ -1,4 +1,4 @@
-use Rattle.hdt_seq.specs.NumbersReading.{numbers_spells, numbers_again, numbers_begin_no_other}
+use Rattle.hdt_seq.specs.Laws.NumbersReading.{numbers_spells, numbers_again, numbers_begin_no_other}
 use Rattle.hdt_seq.proofs.writing.numbers_are_read_again.Goals as goal
 
 pub returns-clause-spelled : goal.returns-clause-spelled

@@ -1,7 +1,7 @@
 use Rattle.std.proofs.Common.{◌≡◌, ◌≤◌, ◌-◌, length}
 use Rattle.hdt_wire.specs.Counted.{inner, failures}
 use Rattle.hdt_terms.specs.Lines.{NoEnd}
-use Rattle.hdt_terms.specs.Filling.{Grew}
+use Rattle.hdt_terms.specs.Inside.Filling.{Grew}
 use Rattle.hdt_terms.proofs.filling.fill.Given as goal
 
 abbrev pub invariant-fill : goal.invariant-fill

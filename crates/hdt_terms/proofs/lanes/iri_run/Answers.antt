@@ -3,7 +3,7 @@ use Rattle.std.proofs.lemmas.Simd.{zip2_of_maps, splat_is_map, length-chunk}
 use lib.Lanes.{chunk}
 use Rattle.hdt_terms.specs.declared.pieces.Token.TheVariants.{Iri}
 use Rattle.hdt_terms.specs.declared.lanes.Class.TheVariants.{Inside}
-use Rattle.hdt_terms.specs.Lanes.{passes}
+use Rattle.hdt_terms.specs.Inside.Lanes.{passes}
 use Rattle.hdt_terms.proofs.Loads.{run_of}
 use Rattle.hdt_terms.proofs.lanes.iri_run.Goals as goal
 

@@ -1,5 +1,5 @@
 use Rattle.std.proofs.Common.{◌-◌, ◌≤◌, length}
-use Rattle.hdt_terms.specs.Lanes.{PassBetween, passes}
+use Rattle.hdt_terms.specs.Inside.Lanes.{PassBetween, passes}
 use Rattle.hdt_terms.proofs.lanes.run_len.Given as goal
 
 abbrev pub invariant-loads : goal.invariant-loads

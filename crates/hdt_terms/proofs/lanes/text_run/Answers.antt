@@ -2,7 +2,7 @@ use Rattle.std.proofs.Common.{refl, arith}
 use Rattle.std.proofs.lemmas.Simd.{zip2_splat, zip2_of_maps, length-chunk}
 use lib.Lanes.{chunk}
 use Rattle.hdt_terms.specs.declared.lanes.Class.TheVariants.{Text}
-use Rattle.hdt_terms.specs.Lanes.{passes}
+use Rattle.hdt_terms.specs.Inside.Lanes.{passes}
 use Rattle.hdt_terms.proofs.Loads.{run_of}
 use Rattle.hdt_terms.proofs.lanes.text_run.Goals as goal
 

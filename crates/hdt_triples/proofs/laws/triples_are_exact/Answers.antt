@@ -1,4 +1,4 @@
-use Rattle.hdt_triples.specs.TriplesLaws.{triples_exact}
+use Rattle.hdt_triples.specs.Laws.Triples.{triples_exact}
 use Rattle.hdt_triples.proofs.laws.triples_are_exact.Goals as goal
 
 pub returns : goal.returns

@@ -1,4 +1,4 @@
-use Rattle.hdt_triples.specs.WritingLaws.{triples_are, triples_stand}
+use Rattle.hdt_triples.specs.Laws.Writing.{triples_are, triples_stand}
 use Rattle.hdt_triples.proofs.laws.triples_are_read_again.Goals as goal
 
 pub returns-clause-counted : goal.returns-clause-counted

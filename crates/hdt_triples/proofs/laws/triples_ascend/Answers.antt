@@ -1,4 +1,4 @@
-use Rattle.hdt_triples.specs.OrderLaws.{triples_ascend, triples_in_range}
+use Rattle.hdt_triples.specs.Laws.Order.{triples_ascend, triples_in_range}
 use Rattle.hdt_triples.proofs.laws.triples_ascend.Goals as goal
 
 pub returns-clause-ascend : goal.returns-clause-ascend

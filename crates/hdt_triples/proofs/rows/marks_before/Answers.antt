@@ -1,6 +1,6 @@
 use Rattle.std.proofs.Common.{◌∙◌, ap, sym, arith, Some}
 use Rattle.hdt_seq.specs.Bits.{bits_of}
-use Rattle.hdt_seq.specs.MarksLaws.{none_before, marks_marked, marks_unmarked, marks_le}
+use Rattle.hdt_seq.specs.Laws.Marks.{none_before, marks_marked, marks_unmarked, marks_le}
 use Rattle.hdt_triples.proofs.rows.marks_before.Goals as goal
 use Rattle.hdt_triples.proofs.rows.marks_before.Goals.{then-get, else-get}
 

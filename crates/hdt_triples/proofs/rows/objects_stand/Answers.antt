@@ -3,7 +3,7 @@ use Rattle.hdt_wire.specs.declared.fault.Reason.TheVariants.{ObjectRange, Object
 use Rattle.hdt_seq.specs.Bits.{bits_of}
 use Rattle.hdt_seq.specs.Numbers.{numbers_of, numbers_places}
 use Rattle.hdt_triples.specs.Triples.{entry_row}
-use Rattle.hdt_wire.specs.ItemLaws.{rows_passed, rows_all}
+use Rattle.hdt_wire.specs.Laws.Item.{rows_passed, rows_all}
 use Rattle.hdt_triples.proofs.EarlierLaws.{earlier_first, earlier_marked, earlier_unmarked}
 use Rattle.hdt_triples.proofs.rows.objects_stand.Goals as goal
 use Rattle.hdt_triples.proofs.rows.objects_stand.Goals.{then-get, else-get}

@@ -1,10 +1,10 @@
 use Rattle.std.proofs.Common.{◌∙◌, ap, sym, arith, Some, length}
 use Rattle.hdt_seq.specs.Bits.{bits_of, bits_places}
 use Rattle.hdt_seq.specs.Numbers.{numbers_of, numbers_places}
-use Rattle.hdt_seq.specs.MarksLaws.{none_before, marks_marked, marks_unmarked}
+use Rattle.hdt_seq.specs.Laws.Marks.{none_before, marks_marked, marks_unmarked}
 use Rattle.hdt_triples.specs.Triples.{pair_row}
-use Rattle.hdt_triples.specs.CountsView.{counts_of}
-use Rattle.hdt_wire.specs.ItemLaws.{rows_passed, rows_all}
+use Rattle.hdt_triples.specs.CountsView.{counts_seen}
+use Rattle.hdt_wire.specs.Laws.Item.{rows_passed, rows_all}
 use Rattle.hdt_triples.proofs.EarlierLaws.{earlier_first, earlier_marked, earlier_unmarked}
 use Rattle.hdt_triples.proofs.rows.pairs_stand.Goals as goal
 use Rattle.hdt_triples.proofs.rows.pairs_stand.Goals.{then-get, else-get}
@@ -16,7 +16,7 @@ pairs-init c =
     record {
       subject_is = omega (arith, none_before my);
       before_is = sym (earlier_first my ys);
-      left = rows_all (pair_row (counts_of c.args.counts.now) my (bits_places c.args.my.now) ys (numbers_places c.args.ys.now)) (length ys);
+      left = rows_all (pair_row (counts_seen c.args.counts.now) my (bits_places c.args.my.now) ys (numbers_places c.args.ys.now)) (length ys);
     }
 
 pub pairs-preserved : goal.pairs-preserved
@@ -24,7 +24,7 @@ pairs-preserved c =
     let l = c.pairs in
     let my = bits_of c.args.my.now in
     let ys = numbers_of c.args.ys.now in
-    let row = pair_row (counts_of c.args.counts.now) my (bits_places c.args.my.now) ys (numbers_places c.args.ys.now) in
+    let row = pair_row (counts_seen c.args.counts.now) my (bits_places c.args.my.now) ys (numbers_places c.args.ys.now) in
     let within = c.len-q-end.ensures in
     let passed = rows_passed row l.q (length ys) (omega (arith, c.pairs-test.true, within)) (sym c.pair_stands.ensures.is ∙ c.in_ok-pair_stands.was) in
     elim c.if-get.branch [

@@ -1,6 +1,6 @@
 use Rattle.std.proofs.Common.{sym, ◌∙◌, arith, eq-eqb}
 use Rattle.hdt_triples.specs.Writing.{pair_eq}
-use Rattle.hdt_triples.specs.GroupLaws.{mark_inside, mark_at_end}
+use Rattle.hdt_triples.specs.Laws.Group.{mark_inside, mark_at_end}
 use Rattle.hdt_triples.proofs.sequences.ends_pair.Goals as goal
 
 pub returns-then-at-pairs : goal.returns-then-at-pairs

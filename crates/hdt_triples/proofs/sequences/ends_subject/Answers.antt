@@ -1,6 +1,6 @@
 use Rattle.std.proofs.Common.{◌+◌, ◌<◌, ℕ, map, length, sym, ◌∙◌, ap, arith, eq-eqb, nat_eq, not, get_or}
 use Rattle.std.proofs.lemmas.List.{length-map, get_or-map}
-use Rattle.hdt_triples.specs.GroupLaws.{mark_inside, mark_at_end}
+use Rattle.hdt_triples.specs.Laws.Group.{mark_inside, mark_at_end}
 use Rattle.hdt_triples.proofs.sequences.ends_subject.Goals as goal
 
 pub returns-then-at-pairs : goal.returns-then-at-pairs

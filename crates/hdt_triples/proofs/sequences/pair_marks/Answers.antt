@@ -1,5 +1,5 @@
 use Rattle.hdt_triples.specs.Writing.{pair_eq}
-use Rattle.hdt_triples.specs.GroupLaws.{marks_more, marks_all}
+use Rattle.hdt_triples.specs.Laws.Group.{marks_more, marks_all}
 use Rattle.hdt_triples.proofs.sequences.pair_marks.Goals as goal
 
 pub loop-i-preserved : goal.loop-i-preserved

@@ -3,7 +3,7 @@ use Rattle.std.specs.List.{dedup}
 use Rattle.std.proofs.lemmas.List.Filters.{dedup_is}
 use Rattle.hdt_triples.specs.Counting.{BitmapTriples}
 use Rattle.hdt_triples.specs.Groups.{last_marks}
-use Rattle.hdt_triples.specs.SequencesView.{bitmap_made}
+use Rattle.hdt_triples.specs.Inside.SequencesView.{bitmap_made}
 use Rattle.hdt_triples.specs.Writing.{pair_eq, pairs_of, sequences_of}
 use Rattle.hdt_triples.proofs.sequences.sequences_of.Goals as goal
 

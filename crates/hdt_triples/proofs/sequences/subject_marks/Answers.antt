@@ -1,6 +1,6 @@
 use Rattle.std.proofs.Common.{nat_eq, map, arith, ℕ}
 use Rattle.std.proofs.lemmas.List.{length-map}
-use Rattle.hdt_triples.specs.GroupLaws.{marks_more, marks_all}
+use Rattle.hdt_triples.specs.Laws.Group.{marks_more, marks_all}
 use Rattle.hdt_triples.proofs.sequences.subject_marks.Goals as goal
 
 pub loop-i-preserved : goal.loop-i-preserved

@@ -4,7 +4,7 @@ use Rattle.hdt_wire.specs.declared.control.Kind.TheVariants as kinds
 use Rattle.hdt_wire.specs.Control.{control}
 use Rattle.hdt_seq.specs.Numbers.{numbers_spelling}
 use Rattle.hdt_seq.specs.Bits.{bits_spelling}
-use Rattle.hdt_triples.specs.SequencesView.{bitmap_made}
+use Rattle.hdt_triples.specs.Inside.SequencesView.{bitmap_made}
 use Rattle.hdt_triples.specs.Writing.{ordered, canonical_sequences}
 use Rattle.hdt_triples.proofs.writing.append_sequences.Goals as goal
 

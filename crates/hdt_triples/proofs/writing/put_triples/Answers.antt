@@ -1,12 +1,12 @@
 use Rattle.std.proofs.Common.{◌≡◌, ◌+◌, ◌++◌, ◌<◌, ◌^◌, length, arith, sym, ap, ◌∙◌, ℕ, List, [], append-nil, subst}
 use Rattle.std.proofs.lemmas.Result.{on_ok_weaker}
 use Rattle.hdt_wire.specs.Rows.{Stands}
-use Rattle.hdt_wire.specs.RowLaws.{Stands-after}
+use Rattle.hdt_wire.specs.Laws.Row.{Stands-after}
 use Rattle.hdt_triples.specs.Counting.{BitmapTriples, Triple}
 use Rattle.hdt_triples.specs.Order.{AreWritable}
-use Rattle.hdt_triples.specs.SequencesView.{bitmap_made}
+use Rattle.hdt_triples.specs.Inside.SequencesView.{bitmap_made}
 use Rattle.hdt_triples.specs.Writing.{sequences_of, canonical_sequences, canonical_triples}
-use Rattle.hdt_triples.specs.WritingLaws.{some_marks, many_objects, triples_stand}
+use Rattle.hdt_triples.specs.Laws.Writing.{some_marks, many_objects, triples_stand}
 use Rattle.hdt_triples.proofs.writing.put_triples.Goals as goal
 
 pub put_sequences-requires-clause-some_pairs : goal.put_sequences-requires-clause-some_pairs

@@ -1,4 +1,4 @@
-use Rattle.hdt_wire.specs.ControlLaws.{control_again}
+use Rattle.hdt_wire.specs.Laws.Control.{control_again}
 use Rattle.hdt_wire.proofs.control.block_is_read_again.Goals as goal
 
 pub returns : goal.returns

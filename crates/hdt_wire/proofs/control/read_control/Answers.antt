@@ -1,6 +1,6 @@
 use Rattle.std.proofs.Common.{arith}
 use Rattle.hdt_wire.specs.Control.{block_at}
-use Rattle.hdt_wire.specs.ControlLaws.{stands_fits, control_only}
+use Rattle.hdt_wire.specs.Laws.Control.{stands_fits, control_only}
 use Rattle.hdt_wire.proofs.Reading.{block_found, block_only}
 use Rattle.hdt_wire.proofs.control.read_control.Goals as goal
 

@@ -2,7 +2,7 @@ use Rattle.std.proofs.Common.{arith, below_more, get_or, add-one, refl}
 use Rattle.std.proofs.Math.Nat.{pow-suc}
 use Rattle.std.proofs.lemmas.Grind.{common_steps}
 use Rattle.hdt_wire.proofs.Numbers.{Counts-fit, digit_fits, number_of_more, no_last}
-use Rattle.hdt_wire.specs.VByteLaws.{first_last}
+use Rattle.hdt_wire.specs.Laws.VByte.{first_last}
 use Rattle.hdt_wire.proofs.vbyte.number_in.Goals as goal
 
 pub overflow_add-value : goal.overflow_add-value

@@ -1,4 +1,4 @@
-use Rattle.hdt_wire.specs.VByteLaws.{vbyte_spells, vbyte_alone, begins_no_other, vbyte_again}
+use Rattle.hdt_wire.specs.Laws.VByte.{vbyte_spells, vbyte_alone, begins_no_other, vbyte_again}
 use Rattle.hdt_wire.proofs.vbyte.one_spelling.Goals as goal
 
 pub returns-clause-spelled : goal.returns-clause-spelled

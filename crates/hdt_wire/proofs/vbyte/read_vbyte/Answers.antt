@@ -1,6 +1,6 @@
 use Rattle.std.proofs.Common.{◌∙◌, arith}
 use Rattle.hdt_wire.proofs.Reading.{number_found, number_ends}
-use Rattle.hdt_wire.specs.VByteLaws.{vbyte_only}
+use Rattle.hdt_wire.specs.Laws.VByte.{vbyte_only}
 use Rattle.hdt_wire.proofs.vbyte.read_vbyte.Goals as goal
 
 pub returns-clause-found : goal.returns-clause-found

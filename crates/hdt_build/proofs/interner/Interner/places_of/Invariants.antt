@@ -1,5 +1,5 @@
 use Rattle.std.proofs.Common.{◌≡◌, length}
-use Rattle.hdt_build.specs.Texts.{GoesOn}
+use Rattle.hdt_build.specs.Inside.Texts.{GoesOn}
 use Rattle.hdt_build.proofs.Waiting.{AreFound}
 use Rattle.hdt_build.proofs.interner.Interner.places_of.Given as goal
 

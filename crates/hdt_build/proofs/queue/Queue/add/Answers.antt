@@ -1,6 +1,6 @@
 use Rattle.std.proofs.Common.{◌∙◌, ap, arith}
 use Rattle.hdt_triples.specs.Counting.{Triple}
-use Rattle.hdt_build.specs.Graph.{triples_of}
+use Rattle.hdt_build.specs.Graph.{string_triples_of}
 use Rattle.hdt_build.proofs.Grown.{goes_on, sound_more, graph_more}
 use Rattle.hdt_build.proofs.queue.Queue.add.Goals as goal
 
@@ -11,7 +11,7 @@ returns-clause-graph c =
     let b = c.in_ok-j.ensures.list in
     let e = c.in_ok-k.ensures.list in
     let t : Triple = (c.in_ok-i.i, c.in_ok-j.j, c.in_ok-k.k) in
-    ap (triples_of c.listed-2.new.list) c.in_ok-push.ensures.items
+    ap (string_triples_of c.listed-2.new.list) c.in_ok-push.ensures.items
     ∙ graph_more xs c.listed-2.new.list (goes_on _ _ _ a (goes_on _ _ _ b e)) c.args.self.now.ids.items c.requires t c.args.s.now c.args.p.now c.args.o.now
     (e.kept _ (omega (arith, c.in_ok-i.ensures.within, b.longer)) ∙ (b.kept _ c.in_ok-i.ensures.within ∙ c.in_ok-i.ensures.is)) (e.kept _ c.in_ok-j.ensures.within ∙ c.in_ok-j.ensures.is) c.in_ok-k.ensures.is
 

@@ -1,6 +1,6 @@
 use Rattle.std.proofs.Common.{◌+◌, ◌<◌, ap, sym, length, arith}
 use Rattle.std.proofs.lemmas.List.{get_or_read_under}
-use Rattle.hdt_dict.specs.ArenaLaws.{size, text_is}
+use Rattle.hdt_dict.specs.Laws.Arena.{size, text_is}
 use Rattle.hdt_dict.proofs.arena.Arena.get.Goals as goal
 
 pub index-from-requires : goal.index-from-requires

@@ -1,5 +1,5 @@
 use Rattle.std.proofs.Common.{ap, length, arith}
-use Rattle.hdt_dict.specs.ArenaLaws.{size}
+use Rattle.hdt_dict.specs.Laws.Arena.{size}
 use Rattle.hdt_dict.proofs.arena.Arena.len.Goals as goal
 
 pub returns : goal.returns

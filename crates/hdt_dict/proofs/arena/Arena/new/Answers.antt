@@ -1,4 +1,4 @@
-use Rattle.hdt_dict.specs.ArenaLaws.{none, none_starts}
+use Rattle.hdt_dict.specs.Laws.Arena.{none, none_starts}
 use Rattle.hdt_dict.proofs.arena.Arena.new.Goals as goal
 
 pub returns : goal.returns

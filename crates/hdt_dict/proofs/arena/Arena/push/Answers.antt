@@ -1,5 +1,5 @@
 use Rattle.std.proofs.Common.{ap, ◌∙◌, ◌∷◌, ◌++◌, [], arith}
-use Rattle.hdt_dict.specs.ArenaLaws.{texts_push}
+use Rattle.hdt_dict.specs.Laws.Arena.{texts_push}
 use Rattle.hdt_dict.proofs.arena.Arena.push.Goals as goal
 
 pub returns-clause-ok : goal.returns-clause-ok

@@ -1,7 +1,7 @@
 use Rattle.std.proofs.Common.{◌++◌}
 use Rattle.std.proofs.lemmas.List.Elements.{Contains-append_left, Contains-append_right}
 use Rattle.hdt_front.specs.Strings.{strings_of, section_of}
-use Rattle.hdt_dict.specs.DictionaryLaws.{apart_exact}
+use Rattle.hdt_dict.specs.Laws.Dictionary.{apart_exact}
 use Rattle.hdt_dict.specs.Views.{dictionary_of}
 use Rattle.hdt_dict.proofs.dictionary.Dictionary.are_sections.Goals as goal
 

@@ -1,10 +1,10 @@
 use Rattle.std.proofs.Common.{◌-◌, true, length, arith, subst}
 use Rattle.std.proofs.lemmas.Option.{slice_get_within}
 use Rattle.hdt_triples.specs.Counting.{Counts}
-use Rattle.hdt_triples.specs.CountingLaws.{length-triples}
+use Rattle.hdt_triples.specs.Laws.Counting.{length-triples}
 use Rattle.hdt_triples.specs.ListedViews.{roles_of, triples_listed}
 use Rattle.hdt_triples.specs.Order.{AreInRange}
-use Rattle.hdt_triples.specs.OrderLaws.{triples_ascend, triples_in_range}
+use Rattle.hdt_triples.specs.Laws.Order.{triples_ascend, triples_in_range}
 use Rattle.hdt_triples.specs.Counting.{triples_of}
 use Rattle.hdt_triples.specs.Views.{bitmap_read}
 use Rattle.hdt_file.specs.Views.{graph_seen}

@@ -1,5 +1,5 @@
 use Rattle.std.proofs.Common.{◌∙◌, ap, length, sym}
-use Rattle.hdt_triples.specs.CountingLaws.{length-triples}
+use Rattle.hdt_triples.specs.Laws.Counting.{length-triples}
 use Rattle.hdt_triples.specs.ListedViews.{triples_listed}
 use Rattle.hdt_triples.specs.Views.{bitmap_read}
 use Rattle.hdt_file.specs.Views.{graph_seen}

@@ -1,6 +1,6 @@
 use Rattle.std.proofs.Common.{refl}
 use Rattle.hdt_dict.specs.Views.{dictionary_of}
-use Rattle.hdt_triples.specs.CountingLaws.{length-triples}
+use Rattle.hdt_triples.specs.Laws.Counting.{length-triples}
 use Rattle.hdt_triples.specs.Views.{bitmap_read}
 use Rattle.hdt_file.specs.LayoutView.{layout_seen}
 use Rattle.hdt_file.proofs.layout.Layout.lens.Goals as goal

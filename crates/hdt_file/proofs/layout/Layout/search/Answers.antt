@@ -1,5 +1,5 @@
 use Rattle.std.proofs.Common.{◌∙◌, ◌*◌, ap, sym}
-use Rattle.hdt_triples.specs.CountingLaws.{length-triples}
+use Rattle.hdt_triples.specs.Laws.Counting.{length-triples}
 use Rattle.hdt_triples.specs.Views.{bitmap_read}
 use Rattle.hdt_file.specs.LayoutView.{layout_seen}
 use Rattle.hdt_file.proofs.layout.Layout.search.Goals as goal

@@ -1,6 +1,6 @@
 use Rattle.hdt_front.specs.Packed.{packing_of}
 use Rattle.hdt_front.specs.Walks.{placed_of}
-use Rattle.hdt_front.specs.WalkSteps.{ascends_from, ascends_here}
+use Rattle.hdt_front.specs.Laws.WalkSteps.{ascends_from, ascends_here}
 use Rattle.hdt_front.proofs.cursor.Cursor.new.Goals as goal
 
 pub returns-clause-ascends : goal.returns-clause-ascends

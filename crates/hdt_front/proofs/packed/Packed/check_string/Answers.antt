@@ -1,6 +1,6 @@
 use Rattle.std.proofs.Common.{◌≡◌, ℕ, ◌+◌, ◌-◌, ◌++◌, List, length, take, drop, Ok, arith, ap, sym, ◌∙◌, subst}
 use Rattle.std.proofs.lemmas.List.{take_rest}
-use Rattle.hdt_front.specs.PlainPieces.{IsPlainPiece}
+use Rattle.hdt_front.specs.Inside.PlainPieces.{IsPlainPiece}
 use Rattle.hdt_front.specs.Packed.{packing_of}
 use Rattle.hdt_front.proofs.PlainLaws.{plain_row}
 use Rattle.hdt_front.proofs.packed.Packed.check_string.Goals as goal

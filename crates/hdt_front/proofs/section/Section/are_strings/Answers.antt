@@ -1,6 +1,6 @@
 use Rattle.std.proofs.Common.{refl}
 use Rattle.hdt_front.specs.Packed.{packing_of}
-use Rattle.hdt_front.specs.SectionLaws.{strings_ascend_in}
+use Rattle.hdt_front.specs.Laws.Section.{strings_ascend_in}
 use Rattle.hdt_front.specs.Strings.{strings_of}
 use Rattle.hdt_front.proofs.section.Section.are_strings.Goals as goal
 

@@ -1,6 +1,6 @@
 use Rattle.std.proofs.Common.{◌<◌, ◌-◌, arith}
 use Rattle.hdt_front.specs.Strings.{blocks_of}
-use Rattle.hdt_front.specs.StringsLaws.{count_is}
+use Rattle.hdt_front.specs.Laws.Strings.{count_is}
 use Rattle.hdt_front.proofs.Strings.{block_inside}
 use Rattle.hdt_front.proofs.section.Section.block.Goals as goal
 

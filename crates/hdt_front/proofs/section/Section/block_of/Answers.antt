@@ -1,6 +1,6 @@
 use Rattle.std.proofs.Common.{arith, ◌+◌, ◌-◌, ◌/◌}
 use Rattle.hdt_front.proofs.Between.{heads_between, least}
-use Rattle.hdt_seq.specs.WidthLaws.{digits_split}
+use Rattle.hdt_seq.specs.Laws.Width.{digits_split}
 use Rattle.hdt_front.proofs.section.Section.block_of.Goals as goal
 
 pub look_at_head-order-requires-clause-so_far : goal.look_at_head-order-requires-clause-so_far

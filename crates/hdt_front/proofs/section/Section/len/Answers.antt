@@ -1,7 +1,7 @@
 use Rattle.std.proofs.Common.{sym, []}
 use Rattle.hdt_front.specs.Strings.{strings_of}
 use Rattle.hdt_front.specs.Packed.{packing_of}
-use Rattle.hdt_front.specs.StringSteps.{length-unfolded, few}
+use Rattle.hdt_front.specs.Laws.StringSteps.{length-unfolded, few}
 use Rattle.hdt_front.proofs.section.Section.len.Goals as goal
 
 pub returns-clause-is : goal.returns-clause-is

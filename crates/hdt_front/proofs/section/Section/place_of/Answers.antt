@@ -1,7 +1,7 @@
 use Rattle.std.proofs.Common.{◌≡◌, ◌<◌, ◌*◌, [], arith, sym, ◌∙◌}
 use Rattle.hdt_front.specs.Strings.{strings_of, blocks_of}
 use Rattle.hdt_front.specs.Packed.{packing_of}
-use Rattle.hdt_front.specs.StringSteps.{length-unfolded}
+use Rattle.hdt_front.specs.Laws.StringSteps.{length-unfolded}
 use Rattle.hdt_front.proofs.Ascent.{place_found, place_absent}
 use Rattle.hdt_front.proofs.Lies.{some_block, head_inside, no_blocks, ascends, some_looks}
 use Rattle.hdt_front.proofs.Inverse.{zero_absent}

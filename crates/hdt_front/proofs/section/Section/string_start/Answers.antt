@@ -5,7 +5,7 @@ use Rattle.hdt_front.specs.Strings.{blocks_of, section_of}
 use Rattle.hdt_front.specs.Section.{string_place}
 use Rattle.hdt_front.specs.Packed.{packing_of}
 use Rattle.hdt_front.specs.Facts.{rest_at}
-use Rattle.hdt_front.specs.StringsLaws.{count_is}
+use Rattle.hdt_front.specs.Laws.Strings.{count_is}
 use Rattle.hdt_front.proofs.Lies.{head_lies}
 use Rattle.hdt_front.proofs.Strings.{unfolds_here, block_inside, rest_within}
 use Rattle.hdt_front.proofs.section.Section.string_start.Goals as goal

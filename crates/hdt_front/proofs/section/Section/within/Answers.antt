@@ -6,7 +6,7 @@ use Rattle.hdt_front.specs.Packed.{packing_of}
 use Rattle.hdt_front.specs.Unfolding.{kept}
 use Rattle.hdt_front.specs.Facts.{rest_at}
 use Rattle.hdt_front.specs.Searching.{IsLess, order}
-use Rattle.hdt_front.specs.StringSteps.{length-unfolded}
+use Rattle.hdt_front.specs.Laws.StringSteps.{length-unfolded}
 use Rattle.hdt_front.proofs.Ascent.{place_found, place_absent}
 use Rattle.hdt_front.proofs.Lies.{some_block, head_inside, next_inside, piece_lies, ascends}
 use Rattle.hdt_front.proofs.section.Section.within.Goals as goal

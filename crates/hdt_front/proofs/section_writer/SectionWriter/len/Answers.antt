@@ -1,5 +1,5 @@
 use Rattle.std.proofs.Common.{ap, sym, ◌∙◌, [], length}
-use Rattle.hdt_front.specs.StringSteps.{length-unfolded}
+use Rattle.hdt_front.specs.Laws.StringSteps.{length-unfolded}
 use Rattle.hdt_front.specs.InWork.{SectionInWork}
 use Rattle.hdt_front.proofs.section_writer.SectionWriter.len.Goals as goal
 

@@ -1,6 +1,6 @@
 use Rattle.std.proofs.Common.{◌≡◌, ◌++◌, ◌∷◌, [], false, Result, Ok, Err, List, ℕ, ap, sym, ◌∙◌, arith}
 use Rattle.std.specs.Prelude.{OnOk, is_err}
-use Rattle.hdt_front.specs.InWork.{SectionInWork, last_of}
+use Rattle.hdt_front.specs.InWork.{SectionInWork, last_string}
 use Rattle.hdt_front.specs.Searching.{agreed}
 use Rattle.hdt_front.proofs.KeptStrings.{one_more, few}
 use Rattle.hdt_front.proofs.section_writer.SectionWriter.push_agreeing.Goals as goal
@@ -11,7 +11,7 @@ holds (Err x) e h = absurd (cc)
 
 pub fold-folded-requires : goal.fold-folded-requires
 fold-folded-requires c =
-    c.requires.same ∙ ap (λ (w : SectionInWork). agreed (last_of w) c.args.string.now) (sym c.self.view_is) ∙ ap (λ (l : List ℕ). agreed l c.args.string.now) (sym c.self.invariant.last)
+    c.requires.same ∙ ap (λ (w : SectionInWork). agreed (last_string w) c.args.string.now) (sym c.self.view_is) ∙ ap (λ (l : List ℕ). agreed l c.args.string.now) (sym c.self.invariant.last)
 
 pub overflow_add-self : goal.overflow_add-self
 overflow_add-self c =

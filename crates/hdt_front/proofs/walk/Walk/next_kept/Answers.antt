@@ -2,7 +2,7 @@ use Rattle.std.proofs.Common.{◌-◌, ◌+◌, ap, sym, ◌∙◌, arith, Some,
 use Rattle.hdt_front.specs.Packed.{packing_of}
 use Rattle.hdt_front.specs.Unfolding.{is_head}
 use Rattle.hdt_front.specs.Walking.{Way, next_place}
-use Rattle.hdt_front.specs.WalkSteps.{ended, stays, moves, goes, same_rows, string_made}
+use Rattle.hdt_front.specs.Laws.WalkSteps.{ended, stays, moves, goes, same_rows, string_made}
 use Rattle.hdt_front.proofs.Keeping.{kept_first}
 use Rattle.hdt_front.proofs.walk.Walk.next_kept.Goals as goal
 

@@ -1,10 +1,10 @@
 use Rattle.std.proofs.Common.{arith, ap, ◌∙◌, ◌≡◌, ◌-◌, ◌+◌, ◌/◌, ◌%◌, ◌^◌}
 use Rattle.std.specs.Int.Count.{ones}
 use Rattle.hdt_seq.specs.Little.{little, bits}
-use Rattle.hdt_seq.specs.LittleLaws.{length-bits}
+use Rattle.hdt_seq.specs.Laws.Little.{length-bits}
 use Rattle.hdt_seq.specs.Marks.{marks_before}
 use Rattle.hdt_seq.specs.Bits.{bits_of}
-use Rattle.hdt_seq.specs.BitsLaws.{bits_len}
+use Rattle.hdt_seq.specs.Laws.Bits.{bits_len}
 use Rattle.hdt_seq.proofs.Words.{marks_between, marks_lowest}
 use Rattle.hdt_seq.proofs.bits.Bits.word.Goals as goal
 

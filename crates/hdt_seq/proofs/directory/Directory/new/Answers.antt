@@ -2,7 +2,7 @@ use Rattle.std.proofs.Common.{ℕ, arith, ap, sym, ◌∙◌, ◌≡◌, ◌<◌
 use Rattle.std.proofs.Math.Seq.{get_or-append_seam}
 use Rattle.std.proofs.lemmas.List.{get_or_append_left}
 use Rattle.hdt_seq.specs.Marks.{marks_before}
-use Rattle.hdt_seq.specs.MarksLaws.{none_before, marks_le}
+use Rattle.hdt_seq.specs.Laws.Marks.{none_before, marks_le}
 use Rattle.hdt_seq.specs.Bits.{bits_of}
 use Rattle.hdt_seq.proofs.Groups.{at_least}
 use Rattle.hdt_seq.proofs.directory.Directory.new.Goals as goal

@@ -1,7 +1,7 @@
 use Rattle.std.proofs.Common.{arith, ◌∙◌}
 use Rattle.hdt_seq.specs.Bits.{bits_of}
 use Rattle.hdt_seq.specs.Directory.{counts_kept}
-use Rattle.hdt_seq.specs.MarksLaws.{marks_le}
+use Rattle.hdt_seq.specs.Laws.Marks.{marks_le}
 use Rattle.hdt_seq.proofs.Groups.{last_count}
 use Rattle.hdt_seq.proofs.directory.Directory.rank.Goals as goal
 

@@ -1,9 +1,9 @@
 use Rattle.std.proofs.Common.{arith, ap, ◌∙◌, ◌≡◌, ◌+◌, ◌-◌, ◌*◌, length, slice_index}
-use Rattle.hdt_seq.specs.WidthLaws.{digits_mono}
+use Rattle.hdt_seq.specs.Laws.Width.{digits_mono}
 use Rattle.hdt_seq.specs.Marks.{marks_before}
-use Rattle.hdt_seq.specs.MarksLaws.{marks_le, marks_past, none_before, mark_from_counts}
+use Rattle.hdt_seq.specs.Laws.Marks.{marks_le, marks_past, none_before, mark_from_counts}
 use Rattle.hdt_seq.specs.Bits.{bits_of}
-use Rattle.hdt_seq.specs.BitsLaws.{bits_below}
+use Rattle.hdt_seq.specs.Laws.Bits.{bits_below}
 use Rattle.hdt_seq.specs.Directory.{groups, counts_kept}
 use Rattle.hdt_seq.proofs.directory.Directory.select.Goals as goal
 

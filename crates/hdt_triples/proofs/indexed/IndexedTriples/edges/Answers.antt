@@ -1,5 +1,5 @@
 use Rattle.std.proofs.Common.{arith, ap, Some, ◌∙◌}
-use Rattle.hdt_seq.specs.NumbersLaws.{numbers_below}
+use Rattle.hdt_seq.specs.Laws.Numbers.{numbers_below}
 use Rattle.hdt_triples.specs.Views.{bitmap_read}
 use Rattle.hdt_triples.proofs.MatchingLaws.{one_triple}
 use Rattle.hdt_triples.proofs.indexed.IndexedTriples.edges.Goals as goal

@@ -1,8 +1,8 @@
 use Rattle.std.proofs.Common.{arith, ◌+◌}
 use Rattle.hdt_triples.specs.Views.{bitmap_read}
-use Rattle.hdt_seq.specs.MarksLaws.{marks_mono}
-use Rattle.hdt_seq.specs.BitsLaws.{bits_below}
-use Rattle.hdt_seq.specs.NumbersLaws.{numbers_below}
+use Rattle.hdt_seq.specs.Laws.Marks.{marks_mono}
+use Rattle.hdt_seq.specs.Laws.Bits.{bits_below}
+use Rattle.hdt_seq.specs.Laws.Numbers.{numbers_below}
 use Rattle.hdt_triples.proofs.indexed.IndexedTriples.end_of_pair.Goals as goal
 
 pub returns-clause-below : goal.returns-clause-below

@@ -1,9 +1,9 @@
 use Rattle.std.proofs.Common.{arith, ap, refl, ◌+◌, ◌≡◌, true, false}
 use Rattle.hdt_triples.specs.Views.{bitmap_read}
-use Rattle.hdt_seq.specs.MarksLaws.{marks_le}
+use Rattle.hdt_seq.specs.Laws.Marks.{marks_le}
 use Rattle.hdt_triples.proofs.ListsLaws.{split_rest}
 use Rattle.hdt_triples.proofs.PredicateLaws.{next_of, predicate_entered, inside_entered}
-use Rattle.hdt_seq.specs.NumbersLaws.{numbers_below}
+use Rattle.hdt_seq.specs.Laws.Numbers.{numbers_below}
 use Rattle.hdt_triples.proofs.indexed.IndexedTriples.enter.Goals as goal
 
 pub rank-subject-requires : goal.rank-subject-requires

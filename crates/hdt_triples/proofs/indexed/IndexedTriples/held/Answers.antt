@@ -1,6 +1,6 @@
 use Rattle.std.proofs.Common.{arith}
 use Rattle.hdt_seq.specs.Bits.{bits_of}
-use Rattle.hdt_seq.specs.BitsLaws.{bits_below}
+use Rattle.hdt_seq.specs.Laws.Bits.{bits_below}
 use Rattle.hdt_triples.specs.Views.{bitmap_read}
 use Rattle.hdt_triples.proofs.indexed.IndexedTriples.held.Goals as goal
 

@@ -1,9 +1,9 @@
 use Rattle.std.proofs.Common.{arith, ◌+◌, inl, inr}
 use Rattle.hdt_triples.specs.Views.{bitmap_read}
-use Rattle.hdt_seq.specs.MarksLaws.{marks_mono}
+use Rattle.hdt_seq.specs.Laws.Marks.{marks_mono}
 use Rattle.hdt_triples.proofs.PredicateLaws.{none_marked}
 use Rattle.hdt_triples.proofs.RunLaws.{no_pairs, pairs_between, ordered}
-use Rattle.hdt_seq.specs.BitsLaws.{bits_below}
+use Rattle.hdt_seq.specs.Laws.Bits.{bits_below}
 use Rattle.hdt_triples.proofs.indexed.IndexedTriples.pairs_of_subject.Goals as goal
 use Rattle.hdt_triples.proofs.indexed.IndexedTriples.pairs_of_subject.Goals.{then-subject-eq0-via-then-subject-eq0, then-subject-eq0-via-else-subject-eq0+then-subject-subjects}
 

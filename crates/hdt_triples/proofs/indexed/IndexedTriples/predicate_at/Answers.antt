@@ -1,6 +1,6 @@
 use Rattle.std.proofs.Common.{arith}
 use Rattle.hdt_triples.specs.Views.{bitmap_read}
-use Rattle.hdt_triples.specs.OrderLaws.{pair_within}
+use Rattle.hdt_triples.specs.Laws.Order.{pair_within}
 use Rattle.hdt_triples.proofs.indexed.IndexedTriples.predicate_at.Goals as goal
 
 pub entry-requires : goal.entry-requires

@@ -1,8 +1,8 @@
 use Rattle.std.proofs.Common.{arith, ◌-◌, sym, ◌∙◌, length}
-use Rattle.hdt_seq.specs.WidthLaws.{digits_mono}
+use Rattle.hdt_seq.specs.Laws.Width.{digits_mono}
 use Rattle.hdt_triples.specs.Views.{bitmap_read}
 use Rattle.hdt_triples.proofs.RunLaws.{no_run, none_pair, pair_run, whole_run, before_run, objects_ascend, one_run, one_before, none_run, not_there}
-use Rattle.hdt_triples.specs.CountsView.{counts_of}
+use Rattle.hdt_triples.specs.CountsView.{counts_seen}
 use Rattle.hdt_triples.proofs.AscentLaws.{ascend_all}
 use Rattle.hdt_triples.proofs.indexed.IndexedTriples.run_of.Goals as goal
 use Rattle.hdt_triples.proofs.indexed.IndexedTriples.run_of.Goals.{else-place-end-via-then-place-end+else-entry-object, else-place-end-via-else-place-end}
@@ -30,7 +30,7 @@ place_from-place-requires-clause-ascend c =
     let e = c.start_of_pair-at.ensures in
     let d = c.end_of_pair-end.ensures in
     let r = pair_run (bitmap_read t) c.args.subject c.args.predicate c.in-Some.pair c.start_of_pair-at.result c.end_of_pair-end.result c.in-Some.ensures.found c.in-Some.ensures.only e.within e.is e.earlier d.within d.below d.above in
-    objects_ascend (bitmap_read t) c.args.subject c.args.predicate c.in-Some.pair _ _ (ascend_all (counts_of t.counts) (bitmap_read t) t.fit) r
+    objects_ascend (bitmap_read t) c.args.subject c.args.predicate c.in-Some.pair _ _ (ascend_all (counts_seen t.counts) (bitmap_read t) t.fit) r
 
 pub returns-then-entry-object-clause-run : goal.returns-then-entry-object-clause-run
 unfolding bitmap_read
@@ -39,7 +39,7 @@ returns-then-entry-object-clause-run c =
     let e = c.start_of_pair-at.ensures in
     let d = c.end_of_pair-end.ensures in
     let r = pair_run (bitmap_read t) c.args.subject c.args.predicate c.in-Some.pair c.start_of_pair-at.result c.end_of_pair-end.result c.in-Some.ensures.found c.in-Some.ensures.only e.within e.is e.earlier d.within d.below d.above in
-    one_run (bitmap_read t) c.args.pattern c.args.subject c.args.predicate c.in-Some-o.object c.in-Some.pair _ _ c.place_from-place.result t.fit.marked (ascend_all (counts_of t.counts) (bitmap_read t) t.fit) c.requires.subject_given c.requires.predicate_given c.in-Some-o.is r
+    one_run (bitmap_read t) c.args.pattern c.args.subject c.args.predicate c.in-Some-o.object c.in-Some.pair _ _ c.place_from-place.result t.fit.marked (ascend_all (counts_seen t.counts) (bitmap_read t) t.fit) c.requires.subject_given c.requires.predicate_given c.in-Some-o.is r
     c.place_from-place.ensures.low c.if-place-end.true (sym c.entry.ensures.is ∙ c.if-entry-object.true)
 
 pub returns-then-entry-object-clause-before : goal.returns-then-entry-object-clause-before
@@ -79,9 +79,9 @@ returns-clause-run c =
     none_run f c.args.pattern c.args.subject c.args.predicate c.in-Some-o.object c.in-Some.pair c.start_of_pair-at.result c.end_of_pair-end.result c.place_from-place.result t.fit.marked c.requires.subject_given c.requires.predicate_given c.in-Some-o.is r
     (elim c.else-place-end.branch [
       | else-place-end-via-then-place-end+else-entry-object w ↦ not_there f c.start_of_pair-at.result c.end_of_pair-end.result c.place_from-place.result c.in-Some-o.object p.below p.above
-          (objects_ascend f c.args.subject c.args.predicate c.in-Some.pair _ _ (ascend_all (counts_of t.counts) (bitmap_read t) t.fit) r) p.low (λ h same. w.if-entry-object.false (w.entry.ensures.is ∙ same))
+          (objects_ascend f c.args.subject c.args.predicate c.in-Some.pair _ _ (ascend_all (counts_seen t.counts) (bitmap_read t) t.fit) r) p.low (λ h same. w.if-entry-object.false (w.entry.ensures.is ∙ same))
       | else-place-end-via-else-place-end w ↦ not_there f c.start_of_pair-at.result c.end_of_pair-end.result c.place_from-place.result c.in-Some-o.object p.below p.above
-          (objects_ascend f c.args.subject c.args.predicate c.in-Some.pair _ _ (ascend_all (counts_of t.counts) (bitmap_read t) t.fit) r) p.low (λ h same. absurd (omega (arith, h, w.if-place-end.false)))
+          (objects_ascend f c.args.subject c.args.predicate c.in-Some.pair _ _ (ascend_all (counts_seen t.counts) (bitmap_read t) t.fit) r) p.low (λ h same. absurd (omega (arith, h, w.if-place-end.false)))
     ])
 
 pub returns-clause-cost : goal.returns-clause-cost

@@ -1,7 +1,7 @@
 use Rattle.std.proofs.Common.{arith}
 use Rattle.hdt_triples.specs.Views.{bitmap_read}
 use Rattle.hdt_triples.proofs.SubjectLaws.{before_start, subject_above}
-use Rattle.hdt_seq.specs.BitsLaws.{bits_below}
+use Rattle.hdt_seq.specs.Laws.Bits.{bits_below}
 use Rattle.hdt_triples.proofs.indexed.IndexedTriples.start_of.Goals as goal
 use Rattle.hdt_triples.proofs.indexed.IndexedTriples.start_of.Goals.{then-subject-eq0-via-then-subject-eq0, then-subject-eq0-via-else-subject-eq0+then-subject-subjects}
 

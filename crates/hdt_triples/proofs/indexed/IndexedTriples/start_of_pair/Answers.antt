@@ -1,8 +1,8 @@
 use Rattle.std.proofs.Common.{arith, sym, ◌∙◌}
 use Rattle.hdt_triples.specs.Views.{bitmap_read}
-use Rattle.hdt_seq.specs.MarksLaws.{marks_mono}
+use Rattle.hdt_seq.specs.Laws.Marks.{marks_mono}
 use Rattle.hdt_triples.proofs.PredicateLaws.{none_before}
-use Rattle.hdt_seq.specs.BitsLaws.{bits_below}
+use Rattle.hdt_seq.specs.Laws.Bits.{bits_below}
 use Rattle.hdt_triples.proofs.indexed.IndexedTriples.start_of_pair.Goals as goal
 
 pub returns-then-pair-eq0-clause-is : goal.returns-then-pair-eq0-clause-is

@@ -1,8 +1,8 @@
 use Rattle.std.proofs.Common.{arith}
 use Rattle.hdt_triples.specs.Views.{bitmap_read}
-use Rattle.hdt_seq.specs.MarksLaws.{marks_le}
-use Rattle.hdt_triples.specs.OrderLaws.{pair_within}
-use Rattle.hdt_seq.specs.NumbersLaws.{numbers_below}
+use Rattle.hdt_seq.specs.Laws.Marks.{marks_le}
+use Rattle.hdt_triples.specs.Laws.Order.{pair_within}
+use Rattle.hdt_seq.specs.Laws.Numbers.{numbers_below}
 use Rattle.hdt_triples.proofs.indexed.IndexedTriples.triple_of_object.Goals as goal
 
 pub entry-predicate-requires : goal.entry-predicate-requires

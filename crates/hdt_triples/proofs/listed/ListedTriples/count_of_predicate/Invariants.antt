@@ -3,7 +3,7 @@ use Rattle.hdt_triples.specs.Bounds.{jump, of_predicate}
 use Rattle.hdt_triples.specs.Counting.{triples_of}
 use Rattle.hdt_triples.specs.Lists.{places_of}
 use Rattle.hdt_triples.specs.Patterns.{matches}
-use Rattle.hdt_triples.specs.Spots.{Between}
+use Rattle.hdt_triples.specs.Inside.Spots.{Between}
 use Rattle.hdt_triples.specs.Views.{bitmap_read}
 use Rattle.hdt_triples.specs.Walking.{triples_from}
 use Rattle.hdt_triples.proofs.listed.ListedTriples.count_of_predicate.Given as goal

@@ -2,7 +2,7 @@ use Rattle.std.proofs.Common.{◌∙◌, ap, sym}
 use Rattle.hdt_triples.specs.Counting.{triples_of}
 use Rattle.hdt_triples.specs.ListedViews.{triples_listed}
 use Rattle.hdt_triples.specs.Uses.{uses}
-use Rattle.hdt_triples.specs.UsesLaws.{uses_means}
+use Rattle.hdt_triples.specs.Laws.Uses.{uses_means}
 use Rattle.hdt_triples.specs.Views.{bitmap_read}
 use Rattle.hdt_triples.proofs.listed.ListedTriples.uses.Goals as goal
 

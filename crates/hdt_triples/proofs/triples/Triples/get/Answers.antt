@@ -1,7 +1,7 @@
 use Rattle.std.proofs.Common.{arith}
-use Rattle.hdt_seq.specs.BitsLaws.{bits_below}
+use Rattle.hdt_seq.specs.Laws.Bits.{bits_below}
 use Rattle.hdt_triples.specs.Views.{bitmap_read}
-use Rattle.hdt_triples.specs.OrderLaws.{pair_within}
+use Rattle.hdt_triples.specs.Laws.Order.{pair_within}
 use Rattle.hdt_triples.proofs.triples.Triples.get.Goals as goal
 
 pub marks_before-subject-requires : goal.marks_before-subject-requires

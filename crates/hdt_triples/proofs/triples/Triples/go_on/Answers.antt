@@ -1,6 +1,6 @@
 use Rattle.std.proofs.Common.{arith, ◌&&◌}
-use Rattle.hdt_seq.specs.NumbersLaws.{numbers_below}
-use Rattle.hdt_triples.specs.CountsView.{counts_of}
+use Rattle.hdt_seq.specs.Laws.Numbers.{numbers_below}
+use Rattle.hdt_triples.specs.CountsView.{counts_seen}
 use Rattle.hdt_triples.specs.Views.{bitmap_read}
 use Rattle.hdt_triples.proofs.PlaceLaws.{at_most_one, goes_on, subject_few, within_pairs}
 use Rattle.hdt_triples.proofs.triples.Triples.go_on.Goals as goal
@@ -33,7 +33,7 @@ overflow_add-result-3 c =
     omega (
       arith,
       t.few,
-      subject_few (counts_of t.counts) (bitmap_read t) c.args.place t.fit c.requires.stands c.requires.within,
+      subject_few (counts_seen t.counts) (bitmap_read t) c.args.place t.fit c.requires.stands c.requires.within,
       at_most_one (c.mark-ends_pair.result && c.mark.result) c.from-2.result c.from-2.ensures,
     )
 

@@ -1,7 +1,7 @@
 use Rattle.hdt_triples.specs.Views.{bitmap_read}
 use Rattle.hdt_triples.proofs.PredicateLaws.{left_spot}
 use Rattle.std.proofs.Common.{arith}
-use Rattle.hdt_seq.specs.NumbersLaws.{numbers_below}
+use Rattle.hdt_seq.specs.Laws.Numbers.{numbers_below}
 use Rattle.hdt_triples.proofs.triples.Triples.leave.Goals as goal
 
 pub returns-clause-stands : goal.returns-clause-stands

@@ -1,0 +1,146 @@
+-- The strings that each section of a graph keeps when it is written anew: those that triples use.
+use Rattle.std.specs.Prelude.{◌≡◌, ℕ, ◌+◌, ◌-◌, ◌<◌, ◌≤◌, List, length, drop, slice_index}
+use Rattle.std.specs.List.{Contains}
+use Rattle.std.specs.declared.cmp.Ordering.TheVariants.{Less, Greater}
+use Rattle.hdt_wire.specs.declared.role.Role.{Role}
+use Rattle.hdt_wire.specs.declared.role.Role.TheVariants.{Subject, Predicate, Object}
+use Rattle.hdt_front.specs.Searching.{agreed}
+use Rattle.hdt_dict.specs.Split.{FourLists, IsSplit, lists_in_work}
+use Rattle.hdt_dict.specs.Strings.{IsAscending, string_cmp}
+use Rattle.hdt_dict.specs.Walking.{Progress}
+use Rattle.hdt_triples.specs.Counting.{Triple}
+use Rattle.hdt_triples.specs.Uses.{Uses}
+use Rattle.hdt_file.specs.Denoted.{string_of}
+use Rattle.hdt_file.specs.File.{GraphParts}
+use Rattle.hdt_file.specs.Views.{strings_in}
+use Rattle.hdt_build.specs.declared.kept.Part.{Part}
+use Rattle.hdt_build.specs.declared.kept.Part.TheVariants as parts
+use Rattle.hdt_build.specs.declared.run.Run.{Run}
+use Rattle.hdt_build.specs.declared.sections.Sections.{Sections}
+use Rattle.hdt_build.specs.declared.sections.Numbers.{Numbers}
+use Rattle.hdt_build.specs.declared.renumbering.Numbering.{Numbering}
+use Rattle.hdt_build.specs.declared.renumbering.Numbering.TheVariants as numberings
+use Rattle.hdt_build.specs.Graph.{subjects_of, predicates_of, objects_of, subject_terms, predicate_terms, object_terms}
+use Rattle.hdt_build.specs.Layouts.{denoted_by}
+use Rattle.hdt_build.specs.Inside.Numbers.{IsNumberOf, term_numbered}
+
+-- the role by whose numbers a section's strings are told
+abbrev pub role_of : Part → Role
+role_of parts.Shared = Subject
+role_of parts.Subjects = Subject
+role_of parts.Predicates = Predicate
+role_of parts.Objects = Object
+
+-- n is the number of a shared string that is used as a subject and as an object
+abbrev pub IsBoth : GraphParts → ℕ → Type 0
+IsBoth g n = (n ≤ length g.dictionary.shared) × Uses g.triples Subject n × Uses g.triples Object n
+
+-- the new section has the string with the number n
+abbrev pub KeepsNumber : GraphParts → Part → ℕ → Type 0
+KeepsNumber g parts.Shared n = IsBoth g n
+KeepsNumber g parts.Subjects n = Uses g.triples Subject n × (IsBoth g n → ⊥)
+KeepsNumber g parts.Predicates n = Uses g.triples Predicate n
+KeepsNumber g parts.Objects n = Uses g.triples Object n × (IsBoth g n → ⊥)
+
+-- the strings that may be kept stand in two ascending runs: up to a place of the role, counted from 0, and from there up to another
+abbrev pub cut_of : GraphParts → Part → ℕ
+cut_of g parts.Shared = 0
+cut_of g parts.Subjects = length g.dictionary.shared
+cut_of g parts.Predicates = 0
+cut_of g parts.Objects = length g.dictionary.shared
+
+abbrev pub end_of : GraphParts → Part → ℕ
+end_of g parts.Shared = length g.dictionary.shared
+end_of g parts.Subjects = length (strings_in g Subject)
+end_of g parts.Predicates = length (strings_in g Predicate)
+end_of g parts.Objects = length (strings_in g Object)
+
+-- ---- runs
+
+-- where a walk stands: so many strings were given, and the others are ahead
+pub record HasGiven (all : List (List ℕ)) (w : Progress) : Type 0 where
+  pub within : w.given ≤ length all
+  pub ahead : w.ahead ≡ drop w.given all
+
+-- string n was given last
+pub record StandsBehind (all : List (List ℕ)) (n : ℕ) (w : Progress) : Type 0 where
+  pub stands : HasGiven all w
+  pub given : w.given ≡ n
+  pub last : w.last ≡ term_numbered all n
+
+-- what a run has unfolded: the string at its place, which is kept
+pub record IsHere (g : GraphParts) (part : Part) (run : Run) : Type 0 where
+  pub given : run.strings.given ≡ run.at + 1
+  pub last : run.strings.last ≡ string_of g (role_of part) (run.at + 1)
+  pub kept : KeepsNumber g part (run.at + 1)
+
+-- a run stands at a string that is kept, or at its end
+pub record IsRunOfStrings (g : GraphParts) (part : Part) (run : Run) : Type 0 where
+  pub stands : HasGiven (strings_in g (role_of part)) run.strings
+  pub within : run.end ≤ length (strings_in g (role_of part))
+  pub to : run.at ≤ run.end
+  pub here : run.at < run.end → IsHere g part run
+
+-- at the first one from a place on
+pub record IsRunFrom (g : GraphParts) (part : Part) (from : ℕ) (run : Run) : Type 0 where
+  pub is_run : IsRunOfStrings g part run
+  pub onward : from ≤ run.at
+  pub passed : (k : ℕ) → from ≤ k → k < run.at → KeepsNumber g part (k + 1) → ⊥
+
+-- the string at which a run stands agrees so far with the last one that was written
+abbrev pub Agrees : List ℕ → Run → Type 0
+Agrees last run = run.at < run.end → run.same ≡ agreed last run.strings.last
+
+-- what the strings of two runs agree with the last one tells how they lie to each other, and how far they agree
+pub record Tell (one two : Run) : Type 0 where
+  pub first : two.same < one.same → (string_cmp one.strings.last two.strings.last ≡ Less) × (agreed one.strings.last two.strings.last ≡ two.same)
+  pub second : one.same < two.same → (string_cmp one.strings.last two.strings.last ≡ Greater) × (agreed one.strings.last two.strings.last ≡ one.same)
+  pub tied : one.same ≡ two.same → one.same ≤ agreed one.strings.last two.strings.last
+
+-- ---- what was written
+
+-- v is the number of x in a list that stands behind so many other strings
+pub record IsNumberBehind (count : ℕ) (terms : List (List ℕ)) (x : List ℕ) (v : ℕ) : Type 0 where
+  pub number : ℕ
+  pub is_number : IsNumberOf terms x number
+  pub value : v ≡ count + number
+
+-- The strings are those that a section keeps, in ascending order. At the place of each the numbers now have its number behind
+-- so many other strings, and at any other place what they had.
+pub record IsPut (g : GraphParts) (part : Part) (count : ℕ) (strings : List (List ℕ)) (before after : List ℕ) : Type 0 where
+  pub ascend : IsAscending strings
+  pub each : (x : List ℕ) → Contains strings x → (k : ℕ) × KeepsNumber g part (k + 1) × (string_of g (role_of part) (k + 1) ≡ x)
+  pub numbers : (k : ℕ) → KeepsNumber g part (k + 1) → IsNumberBehind count strings (string_of g (role_of part) (k + 1)) (slice_index after k)
+  pub others : (k : ℕ) → (KeepsNumber g part (k + 1) → ⊥) → slice_index after k ≡ slice_index before k
+  pub long : length after ≡ length before
+
+-- the new number of an old one
+abbrev pub new_number : Numbering → ℕ → ℕ
+new_number numberings.Same n = n
+new_number (numberings.Listed v) n = slice_index v.items (n - 1)
+
+-- the new number of each number of a role that triples use is that of its string among the terms
+abbrev pub AreRenumbered : GraphParts → Role → List (List ℕ) → (ℕ → ℕ) → Type 0
+AreRenumbered g role terms new = (n : ℕ) → Uses g.triples role n → IsNumberOf terms (string_of g role n) (new n)
+
+-- The four lists are the sections of what the graph denotes, and each number that is used has a new one in them.
+pub record AreRewritten (g : GraphParts) (d : FourLists) (numbers : Numbers) : Type 0 where
+  pub sections : IsSplit (subjects_of (denoted_by g)) (predicates_of (denoted_by g)) (objects_of (denoted_by g)) d
+  pub subjects_are : AreRenumbered g Subject (subject_terms d) (new_number numbers.subjects)
+  pub predicates_are : AreRenumbered g Predicate (predicate_terms d) (new_number numbers.predicates)
+  pub objects_are : AreRenumbered g Object (object_terms d) (new_number numbers.objects)
+
+-- a triple with new numbers
+abbrev pub renumbered : Numbers → Triple → Triple
+renumbered numbers t = (new_number numbers.subjects t.0, new_number numbers.predicates t.1, new_number numbers.objects t.2)
+
+-- the strings of sections in work
+abbrev pub sections_in_work : Sections → FourLists
+sections_in_work d = lists_in_work d.shared d.subjects d.predicates d.objects
+
+-- each is in blocks of so many
+pub record AreBlocks (b : ℕ) (d : Sections) : Type 0 where
+  pub shared : d.shared.block_size ≡ b
+  pub subjects : d.subjects.block_size ≡ b
+  pub predicates : d.predicates.block_size ≡ b
+  pub objects : d.objects.block_size ≡ b

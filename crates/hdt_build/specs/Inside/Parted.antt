@@ -1,0 +1,47 @@
+-- The sections of triples over a list of strings in order.
+use Rattle.std.specs.Prelude.{◌≡◌, ◌↔◌, ℕ, Bool, true, false, List, [], length, slice_index, slice_index_or}
+use Rattle.std.specs.List.{Contains}
+use Rattle.hdt_wire.specs.declared.role.Role.{Role}
+use Rattle.hdt_wire.specs.declared.role.Role.TheVariants.{Subject, Predicate, Object}
+use Rattle.hdt_dict.specs.Split.{FourLists, IsSplit}
+use Rattle.hdt_dict.specs.Strings.{IsAscending}
+use Rattle.hdt_triples.specs.Counting.{Triple}
+use Rattle.hdt_triples.specs.Uses.{Uses}
+use Rattle.hdt_build.specs.Graph.{subjects_of, predicates_of, objects_of, subject_terms, predicate_terms, object_terms, string_triples_of}
+use Rattle.hdt_build.specs.Inside.Kept.{IsNumberBehind}
+use Rattle.hdt_build.specs.Inside.Numbers.{IsNumberOf}
+
+-- whether there is a yes at a place; none past the end
+abbrev pub flag_at : List Bool → ℕ → Bool
+flag_at flags k = slice_index_or flags k false
+
+-- there is a yes exactly at the numbers that triples have in the role
+abbrev pub AreUsed : List Triple → Role → List Bool → Type 0
+AreUsed ids role flags = (k : ℕ) → (flag_at flags k ≡ true) ↔ Uses ids role k
+
+-- the section has the string at a place: its flag is a yes, and the other one is as it is wanted
+abbrev pub IsWanted : List Bool → List Bool → Bool → ℕ → Type 0
+IsWanted used other wanted k = (flag_at used k ≡ true) × (flag_at other k ≡ wanted)
+
+-- The strings are those of xs at the places that are kept, in ascending order. At each of these the numbers now have the number
+-- of its string behind so many others, and at any other place what they had.
+pub record IsFilled (xs : List (List ℕ)) (keeps : ℕ → Type 0) (count : ℕ) (strings : List (List ℕ)) (before after : List ℕ) : Type 0 where
+  pub ascend : IsAscending strings
+  pub each : (x : List ℕ) → Contains strings x → (k : ℕ) × keeps k × (slice_index_or xs k [] ≡ x)
+  pub numbers : (k : ℕ) → keeps k → IsNumberBehind count strings (slice_index_or xs k []) (slice_index after k)
+  pub others : (k : ℕ) → (keeps k → ⊥) → slice_index after k ≡ slice_index before k
+  pub long : length after ≡ length before
+
+-- at each place that triples use in a role the numbers have that of its string among the terms
+abbrev pub AreNumbered : List (List ℕ) → List Triple → Role → List (List ℕ) → List ℕ → Type 0
+AreNumbered xs ids role terms numbers = (k : ℕ) → Uses ids role k → IsNumberOf terms (slice_index_or xs k []) (slice_index numbers k)
+
+-- The four lists are the sections of the triples, and each string that they use has its numbers: one as a subject or an object,
+-- and one as a predicate.
+pub record ArePartsOf (xs : List (List ℕ)) (ids : List Triple) (d : FourLists) (nodes predicates : List ℕ) : Type 0 where
+  pub sections : IsSplit (subjects_of (string_triples_of xs ids)) (predicates_of (string_triples_of xs ids)) (objects_of (string_triples_of xs ids)) d
+  pub subjects_are : AreNumbered xs ids Subject (subject_terms d) nodes
+  pub predicates_are : AreNumbered xs ids Predicate (predicate_terms d) predicates
+  pub objects_are : AreNumbered xs ids Object (object_terms d) nodes
+  pub nodes_long : length nodes ≡ length xs
+  pub predicates_long : length predicates ≡ length xs

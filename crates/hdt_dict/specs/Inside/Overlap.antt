@@ -1,0 +1,45 @@
+-- Strings that stand in two sections, as they are looked for along both.
+use Rattle.std.specs.Prelude.{◌≡◌, ◌<◌, ◌≤◌, ℕ, List, [], ◌∷◌, Bool, cond, Option, Some, None, Result, Ok, Err}
+use Rattle.std.specs.List.{list_any}
+use Rattle.std.specs.Str.{bytes_eq}
+use Rattle.std.specs.Ordering.{is_eq}
+use Rattle.std.specs.declared.cmp.Ordering.{Ordering}
+use Rattle.hdt_wire.specs.declared.fault.Fault.{Fault}
+use Rattle.hdt_wire.specs.declared.fault.Reason.TheVariants.{SectionsOverlap}
+use Rattle.hdt_front.specs.StringRows.{precedes}
+use Rattle.hdt_front.specs.Walking.{Placed, strings, first_order, first_agreed}
+
+-- whether a string is one of a list
+abbrev pub is_in : List (List ℕ) → List ℕ → Bool
+is_in xs x = list_any (λ y. bytes_eq y x) xs
+
+abbrev pub is_string_of : List Placed → List ℕ → Bool
+is_string_of items x = is_in (strings items) x
+
+-- the place of the first string that passes a test
+abbrev pub first_place : (List ℕ → Bool) → List Placed → Option ℕ
+first_place test [] = None
+first_place test (p ∷ ps) = cond (test p.string) (Some p.place) (first_place test ps)
+
+-- the row of a string that was met in another section
+abbrev pub none_met : Option ℕ → Result (Unit {0}) Fault
+none_met None = Ok tt
+none_met (Some place) = Err (record { place = place; reason = SectionsOverlap })
+
+-- the strings from the first one on that isn't less
+abbrev pub not_less : List ℕ → List Placed → List Placed
+not_less x [] = []
+not_less x (p ∷ ps) = cond (precedes p.string x) (not_less x ps) (p ∷ ps)
+
+-- the string is the first one
+abbrev pub is_first : List ℕ → List Placed → Bool
+is_first x items = is_eq (first_order items x)
+
+-- how the first string lies to another one, and how far they agree
+abbrev pub Lies : Ordering × ℕ → List Placed → List ℕ → Type 0
+Lies lie items x = (lie.0 ≡ first_order items x) × (lie.1 ≡ first_agreed items x)
+
+-- what was found of two strings, of which one gave way to a string that keeps so many bytes of it, still tells:
+-- where that keeps more than agreed, all, else that the two agree as far as it keeps
+abbrev pub Turns : ℕ → Ordering × ℕ → List Placed → List ℕ → Type 0
+Turns kept lie items x = (lie.1 < kept → Lies lie items x) × (kept ≤ lie.1 → kept ≤ first_agreed items x)

@@ -1,0 +1,96 @@
+-- Strings by where they begin: how many there are, which one stands at a place, and one more at the end.
+use Rattle.std.proofs.Common.{◌≡◌, ℕ, ◌+◌, ◌-◌, ◌<◌, ◌≤◌, List, [], ◌∷◌, ◌++◌, map, length, get_or, drop, refl, ap, sym, ◌∙◌, inl, inr, arith}
+use Rattle.std.specs.List.{range_with_len}
+use Rattle.std.proofs.lemmas.Bool.{cases_lt}
+use Rattle.std.proofs.lemmas.List.{get_or_append_left, get_or_push, length_push, length-append, length-drop, take-append-le, drop-append-le, drop_at, take_all, same_lists}
+use Rattle.std.proofs.lemmas.List.FromFn.{length-map-range_with_len, get_or-map-range_with_len, map-range_with_len_more}
+use Rattle.hdt_dict.specs.Arena.{arena_text, arena_texts, AreTextStarts}
+
+pub size : (bytes starts : List ℕ) → length (arena_texts bytes starts) ≡ length starts - 1
+unfolding arena_texts
+size bytes starts = length-map-range_with_len (arena_text bytes starts) 0 (length starts - 1)
+
+pub text_is : (bytes starts : List ℕ) (i : ℕ) → i + 1 < length starts → get_or (arena_texts bytes starts) i [] ≡ arena_text bytes starts i
+unfolding arena_texts
+text_is bytes starts i below = get_or-map-range_with_len (arena_text bytes starts) 0 (length starts - 1) i i [] (omega arith) (omega arith)
+
+-- no bytes and the one start 0 are no strings
+pub none : arena_texts [] (0 ∷ []) ≡ []
+unfolding arena_texts
+none = refl
+
+pub none_starts : AreTextStarts [] (0 ∷ [])
+none_starts = record {
+  some = omega arith;
+  ascend = λ i below. absurd (omega arith);
+  within = λ i below. let e : i ≡ 0 = omega arith in rw e (omega arith);
+  last = refl;
+}
+
+map_range : {X : Type 0} (f g : ℕ → X) (n : ℕ) → ((i : ℕ) → i < n → f i ≡ g i) → map f (range_with_len 0 n) ≡ map g (range_with_len 0 n)
+map_range f g n same =
+    let long = length-map-range_with_len f 0 n in
+    same_lists _ _ (long ∙ sym (length-map-range_with_len g 0 n))
+    (λ k d below. let lt : k < n = omega arith in get_or-map-range_with_len f 0 n k k d lt (omega arith) ∙ same k lt ∙ sym (get_or-map-range_with_len g 0 n k k d lt (omega arith)))
+
+-- bytes behind the last string, and the place where they end, are one string more
+module _ (bytes starts x : List ℕ) (e : ℕ) (h : AreTextStarts bytes starts) (end : e ≡ length bytes + length x) where
+  front : (i : ℕ) → i < length starts → get_or (starts ++ e ∷ []) i 0 ≡ get_or starts i 0
+  front i below = get_or_append_left starts (e ∷ []) 0 i below
+
+  back : get_or (starts ++ e ∷ []) (length starts) 0 ≡ e
+  back = get_or_push starts e 0 (length starts) refl
+
+  kept : (i : ℕ) → i + 1 < length starts → arena_text (bytes ++ x) (starts ++ e ∷ []) i ≡ arena_text bytes starts i
+  kept i below =
+      let here : i < length starts = omega arith in
+      let up : get_or starts i 0 ≤ get_or starts (i + 1) 0 = h.ascend i below in
+      let in' : get_or starts (i + 1) 0 ≤ length bytes = h.within (i + 1) below in
+      let from : get_or starts i 0 ≤ length bytes = omega arith in
+      let long = length-drop (get_or starts i 0) bytes in
+      let fits : get_or starts (i + 1) 0 - get_or starts i 0 ≤ length (drop (get_or starts i 0) bytes) = omega arith in
+      rw (front i here, front (i + 1) below, drop-append-le (get_or starts i 0) bytes x from)
+      (take-append-le (get_or starts (i + 1) 0 - get_or starts i 0) (drop (get_or starts i 0) bytes) x fits)
+
+  new : (n : ℕ) → n + 1 ≡ length starts → arena_text (bytes ++ x) (starts ++ e ∷ []) n ≡ x
+  new n long =
+      let here : n < length starts = omega arith in
+      let same : n ≡ length starts - 1 = omega arith in
+      let from : get_or starts n 0 ≡ length bytes = ap (λ j. get_or starts j 0) same ∙ h.last in
+      let all : length x ≤ e - length bytes = omega arith in
+      rw (front n here, from, long, back, drop_at bytes x (length bytes) refl) (take_all (e - length bytes) x all)
+
+  pub texts_push : arena_texts (bytes ++ x) (starts ++ e ∷ []) ≡ arena_texts bytes starts ++ x ∷ []
+  unfolding arena_texts
+  texts_push =
+      let some = h.some in
+      let n = length starts - 1 in
+      let long : n + 1 ≡ length starts = omega arith in
+      let more : length (starts ++ e ∷ []) - 1 ≡ n + 1 = omega (arith, length_push starts e) in
+      ap (λ k. map (arena_text (bytes ++ x) (starts ++ e ∷ [])) (range_with_len 0 k)) more
+      ∙ map-range_with_len_more (arena_text (bytes ++ x) (starts ++ e ∷ [])) 0 n n (omega arith)
+      ∙ ap (λ l. l ++ arena_text (bytes ++ x) (starts ++ e ∷ []) n ∷ []) (map_range (arena_text (bytes ++ x) (starts ++ e ∷ [])) (arena_text bytes starts) n (λ i below. kept i (omega arith)))
+      ∙ ap (λ t. map (arena_text bytes starts) (range_with_len 0 n) ++ t ∷ []) (new n long)
+
+  pub starts_push : AreTextStarts (bytes ++ x) (starts ++ e ∷ [])
+  starts_push =
+      let some = h.some in
+      let longer = length_push starts e in
+      let wide = length-append bytes x in
+      record {
+        some = omega arith;
+        ascend = λ i below.
+            elim (cases_lt (i + 1) (length starts)) as (λ _. get_or (starts ++ e ∷ []) i 0 ≤ get_or (starts ++ e ∷ []) (i + 1) 0) [
+              | inl before ↦ rw (front i (omega arith), front (i + 1) before) (h.ascend i before)
+              | inr behind ↦
+                  let at : i + 1 ≡ length starts = omega arith in
+                  let in' = h.within i (omega arith) in
+                  rw (front i (omega arith), at, back) (omega arith)
+            ];
+        within = λ i below.
+            elim (cases_lt i (length starts)) as (λ _. get_or (starts ++ e ∷ []) i 0 ≤ length (bytes ++ x)) [
+              | inl before ↦ let in' = h.within i before in rw (front i before) (omega arith)
+              | inr behind ↦ let at : i ≡ length starts = omega arith in rw (at, back) (omega arith)
+            ];
+        last = let at : length (starts ++ e ∷ []) - 1 ≡ length starts = omega arith in rw (at, back) (omega arith);
+      }

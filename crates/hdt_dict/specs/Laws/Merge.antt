@@ -1,0 +1,107 @@
+-- The walk along two ascending lists: what lies below a place, whether a string stands there, and the step to the next string.
+use Rattle.std.proofs.Common.{◌≡◌, ◌≢◌, ℕ, ◌+◌, ◌<◌, ◌≤◌, Bool, true, false, cond, not, List, [], ◌∷◌, ◌++◌, length, get_or, take, refl, ap, sym, ◌∙◌, inl, inr, arith}
+use Rattle.std.specs.declared.cmp.Ordering.{Ordering}
+use Rattle.std.specs.declared.cmp.Ordering.TheVariants.{Less, Equal, Greater}
+use Rattle.std.specs.Ordering.{is_lt, ordering_reverse}
+use Rattle.std.specs.List.{Contains, filter}
+use Rattle.std.specs.Cmp.{both_ways}
+use Rattle.std.specs.Cmp.Lexicographic.{nat_list_cmp_total}
+use Rattle.std.specs.Str.{bytes_eq}
+use Rattle.std.proofs.lemmas.Bool.{cases_lt, cases_eq}
+use Rattle.std.proofs.lemmas.Cmp.{tied_itself}
+use Rattle.std.proofs.lemmas.List.{length-map, get_or_default, map_push, append-nil}
+use Rattle.std.proofs.lemmas.List.Elements.{filter_more}
+use Rattle.std.proofs.lemmas.Map.Lookups.{exact_bytes}
+use Rattle.std.proofs.lemmas.Map.Keys.{Less-from_sorted}
+use Rattle.std.proofs.lemmas.Slice.Eq.{bytes_eq-Decides}
+use Rattle.hdt_dict.specs.Laws.Strings.{has-Contains, Contains-has, string_at}
+use Rattle.hdt_front.specs.Canonical.{lent_texts}
+use Rattle.hdt_dict.specs.Strings.{Lent, IsAscending, string_cmp, has, FirstBelow}
+
+pub Less-from_is_lt : (o : Ordering) → is_lt o ≡ true → o ≡ Less
+Less-from_is_lt Less h = refl
+Less-from_is_lt Equal h = cc
+Less-from_is_lt Greater h = cc
+
+pub not_Less : (o : Ordering) → is_lt o ≡ false → o ≢ Less
+not_Less Less h = λ e. cc
+not_Less Equal h = λ e. cc
+not_Less Greater h = λ e. cc
+
+itself : (x : List ℕ) → string_cmp x x ≡ Equal
+itself x = tied_itself nat_list_cmp_total x
+
+-- where a member of an ascending list stands: at the first place that isn't below it
+module _ (ys : List (List ℕ)) (at : ℕ) (x : List ℕ) (up : IsAscending ys) (below : FirstBelow ys at x) where
+  stands_by : (k : ℕ) → k < length ys → get_or ys k x ≡ x → (at < length ys → string_cmp (get_or ys at x) x ≢ Less) → (at < length ys) × (get_or ys at x ≡ x)
+  stands_by k in' is stops =
+      elim (cases_lt k at) as (λ _. (at < length ys) × (get_or ys at x ≡ x)) [
+        | inl before ↦ absurd (differs (sym (below k before) ∙ ap (λ y. string_cmp y x) is ∙ itself x))
+        | inr behind ↦
+            let here : at < length ys = omega arith in
+            elim (cases_eq k at) as (λ _. (at < length ys) × (get_or ys at x ≡ x)) [
+              | inl same ↦ (here, ap (λ i. get_or ys i x) (sym same) ∙ is)
+              | inr apart ↦ absurd (stops here (ap (λ y. string_cmp (get_or ys at x) y) (sym is) ∙ Less-from_sorted string_cmp ys at k x up (omega arith) in'))
+            ]
+      ]
+    where
+      differs : Less ≡ Equal → ⊥
+      differs e = cc
+
+  pub stands : (at < length ys → string_cmp (get_or ys at x) x ≢ Less) → Contains ys x → (at < length ys) × (get_or ys at x ≡ x)
+  stands stops h = stands_by h.0 h.1 h.2 stops
+
+  -- the answer of the test at that place
+  pub has_here : at < length ys → string_cmp (get_or ys at x) x ≢ Less → (y : List ℕ) → get_or ys at x ≡ y → bytes_eq y x ≡ has ys x
+  has_here here stops y is =
+      both_ways _ _
+      (λ t. Contains-has ys x (at, here, is ∙ (bytes_eq-Decides y x).0 t))
+      (λ t. (bytes_eq-Decides y x).1 (sym is ∙ (stands (λ _. stops) (has-Contains ys x t)).1))
+
+  pub has_past : length ys ≤ at → false ≡ has ys x
+  has_past past =
+      both_ways _ _
+      (λ t. cc)
+      (λ t. absurd (omega (arith, (stands (λ h. absurd (omega arith)) (has-Contains ys x t)).0)))
+
+pub below_or : (z x y : List ℕ) (o : Ordering) → string_cmp x y ≡ o → string_cmp z x ≡ Less → string_cmp y x ≢ Less → string_cmp z y ≡ Less
+below_or z x y Less e less up = nat_list_cmp_total.trans z x y less e
+below_or z x y Equal e less up = ap (string_cmp z) (sym (exact_bytes x y e)) ∙ less
+below_or z x y Greater e less up = absurd (up (nat_list_cmp_total.antisymm y x ∙ ap ordering_reverse e))
+
+-- what is below a string is below one that isn't less
+pub passes_to : (ys : List (List ℕ)) (at : ℕ) (x y : List ℕ) → FirstBelow ys at x → at ≤ length ys → string_cmp y x ≢ Less → FirstBelow ys at y
+passes_to ys at x y below within up k lt =
+    let same = get_or_default ys k x y (omega arith) in
+    below_or (get_or ys k y) x y (string_cmp x y) refl (ap (λ z. string_cmp z x) (sym same) ∙ below k lt) up
+
+-- a loop's step: the string at i passes, and goes to the end of what was kept, or doesn't
+module _ (p : List ℕ → Bool) (vs ws : List Lent) (i : ℕ) (e : Lent) (below : i < length vs) (front : lent_texts ws ≡ filter p (take i (lent_texts vs))) where
+  within : i < length (lent_texts vs)
+  within = omega (arith, length-map vs (λ (w : Lent). w.now))
+
+  step : (b : Bool) → p (get_or vs i e).now ≡ b → filter p (take (i + 1) (lent_texts vs)) ≡ lent_texts ws ++ cond b ((get_or vs i e).now ∷ []) []
+  step b is =
+      let x = (get_or vs i e).now in
+      filter_more p (lent_texts vs) i x within
+      ∙ ap (λ y. filter p (take i (lent_texts vs)) ++ cond (p y) (y ∷ []) []) (string_at vs i e x below)
+      ∙ ap (λ t. filter p (take i (lent_texts vs)) ++ cond t (x ∷ []) []) is
+      ∙ ap (λ l. l ++ cond b (x ∷ []) []) (sym front)
+
+  pub kept_more : p (get_or vs i e).now ≡ true → lent_texts (ws ++ get_or vs i e ∷ []) ≡ filter p (take (i + 1) (lent_texts vs))
+  kept_more is = map_push (λ (w : Lent). w.now) ws (get_or vs i e) ∙ sym (step true is)
+
+  pub left_more : p (get_or vs i e).now ≡ false → lent_texts ws ≡ filter p (take (i + 1) (lent_texts vs))
+  left_more is = sym (step false is ∙ append-nil (lent_texts ws))
+
+module _ (ys : List (List ℕ)) (x : List ℕ) where
+  by : (absent : ¬ Contains ys x) (b : Bool) → has ys x ≡ b → not b ≡ true
+  by absent true e = absurd (absent (has-Contains ys x e))
+  by absent false e = refl
+
+  -- a list lacks a string where it isn't a member
+  pub lacks : ¬ Contains ys x → not (has ys x) ≡ true
+  lacks absent = by absent (has ys x) refl
+
+  pub lacks-back : not (has ys x) ≡ true → ¬ Contains ys x
+  lacks-back h = λ there. let e = Contains-has ys x there in let g : not (has ys x) ≡ false = ap not e in cc

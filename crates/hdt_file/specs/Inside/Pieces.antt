@@ -1,0 +1,80 @@
+-- The pieces that lines of N-Triples are put together of, each made once: a term with what follows it in its line.
+use Rattle.std.specs.Prelude.{◌≡◌, ℕ, ◌<◌, ◌+◌, ◌⊎◌, ⊤, Bool, true, List, [], ◌∷◌, ◌++◌, length, slice_index_or}
+use Rattle.std.specs.Option.{unwrap_or}
+use Rattle.hdt_dict.specs.Numbered.{numbered}
+use Rattle.hdt_wire.specs.declared.role.Role.{Role}
+use Rattle.hdt_wire.specs.declared.role.Role.TheVariants.{Subject, Predicate, Object}
+use Rattle.hdt_terms.specs.declared.term.Term.{Term}
+use Rattle.hdt_terms.specs.Writing.{written}
+use Rattle.hdt_triples.specs.Counting.{Triple}
+use Rattle.hdt_triples.specs.Uses.{part}
+use Rattle.hdt_file.specs.Denoted.{string_of}
+use Rattle.hdt_file.specs.File.{GraphParts}
+use Rattle.hdt_file.specs.Text.{IsTermOf, HasNoTerm}
+use Rattle.hdt_file.specs.declared.tables.Tables.{Tables}
+
+-- what follows the term of a role in a line: a space, and behind the object the end of the line
+abbrev pub behind : Role → List ℕ
+behind Subject = 32 ∷ []
+behind Predicate = 32 ∷ []
+behind Object = 32 ∷ 46 ∷ 10 ∷ []
+
+abbrev pub line_piece : Role → Term → List ℕ
+line_piece role term = written term ++ behind role
+
+-- the piece of the term that the string is in its role, or nothing where it is none
+abbrev pub IsLinePiece : Role → List ℕ → List ℕ → Type 0
+IsLinePiece role string piece = ((term : Term) × IsTermOf role string term × (piece ≡ line_piece role term)) ⊎ ((piece ≡ []) × HasNoTerm role string)
+
+-- whether a number is marked; one that has no mark counts as marked
+abbrev pub is_marked : List Bool → ℕ → Bool
+is_marked marks n = slice_index_or marks n true
+
+-- the numbers that the triples have in the role are marked
+abbrev pub AreMarked : Role → List Bool → List Triple → Type 0
+AreMarked role marks ts = (i : ℕ) → i < length ts → is_marked marks (part role (slice_index_or ts i (0, 0, 0))) ≡ true
+
+-- one for each string, in the order of their numbers from n on: the string's piece where its number is marked
+abbrev pub AreLinePieces : Role → List Bool → ℕ → List (List ℕ) → List (List ℕ) → Type 0
+AreLinePieces role marks n [] [] = ⊤
+AreLinePieces role marks n [] (y ∷ ys) = ⊥
+AreLinePieces role marks n (x ∷ xs) [] = ⊥
+AreLinePieces role marks n (x ∷ xs) (y ∷ ys) = (is_marked marks n ≡ true → IsLinePiece role x y) × AreLinePieces role marks (n + 1) xs ys
+
+-- that of string n, from 1; nothing for another number
+abbrev pub piece_in : List (List ℕ) → ℕ → List ℕ
+piece_in pieces n = unwrap_or (numbered pieces n) []
+
+-- each string that the triples have in the role has its piece
+abbrev pub ArePiecesFor : GraphParts → Role → List Triple → List (List ℕ) → Type 0
+ArePiecesFor g role ts pieces = (i : ℕ) → i < length ts → IsLinePiece role (string_of g role (part role (slice_index_or ts i (0, 0, 0)))) (piece_in pieces (part role (slice_index_or ts i (0, 0, 0))))
+
+-- each string of the triples
+pub record AreTables (g : GraphParts) (ts : List Triple) (tables : Tables) : Type 0 where
+  pub subjects : ArePiecesFor g Subject ts tables.subjects
+  pub predicates : ArePiecesFor g Predicate ts tables.predicates
+  pub objects : ArePiecesFor g Object ts tables.objects
+
+-- each string of one triple
+pub record HasPieces (g : GraphParts) (tables : Tables) (t : Triple) : Type 0 where
+  pub subject : IsLinePiece Subject (string_of g Subject t.0) (piece_in tables.subjects t.0)
+  pub predicate : IsLinePiece Predicate (string_of g Predicate t.1) (piece_in tables.predicates t.1)
+  pub object : IsLinePiece Object (string_of g Object t.2) (piece_in tables.objects t.2)
+
+-- the bytes have grown by what a string is, a term or none
+pub record GrowsByPiece (role : Role) (string old new : List ℕ) : Type 0 where
+  pub piece : List ℕ
+  pub is : IsLinePiece role string piece
+  pub grown : new ≡ old ++ piece
+
+-- the same where it is asked for
+pub record GrowsByMarked (marked : Bool) (role : Role) (string old new : List ℕ) : Type 0 where
+  pub piece : List ℕ
+  pub is : marked ≡ true → IsLinePiece role string piece
+  pub grown : new ≡ old ++ piece
+
+-- the text has grown by the piece of the term that the string is in its role
+pub record AppendsPiece (role : Role) (string old new : List ℕ) : Type 0 where
+  pub term : Term
+  pub is : IsTermOf role string term
+  pub grown : new ≡ old ++ line_piece role term

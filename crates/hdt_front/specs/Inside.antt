@@ -1,0 +1,3 @@
+pub mod PackedReading
+pub mod Reaching
+pub mod PlainPieces

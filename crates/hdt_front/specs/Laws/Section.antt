@@ -1,0 +1,212 @@
+-- The rows of a section are exact: what they answer stands there, and what stands there they answer.
+use Rattle.std.proofs.Common.{◌≡◌, ◌⊎◌, ℕ, zero, suc, ◌+◌, ◌*◌, ◌<◌, ◌||◌, true, false, not, List, [], ◌∷◌, ◌++◌, length, slice_index, eqb, ltb, leb, Ok, inl, inr, refl, ap, subst, ◌∙◌, arith}
+use Rattle.std.specs.Prelude.{slice_range}
+use Rattle.std.specs.List.{concat}
+use Rattle.byteorder.specs.Endian.{little_bytes}
+use Rattle.hdt_wire.specs.Check.{code8, code32}
+use Rattle.std.proofs.lemmas.Bool.{eqb-true, ltb-true, lt-ltb, leb-true}
+use Rattle.std.proofs.lemmas.Bool.Decides.{Decides-eqb, nat_tests}
+use Rattle.hdt_wire.specs.declared.fault.Reason.TheVariants.{SectionKind, BlockSize, PackedLength, BlockCount, BlockPlace}
+use Rattle.hdt_wire.specs.Rows.{IsBytes, Stands}
+use Rattle.hdt_wire.specs.Laws.Row.{held, bound, Stands-front}
+use Rattle.hdt_wire.specs.VByte.{vbyte_at}
+use Rattle.hdt_seq.specs.Sequence.{place_of_entry, byte_at, code8_at, packed_at}
+use Rattle.hdt_seq.specs.Laws.Sequence.{stands_bytes}
+use Rattle.hdt_seq.specs.Numbers.{numbers_at}
+use Rattle.hdt_wire.specs.Exact.{Exactly}
+use Rattle.hdt_wire.specs.Laws.Exact.{answered}
+use Rattle.hdt_wire.specs.VByte.{IsNumber}
+use Rattle.hdt_wire.specs.Laws.ExactLeaves.{number_exact}
+use Rattle.hdt_seq.specs.ExactSequences.{IsNumberSequence}
+use Rattle.hdt_seq.specs.Laws.ExactSequences.{byte_exact, code8_exact, packed_exact, numbers_exact}
+use Rattle.hdt_front.specs.Unfolding.{unfolded}
+use Rattle.hdt_front.specs.Folding.{Folded, ArePieces, NoZero, Ascending}
+use Rattle.hdt_front.specs.StringRows.{Packing, strings_at}
+use Rattle.hdt_front.specs.Laws.StringSteps.{length-unfolded}
+use Rattle.hdt_front.specs.Laws.StringsFound.{found_from}
+use Rattle.hdt_front.specs.Laws.StringsOnly.{rows_only}
+use Rattle.hdt_front.specs.Laws.Folding.{folded_found, folded_only, strings_are, strings_ascend}
+use Rattle.hdt_front.specs.Section.{AreStrings, SectionParts, SectionHeadParts, PackedParts, HasStarts, IsSection, starts_counted, packing_with, head_at, packed_parts_at, section_at}
+
+-- ---- the rows about counts
+
+later : (n : ℕ) → eqb (suc n) 0 ≡ false
+later n = grind (arith, nat_tests)
+
+some_found : (n b : ℕ) → (eqb n 0 || ltb 0 b) ≡ true → 0 < n → 0 < b
+some_found zero b e lt = absurd (omega (arith, lt))
+some_found (suc n) b e lt = ltb-true 0 b (rw later at e)
+
+some_only : (n b : ℕ) → (0 < n → 0 < b) → (eqb n 0 || ltb 0 b) ≡ true
+some_only zero b h = refl
+some_only (suc n) b h = rw later (lt-ltb 0 b (h (omega arith)))
+
+one_or_none : (starts : List ℕ) → leb (length starts) 1 ≡ true → slice_index starts 0 ≡ 0 → (starts ≡ []) ⊎ (starts ≡ 0 ∷ [])
+one_or_none [] few first = inl refl
+one_or_none (x ∷ []) few first = inr (ap (λ (y : ℕ). y ∷ []) first)
+one_or_none (x ∷ y ∷ xs) few first = let le = leb-true _ _ few in absurd (omega (arith, le))
+
+starts_found : (n b : ℕ) (starts : List ℕ) → starts_counted n b (length starts) ≡ true → (not (eqb n 0) || eqb (slice_index starts 0) 0) ≡ true → HasStarts n b starts
+starts_found zero b starts e f = one_or_none starts e (eqb-true _ _ f)
+starts_found (suc n) b starts e f = eqb-true _ _ e
+
+starts_only : (n b : ℕ) (starts : List ℕ) → HasStarts n b starts → (starts_counted n b (length starts) ≡ true) × ((not (eqb n 0) || eqb (slice_index starts 0) 0) ≡ true)
+starts_only zero b starts (inl e) = (ap (λ (l : List ℕ). leb (length l) 1) e, ap (λ (l : List ℕ). eqb (slice_index l 0) 0) e)
+starts_only zero b starts (inr e) = (ap (λ (l : List ℕ). leb (length l) 1) e, ap (λ (l : List ℕ). eqb (slice_index l 0) 0) e)
+starts_only (suc n) b starts e = ((Decides-eqb _ _).1 e, rw later refl)
+
+no_pieces : (b : ℕ) (packed : List ℕ) (pieces : List (List ℕ)) → ArePieces b 0 [] [] pieces → packed ≡ concat pieces → packed ≡ []
+unfolding ArePieces
+no_pieces b packed [] each e = e
+no_pieces b packed (x ∷ xs) each e = absurd each
+
+-- without strings there are no packed bytes
+nothing_packed : (b at : ℕ) (strings : List (List ℕ)) (packed starts : List ℕ) → Folded b 0 at [] strings packed starts → (not (eqb (length strings) 0) || eqb (length packed) 0) ≡ true
+nothing_packed b at [] packed starts h = (Decides-eqb _ _).1 (ap length (no_pieces b packed h.pieces h.each h.joined))
+nothing_packed b at (x ∷ xs) packed starts h = rw later refl
+
+-- ---- the section
+
+strings_found : (p : Packing) (n : ℕ) (packed : List ℕ) → p.size ≡ length packed → IsBytes packed → {u : Unit {0}} → strings_at p n 0 [] packed ≡ Ok u
+    → Folded p.block 0 0 [] (unfolded p.block n 0 [] packed) packed p.starts × Ascending 0 [] (unfolded p.block n 0 [] packed)
+unfolding NoZero
+strings_found p n packed size bs e = found_from p n 0 0 [] packed (omega (arith, size)) tt bs e
+
+-- what a section keeps is of strings that ascend
+pub strings_ascend_in : (p : Packing) (n : ℕ) (packed : List ℕ) → p.size ≡ length packed → IsBytes packed → strings_at p n 0 [] packed ≡ Ok tt → AreStrings (unfolded p.block n 0 [] packed)
+strings_ascend_in p n packed size bs e = strings_are (unfolded p.block n 0 [] packed) (strings_found p n packed size bs e).1
+
+-- what the rows of the head leave
+pub record IsHead (h : SectionHeadParts) (bytes : List ℕ) (at : ℕ) : Type 0 where
+  pub size_place : ℕ
+  pub block_place : ℕ
+  pub code_place : ℕ
+  pub kind : Stands bytes at (2 ∷ []) (at + 1)
+  pub count : IsNumber h.count bytes (at + 1) size_place
+  pub size : IsNumber h.size bytes size_place block_place
+  pub block : IsNumber h.block_size bytes block_place code_place
+  pub code : Stands bytes code_place (code8 (slice_range bytes at code_place) ∷ []) h.starts_place
+  pub some : 0 < h.count → 0 < h.block_size
+  pub none : (not (eqb h.count 0) || eqb h.size 0) ≡ true
+
+head_exact : (bytes : List ℕ) (at : ℕ) → IsBytes bytes → Exactly (head_at bytes at) (λ h. IsHead h bytes at)
+unfolding head_at
+head_exact bytes at fits = record {
+  found = λ h e.
+      bound (byte_at bytes at) _ _ e (λ kind e1 e. held (eqb kind.0 2) at SectionKind _ _ e (λ h1 e.
+      bound (vbyte_at bytes kind.1) _ _ e (λ count e2 e.
+      bound (vbyte_at bytes count.1) _ _ e (λ size e3 e.
+      bound (vbyte_at bytes size.1) _ _ e (λ block e4 e.
+      bound (code8_at bytes at block.1) _ _ e (λ start e5 e.
+      held (eqb count.0 0 || ltb 0 block.0) size.1 BlockSize _ _ e (λ h2 e.
+      held (not (eqb count.0 0) || eqb size.0 0) count.1 PackedLength _ _ e (λ h3 e.
+      let k0 = (byte_exact bytes at).found kind e1 in
+      let k1 : kind.1 ≡ at + 1 = k0.end_is in
+      let k : Stands bytes at (2 ∷ []) (at + 1) = subst (λ (y : ℕ × ℕ). Stands bytes at (y.0 ∷ []) y.1) (ap (λ (b : ℕ). (b, kind.1)) (eqb-true _ _ h1) ∙ ap (λ (i : ℕ). (2, i)) k1) k0 in
+      answered (λ (h : SectionHeadParts). IsHead h bytes at) _ _ e (record {
+        size_place = count.1;
+        block_place = size.1;
+        code_place = block.1;
+        kind = k;
+        count = rw (← k1) ((number_exact bytes kind.1 fits).found count e2);
+        size = (number_exact bytes count.1 fits).found size e3;
+        block = (number_exact bytes size.1 fits).found block e4;
+        code = (code8_exact bytes at block.1).found start e5;
+        some = some_found count.0 block.0 h2;
+        none = h3;
+      })))))))));
+  only = λ p h.
+      let r1 = (byte_exact bytes at).only (2, at + 1) h.kind in
+      let r2 = (number_exact bytes (at + 1) fits).only (p.count, h.size_place) h.count in
+      let r3 = (number_exact bytes h.size_place fits).only (p.size, h.block_place) h.size in
+      let r4 = (number_exact bytes h.block_place fits).only (p.block_size, h.code_place) h.block in
+      let r5 = (code8_exact bytes at h.code_place).only p.starts_place h.code in
+      let t1 = some_only p.count p.block_size h.some in
+      rw (r1, r2, r3, r4, r5, t1, h.none) refl;
+}
+
+-- what the rows above those of the strings leave
+pub record AreParts (p : PackedParts) (bytes : List ℕ) (at : ℕ) : Type 0 where
+  pub starts_place : ℕ
+  pub head : IsHead (record { count = p.count; size = length p.packed; block_size = p.block_size; starts_place = starts_place }) bytes at
+  pub starts_stand : IsNumberSequence p.starts bytes starts_place
+  pub started : HasStarts p.count p.block_size p.starts.items
+  pub packed : Stands bytes p.starts.end (p.packed ++ little_bytes 4 (code32 p.packed)) p.end
+
+parts_exact : (bytes : List ℕ) (at : ℕ) → IsBytes bytes → Exactly (packed_parts_at bytes at) (λ p. AreParts p bytes at)
+unfolding packed_parts_at
+parts_exact bytes at fits = record {
+  found = λ p e.
+      bound (head_at bytes at) _ _ e (λ head e1 e.
+      bound (numbers_at bytes head.starts_place) _ _ e (λ starts e2 e.
+      held (starts_counted head.count head.block_size (length starts.items)) starts.places.count BlockCount _ _ e (λ h1 e.
+      held (not (eqb head.count 0) || eqb (slice_index starts.items 0) 0) (place_of_entry starts.places 0) BlockPlace _ _ e (λ h2 e.
+      bound (packed_at (8 * head.size) bytes starts.end) _ _ e (λ packed e3 e.
+      let p = (packed_exact head.size bytes starts.end fits).found packed e3 in
+      answered (λ (p : PackedParts). AreParts p bytes at) _ _ e (record {
+        starts_place = head.starts_place;
+        head = rw p.1 ((head_exact bytes at fits).found head e1);
+        starts_stand = (numbers_exact bytes head.starts_place fits).found starts e2;
+        started = starts_found head.count head.block_size starts.items h1 h2;
+        packed = p.0;
+      }))))));
+  only = λ p h.
+      let r1 = (head_exact bytes at fits).only _ h.head in
+      let r2 = (numbers_exact bytes h.starts_place fits).only p.starts h.starts_stand in
+      let t = starts_only p.count p.block_size p.starts.items h.started in
+      let r3 = (packed_exact (length p.packed) bytes p.starts.end fits).only (p.packed, p.end) (h.packed, refl) in
+      rw (r1, r2, t.0, t.1, r3) refl;
+}
+
+pub section_exact : (bytes : List ℕ) (at : ℕ) → IsBytes bytes → Exactly (section_at bytes at) (λ s. IsSection s bytes at)
+unfolding section_at
+section_exact bytes at fits = record {
+  found = λ s e.
+      bound (packed_parts_at bytes at) _ _ e (λ p e1 e.
+      bound (strings_at (packing_with p.starts p.block_size (length p.packed)) p.count 0 [] p.packed) _ _ e (λ u e2 e.
+      let h = (parts_exact bytes at fits).found p e1 in
+      let n : length (unfolded p.block_size p.count 0 [] p.packed) ≡ p.count = length-unfolded p.block_size p.count 0 [] p.packed in
+      let f = strings_found (packing_with p.starts p.block_size (length p.packed)) p.count p.packed refl (stands_bytes bytes p.starts.end p.packed _ fits (Stands-front bytes p.starts.end p.packed _ p.end h.packed)) e2 in
+      answered (λ (s : SectionParts). IsSection s bytes at) _ _ e (record {
+        size_place = h.head.size_place;
+        block_place = h.head.block_place;
+        code_place = h.head.code_place;
+        starts_place = h.starts_place;
+        starts = p.starts;
+        kind = h.head.kind;
+        count = rw n h.head.count;
+        size = h.head.size;
+        block = h.head.block;
+        code = h.head.code;
+        some = rw n h.head.some;
+        starts_stand = h.starts_stand;
+        started = rw n h.started;
+        place = refl;
+        packed = h.packed;
+        folded = folded_found p.block_size _ p.packed p.starts.items f.0;
+        strings = strings_are _ f.1;
+      })));
+  only = λ s h.
+      let folds = folded_only s.block_size s.strings s.packed h.starts.items h.folded in
+      let p : PackedParts = record { count = length s.strings; block_size = s.block_size; starts = h.starts; packed = s.packed; end = s.end } in
+      let r1 = (parts_exact bytes at fits).only p (record {
+        starts_place = h.starts_place;
+        head = record {
+          size_place = h.size_place;
+          block_place = h.block_place;
+          code_place = h.code_place;
+          kind = h.kind;
+          count = h.count;
+          size = h.size;
+          block = h.block;
+          code = h.code;
+          some = h.some;
+          none = nothing_packed s.block_size 0 s.strings s.packed h.starts.items folds;
+        };
+        starts_stand = h.starts_stand;
+        started = h.started;
+        packed = subst (λ (i : ℕ). Stands bytes i (s.packed ++ little_bytes 4 (code32 s.packed)) s.end) h.place h.packed;
+      }) in
+      let r2 = rows_only (packing_with h.starts s.block_size (length s.packed)) s.strings s.packed refl folds (strings_ascend s.strings h.strings) in
+      rw (r1, r2.0, r2.1, ← h.place) refl;
+}

@@ -1,0 +1,10 @@
+pub mod Little
+pub mod Numbers
+pub mod Bits
+pub mod Sequence
+pub mod NumbersReading
+pub mod BitsReading
+pub mod Width
+pub mod Packing
+pub mod Marks
+pub mod ExactSequences

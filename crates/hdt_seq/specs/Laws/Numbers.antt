@@ -1,0 +1,33 @@
+-- Laws of the list that a number sequence stands for, which crates above cite.
+use Rattle.std.proofs.Common.{◌≡◌, ℕ, ◌*◌, ◌^◌, ◌<◌, ◌≤◌, length, get_or, arith}
+use Rattle.std.proofs.Math.Nat.{mul-le-mul_left, pow-le-pow_right}
+use Rattle.hdt_seq.specs.declared.numbers.Numbers.{Numbers}
+use Rattle.hdt_seq.specs.Little.{entry}
+use Rattle.hdt_seq.specs.Laws.Little.{length-entries, get_or-entries, entry_fits}
+use Rattle.hdt_seq.specs.Numbers.{numbers_of}
+
+-- the count is the list's length, which is below 2 ^ 64
+pub numbers_len : (s : Numbers) → length (numbers_of s) ≡ s.count
+unfolding numbers_of
+numbers_len s = length-entries s.packed.now s.width s.count
+
+pub numbers_below : (s : Numbers) → length (numbers_of s) < 2 ^ 64
+numbers_below s = omega (arith, numbers_len s, s.counted)
+
+-- each entry of the list is a slice of the packed bytes
+pub numbers_get : (s : Numbers) (i : ℕ) → i < length (numbers_of s) → get_or (numbers_of s) i 0 ≡ entry s.packed.now s.width i
+unfolding numbers_of
+numbers_get s i lt = get_or-entries s.packed.now s.width s.count i (omega (arith, length-entries s.packed.now s.width s.count, lt))
+
+-- and below 2 ^ 64
+pub number_below : (s : Numbers) (i : ℕ) → i < length (numbers_of s) → get_or (numbers_of s) i 0 < 2 ^ 64
+number_below s i lt =
+    let small = entry_fits s.packed.now s.width i in
+    let most : 2 ^ s.width ≤ 2 ^ 64 = pow-le-pow_right (omega arith) s.narrow in
+    omega (arith, numbers_get s i lt, small, most)
+
+-- an entry begins within the packed bytes
+pub number_within : (s : Numbers) (i : ℕ) → i < length (numbers_of s) → s.width * i ≤ 8 * length s.packed.now
+number_within s i lt =
+    let le : i ≤ s.count = omega (arith, numbers_len s, lt) in
+    omega (arith, mul-le-mul_left s.width le, s.room)

@@ -1,0 +1,4 @@
+pub mod Fitting
+pub mod Runs
+pub mod SequencesView
+pub mod Spots

@@ -1,0 +1,43 @@
+-- Matches that stand together.
+use Rattle.std.specs.Prelude.{ℕ, ◌≡◌, ◌≤◌, ◌<◌, ◌+◌, length, slice_index, true, false}
+use Rattle.hdt_triples.specs.Counting.{BitmapTriples, pair_of, subject_at, triple_at}
+use Rattle.hdt_triples.specs.Patterns.{agrees}
+use Rattle.hdt_triples.specs.declared.pattern.Pattern.{Pattern}
+
+-- pair q has this subject and this predicate
+abbrev pub IsPairOf : BitmapTriples → ℕ → ℕ → ℕ → Type 0
+IsPairOf f s p q = (q < length f.ys) × (subject_at f q ≡ s) × (slice_index f.ys q ≡ p)
+
+-- the pairs of a subject are those from `low` to `high`
+pub record PairsOf (f : BitmapTriples) (s low high : ℕ) : Type 0 where
+  pub ordered : low ≤ high
+  pub within : high ≤ length f.ys
+  pub inside : (q : ℕ) → low ≤ q → q < high → subject_at f q ≡ s
+  pub from : (q : ℕ) → q < length f.ys → subject_at f q ≡ s → low ≤ q
+  pub to : (q : ℕ) → q < length f.ys → subject_at f q ≡ s → q < high
+
+-- from `at` to `end` all triples agree, and have this subject and this predicate; none does from `end` on
+pub record IsRunOfTriples (f : BitmapTriples) (pattern : Pattern) (s p at end : ℕ) : Type 0 where
+  pub ordered : at ≤ end
+  pub within : end ≤ length f.zs
+  pub all : (i : ℕ) → at ≤ i → i < end → agrees pattern (triple_at f i) ≡ true
+  pub subject_is : (i : ℕ) → at ≤ i → i < end → subject_at f (pair_of f i) ≡ s
+  pub predicate_is : (i : ℕ) → at ≤ i → i < end → slice_index f.ys (pair_of f i) ≡ p
+  pub over : (i : ℕ) → end ≤ i → i < length f.zs → agrees pattern (triple_at f i) ≡ false
+
+-- the triples of the pairs from `first` to `last` are those from `at` on and before `end`
+pub record Edges (f : BitmapTriples) (first last at end : ℕ) : Type 0 where
+  pub some : at < end
+  pub within : end ≤ length f.zs
+  pub begins : pair_of f at ≡ first
+  pub before : (i : ℕ) → i < at → pair_of f i < first
+  pub to : (i : ℕ) → i < end → pair_of f i ≤ last
+  pub ends : pair_of f end ≡ last + 1
+
+-- the triples that agree are those from `at` on and before `end`
+pub record AreBetween (f : BitmapTriples) (pattern : Pattern) (at end : ℕ) : Type 0 where
+  pub ordered : at ≤ end
+  pub within : end ≤ length f.zs
+  pub before : (i : ℕ) → i < at → agrees pattern (triple_at f i) ≡ false
+  pub all : (i : ℕ) → at ≤ i → i < end → agrees pattern (triple_at f i) ≡ true
+  pub over : (i : ℕ) → end ≤ i → i < length f.zs → agrees pattern (triple_at f i) ≡ false

@@ -1,0 +1,6 @@
+pub mod Counting
+pub mod Group
+pub mod Order
+pub mod Triples
+pub mod Uses
+pub mod Writing

@@ -1,0 +1,207 @@
+-- Groups of equal neighbours: their marks, their first elements, and how the two go together.
+use Rattle.std.proofs.Common.{◌≡◌, ◌≢◌, ℕ, ◌+◌, ◌-◌, ◌<◌, ◌≤◌, suc, zero, Bool, true, false, not, cond, List, [], ◌∷◌, ◌++◌, length, get_or, take, map, slice_get, Some, refl, ap, sym, ◌∙◌, subst, arith, eqb}
+use Rattle.std.specs.List.{dedup, dedup_from}
+use Rattle.std.proofs.lemmas.List.{take_all, take_more}
+use Rattle.std.proofs.lemmas.List.Sums.{sum_by-cons}
+use Rattle.std.proofs.lemmas.Bool.{eqb-true, eq-eqb}
+use Rattle.hdt_seq.specs.Marks.{marks_before}
+use Rattle.hdt_seq.specs.Laws.Marks.{none_before}
+use Rattle.hdt_triples.specs.Groups.{last_marks, last_marks_from}
+
+marks_cons : (b : Bool) (bits : List Bool) (i : ℕ) → marks_before (b ∷ bits) (suc i) ≡ cond b 1 0 + marks_before bits i
+unfolding marks_before
+marks_cons b bits i = sum_by-cons (λ x. cond x 1 0) b (take i bits)
+
+module _ {X : Type 0} (same : X → X → Bool) where
+  pub length-last_marks_from : (k : X) (xs : List X) → length (last_marks_from same k xs) ≡ suc (length xs)
+  length-last_marks_from k [] = refl
+  length-last_marks_from k (x ∷ xs) = ap suc (length-last_marks_from x xs)
+
+  pub length-last_marks : (xs : List X) → length (last_marks same xs) ≡ length xs
+  length-last_marks [] = refl
+  length-last_marks (x ∷ xs) = length-last_marks_from x xs
+
+  -- the last place is marked
+  pub last_marked : (k : X) (xs : List X) → slice_get (last_marks_from same k xs) (length xs) ≡ Some true
+  last_marked k [] = refl
+  last_marked k (x ∷ xs) = last_marked x xs
+
+  -- the mark at a place that isn't the last
+  pub mark_inside : (xs : List X) (i : ℕ) (d : X) → i + 1 < length xs → get_or (last_marks same xs) i false ≡ not (same (get_or xs (i + 1) d) (get_or xs i d))
+  mark_inside [] i d h = absurd (omega arith)
+  mark_inside (x ∷ []) i d h = absurd (omega arith)
+  mark_inside (x ∷ y ∷ xs) zero d h = refl
+  mark_inside (x ∷ y ∷ xs) (suc i) d h =
+      let e : suc (i + 1) ≡ suc i + 1 = omega arith in
+      mark_inside (y ∷ xs) i d (omega arith) ∙ ap (λ j. not (same (get_or (x ∷ y ∷ xs) j d) (get_or (y ∷ xs) i d))) e
+
+  -- and at the last
+  pub mark_at_end : (xs : List X) (i : ℕ) → i + 1 ≡ length xs → get_or (last_marks same xs) i false ≡ true
+  mark_at_end [] i h = absurd (omega arith)
+  mark_at_end (x ∷ []) zero h = refl
+  mark_at_end (x ∷ []) (suc i) h = absurd (omega arith)
+  mark_at_end (x ∷ y ∷ xs) zero h = absurd (omega arith)
+  mark_at_end (x ∷ y ∷ xs) (suc i) h = mark_at_end (y ∷ xs) i (omega arith)
+
+  head_of : (k : X) (xs : List X) (d : X) → get_or (dedup_from same k xs) 0 d ≡ k
+  head_of k [] d = refl
+  head_of k (x ∷ xs) d = by (same x k) (dedup_from same x xs) (head_of k xs d)
+    where
+      by : (b : Bool) (l : List X) → get_or (dedup_from same k xs) 0 d ≡ k → get_or (cond b (dedup_from same k xs) (k ∷ l)) 0 d ≡ k
+      by true l e = e
+      by false l e = refl
+
+  module _ (exact : (x y : X) → same x y ≡ true → x ≡ y) where
+    -- the element of the group of a place
+    at_step : (k x : X) (xs : List X) (i : ℕ) (d : X) (b : Bool) → same x k ≡ b
+        → get_or (dedup_from same x xs) (marks_before (last_marks_from same x xs) i) d ≡ get_or (x ∷ xs) i d
+        → get_or (cond b (dedup_from same k xs) (k ∷ dedup_from same x xs)) (cond (not b) 1 0 + marks_before (last_marks_from same x xs) i) d ≡ get_or (x ∷ xs) i d
+    at_step k x xs i d true e h =
+        let n = marks_before (last_marks_from same x xs) i in
+        let zero_and : 0 + n ≡ n = omega arith in
+        ap (get_or (dedup_from same k xs) (0 + n)) refl ∙ ap (λ j. get_or (dedup_from same k xs) j d) zero_and ∙ ap (λ y. get_or (dedup_from same y xs) n d) (sym (exact x k e)) ∙ h
+    at_step k x xs i d false e h =
+        let n = marks_before (last_marks_from same x xs) i in
+        let one_and : 1 + n ≡ suc n = omega arith in
+        ap (λ j. get_or (k ∷ dedup_from same x xs) j d) one_and ∙ h
+
+    pub group_at_from : (k : X) (xs : List X) (i : ℕ) (d : X) → i < suc (length xs) → get_or (dedup_from same k xs) (marks_before (last_marks_from same k xs) i) d ≡ get_or (k ∷ xs) i d
+    group_at_from k xs zero d h = ap (λ n. get_or (dedup_from same k xs) n d) (none_before (last_marks_from same k xs)) ∙ head_of k xs d
+    group_at_from k [] (suc i) d h = absurd (omega arith)
+    group_at_from k (x ∷ xs) (suc i) d h =
+        ap (λ n. get_or (dedup_from same k (x ∷ xs)) n d) (marks_cons (not (same x k)) (last_marks_from same x xs) i)
+        ∙ at_step k x xs i d (same x k) refl (group_at_from x xs i d (omega arith))
+
+    pub group_at : (xs : List X) (i : ℕ) (d : X) → i < length xs → get_or (dedup same xs) (marks_before (last_marks same xs) i) d ≡ get_or xs i d
+    group_at [] i d h = absurd (omega arith)
+    group_at (x ∷ xs) i d h = group_at_from x xs i d h
+
+    -- as many marks as groups
+    count_step : (k x : X) (xs : List X) (b : Bool) → same x k ≡ b → (n : ℕ) → n ≡ length (dedup_from same x xs) → cond (not b) 1 0 + n ≡ length (cond b (dedup_from same k xs) (k ∷ dedup_from same x xs))
+    count_step k x xs true e n h = let f = ap (λ y. length (dedup_from same y xs)) (exact x k e) in omega arith
+    count_step k x xs false e n h = omega arith
+
+    pub groups_from : (k : X) (xs : List X) → marks_before (last_marks_from same k xs) (suc (length xs)) ≡ length (dedup_from same k xs)
+    groups_from k [] = marks_cons true [] 0 ∙ ap (λ n. 1 + n) (none_before [])
+    groups_from k (x ∷ xs) = marks_cons (not (same x k)) (last_marks_from same x xs) (suc (length xs)) ∙ count_step k x xs (same x k) refl _ (groups_from x xs)
+
+    pub groups : (xs : List X) → marks_before (last_marks same xs) (length (last_marks same xs)) ≡ length (dedup same xs)
+    groups [] = none_before []
+    groups (x ∷ xs) = ap (marks_before (last_marks_from same x xs)) (length-last_marks_from x xs) ∙ groups_from x xs
+
+-- a loop's step over marks
+pub marks_more : {X : Type 0} (same : X → X → Bool) (xs : List X) (made : List Bool) (i : ℕ) (b : Bool) → i < length xs → b ≡ get_or (last_marks same xs) i false → made ≡ take i (last_marks same xs) → made ++ b ∷ [] ≡ take (i + 1) (last_marks same xs)
+marks_more same xs made i b h is front = (λ j. front j ++ is j ∷ []) ∙ sym (take_more (last_marks same xs) i false (omega (arith, length-last_marks same xs)))
+
+pub marks_all : {X : Type 0} (same : X → X → Bool) (xs : List X) (made : List Bool) (i : ℕ) → length xs ≤ i → made ≡ take i (last_marks same xs) → made ≡ last_marks same xs
+marks_all same xs made i h is = is ∙ take_all i (last_marks same xs) (omega (arith, length-last_marks same xs))
+
+-- what holds of all elements holds of the groups
+module _ {X : Type 0} (same : X → X → Bool) (P : X → Type 0) where
+  abbrev Each : List X → Type 0
+  Each ys = (i : ℕ) (d : X) → i < length ys → P (get_or ys i d)
+
+  all_from : (k : X) (xs : List X) → P k → Each xs → Each (dedup_from same k xs)
+  all_from k [] pk h zero d lt = pk
+  all_from k [] pk h (suc i) d lt = absurd (omega arith)
+  all_from k (x ∷ xs) pk h i d lt = by (all_from k xs pk (λ i d lt. h (suc i) d (omega arith))) (all_from x xs (h 0 x (omega arith)) (λ i d lt. h (suc i) d (omega arith))) (same x k) i d lt
+    where
+      by : Each (dedup_from same k xs) → Each (dedup_from same x xs) → (b : Bool) → Each (cond b (dedup_from same k xs) (k ∷ dedup_from same x xs))
+      by on next true i d lt = on i d lt
+      by on next false zero d lt = pk
+      by on next false (suc i) d lt = next i d (omega arith)
+
+  pub all_groups : (xs : List X) → Each xs → Each (dedup same xs)
+  all_groups [] h i d lt = absurd (omega arith)
+  all_groups (x ∷ xs) h i d lt = all_from x xs (h 0 x (omega arith)) (λ i d lt. h (suc i) d (omega arith)) i d lt
+
+-- each mark's group is there
+module _ {X : Type 0} (same : X → X → Bool) (exact : (x y : X) → same x y ≡ true → x ≡ y) where
+  some_from : (k : X) (xs : List X) → 0 < length (dedup_from same k xs)
+  some_from k [] = omega arith
+  some_from k (x ∷ xs) = by (same x k) (some_from k xs)
+    where
+      by : (b : Bool) → 0 < length (dedup_from same k xs) → 0 < length (cond b (dedup_from same k xs) (k ∷ dedup_from same x xs))
+      by true h = h
+      by false h = omega arith
+
+  within_step : (k x : X) (xs : List X) (b : Bool) → same x k ≡ b → (n : ℕ) → n < length (dedup_from same x xs) → cond (not b) 1 0 + n < length (cond b (dedup_from same k xs) (k ∷ dedup_from same x xs))
+  within_step k x xs true e n h = let f = ap (λ y. length (dedup_from same y xs)) (exact x k e) in omega arith
+  within_step k x xs false e n h = omega arith
+
+  within_from : (k : X) (xs : List X) (i : ℕ) → i < suc (length xs) → marks_before (last_marks_from same k xs) i < length (dedup_from same k xs)
+  within_from k xs zero h = omega (arith, none_before (last_marks_from same k xs), some_from k xs)
+  within_from k [] (suc i) h = absurd (omega arith)
+  within_from k (x ∷ xs) (suc i) h =
+      subst (λ n. n < length (dedup_from same k (x ∷ xs))) (sym (marks_cons (not (same x k)) (last_marks_from same x xs) i))
+      (within_step k x xs (same x k) refl (marks_before (last_marks_from same x xs) i) (within_from x xs i (omega arith)))
+
+  pub group_within : (xs : List X) (i : ℕ) → i < length xs → marks_before (last_marks same xs) i < length (dedup same xs)
+  group_within [] i h = absurd (omega arith)
+  group_within (x ∷ xs) i h = within_from x xs i h
+
+  -- what holds of neighbours that differ holds of neighbouring groups
+  module _ (R : X → X → Type 0) where
+    abbrev Linked : List X → ℕ → X → Type 0
+    Linked xs i d = R (get_or xs i d) (get_or xs (i + 1) d)
+
+    abbrev Apart : X → X → Type 0
+    Apart x y = same y x ≡ false → R x y
+
+    linked_step : (k x : X) (xs : List X) → Apart k x → ((i : ℕ) (d : X) → i + 1 < length (dedup_from same x xs) → Linked (dedup_from same x xs) i d)
+        → (b : Bool) → same x k ≡ b → (i : ℕ) (d : X) → i + 1 < length (cond b (dedup_from same k xs) (k ∷ dedup_from same x xs)) → Linked (cond b (dedup_from same k xs) (k ∷ dedup_from same x xs)) i d
+    linked_step k x xs r h true e i d lt = subst (λ y. (i : ℕ) (d : X) → i + 1 < length (dedup_from same y xs) → Linked (dedup_from same y xs) i d) (exact x k e) h i d lt
+    linked_step k x xs r h false e zero d lt = subst (R k) (sym (head_of same x xs d)) (r e)
+    linked_step k x xs r h false e (suc i) d lt =
+        let next : suc (i + 1) ≡ suc i + 1 = omega arith in
+        subst (λ j. R (get_or (dedup_from same x xs) i d) (get_or (k ∷ dedup_from same x xs) j d)) next (h i d (omega arith))
+
+    linked_from : (k : X) (xs : List X) → ((i : ℕ) (d : X) → i + 1 < length (k ∷ xs) → Apart (get_or (k ∷ xs) i d) (get_or (k ∷ xs) (i + 1) d))
+        → (i : ℕ) (d : X) → i + 1 < length (dedup_from same k xs) → Linked (dedup_from same k xs) i d
+    linked_from k [] h i d lt = absurd (omega arith)
+    linked_from k (x ∷ xs) h i d lt =
+        linked_step k x xs (h 0 x (omega arith))
+        (linked_from x xs (λ i d below. let next : suc i + 1 ≡ suc (i + 1) = omega arith in subst (λ j. Apart (get_or (x ∷ xs) i d) (get_or (k ∷ x ∷ xs) j d)) next (h (suc i) d (omega arith))))
+        (same x k) refl i d lt
+
+    pub linked_groups : (xs : List X) → ((i : ℕ) (d : X) → i + 1 < length xs → Apart (get_or xs i d) (get_or xs (i + 1) d)) → (i : ℕ) (d : X) → i + 1 < length (dedup same xs) → Linked (dedup same xs) i d
+    linked_groups [] h i d lt = absurd (omega arith)
+    linked_groups (x ∷ xs) h i d lt = linked_from x xs h i d lt
+
+-- numbers that go up by at most one: each is the first and the marks before it
+module _ where
+  step_by : (x y : ℕ) (b : Bool) → eqb y x ≡ b → x ≤ y → y ≤ x + 1 → y ≡ x + cond (not b) 1 0
+  step_by x y true e low high = omega (arith, eqb-true y x e)
+  step_by x y false e low high =
+      let apart : y ≢ x = λ is. let f = eq-eqb y x is in cc in
+      omega arith
+
+  counted_from : (x : ℕ) (xs : List ℕ) → ((i d : ℕ) → i + 1 < length (x ∷ xs) → (get_or (x ∷ xs) i d ≤ get_or (x ∷ xs) (i + 1) d) × (get_or (x ∷ xs) (i + 1) d ≤ get_or (x ∷ xs) i d + 1)) → (q d : ℕ) → q < suc (length xs) → get_or (x ∷ xs) q d ≡ x + marks_before (last_marks_from eqb x xs) q
+  counted_from x xs h zero d lt = omega (arith, none_before (last_marks_from eqb x xs))
+  counted_from x [] h (suc q) d lt = absurd (omega arith)
+  counted_from x (y ∷ ys) h (suc q) d lt =
+      let r = h 0 d (omega arith) in
+      let up = step_by x y (eqb y x) refl r.0 r.1 in
+      let rest = counted_from y ys (λ i d below. let next : suc i + 1 ≡ suc (i + 1) = omega arith in subst (λ j. (get_or (y ∷ ys) i d ≤ get_or (x ∷ y ∷ ys) j d) × (get_or (x ∷ y ∷ ys) j d ≤ get_or (y ∷ ys) i d + 1)) next (h (suc i) d (omega arith))) q d (omega arith) in
+      omega (arith, rest, up, marks_cons (not (eqb y x)) (last_marks_from eqb y ys) q)
+
+  pub counted : (xs : List ℕ) → ((d : ℕ) → 0 < length xs → get_or xs 0 d ≡ 1) → ((i d : ℕ) → i + 1 < length xs → (get_or xs i d ≤ get_or xs (i + 1) d) × (get_or xs (i + 1) d ≤ get_or xs i d + 1)) → (q d : ℕ) → q < length xs → get_or xs q d ≡ marks_before (last_marks eqb xs) q + 1
+  counted [] first h q d lt = absurd (omega arith)
+  counted (x ∷ xs) first h q d lt = omega (arith, counted_from x xs h q d lt, first d (omega arith))
+
+-- an element of a `map`, with the default along
+pub get_or-map_any : {X Y : Type 0} (f : X → Y) (xs : List X) (i : ℕ) (d : X) → get_or (map f xs) i (f d) ≡ f (get_or xs i d)
+get_or-map_any f [] i d = refl
+get_or-map_any f (x ∷ xs) zero d = refl
+get_or-map_any f (x ∷ xs) (suc i) d = get_or-map_any f xs i d
+
+-- the last place of a list that isn't empty is marked
+pub last_is_marked : {X : Type 0} (same : X → X → Bool) (xs : List X) → 0 < length xs → slice_get (last_marks same xs) (length (last_marks same xs) - 1) ≡ Some true
+last_is_marked same [] h = absurd (omega arith)
+last_is_marked same (x ∷ xs) h =
+    let e : length (last_marks_from same x xs) - 1 ≡ length xs = omega (arith, length-last_marks_from same x xs) in
+    ap (slice_get (last_marks_from same x xs)) e ∙ last_marked same x xs
+
+pub first_group : {X : Type 0} (same : X → X → Bool) (xs : List X) (d : X) → get_or (dedup same xs) 0 d ≡ get_or xs 0 d
+first_group same [] d = refl
+first_group same (x ∷ xs) d = head_of same x xs d

@@ -1,0 +1,39 @@
+-- Numbers, texts and control blocks that stand at a place: their rows are exact.
+use Rattle.std.proofs.Common.{◌≡◌, ◌≢◌, ℕ, List, [], ◌∷◌, ◌++◌, length, Ok, sym, ap, ◌∙◌}
+use Rattle.std.specs.Prelude.{All}
+use Rattle.hdt_wire.specs.declared.control.Kind.{Kind}
+use Rattle.hdt_wire.specs.Rows.{IsBytes, Stands, bytes_at, text_at}
+use Rattle.hdt_wire.specs.Laws.Row.{bytes_found, bytes_only, text_found, text_only}
+use Rattle.hdt_wire.specs.VByte.{IsNumber, vbyte_at}
+use Rattle.hdt_wire.specs.Laws.VByte.{vbyte_found, vbyte_only, vbyte_bounded}
+use Rattle.hdt_wire.specs.Control.{Block, IsBlock, control_at, block_at}
+use Rattle.hdt_wire.specs.Laws.Control.{control_found, control_only, stands_fits}
+use Rattle.hdt_wire.specs.Exact.{Exactly}
+
+pub number_exact : (bytes : List ℕ) (at : ℕ) → IsBytes bytes → Exactly (vbyte_at bytes at) (λ x. IsNumber x.0 bytes at x.1)
+number_exact bytes at fits = record {
+  found = λ x e. record { spelled = vbyte_found bytes at x fits e; below = (vbyte_bounded bytes at x e).value };
+  only = λ x h. vbyte_only bytes at x.0 x.1 h.below h.spelled;
+}
+
+-- so many bytes
+pub bytes_exact : (count : ℕ) (bytes : List ℕ) (at : ℕ) → Exactly (bytes_at count bytes at) (λ x. Stands bytes at x.0 x.1 × (length x.0 ≡ count))
+bytes_exact count bytes at = record { found = bytes_found count bytes at; only = λ x h. bytes_only count bytes at x.0 x.1 h.0 h.1 }
+
+-- a text, which has no zero byte, and the zero byte that ends it
+pub text_exact : (bytes : List ℕ) (at : ℕ) → Exactly (text_at bytes at) (λ x. Stands bytes at (x.0 ++ 0 ∷ []) x.1 × All (λ b. b ≢ 0) x.0)
+text_exact bytes at = record { found = text_found bytes at; only = λ x h. text_only bytes at x.0 x.1 h.0 h.1 }
+
+block_is : (kind : Kind) (bytes : List ℕ) (at : ℕ) (block : Block) → IsBlock kind block bytes at → block_at kind block.properties at block.end ≡ block
+block_is kind bytes at block h =
+    ap (λ (f : List ℕ). record { format = f; properties = block.properties; properties_at = (block_at kind block.properties at block.end).properties_at; end = block.end }) (sym h.format)
+    ∙ ap (λ (n : ℕ). record { format = block.format; properties = block.properties; properties_at = n; end = block.end }) (sym h.properties_at)
+
+-- a control block of a kind
+pub control_exact : (kind : Kind) (bytes : List ℕ) (at : ℕ) → IsBytes bytes → Exactly (control_at kind bytes at) (λ b. IsBlock kind b bytes at)
+control_exact kind bytes at fits = record {
+  found = λ b e. control_found kind bytes at b fits e;
+  only = λ b h.
+      control_only kind bytes at b.properties b.end (stands_fits kind bytes at b.properties b.end fits h.spelled) h.no_zero h.spelled
+      ∙ ap (λ (c : Block). Ok c) (block_is kind bytes at b h);
+}
