@@ -153,6 +153,18 @@ fn piece_in(pieces: &Arena, n: u64) -> &[u8]
     pieces.get((n - 1) as usize)
 }
 
+/// How many bytes the lines of triples have together, where each of their strings is a term.
+pub fn bytes_of_lines(tables: &Tables, triples: &[(u64, u64, u64)]) -> usize {
+    let mut bytes: usize = 0;
+    for (subject, predicate, object) in triples {
+        bytes = bytes
+            .saturating_add(piece_in(&tables.subjects, *subject).len())
+            .saturating_add(piece_in(&tables.predicates, *predicate).len())
+            .saturating_add(piece_in(&tables.objects, *object).len());
+    }
+    bytes
+}
+
 /// Appends a piece; nothing is that of a string that is no term.
 fn append_piece(role: Role, n: u64, piece: &[u8], out: &mut Vec<u8>) -> Result<(), DumpFault>
     ensures ok { OnOk result ((string : List ℕ) → IsLinePiece role string piece.now → AppendsPiece role string out.old.items out.new.items) }

@@ -16,7 +16,7 @@ use crate::fault::DumpFault;
 use crate::graph::Graph;
 use crate::layout::Layout;
 use crate::spelling::{Speller, append_line};
-use crate::tables::{append_lines, tables_of};
+use crate::tables::{append_lines, bytes_of_lines, tables_of};
 use hdt_dict::{Dictionary, Role};
 use hdt_triples::{Matches, Pattern};
 use hdt_wire::Counted;
@@ -153,7 +153,7 @@ fn tabled_text(
 {
     let tables = tables_of(alloc, layout, triples)?;
     let mut rest = triples;
-    let mut text = Vec::new(alloc);
+    let mut text = Vec::with_capacity(alloc, bytes_of_lines(&tables, triples))?;
     'lines: while !rest.is_empty() {
         let (block, after) = rest.split_at(rest.len().min(BLOCK));
         append_lines(alloc, &tables, block, &mut text)?;
