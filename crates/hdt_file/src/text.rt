@@ -177,6 +177,7 @@ fn found_text(
     let triples = listed(alloc, found, most)?;
     match few_blocks(alloc, layout, &triples)? {
         Some(blocks) => {
+            // (The sum says nothing: that it is used makes the blocks be looked at.)
             let lines = all_looked_at(&blocks).min(triples.len()).min(LINES);
             looked_up_text(alloc, layout, &triples, lines * LINE)
         }
