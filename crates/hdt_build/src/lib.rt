@@ -21,12 +21,13 @@
 //! ```
 //!
 //! In reading order: `options`, `report` and `fault`, what is asked for and what is answered; `interner`, strings
-//! kept once, and where they stand; `queue`, triples that wait until their strings are looked up together; `document`, triples as places of
-//! strings; `reading`, the lines of an input; `keys`, `ties`, `merging` and `placed`, the places in the strings' order; `once`, the strings each once; `used`, which of them triples use in a role;
-//! `parted`, the sections as filters of them, with their numbers; `triples` and `form`, the four
-//! sections and triples as numbers; `header` and `file`, the bytes; `building`, all of it; `laws`. For rewriting: `kept`, which
-//! strings the new sections have; `run`, these one after another; `sections`, written from two runs each, with the new numbers, which `renumbering` keeps;
-//! then `triples`, and `rewriting` in place of `building`; `rewriting_laws`.
+//! kept once, and where they stand; `queue`, triples that wait until their strings are looked up; `document`, triples as
+//! places of strings; `reading`, the lines of an input; `keys`, `ties`, `merging` and `placed`, the places in the strings'
+//! order; `once`, the strings each once; `used`, which of them triples use in a role; `parted`, the sections as filters of
+//! them, with their numbers; `triples` and `form`, the four sections and triples as numbers; `header` and `file`, the bytes;
+//! `building`, all of it; `laws`. For rewriting: `kept`, which strings the new sections have; `run`, these one after
+//! another; `sections`, written from two runs each, with the new numbers, which `renumbering` keeps; then `triples`, and
+//! `rewriting` in place of `building`; `rewriting_laws`.
 #![tactic(auto)]
 
 mod building;

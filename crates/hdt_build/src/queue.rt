@@ -1,5 +1,5 @@
 //! Triples that wait until their strings are looked up.
-ghost use Rattle.std.specs.Prelude.{◌≡◌, ◌<◌, ◌++◌, ◌∷◌, [], length, slice_index_or, IfOk, OnOk, IsTrue, ◌↔◌};
+ghost use Rattle.std.specs.Prelude.{◌≡◌, ◌<◌, ◌++◌, ◌∷◌, [], length, slice_index_or, IfOk, OnOk};
 ghost use Rattle.std.specs.List.{All};
 ghost use Rattle.hdt_build.specs.Inside.Documents.{waiting_in, IsQueue};
 ghost use Rattle.hdt_build.specs.Inside.Texts.{GoesOn};
