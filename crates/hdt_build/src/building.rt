@@ -63,7 +63,8 @@ fn read_and_build<R: Read>(
 ///
 /// Time is that of reading the lines once and of sorting the strings and the triples, whatever the strings are. Memory is
 /// that of each distinct string, whatever its roles, of those that are listed again since the cache had lost them, some 50 bytes
-/// for each, 24 bytes a line for its triple, the sections and the file. No string is copied but into its sections.
+/// for each, 24 bytes a line for its triple, the sections and the file. No string is copied but into its sections, and, while it
+/// waits to be looked up, into 64 KiB for up to 256 lines, with the last of them whole.
 ///
 /// ```text
 /// let (bytes, report) = build_bytes(alloc, &mut input, &options)?;

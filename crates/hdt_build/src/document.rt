@@ -9,10 +9,6 @@ use crate::triples::replace;
 use hdt_dict::Arena;
 use std::alloc::{AllocError, Global};
 
-/// How many triples wait at most. So many strings are looked up together that their waits for memory overlap, and so few that they
-/// lie near.
-const MOST: usize = 256;
-
 /// The triples of a document, as places in one list of strings, whatever their roles. Those that came last wait until their
 /// strings are looked up together.
 #[derive(Drop)]
@@ -45,13 +41,13 @@ impl Document {
         self.queue.add(s, p, o)
     }
 
-    /// Looks up the strings of the triples that wait, where there are many.
+    /// Looks up the strings of the triples that wait, where no more shall.
     fn make_room(&mut self, alloc: Global) -> Result<(), AllocError>
         requires { IsSound self.old }
         ensures graph { OnOk result (document_graph self.new ≡ document_graph self.old) }
         ensures sound { OnOk result (IsSound self.new) }
     {
-        if self.queue.ids.len() < MOST {
+        if !self.queue.is_full() {
             return Ok(());
         }
         self.look_up(alloc)

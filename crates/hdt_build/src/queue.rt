@@ -7,12 +7,21 @@ ghost use Rattle.hdt_build.specs.Inside.Texts.{GoesOn};
 use hdt_dict::Arena;
 use std::alloc::{AllocError, Global};
 
+/// How many triples wait at most. So many strings are looked up together that their waits for memory overlap, and so few that they
+/// lie near.
+const MOST: usize = 256;
+
+/// How many bytes their strings have at most before the last one.
+const MOST_BYTES: usize = 65_536;
+
 /// Triples as places in a list of their own strings. A string is listed each time that it comes, but for a subject that the triple
 /// before has too.
 #[derive(Drop)]
 pub struct Queue {
     pub strings: Arena,
     pub ids: Vec<(u64, u64, u64)>,
+    /// How many bytes the triples' strings have.
+    bytes: usize,
 }
 
 /// Puts a string at the end of a list, and answers its place.
@@ -47,14 +56,15 @@ fn subject_place(
 }
 
 impl Queue {
-    /// The queue without triples.
+    /// The queue without triples, in room for all that wait, but for the strings of the last one where they are long.
     pub fn new(alloc: Global) -> Result<Queue, AllocError>
         ensures ids { IfOk result (λ made. made.ids.items ≡ []) }
         ensures sound { IfOk result IsQueue }
     {
         Ok(Queue {
-            strings: Arena::new(alloc)?,
-            ids: Vec::new(alloc),
+            strings: Arena::with_room(alloc, MOST.saturating_mul(3), MOST_BYTES)?,
+            ids: Vec::with_capacity(alloc, MOST)?,
+            bytes: 0,
         })
     }
 
@@ -68,6 +78,16 @@ impl Queue {
         let j = listed(&mut self.strings, p)?;
         let k = listed(&mut self.strings, o)?;
         self.ids.push((i as u64, j as u64, k as u64))?;
+        self.bytes = self
+            .bytes
+            .saturating_add(s.len())
+            .saturating_add(p.len())
+            .saturating_add(o.len());
         Ok(())
+    }
+
+    /// Whether no more triples shall wait.
+    pub fn is_full(&self) -> bool {
+        self.ids.len() >= MOST || self.bytes >= MOST_BYTES
     }
 }

@@ -31,12 +31,12 @@ abbrev pub report_for : ℕ → HdtReport
 report_for n = record { reason = n; line = 0; column = 0; counts = no_counts }
 
 -- what is told of a fault
-abbrev pub report_told : BuildFault → HdtReport
-report_told (faults.Line fault) = record { reason = line_reason_number fault.reason; line = fault.line; column = fault.column; counts = no_counts }
-report_told faults.NoTriples = report_for 251
-report_told faults.BadOptions = report_for 252
-report_told faults.OutOfMemory = report_for 255
-report_told (faults.Write n) = report_for 255
+abbrev pub report_of_fault : BuildFault → HdtReport
+report_of_fault (faults.Line fault) = record { reason = line_reason_number fault.reason; line = fault.line; column = fault.column; counts = no_counts }
+report_of_fault faults.NoTriples = report_for 251
+report_of_fault faults.BadOptions = report_for 252
+report_of_fault faults.OutOfMemory = report_for 255
+report_of_fault (faults.Write n) = report_for 255
 
 -- the text is a document, and the bytes are the canonical file of its graph
 pub record BuildsText (text base : List ℕ) (b : ℕ) (bytes : List ℕ) (report : Report) : Type 0 where
@@ -74,7 +74,7 @@ pub record FailsToBuild (text base : List ℕ) (b : ℕ) (out : HdtBytes) (told_
   pub fault : BuildFault
   pub stands : HasBuildFault text base b fault
   pub made : AreNone out
-  pub told : told_is ≡ report_told fault
+  pub told : told_is ≡ report_of_fault fault
 
 abbrev pub TellsBuilt : List ℕ → List ℕ → ℕ → HdtBytes → HdtReport → Type 0
 TellsBuilt text base b out report = BuildsBytes text base b out report ⊎ FailsToBuild text base b out report

@@ -22,8 +22,8 @@ pub record IsAgain (bytes : List ℕ) (b : ℕ) (new : List ℕ) (report : Repor
   pub is : IsRewritten b graph new report
 
 -- the verdict on bytes that can't be rewritten: their fault, or that the block size can't be taken, or want of memory
-abbrev pub IsVerdictOfRewriting : List ℕ → ℕ → HdtVerdict → Type 0
-IsVerdictOfRewriting bytes b v = ((fault : Fault) × (graph_in bytes ≡ Err fault) × (v ≡ verdict_on (Err fault))) ⊎ (((IsBlockSize b → ⊥) × (v ≡ verdict_for 252)) ⊎ (v ≡ verdict_for 255))
+abbrev pub RefusesRewriting : List ℕ → ℕ → HdtVerdict → Type 0
+RefusesRewriting bytes b v = ((fault : Fault) × (graph_in bytes ≡ Err fault) × (v ≡ verdict_on (Err fault))) ⊎ (((IsBlockSize b → ⊥) × (v ≡ verdict_for 252)) ⊎ (v ≡ verdict_for 255))
 
 -- the bytes are the new file
 pub record RewritesBytes (bytes : List ℕ) (b : ℕ) (out : HdtBytes) (v : HdtVerdict) : Type 0 where
@@ -34,4 +34,4 @@ pub record RewritesBytes (bytes : List ℕ) (b : ℕ) (out : HdtBytes) (v : HdtV
   pub told : v ≡ rewritten report
 
 abbrev pub TellsRewritten : List ℕ → ℕ → HdtBytes → HdtVerdict → Type 0
-TellsRewritten bytes b out v = RewritesBytes bytes b out v ⊎ (AreNone out × IsVerdictOfRewriting bytes b v)
+TellsRewritten bytes b out v = RewritesBytes bytes b out v ⊎ (AreNone out × RefusesRewriting bytes b v)

@@ -25,10 +25,10 @@ role_number Predicate = 1
 role_number Object = 2
 
 -- what is told of a fault
-abbrev pub telling_told : DumpFault → HdtTelling
-telling_told (faults.NotATerm role n) = record { reason = 250; role = role_number role; number = n }
-telling_told (faults.Write n) = telling_for 255
-telling_told faults.OutOfMemory = telling_for 255
+abbrev pub telling_of_fault : DumpFault → HdtTelling
+telling_of_fault (faults.NotATerm role n) = record { reason = 250; role = role_number role; number = n }
+telling_of_fault (faults.Write n) = telling_for 255
+telling_of_fault faults.OutOfMemory = telling_for 255
 
 -- the text of the matches
 pub record IsTextOfMatches (g : GraphParts) (given : List (Option Lent)) (text : List ℕ) : Type 0 where
@@ -60,7 +60,7 @@ pub record FailsToPrint (g : GraphParts) (given : List (Option Lent)) (out : Hdt
   pub fault : DumpFault
   pub stands : HasTextFault g given fault
   pub bytes : AreNone out
-  pub told : telling ≡ telling_told fault
+  pub told : telling ≡ telling_of_fault fault
 
 abbrev pub TellsText : GraphParts → List (Option Lent) → HdtBytes → HdtTelling → Type 0
 TellsText g given out telling = PrintsBytes g given out telling ⊎ FailsToPrint g given out telling

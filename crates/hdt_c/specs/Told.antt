@@ -26,7 +26,7 @@ abbrev pub TellsVerdict : HdtVerdict → Result GraphParts Fault → Type 0
 TellsVerdict v read = (v ≡ verdict_for 255) ⊎ (v ≡ verdict_on read)
 
 -- the verdict of a result of a call
-abbrev pub verdict_told : Result (List ℕ) OpenFault → HdtVerdict
-verdict_told (Ok counts) = record { reason = 0; place = 0; counts = counts }
-verdict_told (Err (opens.Fault fault)) = record { reason = reason_number fault.reason; place = fault.place; counts = no_counts }
-verdict_told (Err opens.OutOfMemory) = verdict_for 255
+abbrev pub verdict_of_result : Result (List ℕ) OpenFault → HdtVerdict
+verdict_of_result (Ok counts) = record { reason = 0; place = 0; counts = counts }
+verdict_of_result (Err (opens.Fault fault)) = record { reason = reason_number fault.reason; place = fault.place; counts = no_counts }
+verdict_of_result (Err opens.OutOfMemory) = verdict_for 255

@@ -1,6 +1,6 @@
 //! Building a file of N-Triples.
 ghost use Rattle.std.specs.Prelude.{◌≡◌, IfOk, IfErr};
-ghost use Rattle.hdt_c.specs.Building.{BuildsText, HasBuildFault, TellsBuilt, built, report_for, report_told};
+ghost use Rattle.hdt_c.specs.Building.{BuildsText, HasBuildFault, TellsBuilt, built, report_for, report_of_fault};
 
 use crate::bytes::HdtBytes;
 use crate::report::HdtReport;
@@ -44,7 +44,7 @@ fn built(report: Report) -> HdtReport
 
 /// What is told of a fault.
 fn told(fault: BuildFault) -> HdtReport
-    ensures { result ≡ report_told fault }
+    ensures { result ≡ report_of_fault fault }
 {
     match fault {
         BuildFault::Line(line) => HdtReport {

@@ -1,6 +1,6 @@
 //! Rewriting a file.
 ghost use Rattle.std.specs.Prelude.{◌≡◌, IfOk, IfErr};
-ghost use Rattle.hdt_c.specs.Rewriting.{IsAgain, IsVerdictOfRewriting, TellsRewritten, rewritten};
+ghost use Rattle.hdt_c.specs.Rewriting.{IsAgain, RefusesRewriting, TellsRewritten, rewritten};
 
 use crate::bytes::HdtBytes;
 use crate::verdict::{BAD_OPTIONS, HdtVerdict, OUT_OF_MEMORY, for_reason, told};
@@ -28,7 +28,7 @@ fn rewritten(report: Report) -> HdtVerdict
 /// The canonical file of what the bytes lay out.
 fn file_of(alloc: Global, bytes: &[u8], block_size: u32) -> Result<(Vec<u8>, Report), HdtVerdict>
     ensures ok { IfOk result (λ made. IsAgain bytes.now block_size made.0.items made.1) }
-    ensures err { IfErr result (IsVerdictOfRewriting bytes.now block_size) }
+    ensures err { IfErr result (RefusesRewriting bytes.now block_size) }
 {
     let graph = match open(alloc, bytes) {
         Ok(graph) => graph,

@@ -4,7 +4,7 @@ ghost use Rattle.hdt_file.specs.Views.{graph_seen};
 ghost use Rattle.hdt_c.specs.Answers.{part_if_given};
 ghost use Rattle.hdt_c.specs.Bytes.{AreNone};
 ghost use Rattle.hdt_c.specs.Handle.{IsClosed, OfGraph, SameGraph};
-ghost use Rattle.hdt_c.specs.Texts.{IsTextOfMatches, HasTextFault, TellsText, telling_for, role_number, telling_told};
+ghost use Rattle.hdt_c.specs.Texts.{IsTextOfMatches, HasTextFault, TellsText, telling_for, role_number, telling_of_fault};
 
 use crate::bytes::HdtBytes;
 use crate::finding::{part, pattern_of};
@@ -46,7 +46,7 @@ fn role_number(role: Role) -> u32
 
 /// What is told of a fault.
 fn told(fault: DumpFault) -> HdtTelling
-    ensures { result ≡ telling_told fault }
+    ensures { result ≡ telling_of_fault fault }
 {
     match fault {
         DumpFault::NotATerm(role, number) => HdtTelling {

@@ -1,7 +1,7 @@
 //! Verifying.
 ghost use Rattle.std.specs.Prelude.{◌≡◌, IsOk};
 ghost use Rattle.hdt_file.specs.File.{graph_in};
-ghost use Rattle.hdt_c.specs.Told.{TellsVerdict, verdict_for, verdict_told};
+ghost use Rattle.hdt_c.specs.Told.{TellsVerdict, verdict_for, verdict_of_result};
 
 use hdt_file::{OpenFault, verify};
 use std::alloc::Global;
@@ -27,7 +27,7 @@ pub struct HdtVerdict {
 
 /// The verdict of a result.
 pub(crate) fn told(got: Result<[u64; 5], OpenFault>) -> HdtVerdict
-    ensures exact { result ≡ verdict_told got }
+    ensures exact { result ≡ verdict_of_result got }
     ensures done { result.reason ≡ 0 → IsOk got }
 {
     match got {

@@ -1,8 +1,10 @@
 //! What the command `hdt` does: reads its words, does what they ask for, prints one line of what went wrong, and tells the status
 //! that the program ends with. hdt_tool is that program.
 //!
-//! The layer's promise: each request's output is the stated function of the input, and a fault that is told is the one that stands
-//! in it.
+//! The layer's promise: what `run`, `run_in`, `answer_file` and `answer_requests` print is the stated function of the input, and a
+//! fault that is told is the one that stands in it; `status_of` calls them over files and streams, and its clauses say the status.
+//!
+//! A function that says nothing of its cost takes time and memory in proportion to the words or the fault that it is given.
 //!
 //! In reading order: `request` and `fault`, what is asked for and what can go wrong; `commands`, `entries` and `words`, how the words
 //! of a command line ask for it, by the table of `clap`; `escaping`, `printed_head`, `printed_verdict`, `printed_strings`,

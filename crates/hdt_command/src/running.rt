@@ -225,6 +225,14 @@ fn print_role<R: Read, W: Write>(
 /// Does what the request asks for: reads the input to its end, and writes the command's text to `out`. The file that `build` or
 /// `rewrite` makes is appended to `made`; the other commands leave that as it is. Opens no file: the input is that of
 /// `request.file`.
+///
+/// It keeps the input, and the text before its first byte is written, but for `strings`, which prints in pieces; the time is that of
+/// the call that it stands on: [`verify`](hdt_file::verify), [`graph_text`](hdt_file::graph_text), [`build`](hdt_build::build) and
+/// others.
+///
+/// # Errors
+///
+/// [`ToolFault`] tells them: reading, writing or memory failed, or the fault that stands in the input.
 pub fn run<R: Read, W: Write>(
     alloc: Global,
     request: &Request,
@@ -261,7 +269,7 @@ pub fn run<R: Read, W: Write>(
     run_in(alloc, request, input, 0, out, made)
 }
 
-/// Does the same with room for so many bytes of the input: as many as there are, where that is known.
+/// Does the same with room for so many bytes of the input: as many as there are, where that is known. It costs and answers what [`run`] does.
 pub fn run_in<R: Read, W: Write>(
     alloc: Global,
     request: &Request,
@@ -294,6 +302,11 @@ pub fn run_in<R: Read, W: Write>(
 }
 
 /// Answers the requests of a reader over a file, which is read to its end first, and tells whether one of the answers is a fault.
+/// It keeps the file and its lists, and takes what [`answer_requests`] takes beside opening it.
+///
+/// # Errors
+///
+/// Those of [`answer_requests`], and the fault of the file.
 pub fn answer_file<F: Read, R: Read, W: Write>(
     alloc: Global,
     asking: Asking,

@@ -119,7 +119,7 @@ fn all_words(alloc: Global, args: Args) -> io::Result<Vec<String>>
     Ok(words)
 }
 
-/// The words of the command line, where they could be had.
+/// The words of the command line, where they could be had; an error of theirs is passed on, and want of memory is one.
 pub fn words_of(alloc: Global, given: io::Result<Args>) -> io::Result<Vec<String>>
     ensures ok { IfOk result (λ words. MatchResult given (λ args. words.items ≡ into_iter_items args) (λ _. ⊥)) }
     ensures memory { IfErr result (λ error. IfOk given (λ _. error_kind error ≡ ErrorKind.OutOfMemory)) }
@@ -513,7 +513,8 @@ fn answered(rt: &HostRuntime, asked: Result<Call, UsageFault>) -> u8
     }
 }
 
-/// Does what the words ask for, and tells how it ended.
+/// Does what the words ask for, and tells how it ended: 0 done, 1 a fault of the input, 2 words that are none, 3 reading or writing
+/// failed, 4 out of memory. It costs what [`run`](crate::run) costs.
 pub fn status_of(rt: &HostRuntime, words: io::Result<Vec<String>>) -> u8
     ensures given { IfOk words (λ words. Ends (map string_bytes words.items) result) }
     ensures memory { IfErr words (λ error. error_kind error ≡ ErrorKind.OutOfMemory → result ≡ 4) }

@@ -158,7 +158,7 @@ fn parse_with<'a>(
 /// The words for the roles.
 const ROLES: [&str; 3] = ["subject", "predicate", "object"];
 
-/// Reads a command line, the program's name first.
+/// Reads a command line, the program's name first. [`UsageFault`] tells why words are none, or asks for help.
 #[tactic(auto, using(crate::proofs::Refused::so))]
 pub fn parse_words<'a>(alloc: Global, words: &'a [&'a str]) -> Result<Request, UsageFault>
     // The request is the one that the words want, by what `clap` states of them under the table of commands.
@@ -172,7 +172,7 @@ pub fn parse_words<'a>(alloc: Global, words: &'a [&'a str]) -> Result<Request, U
     Ok(parse_all_words(alloc, words)?.request)
 }
 
-/// Reads a command line, the program's name first, as [`parse_words`] does, with `--progress`.
+/// Reads a command line, the program's name first, as [`parse_words`] does, with `--progress`, and with its errors.
 pub fn parse_all_words<'a>(alloc: Global, words: &'a [&'a str]) -> Result<Call, UsageFault>
     // The words want the request, and `--progress` stands among them exactly where it is told.
     ensures ok { IfOk result (WantsSo (map (λ word. word.now) words.now)) }

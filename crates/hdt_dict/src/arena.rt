@@ -42,12 +42,17 @@ impl Arena {
     pub fn new(alloc: Global) -> Result<Arena, AllocError>
         ensures { IfOk result (λ made. made ≡ []) }
     {
-        let mut starts = Vec::new(alloc);
+        Arena::with_room(alloc, 0, 0)
+    }
+
+    /// An arena without strings, with room for so many strings of so many bytes together, which are allocated at once.
+    pub fn with_room(alloc: Global, strings: usize, bytes: usize) -> Result<Arena, AllocError>
+        ensures { IfOk result (λ made. made ≡ []) }
+    {
+        let mut starts = Vec::with_capacity(alloc, strings.saturating_add(1))?;
         starts.push(0)?;
-        Ok(Arena {
-            bytes: Vec::new(alloc),
-            starts,
-        })
+        let bytes = Vec::with_capacity(alloc, bytes)?;
+        Ok(Arena { bytes, starts })
     }
 
     /// An arena of bytes that were put one after another, with the place where each string begins and the last one ends.

@@ -211,7 +211,7 @@ impl<'a> Dictionary<'a> {
     }
 
     /// The packed bytes of the block of string n of a role, numbers from 1, lent from the input: looking the string up reads
-    /// no others of it. Where there is no such string there are none. It takes two looks, and no memory.
+    /// no others of it. Where there is no such string there are none. It takes three looks, and no memory.
     #[tactic(auto, unfolding(crate::specs::Views::role_string_bytes))]
     pub fn block(&self, role: Role, n: u64) -> &'a [u8]
         ensures { result.now ≡ role_string_bytes self.now role n }

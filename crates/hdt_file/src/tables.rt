@@ -153,14 +153,20 @@ fn piece_in(pieces: &Arena, n: u64) -> &[u8]
     pieces.get((n - 1) as usize)
 }
 
-/// How many bytes the lines of triples have together, where each of their strings is a term.
+/// How many bytes the lines of triples have together, up to one with a string that is no term.
 pub fn bytes_of_lines(tables: &Tables, triples: &[(u64, u64, u64)]) -> usize {
     let mut bytes: usize = 0;
     for (subject, predicate, object) in triples {
+        let subject = piece_in(&tables.subjects, *subject).len();
+        let predicate = piece_in(&tables.predicates, *predicate).len();
+        let object = piece_in(&tables.objects, *object).len();
+        if subject == 0 || predicate == 0 || object == 0 {
+            return bytes;
+        }
         bytes = bytes
-            .saturating_add(piece_in(&tables.subjects, *subject).len())
-            .saturating_add(piece_in(&tables.predicates, *predicate).len())
-            .saturating_add(piece_in(&tables.objects, *object).len());
+            .saturating_add(subject)
+            .saturating_add(predicate)
+            .saturating_add(object);
     }
     bytes
 }

@@ -96,10 +96,15 @@ fn few_blocks<'a>(
 /// How far apart bytes are looked at.
 const APART: usize = 64;
 
+/// How many bytes of a block are looked at. A string that lies behind them is reached by a walk that fetches what comes next by
+/// itself; one that lies before them would wait for more than it needs.
+const FRONT: usize = 4_096;
+
 /// The sum of the bytes of a block that are looked at.
 fn looked_at(block: &[u8]) -> usize {
     let mut sum: usize = 0;
-    for piece in block.chunks(APART) {
+    let front = block.split_at(block.len().min(FRONT)).0;
+    for piece in front.chunks(APART) {
         sum = sum.wrapping_add(usize::from(piece[0]));
     }
     sum

@@ -18,8 +18,8 @@
 //! A [`Section`] borrows the input, keeps nothing unfolded and is `Copy`: it is searched in the folded bytes as they
 //! lie. [`Walk`] gives its strings in order, each unfolded once. Contracts see a section by `strings_of`, the list of its
 //! strings, and by `section_of`, all that it says (specs/`Strings`); what a section is stands in specs/`Section`, and its
-//! canonical bytes in specs/`Canonical`. Laws that crates above cite stand in specs/: `SectionLaws`, `PlaceLaws`,
-//! `CanonicalLaws`, `WalkLaws`, `StringsLaws`.
+//! canonical bytes in specs/`Canonical`. Laws that crates above cite stand in specs/Laws: `Section`, `Place`, `Canonical`,
+//! `Walk`, `Strings`.
 #![tactic(auto)]
 
 mod common;

@@ -19,7 +19,7 @@
 //! Both sequences borrow the input and are `Copy`; a directory owns its counts, and nothing else. Contracts see sequences
 //! as lists, by `numbers_of` and `bits_of` of specs/, and where they lie by `numbers_places` and `bits_places`; that a
 //! directory is one of a list of bits is `IsDirectoryOf`. Laws on these lists, and on counts and places of marks, stand
-//! in specs/: `NumbersLaws`, `BitsLaws`, `MarksLaws`.
+//! in specs/Laws: `Numbers`, `Bits`, `Marks`.
 #![tactic(auto)]
 
 mod bits;
