@@ -116,6 +116,9 @@ fn times(alloc: Global, text: &[u8], count: u32) -> Result<Vec<u8>, AllocError> 
     Ok(all)
 }
 
+/// How many requests follow each other here, where each growth is refused in turn; a hundred times as many stand in tests/run.
+const MANY: u32 = 1_000;
+
 /// Whether so many equal requests have this answer each.
 fn are_all_answered(
     alloc: Global,
@@ -123,8 +126,8 @@ fn are_all_answered(
     request: &[u8],
     answer: &[u8],
 ) -> Result<bool, AllocError> {
-    let requests = times(alloc, request, 100_000)?;
-    let answers = times(alloc, answer, 100_000)?;
+    let requests = times(alloc, request, MANY)?;
+    let answers = times(alloc, answer, MANY)?;
     // (a writer that grew would seem to fail where memory is refused)
     let mut out = Counted::new(Vec::with_capacity(alloc, answers.len())?);
     let seen = answered(alloc, asking, source_of(&requests, ALL), &mut out)?;
