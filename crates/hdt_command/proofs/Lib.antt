@@ -8,5 +8,4 @@ mod Making
 mod Rewriting
 mod Triples
 pub mod Statuses
-mod Grown
 pub mod Dialogues

@@ -10,7 +10,7 @@ use Rattle.hdt_command.specs.declared.fault.UsageFault.{UsageFault}
 use Rattle.hdt_command.specs.declared.fault.UsageFault.TheVariants.{Usage, Help, Word, OutOfMemory}
 use Rattle.hdt_command.specs.declared.request.Call.{Call}
 use Rattle.hdt_command.specs.declared.request.Request.{Request}
-use Rattle.hdt_command.specs.Table.{Names, AreRoles, table}
+use Rattle.hdt_usage.specs.Table.{Names, AreRoles, table}
 use Rattle.hdt_command.specs.Words.{Asks, AsksFor, Misspells, MisspellsIn, StatesFlag, Wants, WantsSo, IsRefused, IsRefusedBy, TellsKind, ComesWithout, ComesWithoutOr, refusals}
 
 -- what `clap` says of the commands that were built, said of the table

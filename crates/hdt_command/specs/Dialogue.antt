@@ -19,7 +19,7 @@ use Rattle.hdt_file.specs.File.{GraphParts}
 use Rattle.hdt_file.specs.Text.{IsFirstIn}
 use Rattle.hdt_file.specs.TextWriting.{limited}
 use Rattle.hdt_command.specs.Answer.{FailsAfter, Opens, ReadsWith}
-use Rattle.hdt_command.specs.Table.{role_name}
+use Rattle.hdt_usage.specs.Table.{role_name}
 use Rattle.hdt_command.specs.TriplesText.{FindsStrings, PrintsTriples}
 use Rattle.hdt_command.specs.declared.fault.ToolFault.{ToolFault}
 use Rattle.hdt_command.specs.declared.fault.ToolFault.TheVariants.{Input, Read, Write, OutOfMemory}

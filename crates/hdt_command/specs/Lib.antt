@@ -8,7 +8,6 @@ pub mod Answer
 pub mod Dialogue
 pub mod Faults
 pub mod Lines
-pub mod Table
 pub mod Words
 pub mod Status
 pub mod Whole

@@ -10,7 +10,7 @@ use Rattle.hdt_command.specs.declared.fault.ToolFault.{ToolFault}
 use Rattle.hdt_command.specs.declared.fault.ToolFault.TheVariants as tool
 use Rattle.hdt_command.specs.declared.fault.UsageFault.{UsageFault}
 use Rattle.hdt_command.specs.declared.fault.UsageFault.TheVariants as usage
-use Rattle.hdt_command.specs.Table.{role_name}
+use Rattle.hdt_usage.specs.Table.{role_name}
 
 abbrev pub fault_status : ToolFault → ℕ
 fault_status (tool.File fault) = 1

@@ -23,7 +23,7 @@ use Rattle.hdt_command.specs.declared.request.Form.{Form}
 use Rattle.hdt_command.specs.declared.request.Form.TheVariants.{Lines, Numbers, Count}
 use Rattle.hdt_command.specs.declared.request.Request.{Request}
 use Rattle.hdt_command.specs.Lines.{word_name}
-use Rattle.hdt_command.specs.Table.{Names, AreRoles, role_name, table}
+use Rattle.hdt_usage.specs.Table.{Names, AreRoles, role_name, table}
 use Rattle.hdt_command.specs.TriplesText.{Given, form_of}
 
 -- ---- entries

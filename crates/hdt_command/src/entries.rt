@@ -5,7 +5,7 @@ ghost use Rattle.hdt_build.specs.declared.options.Options.{Options};
 ghost use Rattle.hdt_wire.specs.declared.role.Role.{Role};
 ghost use Rattle.hdt_command.specs.Words.{AsksAction, ComesWithout, ComesWithoutOr, IsFaultOfWord, IsMisspelt, IsMisspeltPart, IsStringOf, IsFinding, Misspells, StatesFlag, StatesForm, StatesMost, StatesNumber, StatesOptions, StatesString, StatesWord, TellsTerm};
 ghost use Rattle.hdt_command.specs.Lines.{word_name};
-ghost use Rattle.hdt_command.specs.Table.{role_name};
+ghost use Rattle.hdt_usage.specs.Table.{role_name};
 
 use crate::fault::{UsageFault, Word};
 use crate::request::{Action, Asking, Form};

@@ -6,15 +6,14 @@
 //!
 //! A function that says nothing of its cost takes time and memory in proportion to the words or the fault that it is given.
 //!
-//! In reading order: `request` and `fault`, what is asked for and what can go wrong; `commands`, `entries` and `words`, how the words
-//! of a command line ask for it, by the table of `clap`; `escaping`, `printed_head`, `printed_verdict`, `printed_strings`,
+//! In reading order: `request` and `fault`, what is asked for and what can go wrong; `entries` and `words`, how the words of a
+//! command line ask for it, by hdt_usage's table for `clap`; `escaping`, `printed_head`, `printed_verdict`, `printed_strings`,
 //! `printed_triples` and `printed_built`, the texts; `whole` and `answer`, which text a command has; `dialogue`, requests that are
 //! answered one by one; `running`, all commands from a reader to a writer; `lines`, what is told of a fault; `progress`, `replacing` and
 //! `status`, the same with the files, the streams and the status of the program.
 #![tactic(auto)]
 
 mod answer;
-mod commands;
 mod dialogue;
 mod entries;
 mod escaping;

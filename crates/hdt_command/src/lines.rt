@@ -2,7 +2,7 @@
 ghost use Rattle.std.specs.Prelude.{◌≡◌, ◌++◌, IfOk, string_bytes};
 ghost use Rattle.std.specs.Fmt.{decimal};
 ghost use Rattle.hdt_command.specs.Lines.{fault_status, fault_line, usage_status, usage_line, word_line};
-ghost use Rattle.hdt_command.specs.Table.{role_name};
+ghost use Rattle.hdt_usage.specs.Table.{role_name};
 
 use crate::fault::{ToolFault, UsageFault, Word};
 use hdt_dict::Role;

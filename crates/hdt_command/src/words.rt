@@ -3,11 +3,10 @@ ghost use Rattle.std.specs.Prelude.{◌≡◌, IfOk, IfErr, codes, map};
 ghost use Rattle.clap.specs.Words.{found_of, one_of, rows_of, kind_of};
 ghost use Rattle.hdt_command.specs.Answer.{HasOut};
 ghost use Rattle.hdt_command.specs.Words.{AsksAction, AsksFor, AsksOfFile, AsksOfFiles, AsksToMake, ComesWithout, ComesWithoutOr, IsRefused, Misspells, StatesFlag, TellsKind, Wants, WantsSo};
-ghost use Rattle.hdt_command.specs.Table.{AreRoles};
+ghost use Rattle.hdt_usage.specs.Table.{AreRoles};
 ghost use Rattle.hdt_command.specs.declared.request.Action.{Action};
 ghost use Rattle.hdt_command.specs.declared.request.Request.{Request};
 
-use crate::commands::table_of;
 use crate::entries::{
     answer_at, block_size_at, find_at, missing, number_at, options_at, progress_at, role_at,
     string_at, text_at, verify_at,
@@ -16,6 +15,7 @@ use crate::fault::UsageFault;
 use crate::request::{Action, Call, Request};
 use clap::error::ErrorKind;
 use clap::{ArgMatches, Error};
+use hdt_usage::table_of;
 use std::alloc::{AllocError, Global};
 
 /// The text of an error, without the line feed at its end.

@@ -2,7 +2,7 @@ use Rattle.std.proofs.Common.{◌≡◌, ◌∙◌, sym, ap, rules, None, Some, 
 use Rattle.std.proofs.lemmas.Result.{IfOk-weaker, IfErr-weaker}
 use Rattle.clap.specs.Words.{first_of, first_value, found_of, rows_of}
 use Rattle.clap.proofs.WalkLemmas.{first_value-rows}
-use Rattle.hdt_command.specs.Table.{role_name}
+use Rattle.hdt_usage.specs.Table.{role_name}
 use Rattle.hdt_command.proofs.Refused.{lacks}
 use Rattle.hdt_command.proofs.Stated.{without, one_text_of, none_of}
 use Rattle.hdt_command.proofs.entries.role_at.Goals as goal

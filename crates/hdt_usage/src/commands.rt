@@ -2,7 +2,7 @@
 ghost use Rattle.std.specs.Prelude.{◌≡◌, IfOk, false};
 ghost use Rattle.clap.specs.Words.{app_of, rule_of, with_rule, with_subcommand};
 ghost use Rattle.clap.specs.declared.builder.command.Command.TheViews.{out-Command as fields_of};
-ghost use Rattle.hdt_command.specs.Table.{word_named, flag_named, option_named, role_word, base_option, block_size_option, build_command, rewrite_command, making_command, progress_flag, number_word, file_command, head_command, verify_command, strings_command, string_command, number_command, answer_command, find_command, find_words, most_option, dump_command, empty_table, first_commands, look_up_commands, text_commands, table};
+ghost use Rattle.hdt_usage.specs.Table.{word_named, flag_named, option_named, role_word, base_option, block_size_option, build_command, rewrite_command, making_command, progress_flag, number_word, file_command, head_command, verify_command, strings_command, string_command, number_command, answer_command, find_command, find_words, most_option, dump_command, empty_table, first_commands, look_up_commands, text_commands, table};
 
 use clap::{Arg, ArgAction, Command, value_parser};
 use std::alloc::{AllocError, Global};
@@ -488,7 +488,12 @@ fn text_commands<'a>(alloc: Global, roles: &'a [&'a str]) -> Result<Command<'a>,
     with_command(program, dump_of(alloc)?)
 }
 
-/// All the commands; the words for the roles are lent.
+/// All the commands, each with its words, options and help, as one table; the words for the roles are lent. It takes memory for the
+/// table, in some hundred pieces.
+///
+/// # Errors
+///
+/// `AllocError` only where memory was refused.
 pub fn table_of<'a>(alloc: Global, roles: &'a [&'a str]) -> Result<Command<'a>, AllocError>
     ensures { IfOk result (λ c. app_of c ≡ table roles.entry) }
 {

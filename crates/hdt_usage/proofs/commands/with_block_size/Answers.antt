@@ -1,8 +1,8 @@
 use Rattle.std.proofs.Common.{◌≡◌, ◌∙◌, ap, false, rules}
 use Rattle.std.proofs.lemmas.Result.{IfOk-weaker}
 use Rattle.clap.specs.Words.{app_of, rule_of, with_rule}
-use Rattle.hdt_command.specs.Table.{block_size_option}
-use Rattle.hdt_command.proofs.commands.with_block_size.Goals as goal
+use Rattle.hdt_usage.specs.Table.{block_size_option}
+use Rattle.hdt_usage.proofs.commands.with_block_size.Goals as goal
 
 pub returns-clause-shape : goal.returns-clause-shape
 returns-clause-shape c =

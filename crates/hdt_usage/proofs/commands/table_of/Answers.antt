@@ -1,7 +1,7 @@
 use Rattle.std.proofs.Common.{◌∙◌}
 use Rattle.std.proofs.lemmas.Result.{IfOk-weaker}
-use Rattle.hdt_command.proofs.Grown.{grown}
-use Rattle.hdt_command.proofs.commands.table_of.Goals as goal
+use Rattle.hdt_usage.proofs.Grown.{grown}
+use Rattle.hdt_usage.proofs.commands.table_of.Goals as goal
 
 pub returns : goal.returns
 returns c =
