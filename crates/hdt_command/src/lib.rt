@@ -1,5 +1,5 @@
 //! What the command `hdt` does: reads its words, does what they ask for, prints one line of what went wrong, and tells the status
-//! that the program ends with. hdt_tool is that program.
+//! that the program ends with. hdt_tool is that program, one call of `process_status`.
 //!
 //! The layer's promise: what `run`, `run_in`, `answer_file` and `answer_requests` print is the stated function of the input, and a
 //! fault that is told is the one that stands in it; `status_of` calls them over files and streams, and its clauses say the status.
@@ -10,7 +10,7 @@
 //! command line ask for it, by hdt_usage's table for `clap`; `escaping`, `printed_head`, `printed_verdict`, `printed_strings`,
 //! `printed_triples` and `printed_built`, the texts; `whole` and `answer`, which text a command has; `dialogue`, requests that are
 //! answered one by one; `running`, all commands from a reader to a writer; `lines`, what is told of a fault; `progress`, `replacing` and
-//! `status`, the same with the files, the streams and the status of the program.
+//! `status`, the same with the files, the streams and the status of the program; `process`, all of it.
 #![tactic(auto)]
 
 mod answer;
@@ -24,6 +24,7 @@ mod printed_head;
 mod printed_strings;
 mod printed_triples;
 mod printed_verdict;
+mod process;
 mod progress;
 mod replacing;
 mod request;
@@ -35,7 +36,8 @@ mod words;
 pub use dialogue::answer_requests;
 pub use fault::{ToolFault, UsageFault, Word};
 pub use lines::{fault_line, usage_line};
+pub use process::process_status;
 pub use request::{Action, Asking, Call, Form, Request};
 pub use running::{answer_file, run, run_in};
-pub use status::{done, open_fault, status_of, words_of};
+pub use status::status_of;
 pub use words::{parse_all_words, parse_words};
