@@ -39,8 +39,6 @@ mod header;
 mod interner;
 mod kept;
 mod keys;
-#[cfg(test)]
-mod large_tests;
 mod laws;
 mod merging;
 mod once;
@@ -49,18 +47,12 @@ mod parted;
 mod placed;
 mod queue;
 mod reading;
-#[cfg(test)]
-mod renewing_tests;
 mod renumbering;
 mod report;
 mod rewriting;
 mod rewriting_laws;
-#[cfg(test)]
-mod rewriting_tests;
 mod run;
 mod sections;
-#[cfg(test)]
-mod tests;
 mod ties;
 mod triples;
 mod used;

@@ -1,8 +1,6 @@
 //! Worked rows of built files, readers and writers in pieces and those that fail. What the program builds of larger documents, and
 //! of each kind of term, stands in tests/run.
-use super::*;
-use crate::interner::Interner;
-use hdt_dict::Arena;
+use hdt_build::{BuildFault, Options, Report, build, build_bytes};
 use hdt_terms::{LineFault, LineReason};
 use hdt_wire::Counted;
 use std::alloc::{AllocError, Global};
@@ -351,42 +349,5 @@ fn writers_in_pieces(rt: HostRuntime) -> Result<(), Fail> {
             "by {step}"
         );
     }
-    Ok(())
-}
-
-/// Makes string n of which all have one hash: the last bytes of each undo what came before.
-fn put_colliding(n: u64, out: &mut Vec<u8>) -> Result<(), AllocError> {
-    out.clear();
-    out.extend_from_slice(&n.to_be_bytes())?;
-    out.extend_from_slice(&0x9e37_79b9_7f4a_7c15_u64.to_le_bytes())
-}
-
-/// That many of these strings.
-fn colliding(alloc: Global, count: u64) -> Result<Arena, AllocError> {
-    let mut made = Arena::new(alloc)?;
-    let mut text = Vec::new(alloc);
-    for n in 0..count {
-        put_colliding(n, &mut text)?;
-        made.push(&text)?;
-    }
-    Ok(made)
-}
-
-/// Whether the first of them is put once more after the others, and stands at its place.
-fn is_put_again(alloc: Global, count: u64) -> Result<bool, AllocError> {
-    let mut strings = Interner::new(alloc)?;
-    strings.places_of(alloc, &colliding(alloc, count)?)?;
-    let places = strings.places_of(alloc, &colliding(alloc, 1)?)?;
-    let at = places.first().copied().unwrap_or(0) as usize;
-    let list = strings.into_list();
-    let mut text = Vec::new(alloc);
-    put_colliding(0, &mut text)?;
-    Ok(at < list.len() && list.get(at) == text.as_slice())
-}
-
-#[test]
-fn strings_of_one_hash(rt: HostRuntime) -> Result<(), Fail> {
-    // The cache has lost nearly all of them.
-    assert!(rt; is_put_again(rt.alloc(), 200_000)?, "not put again");
     Ok(())
 }

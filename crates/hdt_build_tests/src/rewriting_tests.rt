@@ -1,7 +1,7 @@
 //! Worked rows of files that are rewritten, block sizes that are not written, writers in pieces and those that fail. What the program
 //! rewrites, also of large files with strings that no triple uses, stands in tests/run.
-use super::*;
 use crate::tests::{ALL, OF_V1, PIECES, THREE, V1, options, sink_of};
+use hdt_build::{RewriteFault, rewrite, rewrite_bytes};
 use hdt_file::open;
 use std::alloc::{AllocError, Global};
 use std::test::Fail;

@@ -1,8 +1,8 @@
 //! Files whose dictionaries have more than their triples use: strings that no triple uses, and shared ones that are used in one
 //! role alone. What is rewritten of them is what is built of their text.
-use super::*;
 use crate::large_tests::put_iri;
 use crate::tests::options;
+use hdt_build::{Report, build_bytes, rewrite_bytes};
 use hdt_file::{Graph, graph_text, open};
 use hdt_triples::Pattern;
 use hdt_wire::Counted;

@@ -1,13 +1,12 @@
 //! Large documents, files and options, with ample memory: what is built of them is built into a writer too, opened, rewritten, and
 //! its strings found at both ends.
-use super::*;
-use crate::interner::Interner;
 use crate::tests::options;
-use hdt_dict::Arena;
+use hdt_build::{BuildFault, Options, Report, build, build_bytes, rewrite, rewrite_bytes};
 use hdt_file::{Graph, open, verify_tight};
 use hdt_seq::Steps;
 use hdt_wire::{Counted, Role};
 use std::alloc::{AllocError, Global};
+use std::hash::{FoldHasher, Hasher};
 use std::io;
 use std::io::Write;
 use std::test::Fail;
@@ -104,15 +103,29 @@ fn is_found(
 
 // ---- many triples, each of strings of its own
 
-/// How many triples there are, with as many subjects, predicates and objects.
-const COUNT: u32 = 131_072;
+/// So many triples, with as many subjects, predicates and objects, whose strings begin alike.
+struct Many {
+    front: &'static [u8],
+    count: u32,
+}
+
+static PLAIN: Many = Many {
+    front: b"u:",
+    count: 131_072,
+};
+
+/// Strings of one hash: of their 32 bytes the third eight undo what came before, whatever follows.
+static COLLIDING: Many = Many {
+    front: b"u:one-hash166742jByz7XnI/",
+    count: 66_667,
+};
 
 /// The places of six digits.
 static TENS: [u32; 6] = [100_000, 10_000, 1000, 100, 10, 1];
 
 /// Appends the string of a letter and a number in six digits.
-fn put_string(letter: u8, number: u32, out: &mut Vec<u8>) -> Result<(), AllocError> {
-    out.extend_from_slice(b"u:")?;
+fn put_string(front: &[u8], letter: u8, number: u32, out: &mut Vec<u8>) -> Result<(), AllocError> {
+    out.extend_from_slice(front)?;
     out.push(letter)?;
     for ten in &TENS {
         out.push(b'0'.wrapping_add((number / (*ten).max(1) % 10) as u8))?;
@@ -121,25 +134,40 @@ fn put_string(letter: u8, number: u32, out: &mut Vec<u8>) -> Result<(), AllocErr
 }
 
 /// Appends the IRI with this string, and what follows it in its line.
-pub(crate) fn put_iri(
+fn put_iri_of(
+    front: &[u8],
     letter: u8,
     number: u32,
     behind: &[u8],
     out: &mut Vec<u8>,
 ) -> Result<(), AllocError> {
     out.push(b'<')?;
-    put_string(letter, number, out)?;
+    put_string(front, letter, number, out)?;
     out.extend_from_slice(behind)
 }
 
-/// The lines of triples, the last first; each has a subject, a predicate and an object of its own.
-fn many_lines(alloc: Global) -> Result<Vec<u8>, AllocError> {
+/// Appends that of a short string.
+pub(crate) fn put_iri(
+    letter: u8,
+    number: u32,
+    behind: &[u8],
+    out: &mut Vec<u8>,
+) -> Result<(), AllocError> {
+    put_iri_of(PLAIN.front, letter, number, behind, out)
+}
+
+/// Appends the line of the triple with a number.
+fn put_line(many: &Many, number: u32, out: &mut Vec<u8>) -> Result<(), AllocError> {
+    put_iri_of(many.front, b's', number, b"> ", out)?;
+    put_iri_of(many.front, b'p', number, b"> ", out)?;
+    put_iri_of(many.front, b'o', number, b"> .\n", out)
+}
+
+/// The lines of the triples, the last first.
+fn many_lines(alloc: Global, many: &Many) -> Result<Vec<u8>, AllocError> {
     let mut out = Vec::new(alloc);
-    for at in 0..COUNT {
-        let number = COUNT.saturating_sub(at + 1);
-        put_iri(b's', number, b"> ", &mut out)?;
-        put_iri(b'p', number, b"> ", &mut out)?;
-        put_iri(b'o', number, b"> .\n", &mut out)?;
+    for at in 0..many.count {
+        put_line(many, many.count.saturating_sub(at + 1), &mut out)?;
     }
     Ok(out)
 }
@@ -149,66 +177,105 @@ fn has_number(
     alloc: Global,
     graph: &Graph<'_>,
     role: Role,
+    front: &[u8],
     letter: u8,
     number: u32,
 ) -> Result<bool, AllocError> {
     let mut string = Vec::new(alloc);
-    put_string(letter, number, &mut string)?;
+    put_string(front, letter, number, &mut string)?;
     is_found(alloc, graph, role, &string, u64::from(number) + 1)
 }
 
 /// Whether the strings of a number have the next number in their roles.
-fn have_numbers(alloc: Global, graph: &Graph<'_>, number: u32) -> Result<bool, AllocError> {
+fn have_numbers(
+    alloc: Global,
+    graph: &Graph<'_>,
+    front: &[u8],
+    number: u32,
+) -> Result<bool, AllocError> {
     Ok(
-        has_number(alloc, graph, Role::Subject, b's', number)?
-            && has_number(alloc, graph, Role::Predicate, b'p', number)?
-            && has_number(alloc, graph, Role::Object, b'o', number)?,
+        has_number(alloc, graph, Role::Subject, front, b's', number)?
+            && has_number(alloc, graph, Role::Predicate, front, b'p', number)?
+            && has_number(alloc, graph, Role::Object, front, b'o', number)?,
     )
 }
 
 /// Whether what is built of many lines is this file's graph, rewritten as the same file.
 fn is_file_of_many(
     alloc: Global,
+    many: &Many,
     options: &Options,
     file: &[u8],
     report: Report,
 ) -> Result<bool, Fail> {
     let graph = open(alloc, file)?;
     let mut good = is_rewritten(alloc, &graph, options, file, report)?;
-    for number in &[0, 1, COUNT / 2, COUNT - 2, COUNT - 1] {
-        good = good && have_numbers(alloc, &graph, *number)?;
+    let last = many.count.saturating_sub(1);
+    for number in &[0, 1, many.count / 2, last.saturating_sub(1), last] {
+        good = good && have_numbers(alloc, &graph, many.front, *number)?;
     }
     Ok(good)
 }
 
 /// The report on many triples, but for the length.
-fn report_of_many(bytes: u64) -> Report {
+fn report_of_many(many: &Many, bytes: u64) -> Report {
+    let count = u64::from(many.count);
     Report {
-        triples: u64::from(COUNT),
+        triples: count,
         shared: 0,
-        subjects: u64::from(COUNT),
-        predicates: u64::from(COUNT),
-        objects: u64::from(COUNT),
+        subjects: count,
+        predicates: count,
+        objects: count,
         bytes,
     }
 }
 
-/// Whether many lines are built, into a writer too, as the file of their graph.
-fn are_many_built(alloc: Global) -> Result<bool, Fail> {
-    let lines = many_lines(alloc)?;
+/// Whether their lines are built, into a writer too, as the file of their graph.
+fn are_many_built(alloc: Global, many: &Many, lines: &[u8]) -> Result<bool, Fail> {
     let options = options(alloc, 16, b"http://a/")?;
-    let (file, report) = build_bytes(alloc, &mut Counted::new(lines.as_slice()), &options)?;
+    let (file, report) = build_bytes(alloc, &mut Counted::new(lines), &options)?;
     Ok(
-        report == report_of_many(file.len() as u64)
+        report == report_of_many(many, file.len() as u64)
             && is_verified(alloc, &file, report)?
-            && is_written(alloc, &lines, &options, &file, report)?
-            && is_file_of_many(alloc, &options, &file, report)?,
+            && is_written(alloc, lines, &options, &file, report)?
+            && is_file_of_many(alloc, many, &options, &file, report)?,
     )
 }
 
 #[test]
 fn many_triples(rt: HostRuntime) -> Result<(), Fail> {
-    assert!(rt; are_many_built(rt.alloc())?);
+    let lines = many_lines(rt.alloc(), &PLAIN)?;
+    assert!(rt; are_many_built(rt.alloc(), &PLAIN, &lines)?);
+    Ok(())
+}
+
+/// The hash of a text, as a builder takes it.
+fn hash(text: &[u8]) -> u64 {
+    let mut hasher = FoldHasher::default();
+    hasher.write(text);
+    hasher.finish()
+}
+
+/// Whether the string of a letter and a number has the hash that all of them shall have.
+fn collides(alloc: Global, letter: u8, number: u32) -> Result<bool, AllocError> {
+    let mut text = Vec::new(alloc);
+    put_string(COLLIDING.front, letter, number, &mut text)?;
+    Ok(hash(&text) == 0)
+}
+
+/// Their lines, and then the first of these again, whose strings a cache has lost, as nearly all of them.
+fn colliding_lines(alloc: Global) -> Result<Vec<u8>, AllocError> {
+    let mut lines = many_lines(alloc, &COLLIDING)?;
+    put_line(&COLLIDING, COLLIDING.count.saturating_sub(1), &mut lines)?;
+    Ok(lines)
+}
+
+#[test]
+fn strings_of_one_hash(rt: HostRuntime) -> Result<(), Fail> {
+    let collide = collides(rt.alloc(), b's', 0)? && collides(rt.alloc(), b'o', 66_666)?;
+    assert!(rt; collide, "other hashes");
+    let lines = colliding_lines(rt.alloc())?;
+    assert!(rt; are_many_built(rt.alloc(), &COLLIDING, &lines)?);
     Ok(())
 }
 
@@ -334,39 +401,6 @@ fn are_long_built(alloc: Global, base: usize) -> Result<bool, Fail> {
 fn long_strings_and_bases(rt: HostRuntime) -> Result<(), Fail> {
     for base in &[256, 65_536, 100_000] {
         assert!(rt; are_long_built(rt.alloc(), *base)?, "{base}");
-    }
-    Ok(())
-}
-
-// ---- many strings of one role
-
-/// The strings of so many numbers.
-fn numbered(alloc: Global, count: u32) -> Result<Arena, AllocError> {
-    let mut made = Arena::new(alloc)?;
-    let mut text = Vec::new(alloc);
-    for number in 0..count {
-        text.clear();
-        put_string(b's', number, &mut text)?;
-        made.push(&text)?;
-    }
-    Ok(made)
-}
-
-/// How many strings are listed where each is put twice.
-fn listed_of_twice(alloc: Global, count: u32) -> Result<usize, AllocError> {
-    let mut strings = Interner::new(alloc)?;
-    let texts = numbered(alloc, count)?;
-    strings.places_of(alloc, &texts)?;
-    strings.places_of(alloc, &texts)?;
-    Ok(strings.into_list().len())
-}
-
-/// Strings that were put are found again, but for a few that the cache has lost, also where it has grown since.
-#[test]
-fn strings_found_again(rt: HostRuntime) -> Result<(), Fail> {
-    for count in &[1500, 300_000] {
-        let listed = listed_of_twice(rt.alloc(), *count)?;
-        assert!(rt; listed <= (*count + *count / 16) as usize, "{listed}");
     }
     Ok(())
 }
