@@ -12,6 +12,11 @@ returns-in_err-lines-clause-stopped g c =
     let p = err_from_is_err_and c.from_residual.result c.from_residual.ensures.1 in
     rw (p.1, p.2) (nothing_answered c.run_of_texts.ensures.begins _ _ _ _ _ _)
 
+pub returns-in_err-speller-clause-stopped : goal.returns-in_err-speller-clause-stopped
+returns-in_err-speller-clause-stopped g c =
+    let p = err_from_is_err_and c.from_residual-in_err-speller.result c.from_residual-in_err-speller.ensures.1 in
+    rw (p.1, p.2) (nothing_answered c.run_of_texts.ensures.begins _ _ _ _ _ _)
+
 pub lines-init : goal.lines-init
 lines-init g c =
     let b = begun c.run_of_texts.ensures.begins c.in_ok-lines.lines (g.R.Read.remaining (inner c.args.input.now)) c.in_ok-lines.ensures in
@@ -50,3 +55,14 @@ pub returns-in-Err-clause-stopped : goal.returns-in-Err-clause-stopped
 returns-in-Err-clause-stopped g c =
     let inv = c.lines.invariant in
     unread_line _ _ c.lines.lines _ _ _ _ _ inv.0 c.lines.faulty inv.1 _ _ c.in-Err.fault c.stop_of.result inv.2 inv.3 inv.4 inv.6 c.stop_of.ensures (c.in-Err.ensures.fault _ inv.0 inv.2)
+
+pub returns-in-Ok-false-clause-ok : goal.returns-in-Ok-false-clause-ok
+returns-in-Ok-false-clause-ok g c =
+    let inv = c.lines.invariant in
+    record {
+      lines = inv.0;
+      are = c.next_line.ensures.all _ inv.0 inv.2 (c.in-Ok-false.is ∙ ap Ok c.in-Ok-false.field-0-test);
+      text = inv.1;
+      answers = inv.3;
+      written = inv.4;
+    }
