@@ -303,13 +303,10 @@ pub fn layout_text_up_to(
 {
     match pattern {
         Some(pattern) if pattern.s.is_some() => indexed_text(alloc, layout, pattern, most),
-        Some(pattern) => found_text(
-            alloc,
-            layout,
-            layout.search(pattern),
-            most,
-            &mut Speller::new(alloc)?,
-        ),
+        Some(pattern) => {
+            let mut speller = Speller::new(alloc)?;
+            found_text(alloc, layout, layout.search(pattern), most, &mut speller)
+        }
         None => Ok(Vec::new(alloc)),
     }
 }
