@@ -10,8 +10,10 @@ use Rattle.hdt_file.specs.File.{GraphParts}
 use Rattle.hdt_triples.specs.Uses.{part}
 use Rattle.hdt_file.specs.Denoted.{string_of, strings_for, denoted}
 use Rattle.hdt_file.specs.Text.{TermTriple, IsTermOf, AreTermsOf, HasTerm, IsBefore, IsFirstOf, IsFirstIn, IsTextOf, Pairwise, line}
+use Rattle.hdt_file.specs.Inside.Spelling.{HasTerms, spelled_line}
 use Rattle.hdt_file.specs.Kept.{KeepsTerm}
 use Rattle.hdt_file.specs.TextWriting.{AppendsTerm, AppendsLine, AppendsText, TellsString, TellsFirstOf, TellsFirstIn}
+use Rattle.hdt_file.specs.declared.spelling.Speller.{Speller}
 use Rattle.hdt_file.specs.declared.fault.DumpFault.{DumpFault}
 use Rattle.hdt_file.specs.declared.fault.DumpFault.TheVariants.{NotATerm, Write, OutOfMemory}
 
@@ -36,24 +38,21 @@ are_terms g t terms s p o Object = o
 pub kept_term : (g : GraphParts) (role : Role) (number : Option ℕ) (n : ℕ) (text : List ℕ) → number ≡ Some n → KeepsTerm g role number text → AppendsTerm role (string_of g role n) [] text
 kept_term g role number n text is h = subst (λ (m : Option ℕ). KeepsTerm g role m text) is h
 
--- a copy of the term that is kept
-pub copied_term : (role : Role) (string text old new : List ℕ) → AppendsTerm role string [] text → new ≡ old ++ text → AppendsTerm role string old new
-copied_term role string text old new h is = record { term = h.term; is = h.is; grown = is ∙ ap (λ (x : List ℕ). old ++ x) h.grown }
+spelled : (old s p o : List ℕ) (terms : TermTriple) → s ≡ written terms.0 → p ≡ written terms.1 → o ≡ written terms.2
+    → old ++ (s ++ 32 ∷ (p ++ 32 ∷ (o ++ 32 ∷ 46 ∷ 10 ∷ []))) ≡ old ++ line terms
+spelled old s p o terms one two three = rw (one, two, three) refl
 
-spelled : (old s p o : List ℕ) → ((old ++ (s ++ 32 ∷ (p ++ 32 ∷ []))) ++ o) ++ (32 ∷ 46 ∷ 10 ∷ []) ≡ old ++ (s ++ 32 ∷ (p ++ 32 ∷ (o ++ 32 ∷ 46 ∷ 10 ∷ [])))
-spelled old s p o = simp append_assoc refl
-
--- the front of a line, the term of its object and its end are the line
-pub line_appended : (g : GraphParts) (t : Triple) (s p old front object new : List ℕ) → AppendsTerm Subject (string_of g Subject t.0) [] s
-    → AppendsTerm Predicate (string_of g Predicate t.1) [] p → front ≡ old ++ (s ++ 32 ∷ (p ++ 32 ∷ [])) → AppendsTerm Object (string_of g Object t.2) front object
-    → new ≡ object ++ 32 ∷ 46 ∷ 10 ∷ [] → AppendsLine g t old new
-line_appended g t s p old front object new one two before three is =
-    let terms : TermTriple = (one.term, two.term, three.term) in
-    let front_is : front ≡ old ++ (written one.term ++ 32 ∷ (written two.term ++ 32 ∷ [])) = rw (← one.grown, ← two.grown) before in
+-- the terms of a triple that are kept are its line
+pub line_appended : (g : GraphParts) (t : Triple) (s : Speller) (old new : List ℕ) → HasTerms g t s → new ≡ old ++ spelled_line s → AppendsLine g t old new
+line_appended g t s old new h is =
+    let subject = kept_term g Subject s.subject.number t.0 s.subject.text.items h.subject_is h.kept.subject in
+    let predicate = kept_term g Predicate s.predicate.number t.1 s.predicate.text.items h.predicate_is h.kept.predicate in
+    let object = kept_term g Object s.object.number t.2 s.object.text.items h.object_is h.kept.object in
+    let terms : TermTriple = (subject.term, predicate.term, object.term) in
     record {
       terms = terms;
-      are = are_terms g t terms one.is two.is three.is;
-      grown = is ∙ ap (λ (x : List ℕ). x ++ 32 ∷ 46 ∷ 10 ∷ []) (three.grown ∙ ap (λ (x : List ℕ). x ++ written three.term) front_is) ∙ spelled old (written one.term) (written two.term) (written three.term);
+      are = are_terms g t terms subject.is predicate.is object.is;
+      grown = is ∙ spelled old _ _ _ terms subject.grown predicate.grown object.grown;
     }
 
 -- a string that is no term is the first of its triple where those before it are terms

@@ -7,8 +7,9 @@ ghost use Rattle.hdt_terms.specs.declared.fault.StringFault.TheVariants as Strin
 ghost use Rattle.hdt_file.specs.Denoted.{string_of};
 ghost use Rattle.hdt_file.specs.Text.{FitsRole, HasNoTerm};
 ghost use Rattle.hdt_file.specs.File.{GraphParts};
+ghost use Rattle.hdt_file.specs.Inside.Spelling.{HasTerms, spelled_line};
 ghost use Rattle.hdt_file.specs.Kept.{KeepsPredicate, KeepsTerm, KeepsTerms};
-ghost use Rattle.hdt_wire.specs.declared.role.Role.TheVariants.{Object, Predicate};
+ghost use Rattle.hdt_wire.specs.declared.role.Role.TheVariants.{Predicate};
 ghost use Rattle.hdt_file.specs.TextWriting.{AppendsLine, AppendsTerm, TellsFirstOf, TellsString};
 ghost use Rattle.hdt_file.specs.LayoutView.{layout_seen};
 
@@ -177,7 +178,6 @@ pub struct Speller {
     string: Vec<u8>,
     subject: Spelled,
     predicate: Spelled,
-    last_object: u64,
     object: Spelled,
     kept: Vec<Spelled>,
 }
@@ -191,7 +191,6 @@ impl Speller {
             string: Vec::with_capacity(alloc, TERM)?,
             subject: Spelled::new(alloc, TERM)?,
             predicate: Spelled::new(alloc, TERM)?,
-            last_object: 0,
             object: Spelled::new(alloc, TERM)?,
             kept: places(alloc, count)?,
         })
@@ -239,49 +238,30 @@ impl Speller {
         Ok(())
     }
 
-    /// Spells the subject and the predicate of a triple, each where the last one was another.
-    fn spell_front(&mut self, layout: &Layout<'_>, triple: (u64, u64, u64)) -> Result<(), DumpFault>
+    /// Spells the terms of a triple, each where the last one was another.
+    fn spell(&mut self, layout: &Layout<'_>, triple: (u64, u64, u64)) -> Result<(), DumpFault>
         requires { KeepsTerms (layout_seen layout.now) self.old }
         ensures kept { KeepsTerms (layout_seen layout.now) self.new }
-        ensures subject { OnOk result (self.new.subject.number ≡ Some triple.0) }
-        ensures predicate { OnOk result (self.new.predicate.number ≡ Some triple.1) }
+        ensures ok { OnOk result (HasTerms (layout_seen layout.now) triple self.new) }
         ensures err { IfErr result (TellsFirstOf (layout_seen layout.now) triple) }
     {
         self.subject
             .spell(layout, Role::Subject, triple.0, &mut self.string)?;
-        self.spell_predicate(layout, triple.1)
+        self.spell_predicate(layout, triple.1)?;
+        self.object
+            .spell(layout, Role::Object, triple.2, &mut self.string)
     }
 
-    /// Appends the front of a line: the subject and the predicate that were spelled.
-    fn put_front(&self, out: &mut Vec<u8>) -> Result<(), AllocError>
-        ensures { OnOk result (out.new.items ≡ out.old.items ++ (self.now.subject.text.items ++ 32 ∷ (self.now.predicate.text.items ++ 32 ∷ []))) }
+    /// Appends the line of the terms that were spelled.
+    fn put_line(&self, out: &mut Vec<u8>) -> Result<(), AllocError>
+        ensures { OnOk result (out.new.items ≡ out.old.items ++ spelled_line self.now) }
     {
         out.extend_from_slice(&self.subject.text)?;
         out.push(b' ')?;
         out.extend_from_slice(&self.predicate.text)?;
-        Ok(out.push(b' ')?)
-    }
-
-    /// Appends the term of object n straight from its string, or, where it was that of the line before too, from a text that
-    /// is spelled for those behind it.
-    fn append_object(
-        &mut self,
-        layout: &Layout<'_>,
-        n: u64,
-        out: &mut Vec<u8>,
-    ) -> Result<(), DumpFault>
-        requires { KeepsTerms (layout_seen layout.now) self.old }
-        ensures kept { KeepsTerms (layout_seen layout.now) self.new }
-        ensures ok { OnOk result (AppendsTerm Object (string_of (layout_seen layout.now) Object n) out.old.items out.new.items) }
-        ensures err { IfErr result (TellsString Object n (string_of (layout_seen layout.now) Object n)) }
-    {
-        if self.last_object != n {
-            self.last_object = n;
-            return append_term(layout, Role::Object, n, &mut self.string, out);
-        }
-        self.object
-            .spell(layout, Role::Object, n, &mut self.string)?;
-        Ok(out.extend_from_slice(&self.object.text)?)
+        out.push(b' ')?;
+        out.extend_from_slice(&self.object.text)?;
+        out.extend_from_slice(b" .\n")
     }
 }
 
@@ -297,8 +277,6 @@ pub fn append_line(
     ensures ok { OnOk result (AppendsLine (layout_seen layout.now) triple out.old.items out.new.items) }
     ensures err { IfErr result (TellsFirstOf (layout_seen layout.now) triple) }
 {
-    speller.spell_front(layout, triple)?;
-    speller.put_front(out)?;
-    speller.append_object(layout, triple.2, out)?;
-    Ok(out.extend_from_slice(b" .\n")?)
+    speller.spell(layout, triple)?;
+    Ok(speller.put_line(out)?)
 }
