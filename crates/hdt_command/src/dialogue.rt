@@ -4,6 +4,7 @@ ghost use Rattle.hdt_wire.specs.Counted.{inner, failures};
 ghost use Rattle.hdt_terms.specs.Documents.{AreLines, FaultBehind};
 ghost use Rattle.hdt_terms.specs.Taking.{left, line_number};
 ghost use Rattle.hdt_terms.specs.declared.fault.LineReason.TheVariants as reasons;
+ghost use Rattle.hdt_file.specs.Kept.{KeepsTerms};
 ghost use Rattle.hdt_file.specs.TextWriting.{chosen, limited};
 ghost use Rattle.hdt_file.specs.Views.{graph_seen};
 ghost use Rattle.hdt_command.specs.Dialogue.{AnswersFound, AnswersInput, AnswersLine, AnswersSome, Gone, IsStopFor, ReadsWanted, ended, fault_comment, given_of, lines_left, most_bytes, no_term_comment, wanted_in};
@@ -15,7 +16,7 @@ use crate::printed_strings::write_piece;
 use crate::printed_triples::graph_triples_text;
 use crate::request::Asking;
 use hdt_dict::Role;
-use hdt_file::{DumpFault, Graph};
+use hdt_file::{DumpFault, Graph, Speller};
 use hdt_seq::Steps;
 use hdt_terms::{
     LineFault, LineReason, Lines, TermFault, read_raw_request, read_request, run_of_texts,
@@ -101,10 +102,13 @@ fn found_answer(
     graph: &Graph<'_>,
     asking: Asking,
     pattern: Option<Pattern>,
+    speller: &mut Speller,
 ) -> Result<(bool, Vec<u8>), AllocError>
-    ensures { IfOk result (λ x. AnswersFound asking.form (graph_seen graph.now) (limited asking.most (chosen (graph_seen graph.now) pattern)) x.0 x.1.items) }
+    requires { KeepsTerms (graph_seen graph.now) speller.old }
+    ensures kept { KeepsTerms (graph_seen graph.now) speller.new }
+    ensures ok { IfOk result (λ x. AnswersFound asking.form (graph_seen graph.now) (limited asking.most (chosen (graph_seen graph.now) pattern)) x.0 x.1.items) }
 {
-    match graph_triples_text(alloc, graph, pattern, asking.form, asking.most) {
+    match graph_triples_text(alloc, graph, pattern, asking.form, asking.most, speller) {
         Ok(mut text) => {
             text.push(b'\n')?;
             Ok((false, text))
@@ -124,14 +128,17 @@ fn line_answer(
     subject: &mut Vec<u8>,
     predicate: &mut Vec<u8>,
     object: &mut Vec<u8>,
+    speller: &mut Speller,
 ) -> Result<(bool, Vec<u8>), AllocError>
-    ensures { IfOk result (λ x. AnswersLine (graph_seen graph.now) asking (line, text.now) x.0 x.1.items) }
+    requires { KeepsTerms (graph_seen graph.now) speller.old }
+    ensures kept { KeepsTerms (graph_seen graph.now) speller.new }
+    ensures ok { IfOk result (λ x. AnswersLine (graph_seen graph.now) asking (line, text.now) x.0 x.1.items) }
 {
     match read_line(asking.raw, text, subject, predicate, object) {
         Ok(None) => Ok((false, Vec::new(alloc))),
         Ok(Some(given)) => {
             let pattern = asked_pattern(graph, given, subject, predicate, object);
-            found_answer(alloc, graph, asking, pattern)
+            found_answer(alloc, graph, asking, pattern, speller)
         }
         Err(fault) => match fault.reason {
             LineReason::OutOfMemory => Err(AllocError),
@@ -186,7 +193,8 @@ fn either(one: bool, other: bool) -> bool
 
 /// Answers the requests of a reader, line by line up to its end: each answer is written before the next line is read. It tells
 /// whether one of the answers is a fault. Memory is that of the longest request and of the longest answer, which is made whole as
-/// [`graph_text_up_to`](hdt_file::graph_text_up_to) makes it; the time of a request is that of its search and its text.
+/// [`graph_text_with`](hdt_file::graph_text_with) makes it, and of what a [`Speller`] keeps; the time of a request is that of
+/// its search and its text.
 ///
 /// # Errors
 ///
@@ -216,6 +224,7 @@ pub fn answer_requests<R: Read, W: Write>(
     let mut subject = Vec::new(alloc);
     let mut predicate = Vec::new(alloc);
     let mut object = Vec::new(alloc);
+    let mut speller = Speller::keeping(alloc)?;
     let mut written = 0;
     let mut faulty = false;
     'lines: loop {
@@ -234,6 +243,7 @@ pub fn answer_requests<R: Read, W: Write>(
             &mut subject,
             &mut predicate,
             &mut object,
+            &mut speller,
         )?;
         written = write_piece(&answer, written, out)?;
         faulty = either(faulty, is_fault);

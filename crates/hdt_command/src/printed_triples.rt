@@ -2,6 +2,7 @@
 ghost use Rattle.std.specs.Fmt.{decimal};
 ghost use Rattle.std.specs.Prelude.{◌≡◌, ◌<◌, ◌^◌, ◌++◌, ◌∷◌, [], OnOk, IfOk, IfErr, length};
 ghost use Rattle.hdt_file.specs.TextWriting.{chosen, limited};
+ghost use Rattle.hdt_file.specs.Kept.{KeepsTerms};
 ghost use Rattle.hdt_file.specs.LayoutView.{layout_seen};
 ghost use Rattle.hdt_file.specs.Views.{graph_seen};
 ghost use Rattle.hdt_triples.specs.Left.{left_of};
@@ -10,7 +11,7 @@ ghost use Rattle.hdt_command.specs.TriplesText.{Finds, PrintsFound, TellsFound, 
 use crate::fault::ToolFault;
 use crate::printed_strings::put_number;
 use crate::request::Form;
-use hdt_file::{DumpFault, Graph, Layout, graph_text_up_to, layout_text_up_to};
+use hdt_file::{DumpFault, Graph, Layout, Speller, graph_text_with, layout_text_up_to};
 use hdt_seq::Steps;
 use hdt_triples::{Matches, Pattern};
 use std::alloc::{AllocError, Global};
@@ -166,19 +167,23 @@ fn number_line(alloc: Global, number: u64) -> Result<Vec<u8>, AllocError>
 }
 
 /// The text of the matches of a pattern in a graph, or of nothing, or of at most so many of the first: in N-Triples, their
-/// numbers, or how many they are. The directories and lists of the graph bound the search.
+/// numbers, or how many they are. The directories and lists of the graph bound the search; the speller keeps terms of this
+/// graph for the texts behind this one.
 pub fn graph_triples_text(
     alloc: Global,
     graph: &Graph<'_>,
     pattern: Option<Pattern>,
     form: Form,
     most: Option<u64>,
+    speller: &mut Speller,
 ) -> Result<Vec<u8>, DumpFault>
+    requires { KeepsTerms (graph_seen graph.now) speller.old }
+    ensures kept { KeepsTerms (graph_seen graph.now) speller.new }
     ensures ok { IfOk result (λ text. PrintsTriples form (graph_seen graph.now) (limited most (chosen (graph_seen graph.now) pattern)) text.items) }
     ensures err { IfErr result (TellsTriples form (graph_seen graph.now) (limited most (chosen (graph_seen graph.now) pattern))) }
 {
     match form {
-        Form::Lines => graph_text_up_to(alloc, graph, pattern, most),
+        Form::Lines => graph_text_with(alloc, graph, pattern, most, speller),
         Form::Numbers => Ok(graph_numbers_text(alloc, graph, pattern, most)?),
         Form::Count => Ok(number_line(alloc, graph_count(graph, pattern, most))?),
     }

@@ -10,7 +10,8 @@ use Rattle.hdt_file.specs.File.{GraphParts}
 use Rattle.hdt_triples.specs.Uses.{part}
 use Rattle.hdt_file.specs.Denoted.{string_of, strings_for, denoted}
 use Rattle.hdt_file.specs.Text.{TermTriple, IsTermOf, AreTermsOf, HasTerm, IsBefore, IsFirstOf, IsFirstIn, IsTextOf, Pairwise, line}
-use Rattle.hdt_file.specs.Inside.Spelling.{HasTerms, KeepsTerm, spelled_line}
+use Rattle.hdt_file.specs.Inside.Spelling.{HasTerms, spelled_line}
+use Rattle.hdt_file.specs.Kept.{KeepsTerm}
 use Rattle.hdt_file.specs.TextWriting.{AppendsTerm, AppendsLine, AppendsText, TellsString, TellsFirstOf, TellsFirstIn}
 use Rattle.hdt_file.specs.declared.spelling.Speller.{Speller}
 use Rattle.hdt_file.specs.declared.fault.DumpFault.{DumpFault}
@@ -34,7 +35,7 @@ are_terms g t terms s p o Predicate = p
 are_terms g t terms s p o Object = o
 
 -- the term that is kept of a role, where its number is known
-kept_term : (g : GraphParts) (role : Role) (number : Option ℕ) (n : ℕ) (text : List ℕ) → number ≡ Some n → KeepsTerm g role number text → AppendsTerm role (string_of g role n) [] text
+pub kept_term : (g : GraphParts) (role : Role) (number : Option ℕ) (n : ℕ) (text : List ℕ) → number ≡ Some n → KeepsTerm g role number text → AppendsTerm role (string_of g role n) [] text
 kept_term g role number n text is h = subst (λ (m : Option ℕ). KeepsTerm g role m text) is h
 
 spelled : (old s p o : List ℕ) (terms : TermTriple) → s ≡ written terms.0 → p ≡ written terms.1 → o ≡ written terms.2

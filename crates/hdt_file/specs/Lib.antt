@@ -17,3 +17,4 @@ pub mod Tight
 pub mod Views
 pub mod Laws
 pub mod Inside
+pub mod Kept

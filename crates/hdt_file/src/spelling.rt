@@ -1,11 +1,15 @@
 //! The strings of a graph as terms of N-Triples.
-ghost use Rattle.std.specs.Prelude.{◌≡◌, ◌↔◌, ◌++◌, ◌∷◌, [], None, Some, IfErr, IfOk, OnOk, OnErr, IsErrOf, IsTrue};
+ghost use Rattle.std.specs.Prelude.{◌≡◌, ◌↔◌, ◌++◌, ◌∷◌, [], None, Some, IfErr, IfOk, OnOk, OnErr, IsErrOf, IfSome, IsTrue};
+ghost use Rattle.std.specs.List.{All};
 ghost use Rattle.hdt_terms.specs.Strings.{kind_of};
 ghost use Rattle.hdt_terms.specs.declared.term.Term.{Term};
 ghost use Rattle.hdt_terms.specs.declared.fault.StringFault.TheVariants as StringFaultOf;
 ghost use Rattle.hdt_file.specs.Denoted.{string_of};
 ghost use Rattle.hdt_file.specs.Text.{FitsRole, HasNoTerm};
-ghost use Rattle.hdt_file.specs.Inside.Spelling.{HasTerms, KeepsTerm, KeepsTerms, spelled_line};
+ghost use Rattle.hdt_file.specs.File.{GraphParts};
+ghost use Rattle.hdt_file.specs.Inside.Spelling.{HasTerms, spelled_line};
+ghost use Rattle.hdt_file.specs.Kept.{KeepsPredicate, KeepsTerm, KeepsTerms};
+ghost use Rattle.hdt_wire.specs.declared.role.Role.TheVariants.{Predicate};
 ghost use Rattle.hdt_file.specs.TextWriting.{AppendsLine, AppendsTerm, TellsFirstOf, TellsString};
 ghost use Rattle.hdt_file.specs.LayoutView.{layout_seen};
 
@@ -75,12 +79,12 @@ struct Spelled {
 const TERM: usize = 128;
 
 impl Spelled {
-    fn new(alloc: Global) -> Result<Spelled, AllocError>
+    fn new(alloc: Global, room: usize) -> Result<Spelled, AllocError>
         ensures { IfOk result (λ s. s.number ≡ None) }
     {
         Ok(Spelled {
             number: None,
-            text: Vec::with_capacity(alloc, TERM)?,
+            text: Vec::with_capacity(alloc, room)?,
         })
     }
 
@@ -93,6 +97,7 @@ impl Spelled {
         string: &mut Vec<u8>,
     ) -> Result<(), DumpFault>
         requires { KeepsTerm (layout_seen layout.now) role self.old.number self.old.text.items }
+        ensures kept { KeepsTerm (layout_seen layout.now) role self.new.number self.new.text.items }
         ensures ok { OnOk result (KeepsTerm (layout_seen layout.now) role (Some n) self.new.text.items) }
         ensures number { OnOk result (self.new.number ≡ Some n) }
         ensures err { IfErr result (TellsString role n (string_of (layout_seen layout.now) role n)) }
@@ -106,47 +111,145 @@ impl Spelled {
         self.number = Some(n);
         Ok(())
     }
+
+    /// Takes over the term of string n.
+    fn take(&mut self, n: u64, text: &[u8]) -> Result<(), AllocError>
+        ensures number { OnOk result (self.new.number ≡ Some n) }
+        ensures text { OnOk result (self.new.text.items ≡ text.now) }
+        ensures err { OnErr result (self.new.number ≡ None) }
+    {
+        self.number = None;
+        self.text.clear();
+        self.text.extend_from_slice(text)?;
+        self.number = Some(n);
+        Ok(())
+    }
 }
 
-/// Spells the triples of a layout, one line after another: a string that was unfolded, and the last term of each role.
+/// For how many predicates a speller keeps the terms.
+const KEPT: usize = 256;
+
+/// The bytes that a term has at most that is kept.
+const SHORT: usize = 256;
+
+/// The place of predicate n among those that are kept.
+fn place_of(n: u64) -> usize {
+    (n % KEPT as u64) as usize
+}
+
+/// The term of predicate n, where it is kept.
+fn kept_term(kept: &[Spelled], n: u64) -> Option<&[u8]>
+    ensures { (g : GraphParts) → All (KeepsPredicate g) kept.now → IfSome result (λ text. KeepsTerm g Predicate (Some n) text.now) }
+{
+    let place = kept.get(place_of(n))?;
+    if place.number == Some(n) {
+        Some(&place.text)
+    } else {
+        None
+    }
+}
+
+/// Keeps the term of predicate n, where it is short and no other has its place: what is kept stays.
+fn keep(kept: &mut Vec<Spelled>, n: u64, text: &[u8]) -> Result<(), AllocError>
+    ensures { (g : GraphParts) → All (KeepsPredicate g) kept.old.items → KeepsTerm g Predicate (Some n) text.now → All (KeepsPredicate g) kept.new.items }
+{
+    let at = place_of(n);
+    if at < kept.len() && text.len() <= SHORT && kept[at].number.is_none() {
+        kept[at].take(n, text)?;
+    }
+    Ok(())
+}
+
+/// Places for terms of predicates.
+fn places(alloc: Global, count: usize) -> Result<Vec<Spelled>, AllocError>
+    ensures { IfOk result (λ kept. (g : GraphParts) → All (KeepsPredicate g) kept.items) }
+{
+    let mut kept = Vec::with_capacity(alloc, count)?;
+    'places: for _ in 0..count {
+        kept.push(Spelled::new(alloc, 0)?)?;
+    }
+    Ok(kept)
+}
+
+/// Spells the triples of one graph, one line after another: a string that was unfolded, the last term of each role, and
+/// terms of predicates.
 #[derive(Drop)]
 pub struct Speller {
     string: Vec<u8>,
     subject: Spelled,
     predicate: Spelled,
     object: Spelled,
+    kept: Vec<Spelled>,
 }
 
 impl Speller {
-    /// A speller that has spelled nothing.
-    pub fn new(alloc: Global) -> Result<Speller, AllocError>
-        ensures subject { IfOk result (λ s. s.subject.number ≡ None) }
-        ensures predicate { IfOk result (λ s. s.predicate.number ≡ None) }
-        ensures object { IfOk result (λ s. s.object.number ≡ None) }
+    /// A speller that has spelled nothing, with so many places for predicates.
+    fn with_places(alloc: Global, count: usize) -> Result<Speller, AllocError>
+        ensures { IfOk result (λ s. (g : GraphParts) → KeepsTerms g s) }
     {
         Ok(Speller {
             string: Vec::with_capacity(alloc, TERM)?,
-            subject: Spelled::new(alloc)?,
-            predicate: Spelled::new(alloc)?,
-            object: Spelled::new(alloc)?,
+            subject: Spelled::new(alloc, TERM)?,
+            predicate: Spelled::new(alloc, TERM)?,
+            object: Spelled::new(alloc, TERM)?,
+            kept: places(alloc, count)?,
         })
+    }
+
+    /// A speller for one answer, which keeps the last terms alone.
+    pub(crate) fn new(alloc: Global) -> Result<Speller, AllocError>
+        ensures { IfOk result (λ s. (g : GraphParts) → KeepsTerms g s) }
+    {
+        Speller::with_places(alloc, 0)
+    }
+
+    /// A speller for many answers of one graph, by [`graph_text_with`](crate::graph_text_with). From answer to answer it
+    /// keeps the longest string and the longest term of each role that it has met, and the terms of 256 predicates of at most
+    /// 256 bytes each, the first ones that it met.
+    pub fn keeping(alloc: Global) -> Result<Speller, AllocError>
+        ensures { IfOk result (λ s. (g : GraphParts) → KeepsTerms g s) }
+    {
+        Speller::with_places(alloc, KEPT)
+    }
+
+    /// Whether the term of predicate n is kept: then it is not unfolded.
+    pub(crate) fn keeps(&self, n: u64) -> bool {
+        kept_term(&self.kept, n).is_some()
+    }
+
+    /// Spells predicate n, where the last one was another.
+    fn spell_predicate(&mut self, layout: &Layout<'_>, n: u64) -> Result<(), DumpFault>
+        requires { KeepsTerms (layout_seen layout.now) self.old }
+        ensures kept { KeepsTerms (layout_seen layout.now) self.new }
+        ensures number { OnOk result (self.new.predicate.number ≡ Some n) }
+        ensures subject { self.new.subject ≡ self.old.subject }
+        ensures err { IfErr result (TellsString Predicate n (string_of (layout_seen layout.now) Predicate n)) }
+    {
+        if self.predicate.number == Some(n) {
+            return Ok(());
+        }
+        if let Some(text) = kept_term(&self.kept, n) {
+            self.predicate.take(n, text)?;
+            return Ok(());
+        }
+        self.predicate
+            .spell(layout, Role::Predicate, n, &mut self.string)?;
+        keep(&mut self.kept, n, &self.predicate.text)?;
+        Ok(())
     }
 
     /// Spells the terms of a triple, each where the last one was another.
     fn spell(&mut self, layout: &Layout<'_>, triple: (u64, u64, u64)) -> Result<(), DumpFault>
         requires { KeepsTerms (layout_seen layout.now) self.old }
+        ensures kept { KeepsTerms (layout_seen layout.now) self.new }
         ensures ok { OnOk result (HasTerms (layout_seen layout.now) triple self.new) }
         ensures err { IfErr result (TellsFirstOf (layout_seen layout.now) triple) }
     {
-        let Speller {
-            string,
-            subject,
-            predicate,
-            object,
-        } = self;
-        subject.spell(layout, Role::Subject, triple.0, string)?;
-        predicate.spell(layout, Role::Predicate, triple.1, string)?;
-        object.spell(layout, Role::Object, triple.2, string)
+        self.subject
+            .spell(layout, Role::Subject, triple.0, &mut self.string)?;
+        self.spell_predicate(layout, triple.1)?;
+        self.object
+            .spell(layout, Role::Object, triple.2, &mut self.string)
     }
 
     /// Appends the line of the terms that were spelled.
@@ -170,7 +273,7 @@ pub fn append_line(
     out: &mut Vec<u8>,
 ) -> Result<(), DumpFault>
     requires { KeepsTerms (layout_seen layout.now) speller.old }
-    ensures kept { OnOk result (KeepsTerms (layout_seen layout.now) speller.new) }
+    ensures kept { KeepsTerms (layout_seen layout.now) speller.new }
     ensures ok { OnOk result (AppendsLine (layout_seen layout.now) triple out.old.items out.new.items) }
     ensures err { IfErr result (TellsFirstOf (layout_seen layout.now) triple) }
 {

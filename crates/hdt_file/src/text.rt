@@ -7,6 +7,7 @@ ghost use Rattle.hdt_triples.specs.Left.{left_of};
 ghost use Rattle.hdt_triples.specs.Patterns.{matches};
 ghost use Rattle.hdt_file.specs.Denoted.{StringTriple, denoted};
 ghost use Rattle.hdt_file.specs.File.{GraphParts};
+ghost use Rattle.hdt_file.specs.Kept.{KeepsTerms};
 ghost use Rattle.hdt_file.specs.LayoutView.{layout_seen};
 ghost use Rattle.hdt_file.specs.Text.{IsFirstIn, IsTextOf};
 ghost use Rattle.hdt_file.specs.TextWriting.{TellsFirstIn, WritesPart, WritesText, chosen, limited};
@@ -60,11 +61,12 @@ fn with_len(dictionary: &Dictionary<'_>, role: Role, number: u64, last: (u64, u6
 }
 
 /// The blocks of the objects of triples, where looking up all strings one by one reads fewer bytes than a walk along the
-/// dictionary takes time for.
+/// dictionary takes time for. Predicates that the speller keeps are not looked up.
 fn few_blocks<'a>(
     alloc: Global,
     layout: &Layout<'a>,
     triples: &[(u64, u64, u64)],
+    speller: &Speller,
 ) -> Result<Option<Vec<&'a [u8]>>, AllocError> {
     let dictionary = &layout.dictionary;
     let [_, shared, subjects, predicates, objects] = layout.lens();
@@ -79,7 +81,11 @@ fn few_blocks<'a>(
     for (subject, predicate, object) in triples {
         let block = dictionary.block(Role::Object, *object);
         last_subject = with_len(dictionary, Role::Subject, *subject, last_subject);
-        last_predicate = with_len(dictionary, Role::Predicate, *predicate, last_predicate);
+        if speller.keeps(*predicate) {
+            last_predicate = (*predicate, 0);
+        } else {
+            last_predicate = with_len(dictionary, Role::Predicate, *predicate, last_predicate);
+        }
         let read = last_subject
             .1
             .saturating_add(last_predicate.1)
@@ -132,14 +138,16 @@ fn looked_up_text(
     layout: &Layout<'_>,
     triples: &[(u64, u64, u64)],
     room: usize,
+    speller: &mut Speller,
 ) -> Result<Vec<u8>, DumpFault>
+    requires { KeepsTerms (layout_seen layout.now) speller.old }
+    ensures kept { KeepsTerms (layout_seen layout.now) speller.new }
     ensures ok { IfOk result (λ text. IsTextOf (denoted (layout_seen layout.now) triples.now) text.items) }
     ensures err { IfErr result (TellsFirstIn (layout_seen layout.now) triples.now) }
 {
-    let mut speller = Speller::new(alloc)?;
     let mut text = Vec::with_capacity(alloc, room)?;
     'triples: for at in 0..triples.len() {
-        append_line(layout, triples[at], &mut speller, &mut text)?;
+        append_line(layout, triples[at], speller, &mut text)?;
     }
     Ok(text)
 }
@@ -174,17 +182,20 @@ fn found_text(
     layout: &Layout<'_>,
     found: Matches<'_>,
     most: Option<u64>,
+    speller: &mut Speller,
 ) -> Result<Vec<u8>, DumpFault>
     requires fits { length (left_of found) < 2 ^ 64 }
+    requires kept { KeepsTerms (layout_seen layout.now) speller.old }
+    ensures kept { KeepsTerms (layout_seen layout.now) speller.new }
     ensures ok { IfOk result (λ text. IsTextOf (denoted (layout_seen layout.now) (limited most (left_of found.entry))) text.items) }
     ensures err { IfErr result (TellsFirstIn (layout_seen layout.now) (limited most (left_of found.entry))) }
 {
     let triples = listed(alloc, found, most)?;
-    match few_blocks(alloc, layout, &triples)? {
+    match few_blocks(alloc, layout, &triples, speller)? {
         Some(blocks) => {
             // (The sum says nothing: that it is used makes the blocks be looked at.)
             let lines = all_looked_at(&blocks).min(triples.len()).min(LINES);
-            looked_up_text(alloc, layout, &triples, lines * LINE)
+            looked_up_text(alloc, layout, &triples, lines * LINE, speller)
         }
         None => tabled_text(alloc, layout, &triples),
     }
@@ -202,9 +213,10 @@ fn indexed_text(
     ensures ok { IfOk result (λ text. IsTextOf (denoted (layout_seen layout.now) (limited most (matches pattern (layout_seen layout.now).triples))) text.items) }
     ensures err { IfErr result (TellsFirstIn (layout_seen layout.now) (limited most (matches pattern (layout_seen layout.now).triples))) }
 {
+    let mut speller = Speller::new(alloc)?;
     match layout.triples.with_directories(alloc) {
-        Ok(indexed) => found_text(alloc, layout, indexed.find(pattern), most),
-        Err(triples) => found_text(alloc, layout, triples.find(pattern), most),
+        Ok(indexed) => found_text(alloc, layout, indexed.find(pattern), most, &mut speller),
+        Err(triples) => found_text(alloc, layout, triples.find(pattern), most, &mut speller),
     }
 }
 
@@ -242,10 +254,29 @@ pub fn graph_text_up_to(
     ensures ok { IfOk result (λ text. IsTextOf (denoted (graph_seen graph.now) (limited most (chosen (graph_seen graph.now) pattern))) text.items) }
     ensures err { IfErr result (TellsFirstIn (graph_seen graph.now) (limited most (chosen (graph_seen graph.now) pattern))) }
 {
+    graph_text_with(alloc, graph, pattern, most, &mut Speller::new(alloc)?)
+}
+
+/// The same by a speller that has spelled nothing yet, or texts of this graph alone: who asks for many texts keeps one for
+/// all, and predicates that it keeps are unfolded once. [`Speller::keeping`] says how much it keeps; after an error it is
+/// as good as before.
+pub fn graph_text_with(
+    alloc: Global,
+    graph: &Graph<'_>,
+    pattern: Option<Pattern>,
+    most: Option<u64>,
+    speller: &mut Speller,
+) -> Result<Vec<u8>, DumpFault>
+    // What the speller keeps is of this graph, before and after.
+    requires { KeepsTerms (graph_seen graph.now) speller.old }
+    ensures kept { KeepsTerms (graph_seen graph.now) speller.new }
+    ensures ok { IfOk result (λ text. IsTextOf (denoted (graph_seen graph.now) (limited most (chosen (graph_seen graph.now) pattern))) text.items) }
+    ensures err { IfErr result (TellsFirstIn (graph_seen graph.now) (limited most (chosen (graph_seen graph.now) pattern))) }
+{
     let Some(pattern) = pattern else {
         return Ok(Vec::new(alloc));
     };
-    found_text(alloc, &graph.layout(), graph.search(pattern), most)
+    found_text(alloc, &graph.layout(), graph.search(pattern), most, speller)
 }
 
 /// The same of a layout, all of whose triples are walked over: [`graph_text`] says what is answered.
@@ -272,7 +303,10 @@ pub fn layout_text_up_to(
 {
     match pattern {
         Some(pattern) if pattern.s.is_some() => indexed_text(alloc, layout, pattern, most),
-        Some(pattern) => found_text(alloc, layout, layout.search(pattern), most),
+        Some(pattern) => {
+            let mut speller = Speller::new(alloc)?;
+            found_text(alloc, layout, layout.search(pattern), most, &mut speller)
+        }
         None => Ok(Vec::new(alloc)),
     }
 }

@@ -277,9 +277,26 @@ fn tells_a_part(alloc: Global, graph: &Graph<'_>) -> Result<bool, DumpFault> {
     Ok(are_lines(&of_graph, LINES_LEN, LAST) && are_lines(&of_layout, LINES_LEN, LAST))
 }
 
+/// Whether one speller gives the same texts one after another: twice that of triples with more predicates than it keeps, and then
+/// that of a part.
+fn tells_by_a_speller(alloc: Global, graph: &Graph<'_>) -> Result<bool, DumpFault> {
+    let mut speller = Speller::keeping(alloc)?;
+    let wanted = graph_text_up_to(alloc, graph, Some(ALL), Some(1_000))?;
+    let first = graph_text_with(alloc, graph, Some(ALL), Some(1_000), &mut speller)?;
+    let again = graph_text_with(alloc, graph, Some(ALL), Some(1_000), &mut speller)?;
+    let part = graph_text_with(alloc, graph, Some(ALL), Some(65_999), &mut speller)?;
+    let same = first.as_slice() == wanted.as_slice() && again.as_slice() == wanted.as_slice();
+    Ok(same && are_lines(&part, LINES_LEN, LAST))
+}
+
+/// Both.
+fn tells_in_both_ways(alloc: Global, graph: &Graph<'_>) -> Result<bool, DumpFault> {
+    Ok(tells_a_part(alloc, graph)? && tells_by_a_speller(alloc, graph)?)
+}
+
 /// The same; want of memory ends the test.
 fn tells_parts(alloc: Global, graph: &Graph<'_>) -> Result<bool, AllocError> {
-    match tells_a_part(alloc, graph) {
+    match tells_in_both_ways(alloc, graph) {
         Ok(good) => Ok(good),
         Err(DumpFault::OutOfMemory) => Err(AllocError),
         Err(_) => Ok(false),

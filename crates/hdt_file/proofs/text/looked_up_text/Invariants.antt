@@ -1,5 +1,5 @@
 use Rattle.std.proofs.Common.{drop}
-use Rattle.hdt_file.specs.Inside.Spelling.{KeepsTerms}
+use Rattle.hdt_file.specs.Kept.{KeepsTerms}
 use Rattle.hdt_file.specs.LayoutView.{layout_seen}
 use Rattle.hdt_file.proofs.Texts.{GoesOn, SameFirst}
 use Rattle.hdt_file.proofs.text.looked_up_text.Given as goal
