@@ -4,6 +4,8 @@ ghost use Rattle.hdt_front.specs.Canonical.{lent_texts};
 ghost use Rattle.hdt_dict.specs.Strings.{IsAscending};
 ghost use Rattle.hdt_build.specs.Inside.Placed.{ArePlaced, AreRanks, IsJoined, IsLast};
 
+use crate::looking::{AHEAD, ends, seen_up_to};
+use crate::placed::text_at;
 use hdt_dict::Arena;
 use std::alloc::{AllocError, Global};
 
@@ -28,6 +30,19 @@ fn join<'a>(strings: &mut Vec<&'a [u8]>, text: &'a [u8]) -> Result<usize, AllocE
     Ok(strings.len() - 1)
 }
 
+/// Looks at the strings of the next places in order, where these weren't seen, and answers up to where they are now.
+fn looked_at(list: &Arena, ordered: &[(u64, usize)], at: usize, seen: usize) -> usize {
+    if at < seen {
+        return seen;
+    }
+    let end = ordered.len().min(at.saturating_add(AHEAD));
+    let mut sum: usize = 0;
+    for next in at..end {
+        sum = sum.wrapping_add(ends(text_at(list, ordered[next].1)));
+    }
+    seen_up_to(end, sum)
+}
+
 /// The strings of a list in ascending order, each once and lent where it stands; and for each place of the list where its string
 /// stands among them. Of equal strings, which follow each other in the order of the places, the first is taken.
 pub fn distinct<'a>(
@@ -41,9 +56,12 @@ pub fn distinct<'a>(
 {
     let mut strings = Vec::with_capacity(alloc, ordered.len())?;
     let mut ranks = Vec::from_elem(alloc, 0, list.len())?;
-    for (_, place) in ordered {
-        let rank = join(&mut strings, list.get(*place))?;
-        ranks[*place] = rank as u64;
+    let mut seen = 0;
+    for at in 0..ordered.len() {
+        seen = looked_at(list, ordered, at, seen);
+        let (_, place) = ordered[at];
+        let rank = join(&mut strings, list.get(place))?;
+        ranks[place] = rank as u64;
     }
     Ok((strings, ranks))
 }
