@@ -1,11 +1,10 @@
 //! The strings of a list, each once.
-ghost use Rattle.std.specs.Prelude.{◌≡◌, ◌+◌, length, IfOk, OnOk, IsTrue, ◌↔◌};
+ghost use Rattle.std.specs.Prelude.{◌≡◌, ◌+◌, length, IfOk, OnOk, IsTrue, IsFalse, ◌↔◌};
 ghost use Rattle.hdt_front.specs.Canonical.{lent_texts};
 ghost use Rattle.hdt_dict.specs.Strings.{IsAscending};
 ghost use Rattle.hdt_build.specs.Inside.Placed.{ArePlaced, AreRanks, IsJoined, IsLast};
 
-use crate::looking::{AHEAD, ends, seen_up_to};
-use crate::placed::text_at;
+use crate::looking::{is_tied, looked_at};
 use hdt_dict::Arena;
 use std::alloc::{AllocError, Global};
 
@@ -19,28 +18,17 @@ fn is_last(strings: &[&[u8]], text: &[u8]) -> bool
     }
 }
 
-/// Puts a string at the end of a list, where it isn't the last one already, and answers its place.
-fn join<'a>(strings: &mut Vec<&'a [u8]>, text: &'a [u8]) -> Result<usize, AllocError>
+/// Puts a string at the end of a list, where it isn't the last one already, and answers its place. It is compared where the keys tell
+/// nothing.
+fn join<'a>(strings: &mut Vec<&'a [u8]>, text: &'a [u8], tied: bool) -> Result<usize, AllocError>
+    requires apart { IsFalse tied → IsLast (lent_texts strings.old.items) text.now → ⊥ }
     ensures joined { OnOk result (IsJoined (lent_texts strings.old.items) text.now (lent_texts strings.new.items)) }
     ensures place { IfOk result (λ i. i + 1 ≡ length strings.new.items) }
 {
-    if !is_last(strings.as_slice(), text) {
+    if !tied || !is_last(strings.as_slice(), text) {
         strings.push(text)?;
     }
     Ok(strings.len() - 1)
-}
-
-/// Looks at the strings of the next places in order, where these weren't seen, and answers up to where they are now.
-fn looked_at(list: &Arena, ordered: &[(u64, usize)], at: usize, seen: usize) -> usize {
-    if at < seen {
-        return seen;
-    }
-    let end = ordered.len().min(at.saturating_add(AHEAD));
-    let mut sum: usize = 0;
-    for next in at..end {
-        sum = sum.wrapping_add(ends(text_at(list, ordered[next].1)));
-    }
-    seen_up_to(end, sum)
 }
 
 /// The strings of a list in ascending order, each once and lent where it stands; and for each place of the list where its string
@@ -60,7 +48,7 @@ pub fn distinct<'a>(
     for at in 0..ordered.len() {
         seen = looked_at(list, ordered, at, seen);
         let (_, place) = ordered[at];
-        let rank = join(&mut strings, list.get(place))?;
+        let rank = join(&mut strings, list.get(place), is_tied(ordered, at))?;
         ranks[place] = rank as u64;
     }
     Ok((strings, ranks))

@@ -1,11 +1,18 @@
 use Rattle.std.proofs.Common.{arith}
 use Rattle.std.proofs.lemmas.List.{length-map}
 use Rattle.hdt_front.specs.Canonical.{lent_texts}
-use Rattle.hdt_build.proofs.Ranking.{none_listed, listed_more, all_listed}
+use Rattle.hdt_build.proofs.Ranking.{another, none_listed, listed_more, all_listed}
 use Rattle.hdt_build.proofs.once.distinct.Goals as goal
 
 pub loop-at-init : goal.loop-at-init
 loop-at-init c = record { listed = rw c.in_ok-strings.ensures.items (none_listed c.args.list.now c.args.ordered.now c.in_ok-ranks.ranks.items (omega (arith, c.in_ok-ranks.ensures.len, c.len.ensures, c.in_ok-ranks.ranks.ok.0))) }
+
+pub join-requires : goal.join-requires
+join-requires c =
+    let l = c.loop-at in
+    record {
+      apart = λ no. rw c.get.ensures (another c.args.list.now c.args.ordered.now c.requires l.at c.loop-at-test.true (lent_texts l.strings.items) l.ranks.items l.invariant.listed (c.is_tied.ensures.apart no));
+    }
 
 pub loop-at-preserved : goal.loop-at-preserved
 loop-at-preserved c =
