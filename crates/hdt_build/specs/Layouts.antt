@@ -1,5 +1,5 @@
 -- What a canonical file is, to those who read it.
-use Rattle.std.specs.Prelude.{◌≡◌, ℕ, ◌<◌, List, [], ◌∷◌, length, Ok}
+use Rattle.std.specs.Prelude.{◌≡◌, ℕ, List, [], ◌∷◌, length, Ok}
 use Rattle.hdt_wire.specs.Exact.{seen}
 use Rattle.hdt_dict.specs.Split.{FourLists}
 use Rattle.hdt_dict.specs.Strings.{SameMembers}

@@ -86,12 +86,31 @@ fn guess(slots: &[u64], hash: u64) -> usize {
     (place as usize).wrapping_sub(1)
 }
 
-/// Where strings with these hashes may stand. Their slots are fetched side by side.
+/// The sum of the first and the last of the slots for each hash, which are looked at with no test of what is there: so they are
+/// fetched side by side.
+fn looked_at(slots: &[u64], hashes: &[u64]) -> u64
+    requires { 8 ≤ length slots.now }
+{
+    let mut sum: u64 = 0;
+    for hash in hashes {
+        let from = first_slot(slots, *hash);
+        sum = sum
+            .wrapping_add(slots[from])
+            .wrapping_add(slots[from + PROBES - 1]);
+    }
+    sum
+}
+
+/// Where strings with these hashes may stand.
 fn guesses_of(alloc: Global, slots: &[u64], hashes: &[u64]) -> Result<Vec<usize>, AllocError>
     requires { 8 ≤ length slots.now }
     ensures { IfOk result (λ made. length made.items ≡ length hashes.now) }
 {
-    let mut made = Vec::with_capacity(alloc, hashes.len())?;
+    // (The sum says nothing: that it is used makes the slots be looked at.)
+    let room = hashes
+        .len()
+        .saturating_add(looked_at(slots, hashes).min(1) as usize);
+    let mut made = Vec::with_capacity(alloc, room)?;
     for hash in hashes {
         let from = first_slot(slots, *hash);
         made.push(guess(&slots[from..from + PROBES], *hash))?;
@@ -99,18 +118,19 @@ fn guesses_of(alloc: Global, slots: &[u64], hashes: &[u64]) -> Result<Vec<usize>
     Ok(made)
 }
 
-/// Whether a string of a list begins as a text.
-fn begins_alike(list: &Arena, at: usize, text: &[u8]) -> bool {
-    at < list.len() && list.get(at).first() == text.first()
+/// Whether a string of a list has the first byte of a text, and the last. Most are so short that no other line of a cache is read
+/// when all of it is compared.
+fn is_alike(list: &Arena, at: usize, text: &[u8]) -> bool {
+    at < list.len() && list.get(at).first() == text.first() && list.get(at).last() == text.last()
 }
 
-/// Drops the guesses whose strings begin otherwise. These are fetched side by side.
+/// Drops the guesses whose strings begin or end otherwise. These are fetched side by side.
 fn check(list: &Arena, strings: &Arena, guesses: &mut Vec<usize>)
     requires { length guesses.old.items ≡ length strings.now }
     ensures { length guesses.new.items ≡ length guesses.old.items }
 {
     'strings: for at in 0..strings.len() {
-        if !begins_alike(list, guesses[at], strings.get(at)) {
+        if !is_alike(list, guesses[at], strings.get(at)) {
             guesses[at] = usize::MAX;
         }
     }

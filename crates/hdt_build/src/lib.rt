@@ -23,7 +23,7 @@
 //! In reading order: `options`, `report` and `fault`, what is asked for and what is answered; `interner`, strings
 //! kept once, and where they stand; `queue`, triples that wait until their strings are looked up; `document`, triples as
 //! places of strings; `reading`, the lines of an input; `keys`, `ties`, `merging` and `placed`, the places in the strings'
-//! order; `once`, the strings each once; `used`, which of them triples use in a role; `parted`, the sections as filters of
+//! order; `looking`, a look ahead at strings; `once`, the strings each once; `used`, which of them triples use in a role; `parted`, the sections as filters of
 //! them, with their numbers; `triples` and `form`, the four sections and triples as numbers; `header` and `file`, the bytes;
 //! `building`, all of it; `laws`. For rewriting: `kept`, which strings the new sections have; `run`, these one after
 //! another; `sections`, written from two runs each, with the new numbers, which `renumbering` keeps; then `triples`, and
@@ -40,6 +40,7 @@ mod interner;
 mod kept;
 mod keys;
 mod laws;
+mod looking;
 mod merging;
 mod once;
 mod options;

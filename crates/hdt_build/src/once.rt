@@ -1,9 +1,10 @@
 //! The strings of a list, each once.
-ghost use Rattle.std.specs.Prelude.{◌≡◌, ◌+◌, length, IfOk, OnOk, IsTrue, ◌↔◌};
+ghost use Rattle.std.specs.Prelude.{◌≡◌, ◌+◌, length, IfOk, OnOk, IsTrue, IsFalse, ◌↔◌};
 ghost use Rattle.hdt_front.specs.Canonical.{lent_texts};
 ghost use Rattle.hdt_dict.specs.Strings.{IsAscending};
 ghost use Rattle.hdt_build.specs.Inside.Placed.{ArePlaced, AreRanks, IsJoined, IsLast};
 
+use crate::looking::{is_tied, looked_at};
 use hdt_dict::Arena;
 use std::alloc::{AllocError, Global};
 
@@ -17,12 +18,14 @@ fn is_last(strings: &[&[u8]], text: &[u8]) -> bool
     }
 }
 
-/// Puts a string at the end of a list, where it isn't the last one already, and answers its place.
-fn join<'a>(strings: &mut Vec<&'a [u8]>, text: &'a [u8]) -> Result<usize, AllocError>
+/// Puts a string at the end of a list, where it isn't the last one already, and answers its place. It is compared where the keys tell
+/// nothing.
+fn join<'a>(strings: &mut Vec<&'a [u8]>, text: &'a [u8], tied: bool) -> Result<usize, AllocError>
+    requires apart { IsFalse tied → IsLast (lent_texts strings.old.items) text.now → ⊥ }
     ensures joined { OnOk result (IsJoined (lent_texts strings.old.items) text.now (lent_texts strings.new.items)) }
     ensures place { IfOk result (λ i. i + 1 ≡ length strings.new.items) }
 {
-    if !is_last(strings.as_slice(), text) {
+    if !tied || !is_last(strings.as_slice(), text) {
         strings.push(text)?;
     }
     Ok(strings.len() - 1)
@@ -41,9 +44,12 @@ pub fn distinct<'a>(
 {
     let mut strings = Vec::with_capacity(alloc, ordered.len())?;
     let mut ranks = Vec::from_elem(alloc, 0, list.len())?;
-    for (_, place) in ordered {
-        let rank = join(&mut strings, list.get(*place))?;
-        ranks[*place] = rank as u64;
+    let mut seen = 0;
+    for at in 0..ordered.len() {
+        seen = looked_at(list, ordered, at, seen);
+        let (_, place) = ordered[at];
+        let rank = join(&mut strings, list.get(place), is_tied(ordered, at))?;
+        ranks[place] = rank as u64;
     }
     Ok((strings, ranks))
 }

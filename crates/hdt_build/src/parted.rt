@@ -9,6 +9,7 @@ ghost use Rattle.hdt_build.specs.Inside.Kept.{AreBlocks, sections_in_work};
 ghost use Rattle.hdt_build.specs.Inside.Parted.{IsWanted, IsFilled, ArePartsOf};
 ghost use Rattle.hdt_build.specs.Reading.{AreTexts};
 
+use crate::looking::{AHEAD, ends, seen_up_to};
 use crate::sections::Sections;
 use crate::used::used;
 use hdt_dict::Role;
@@ -32,6 +33,25 @@ fn has(filter: Filter<'_>, at: usize) -> bool
     filter.used[at] && filter.other[at] == filter.wanted
 }
 
+/// Looks at the strings that a filter takes of those at the next places, where these weren't seen, and answers up to where they
+/// are now.
+fn looked_at(strings: &[&[u8]], filter: Filter<'_>, at: usize, seen: usize) -> usize
+    requires used { length filter.used.now ≡ length strings.now }
+    requires other { length filter.other.now ≡ length strings.now }
+{
+    if at < seen {
+        return seen;
+    }
+    let end = strings.len().min(at.saturating_add(AHEAD));
+    let mut sum: usize = 0;
+    for place in at..end {
+        if has(filter, place) {
+            sum = sum.wrapping_add(ends(strings[place]));
+        }
+    }
+    seen_up_to(end, sum)
+}
+
 /// Writes the section of the strings that a filter takes, and notes at the place of each its number behind so many other strings.
 fn put(
     alloc: Global,
@@ -53,7 +73,9 @@ fn put(
     ensures few { IfOk result (λ made. length made.strings ≤ length strings.now) }
 {
     let mut out = SectionWriter::new(alloc, block_size);
+    let mut seen = 0;
     for at in 0..strings.len() {
+        seen = looked_at(strings, filter, at, seen);
         if has(filter, at) {
             out.push(strings[at])?;
             numbers[at] = count + out.len();
