@@ -2,7 +2,7 @@
 use Rattle.std.proofs.Common.{◌≡◌, ℕ, true, false, eqb, List, [], ◌∷◌, Option, Some, Ok, refl, ap, subst, ◌∙◌, arith}
 use Rattle.std.specs.Prelude.{IsUtf8}
 use Rattle.hdt_terms.specs.declared.fault.ReadError.{ReadError}
-use Rattle.hdt_terms.specs.declared.line.Role.{Role}
+use Rattle.hdt_wire.specs.declared.role.Role.{Role}
 use Rattle.hdt_terms.specs.declared.term.Term.{Term}
 use Rattle.hdt_terms.specs.Appending.{Appended}
 use Rattle.hdt_terms.specs.LineReading.{role_here}

@@ -1,8 +1,8 @@
 -- What is spelled in a request is read.
 use Rattle.std.proofs.Common.{◌≡◌, ℕ, false, List, [], ◌∷◌, ◌++◌, Option, None, Some, Ok, sym, refl, ap, subst, ◌∙◌, inl, inr, arith}
 use Rattle.std.specs.Str.{chars}
-use Rattle.hdt_terms.specs.declared.line.Role.{Role}
-use Rattle.hdt_terms.specs.declared.line.Role.TheVariants.{Subject, Predicate, Object}
+use Rattle.hdt_wire.specs.declared.role.Role.{Role}
+use Rattle.hdt_wire.specs.declared.role.Role.TheVariants.{Subject, Predicate, Object}
 use Rattle.hdt_terms.specs.declared.term.Suffix.{Suffix}
 use Rattle.hdt_terms.specs.declared.term.Suffix.TheVariants.{Plain, Tag, Datatype}
 use Rattle.hdt_terms.specs.declared.term.Term.{Term}

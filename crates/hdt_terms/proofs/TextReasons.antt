@@ -5,8 +5,8 @@ use Rattle.hdt_terms.specs.declared.fault.LineReason.{LineReason}
 use Rattle.hdt_terms.specs.declared.fault.LineReason.TheVariants.{Syntax, NotUtf8, BadEscape, RelativeIri, IriCharacter, ZeroCharacter, Read, OutOfMemory, TooLong}
 use Rattle.hdt_terms.specs.declared.fault.Stop.{Stop}
 use Rattle.hdt_terms.specs.declared.fault.TermFault.{TermFault}
-use Rattle.hdt_terms.specs.declared.line.Role.{Role}
-use Rattle.hdt_terms.specs.declared.line.Role.TheVariants.{Subject, Predicate, Object}
+use Rattle.hdt_wire.specs.declared.role.Role.{Role}
+use Rattle.hdt_wire.specs.declared.role.Role.TheVariants.{Subject, Predicate, Object}
 use Rattle.hdt_terms.specs.declared.pieces.Token.{Token}
 use Rattle.hdt_terms.specs.declared.pieces.Token.TheVariants.{Iri, Quoted}
 use Rattle.hdt_terms.specs.declared.triple.Triple.{Triple}

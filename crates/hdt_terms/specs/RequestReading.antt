@@ -4,8 +4,8 @@ use Rattle.hdt_terms.specs.declared.fault.LineReason.TheVariants.{Syntax}
 use Rattle.hdt_terms.specs.declared.fault.Stop.{Stop}
 use Rattle.hdt_terms.specs.declared.fault.ReadError.{ReadError}
 use Rattle.hdt_terms.specs.declared.fault.TermFault.{TermFault}
-use Rattle.hdt_terms.specs.declared.line.Role.{Role}
-use Rattle.hdt_terms.specs.declared.line.Role.TheVariants.{Subject, Predicate, Object}
+use Rattle.hdt_wire.specs.declared.role.Role.{Role}
+use Rattle.hdt_wire.specs.declared.role.Role.TheVariants.{Subject, Predicate, Object}
 use Rattle.hdt_terms.specs.declared.term.Term.{Term}
 use Rattle.hdt_terms.specs.Faults.{out_of_memory, checked}
 use Rattle.hdt_terms.specs.LineReading.{role_here, is_bare, bare_at, located}

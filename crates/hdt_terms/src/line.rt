@@ -12,15 +12,8 @@ use crate::literal::after_blanks;
 use crate::parse::read_term;
 use crate::term::Term;
 use crate::triple::Triple;
+use hdt_wire::Role;
 use std::alloc::Global;
-
-/// What a term is in a triple.
-#[derive(Clone, Copy)]
-pub enum Role {
-    Subject,
-    Predicate,
-    Object,
-}
 
 /// Whether a term of the role may begin with this byte.
 fn begins(role: Role, first: u8) -> bool

@@ -6,8 +6,9 @@ ghost use Rattle.hdt_terms.specs.Reading.{GivesRead};
 
 use crate::encoding::check_utf8;
 use crate::fault::{LineReason, ReadError, TermFault, fault_of, refuse};
-use crate::line::{Role, append_here, is_bare, is_comment};
+use crate::line::{append_here, is_bare, is_comment};
 use crate::literal::after_blanks;
+use hdt_wire::Role;
 
 /// Puts the string of the term of the role that begins here into the buffer, where it is not `?`: whether there is a term,
 /// and the bytes after it.
