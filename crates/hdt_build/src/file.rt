@@ -58,10 +58,7 @@ pub fn whole_file(alloc: Global, header: &[u8], form: Form) -> Result<(Vec<u8>, 
     ensures report { IfOk result (λ made. made.1 ≡ report_of (sections_in_work form.sections) form.triples.items made.0.items) }
 {
     let triples = form.triples.len() as u64;
-    let shared = form.sections.shared.len();
-    let subjects = form.sections.subjects.len();
-    let predicates = form.sections.predicates.len();
-    let objects = form.sections.objects.len();
+    let [shared, subjects, predicates, objects] = form.sections.lens();
     let bytes = canonical_file(alloc, header, form)?;
     let report = Report {
         triples,
