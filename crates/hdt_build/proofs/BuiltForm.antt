@@ -1,5 +1,5 @@
 -- What is built of a form.
-use Rattle.std.proofs.Common.{◌≡◌, ℕ, ◌<◌, ◌∙◌, List, [], length, ap, sym, subst, Result, Ok, Err}
+use Rattle.std.proofs.Common.{◌∷◌, get_or, ◌≡◌, ℕ, ◌<◌, ◌∙◌, List, [], length, ap, sym, subst, Result, Ok, Err}
 use Rattle.std.specs.Prelude.{IfOk}
 use Rattle.hdt_dict.specs.Split.{FourLists}
 use Rattle.hdt_dict.specs.Laws.Split.{split_sections}
@@ -33,11 +33,12 @@ made_of g d ts header b bytes report some texts form file told = record {
   report_is = told;
 }
 
--- the numbers of sections, with the count of the triples and the length of the file
-pub told_of : (r : Report) (d : FourLists) (ts : List Triple) (bytes : List ℕ) (n m : ℕ) → r ≡ report_of d [] [] → n ≡ length ts → m ≡ length bytes
-    → let told : Report = record { triples = n; shared = r.shared; subjects = r.subjects; predicates = r.predicates; objects = r.objects; bytes = m } in told ≡ report_of d ts bytes
+-- the numbers of sections that are so long, with the count of the triples and the length of the file
+pub told_of : (lens : List ℕ) (d : FourLists) (ts : List Triple) (bytes : List ℕ) (n m : ℕ)
+    → lens ≡ length d.shared ∷ length d.subjects ∷ length d.predicates ∷ length d.objects ∷ [] → n ≡ length ts → m ≡ length bytes
+    → let told : Report = record { triples = n; shared = get_or lens 0 0; subjects = get_or lens 1 0; predicates = get_or lens 2 0; objects = get_or lens 3 0; bytes = m } in told ≡ report_of d ts bytes
 unfolding report_of
-told_of r d ts bytes n m is count long = λ i. record { triples = count i; shared = (is i).shared; subjects = (is i).subjects; predicates = (is i).predicates; objects = (is i).objects; bytes = long i }
+told_of lens d ts bytes n m is count long = λ i. record { triples = count i; shared = get_or (is i) 0 0; subjects = get_or (is i) 1 0; predicates = get_or (is i) 2 0; objects = get_or (is i) 3 0; bytes = long i }
 
 -- the header body that tells how many triples a file has, which are those of its numbers
 pub all_built : {V E : Type 0} (items : V → List ℕ) (r : Result (V × Report) E) (options : Options) (g : List StringTriple) (d : FourLists) (ts : List Triple) (header : List ℕ)

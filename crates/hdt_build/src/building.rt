@@ -37,27 +37,6 @@ fn built(
     whole_file(alloc, header.as_slice(), form)
 }
 
-/// The same of what the reader gives, under options that are right.
-fn read_and_build<R: Read>(
-    alloc: Global,
-    input: &mut Counted<R>,
-    options: &Options,
-) -> Result<(Vec<u8>, Report), BuildFault>
-    requires { AreRight options.now }
-    ensures found { IfOk result (λ made. Builds options.now (R.remaining (inner input.old)) made.0.items made.1) }
-    ensures end { OnOk result (IsAtEnd (R.remaining (inner input.new))) }
-    ensures told { IfErr result (TellsBuildFault (R.remaining (inner input.old)) (R.remaining (inner input.new))) }
-    ensures read { IfErr result (λ e. ReadFailed e → failures input.new ≡ failures input.old + 1) }
-    ensures still { IfErr result (λ e. (ReadFailed e → ⊥) → failures input.new ≡ failures input.old) }
-    ensures count { OnOk result (failures input.new ≡ failures input.old) }
-{
-    let document = read_graph(alloc, input)?;
-    if document.is_empty() {
-        return Err(BuildFault::NoTriples);
-    }
-    Ok(built(alloc, document, options)?)
-}
-
 /// Builds the canonical file of the graph of an N-Triples document, in memory: the bytes, and their numbers. The input
 /// may have 2^63 - 1 bytes. The order of its lines, repeats and comments make no difference.
 ///
@@ -97,7 +76,11 @@ pub fn build_bytes<R: Read>(
     if !are_right(options) {
         return Err(BuildFault::BadOptions);
     }
-    read_and_build(alloc, input, options)
+    let document = read_graph(alloc, input)?;
+    if document.is_empty() {
+        return Err(BuildFault::NoTriples);
+    }
+    Ok(built(alloc, document, options)?)
 }
 
 /// Builds the canonical file of the graph of an N-Triples document, and then writes it: the bytes of [`build_bytes`].

@@ -1,8 +1,6 @@
 //! The bytes of a file, in its canonical form.
-ghost use Rattle.std.specs.Prelude.{◌≡◌, ◌++◌, [], List, IfOk, OnOk};
-ghost use Rattle.hdt_dict.specs.Split.{FourLists};
+ghost use Rattle.std.specs.Prelude.{◌≡◌, ◌++◌, IfOk, OnOk};
 ghost use Rattle.hdt_dict.specs.Writing.{AreSections};
-ghost use Rattle.hdt_triples.specs.Counting.{Triple};
 ghost use Rattle.hdt_triples.specs.Order.{AreWritable};
 ghost use Rattle.hdt_build.specs.Built.{report_of};
 ghost use Rattle.hdt_build.specs.Canonical.{canonical_head, canonical_file};
@@ -50,33 +48,8 @@ fn canonical_file(alloc: Global, header: &[u8], form: Form) -> Result<Vec<u8>, A
     Ok(bytes)
 }
 
-/// The numbers of a file with these sections and triples, without its length.
-#[tactic(auto, unfolding(crate::specs::Built::report_of))]
-fn counts_of(form: &Form) -> Report
-    ensures { result ≡ report_of (sections_in_work form.now.sections) form.now.triples.items [] }
-{
-    Report {
-        triples: form.triples.len() as u64,
-        shared: form.sections.shared.len(),
-        subjects: form.sections.subjects.len(),
-        predicates: form.sections.predicates.len(),
-        objects: form.sections.objects.len(),
-        bytes: 0,
-    }
-}
-
-/// The numbers with the length of the file.
-#[tactic(auto, unfolding(crate::specs::Built::report_of))]
-fn report_of(counts: Report, bytes: &[u8]) -> Report
-    ensures { (d : FourLists) (ts : List Triple) → counts ≡ report_of d ts [] → result ≡ report_of d ts bytes.now }
-{
-    Report {
-        bytes: bytes.len() as u64,
-        ..counts
-    }
-}
-
 /// The canonical file of a header body, the four sections and the number triples of a graph; and its numbers.
+#[tactic(auto, unfolding(crate::specs::Built::report_of))]
 pub fn whole_file(alloc: Global, header: &[u8], form: Form) -> Result<(Vec<u8>, Report), AllocError>
     requires sections { AreSections (sections_in_work form.sections) }
     requires triples { AreWritable form.triples.items }
@@ -84,8 +57,16 @@ pub fn whole_file(alloc: Global, header: &[u8], form: Form) -> Result<(Vec<u8>, 
     ensures bytes { IfOk result (λ made. made.0.items ≡ canonical_file header.now form.sections.shared.block_size (sections_in_work form.sections) form.triples.items) }
     ensures report { IfOk result (λ made. made.1 ≡ report_of (sections_in_work form.sections) form.triples.items made.0.items) }
 {
-    let counts = counts_of(&form);
+    let triples = form.triples.len() as u64;
+    let [shared, subjects, predicates, objects] = form.sections.lens();
     let bytes = canonical_file(alloc, header, form)?;
-    let report = report_of(counts, bytes.as_slice());
+    let report = Report {
+        triples,
+        shared,
+        subjects,
+        predicates,
+        objects,
+        bytes: bytes.len() as u64,
+    };
     Ok((bytes, report))
 }

@@ -1,9 +1,7 @@
 //! From a graph that was opened to its canonical file.
-ghost use Rattle.std.specs.Prelude.{◌≡◌, ◌≢◌, [], ◌+◌, ◌↔◌, ℕ, IfOk, IfErr, OnOk, IsErrOf};
+ghost use Rattle.std.specs.Prelude.{◌≡◌, ◌≢◌, ◌+◌, ◌↔◌, ℕ, IfOk, IfErr, OnOk, IsErrOf};
 ghost use Rattle.hdt_wire.specs.Counted.{inner, failures};
 ghost use Rattle.hdt_file.specs.Views.{graph_seen};
-ghost use Rattle.hdt_build.specs.Built.{report_of};
-ghost use Rattle.hdt_build.specs.Inside.Kept.{sections_in_work};
 ghost use Rattle.hdt_build.specs.Options.{IsBlockSize};
 ghost use Rattle.hdt_build.specs.Rewritten.{IsRewritten, WritesAgain, BeginsAgain};
 
@@ -20,21 +18,6 @@ use hdt_wire::Counted;
 use std::alloc::{AllocError, Global};
 use std::io::Write;
 
-/// The numbers of a file with these sections, without its triples.
-#[tactic(auto, unfolding(crate::specs::Built::report_of))]
-fn report_of(sections: &Sections) -> Report
-    ensures { result ≡ report_of (sections_in_work sections.now) [] [] }
-{
-    Report {
-        triples: 0,
-        shared: sections.shared.len(),
-        subjects: sections.subjects.len(),
-        predicates: sections.predicates.len(),
-        objects: sections.objects.len(),
-        bytes: 0,
-    }
-}
-
 /// The canonical file of what a graph denotes, with its header body, and its numbers. A section is let go once it stands in the
 /// file, and the triples are found then.
 fn rewritten(
@@ -47,7 +30,7 @@ fn rewritten(
 {
     graph.is_graph();
     let (sections, numbers) = new_sections(alloc, graph, block_size)?;
-    let mut report = report_of(&sections);
+    let lens = sections.lens();
     let mut bytes = Vec::new(alloc);
     put_head(alloc, graph.header(), &mut bytes)?;
     let Sections {
@@ -60,8 +43,15 @@ fn rewritten(
     let triples = new_triples(alloc, graph, &numbers)?;
     drop(numbers);
     put_triples(alloc, triples.as_slice(), &mut bytes)?;
-    report.triples = triples.len() as u64;
-    report.bytes = bytes.len() as u64;
+    let [shared, subjects, predicates, objects] = lens;
+    let report = Report {
+        triples: triples.len() as u64,
+        shared,
+        subjects,
+        predicates,
+        objects,
+        bytes: bytes.len() as u64,
+    };
     Ok((bytes, report))
 }
 

@@ -120,6 +120,20 @@ pub struct Sections {
     pub objects: SectionWriter,
 }
 
+impl Sections {
+    /// How many strings each has: shared, subjects, predicates, objects.
+    pub fn lens(&self) -> [u64; 4]
+        ensures { result ≡ length (sections_in_work self.now).shared ∷ length (sections_in_work self.now).subjects ∷ length (sections_in_work self.now).predicates ∷ length (sections_in_work self.now).objects ∷ [] }
+    {
+        [
+            self.shared.len(),
+            self.subjects.len(),
+            self.predicates.len(),
+            self.objects.len(),
+        ]
+    }
+}
+
 /// The new numbers of three roles.
 #[derive(Drop)]
 pub struct Numbers {

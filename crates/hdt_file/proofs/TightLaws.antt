@@ -11,29 +11,31 @@ use Rattle.hdt_wire.specs.Laws.Row.{bound}
 use Rattle.hdt_wire.specs.Exact.{Exactly, OneValue, OneFault}
 use Rattle.hdt_wire.specs.Laws.Exact.{ok_is, each_row, all_rows, last_held, holds_on, value_or_fault}
 use Rattle.hdt_front.specs.Section.{string_place}
-use Rattle.hdt_dict.specs.Dictionary.{DictionaryParts, section_number, terms}
+use Rattle.hdt_dict.specs.Dictionary.{DictionaryParts, terms}
 use Rattle.hdt_triples.specs.Counting.{Triple, triples_of}
 use Rattle.hdt_triples.specs.Triples.{bitmap_of}
 use Rattle.hdt_triples.specs.Uses.{Uses, uses}
 use Rattle.hdt_triples.specs.Laws.Uses.{uses_found, uses_only}
+use Rattle.hdt_file.specs.declared.tight.Part.{Part}
+use Rattle.hdt_file.specs.declared.tight.Part.TheVariants as parts
 use Rattle.hdt_file.specs.File.{FileParts, GraphParts, file_at_start, graph_of, graph_in}
 use Rattle.hdt_file.proofs.FileLaws.{file_exact}
-use Rattle.hdt_file.specs.Tight.{IsTight, IsTightLayout, is_used, used_row, section_used, strings_used, tight_in}
+use Rattle.hdt_file.specs.Tight.{IsTight, IsTightLayout, is_used, used_row, section_of_part, section_used, strings_used, tight_in}
 
 -- ---- one section
 
-section_found : (d : DictionaryParts) (ts : List Triple) (section : ℕ) → section_used d ts section ≡ Ok tt → (n : ℕ) → 1 ≤ n → n ≤ length (section_number d section).strings → is_used d ts section n ≡ true
+section_found : (d : DictionaryParts) (ts : List Triple) (part : Part) → section_used d ts part ≡ Ok tt → (n : ℕ) → 1 ≤ n → n ≤ length (section_of_part d part).strings → is_used d ts part n ≡ true
 unfolding used_row
-section_found d ts section h n from to =
-    let row = each_row (used_row d ts section) (length (section_number d section).strings) 0 h (n - 1) (omega arith) (omega (arith, from, to)) in
+section_found d ts part h n from to =
+    let row = each_row (used_row d ts part) (length (section_of_part d part).strings) 0 h (n - 1) (omega arith) (omega (arith, from, to)) in
     let next : n - 1 + 1 ≡ n = omega (arith, from) in
-    sym (ap (is_used d ts section) next) ∙ last_held (is_used d ts section (n - 1 + 1)) (string_place (section_number d section) (n - 1)) Unused tt row
+    sym (ap (is_used d ts part) next) ∙ last_held (is_used d ts part (n - 1 + 1)) (string_place (section_of_part d part) (n - 1)) Unused tt row
 
-section_only : (d : DictionaryParts) (ts : List Triple) (section : ℕ) → ((n : ℕ) → 1 ≤ n → n ≤ length (section_number d section).strings → is_used d ts section n ≡ true) → section_used d ts section ≡ Ok tt
+section_only : (d : DictionaryParts) (ts : List Triple) (part : Part) → ((n : ℕ) → 1 ≤ n → n ≤ length (section_of_part d part).strings → is_used d ts part n ≡ true) → section_used d ts part ≡ Ok tt
 unfolding used_row
-section_only d ts section all =
-    all_rows (used_row d ts section) (length (section_number d section).strings) 0
-    (λ i from to. holds_on (is_used d ts section (i + 1)) (string_place (section_number d section) i) Unused (all (i + 1) (omega arith) (omega (arith, to))))
+section_only d ts part all =
+    all_rows (used_row d ts part) (length (section_of_part d part).strings) 0
+    (λ i from to. holds_on (is_used d ts part (i + 1)) (string_place (section_of_part d part) i) Unused (all (i + 1) (omega arith) (omega (arith, to))))
 
 -- ---- all four
 
@@ -60,18 +62,18 @@ behind ts role front n lt h =
     let same : front + (n - front) ≡ n = omega (arith, lt) in
     uses_found ts role n (sym (ap (uses ts role) same) ∙ h)
 
-all_found : (d : DictionaryParts) (ts : List Triple) → section_used d ts 0 ≡ Ok tt → section_used d ts 1 ≡ Ok tt → section_used d ts 2 ≡ Ok tt → section_used d ts 3 ≡ Ok tt → AllUsed d ts
+all_found : (d : DictionaryParts) (ts : List Triple) → section_used d ts parts.Shared ≡ Ok tt → section_used d ts parts.Subjects ≡ Ok tt → section_used d ts parts.Predicates ≡ Ok tt → section_used d ts parts.Objects ≡ Ok tt → AllUsed d ts
 unfolding is_used
 all_found d ts shared subjects predicates objects Subject n from to =
     elim (cases_lt (length d.shared.strings) n) [
-      | inl lt ↦ behind ts Subject (length d.shared.strings) n lt (section_found d ts 1 subjects (n - length d.shared.strings) (omega (arith, lt)) (omega (arith, lt, to, length-append d.shared.strings d.subjects.strings)))
-      | inr le ↦ uses_found ts Subject n (and_left (uses ts Subject n) (uses ts Object n) (section_found d ts 0 shared n from le))
+      | inl lt ↦ behind ts Subject (length d.shared.strings) n lt (section_found d ts parts.Subjects subjects (n - length d.shared.strings) (omega (arith, lt)) (omega (arith, lt, to, length-append d.shared.strings d.subjects.strings)))
+      | inr le ↦ uses_found ts Subject n (and_left (uses ts Subject n) (uses ts Object n) (section_found d ts parts.Shared shared n from le))
     ]
-all_found d ts shared subjects predicates objects Predicate n from to = uses_found ts Predicate n (section_found d ts 2 predicates n from to)
+all_found d ts shared subjects predicates objects Predicate n from to = uses_found ts Predicate n (section_found d ts parts.Predicates predicates n from to)
 all_found d ts shared subjects predicates objects Object n from to =
     elim (cases_lt (length d.shared.strings) n) [
-      | inl lt ↦ behind ts Object (length d.shared.strings) n lt (section_found d ts 3 objects (n - length d.shared.strings) (omega (arith, lt)) (omega (arith, lt, to, length-append d.shared.strings d.objects.strings)))
-      | inr le ↦ uses_found ts Object n (and_right (uses ts Subject n) (uses ts Object n) (section_found d ts 0 shared n from le))
+      | inl lt ↦ behind ts Object (length d.shared.strings) n lt (section_found d ts parts.Objects objects (n - length d.shared.strings) (omega (arith, lt)) (omega (arith, lt, to, length-append d.shared.strings d.objects.strings)))
+      | inr le ↦ uses_found ts Object n (and_right (uses ts Subject n) (uses ts Object n) (section_found d ts parts.Shared shared n from le))
     ]
 
 all_only : (d : DictionaryParts) (ts : List Triple) → AllUsed d ts → strings_used d ts ≡ Ok tt
@@ -79,19 +81,19 @@ unfolding strings_used is_used
 all_only d ts all =
     let subject : (n : ℕ) → 1 ≤ n → n ≤ length d.shared.strings + length d.subjects.strings → uses ts Subject n ≡ true = λ n from to. uses_only ts Subject n (all Subject n from (omega (arith, to, length-append d.shared.strings d.subjects.strings))) in
     let object : (n : ℕ) → 1 ≤ n → n ≤ length d.shared.strings + length d.objects.strings → uses ts Object n ≡ true = λ n from to. uses_only ts Object n (all Object n from (omega (arith, to, length-append d.shared.strings d.objects.strings))) in
-    let e0 : section_used d ts 0 ≡ Ok tt = section_only d ts 0 (λ n from to. and_both (uses ts Subject n) (uses ts Object n) (subject n from (omega (arith, to))) (object n from (omega (arith, to)))) in
-    let e1 : section_used d ts 1 ≡ Ok tt = section_only d ts 1 (λ n from to. subject (length d.shared.strings + n) (omega (arith, from)) (omega (arith, to))) in
-    let e2 : section_used d ts 2 ≡ Ok tt = section_only d ts 2 (λ n from to. uses_only ts Predicate n (all Predicate n from to)) in
-    let e3 : section_used d ts 3 ≡ Ok tt = section_only d ts 3 (λ n from to. object (length d.shared.strings + n) (omega (arith, from)) (omega (arith, to))) in
+    let e0 : section_used d ts parts.Shared ≡ Ok tt = section_only d ts parts.Shared (λ n from to. and_both (uses ts Subject n) (uses ts Object n) (subject n from (omega (arith, to))) (object n from (omega (arith, to)))) in
+    let e1 : section_used d ts parts.Subjects ≡ Ok tt = section_only d ts parts.Subjects (λ n from to. subject (length d.shared.strings + n) (omega (arith, from)) (omega (arith, to))) in
+    let e2 : section_used d ts parts.Predicates ≡ Ok tt = section_only d ts parts.Predicates (λ n from to. uses_only ts Predicate n (all Predicate n from to)) in
+    let e3 : section_used d ts parts.Objects ≡ Ok tt = section_only d ts parts.Objects (λ n from to. object (length d.shared.strings + n) (omega (arith, from)) (omega (arith, to))) in
     rw (e0, e1, e2, e3) refl
 
 pub strings_exact : (d : DictionaryParts) (ts : List Triple) → Exactly (strings_used d ts) (λ _. AllUsed d ts)
 unfolding strings_used
 strings_exact d ts = record {
   found = λ u e.
-      bound (section_used d ts 0) _ _ e (λ a e0 e.
-      bound (section_used d ts 1) _ _ e (λ b e1 e.
-      bound (section_used d ts 2) _ _ e (λ c e2 e3. all_found d ts e0 e1 e2 e3)));
+      bound (section_used d ts parts.Shared) _ _ e (λ a e0 e.
+      bound (section_used d ts parts.Subjects) _ _ e (λ b e1 e.
+      bound (section_used d ts parts.Predicates) _ _ e (λ c e2 e3. all_found d ts e0 e1 e2 e3)));
   only = λ u all. all_only d ts all;
 }
 

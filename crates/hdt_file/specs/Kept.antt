@@ -1,5 +1,5 @@
 -- What a speller keeps of the lines that it has spelled.
-use Rattle.std.specs.Prelude.{◌≡◌, ℕ, ⊤, List, [], Option, None, Some}
+use Rattle.std.specs.Prelude.{ℕ, ⊤, List, [], Option, None, Some}
 use Rattle.std.specs.List.{All}
 use Rattle.hdt_wire.specs.declared.role.Role.{Role}
 use Rattle.hdt_wire.specs.declared.role.Role.TheVariants.{Subject, Predicate, Object}

@@ -1,17 +1,19 @@
 -- Tight files: triples use each string of the dictionary in its role, and so each shared string both as subject and as
 -- object.
-use Rattle.std.specs.Prelude.{ℕ, zero, suc, ◌+◌, ◌≤◌, ◌&&◌, Bool, List, length, Result, Ok}
+use Rattle.std.specs.Prelude.{ℕ, ◌+◌, ◌≤◌, ◌&&◌, Bool, List, length, Result, Ok}
 use Rattle.hdt_wire.specs.declared.fault.Fault.{Fault}
 use Rattle.hdt_wire.specs.declared.fault.Reason.TheVariants.{Unused}
 use Rattle.hdt_wire.specs.declared.role.Role.{Role}
 use Rattle.hdt_wire.specs.declared.role.Role.TheVariants.{Subject, Predicate, Object}
 use Rattle.hdt_wire.specs.Rows.{◌>>=◌, demand}
 use Rattle.hdt_wire.specs.ExactItems.{rows_from}
-use Rattle.hdt_front.specs.Section.{string_place}
+use Rattle.hdt_front.specs.Section.{SectionParts, string_place}
 use Rattle.hdt_dict.specs.Dictionary.{DictionaryParts, section_number}
 use Rattle.hdt_triples.specs.Counting.{Triple, triples_of}
 use Rattle.hdt_triples.specs.Triples.{bitmap_of}
 use Rattle.hdt_triples.specs.Uses.{Uses, uses}
+use Rattle.hdt_file.specs.declared.tight.Part.{Part}
+use Rattle.hdt_file.specs.declared.tight.Part.TheVariants as parts
 use Rattle.hdt_file.specs.File.{GraphParts, IsLayout, file_at_start, graph_of}
 use Rattle.hdt_file.specs.Views.{strings_in}
 
@@ -26,29 +28,40 @@ pub record IsTightLayout (bytes : List ℕ) (graph : GraphParts) : Type 0 where
 
 -- ---- the rows
 
+-- the number of a section, from 0
+abbrev pub part_number : Part → ℕ
+part_number parts.Shared = 0
+part_number parts.Subjects = 1
+part_number parts.Predicates = 2
+part_number parts.Objects = 3
+
+-- its strings and places
+abbrev pub section_of_part : DictionaryParts → Part → SectionParts
+section_of_part d part = section_number d (part_number part)
+
 -- whether triples use string n of a section, from 1: a shared one in both roles; the numbers of subjects and objects go
 -- on behind those of the shared strings
-unfoldable pub is_used : DictionaryParts → List Triple → ℕ → ℕ → Bool
-is_used d ts zero n = uses ts Subject n && uses ts Object n
-is_used d ts (suc zero) n = uses ts Subject (length d.shared.strings + n)
-is_used d ts (suc (suc zero)) n = uses ts Predicate n
-is_used d ts (suc (suc (suc i))) n = uses ts Object (length d.shared.strings + n)
+unfoldable pub is_used : DictionaryParts → List Triple → Part → ℕ → Bool
+is_used d ts parts.Shared n = uses ts Subject n && uses ts Object n
+is_used d ts parts.Subjects n = uses ts Subject (length d.shared.strings + n)
+is_used d ts parts.Predicates n = uses ts Predicate n
+is_used d ts parts.Objects n = uses ts Object (length d.shared.strings + n)
 
 -- the row of string i of a section, from 0
-unfoldable pub used_row : DictionaryParts → List Triple → ℕ → ℕ → Result (Unit {0}) Fault
-used_row d ts section i = demand (is_used d ts section (i + 1)) (string_place (section_number d section) i) Unused
+unfoldable pub used_row : DictionaryParts → List Triple → Part → ℕ → Result (Unit {0}) Fault
+used_row d ts part i = demand (is_used d ts part (i + 1)) (string_place (section_of_part d part) i) Unused
 
 -- the rows of all strings of a section
-abbrev pub section_used : DictionaryParts → List Triple → ℕ → Result (Unit {0}) Fault
-section_used d ts section = rows_from (used_row d ts section) 0 (length (section_number d section).strings)
+abbrev pub section_used : DictionaryParts → List Triple → Part → Result (Unit {0}) Fault
+section_used d ts part = rows_from (used_row d ts part) 0 (length (section_of_part d part).strings)
 
 -- string by string of shared, subjects, predicates and objects
 unfoldable pub strings_used : DictionaryParts → List Triple → Result (Unit {0}) Fault
 strings_used d ts = do
-  _ ← section_used d ts 0
-  _ ← section_used d ts 1
-  _ ← section_used d ts 2
-  section_used d ts 3
+  _ ← section_used d ts parts.Shared
+  _ ← section_used d ts parts.Subjects
+  _ ← section_used d ts parts.Predicates
+  section_used d ts parts.Objects
 
 -- the rows of a tight file, from top to bottom, those of its strings after all others: its graph, or the fault that stands
 unfoldable pub tight_in : List ℕ → Result GraphParts Fault

@@ -45,62 +45,21 @@ returns-clause-write g c = λ n is.
 pub returns-clause-unwritten : goal.returns-clause-unwritten
 returns-clause-unwritten g c = λ other. absurd (other c.in-Err.count refl)
 
-pub returns-in_err-bytes-clause-written : goal.returns-in_err-bytes-clause-written
-returns-in_err-bytes-clause-written g c =
+pub returns-in_err-bytes : goal.returns-in_err-bytes
+returns-in_err-bytes g c =
     let p = err_from_is_err_and c.from_residual.result c.from_residual.ensures.1 in
-    rw p.1 tt
-
-pub returns-in_err-bytes-clause-bad : goal.returns-in_err-bytes-clause-bad
-returns-in_err-bytes-clause-bad g c =
-    let p = err_from_is_err_and c.from_residual.result c.from_residual.ensures.1 in
-    rw (p.1, p.2) (λ is. c.in_err-bytes.ensures.bad.0 (cc), λ bad. let is = c.in_err-bytes.ensures.bad.1 bad in cc)
-
-pub returns-in_err-bytes-clause-unread : goal.returns-in_err-bytes-clause-unread
-returns-in_err-bytes-clause-unread g c =
-    let p = err_from_is_err_and c.from_residual.result c.from_residual.ensures.1 in
-    rw (p.1, p.2) (λ is. c.in_err-bytes.ensures.unread (cc))
-
-pub returns-in_err-bytes-clause-told : goal.returns-in_err-bytes-clause-told
-returns-in_err-bytes-clause-told g c =
-    let p = err_from_is_err_and c.from_residual.result c.from_residual.ensures.1 in
-    rw (p.1, p.2) (λ other _. c.in_err-bytes.ensures.told other)
-
-pub returns-in_err-bytes-clause-read : goal.returns-in_err-bytes-clause-read
-returns-in_err-bytes-clause-read g c =
-    let p = err_from_is_err_and c.from_residual.result c.from_residual.ensures.1 in
-    rw (p.1, p.2) c.in_err-bytes.ensures.read
-
-pub returns-in_err-bytes-clause-still : goal.returns-in_err-bytes-clause-still
-returns-in_err-bytes-clause-still g c =
-    let p = err_from_is_err_and c.from_residual.result c.from_residual.ensures.1 in
-    rw (p.1, p.2) c.in_err-bytes.ensures.still
-
-pub returns-in_err-bytes-clause-count : goal.returns-in_err-bytes-clause-count
-returns-in_err-bytes-clause-count g c =
-    let p = err_from_is_err_and c.from_residual.result c.from_residual.ensures.1 in
-    rw p.1 tt
-
-pub returns-in_err-bytes-clause-right : goal.returns-in_err-bytes-clause-right
-returns-in_err-bytes-clause-right g c =
-    let p = err_from_is_err_and c.from_residual.result c.from_residual.ensures.1 in
-    rw p.1 tt
-
-pub returns-in_err-bytes-clause-end : goal.returns-in_err-bytes-clause-end
-returns-in_err-bytes-clause-end g c =
-    let p = err_from_is_err_and c.from_residual.result c.from_residual.ensures.1 in
-    rw p.1 tt
-
-pub returns-in_err-bytes-clause-write : goal.returns-in_err-bytes-clause-write
-returns-in_err-bytes-clause-write g c =
-    let p = err_from_is_err_and c.from_residual.result c.from_residual.ensures.1 in
-    rw (p.1, p.2) (λ n is. absurd (rw is at (c.in_err-bytes.ensures.told (λ bad. cc))))
-
-pub returns-in_err-bytes-clause-well : goal.returns-in_err-bytes-clause-well
-returns-in_err-bytes-clause-well g c =
-    let p = err_from_is_err_and c.from_residual.result c.from_residual.ensures.1 in
-    rw p.1 tt
-
-pub returns-in_err-bytes-clause-unwritten : goal.returns-in_err-bytes-clause-unwritten
-returns-in_err-bytes-clause-unwritten g c =
-    let p = err_from_is_err_and c.from_residual.result c.from_residual.ensures.1 in
-    rw p.1 (λ _. refl)
+    let fault = c.in_err-bytes.ensures in
+    rw (p.1, p.2) (record {
+      written = tt;
+      right = tt;
+      end = tt;
+      bad = (λ is. fault.bad.0 (cc), λ bad. let is = fault.bad.1 bad in cc);
+      unread = λ is. fault.unread (cc);
+      told = λ other _. fault.told other;
+      read = fault.read;
+      still = fault.still;
+      count = tt;
+      write = λ n is. absurd (rw is at (fault.told (λ bad. cc)));
+      well = tt;
+      unwritten = λ _. refl;
+    })

@@ -36,4 +36,4 @@ returns c =
     rw (c.in_ok-put_triples.ensures.ok, c.as_slice.ensures.value, c.in_ok-put_written_dictionary.ensures.ok, c.in_ok-sections.ensures.blocks.shared, c.in_ok-put_head.ensures, c.new-bytes.ensures.items, c.header.ensures)
     (simp append_assoc) in
     made_of (denoted_by g) d ts g.header c.args.block_size bytes _ (some_denoted g h) (denoted_texts g h) form file
-    (told_of c.report_of-report.result d ts bytes c.len.result c.len-2.result c.report_of-report.ensures (omega (arith, c.len.ensures, c.in_ok-triples.triples.ok.0)) (omega (arith, c.len-2.ensures, c.put_triples.new.out.ok.0)))
+    (told_of c.lens-lens.result d ts bytes c.len.result c.len-2.result c.lens-lens.ensures (omega (arith, c.len.ensures, c.in_ok-triples.triples.ok.0)) (omega (arith, c.len-2.ensures, c.put_triples.new.out.ok.0)))
