@@ -1,7 +1,7 @@
 -- What is built of a form.
 use Rattle.std.proofs.Common.{◌∷◌, get_or, ◌≡◌, ℕ, ◌<◌, ◌∙◌, List, [], length, ap, sym, subst, Result, Ok, Err}
 use Rattle.std.specs.Prelude.{IfOk}
-use Rattle.hdt_dict.specs.Split.{FourLists}
+use Rattle.hdt_dict.specs.Dictionary.{FourLists}
 use Rattle.hdt_dict.specs.Laws.Split.{split_sections}
 use Rattle.hdt_dict.specs.Writing.{AreSections}
 use Rattle.hdt_triples.specs.Counting.{Triple}

@@ -10,7 +10,7 @@ use Rattle.hdt_wire.specs.Control.{control}
 use Rattle.hdt_wire.specs.declared.control.Kind.TheVariants as kinds
 use Rattle.hdt_front.specs.Canonical.{piece_of, pieces_from, packed_of, starts_of, canonical}
 use Rattle.hdt_front.specs.Unfolding.{is_head}
-use Rattle.hdt_dict.specs.Split.{FourLists}
+use Rattle.hdt_dict.specs.Dictionary.{FourLists}
 use Rattle.hdt_dict.specs.Writing.{mapping, canonical_dictionary}
 
 -- a piece has a byte at least

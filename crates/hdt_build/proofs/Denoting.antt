@@ -9,8 +9,7 @@ use Rattle.std.proofs.lemmas.List.Elements.{All-contains, All-map, Contains-appe
 use Rattle.std.proofs.lemmas.Map.Keys.{Less-from_sorted}
 use Rattle.hdt_dict.specs.Strings.{SameMembers}
 use Rattle.hdt_dict.specs.Laws.Strings.{member_cases}
-use Rattle.hdt_dict.specs.Split.{FourLists, IsSplit}
-use Rattle.hdt_build.specs.Graph.{subject_terms, object_terms}
+use Rattle.hdt_dict.specs.Split.{IsSplit}
 use Rattle.hdt_dict.specs.Laws.Members.{SameMembers-map, Contains-map, Contains-from_map, All-from_members, All-same_members}
 use Rattle.hdt_build.specs.Inside.Numbers.{term_numbered}
 use Rattle.hdt_build.specs.Inside.Parted.{ArePartsOf}
@@ -25,26 +24,27 @@ use Rattle.hdt_build.proofs.Distinct.{number_unique, subjects_distinct}
 use Rattle.hdt_triples.specs.Order.{triple_in, AreWritable}
 use Rattle.hdt_build.proofs.Order.{triple_total, first_le, triple_less}
 use Rattle.hdt_build.proofs.Unique.{triple_unique}
+use Rattle.hdt_dict.specs.Dictionary.{FourLists, strings_in}
 
 -- the strings of a role are the terms of the sections
 module _ {ss ps os : List (List ℕ)} (d : FourLists) (h : IsSplit ss ps os d) where
-  pub subject_member : (x : List ℕ) → Contains ss x → Contains (subject_terms d) x
+  pub subject_member : (x : List ℕ) → Contains ss x → Contains (strings_in d Subject) x
   subject_member x a =
-      elim (member_cases os x) as (λ _. Contains (subject_terms d) x) [
+      elim (member_cases os x) as (λ _. Contains (strings_in d Subject) x) [
         | inl b ↦ Contains-append_left d.shared d.subjects x ((h.shared x).1 (a, b))
         | inr b ↦ Contains-append_right d.shared d.subjects x ((h.subjects x).1 (a, b))
       ]
 
-  pub subject_term : (x : List ℕ) → Contains (subject_terms d) x → Contains ss x
+  pub subject_term : (x : List ℕ) → Contains (strings_in d Subject) x → Contains ss x
   subject_term x a =
       elim (Contains-append_cases d.shared d.subjects x a) as (λ _. Contains ss x) [
         | inl b ↦ ((h.shared x).0 b).0
         | inr b ↦ ((h.subjects x).0 b).0
       ]
 
-  pub object_member : (x : List ℕ) → Contains os x → Contains (object_terms d) x
+  pub object_member : (x : List ℕ) → Contains os x → Contains (strings_in d Object) x
   object_member x a =
-      elim (member_cases ss x) as (λ _. Contains (object_terms d) x) [
+      elim (member_cases ss x) as (λ _. Contains (strings_in d Object) x) [
         | inl b ↦ Contains-append_left d.shared d.objects x ((h.shared x).1 (b, a))
         | inr b ↦ Contains-append_right d.shared d.objects x ((h.objects x).1 (a, b))
       ]
@@ -86,21 +86,21 @@ module _ {g : List StringTriple} (d : FourLists) (ts : List Triple) (h : IsForm 
       ]
 
   -- each string of a subject occurs
-  occurs_as : (x : List ℕ) → Contains (subject_terms d) x → (t : Triple) × Contains ts t × (term_numbered (subject_terms d) t.0 ≡ x)
+  occurs_as : (x : List ℕ) → Contains (strings_in d Subject) x → (t : Triple) × Contains ts t × (term_numbered (strings_in d Subject) t.0 ≡ x)
   occurs_as x in_terms =
       let r = Contains-from_map (λ (t : StringTriple). t.0) g x (subject_term d h.sections x in_terms) in
       let s = Contains-from_map (string_triple d) ts r.0 ((h.denotes r.0).1 r.1) in
       (s.0, s.1, ap (λ (t : StringTriple). t.0) s.2 ∙ r.2)
 
   -- each number of a subject occurs
-  pub occurs : (n : ℕ) → 0 < n → n ≤ length (subject_terms d) → (t : Triple) × Contains ts t × (t.0 ≡ n)
+  pub occurs : (n : ℕ) → 0 < n → n ≤ length (strings_in d Subject) → (t : Triple) × Contains ts t × (t.0 ≡ n)
   occurs n a b =
-      let r = occurs_as (term_numbered (subject_terms d) n) (term_in (subject_terms d) n a b) in
+      let r = occurs_as (term_numbered (strings_in d Subject) n) (term_in (strings_in d Subject) n a b) in
       let range = All-contains (InRange d) ts r.0 h.in_range r.1 in
-      (r.0, r.1, number_unique (subject_terms d) (subjects_distinct d h.sections) r.0.0 n range.0.0 range.0.1 a b r.2)
+      (r.0, r.1, number_unique (strings_in d Subject) (subjects_distinct d h.sections) r.0.0 n range.0.0 range.0.1 a b r.2)
 
   -- the same by places
-  at_place : (n : ℕ) (e : Triple) → 0 < n → n ≤ length (subject_terms d) → (j : ℕ) × (j < length ts) × ((get_or ts j e).0 ≡ n)
+  at_place : (n : ℕ) (e : Triple) → 0 < n → n ≤ length (strings_in d Subject) → (j : ℕ) × (j < length ts) × ((get_or ts j e).0 ≡ n)
   at_place n e a b =
       let r = occurs n a b in
       let j = r.1.0 in
@@ -112,7 +112,7 @@ module _ {g : List StringTriple} (d : FourLists) (ts : List Triple) (h : IsForm 
       let e : Triple = (0, 0, 0) in
       let range = h.in_range 0 e some in
       let low : 0 < (get_or ts 0 e).0 = range.0.0 in
-      let high : (get_or ts 0 e).0 ≤ length (subject_terms d) = range.0.1 in
+      let high : (get_or ts 0 e).0 ≤ length (strings_in d Subject) = range.0.1 in
       let r = at_place 1 e (omega arith) (omega arith) in
       let le = subject_le 0 r.0 e (omega arith) r.1 in
       omega (arith, le, r.2)
@@ -122,7 +122,7 @@ module _ {g : List StringTriple} (d : FourLists) (ts : List Triple) (h : IsForm 
   next_subject k below =
       let e : Triple = (0, 0, 0) in
       let range = h.in_range (k + 1) e below in
-      let high : (get_or ts (k + 1) e).0 ≤ length (subject_terms d) = range.0.1 in
+      let high : (get_or ts (k + 1) e).0 ≤ length (strings_in d Subject) = range.0.1 in
       elim (cases_lt ((get_or ts k e).0 + 1) (get_or ts (k + 1) e).0) as (λ _. (get_or ts (k + 1) e).0 ≤ (get_or ts k e).0 + 1) [
         | inl wide ↦
             let r = at_place ((get_or ts k e).0 + 1) e (omega arith) (omega (arith, high, wide)) in

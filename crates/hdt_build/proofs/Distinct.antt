@@ -8,10 +8,11 @@ use Rattle.std.proofs.lemmas.List.{get_or_append_left, get_or-append_right, leng
 use Rattle.std.proofs.lemmas.List.Elements.{Contains-get_or}
 use Rattle.std.proofs.lemmas.Map.Keys.{Less-from_sorted}
 use Rattle.hdt_dict.specs.Strings.{IsAscending, string_cmp}
-use Rattle.hdt_dict.specs.Split.{FourLists, IsSplit}
-use Rattle.hdt_build.specs.Graph.{subject_terms, predicate_terms, object_terms}
+use Rattle.hdt_dict.specs.Split.{IsSplit}
 use Rattle.hdt_build.specs.Inside.Numbers.{term_numbered}
 use Rattle.hdt_build.proofs.Naming.{term_is}
+use Rattle.hdt_dict.specs.Dictionary.{FourLists, strings_in}
+use Rattle.hdt_wire.specs.declared.role.Role.TheVariants.{Subject, Predicate, Object}
 
 -- equal strings stand at one place
 pub record Distinct (xs : List (List ℕ)) : Type 0 where
@@ -67,11 +68,11 @@ pub number_unique : (terms : List (List ℕ)) → Distinct terms → (m n : ℕ)
 number_unique terms h m n a b c d same = let e = h.one (m - 1) (n - 1) (omega arith) (omega arith) (sym (term_is terms m a) ∙ same ∙ term_is terms n c) in omega arith
 
 module _ {ss ps os : List (List ℕ)} (d : FourLists) (h : IsSplit ss ps os d) where
-  pub subjects_distinct : Distinct (subject_terms d)
+  pub subjects_distinct : Distinct (strings_in d Subject)
   subjects_distinct = Distinct-append d.shared d.subjects (λ x a b. ((h.subjects x).0 b).1 ((h.shared x).0 a).1) (Distinct-ascending _ h.shared_ascend) (Distinct-ascending _ h.subjects_ascend)
 
-  pub predicates_distinct : Distinct (predicate_terms d)
+  pub predicates_distinct : Distinct (strings_in d Predicate)
   predicates_distinct = Distinct-ascending _ h.predicates_ascend
 
-  pub objects_distinct : Distinct (object_terms d)
+  pub objects_distinct : Distinct (strings_in d Object)
   objects_distinct = Distinct-append d.shared d.objects (λ x a b. ((h.objects x).0 b).1 ((h.shared x).0 a).0) (Distinct-ascending _ h.shared_ascend) (Distinct-ascending _ h.objects_ascend)

@@ -1,6 +1,6 @@
 -- Equal graphs have equal files.
 use Rattle.std.proofs.Common.{◌≡◌, ◌∙◌, ℕ, List, length, ap, sym}
-use Rattle.hdt_dict.specs.Split.{FourLists}
+use Rattle.hdt_dict.specs.Dictionary.{FourLists}
 use Rattle.hdt_dict.specs.Strings.{SameMembers}
 use Rattle.hdt_triples.specs.Counting.{Triple}
 use Rattle.hdt_build.specs.declared.options.Options.{Options}

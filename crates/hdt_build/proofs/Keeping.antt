@@ -16,7 +16,7 @@ use Rattle.hdt_triples.specs.declared.pattern.Pattern.{Pattern}
 use Rattle.hdt_file.specs.Denoted.{strings_for}
 use Rattle.hdt_file.specs.File.{GraphParts}
 use Rattle.hdt_file.specs.Graph.{IsGraph}
-use Rattle.hdt_file.specs.Views.{strings_in}
+use Rattle.hdt_dict.specs.Dictionary.{strings_in}
 use Rattle.hdt_file.specs.Denoted.{StringTriple}
 use Rattle.hdt_build.specs.Layouts.{denoted_by}
 use Rattle.hdt_build.specs.Inside.Numbers.{term_numbered}
@@ -48,18 +48,18 @@ text_of_two xs ys i h k lt =
           subst IsDictionaryString (sym (sym (ap (λ (j : ℕ). get_or (xs ++ ys) j []) at) ∙ get_or-append-add xs ys (i - length xs) [])) (text_of ys (i - length xs) k (omega (arith, lt, long, above)))
     ]
 
-place_text : (g : GraphParts) → IsGraph g → (role : Role) (n : ℕ) → 1 ≤ n → n ≤ length (strings_in g role) → IsDictionaryString (get_or (strings_in g role) (n - 1) [])
+place_text : (g : GraphParts) → IsGraph g → (role : Role) (n : ℕ) → 1 ≤ n → n ≤ length (strings_in g.dictionary role) → IsDictionaryString (get_or (strings_in g.dictionary role) (n - 1) [])
 place_text g h Subject n from to = text_of_two g.dictionary.shared g.dictionary.subjects (n - 1) h.shared h.subjects (omega (arith, from, to))
 place_text g h Predicate n from to = text_of g.dictionary.predicates (n - 1) h.predicates (omega (arith, from, to))
 place_text g h Object n from to = text_of_two g.dictionary.shared g.dictionary.objects (n - 1) h.shared h.objects (omega (arith, from, to))
 
-pub string_text : (g : GraphParts) → IsGraph g → (role : Role) (n : ℕ) → 1 ≤ n → n ≤ length (strings_in g role) → IsDictionaryString (term_numbered (strings_in g role) n)
-string_text g h role n from to = subst IsDictionaryString (sym (term_is (strings_in g role) n from)) (place_text g h role n from to)
+pub string_text : (g : GraphParts) → IsGraph g → (role : Role) (n : ℕ) → 1 ≤ n → n ≤ length (strings_in g.dictionary role) → IsDictionaryString (term_numbered (strings_in g.dictionary role) n)
+string_text g h role n from to = subst IsDictionaryString (sym (term_is (strings_in g.dictionary role) n from)) (place_text g h role n from to)
 
 -- a triple of a graph: in each role its number is that of a string, and used
 pub record IsOf (g : GraphParts) (t : Triple) : Type 0 where
   pub from : (role : Role) → 1 ≤ part role t
-  pub to : (role : Role) → part role t ≤ length (strings_in g role)
+  pub to : (role : Role) → part role t ≤ length (strings_in g.dictionary role)
   pub used : (role : Role) → Uses g.triples role (part role t)
 
 pub all_of : (g : GraphParts) → IsGraph g → All (IsOf g) g.triples
@@ -77,7 +77,7 @@ all_of g h k d lt =
     from t s p o Predicate = p
     from t s p o Object = o
 
-    to : (t : Triple) → t.0 ≤ length (strings_in g Subject) → t.1 ≤ length (strings_in g Predicate) → t.2 ≤ length (strings_in g Object) → (role : Role) → part role t ≤ length (strings_in g role)
+    to : (t : Triple) → t.0 ≤ length (strings_in g.dictionary Subject) → t.1 ≤ length (strings_in g.dictionary Predicate) → t.2 ≤ length (strings_in g.dictionary Object) → (role : Role) → part role t ≤ length (strings_in g.dictionary role)
     to t s p o Subject = s
     to t s p o Predicate = p
     to t s p o Object = o

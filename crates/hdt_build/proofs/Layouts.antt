@@ -7,19 +7,19 @@ use Rattle.hdt_wire.specs.Laws.Row.{Stands-after, Stands-front, Stands-back}
 use Rattle.hdt_seq.specs.Bits.{bits_spelling}
 use Rattle.hdt_seq.specs.Numbers.{numbers_spelling}
 use Rattle.hdt_front.specs.Canonical.{canonical, canonical_parts}
-use Rattle.hdt_dict.specs.Split.{FourLists}
+use Rattle.hdt_dict.specs.Dictionary.{FourLists}
 use Rattle.hdt_dict.specs.Writing.{AreSections, mapping, canonical_dictionary, canonical_dictionary_parts}
 use Rattle.hdt_dict.specs.Laws.Writing.{dictionary_stands}
 use Rattle.hdt_triples.specs.Counting.{Triple, BitmapTriples}
 use Rattle.hdt_triples.specs.Order.{AreWithin, AreFew}
 use Rattle.hdt_triples.specs.Writing.{ordered, sequences_of, canonical_sequences, sequences_parts, canonical_triples, canonical_triples_parts}
 use Rattle.hdt_triples.specs.Laws.Writing.{triples_stand, triples_are}
-use Rattle.hdt_file.specs.File.{FileParts, GraphParts, IsFile, IsLayout, counts_in, graph_of}
+use Rattle.hdt_file.specs.File.{FileParts, GraphParts, IsFile, IsLayout, counts_in, graph_of, counts_of}
 use Rattle.hdt_file.specs.Tight.{IsTight}
 use Rattle.hdt_triples.specs.Triples.{IsTriples}
 use Rattle.hdt_build.specs.Canonical.{canonical_head, canonical_file, IsCanonical}
 use Rattle.hdt_file.specs.Denoted.{StringTriple}
-use Rattle.hdt_build.specs.Graph.{IsForm, list_counts}
+use Rattle.hdt_build.specs.Graph.{IsForm}
 use Rattle.hdt_build.specs.Header.{length_property}
 use Rattle.hdt_build.specs.Layouts.{graph_parts_of, IsLayoutOf}
 use Rattle.hdt_build.proofs.Counts.{dictionary_bytes}
@@ -50,7 +50,7 @@ triples_end f at =
     omega (arith, length-append block (my ++ (mz ++ (ys ++ zs))), length-append my (mz ++ (ys ++ zs)), length-append mz (ys ++ zs), length-append ys zs)
 
 -- the counts of a dictionary that is written
-counts_are : (b : ℕ) (d : FourLists) (at : ℕ) → counts_in (canonical_dictionary_parts b d at) ≡ list_counts d
+counts_are : (b : ℕ) (d : FourLists) (at : ℕ) → counts_in (canonical_dictionary_parts b d at) ≡ counts_of d
 unfolding canonical_dictionary_parts canonical_parts
 counts_are b d at = refl
 
@@ -74,10 +74,10 @@ file_of header b d ts =
     }
 
 module _ (header : List ℕ) (graph : List StringTriple) (b : ℕ) (d : FourLists) (ts : List Triple) (form : IsForm graph d ts) (some : 0 < length graph) where
-  within : AreWithin (list_counts d) ts
+  within : AreWithin (counts_of d) ts
   within = λ i lt. let r = form.in_range i (0, 0, 0) lt in (r.0.1, r.1.1, r.2.1)
 
-  few : (bytes : List ℕ) (at end : ℕ) → length bytes < 2 ^ 64 → Stands bytes at (canonical_dictionary b d) end → AreFew (list_counts d)
+  few : (bytes : List ℕ) (at end : ℕ) → length bytes < 2 ^ 64 → Stands bytes at (canonical_dictionary b d) end → AreFew (counts_of d)
   few bytes at end small h =
       let enough = dictionary_bytes b d in
       let size = length-append d.shared d.objects in
@@ -110,7 +110,7 @@ module _ (header : List ℕ) (graph : List StringTriple) (b : ℕ) (d : FourList
         dictionary = dictionary_stands b d bytes at (at + length D) from low sections small dict;
         triples =
             subst (λ counts. IsTriples counts (canonical_triples_parts ts (canonical_dictionary_parts b d at).objects.end) bytes (canonical_dictionary_parts b d at).objects.end) (sym (counts_are b d at))
-            (triples_stand ts (list_counts d) bytes (canonical_dictionary_parts b d at).objects.end end (writable d ts form (some_triple graph d ts form some)) within (few bytes at (at + length D) small dict) many
+            (triples_stand ts (counts_of d) bytes (canonical_dictionary_parts b d at).objects.end end (writable d ts form (some_triple graph d ts form some)) within (few bytes at (at + length D) small dict) many
             (subst (λ (a : ℕ). Stands bytes a T end) (sym place) last));
         end = triples_end (sequences_of ts) (canonical_dictionary_parts b d at).objects.end ∙ ap (λ (a : ℕ). a + length T) place ∙ sym last.end_is ∙ whole;
       }

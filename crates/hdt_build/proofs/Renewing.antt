@@ -7,7 +7,7 @@ use Rattle.std.proofs.lemmas.List.Elements.{All-head, All-tail, All-map, Contain
 use Rattle.hdt_wire.specs.declared.role.Role.{Role}
 use Rattle.hdt_wire.specs.declared.role.Role.TheVariants.{Subject, Predicate, Object}
 use Rattle.hdt_dict.specs.Laws.Members.{Contains-map, Contains-from_map, SameMembers-map, All-same_members}
-use Rattle.hdt_dict.specs.Split.{FourLists, IsSplit}
+use Rattle.hdt_dict.specs.Split.{IsSplit}
 use Rattle.hdt_dict.specs.Strings.{SameMembers}
 use Rattle.hdt_dict.specs.Laws.Strings.{member_cases}
 use Rattle.hdt_triples.specs.Counting.{Triple}
@@ -15,7 +15,7 @@ use Rattle.hdt_triples.specs.Uses.{part, Uses}
 use Rattle.hdt_file.specs.Denoted.{string_of, strings_for}
 use Rattle.hdt_file.specs.File.{GraphParts}
 use Rattle.hdt_file.specs.Graph.{IsGraph}
-use Rattle.hdt_file.specs.Views.{strings_in}
+use Rattle.hdt_dict.specs.Dictionary.{strings_in, FourLists}
 use Rattle.hdt_build.specs.declared.kept.Part.{Part}
 use Rattle.hdt_build.specs.declared.kept.Part.TheVariants as parts
 use Rattle.hdt_build.specs.declared.sections.Numbers.{Numbers}
@@ -61,8 +61,8 @@ module _ (g : GraphParts) (h : IsGraph g) where
   at_shared : (n : ℕ) → 1 ≤ n → n ≤ length g.dictionary.shared → string_of g Subject n ≡ string_of g Object n
   at_shared n from to =
       let lt : n - 1 < length g.dictionary.shared = omega (arith, from, to) in
-      term_is (strings_in g Subject) n from ∙ (get_or_append_left g.dictionary.shared g.dictionary.subjects [] (n - 1) lt
-      ∙ sym (term_is (strings_in g Object) n from ∙ get_or_append_left g.dictionary.shared g.dictionary.objects [] (n - 1) lt))
+      term_is (strings_in g.dictionary Subject) n from ∙ (get_or_append_left g.dictionary.shared g.dictionary.subjects [] (n - 1) lt
+      ∙ sym (term_is (strings_in g.dictionary Object) n from ∙ get_or_append_left g.dictionary.shared g.dictionary.objects [] (n - 1) lt))
 
   meet : (n m : ℕ) → Uses g.triples Subject n → Uses g.triples Object m → string_of g Subject n ≡ string_of g Object m → (n ≡ m) × (n ≤ length g.dictionary.shared)
   meet n m s o same =
@@ -186,7 +186,7 @@ module _ (g : GraphParts) (h : IsGraph g) where
         | inr alone ↦ number_behind sh ob (string_of g Object n) (get_or o1 (n - 1) 0) (put_number parts.Objects (length sh) ob o0 o1 e n (used, alone))
       ]
 
-      pub are_rewritten : (numbers : Numbers) → length s2 ≡ length (strings_in g Subject) → length p1 ≡ length (strings_in g Predicate) → length o1 ≡ length (strings_in g Object)
+      pub are_rewritten : (numbers : Numbers) → length s2 ≡ length (strings_in g.dictionary Subject) → length p1 ≡ length (strings_in g.dictionary Predicate) → length o1 ≡ length (strings_in g.dictionary Object)
           → ((n : ℕ) → 1 ≤ n → n ≤ length s2 → new_number numbers.subjects n ≡ get_or s2 (n - 1) 0) → ((n : ℕ) → 1 ≤ n → n ≤ length p1 → new_number numbers.predicates n ≡ get_or p1 (n - 1) 0)
           → ((n : ℕ) → 1 ≤ n → n ≤ length o1 → new_number numbers.objects n ≡ get_or o1 (n - 1) 0) → AreRewritten g (record { shared = sh; subjects = su; predicates = pr; objects = ob }) numbers
       are_rewritten numbers s_long p_long o_long s p o = record {

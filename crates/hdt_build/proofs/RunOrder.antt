@@ -14,7 +14,7 @@ use Rattle.hdt_triples.specs.Uses.{part, Uses}
 use Rattle.hdt_file.specs.Denoted.{string_of}
 use Rattle.hdt_file.specs.File.{GraphParts}
 use Rattle.hdt_file.specs.Graph.{IsGraph}
-use Rattle.hdt_file.specs.Views.{strings_in}
+use Rattle.hdt_dict.specs.Dictionary.{strings_in}
 use Rattle.hdt_build.specs.declared.kept.Part.{Part}
 use Rattle.hdt_build.specs.declared.kept.Part.TheVariants as parts
 use Rattle.hdt_build.specs.Inside.Kept.{role_of, KeepsNumber, cut_of, end_of}
@@ -51,13 +51,13 @@ module _ (xs ys : List (List ℕ)) (k m : ℕ) where
 
 module _ (g : GraphParts) (h : IsGraph g) where
   -- a number that is used is that of a string
-  pub used_range : (role : Role) (n : ℕ) → Uses g.triples role n → (1 ≤ n) × (n ≤ length (strings_in g role))
+  pub used_range : (role : Role) (n : ℕ) → Uses g.triples role n → (1 ≤ n) × (n ≤ length (strings_in g.dictionary role))
   used_range role n used =
       let t = Contains-from_map (part role) g.triples n used in
       let of = All-contains (IsOf g) g.triples t.0 (all_of g h) t.1 in
-      (subst (λ (m : ℕ). 1 ≤ m) t.2 (of.from role), subst (λ (m : ℕ). m ≤ length (strings_in g role)) t.2 (of.to role))
+      (subst (λ (m : ℕ). 1 ≤ m) t.2 (of.from role), subst (λ (m : ℕ). m ≤ length (strings_in g.dictionary role)) t.2 (of.to role))
 
-  pub distinct : (role : Role) → Distinct (strings_in g role)
+  pub distinct : (role : Role) → Distinct (strings_in g.dictionary role)
   distinct Subject = Distinct-append g.dictionary.shared g.dictionary.subjects h.shared_subjects (Distinct-ascending _ (ascends_of _ h.shared)) (Distinct-ascending _ (ascends_of _ h.subjects))
   distinct Predicate = Distinct-ascending _ (ascends_of _ h.predicates)
   distinct Object = Distinct-append g.dictionary.shared g.dictionary.objects h.shared_objects (Distinct-ascending _ (ascends_of _ h.shared)) (Distinct-ascending _ (ascends_of _ h.objects))
@@ -82,7 +82,7 @@ module _ (g : GraphParts) (h : IsGraph g) where
   cut_before parts.Predicates = omega arith
   cut_before parts.Objects = omega (arith, length-append g.dictionary.shared g.dictionary.objects)
 
-  pub end_within : (p : Part) → end_of g p ≤ length (strings_in g (role_of p))
+  pub end_within : (p : Part) → end_of g p ≤ length (strings_in g.dictionary (role_of p))
   end_within parts.Shared = omega (arith, length-append g.dictionary.shared g.dictionary.subjects)
   end_within parts.Subjects = omega arith
   end_within parts.Predicates = omega arith
@@ -96,7 +96,7 @@ module _ (g : GraphParts) (h : IsGraph g) where
 
   pub run_apart : (p : Part) (k m : ℕ) → k < m → m < end_of g p → string_of g (role_of p) (k + 1) ≢ string_of g (role_of p) (m + 1)
   run_apart p k m lt in' same =
-      let all = strings_in g (role_of p) in
+      let all = strings_in g.dictionary (role_of p) in
       let within = end_within p in
       let one = (distinct (role_of p)).one k m (omega (arith, lt, in', within)) (omega (arith, in', within)) (sym (term_there all k) ∙ (same ∙ term_there all m)) in
       absurd (omega (arith, one, lt))

@@ -4,8 +4,7 @@ use Rattle.std.specs.List.{Contains}
 use Rattle.std.specs.Cmp.Lexicographic.{nat_list_cmp_total}
 use Rattle.std.proofs.lemmas.List.Elements.{All-contains}
 use Rattle.hdt_dict.specs.Strings.{SameMembers, string_cmp}
-use Rattle.hdt_dict.specs.Split.{FourLists, IsSplit}
-use Rattle.hdt_build.specs.Graph.{subject_terms, predicate_terms, object_terms}
+use Rattle.hdt_dict.specs.Split.{IsSplit}
 use Rattle.hdt_dict.specs.Laws.Members.{SameMembers-map, SameMembers-trans, Contains-map, Contains-from_map, ascending_unique}
 use Rattle.hdt_triples.specs.Counting.{Triple}
 use Rattle.hdt_file.specs.Denoted.{StringTriple}
@@ -13,6 +12,8 @@ use Rattle.hdt_build.specs.Graph.{InRange, IsForm, triple_cmp}
 use Rattle.hdt_build.proofs.Naming.{string_triple}
 use Rattle.hdt_build.proofs.Distinct.{number_unique, subjects_distinct, predicates_distinct, objects_distinct}
 use Rattle.hdt_build.proofs.Order.{triple_total}
+use Rattle.hdt_dict.specs.Dictionary.{FourLists, strings_in}
+use Rattle.hdt_wire.specs.declared.role.Role.TheVariants.{Subject, Predicate, Object}
 
 -- the sections of lists with the same members
 pub split_same : {ss ps os tt' qs us : List (List ℕ)} (d : FourLists) → SameMembers ss tt' → SameMembers ps qs → SameMembers os us → IsSplit ss ps os d → IsSplit tt' qs us d
@@ -45,9 +46,9 @@ same_triple a b c d e f p q r = cc
 pub triple_unique : {ss ps os : List (List ℕ)} (d : FourLists) → IsSplit ss ps os d → (m n : Triple) → InRange d m → InRange d n → string_triple d m ≡ string_triple d n → m ≡ n
 triple_unique d h m n a b same =
     same_triple m.0 n.0 m.1 n.1 m.2 n.2
-    (number_unique (subject_terms d) (subjects_distinct d h) m.0 n.0 a.0.0 a.0.1 b.0.0 b.0.1 (ap (λ (t : StringTriple). t.0) same))
-    (number_unique (predicate_terms d) (predicates_distinct d h) m.1 n.1 a.1.0 a.1.1 b.1.0 b.1.1 (ap (λ (t : StringTriple). t.1) same))
-    (number_unique (object_terms d) (objects_distinct d h) m.2 n.2 a.2.0 a.2.1 b.2.0 b.2.1 (ap (λ (t : StringTriple). t.2) same))
+    (number_unique (strings_in d Subject) (subjects_distinct d h) m.0 n.0 a.0.0 a.0.1 b.0.0 b.0.1 (ap (λ (t : StringTriple). t.0) same))
+    (number_unique (strings_in d Predicate) (predicates_distinct d h) m.1 n.1 a.1.0 a.1.1 b.1.0 b.1.1 (ap (λ (t : StringTriple). t.1) same))
+    (number_unique (strings_in d Object) (objects_distinct d h) m.2 n.2 a.2.0 a.2.1 b.2.0 b.2.1 (ap (λ (t : StringTriple). t.2) same))
 
 -- a triple of the one list is in the other
 carried : {g : List StringTriple} (d : FourLists) (ts us : List Triple) → IsForm g d ts → IsForm g d us → (n : Triple) → Contains ts n → Contains us n

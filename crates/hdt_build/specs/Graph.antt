@@ -4,12 +4,14 @@ use Rattle.std.specs.declared.cmp.Ordering.{Ordering}
 use Rattle.std.specs.Ordering.{nat_cmp, ordering_then}
 use Rattle.std.specs.List.{All}
 use Rattle.std.specs.List.Sorted.{IsStrictlySortedBy}
-use Rattle.hdt_dict.specs.Split.{FourLists, IsSplit}
+use Rattle.hdt_dict.specs.Split.{IsSplit}
 use Rattle.hdt_dict.specs.Strings.{SameMembers}
 use Rattle.hdt_triples.specs.Counting.{Triple, Counts}
 use Rattle.hdt_triples.specs.Order.{IsInRange}
 use Rattle.hdt_file.specs.Denoted.{StringTriple}
 use Rattle.hdt_build.specs.Layouts.{denoted_by, graph_parts_of}
+use Rattle.hdt_dict.specs.Dictionary.{FourLists}
+use Rattle.hdt_file.specs.File.{counts_of}
 
 abbrev pub subjects_of : List StringTriple → List (List ℕ)
 subjects_of g = map (λ t. t.0) g
@@ -19,21 +21,6 @@ predicates_of g = map (λ t. t.1) g
 
 abbrev pub objects_of : List StringTriple → List (List ℕ)
 objects_of g = map (λ t. t.2) g
-
--- ---- the strings of a role in the order of their numbers, which count from 1
-
-abbrev pub subject_terms : FourLists → List (List ℕ)
-subject_terms d = d.shared ++ d.subjects
-
-abbrev pub predicate_terms : FourLists → List (List ℕ)
-predicate_terms d = d.predicates
-
-abbrev pub object_terms : FourLists → List (List ℕ)
-object_terms d = d.shared ++ d.objects
-
--- how many there are
-abbrev pub list_counts : FourLists → Counts
-list_counts d = record { subjects = length (subject_terms d); predicates = length (predicate_terms d); objects = length (object_terms d) }
 
 -- ---- number triples
 
@@ -50,7 +37,7 @@ AscendingTriples = IsStrictlySortedBy triple_cmp
 
 -- each number of a triple is from 1 to the count of its role
 abbrev pub InRange : FourLists → Triple → Type 0
-InRange d t = IsInRange (list_counts d) t
+InRange d t = IsInRange (counts_of d) t
 
 -- The dictionary and the number triples of a graph: the sections hold exactly the strings that it uses in their roles,
 -- the triples ascend, and a file of these, whatever its header body, denotes exactly the graph.

@@ -1,7 +1,7 @@
 -- What a canonical file is, to those who read it.
 use Rattle.std.specs.Prelude.{◌≡◌, ℕ, List, [], ◌∷◌, length, Ok}
 use Rattle.hdt_wire.specs.Exact.{seen}
-use Rattle.hdt_dict.specs.Split.{FourLists}
+use Rattle.hdt_dict.specs.Dictionary.{FourLists}
 use Rattle.hdt_dict.specs.Strings.{SameMembers}
 use Rattle.hdt_file.specs.Denoted.{StringTriple, denoted}
 use Rattle.hdt_file.specs.File.{GraphParts, IsLayout, graph_in}
@@ -19,7 +19,7 @@ denoted_by g = denoted g g.triples
 abbrev pub graph_parts_of : List ℕ → FourLists → List Triple → GraphParts
 graph_parts_of header d ts = record {
   header = header;
-  dictionary = record { shared = d.shared; subjects = d.subjects; predicates = d.predicates; objects = d.objects };
+  dictionary = d;
   triples = ts;
 }
 

@@ -2,8 +2,9 @@
 ghost use Rattle.std.specs.Prelude.{◌≡◌, ◌<◌, ◌≤◌, ◌+◌, List, ℕ, length, IsTrue, IsFalse, IfOk, OnOk};
 ghost use Rattle.hdt_front.specs.InWork.{last_string};
 ghost use Rattle.hdt_front.specs.Searching.{agreed};
-ghost use Rattle.hdt_file.specs.Views.{graph_seen, strings_in};
+ghost use Rattle.hdt_file.specs.Views.{graph_seen};
 ghost use Rattle.hdt_build.specs.Inside.Kept.{role_of, HasGiven, StandsBehind, IsRunFrom, Agrees};
+ghost use Rattle.hdt_dict.specs.Dictionary.{strings_in};
 
 use crate::kept::{Part, kept_from, role_of};
 use hdt_dict::Strings;
@@ -55,7 +56,7 @@ impl<'a> Run<'a> {
         end: u64,
     ) -> Result<Run<'a>, AllocError>
         requires from { from ≤ end }
-        requires within { end ≤ length (strings_in (graph_seen graph.now) (role_of part)) }
+        requires within { end ≤ length (strings_in (graph_seen graph.now).dictionary (role_of part)) }
         ensures run { IfOk result (λ run. IsRunFrom (graph_seen graph.now) part from run) }
         ensures end { IfOk result (λ run. run.end ≡ end) }
         ensures same { IfOk result (λ run. run.same ≡ 0) }
@@ -73,10 +74,10 @@ impl<'a> Run<'a> {
     /// Goes on to the first string from a place on that is kept, and answers how many bytes at its front it keeps of the one that
     /// was unfolded last.
     fn seek(&mut self, graph: &Graph<'_>, part: Part, from: u64) -> Result<usize, AllocError>
-        requires stands { HasGiven (strings_in (graph_seen graph.now) (role_of part)) self.old.strings }
+        requires stands { HasGiven (strings_in (graph_seen graph.now).dictionary (role_of part)) self.old.strings }
         requires behind { self.old.strings.given ≤ from }
         requires from { from ≤ self.old.end }
-        requires within { self.old.end ≤ length (strings_in (graph_seen graph.now) (role_of part)) }
+        requires within { self.old.end ≤ length (strings_in (graph_seen graph.now).dictionary (role_of part)) }
         ensures run { OnOk result (IsRunFrom (graph_seen graph.now) part from self.new) }
         ensures end { OnOk result (self.new.end ≡ self.old.end) }
         ensures same { OnOk result (self.new.same ≡ self.old.same) }

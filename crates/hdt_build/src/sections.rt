@@ -5,9 +5,11 @@ ghost use Rattle.hdt_front.specs.InWork.{last_string};
 ghost use Rattle.hdt_front.specs.Searching.{agreed};
 ghost use Rattle.hdt_dict.specs.Strings.{string_cmp};
 ghost use Rattle.hdt_file.specs.Denoted.{string_of};
-ghost use Rattle.hdt_file.specs.Views.{graph_seen, strings_in};
+ghost use Rattle.hdt_file.specs.Views.{graph_seen};
 ghost use Rattle.hdt_wire.specs.declared.role.Role.TheVariants as roles;
 ghost use Rattle.hdt_build.specs.Inside.Kept.{role_of, end_of, IsRunOfStrings, IsRunFrom, Agrees, Tell, IsPut, AreRewritten, AreBlocks, sections_in_work};
+ghost use Rattle.hdt_dict.specs.Dictionary.{strings_in};
+ghost use Rattle.hdt_wire.specs.declared.role.Role.TheVariants.{Object};
 
 use crate::kept::{Part, ends_of};
 use crate::renumbering::{Numbering, numbering_of};
@@ -85,11 +87,11 @@ fn put(
     count: u64,
     numbers: &mut Vec<u64>,
 ) -> Result<SectionWriter, AllocError>
-    requires long { length numbers.old.items ≡ length (strings_in (graph_seen graph.now) (role_of part)) }
+    requires long { length numbers.old.items ≡ length (strings_in (graph_seen graph.now).dictionary (role_of part)) }
     requires few { count ≤ length numbers.old.items }
     requires block { 1 ≤ block_size }
     ensures put { IfOk result (λ made. IsPut (graph_seen graph.now) part count made.strings numbers.old.items numbers.new.items) }
-    ensures long { IfOk result (λ made. length numbers.new.items ≡ length (strings_in (graph_seen graph.now) (role_of part))) }
+    ensures long { IfOk result (λ made. length numbers.new.items ≡ length (strings_in (graph_seen graph.now).dictionary (role_of part))) }
     ensures block { IfOk result (λ made. made.block_size ≡ block_size) }
     ensures few { IfOk result (λ made. length made.strings ≤ end_of (graph_seen graph.now) part) }
 {
@@ -149,7 +151,7 @@ fn object_numbers(
     subjects: &[u64],
 ) -> Result<Vec<u64>, AllocError>
     requires { length (graph_seen graph.now).dictionary.shared ≤ length subjects.now }
-    ensures long { IfOk result (λ made. length made.items ≡ length (strings_in (graph_seen graph.now) roles.Object)) }
+    ensures long { IfOk result (λ made. length made.items ≡ length (strings_in (graph_seen graph.now).dictionary roles.Object)) }
     ensures shared { IfOk result (λ made. (k : ℕ) → k < length (graph_seen graph.now).dictionary.shared → slice_index made.items k ≡ slice_index subjects.now k) }
 {
     let [shared, _, _, _] = graph.section_lens();

@@ -9,7 +9,7 @@ use Rattle.hdt_triples.specs.Patterns.{matches}
 use Rattle.hdt_triples.specs.declared.pattern.Pattern.{Pattern}
 use Rattle.hdt_file.specs.File.{GraphParts}
 use Rattle.hdt_file.specs.Search.{IsPattern}
-use Rattle.hdt_file.specs.Views.{strings_in}
+use Rattle.hdt_dict.specs.Dictionary.{strings_in}
 use Rattle.hdt_c.specs.Room.{laid_over}
 
 -- ---- answers that are no number, count or length: 2^64 - 1, - 2 and - 3
@@ -38,12 +38,12 @@ role_by_number (suc (suc (suc n))) = None
 -- how many strings the role has
 abbrev pub count_in : GraphParts → Option Role → ℕ
 count_in g None = absent
-count_in g (Some role) = length (strings_in g role)
+count_in g (Some role) = length (strings_in g.dictionary role)
 
 -- its string with this number
 abbrev pub string_numbered : GraphParts → Option Role → ℕ → Option (List ℕ)
 string_numbered g None n = None
-string_numbered g (Some role) n = numbered (strings_in g role) n
+string_numbered g (Some role) n = numbered (strings_in g.dictionary role) n
 
 -- the answer is the number of the string among these, or there is none
 pub record IsNumberIn (strings : List (List ℕ)) (string : List ℕ) (answer : ℕ) : Type 0 where
@@ -53,7 +53,7 @@ pub record IsNumberIn (strings : List (List ℕ)) (string : List ℕ) (answer : 
 -- its number in the role
 abbrev pub AnswersNumber : GraphParts → Option Role → List ℕ → ℕ → Type 0
 AnswersNumber g None string answer = answer ≡ absent
-AnswersNumber g (Some role) string answer = IsNumberIn (strings_in g role) string answer
+AnswersNumber g (Some role) string answer = IsNumberIn (strings_in g.dictionary role) string answer
 
 -- the string was put, and its length is the answer, or memory was refused; or there is none
 abbrev pub PutsOut : Option (List ℕ) → ℕ → List ℕ → List ℕ → Type 0

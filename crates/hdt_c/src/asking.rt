@@ -1,9 +1,10 @@
 //! Asking a graph for counts, numbers and strings.
 ghost use Rattle.std.specs.Prelude.{◌≡◌, Some, length};
-ghost use Rattle.hdt_file.specs.Views.{graph_seen, strings_in};
+ghost use Rattle.hdt_file.specs.Views.{graph_seen};
 ghost use Rattle.hdt_c.specs.Answers.{AnswersNumber, IsNumberIn, PutsOut, closed, count_in, role_by_number, string_numbered};
 ghost use Rattle.hdt_c.specs.Handle.{IsClosed, OfGraph, SameGraph};
 ghost use Rattle.hdt_c.specs.Room.{laid_over};
+ghost use Rattle.hdt_dict.specs.Dictionary.{strings_in};
 
 use crate::handle::HdtGraph;
 use crate::room::put;
@@ -80,7 +81,7 @@ pub extern "C" fn hdt_count(alloc: Global, graph: &mut HdtGraph, role: u32) -> u
 
 /// The number of a string in a role.
 fn number_in(graph: &Graph<'static>, role: Role, string: &[u8]) -> u64
-    ensures { IsNumberIn (strings_in (graph_seen graph.now) role) string.now result }
+    ensures { IsNumberIn (strings_in (graph_seen graph.now).dictionary role) string.now result }
 {
     match graph.number_of(role, string, &mut Steps::new()) {
         Some(number) => number,

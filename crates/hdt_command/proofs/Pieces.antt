@@ -9,14 +9,14 @@ use Rattle.hdt_command.specs.declared.fault.ToolFault.TheVariants.{File, Input, 
 use Rattle.hdt_command.specs.declared.request.Action.TheVariants.{Strings}
 use Rattle.hdt_wire.specs.declared.role.Role.{Role}
 use Rattle.hdt_file.specs.File.{GraphParts, IsLayout}
-use Rattle.hdt_file.specs.Views.{strings_in}
+use Rattle.hdt_dict.specs.Dictionary.{strings_in}
 use Rattle.hdt_command.specs.Answer.{AppendsSome, Begins, Consults, FailsAfter, Halts, IsCut, IsTold, Prints, ReadsAll, ReadsWith}
 use Rattle.hdt_command.specs.StringsText.{string_lines}
 use Rattle.hdt_command.proofs.Told.{not_write}
 
 -- the lines of the strings of a role are what `strings` prints
 pub all_lines : (role : Role) (before after : Option (List ℕ)) (bytes seen : List ℕ) → ReadsAll before after bytes → seen ≡ bytes → (graph : GraphParts) → IsLayout seen graph
-    → ReadsWith before after (λ bytes. Prints (Strings role) bytes (string_lines 1 (strings_in graph role)))
+    → ReadsWith before after (λ bytes. Prints (Strings role) bytes (string_lines 1 (strings_in graph.dictionary role)))
 all_lines role before after bytes seen read is graph stands =
     record { bytes = bytes; read = read; holds = record { graph = graph; stands = subst (λ (b : List ℕ). IsLayout b graph) is stands; holds = refl } }
 
@@ -79,7 +79,7 @@ pub role_writes : (role : Role) (before after : Option (List ℕ)) (bytes seen :
     → (n : ℕ) → fault ≡ Write n → (g ≡ f + 1) × Begins (Strings role) before after a b n
 role_writes role before after bytes seen a b f g fault Same read is (inl told) n e = absurd (not_write (Strings role) seen fault n told.0 e)
 role_writes role before after bytes seen a b f g fault Same read is (inr h) n e =
-    let lines = string_lines 1 (strings_in h.graph role) in
+    let lines = string_lines 1 (strings_in h.graph.dictionary role) in
     let cut : FailsAfter n lines a b f g = subst (λ (t : ToolFault). IsCut t lines a b f g) e h.holds in (
       cut.failed,
       record { text = lines; built = []; yields = (all_lines role before after bytes seen read is h.graph h.stands, refl); within = cut.within; written = cut.written },
@@ -90,7 +90,7 @@ pub role_halts : (role : Role) (before after : Option (List ℕ)) (bytes seen : 
     → ((n : ℕ) → fault ≢ Write n) → Same ⊎ ((fault ≡ OutOfMemory) × Halts (Strings role) before after a b f g)
 role_halts role before after bytes seen a b f g fault Same read is (inl told) none = inl told.1
 role_halts role before after bytes seen a b f g fault Same read is (inr h) none =
-    let lines = string_lines 1 (strings_in h.graph role) in
+    let lines = string_lines 1 (strings_in h.graph.dictionary role) in
     let cut = memory_cut fault lines a b f g h.holds none in
     inr (
       cut.0,

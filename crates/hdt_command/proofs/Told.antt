@@ -10,7 +10,7 @@ use Rattle.hdt_command.specs.declared.request.Form.{Form}
 use Rattle.hdt_wire.specs.declared.role.Role.{Role}
 use Rattle.hdt_dict.specs.Numbered.{numbered}
 use Rattle.hdt_file.specs.File.{GraphParts, IsLayout}
-use Rattle.hdt_file.specs.Views.{strings_in}
+use Rattle.hdt_dict.specs.Dictionary.{strings_in}
 use Rattle.hdt_command.specs.Answer.{HasBadBlocks, HasNoText, IsOfFile, IsTold, ReadsAll, ReadsFile, Tells, TellsBadOptions}
 use Rattle.hdt_command.specs.TriplesText.{Given, TellsFound, form_of}
 
@@ -82,12 +82,12 @@ not_write action bytes OutOfMemory n h is = absurd cc
 
 -- a look-up without an answer
 pub no_number : (role : Role) (n : ℕ) (bytes : List ℕ) (graph : GraphParts) (e : ToolFault) → IsLayout bytes graph
-    → (e ≡ OutOfMemory) ⊎ ((e ≡ NoSuchNumber) × (numbered (strings_in graph role) n ≡ None)) → IsTold (Nth role n) bytes e
+    → (e ≡ OutOfMemory) ⊎ ((e ≡ NoSuchNumber) × (numbered (strings_in graph.dictionary role) n ≡ None)) → IsTold (Nth role n) bytes e
 no_number role n bytes graph e stands (inl is) = subst (λ (t : ToolFault). IsTold (Nth role n) bytes t) (sym is) tt
 no_number role n bytes graph e stands (inr h) = subst (λ (t : ToolFault). IsTold (Nth role n) bytes t) (sym h.0) (record { graph = graph; stands = stands; holds = h.1 })
 
 pub no_term : (role : Role) (x : Vec ℕ Global) (bytes : List ℕ) (graph : GraphParts) (e : ToolFault) → IsLayout bytes graph
-    → (e ≡ OutOfMemory) ⊎ ((e ≡ NoSuchTerm) × ((n : ℕ) → numbered (strings_in graph role) n ≢ Some x.items)) → IsTold (Number role x) bytes e
+    → (e ≡ OutOfMemory) ⊎ ((e ≡ NoSuchTerm) × ((n : ℕ) → numbered (strings_in graph.dictionary role) n ≢ Some x.items)) → IsTold (Number role x) bytes e
 no_term role x bytes graph e stands (inl is) = subst (λ (t : ToolFault). IsTold (Number role x) bytes t) (sym is) tt
 no_term role x bytes graph e stands (inr h) = subst (λ (t : ToolFault). IsTold (Number role x) bytes t) (sym h.0) (record { graph = graph; stands = stands; holds = h.1 })
 

@@ -5,7 +5,7 @@ use Rattle.hdt_wire.specs.declared.fault.Fault.{Fault}
 use Rattle.hdt_file.specs.Head.{HeadParts, IsHead, head_at_start}
 use Rattle.hdt_file.specs.File.{GraphParts, IsLayout, graph_in}
 use Rattle.hdt_file.specs.Tight.{IsTightLayout, tight_in}
-use Rattle.hdt_file.specs.Views.{lens_of, strings_in}
+use Rattle.hdt_file.specs.Views.{lens_of}
 use Rattle.hdt_build.specs.Built.{Builds}
 use Rattle.hdt_build.specs.Options.{AreRight, IsBlockSize}
 use Rattle.hdt_build.specs.Reading.{TellsBuildFault as TellsOf}
@@ -28,6 +28,7 @@ use Rattle.hdt_command.specs.Lines.{fault_status}
 use Rattle.hdt_command.specs.Verdict.{verdict}
 use Rattle.hdt_command.specs.StringsText.{string_lines, PrintsString, PrintsNumber}
 use Rattle.hdt_command.specs.TriplesText.{LacksTermIn, PrintsFound, form_of}
+use Rattle.hdt_dict.specs.Dictionary.{strings_in}
 
 -- a head stands at the front of the bytes, and it prints as the text
 pub record PrintsHead (bytes text : List ℕ) : Type 0 where
@@ -51,7 +52,7 @@ pub record PrintsTightVerdict (bytes text : List ℕ) : Type 0 where
 pub record Consults (bytes : List ℕ) (role : Role) (Holds : List (List ℕ) → Type 0) : Type 0 where
   pub graph : GraphParts
   pub stands : IsLayout bytes graph
-  pub holds : Holds (strings_in graph role)
+  pub holds : Holds (strings_in graph.dictionary role)
 
 -- the bytes are a layout of a graph, and of it this holds
 pub record Opens (bytes : List ℕ) (Holds : GraphParts → Type 0) : Type 0 where

@@ -5,7 +5,7 @@ ghost use Rattle.std.specs.Io.KnownBytes.{Appends};
 ghost use Rattle.hdt_wire.specs.Counted.{inner, failures};
 ghost use Rattle.hdt_dict.specs.Numbered.{numbered};
 ghost use Rattle.hdt_file.specs.LayoutView.{layout_seen};
-ghost use Rattle.hdt_file.specs.Views.{strings_in};
+ghost use Rattle.hdt_dict.specs.Dictionary.{strings_in};
 ghost use Rattle.hdt_command.specs.Answer.{FailsAfter, IsCut};
 ghost use Rattle.hdt_command.specs.Escaping.{escaped};
 ghost use Rattle.hdt_command.specs.StringsText.{string_line, string_lines, PrintsString, PrintsNumber};
@@ -91,10 +91,10 @@ pub fn print_strings<W: Write>(
     out: &mut Counted<W>,
 ) -> Result<(), ToolFault>
     ensures ok { OnOk result (Appends (W.contents (inner out.old)) (W.contents (inner out.new))
-        (string_lines 1 (strings_in (layout_seen layout.now) role))) }
+        (string_lines 1 (strings_in (layout_seen layout.now).dictionary role))) }
     ensures well { OnOk result (failures out.new ≡ failures out.old) }
     // The writer failed behind a beginning of the lines, or memory was refused behind one.
-    ensures cut { IfErr result (λ e. IsCut e (string_lines 1 (strings_in (layout_seen layout.now) role))
+    ensures cut { IfErr result (λ e. IsCut e (string_lines 1 (strings_in (layout_seen layout.now).dictionary role))
         (W.contents (inner out.old)) (W.contents (inner out.new)) (failures out.old) (failures out.new)) }
 {
     let mut text = Vec::new(alloc);
@@ -115,9 +115,9 @@ pub fn string_text(
     role: Role,
     number: u64,
 ) -> Result<Vec<u8>, ToolFault>
-    ensures ok { IfOk result (λ text. PrintsString (strings_in (layout_seen layout.now) role) number text.items) }
+    ensures ok { IfOk result (λ text. PrintsString (strings_in (layout_seen layout.now).dictionary role) number text.items) }
     ensures err { IfErr result (λ e. (e ≡ ToolFault.OutOfMemory)
-        ⊎ ((e ≡ ToolFault.NoSuchNumber) × (numbered (strings_in (layout_seen layout.now) role) number ≡ None))) }
+        ⊎ ((e ≡ ToolFault.NoSuchNumber) × (numbered (strings_in (layout_seen layout.now).dictionary role) number ≡ None))) }
 {
     let mut string = Vec::new(alloc);
     if !layout.string_of(role, number, &mut string, &mut Steps::new())? {
@@ -136,9 +136,9 @@ pub fn number_text(
     role: Role,
     string: &[u8],
 ) -> Result<Vec<u8>, ToolFault>
-    ensures ok { IfOk result (λ text. PrintsNumber (strings_in (layout_seen layout.now) role) string.now text.items) }
+    ensures ok { IfOk result (λ text. PrintsNumber (strings_in (layout_seen layout.now).dictionary role) string.now text.items) }
     ensures err { IfErr result (λ e. (e ≡ ToolFault.OutOfMemory)
-        ⊎ ((e ≡ ToolFault.NoSuchTerm) × ((n : ℕ) → numbered (strings_in (layout_seen layout.now) role) n ≢ Some string.now))) }
+        ⊎ ((e ≡ ToolFault.NoSuchTerm) × ((n : ℕ) → numbered (strings_in (layout_seen layout.now).dictionary role) n ≢ Some string.now))) }
 {
     let Some(number) = layout.number_of(role, string, &mut Steps::new()) else {
         return Err(ToolFault::NoSuchTerm);

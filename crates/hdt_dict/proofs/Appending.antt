@@ -5,8 +5,7 @@ use Rattle.hdt_wire.specs.Control.{control}
 use Rattle.hdt_wire.specs.Rows.{Stands}
 use Rattle.hdt_wire.specs.Laws.Row.{Stands-after}
 use Rattle.hdt_front.specs.Canonical.{canonical}
-use Rattle.hdt_dict.specs.Dictionary.{IsDictionary}
-use Rattle.hdt_dict.specs.Split.{FourLists}
+use Rattle.hdt_dict.specs.Dictionary.{IsDictionary, FourLists}
 use Rattle.hdt_dict.specs.Writing.{AreSections, mapping, canonical_dictionary, canonical_dictionary_parts}
 use Rattle.hdt_dict.specs.Laws.Writing.{dictionary_stands}
 

@@ -9,7 +9,7 @@ use Rattle.hdt_front.specs.Laws.Walk.{strings_placed, ascends_placed}
 use Rattle.hdt_dict.specs.declared.dictionary.Dictionary.{Dictionary}
 use Rattle.hdt_wire.specs.declared.role.Role.{Role}
 use Rattle.hdt_wire.specs.declared.role.Role.TheVariants.{Subject, Predicate, Object}
-use Rattle.hdt_dict.specs.Dictionary.{AreApart, terms}
+use Rattle.hdt_dict.specs.Dictionary.{AreApart, strings_in, sections_of}
 use Rattle.hdt_dict.specs.Laws.Dictionary.{apart_exact}
 use Rattle.hdt_dict.specs.Numbered.{numbered}
 use Rattle.hdt_dict.specs.Views.{dictionary_of}
@@ -31,17 +31,17 @@ object_terms d =
     distinct-append (strings_of d.shared) (strings_of d.objects) (distinct_section d.shared) (distinct_section d.objects)
     (λ x a b. apart x (Contains-append_left (strings_of d.shared) (strings_of d.subjects) x a) b)
 
-terms_distinct : (d : Dictionary) (role : Role) → Distinct (terms (dictionary_of d) role)
+terms_distinct : (d : Dictionary) (role : Role) → Distinct (strings_in (sections_of (dictionary_of d)) role)
 unfolding dictionary_of section_of
 terms_distinct d Subject = subject_terms d
 terms_distinct d Predicate = distinct_section d.predicates
 terms_distinct d Object = object_terms d
 
-pub inverse_in : (d : Dictionary) (role : Role) (x : List ℕ) (r : Option ℕ) (n : ℕ) → r ≡ place (terms (dictionary_of d) role) x → (r ≡ Some n ↔ numbered (terms (dictionary_of d) role) n ≡ Some x)
-inverse_in d role x r n e = inverse (terms (dictionary_of d) role) x r n (terms_distinct d role) e
+pub inverse_in : (d : Dictionary) (role : Role) (x : List ℕ) (r : Option ℕ) (n : ℕ) → r ≡ place (strings_in (sections_of (dictionary_of d)) role) x → (r ≡ Some n ↔ numbered (strings_in (sections_of (dictionary_of d)) role) n ≡ Some x)
+inverse_in d role x r n e = inverse (strings_in (sections_of (dictionary_of d)) role) x r n (terms_distinct d role) e
 
 pub few_terms : (d : Dictionary) (role : Role) (n : ℕ) → length (strings_of d.shared) + length (strings_of d.subjects) ≤ n → length (strings_of d.predicates) ≤ n → length (strings_of d.shared) + length (strings_of d.objects) ≤ n
-    → length (terms (dictionary_of d) role) ≤ n
+    → length (strings_in (sections_of (dictionary_of d)) role) ≤ n
 unfolding dictionary_of section_of
 few_terms d Subject n h k l = omega (arith, h, length-append (strings_of d.shared) (strings_of d.subjects))
 few_terms d Predicate n h k l = k

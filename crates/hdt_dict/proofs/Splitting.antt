@@ -6,7 +6,8 @@ use Rattle.hdt_dict.specs.Strings.{string_cmp, has, SameMembers, IsAscending}
 use Rattle.hdt_dict.specs.Laws.Members.{Contains-from_filter, Contains-filter}
 use Rattle.hdt_dict.specs.Laws.Strings.{has-Contains, Contains-has}
 use Rattle.hdt_dict.specs.Laws.Merge.{lacks, lacks-back}
-use Rattle.hdt_dict.specs.Split.{FourLists, IsSplit}
+use Rattle.hdt_dict.specs.Split.{IsSplit}
+use Rattle.hdt_dict.specs.Dictionary.{FourLists}
 
 -- what is left of an ascending list ascends
 pub filter_ascends : (p : List ℕ → Bool) (xs r : List (List ℕ)) → r ≡ filter p xs → IsAscending xs → IsAscending r

@@ -21,11 +21,22 @@ pub record DictionaryParts : Type 0 where
   pub predicates : SectionParts
   pub objects : SectionParts
 
+-- the strings of four sections
+pub record FourLists : Type 0 where
+  pub shared : List (List ℕ)
+  pub subjects : List (List ℕ)
+  pub predicates : List (List ℕ)
+  pub objects : List (List ℕ)
+
+-- the strings of a dictionary
+abbrev pub sections_of : DictionaryParts → FourLists
+sections_of d = record { shared = d.shared.strings; subjects = d.subjects.strings; predicates = d.predicates.strings; objects = d.objects.strings }
+
 -- the strings of a role in the order of their numbers, which count from 1
-abbrev pub terms : DictionaryParts → Role → List (List ℕ)
-terms d Subject = d.shared.strings ++ d.subjects.strings
-terms d Predicate = d.predicates.strings
-terms d Object = d.shared.strings ++ d.objects.strings
+abbrev pub strings_in : FourLists → Role → List (List ℕ)
+strings_in d Subject = d.shared ++ d.subjects
+strings_in d Predicate = d.predicates
+strings_in d Object = d.shared ++ d.objects
 
 -- the sections by their numbers in the file, which count from 0
 abbrev pub section_number : DictionaryParts → ℕ → SectionParts

@@ -7,13 +7,7 @@ use Rattle.hdt_front.specs.InWork.{SectionInWork}
 use Rattle.hdt_dict.specs.Strings.{IsAscending}
 use Rattle.hdt_dict.specs.declared.parts.Parts.{Parts}
 use Rattle.hdt_dict.specs.declared.parts.LentParts.{LentParts}
-
--- the strings of four sections
-pub record FourLists : Type 0 where
-  pub shared : List (List ℕ)
-  pub subjects : List (List ℕ)
-  pub predicates : List (List ℕ)
-  pub objects : List (List ℕ)
+use Rattle.hdt_dict.specs.Dictionary.{FourLists}
 
 -- the strings of `Parts`
 unfoldable pub lists_of : Parts → FourLists

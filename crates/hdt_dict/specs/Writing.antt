@@ -4,8 +4,7 @@ use Rattle.hdt_wire.specs.declared.control.Kind.TheVariants as kinds
 use Rattle.hdt_wire.specs.Control.{control}
 use Rattle.hdt_front.specs.Section.{AreStrings}
 use Rattle.hdt_front.specs.Canonical.{canonical, canonical_parts}
-use Rattle.hdt_dict.specs.Dictionary.{DictionaryParts, AreApart}
-use Rattle.hdt_dict.specs.Split.{FourLists}
+use Rattle.hdt_dict.specs.Dictionary.{DictionaryParts, AreApart, FourLists}
 
 -- four lists that a dictionary can hold: each as a section can hold it, and no string in two of shared, subjects and
 -- objects

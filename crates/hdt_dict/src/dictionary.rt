@@ -7,7 +7,7 @@ ghost use Rattle.hdt_front.specs.Faults.{read_fault_of};
 ghost use Rattle.hdt_front.specs.Numbering.{place};
 ghost use Rattle.hdt_front.specs.Strings.{strings_of, section_of};
 ghost use Rattle.hdt_front.specs.Section.{AreStrings, string_place};
-ghost use Rattle.hdt_dict.specs.Dictionary.{AreApart, DictionaryParts, IsDictionary, terms, section_number, apart_at, dictionary_at, rows_above_strings};
+ghost use Rattle.hdt_dict.specs.Dictionary.{AreApart, DictionaryParts, IsDictionary, section_number, apart_at, dictionary_at, rows_above_strings, strings_in, sections_of};
 ghost use Rattle.hdt_dict.specs.Numbered.{numbered, AppendsString};
 ghost use Rattle.hdt_wire.specs.declared.role.Role.{Role};
 
@@ -54,7 +54,7 @@ impl<'a> Dictionary<'a> {
         ensures exact { Gives read_fault_of (λ r. dictionary_of r.0) result (dictionary_at bytes.now at) }
         ensures without_memory { (f : FaultIs) → rows_above_strings bytes.now at ≡ Err f → result ≡ Err (FaultOf f) }
         ensures next { IfOk result (λ r. r.1 ≡ (dictionary_of r.0).objects.end) }
-        ensures few { IfOk result (λ r. (role : Role) → length (terms (dictionary_of r.0) role) ≤ length bytes.now) }
+        ensures few { IfOk result (λ r. (role : Role) → length (strings_in (sections_of (dictionary_of r.0)) role) ≤ length bytes.now) }
         ensures end { IfOk result (λ r. (at < r.1) × (r.1 ≤ length bytes.now)) }
     {
         let control = read_control(bytes, at, Kind::Dictionary)?;
@@ -96,7 +96,7 @@ impl<'a> Dictionary<'a> {
         ensures without_memory { (f : FaultIs) → rows_above_strings bytes.now at ≡ Err f → result ≡ Err (FaultOf f) }
         ensures next { IfOk result (λ r. r.1 ≡ (dictionary_of r.0).objects.end) }
         // A role has at most as many strings as the input has bytes.
-        ensures few { IfOk result (λ r. (role : Role) → length (terms (dictionary_of r.0) role) ≤ length bytes.now) }
+        ensures few { IfOk result (λ r. (role : Role) → length (strings_in (sections_of (dictionary_of r.0)) role) ≤ length bytes.now) }
         ensures end { IfOk result (λ r. (at < r.1) × (r.1 ≤ length bytes.now)) }
     {
         Dictionary::read_rows(alloc, bytes, at)
@@ -136,7 +136,7 @@ impl<'a> Dictionary<'a> {
     /// How many strings a role has.
     #[tactic(auto, unfolding(crate::specs::Views::dictionary_of, hdt_front::specs::Strings::section_of))]
     pub fn count(&self, role: Role) -> u64
-        ensures { result ≡ length (terms (dictionary_of self.now) role) }
+        ensures { result ≡ length (strings_in (sections_of (dictionary_of self.now)) role) }
     {
         match role {
             Role::Subject => self.shared.len() + self.subjects.len(),
@@ -148,7 +148,7 @@ impl<'a> Dictionary<'a> {
     /// Looks for a string in the sections of a role.
     #[tactic(auto, unfolding(crate::specs::Views::dictionary_of, crate::specs::Looks::role_looks, hdt_front::specs::Strings::section_of))]
     fn place_in(&self, role: Role, x: &[u8], steps: &mut Steps) -> Option<u64>
-        ensures place { result ≡ place (terms (dictionary_of self.now) role) x.now }
+        ensures place { result ≡ place (strings_in (sections_of (dictionary_of self.now)) role) x.now }
         ensures cost { steps.new ≤ steps.old + role_looks (dictionary_of self.now) role }
         ensures more { steps.old ≤ steps.new }
     {
@@ -164,8 +164,8 @@ impl<'a> Dictionary<'a> {
     /// Each section of the role is searched by halving its blocks, and then through one block. It takes no memory.
     pub fn number_of(&self, role: Role, x: &[u8], steps: &mut Steps) -> Option<u64>
         // It is n exactly where the string is number n.
-        ensures exact { (n : ℕ) → (result ≡ Some n) ↔ (numbered (terms (dictionary_of self.now) role) n ≡ Some x.now) }
-        ensures place { result ≡ place (terms (dictionary_of self.now) role) x.now }
+        ensures exact { (n : ℕ) → (result ≡ Some n) ↔ (numbered (strings_in (sections_of (dictionary_of self.now)) role) n ≡ Some x.now) }
+        ensures place { result ≡ place (strings_in (sections_of (dictionary_of self.now)) role) x.now }
         ensures cost { steps.new ≤ steps.old + role_looks (dictionary_of self.now) role }
         ensures more { steps.old ≤ steps.new }
     {
@@ -184,10 +184,10 @@ impl<'a> Dictionary<'a> {
         out: &mut Vec<u8>,
         steps: &mut Steps,
     ) -> Result<bool, AllocError>
-        ensures ok { IfOk result (λ b. AppendsString (numbered (terms (dictionary_of self.now) role) n) b out.old.items out.new.items) }
+        ensures ok { IfOk result (λ b. AppendsString (numbered (strings_in (sections_of (dictionary_of self.now)) role) n) b out.old.items out.new.items) }
         ensures err { OnErr result (out.new.items ≡ out.old.items) }
         ensures cost { steps.new ≤ steps.old + role_block (dictionary_of self.now) role }
-        ensures absent { numbered (terms (dictionary_of self.now) role) n ≡ None → IsOk result }
+        ensures absent { numbered (strings_in (sections_of (dictionary_of self.now)) role) n ≡ None → IsOk result }
         ensures more { steps.old ≤ steps.new }
     {
         match role {

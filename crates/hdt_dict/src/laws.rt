@@ -2,8 +2,8 @@
 ghost use Rattle.std.specs.Prelude.{◌≡◌, ◌⊎◌, ◌≤◌, ◌<◌, ◌^◌, ℕ, List, All, length};
 ghost use Rattle.hdt_wire.specs.Rows.{IsBytes, Stands};
 ghost use Rattle.hdt_wire.specs.Exact.{Exactly, OneValue, OneFault};
-ghost use Rattle.hdt_dict.specs.Dictionary.{DictionaryParts, IsDictionary, dictionary_at};
-ghost use Rattle.hdt_dict.specs.Split.{FourLists, IsSplit};
+ghost use Rattle.hdt_dict.specs.Dictionary.{DictionaryParts, IsDictionary, dictionary_at, FourLists};
+ghost use Rattle.hdt_dict.specs.Split.{IsSplit};
 ghost use Rattle.hdt_dict.specs.Texts.{IsDictionaryString};
 ghost use Rattle.hdt_dict.specs.Writing.{AreSections, canonical_dictionary, canonical_dictionary_parts};
 

@@ -1,7 +1,7 @@
 //! The strings of a role, given one after another.
 ghost use Rattle.std.specs.Prelude.{◌≡◌, ◌≤◌, [], IsOk, OnOk, OnErr, IfOk};
 ghost use Rattle.hdt_front.specs.Searching.{agreed};
-ghost use Rattle.hdt_dict.specs.Dictionary.{terms};
+ghost use Rattle.hdt_dict.specs.Dictionary.{strings_in, sections_of};
 ghost use Rattle.hdt_dict.specs.Views.{dictionary_of};
 ghost use Rattle.hdt_dict.specs.Walking.{stepped, next_number};
 
@@ -113,7 +113,7 @@ impl<'a> Dictionary<'a> {
     /// The strings of a role, to be given one after another in the order of their numbers. It takes no memory yet.
     #[tactic(auto, unfolding(crate::specs::Views::dictionary_of, hdt_front::specs::Strings::section_of))]
     pub fn strings(&self, alloc: Global, role: Role) -> Strings<'a>
-        ensures { result ≡ record { given = 0; last = []; ahead = terms (dictionary_of self.now) role } }
+        ensures { result ≡ record { given = 0; last = []; ahead = strings_in (sections_of (dictionary_of self.now)) role } }
     {
         match role {
             Role::Subject => Strings::over(alloc, &self.shared, Some(self.subjects)),

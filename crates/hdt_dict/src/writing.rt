@@ -1,8 +1,8 @@
 //! Writing a dictionary, in its canonical form.
 ghost use Rattle.std.specs.Prelude.{◌≡◌, ◌≤◌, ◌++◌, length, OnOk, OnErr};
 ghost use Rattle.hdt_wire.specs.Control.{Keeps};
-ghost use Rattle.hdt_dict.specs.Dictionary.{IsDictionary};
-ghost use Rattle.hdt_dict.specs.Split.{FourLists, lists_of, lent_lists_of, lists_in_work};
+ghost use Rattle.hdt_dict.specs.Dictionary.{IsDictionary, FourLists};
+ghost use Rattle.hdt_dict.specs.Split.{lists_of, lent_lists_of, lists_in_work};
 ghost use Rattle.hdt_dict.specs.Writing.{AreSections, canonical_dictionary, canonical_dictionary_parts};
 
 use crate::parts::{LentParts, Parts, lend};

@@ -14,7 +14,7 @@ use Rattle.std.proofs.lemmas.Slice.Eq.{bytes_eq-Decides}
 use Rattle.hdt_wire.specs.declared.role.Role.{Role}
 use Rattle.hdt_wire.specs.declared.role.Role.TheVariants.{Subject, Predicate, Object}
 use Rattle.hdt_front.specs.Section.{AreStrings}
-use Rattle.hdt_dict.specs.Dictionary.{AreApart}
+use Rattle.hdt_dict.specs.Dictionary.{AreApart, strings_in}
 use Rattle.hdt_dict.specs.Numbered.{numbered}
 use Rattle.hdt_dict.specs.Strings.{Lent}
 use Rattle.hdt_triples.specs.Counting.{Triple}
@@ -22,11 +22,10 @@ use Rattle.hdt_triples.specs.Order.{TripleLess, AreAscending, IsFrom1, IsInRange
 use Rattle.hdt_triples.specs.Patterns.{admits, agrees, matches}
 use Rattle.hdt_triples.specs.declared.pattern.Pattern.{Pattern}
 use Rattle.hdt_file.specs.Denoted.{StringTriple, string_of, strings_for, denoted}
-use Rattle.hdt_file.specs.File.{GraphParts}
-use Rattle.hdt_file.specs.Graph.{IsGraph, counts_of}
+use Rattle.hdt_file.specs.File.{GraphParts, counts_of}
+use Rattle.hdt_file.specs.Graph.{IsGraph}
 use Rattle.hdt_file.specs.Search.{IsPart, IsPattern, part_given}
 use Rattle.hdt_file.specs.StringTriples.{AreOnce, admits_string, is_wanted}
-use Rattle.hdt_file.specs.Views.{strings_in}
 
 -- ---- lists in which no member stands at two places
 
@@ -102,7 +101,7 @@ not_under x h = let e : slice_cmp nat_cmp x x ≡ Equal = tied_itself nat_list_c
 section_once : (xs : List (List ℕ)) → AreStrings xs → StandOnce xs
 section_once xs are = ascending_once Under nat_list_cmp_total.trans not_under xs [] are.ascend
 
-pub role_once : (g : GraphParts) → IsGraph g → (role : Role) → StandOnce (strings_in g role)
+pub role_once : (g : GraphParts) → IsGraph g → (role : Role) → StandOnce (strings_in g.dictionary role)
 role_once g is Subject = once-append g.dictionary.shared g.dictionary.subjects (section_once g.dictionary.shared is.shared) (section_once g.dictionary.subjects is.subjects) is.shared_subjects
 role_once g is Predicate = section_once g.dictionary.predicates is.predicates
 role_once g is Object = once-append g.dictionary.shared g.dictionary.objects (section_once g.dictionary.shared is.shared) (section_once g.dictionary.objects is.objects) is.shared_objects
@@ -148,14 +147,14 @@ is_part xs (Some x) n within h = has_string xs n within ∙ ap Some (sym ((bytes
 
 -- ---- a triple
 
-in_role : (g : GraphParts) (t : Triple) → IsInRange (counts_of g.dictionary) t → IsFrom1 t.0 (length (strings_in g Subject)) × IsFrom1 t.1 (length (strings_in g Predicate)) × IsFrom1 t.2 (length (strings_in g Object))
+in_role : (g : GraphParts) (t : Triple) → IsInRange (counts_of g.dictionary) t → IsFrom1 t.0 (length (strings_in g.dictionary Subject)) × IsFrom1 t.1 (length (strings_in g.dictionary Predicate)) × IsFrom1 t.2 (length (strings_in g.dictionary Object))
 in_role g t range = range
 
 triple_agrees : (g : GraphParts) → IsGraph g → (given : List (Option Lent)) (p : Pattern) → IsPattern g given p → (t : Triple) → IsInRange (counts_of g.dictionary) t → agrees p t ≡ is_wanted given (strings_for g t)
 triple_agrees g is given p wants t range =
-    let s = part_agrees (strings_in g Subject) (role_once g is Subject) (part_given given 0) p.s t.0 wants.subject range.0 in
-    let q = part_agrees (strings_in g Predicate) (role_once g is Predicate) (part_given given 1) p.p t.1 wants.predicate range.1 in
-    let o = part_agrees (strings_in g Object) (role_once g is Object) (part_given given 2) p.o t.2 wants.object range.2 in
+    let s = part_agrees (strings_in g.dictionary Subject) (role_once g is Subject) (part_given given 0) p.s t.0 wants.subject range.0 in
+    let q = part_agrees (strings_in g.dictionary Predicate) (role_once g is Predicate) (part_given given 1) p.p t.1 wants.predicate range.1 in
+    let o = part_agrees (strings_in g.dictionary Object) (role_once g is Object) (part_given given 2) p.o t.2 wants.object range.2 in
     rw (s, q, o) refl
 
 in_range : (g : GraphParts) → IsGraph g → (t : Triple) (i : ℕ) → slice_get g.triples i ≡ Some t → IsInRange (counts_of g.dictionary) t
@@ -210,9 +209,9 @@ is_pattern g given t range h =
     let o = admits_string (part_given given 2) (string_of g Object t.2) in
     let both = and_left (s && p) o h in
     record {
-      subject = is_part (strings_in g Subject) (part_given given 0) t.0 range.0 (and_left s p both);
-      predicate = is_part (strings_in g Predicate) (part_given given 1) t.1 range.1 (and_right s p both);
-      object = is_part (strings_in g Object) (part_given given 2) t.2 range.2 (and_right (s && p) o h);
+      subject = is_part (strings_in g.dictionary Subject) (part_given given 0) t.0 range.0 (and_left s p both);
+      predicate = is_part (strings_in g.dictionary Predicate) (part_given given 1) t.1 range.1 (and_right s p both);
+      object = is_part (strings_in g.dictionary Object) (part_given given 2) t.2 range.2 (and_right (s && p) o h);
     }
 
 pub none_denoted : (g : GraphParts) (given : List (Option Lent)) → IsGraph g → ((p : Pattern) → IsPattern g given p → ⊥) → filter (is_wanted given) (denoted g g.triples) ≡ []
@@ -251,9 +250,9 @@ triple_is (a, b, c) (d, e, f) s p o = cc
 
 same_triple : (g : GraphParts) → IsGraph g → (t u : Triple) → IsInRange (counts_of g.dictionary) t → IsInRange (counts_of g.dictionary) u → strings_for g t ≡ strings_for g u → t ≡ u
 same_triple g is t u ht hu same =
-    let s = same_number (strings_in g Subject) (role_once g is Subject) t.0 u.0 ht.0 hu.0 (ap (λ (x : StringTriple). x.0) same) in
-    let p = same_number (strings_in g Predicate) (role_once g is Predicate) t.1 u.1 ht.1 hu.1 (ap (λ (x : StringTriple). x.1) same) in
-    let o = same_number (strings_in g Object) (role_once g is Object) t.2 u.2 ht.2 hu.2 (ap (λ (x : StringTriple). x.2) same) in
+    let s = same_number (strings_in g.dictionary Subject) (role_once g is Subject) t.0 u.0 ht.0 hu.0 (ap (λ (x : StringTriple). x.0) same) in
+    let p = same_number (strings_in g.dictionary Predicate) (role_once g is Predicate) t.1 u.1 ht.1 hu.1 (ap (λ (x : StringTriple). x.1) same) in
+    let o = same_number (strings_in g.dictionary Object) (role_once g is Object) t.2 u.2 ht.2 hu.2 (ap (λ (x : StringTriple). x.2) same) in
     triple_is t u s p o
 
 -- what stands at a place of a mapped list is of what stands there

@@ -11,7 +11,7 @@ use Rattle.hdt_wire.specs.Laws.Row.{bound}
 use Rattle.hdt_wire.specs.Exact.{Exactly, OneValue, OneFault}
 use Rattle.hdt_wire.specs.Laws.Exact.{ok_is, each_row, all_rows, last_held, holds_on, value_or_fault}
 use Rattle.hdt_front.specs.Section.{string_place}
-use Rattle.hdt_dict.specs.Dictionary.{DictionaryParts, terms}
+use Rattle.hdt_dict.specs.Dictionary.{DictionaryParts, sections_of, strings_in}
 use Rattle.hdt_triples.specs.Counting.{Triple, triples_of}
 use Rattle.hdt_triples.specs.Triples.{bitmap_of}
 use Rattle.hdt_triples.specs.Uses.{Uses, uses}
@@ -41,7 +41,7 @@ section_only d ts part all =
 
 -- triples use each number of each role
 abbrev AllUsed : DictionaryParts → List Triple → Type 0
-AllUsed d ts = (role : Role) (n : ℕ) → 1 ≤ n → n ≤ length (terms d role) → Uses ts role n
+AllUsed d ts = (role : Role) (n : ℕ) → 1 ≤ n → n ≤ length (strings_in (sections_of d) role) → Uses ts role n
 
 and_left : (a b : Bool) → (a && b) ≡ true → a ≡ true
 and_left true b h = refl

@@ -6,14 +6,14 @@ use Rattle.hdt_wire.specs.declared.role.Role.{Role}
 use Rattle.hdt_wire.specs.declared.role.Role.TheVariants.{Subject, Predicate, Object}
 use Rattle.hdt_triples.specs.Counting.{Triple}
 use Rattle.hdt_file.specs.File.{GraphParts}
-use Rattle.hdt_file.specs.Views.{strings_in}
+use Rattle.hdt_dict.specs.Dictionary.{strings_in}
 
 abbrev pub StringTriple : Type 0
 StringTriple = List ℕ × List ℕ × List ℕ
 
 -- the string of a role with the number n, from 1; empty for any other number, which no triple of a layout has
 abbrev pub string_of : GraphParts → Role → ℕ → List ℕ
-string_of g role n = unwrap_or (numbered (strings_in g role) n) []
+string_of g role n = unwrap_or (numbered (strings_in g.dictionary role) n) []
 
 -- each number replaced by its string
 abbrev pub strings_for : GraphParts → Triple → StringTriple

@@ -4,7 +4,7 @@ use Rattle.std.specs.Prelude.{◌≡◌, ℕ, ◌==◌, List, length, Result, Ok
 use Rattle.hdt_wire.specs.declared.fault.Fault.{Fault}
 use Rattle.hdt_wire.specs.declared.fault.Reason.TheVariants.{TrailingBytes}
 use Rattle.hdt_wire.specs.Rows.{◌>>=◌, demand}
-use Rattle.hdt_dict.specs.Dictionary.{DictionaryParts, IsDictionary, terms}
+use Rattle.hdt_dict.specs.Dictionary.{DictionaryParts, FourLists, IsDictionary, sections_of, strings_in}
 use Rattle.hdt_wire.specs.declared.role.Role.TheVariants.{Subject, Predicate, Object}
 use Rattle.hdt_triples.specs.Counting.{Counts, Triple, triples_of}
 use Rattle.hdt_triples.specs.Triples.{TripleParts, bitmap_of, IsTriples, triples_at}
@@ -17,9 +17,13 @@ pub record FileParts : Type 0 where
   pub dictionary : DictionaryParts
   pub triples : TripleParts
 
+-- how many strings each role has
+abbrev pub counts_of : FourLists → Counts
+counts_of d = record { subjects = length (strings_in d Subject); predicates = length (strings_in d Predicate); objects = length (strings_in d Object) }
+
 -- how many strings each role has: the numbers of a role go from 1 to that
 abbrev pub counts_in : DictionaryParts → Counts
-counts_in d = record { subjects = length (terms d Subject); predicates = length (terms d Predicate); objects = length (terms d Object) }
+counts_in d = counts_of (sections_of d)
 
 -- the bytes, all of them, are the file
 pub record IsFile (file : FileParts) (bytes : List ℕ) : Type 0 where
@@ -38,21 +42,11 @@ file_at_start bytes = do
 
 -- ---- what a file is of
 
--- four lists of strings
-pub record Sections : Type 0 where
-  pub shared : List (List ℕ)
-  pub subjects : List (List ℕ)
-  pub predicates : List (List ℕ)
-  pub objects : List (List ℕ)
-
 -- a file as its users see it: the header body, the sections of the dictionary, the triples as numbers
 pub record GraphParts : Type 0 where
   pub header : List ℕ
-  pub dictionary : Sections
+  pub dictionary : FourLists
   pub triples : List Triple
-
-abbrev pub sections_of : DictionaryParts → Sections
-sections_of d = record { shared = d.shared.strings; subjects = d.subjects.strings; predicates = d.predicates.strings; objects = d.objects.strings }
 
 abbrev pub graph_of : FileParts → GraphParts
 graph_of file = record { header = file.head.body; dictionary = sections_of file.dictionary; triples = triples_of (bitmap_of file.triples) }

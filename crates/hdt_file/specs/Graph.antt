@@ -1,15 +1,10 @@
 -- What a layout is of: sections of strings, no string in two of shared, subjects and objects, and at least one triple,
 -- each in range, in ascending order.
-use Rattle.std.specs.Prelude.{◌<◌, ◌++◌, length}
+use Rattle.std.specs.Prelude.{◌<◌, length}
 use Rattle.hdt_front.specs.Section.{AreStrings}
 use Rattle.hdt_dict.specs.Dictionary.{AreApart}
-use Rattle.hdt_triples.specs.Counting.{Counts}
 use Rattle.hdt_triples.specs.Order.{AreAscending, AreInRange}
-use Rattle.hdt_file.specs.File.{Sections, GraphParts}
-
--- how many strings each role has
-abbrev pub counts_of : Sections → Counts
-counts_of d = record { subjects = length (d.shared ++ d.subjects); predicates = length d.predicates; objects = length (d.shared ++ d.objects) }
+use Rattle.hdt_file.specs.File.{GraphParts, counts_of}
 
 pub record IsGraph (g : GraphParts) : Type 0 where
   pub shared : AreStrings g.dictionary.shared

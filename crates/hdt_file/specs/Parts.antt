@@ -3,12 +3,12 @@ use Rattle.std.specs.Prelude.{ℕ, ◌+◌, List, Result, Ok}
 use Rattle.hdt_wire.specs.declared.fault.Fault.{Fault}
 use Rattle.hdt_wire.specs.Exact.{seen}
 use Rattle.hdt_wire.specs.Rows.{◌>>=◌}
-use Rattle.hdt_dict.specs.Dictionary.{DictionaryParts}
+use Rattle.hdt_dict.specs.Dictionary.{DictionaryParts, sections_of}
 use Rattle.hdt_triples.specs.Counting.{BitmapTriples, triples_of}
 use Rattle.hdt_triples.specs.ListedViews.{directories_held, lists_held}
 use Rattle.hdt_triples.specs.Triples.{bitmap_of}
 use Rattle.hdt_file.specs.Dictionary.{HeadAndDictionary}
-use Rattle.hdt_file.specs.File.{FileParts, GraphParts, counts_in, file_at_start, sections_of}
+use Rattle.hdt_file.specs.File.{FileParts, GraphParts, counts_in, file_at_start}
 use Rattle.hdt_file.specs.Tight.{strings_used}
 
 abbrev pub Parts : Type 0

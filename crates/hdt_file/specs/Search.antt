@@ -2,13 +2,12 @@
 use Rattle.std.specs.Prelude.{◌≡◌, ℕ, ◌+◌, List, Option, Some, None, ⊤, slice_index_or}
 use Rattle.hdt_dict.specs.Numbered.{numbered}
 use Rattle.hdt_dict.specs.Strings.{Lent}
-use Rattle.hdt_dict.specs.Dictionary.{DictionaryParts}
+use Rattle.hdt_dict.specs.Dictionary.{DictionaryParts, strings_in}
 use Rattle.hdt_wire.specs.declared.role.Role.{Role}
 use Rattle.hdt_wire.specs.declared.role.Role.TheVariants.{Subject, Predicate, Object}
 use Rattle.hdt_triples.specs.declared.pattern.Pattern.{Pattern}
 use Rattle.hdt_file.specs.File.{GraphParts}
 use Rattle.hdt_dict.specs.Looks.{role_looks}
-use Rattle.hdt_file.specs.Views.{strings_in}
 
 -- a part of a pattern: any where no string is given, else the number of the string in the role's list
 abbrev pub IsPart : List (List ℕ) → Option Lent → Option ℕ → Type 0
@@ -23,9 +22,9 @@ part_given given i = slice_index_or given i None
 
 -- the pattern has the numbers of the strings that are given, each in its role
 pub record IsPattern (g : GraphParts) (given : List (Option Lent)) (p : Pattern) : Type 0 where
-  pub subject : IsPart (strings_in g Subject) (part_given given 0) p.s
-  pub predicate : IsPart (strings_in g Predicate) (part_given given 1) p.p
-  pub object : IsPart (strings_in g Object) (part_given given 2) p.o
+  pub subject : IsPart (strings_in g.dictionary Subject) (part_given given 0) p.s
+  pub predicate : IsPart (strings_in g.dictionary Predicate) (part_given given 1) p.p
+  pub object : IsPart (strings_in g.dictionary Object) (part_given given 2) p.o
 
 -- the most looks for a part
 abbrev pub part_looks : DictionaryParts → Role → Option Lent → ℕ

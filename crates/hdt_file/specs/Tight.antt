@@ -8,18 +8,17 @@ use Rattle.hdt_wire.specs.declared.role.Role.TheVariants.{Subject, Predicate, Ob
 use Rattle.hdt_wire.specs.Rows.{◌>>=◌, demand}
 use Rattle.hdt_wire.specs.ExactItems.{rows_from}
 use Rattle.hdt_front.specs.Section.{SectionParts, string_place}
-use Rattle.hdt_dict.specs.Dictionary.{DictionaryParts, section_number}
+use Rattle.hdt_dict.specs.Dictionary.{DictionaryParts, section_number, strings_in}
 use Rattle.hdt_triples.specs.Counting.{Triple, triples_of}
 use Rattle.hdt_triples.specs.Triples.{bitmap_of}
 use Rattle.hdt_triples.specs.Uses.{Uses, uses}
 use Rattle.hdt_file.specs.declared.tight.Part.{Part}
 use Rattle.hdt_file.specs.declared.tight.Part.TheVariants as parts
 use Rattle.hdt_file.specs.File.{GraphParts, IsLayout, file_at_start, graph_of}
-use Rattle.hdt_file.specs.Views.{strings_in}
 
 -- each number of each role, from 1 to how many strings the role has, stands in that role in a triple
 abbrev pub IsTight : GraphParts → Type 0
-IsTight g = (role : Role) (n : ℕ) → 1 ≤ n → n ≤ length (strings_in g role) → Uses g.triples role n
+IsTight g = (role : Role) (n : ℕ) → 1 ≤ n → n ≤ length (strings_in g.dictionary role) → Uses g.triples role n
 
 -- the bytes are a layout of the graph, and triples use all of its strings
 pub record IsTightLayout (bytes : List ℕ) (graph : GraphParts) : Type 0 where

@@ -1,14 +1,13 @@
 -- A `Graph` as the layout sees it.
-use Rattle.std.specs.Prelude.{ℕ, List, [], ◌∷◌, ◌++◌, length}
-use Rattle.hdt_wire.specs.declared.role.Role.{Role}
-use Rattle.hdt_wire.specs.declared.role.Role.TheVariants.{Subject, Predicate, Object}
+use Rattle.std.specs.Prelude.{ℕ, List, [], ◌∷◌, length}
 use Rattle.hdt_dict.specs.Views.{dictionary_of}
 use Rattle.hdt_triples.specs.Counting.{BitmapTriples, triples_of}
 use Rattle.hdt_triples.specs.ListedViews.{triples_listed}
 use Rattle.hdt_triples.specs.Views.{bitmap_read}
 use Rattle.hdt_file.specs.Head.{parts_of}
-use Rattle.hdt_file.specs.File.{GraphParts, sections_of}
+use Rattle.hdt_file.specs.File.{GraphParts}
 use Rattle.hdt_file.specs.declared.graph.Graph.{Graph}
+use Rattle.hdt_dict.specs.Dictionary.{sections_of}
 
 -- the four sequences of its triples
 unfoldable pub bitmap_of_graph : Graph → BitmapTriples
@@ -21,9 +20,3 @@ graph_seen g = record { header = (parts_of g.head).body; dictionary = sections_o
 -- how many triples a graph has, and how many strings each section: shared, subjects, predicates, objects
 abbrev pub lens_of : GraphParts → List ℕ
 lens_of g = length g.triples ∷ length g.dictionary.shared ∷ length g.dictionary.subjects ∷ length g.dictionary.predicates ∷ length g.dictionary.objects ∷ []
-
--- the strings of a role in the order of their numbers, which count from 1
-abbrev pub strings_in : GraphParts → Role → List (List ℕ)
-strings_in g Subject = g.dictionary.shared ++ g.dictionary.subjects
-strings_in g Predicate = g.dictionary.predicates
-strings_in g Object = g.dictionary.shared ++ g.dictionary.objects

@@ -3,7 +3,7 @@ ghost use Rattle.std.specs.Prelude.{◌≡◌, ◌≤◌, ℕ, List, ◌<◌, �
 ghost use Rattle.hdt_wire.specs.Rows.{Gives, IsBytes};
 ghost use Rattle.hdt_wire.specs.Exact.{Exactly};
 ghost use Rattle.hdt_wire.specs.declared.role.Role.{Role};
-ghost use Rattle.hdt_dict.specs.Dictionary.{terms};
+ghost use Rattle.hdt_dict.specs.Dictionary.{sections_of, strings_in};
 ghost use Rattle.hdt_dict.specs.Views.{dictionary_of};
 ghost use Rattle.hdt_file.specs.Faults.{open_fault_of};
 ghost use Rattle.hdt_file.specs.Dictionary.{HeadAndDictionary, IsHeadAndDictionary, described, dictionary_after_head};
@@ -21,7 +21,7 @@ fn read_rows<'a>(
 ) -> Result<(Head<'a>, Dictionary<'a>, usize), OpenFault>
     ensures exact { Gives open_fault_of described result (dictionary_after_head bytes.now) }
     ensures next { IfOk result (λ r. r.2 ≡ (dictionary_of r.1).objects.end) }
-    ensures few { IfOk result (λ r. (role : Role) → length (terms (dictionary_of r.1) role) ≤ length bytes.now) }
+    ensures few { IfOk result (λ r. (role : Role) → length (strings_in (sections_of (dictionary_of r.1)) role) ≤ length bytes.now) }
 {
     let head = read_head(bytes)?;
     let (dictionary, end) = Dictionary::read(alloc, bytes, head.end())?;
@@ -50,7 +50,7 @@ pub fn read_dictionary<'a>(
     ensures exact { Gives open_fault_of described result (dictionary_after_head bytes.now) }
     ensures next { IfOk result (λ r. r.2 ≡ (dictionary_of r.1).objects.end) }
     // A role has at most as many strings as the input has bytes.
-    ensures few { IfOk result (λ r. (role : Role) → length (terms (dictionary_of r.1) role) ≤ length bytes.now) }
+    ensures few { IfOk result (λ r. (role : Role) → length (strings_in (sections_of (dictionary_of r.1)) role) ≤ length bytes.now) }
 {
     read_rows(alloc, bytes)
 }

@@ -39,7 +39,8 @@ impl<'a> Graph<'a> {
     ghost use Rattle.hdt_dict.specs.Looks.{role_block, role_looks};
     ghost use Rattle.hdt_file.specs.Parts.{dictionary_in, held_by};
     ghost use Rattle.hdt_file.specs.PartsViews.{graph_parts, layout_parts};
-    ghost use Rattle.hdt_file.specs.Views.{graph_seen, strings_in};
+    ghost use Rattle.hdt_file.specs.Views.{graph_seen};
+    ghost use Rattle.hdt_dict.specs.Dictionary.{strings_in};
 
     /// The law that this is a graph: sections of ascending UTF-8 strings without zero bytes, no string in two of shared,
     /// subjects and objects, and at least one triple; the triples strictly ascend, and each number is that of a string of its
@@ -96,14 +97,14 @@ impl<'a> Graph<'a> {
 
     /// How many strings a role has.
     pub fn count(&self, role: Role) -> u64
-        ensures { result ≡ length (strings_in (graph_seen self.now) role) }
+        ensures { result ≡ length (strings_in (graph_seen self.now).dictionary role) }
     {
         self.dictionary.count(role)
     }
 
     /// A walk over the strings of a role in the order of their numbers, each unfolded once.
     pub fn strings(&self, alloc: Global, role: Role) -> Strings<'a>
-        ensures { result ≡ record { given = 0; last = []; ahead = strings_in (graph_seen self.now) role } }
+        ensures { result ≡ record { given = 0; last = []; ahead = strings_in (graph_seen self.now).dictionary role } }
     {
         self.dictionary.strings(alloc, role)
     }
@@ -121,7 +122,7 @@ impl<'a> Graph<'a> {
     /// halves the blocks of the role's sections.
     #[tactic(auto, unfolding(crate::specs::Views::graph_seen, crate::specs::PartsViews::graph_parts))]
     pub fn number_of(&self, role: Role, x: &[u8], steps: &mut Steps) -> Option<u64>
-        ensures exact { (n : ℕ) → (result ≡ Some n) ↔ (numbered (strings_in (graph_seen self.now) role) n ≡ Some x.now) }
+        ensures exact { (n : ℕ) → (result ≡ Some n) ↔ (numbered (strings_in (graph_seen self.now).dictionary role) n ≡ Some x.now) }
         ensures cost { steps.new ≤ steps.old + role_looks (dictionary_in (graph_parts self.now)) role }
         ensures more { steps.old ≤ steps.new }
     {
@@ -138,10 +139,10 @@ impl<'a> Graph<'a> {
         out: &mut Vec<u8>,
         steps: &mut Steps,
     ) -> Result<bool, AllocError>
-        ensures ok { IfOk result (λ appended. AppendsString (numbered (strings_in (graph_seen self.now) role) n) appended out.old.items out.new.items) }
+        ensures ok { IfOk result (λ appended. AppendsString (numbered (strings_in (graph_seen self.now).dictionary role) n) appended out.old.items out.new.items) }
         ensures err { OnErr result (out.new.items ≡ out.old.items) }
         ensures cost { steps.new ≤ steps.old + role_block (dictionary_in (graph_parts self.now)) role }
-        ensures absent { numbered (strings_in (graph_seen self.now) role) n ≡ None → IsOk result }
+        ensures absent { numbered (strings_in (graph_seen self.now).dictionary role) n ≡ None → IsOk result }
         ensures more { steps.old ≤ steps.new }
     {
         self.dictionary.string_of(role, n, out, steps)

@@ -58,7 +58,8 @@ impl<'a> Layout<'a> {
     ghost use Rattle.hdt_file.specs.Laws.Parts.{parts_rows};
     ghost use Rattle.hdt_file.specs.PartsViews.{layout_parts};
     ghost use Rattle.hdt_file.specs.Search.{IsPart, IsPattern, given_looks, part_looks};
-    ghost use Rattle.hdt_file.specs.Views.{lens_of, strings_in};
+    ghost use Rattle.hdt_file.specs.Views.{lens_of};
+    ghost use Rattle.hdt_dict.specs.Dictionary.{strings_in};
 
     /// Reads by rows.
     #[tactic(auto, unfolding(crate::specs::Laws::Parts::parts_rows, crate::specs::PartsViews::layout_parts))]
@@ -108,14 +109,14 @@ impl<'a> Layout<'a> {
 
     /// How many strings a role has.
     pub fn count(&self, role: Role) -> u64
-        ensures { result ≡ length (strings_in (layout_seen self.now) role) }
+        ensures { result ≡ length (strings_in (layout_seen self.now).dictionary role) }
     {
         self.dictionary.count(role)
     }
 
     /// A walk over the strings of a role in the order of their numbers, each unfolded once.
     pub fn strings(&self, alloc: Global, role: Role) -> Strings<'a>
-        ensures { result ≡ record { given = 0; last = []; ahead = strings_in (layout_seen self.now) role } }
+        ensures { result ≡ record { given = 0; last = []; ahead = strings_in (layout_seen self.now).dictionary role } }
     {
         self.dictionary.strings(alloc, role)
     }
@@ -124,7 +125,7 @@ impl<'a> Layout<'a> {
     /// halves the blocks of the role's sections.
     #[tactic(auto, unfolding(crate::specs::LayoutView::layout_seen, crate::specs::PartsViews::layout_parts))]
     pub fn number_of(&self, role: Role, x: &[u8], steps: &mut Steps) -> Option<u64>
-        ensures exact { (n : ℕ) → (result ≡ Some n) ↔ (numbered (strings_in (layout_seen self.now) role) n ≡ Some x.now) }
+        ensures exact { (n : ℕ) → (result ≡ Some n) ↔ (numbered (strings_in (layout_seen self.now).dictionary role) n ≡ Some x.now) }
         ensures cost { steps.new ≤ steps.old + role_looks (dictionary_in (layout_parts self.now)) role }
         ensures more { steps.old ≤ steps.new }
     {
@@ -141,10 +142,10 @@ impl<'a> Layout<'a> {
         out: &mut Vec<u8>,
         steps: &mut Steps,
     ) -> Result<bool, AllocError>
-        ensures ok { IfOk result (λ appended. AppendsString (numbered (strings_in (layout_seen self.now) role) n) appended out.old.items out.new.items) }
+        ensures ok { IfOk result (λ appended. AppendsString (numbered (strings_in (layout_seen self.now).dictionary role) n) appended out.old.items out.new.items) }
         ensures err { OnErr result (out.new.items ≡ out.old.items) }
         ensures cost { steps.new ≤ steps.old + role_block (dictionary_in (layout_parts self.now)) role }
-        ensures absent { numbered (strings_in (layout_seen self.now) role) n ≡ None → IsOk result }
+        ensures absent { numbered (strings_in (layout_seen self.now).dictionary role) n ≡ None → IsOk result }
         ensures more { steps.old ≤ steps.new }
     {
         self.dictionary.string_of(role, n, out, steps)
@@ -152,7 +153,7 @@ impl<'a> Layout<'a> {
 
     /// The number of a string in a role, or any where none is given; None where the role has no such string.
     fn part(&self, role: Role, given: Option<&[u8]>, steps: &mut Steps) -> Option<Option<u64>>
-        ensures exact { (n : Option ℕ) → (result ≡ Some n) ↔ IsPart (strings_in (layout_seen self.now) role) given.entry n }
+        ensures exact { (n : Option ℕ) → (result ≡ Some n) ↔ IsPart (strings_in (layout_seen self.now).dictionary role) given.entry n }
         ensures cost { steps.new ≤ steps.old + part_looks (dictionary_in (layout_parts self.now)) role given.entry }
         ensures more { steps.old ≤ steps.new }
     {

@@ -5,7 +5,7 @@ ghost use Rattle.hdt_triples.specs.Uses.{part};
 ghost use Rattle.hdt_file.specs.Inside.Pieces.{AreMarked, AreLinePieces, ArePiecesFor, AreTables, AppendsPiece, GrowsByMarked, GrowsByPiece, HasPieces, IsLinePiece, behind, is_marked, piece_in};
 ghost use Rattle.hdt_file.specs.TextWriting.{AppendsLine, AppendsText, TellsFirstIn, TellsFirstOf, TellsString};
 ghost use Rattle.hdt_file.specs.LayoutView.{layout_seen};
-ghost use Rattle.hdt_file.specs.Views.{strings_in};
+ghost use Rattle.hdt_dict.specs.Dictionary.{strings_in};
 
 use crate::fault::DumpFault;
 use crate::layout::Layout;
@@ -102,7 +102,7 @@ fn pieces_of(
     role: Role,
     marks: &[bool],
 ) -> Result<Arena, AllocError>
-    ensures { IfOk result (λ arena. AreLinePieces role marks.now 1 (strings_in (layout_seen layout.now) role) arena) }
+    ensures { IfOk result (λ arena. AreLinePieces role marks.now 1 (strings_in (layout_seen layout.now).dictionary role) arena) }
 {
     let mut bytes = Vec::new(alloc);
     let mut starts = Vec::new(alloc);

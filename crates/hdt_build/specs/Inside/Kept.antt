@@ -5,14 +5,14 @@ use Rattle.std.specs.declared.cmp.Ordering.TheVariants.{Less, Greater}
 use Rattle.hdt_wire.specs.declared.role.Role.{Role}
 use Rattle.hdt_wire.specs.declared.role.Role.TheVariants.{Subject, Predicate, Object}
 use Rattle.hdt_front.specs.Searching.{agreed}
-use Rattle.hdt_dict.specs.Split.{FourLists, IsSplit, lists_in_work}
+use Rattle.hdt_dict.specs.Split.{IsSplit, lists_in_work}
 use Rattle.hdt_dict.specs.Strings.{IsAscending, string_cmp}
 use Rattle.hdt_dict.specs.Walking.{Progress}
 use Rattle.hdt_triples.specs.Counting.{Triple}
 use Rattle.hdt_triples.specs.Uses.{Uses}
 use Rattle.hdt_file.specs.Denoted.{string_of}
 use Rattle.hdt_file.specs.File.{GraphParts}
-use Rattle.hdt_file.specs.Views.{strings_in}
+use Rattle.hdt_dict.specs.Dictionary.{strings_in, FourLists}
 use Rattle.hdt_build.specs.declared.kept.Part.{Part}
 use Rattle.hdt_build.specs.declared.kept.Part.TheVariants as parts
 use Rattle.hdt_build.specs.declared.run.Run.{Run}
@@ -20,7 +20,7 @@ use Rattle.hdt_build.specs.declared.sections.Sections.{Sections}
 use Rattle.hdt_build.specs.declared.sections.Numbers.{Numbers}
 use Rattle.hdt_build.specs.declared.renumbering.Numbering.{Numbering}
 use Rattle.hdt_build.specs.declared.renumbering.Numbering.TheVariants as numberings
-use Rattle.hdt_build.specs.Graph.{subjects_of, predicates_of, objects_of, subject_terms, predicate_terms, object_terms}
+use Rattle.hdt_build.specs.Graph.{subjects_of, predicates_of, objects_of}
 use Rattle.hdt_build.specs.Layouts.{denoted_by}
 use Rattle.hdt_build.specs.Inside.Numbers.{IsNumberOf, term_numbered}
 
@@ -51,9 +51,9 @@ cut_of g parts.Objects = length g.dictionary.shared
 
 abbrev pub end_of : GraphParts → Part → ℕ
 end_of g parts.Shared = length g.dictionary.shared
-end_of g parts.Subjects = length (strings_in g Subject)
-end_of g parts.Predicates = length (strings_in g Predicate)
-end_of g parts.Objects = length (strings_in g Object)
+end_of g parts.Subjects = length (strings_in g.dictionary Subject)
+end_of g parts.Predicates = length (strings_in g.dictionary Predicate)
+end_of g parts.Objects = length (strings_in g.dictionary Object)
 
 -- ---- runs
 
@@ -76,8 +76,8 @@ pub record IsHere (g : GraphParts) (part : Part) (run : Run) : Type 0 where
 
 -- a run stands at a string that is kept, or at its end
 pub record IsRunOfStrings (g : GraphParts) (part : Part) (run : Run) : Type 0 where
-  pub stands : HasGiven (strings_in g (role_of part)) run.strings
-  pub within : run.end ≤ length (strings_in g (role_of part))
+  pub stands : HasGiven (strings_in g.dictionary (role_of part)) run.strings
+  pub within : run.end ≤ length (strings_in g.dictionary (role_of part))
   pub to : run.at ≤ run.end
   pub here : run.at < run.end → IsHere g part run
 
@@ -126,9 +126,9 @@ AreRenumbered g role terms new = (n : ℕ) → Uses g.triples role n → IsNumbe
 -- The four lists are the sections of what the graph denotes, and each number that is used has a new one in them.
 pub record AreRewritten (g : GraphParts) (d : FourLists) (numbers : Numbers) : Type 0 where
   pub sections : IsSplit (subjects_of (denoted_by g)) (predicates_of (denoted_by g)) (objects_of (denoted_by g)) d
-  pub subjects_are : AreRenumbered g Subject (subject_terms d) (new_number numbers.subjects)
-  pub predicates_are : AreRenumbered g Predicate (predicate_terms d) (new_number numbers.predicates)
-  pub objects_are : AreRenumbered g Object (object_terms d) (new_number numbers.objects)
+  pub subjects_are : AreRenumbered g Subject (strings_in d Subject) (new_number numbers.subjects)
+  pub predicates_are : AreRenumbered g Predicate (strings_in d Predicate) (new_number numbers.predicates)
+  pub objects_are : AreRenumbered g Object (strings_in d Object) (new_number numbers.objects)
 
 -- a triple with new numbers
 abbrev pub renumbered : Numbers → Triple → Triple

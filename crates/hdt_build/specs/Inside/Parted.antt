@@ -3,13 +3,14 @@ use Rattle.std.specs.Prelude.{◌≡◌, ◌↔◌, ℕ, Bool, true, false, List
 use Rattle.std.specs.List.{Contains}
 use Rattle.hdt_wire.specs.declared.role.Role.{Role}
 use Rattle.hdt_wire.specs.declared.role.Role.TheVariants.{Subject, Predicate, Object}
-use Rattle.hdt_dict.specs.Split.{FourLists, IsSplit}
+use Rattle.hdt_dict.specs.Split.{IsSplit}
 use Rattle.hdt_dict.specs.Strings.{IsAscending}
 use Rattle.hdt_triples.specs.Counting.{Triple}
 use Rattle.hdt_triples.specs.Uses.{Uses}
-use Rattle.hdt_build.specs.Graph.{subjects_of, predicates_of, objects_of, subject_terms, predicate_terms, object_terms, string_triples_of}
+use Rattle.hdt_build.specs.Graph.{subjects_of, predicates_of, objects_of, string_triples_of}
 use Rattle.hdt_build.specs.Inside.Kept.{IsNumberBehind}
 use Rattle.hdt_build.specs.Inside.Numbers.{IsNumberOf}
+use Rattle.hdt_dict.specs.Dictionary.{FourLists, strings_in}
 
 -- whether there is a yes at a place; none past the end
 abbrev pub flag_at : List Bool → ℕ → Bool
@@ -40,8 +41,8 @@ AreNumbered xs ids role terms numbers = (k : ℕ) → Uses ids role k → IsNumb
 -- and one as a predicate.
 pub record ArePartsOf (xs : List (List ℕ)) (ids : List Triple) (d : FourLists) (nodes predicates : List ℕ) : Type 0 where
   pub sections : IsSplit (subjects_of (string_triples_of xs ids)) (predicates_of (string_triples_of xs ids)) (objects_of (string_triples_of xs ids)) d
-  pub subjects_are : AreNumbered xs ids Subject (subject_terms d) nodes
-  pub predicates_are : AreNumbered xs ids Predicate (predicate_terms d) predicates
-  pub objects_are : AreNumbered xs ids Object (object_terms d) nodes
+  pub subjects_are : AreNumbered xs ids Subject (strings_in d Subject) nodes
+  pub predicates_are : AreNumbered xs ids Predicate (strings_in d Predicate) predicates
+  pub objects_are : AreNumbered xs ids Object (strings_in d Object) nodes
   pub nodes_long : length nodes ≡ length xs
   pub predicates_long : length predicates ≡ length xs

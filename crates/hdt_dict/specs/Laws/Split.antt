@@ -6,9 +6,10 @@ use Rattle.std.proofs.lemmas.Map.Keys.{Less-from_sorted}
 use Rattle.hdt_front.specs.Section.{AreStrings}
 use Rattle.hdt_dict.specs.Laws.Members.{All-from_members}
 use Rattle.hdt_dict.specs.Strings.{IsAscending, string_cmp}
-use Rattle.hdt_dict.specs.Split.{FourLists, IsSplit}
+use Rattle.hdt_dict.specs.Split.{IsSplit}
 use Rattle.hdt_dict.specs.Texts.{IsDictionaryString}
 use Rattle.hdt_dict.specs.Writing.{AreSections}
+use Rattle.hdt_dict.specs.Dictionary.{FourLists}
 
 pub texts_ascend : (xs : List (List ℕ)) → All IsDictionaryString xs → IsAscending xs → AreStrings xs
 texts_ascend xs are up = record {

@@ -8,8 +8,7 @@ use Rattle.hdt_wire.specs.Laws.Row.{not-true, Stands-front, Stands-back}
 use Rattle.hdt_wire.specs.Control.{HasNoZero, control, block_at}
 use Rattle.hdt_front.specs.Canonical.{canonical, canonical_parts}
 use Rattle.hdt_front.specs.Laws.Canonical.{canonical_stands}
-use Rattle.hdt_dict.specs.Dictionary.{IsDictionary}
-use Rattle.hdt_dict.specs.Split.{FourLists}
+use Rattle.hdt_dict.specs.Dictionary.{IsDictionary, FourLists}
 use Rattle.hdt_dict.specs.Writing.{AreSections, mapping, canonical_dictionary, canonical_dictionary_parts}
 
 -- the property text has no zero byte

@@ -1,10 +1,11 @@
 use Rattle.std.proofs.Common.{◌≡◌, ℕ, ◌<◌, length, get_or}
 use Rattle.hdt_wire.specs.declared.role.Role.TheVariants.{Object}
-use Rattle.hdt_file.specs.Views.{graph_seen, strings_in}
+use Rattle.hdt_file.specs.Views.{graph_seen}
 use Rattle.hdt_build.proofs.sections.object_numbers.Given as goal
+use Rattle.hdt_dict.specs.Dictionary.{strings_in}
 
 abbrev pub invariant-loop-place : goal.invariant-loop-place
 invariant-loop-place l = record {
-  long : length l.made.items ≡ length (strings_in (graph_seen l.graph) Object);
+  long : length l.made.items ≡ length (strings_in (graph_seen l.graph).dictionary Object);
   done : (k : ℕ) → k < l.place → get_or l.made.items k 0 ≡ get_or l.subjects k 0;
 }

@@ -2,7 +2,7 @@ use Rattle.std.proofs.Common.{◌≡◌, ◌≢◌, ◌⊎◌, ℕ, List, Some, 
 use Rattle.std.proofs.lemmas.Result.{IfOk-weaker, IfErr-weaker}
 use Rattle.hdt_dict.specs.Numbered.{numbered}
 use Rattle.hdt_file.specs.LayoutView.{layout_seen}
-use Rattle.hdt_file.specs.Views.{strings_in}
+use Rattle.hdt_dict.specs.Dictionary.{strings_in}
 use Rattle.hdt_command.specs.declared.fault.ToolFault.TheVariants.{OutOfMemory, NoSuchTerm}
 use Rattle.hdt_command.specs.StringsText.{PrintsNumber}
 use Rattle.hdt_command.proofs.Told.{no_term}
@@ -15,7 +15,7 @@ returns-clause-ok c =
     (λ text h. record {
       graph = front;
       stands = c.in_ok-layout.ensures.found;
-      holds = subst (λ (x : List ℕ). PrintsNumber (strings_in front c.args.role) x text.items) c.deref.ensures.value h;
+      holds = subst (λ (x : List ℕ). PrintsNumber (strings_in front.dictionary c.args.role) x text.items) c.deref.ensures.value h;
     })
     c.number_text.ensures.ok
 
@@ -24,4 +24,4 @@ returns-clause-err c =
     let front = layout_seen c.in_ok-layout.layout in
     IfErr-weaker c.number_text.result _ _
     (λ e h. no_term c.args.role c.args.string.now c.args.bytes.now front e c.in_ok-layout.ensures.found
-    (subst (λ (x : List ℕ). (e ≡ OutOfMemory) ⊎ ((e ≡ NoSuchTerm) × ((n : ℕ) → numbered (strings_in front c.args.role) n ≢ Some x))) c.deref.ensures.value h)) c.number_text.ensures.err
+    (subst (λ (x : List ℕ). (e ≡ OutOfMemory) ⊎ ((e ≡ NoSuchTerm) × ((n : ℕ) → numbered (strings_in front.dictionary c.args.role) n ≢ Some x))) c.deref.ensures.value h)) c.number_text.ensures.err

@@ -5,7 +5,7 @@ use Rattle.std.proofs.lemmas.Result.{err_from_is_err_and}
 use Rattle.hdt_wire.specs.Counted.{inner, failures}
 use Rattle.hdt_dict.specs.Walking.{next_number}
 use Rattle.hdt_file.specs.LayoutView.{layout_seen}
-use Rattle.hdt_file.specs.Views.{strings_in}
+use Rattle.hdt_dict.specs.Dictionary.{strings_in}
 use Rattle.hdt_command.specs.StringsText.{string_lines}
 use Rattle.hdt_command.proofs.Listing.{line_added, none_left}
 use Rattle.hdt_command.proofs.Pieces.{cut_by, less_kept, more_gained, more_within}
@@ -16,7 +16,7 @@ returns-in_err-written-clause-cut g c =
     let p = err_from_is_err_and c.from_residual-in_err-written.result c.from_residual-in_err-written.ensures.1 in
     let w = c.strings.strings in
     let v = c.next.new.self in
-    let lines = string_lines 1 (strings_in (layout_seen c.args.layout.now) c.args.role) in
+    let lines = string_lines 1 (strings_in (layout_seen c.args.layout.now).dictionary c.args.role) in
     let kept = c.put_string_line.new.out.items in
     let next : Some c.in-Some.number ≡ next_number w w.ahead = sym c.in-Some.is ∙ c.in_ok-number.ensures.number in
     let behind = line_added w v c.in-Some.number c.last.result.now c.strings.text.items kept (drop c.strings.written lines) next c.in_ok-number.ensures.ok c.last.ensures
@@ -30,7 +30,7 @@ strings-preserved g c =
     let w = c.strings.strings in
     let v = c.next.new.self in
     let n = c.strings.written in
-    let lines = string_lines 1 (strings_in (layout_seen c.args.layout.now) c.args.role) in
+    let lines = string_lines 1 (strings_in (layout_seen c.args.layout.now).dictionary c.args.role) in
     let kept = c.put_string_line.new.out.items in
     let rest = string_lines (v.given + 1) v.ahead in
     let next : Some c.in-Some.number ≡ next_number w w.ahead = sym c.in-Some.is ∙ c.in_ok-number.ensures.number in
@@ -52,7 +52,7 @@ pub returns-in_err-write_piece-clause-cut : goal.returns-in_err-write_piece-clau
 returns-in_err-write_piece-clause-cut g c =
     let p = err_from_is_err_and c.from_residual-in_err-write_piece.result c.from_residual-in_err-write_piece.ensures.1 in
     let w = c.strings.strings in
-    let lines = string_lines 1 (strings_in (layout_seen c.args.layout.now) c.args.role) in
+    let lines = string_lines 1 (strings_in (layout_seen c.args.layout.now).dictionary c.args.role) in
     let kept = c.deref.result.now in
     let behind : drop c.strings.written lines ≡ kept ++ [] =
     c.strings.invariant.rest ∙ none_left w w.ahead c.in_ok-number.field-0 (w.given + 1) c.strings.text.items c.in_ok-number.ensures.number c.in_default.not-Some
@@ -65,7 +65,7 @@ returns-clause-ok g c =
     let contents = g.W.Write.contents in
     let w = c.strings.strings in
     let n = c.strings.written in
-    let lines = string_lines 1 (strings_in (layout_seen c.args.layout.now) c.args.role) in
+    let lines = string_lines 1 (strings_in (layout_seen c.args.layout.now).dictionary c.args.role) in
     let kept = c.deref.result.now in
     let behind : drop n lines ≡ kept =
     c.strings.invariant.rest ∙ none_left w w.ahead c.in_ok-number.field-0 (w.given + 1) c.strings.text.items c.in_ok-number.ensures.number c.in_default.not-Some ∙ sym c.deref.ensures.value in

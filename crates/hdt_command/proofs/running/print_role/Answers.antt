@@ -1,6 +1,6 @@
 use Rattle.std.proofs.lemmas.Result.{IfErr-weaker, on_ok_weaker}
 use Rattle.hdt_wire.specs.Counted.{inner, failures}
-use Rattle.hdt_file.specs.Views.{strings_in}
+use Rattle.hdt_dict.specs.Dictionary.{strings_in}
 use Rattle.hdt_command.specs.StringsText.{string_lines}
 use Rattle.hdt_command.proofs.Pieces.{all_lines, role_halts, role_writes}
 use Rattle.hdt_command.proofs.running.print_role.Goals as goal
@@ -10,7 +10,7 @@ returns-clause-ok g c =
     let left = g.R.Read.remaining in
     on_ok_weaker c.print_strings_of.result
     (λ h. (
-      string_lines 1 (strings_in h.graph c.args.role),
+      string_lines 1 (strings_in h.graph.dictionary c.args.role),
       all_lines c.args.role (left (inner c.args.input.now)) (left (inner c.read_all.new.input)) c.in_ok-bytes.bytes.items c.as_slice.result.now c.in_ok-bytes.ensures.ok
           c.as_slice.ensures.value h.graph h.stands,
       h.holds,

@@ -2,13 +2,13 @@ use Rattle.std.proofs.Common.{List, ℕ, Bool, ◌+◌, ◌∙◌, ap, length, s
 use Rattle.hdt_dict.specs.Arena.{arena_texts}
 use Rattle.hdt_file.specs.LayoutView.{layout_seen}
 use Rattle.hdt_file.specs.Inside.Pieces.{AreLinePieces, GrowsByMarked, is_marked}
-use Rattle.hdt_file.specs.Views.{strings_in}
+use Rattle.hdt_dict.specs.Dictionary.{strings_in}
 use Rattle.hdt_file.proofs.Lines.{PiecesTo, GoOn, begins, one_more, all_made, given, numbered_next, ended}
 use Rattle.hdt_file.proofs.tables.pieces_of.Goals as goal
 
 pub strings-init : goal.strings-init
 strings-init c =
-    rw (c.strings-strings.ensures, c.new-bytes.ensures.items, c.in_ok-push.ensures.items, c.new-starts.ensures.items) (begins c.args.role c.args.marks.now (strings_in (layout_seen c.args.layout.now) c.args.role))
+    rw (c.strings-strings.ensures, c.new-bytes.ensures.items, c.in_ok-push.ensures.items, c.new-starts.ensures.items) (begins c.args.role c.args.marks.now (strings_in (layout_seen c.args.layout.now).dictionary c.args.role))
 
 pub strings-smaller : goal.strings-smaller
 strings-smaller c =
@@ -20,7 +20,7 @@ strings-preserved c =
     let role = c.args.role in
     let marks = c.args.marks.now in
     let w = c.strings.strings in
-    let all = strings_in (layout_seen c.args.layout.now) role in
+    let all = strings_in (layout_seen c.args.layout.now).dictionary role in
     let new = c.next.new.self in
     let old = c.strings.bytes.items in
     let grown = c.put_marked.new.out.items in
@@ -38,7 +38,7 @@ returns c =
     let role = c.args.role in
     let marks = c.args.marks.now in
     let w = c.strings.strings in
-    let all = strings_in (layout_seen c.args.layout.now) role in
+    let all = strings_in (layout_seen c.args.layout.now).dictionary role in
     let none = ended w w.ahead c.in_ok-number.field-0 c.in_ok-number.ensures.number (λ k. c.in_default.not-Some k) in
     let made = subst (λ (ahead : List (List ℕ)). GoOn role marks all (w.given + 1) ahead (arena_texts c.strings.bytes.items c.strings.starts.items)) none c.strings.invariant.go_on in
     subst (AreLinePieces role marks 1 all) (sym c.of.ensures) (all_made role marks all (w.given + 1) (arena_texts c.strings.bytes.items c.strings.starts.items) made)
