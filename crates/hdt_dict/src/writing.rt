@@ -7,7 +7,7 @@ ghost use Rattle.hdt_dict.specs.Writing.{AreSections, canonical_dictionary, cano
 
 use crate::parts::{LentParts, Parts, lend};
 use hdt_front::{SectionWriter, put_lent_section};
-use hdt_wire::{Kind, put_control};
+use hdt_wire::{Kind, cut_on_error, put_control};
 use std::alloc::{AllocError, Global};
 
 /// Appends a dictionary; an `Err` may leave a beginning of it behind.
@@ -45,11 +45,8 @@ pub fn put_lent_dictionary(
     ensures err { OnErr result (out.new.items ≡ out.old.items) }
 {
     let start = out.len();
-    let written = append_dictionary(alloc, parts, block_size, out);
-    if written.is_err() {
-        out.truncate(start);
-    }
-    written
+    let appended = append_dictionary(alloc, parts, block_size, out);
+    cut_on_error(appended, start, out)
 }
 
 /// Appends the canonical dictionary of four sections: the control block with the property `mapping=1;`, and the
@@ -120,9 +117,6 @@ pub fn put_written_dictionary(
 {
     shared.has_blocks();
     let before = out.len();
-    let written = append_written(shared, subjects, predicates, objects, out);
-    if written.is_err() {
-        out.truncate(before);
-    }
-    written
+    let appended = append_written(shared, subjects, predicates, objects, out);
+    cut_on_error(appended, before, out)
 }

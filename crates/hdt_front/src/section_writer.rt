@@ -13,7 +13,7 @@ use crate::common::common_prefix;
 use crate::unfold::unfold;
 use byteorder::{ByteOrder, LittleEndian};
 use hdt_seq::put_numbers;
-use hdt_wire::{check8, check32, put_vbyte};
+use hdt_wire::{check8, check32, cut_on_error, put_vbyte};
 use std::alloc::{AllocError, Global};
 use std::marker::Model;
 
@@ -159,11 +159,8 @@ fn put_parts(
     ensures err { OnErr result (out.new.items ≡ out.old.items) }
 {
     let start = out.len();
-    let written = append_parts(count, block_size, starts, packed, out);
-    if written.is_err() {
-        out.truncate(start);
-    }
-    written
+    let appended = append_parts(count, block_size, starts, packed, out);
+    cut_on_error(appended, start, out)
 }
 
 impl SectionWriter {

@@ -6,6 +6,7 @@ ghost use Rattle.hdt_front.specs.Strings.{strings_of, block_size};
 use crate::piece::piece_of;
 use crate::section::Section;
 use hdt_seq::Steps;
+use hdt_wire::cut_on_error;
 use std::alloc::AllocError;
 
 /// Appends string i, counted from 0; an `Err` may leave a beginning of it behind.
@@ -50,10 +51,7 @@ impl<'a> Section<'a> {
     {
         let start = out.len();
         let appended = append_string(self, n - 1, out, steps);
-        if appended.is_err() {
-            out.truncate(start);
-        }
-        appended
+        cut_on_error(appended, start, out)
     }
 
     /// How many packed bytes the block of string n has, counted from 1: unfolding the string reads so many at most. The

@@ -9,7 +9,7 @@ ghost use Rattle.hdt_seq.specs.Bits.{IsBits, bits_at, bits_places_from, bits_spe
 
 use crate::packing::{append_bits, append_code8, append_code32, append_entries};
 use crate::width::width_of;
-use hdt_wire::put_vbyte;
+use hdt_wire::{cut_on_error, put_vbyte};
 use std::alloc::AllocError;
 
 /// Appends a number sequence; an `Err` may leave a beginning of it behind.
@@ -35,11 +35,8 @@ pub fn put_numbers(xs: &[u64], out: &mut Vec<u8>) -> Result<(), AllocError>
     ensures err { OnErr result (out.new.items ≡ out.old.items) }
 {
     let start = out.len();
-    let written = append_number_sequence(xs, out);
-    if written.is_err() {
-        out.truncate(start);
-    }
-    written
+    let appended = append_number_sequence(xs, out);
+    cut_on_error(appended, start, out)
 }
 
 /// Laws of the spellings of number sequences: that of `put_numbers` spells its entries, and is read again whatever
@@ -75,11 +72,8 @@ pub fn put_bits(bits: &[bool], out: &mut Vec<u8>) -> Result<(), AllocError>
     ensures err { OnErr result (out.new.items ≡ out.old.items) }
 {
     let start = out.len();
-    let written = append_bit_sequence(bits, out);
-    if written.is_err() {
-        out.truncate(start);
-    }
-    written
+    let appended = append_bit_sequence(bits, out);
+    cut_on_error(appended, start, out)
 }
 
 /// Laws of the spellings of bit sequences: that of `put_bits` spells its bits, and is read again whatever stands

@@ -9,7 +9,7 @@ ghost use Rattle.hdt_triples.specs.Writing.{canonical_sequences, canonical_tripl
 
 use crate::sequences::{Sequences, sequences_of};
 use hdt_seq::{put_bits, put_numbers};
-use hdt_wire::{Kind, put_control};
+use hdt_wire::{Kind, cut_on_error, put_control};
 use std::alloc::{AllocError, Global};
 
 /// Appends four sequences; an `Err` may leave a beginning of them behind.
@@ -35,11 +35,8 @@ fn put_sequences(made: &Sequences, out: &mut Vec<u8>) -> Result<(), AllocError>
     ensures err { OnErr result (out.new.items ≡ out.old.items) }
 {
     let start = out.len();
-    let written = append_sequences(made, out);
-    if written.is_err() {
-        out.truncate(start);
-    }
-    written
+    let appended = append_sequences(made, out);
+    cut_on_error(appended, start, out)
 }
 
 /// Appends the canonical triples of a list: the control block with the property `order=1;`, the marks of the pairs, the

@@ -5,7 +5,7 @@ ghost use Rattle.hdt_wire.specs.Control.{block_of, block_at, control, control_at
 
 use crate::check::check16;
 use crate::fault::{Fault, Reason};
-use crate::rows::{bytes_at, demand, text_at};
+use crate::rows::{cut_on_error, bytes_at, demand, text_at};
 use byteorder::{ByteOrder, LittleEndian};
 use std::alloc::AllocError;
 
@@ -159,11 +159,8 @@ pub fn put_control(kind: Kind, properties: &[u8], out: &mut Vec<u8>) -> Result<(
     ensures err { OnErr result (out.new.items ≡ out.old.items) }
 {
     let start = out.len();
-    let written = append_block(kind, properties, out);
-    if written.is_err() {
-        out.truncate(start);
-    }
-    written
+    let appended = append_block(kind, properties, out);
+    cut_on_error(appended, start, out)
 }
 
 /// A block that was written is read again, whatever stands before and after it.

@@ -30,6 +30,6 @@ pub use counted::{Counted, Failed};
 pub use fault::{Fault, Reason};
 pub use properties::property;
 pub use role::Role;
-pub use rows::{bytes_at, demand, text_at, zero_in};
+pub use rows::{bytes_at, cut_on_error, demand, text_at, zero_in};
 pub use tally::Tally;
 pub use vbyte::{one_spelling, put_vbyte, read_vbyte, vbyte_len};

@@ -1,5 +1,5 @@
 //! Reading by rows: what the parts of a file share. A reader's body has one line for each row of its part.
-ghost use Rattle.std.specs.Prelude.{◌≡◌, ◌+◌, ◌<◌, ◌≤◌, length, IfOk};
+ghost use Rattle.std.specs.Prelude.{◌≡◌, ◌+◌, ◌<◌, ◌≤◌, length, take, IfOk, OnErr, OnOk};
 ghost use Rattle.hdt_wire.specs.Rows.{Reads, demand, bytes_at, zero_in, text_at};
 
 use crate::fault::{Fault, Reason};
@@ -54,4 +54,16 @@ pub fn text_at(bytes: &[u8], at: usize) -> Result<(&[u8], usize), Fault>
     let len = zero_in(rest);
     demand(len < rest.len(), at, Reason::Truncated)?;
     Ok((&rest[..len], at + len + 1))
+}
+
+/// What appending to `out` answered; where it failed, cuts `out` back to the length that it had before.
+pub fn cut_on_error<E>(appended: Result<(), E>, len: usize, out: &mut Vec<u8>) -> Result<(), E>
+    ensures same { result ≡ appended }
+    ensures ok { OnOk appended (out.new ≡ out.old) }
+    ensures err { OnErr appended (out.new.items ≡ take len out.old.items) }
+{
+    if appended.is_err() {
+        out.truncate(len);
+    }
+    appended
 }
