@@ -12,14 +12,6 @@ const DATASET: &[u8] =
 /// What stands between the base and the count in the line of the triples' count.
 const TRIPLES: &[u8] = b"> <http://rdfs.org/ns/void#triples> \"";
 
-/// Appends a number in decimal.
-fn put_number(number: u64, out: &mut Vec<u8>) -> Result<(), AllocError>
-    ensures { OnOk result (out.new.items ≡ out.old.items ++ decimal number) }
-{
-    let text = number.to_string(*out.allocator())?;
-    out.extend_from_slice(text.as_bytes())
-}
-
 /// Appends the line that tells what the file is.
 fn put_type(base: &[u8], out: &mut Vec<u8>) -> Result<(), AllocError>
     ensures { OnOk result (out.new.items ≡ out.old.items ++ type_line base.now) }
@@ -36,7 +28,7 @@ fn put_count(base: &[u8], count: u64, out: &mut Vec<u8>) -> Result<(), AllocErro
     out.push(b'<')?;
     out.extend_from_slice(base)?;
     out.extend_from_slice(TRIPLES)?;
-    put_number(count, out)?;
+    put_decimal(count, out)?;
     out.extend_from_slice(b"\" .\n")?;
     Ok(())
 }
@@ -59,7 +51,7 @@ pub fn length_property(alloc: Global, len: u64) -> Result<Vec<u8>, AllocError>
 {
     let mut text = Vec::new(alloc);
     text.extend_from_slice(b"length=")?;
-    put_number(len, &mut text)?;
+    put_decimal(len, &mut text)?;
     text.push(b';')?;
     Ok(text)
 }

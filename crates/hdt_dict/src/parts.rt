@@ -5,6 +5,7 @@ ghost use Rattle.hdt_dict.specs.Split.{IsSplit, lists_of, lent_lists_of};
 
 use crate::merge::{Merged, merge};
 use crate::sorted::ascending_strings;
+use hdt_front::lent_strings;
 use std::alloc::{AllocError, Global};
 
 /// The strings of a dictionary's four sections.
@@ -61,17 +62,6 @@ pub fn split_lent<'a>(
     })
 }
 
-/// The strings of vectors, lent.
-pub(crate) fn lend<'a>(alloc: Global, list: &'a [Vec<u8>]) -> Result<Vec<&'a [u8]>, AllocError>
-    ensures { IfOk result (λ made. lent_texts made.items ≡ texts list.now) }
-{
-    let mut made = Vec::with_capacity(alloc, list.len())?;
-    for text in list {
-        made.push(text.as_slice())?;
-    }
-    Ok(made)
-}
-
 /// Lent strings, copied into vectors.
 fn copied(alloc: Global, list: &[&[u8]]) -> Result<Vec<Vec<u8>>, AllocError>
     ensures { IfOk result (λ made. texts made.items ≡ lent_texts list.now) }
@@ -99,9 +89,9 @@ pub fn split(
 ) -> Result<Parts, AllocError>
     ensures { IfOk result (λ parts. IsSplit (texts subjects.now) (texts predicates.now) (texts objects.now) (lists_of parts)) }
 {
-    let subjects = lend(alloc, subjects)?;
-    let predicates = lend(alloc, predicates)?;
-    let objects = lend(alloc, objects)?;
+    let subjects = lent_strings(alloc, subjects)?;
+    let predicates = lent_strings(alloc, predicates)?;
+    let objects = lent_strings(alloc, objects)?;
     let lent = split_lent(
         alloc,
         subjects.as_slice(),

@@ -5,8 +5,8 @@ ghost use Rattle.hdt_dict.specs.Dictionary.{IsDictionary, FourLists};
 ghost use Rattle.hdt_dict.specs.Split.{lists_of, lent_lists_of, lists_in_work};
 ghost use Rattle.hdt_dict.specs.Writing.{AreSections, canonical_dictionary, canonical_dictionary_parts};
 
-use crate::parts::{LentParts, Parts, lend};
-use hdt_front::{SectionWriter, put_lent_section};
+use crate::parts::{LentParts, Parts};
+use hdt_front::{SectionWriter, lent_strings, put_lent_section};
 use hdt_wire::{Kind, cut_on_error, put_control};
 use std::alloc::{AllocError, Global};
 
@@ -70,10 +70,10 @@ pub fn put_dictionary(
     ensures err { OnErr result (out.new.items ≡ out.old.items) }
 {
     let lent = LentParts {
-        shared: lend(alloc, parts.shared.as_slice())?,
-        subjects: lend(alloc, parts.subjects.as_slice())?,
-        predicates: lend(alloc, parts.predicates.as_slice())?,
-        objects: lend(alloc, parts.objects.as_slice())?,
+        shared: lent_strings(alloc, parts.shared.as_slice())?,
+        subjects: lent_strings(alloc, parts.subjects.as_slice())?,
+        predicates: lent_strings(alloc, parts.predicates.as_slice())?,
+        objects: lent_strings(alloc, parts.objects.as_slice())?,
     };
     put_lent_dictionary(alloc, &lent, block_size, out)
 }

@@ -5,7 +5,7 @@ ghost use Rattle.hdt_front.specs.Canonical.{texts, lent_texts};
 ghost use Rattle.hdt_dict.specs.Texts.{IsDictionaryString};
 
 use hdt_dict::*;
-use hdt_front::ReadFault;
+use hdt_front::{ReadFault, lent_strings};
 use hdt_seq::{Steps, put_numbers};
 use hdt_wire::{Fault, Reason, check8, check32, put_vbyte};
 use std::alloc::{AllocError, Global};
@@ -604,22 +604,11 @@ fn splits(rt: HostRuntime) -> Result<(), Fail> {
     Ok(())
 }
 
-/// The strings of vectors, lent.
-fn lend<'a>(alloc: Global, list: &'a [Vec<u8>]) -> Result<Vec<&'a [u8]>, AllocError>
-    ensures { IfOk result (λ made. lent_texts made.items ≡ texts list.now) }
-{
-    let mut made = Vec::with_capacity(alloc, list.len())?;
-    for text in list {
-        made.push(text.as_slice())?;
-    }
-    Ok(made)
-}
-
 /// Whether all vectors hold UTF-8 without a zero byte.
 fn hold_texts(alloc: Global, list: &[Vec<u8>]) -> Result<bool, AllocError>
     ensures { IfOk result (λ held. IsTrue held → All IsDictionaryString (texts list.now)) }
 {
-    let slices = lend(alloc, list)?;
+    let slices = lent_strings(alloc, list)?;
     Ok(are_texts(slices.as_slice()))
 }
 

@@ -9,7 +9,7 @@ use Rattle.std.proofs.lemmas.Bool.Decides.{nat_tests}
 use Rattle.std.proofs.lemmas.List.Sums.{common_prefix_len-le}
 use Rattle.hdt_wire.specs.Rows.{zero_in}
 use Rattle.hdt_front.specs.Laws.Agreeing.{both}
-use Rattle.hdt_front.specs.Folding.{NoZero}
+use Rattle.hdt_front.specs.Laws.Folded.{NoZero}
 use Rattle.hdt_front.specs.Laws.StringsFound.{split_zero, text_no_zero}
 use Rattle.hdt_front.proofs.Following.{no_zero}
 

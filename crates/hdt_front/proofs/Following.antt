@@ -8,7 +8,7 @@ use Rattle.hdt_wire.specs.Rows.{zero_in}
 use Rattle.hdt_wire.specs.Laws.Row.{not-true}
 use Rattle.hdt_wire.specs.Control.{HasNoZero}
 use Rattle.hdt_front.specs.StringRows.{precedes}
-use Rattle.hdt_front.specs.Folding.{NoZero, Ascending}
+use Rattle.hdt_front.specs.Laws.Folded.{NoZero, Ascending}
 use Rattle.hdt_front.specs.Laws.Folding.{nonzero_from, nonzero_to}
 
 pub no_zero : (s : List ℕ) → zero_in s ≡ length s → NoZero s

@@ -12,7 +12,7 @@ use Rattle.std.proofs.Math.Nat.{lt-div-mul-add, div-mul-le_self, mul-le-mul_left
 use Rattle.hdt_front.specs.declared.section.Section.{Section}
 use Rattle.hdt_wire.specs.Rows.{zero_in}
 use Rattle.hdt_front.specs.Unfolding.{is_head, string_of_piece, after_piece, unfolded}
-use Rattle.hdt_front.specs.Folding.{NoZero}
+use Rattle.hdt_front.specs.Laws.Folded.{NoZero}
 use Rattle.hdt_front.specs.Laws.StringsFound.{string_no_zero}
 use Rattle.hdt_front.specs.Laws.StringSteps.{length-unfolded}
 use Rattle.hdt_front.proofs.Following.{zero_none}

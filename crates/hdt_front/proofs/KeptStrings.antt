@@ -7,7 +7,7 @@ use Rattle.hdt_wire.specs.Control.{HasNoZero}
 use Rattle.hdt_wire.specs.Rows.{Stands}
 use Rattle.hdt_wire.specs.Laws.Row.{Stands-after}
 use Rattle.hdt_front.specs.Unfolding.{is_head, after_piece, unfolded}
-use Rattle.hdt_front.specs.Folding.{ArePieces}
+use Rattle.hdt_front.specs.Laws.Folded.{ArePieces}
 use Rattle.hdt_front.specs.Laws.Folding.{nonzero_to}
 use Rattle.hdt_front.specs.Laws.StringSteps.{length-unfolded}
 use Rattle.hdt_front.specs.Laws.StringsOnly.{piece_stands}

@@ -2,6 +2,7 @@ pub mod StringFacts
 pub mod StringSteps
 pub mod StringsFound
 pub mod StringsOnly
+pub mod Folded
 pub mod Folding
 pub mod Section
 pub mod Place

@@ -52,4 +52,4 @@ pub use laws::{
 pub use section::Section;
 pub use section_writer::SectionWriter;
 pub use walk::Walk;
-pub use writing::{put_lent_section, put_section};
+pub use writing::{lent_strings, put_lent_section, put_section};

@@ -27,8 +27,8 @@ pub fn put_lent_section(
     writer.finish(out)
 }
 
-/// The strings, lent.
-fn lent<'a>(alloc: Global, strings: &'a [Vec<u8>]) -> Result<Vec<&'a [u8]>, AllocError>
+/// The strings of vectors, lent: each the same, in their order. Time and memory are in proportion to their number.
+pub fn lent_strings<'a>(alloc: Global, strings: &'a [Vec<u8>]) -> Result<Vec<&'a [u8]>, AllocError>
     ensures { IfOk result (λ r. lent_texts r.items ≡ texts strings.now) }
 {
     let mut slices = Vec::with_capacity(alloc, strings.len())?;
@@ -55,6 +55,6 @@ pub fn put_section(
     ensures section { OnOk result (IsSection (canonical_parts block_size (texts strings.now) (length out.old.items)) out.new.items (length out.old.items)) }
     ensures err { OnErr result (out.new.items ≡ out.old.items) }
 {
-    let slices = lent(alloc, strings)?;
+    let slices = lent_strings(alloc, strings)?;
     put_lent_section(alloc, &slices, block_size, out)
 }

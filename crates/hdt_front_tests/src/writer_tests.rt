@@ -48,20 +48,9 @@ fn writes_and_reads_again(rt: HostRuntime) -> Result<(), Fail> {
     Ok(())
 }
 
-/// The strings, lent.
-fn lent<'a>(alloc: Global, strings: &'a [Vec<u8>]) -> Result<Vec<&'a [u8]>, AllocError>
-    ensures { IfOk result (λ r. lent_texts r.items ≡ texts strings.now) }
-{
-    let mut slices = Vec::with_capacity(alloc, strings.len())?;
-    for string in strings {
-        slices.push(string.as_slice())?;
-    }
-    Ok(slices)
-}
-
 /// Writes owned strings if a section can hold them.
 fn put_owned(alloc: Global, strings: &[Vec<u8>], out: &mut Vec<u8>) -> Result<bool, AllocError> {
-    let slices = lent(alloc, strings)?;
+    let slices = lent_strings(alloc, strings)?;
     if !are_strings(&slices) {
         return Ok(false);
     }

@@ -14,7 +14,8 @@ use Rattle.hdt_wire.specs.VByte.{vbyte}
 use Rattle.hdt_wire.specs.Laws.VByte.{vbyte_spells}
 use Rattle.hdt_seq.specs.Numbers.{numbers_spelling}
 use Rattle.hdt_front.specs.Unfolding.{is_head}
-use Rattle.hdt_front.specs.Folding.{IsPiece, ArePieces, AreBlockStarts, Folded}
+use Rattle.hdt_front.specs.Folding.{IsPiece}
+use Rattle.hdt_front.specs.Laws.Folded.{ArePieces, AreBlockStarts, Folded}
 use Rattle.hdt_front.specs.Laws.Folding.{folded_found}
 use Rattle.hdt_front.specs.Section.{HasStarts, AreStrings, IsSection, section_at}
 use Rattle.hdt_front.specs.Laws.Section.{section_exact}

@@ -11,7 +11,8 @@ use Rattle.std.proofs.lemmas.Str.{is_utf8-from_IsUtf8, IsUtf8-from_is_utf8}
 use Rattle.hdt_wire.specs.Control.{HasNoZero}
 use Rattle.hdt_front.specs.Unfolding.{is_head}
 use Rattle.hdt_front.specs.StringRows.{precedes}
-use Rattle.hdt_front.specs.Folding.{IsPiece, ArePieces, AreBlockStarts, Folded, NoZero, Ascending}
+use Rattle.hdt_front.specs.Folding.{IsPiece}
+use Rattle.hdt_front.specs.Laws.Folded.{ArePieces, AreBlockStarts, Folded, NoZero, Ascending}
 use Rattle.hdt_front.specs.Section.{before, AreFolded, AreStrings}
 
 -- ---- pieces

@@ -20,7 +20,7 @@ use Rattle.hdt_wire.specs.Laws.ExactLeaves.{number_exact}
 use Rattle.hdt_seq.specs.ExactSequences.{IsNumberSequence}
 use Rattle.hdt_seq.specs.Laws.ExactSequences.{byte_exact, code8_exact, packed_exact, numbers_exact}
 use Rattle.hdt_front.specs.Unfolding.{unfolded}
-use Rattle.hdt_front.specs.Folding.{Folded, ArePieces, NoZero, Ascending}
+use Rattle.hdt_front.specs.Laws.Folded.{Folded, ArePieces, NoZero, Ascending}
 use Rattle.hdt_front.specs.StringRows.{Packing, strings_at}
 use Rattle.hdt_front.specs.Laws.StringSteps.{length-unfolded}
 use Rattle.hdt_front.specs.Laws.StringsFound.{found_from}

@@ -12,7 +12,8 @@ use Rattle.hdt_wire.specs.Laws.VByte.{vbyte_found}
 use Rattle.hdt_wire.specs.Laws.Row.{held}
 use Rattle.hdt_front.specs.Unfolding.{is_head, kept, text_from, text_of, string_of_piece, after_piece, read_or, unfolded}
 use Rattle.hdt_front.specs.StringRows.{Packing, place_at, strings_at}
-use Rattle.hdt_front.specs.Folding.{IsPiece, ArePieces, AreBlockStarts, Folded, NoZero, Ascending}
+use Rattle.hdt_front.specs.Folding.{IsPiece}
+use Rattle.hdt_front.specs.Laws.Folded.{ArePieces, AreBlockStarts, Folded, NoZero, Ascending}
 use Rattle.hdt_front.specs.Laws.StringSteps.{step}
 use Rattle.hdt_front.specs.Laws.StringFacts.{ok_is}
 

@@ -13,7 +13,8 @@ use Rattle.hdt_seq.specs.Sequence.{place_of_entry}
 use Rattle.hdt_front.specs.Unfolding.{is_head, kept, text_from, text_of, string_of_piece, after_piece, read_or, unfolded}
 use Rattle.hdt_front.specs.StringRows.{Packing, place_at, prefix_of, precedes, opened_at, string_row, strings_at}
 use Rattle.hdt_front.specs.Facts.{RowHolds}
-use Rattle.hdt_front.specs.Folding.{IsPiece, ArePieces, AreBlockStarts, Folded, NoZero, Ascending}
+use Rattle.hdt_front.specs.Folding.{IsPiece}
+use Rattle.hdt_front.specs.Laws.Folded.{ArePieces, AreBlockStarts, Folded, NoZero, Ascending}
 
 opened_is : (h test : Bool) (at place : ℕ) (rest : List ℕ) (r : Result (ℕ × ℕ) Fault) → (h ≡ true → test ≡ true) → (h ≡ false → r ≡ Ok (read_or (0, 0) r))
     → (if h then demand test at BlockPlace >>= (λ _. Ok (0, rest)) else prefix_of place rest r) ≡ Ok (cond h 0 (read_or (0, 0) r).0, cond h rest (drop (read_or (0, 0) r).1 rest))

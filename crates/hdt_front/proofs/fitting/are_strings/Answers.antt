@@ -1,6 +1,6 @@
 use Rattle.std.proofs.Common.{◌≡◌, ◌+◌, ℕ, List, [], length, drop, get_or, arith, sym, ◌∙◌}
 use Rattle.std.specs.Borrow.{Bor}
-use Rattle.hdt_front.specs.Folding.{Ascending}
+use Rattle.hdt_front.specs.Laws.Folded.{Ascending}
 use Rattle.hdt_front.specs.Laws.Folding.{strings_are, strings_ascend}
 use Rattle.hdt_front.specs.Canonical.{lent_texts}
 use Rattle.hdt_front.proofs.Lent.{next_of, none_left}

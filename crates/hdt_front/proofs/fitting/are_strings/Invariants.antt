@@ -1,5 +1,5 @@
 use Rattle.std.proofs.Common.{[], drop}
-use Rattle.hdt_front.specs.Folding.{Ascending}
+use Rattle.hdt_front.specs.Laws.Folded.{Ascending}
 use Rattle.hdt_front.specs.Canonical.{lent_texts}
 use Rattle.hdt_front.proofs.fitting.are_strings.Given as goal
 
