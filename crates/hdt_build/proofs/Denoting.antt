@@ -18,7 +18,7 @@ use Rattle.hdt_triples.specs.Uses.{part}
 use Rattle.hdt_wire.specs.declared.role.Role.TheVariants.{Subject, Predicate, Object}
 use Rattle.hdt_build.proofs.Moving.{map_along}
 use Rattle.hdt_file.specs.Denoted.{StringTriple}
-use Rattle.hdt_build.specs.Graph.{InRange, IsForm, string_triple_at, string_triples_of, triple_cmp, AscendingTriples, renumbered_triple}
+use Rattle.hdt_build.specs.Graph.{IsForm, string_triple_at, string_triples_of, renumbered_triple}
 use Rattle.hdt_build.proofs.Naming.{string_triple, same_strings, term_in}
 use Rattle.hdt_build.proofs.Distinct.{number_unique, subjects_distinct}
 use Rattle.hdt_triples.specs.Order.{triple_in, AreWritable}
@@ -60,18 +60,18 @@ module _ (xs : List (List ℕ)) (ids : List Triple) (d : FourLists) (nodes names
       (h.predicates_are t.1 (Contains-map (part Predicate) ids t there)).is
       (h.objects_are t.2 (Contains-map (part Object) ids t there)).is
 
-  one_in_range : (t : Triple) → Contains ids t → InRange d (new t)
+  one_in_range : (t : Triple) → Contains ids t → IsInRange (counts_of d) (new t)
   one_in_range t there =
       let s = h.subjects_are t.0 (Contains-map (part Subject) ids t there) in
       let p = h.predicates_are t.1 (Contains-map (part Predicate) ids t there) in
       let o = h.objects_are t.2 (Contains-map (part Object) ids t there) in
       ((s.from_one, s.within), (p.from_one, p.within), (o.from_one, o.within))
 
-  pub parts_form : (ts : List Triple) → AscendingTriples ts → SameMembers ts (map (renumbered_triple nodes names nodes) ids) → IsForm (string_triples_of xs ids) d ts
+  pub parts_form : (ts : List Triple) → AreAscending ts → SameMembers ts (map (renumbered_triple nodes names nodes) ids) → IsForm (string_triples_of xs ids) d ts
   parts_form ts up same = record {
     sections = h.sections;
     ascending = up;
-    in_range = All-same_members (InRange d) (map new ids) ts same (All-map (InRange d) new ids (All-from_members (λ t. InRange d (new t)) ids one_in_range));
+    in_range = All-same_members (IsInRange (counts_of d)) (map new ids) ts same (All-map (IsInRange (counts_of d)) new ids (All-from_members (λ t. IsInRange (counts_of d) (new t)) ids one_in_range));
     denotes = subst (SameMembers (map (string_triple d) ts))
         (map_along (string_triple d) new (string_triple_at xs) ids (All-from_members (λ t. string_triple d (new t) ≡ string_triple_at xs t) ids one_denoted))
         (SameMembers-map (string_triple d) ts (map new ids) same);
@@ -81,7 +81,7 @@ module _ {g : List StringTriple} (d : FourLists) (ts : List Triple) (h : IsForm 
   subject_le : (i j : ℕ) (e : Triple) → i ≤ j → j < length ts → (get_or ts i e).0 ≤ (get_or ts j e).0
   subject_le i j e le below =
       elim (cases_lt i j) as (λ _. (get_or ts i e).0 ≤ (get_or ts j e).0) [
-        | inl before ↦ first_le (get_or ts i e) (get_or ts j e) (Less-from_sorted triple_cmp ts i j e h.ascending before below)
+        | inl before ↦ first_le (get_or ts i e) (get_or ts j e) (Less-from_sorted triple_cmp ts i j e (sorted_triples ts h.ascending) before below)
         | inr behind ↦ let same : i ≡ j = omega arith in let f = ap (λ k. (get_or ts k e).0) same in omega arith
       ]
 
@@ -96,7 +96,7 @@ module _ {g : List StringTriple} (d : FourLists) (ts : List Triple) (h : IsForm 
   pub occurs : (n : ℕ) → 0 < n → n ≤ length (strings_in d Subject) → (t : Triple) × Contains ts t × (t.0 ≡ n)
   occurs n a b =
       let r = occurs_as (term_numbered (strings_in d Subject) n) (term_in (strings_in d Subject) n a b) in
-      let range = All-contains (InRange d) ts r.0 h.in_range r.1 in
+      let range = All-contains (IsInRange (counts_of d)) ts r.0 h.in_range r.1 in
       (r.0, r.1, number_unique (strings_in d Subject) (subjects_distinct d h.sections) r.0.0 n range.0.0 range.0.1 a b r.2)
 
   -- the same by places
@@ -137,7 +137,7 @@ module _ {g : List StringTriple} (d : FourLists) (ts : List Triple) (h : IsForm 
   pub writable : 0 < length ts → AreWritable ts
   writable some = record {
     some = some;
-    ascend = λ i below. triple_less (triple_in ts i) (triple_in ts (i + 1)) (Less-from_sorted triple_cmp ts i (i + 1) (0, 0, 0) h.ascending (omega arith) below);
+    ascend = h.ascending;
     first = first_subject some;
     next = next_subject;
     predicates = λ i below. (h.in_range i (0, 0, 0) below).1.0;
@@ -152,7 +152,7 @@ module _ {g : List StringTriple} (d : FourLists) (ts : List Triple) (h : IsForm 
       let in_i : i < length ts = omega arith in
       let is : string_triple d (get_or ts i e) ≡ string_triple d (get_or ts j e) = sym (get_or-map (string_triple d) ts i e x in_i) ∙ same ∙ get_or-map (string_triple d) ts j e x in_j in
       let one = triple_unique d h.sections (get_or ts i e) (get_or ts j e) (h.in_range i e in_i) (h.in_range j e in_j) is in
-      let less = Less-from_sorted triple_cmp ts i j e h.ascending lt in_j in
+      let less = Less-from_sorted triple_cmp ts i j e (sorted_triples ts h.ascending) lt in_j in
       let tied = tied_itself triple_total (get_or ts j e) in
       absurd (differ (sym less ∙ ap (λ t. triple_cmp t (get_or ts j e)) one ∙ tied))
     where

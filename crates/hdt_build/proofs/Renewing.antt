@@ -19,7 +19,7 @@ use Rattle.hdt_dict.specs.Dictionary.{strings_in, FourLists}
 use Rattle.hdt_build.specs.declared.kept.Part.{Part}
 use Rattle.hdt_build.specs.declared.kept.Part.TheVariants as parts
 use Rattle.hdt_build.specs.declared.sections.Numbers.{Numbers}
-use Rattle.hdt_build.specs.Graph.{IsForm, InRange, AscendingTriples, subjects_of, predicates_of, objects_of}
+use Rattle.hdt_build.specs.Graph.{IsForm, subjects_of, predicates_of, objects_of}
 use Rattle.hdt_build.specs.Inside.Kept.{role_of, IsBoth, KeepsNumber, IsNumberBehind, IsPut, AreRewritten, renumbered, new_number}
 use Rattle.hdt_build.specs.Layouts.{denoted_by}
 use Rattle.hdt_build.specs.Inside.Numbers.{IsNumberOf, term_numbered}
@@ -200,7 +200,7 @@ module _ (g : GraphParts) (h : IsGraph g) where
   -- ---- the triples by their new numbers
 
   module _ (d : FourLists) (numbers : Numbers) (r : AreRewritten g d numbers) where
-    one_in_range : (t : Triple) → IsOf g t → InRange d (renumbered numbers t)
+    one_in_range : (t : Triple) → IsOf g t → IsInRange (counts_of d) (renumbered numbers t)
     one_in_range t of =
         let s = r.subjects_are t.0 (of.used Subject) in
         let p = r.predicates_are t.1 (of.used Predicate) in
@@ -217,10 +217,10 @@ module _ (g : GraphParts) (h : IsGraph g) where
         let f = all_denoted ts (All-tail (IsOf g) t ts all) in
         λ i. e i ∷ f i
 
-    pub rewritten_form : (ts : List Triple) → AscendingTriples ts → SameMembers ts (map (renumbered numbers) g.triples) → IsForm (denoted_by g) d ts
+    pub rewritten_form : (ts : List Triple) → AreAscending ts → SameMembers ts (map (renumbered numbers) g.triples) → IsForm (denoted_by g) d ts
     rewritten_form ts up same = record {
       sections = r.sections;
       ascending = up;
-      in_range = All-same_members (InRange d) (map (renumbered numbers) g.triples) ts same (All-map (InRange d) (renumbered numbers) g.triples (λ k t lt. one_in_range _ (all_of g h k t lt)));
+      in_range = All-same_members (IsInRange (counts_of d)) (map (renumbered numbers) g.triples) ts same (All-map (IsInRange (counts_of d)) (renumbered numbers) g.triples (λ k t lt. one_in_range _ (all_of g h k t lt)));
       denotes = subst (SameMembers (map (string_triple d) ts)) (all_denoted g.triples (all_of g h)) (SameMembers-map (string_triple d) ts (map (renumbered numbers) g.triples) same);
     }

@@ -10,7 +10,7 @@ use Rattle.hdt_triples.specs.Counting.{Triple}
 use Rattle.hdt_triples.specs.Uses.{part, Uses}
 use Rattle.hdt_file.specs.Tight.{IsTight}
 use Rattle.hdt_file.specs.Denoted.{StringTriple}
-use Rattle.hdt_build.specs.Graph.{InRange, IsForm}
+use Rattle.hdt_build.specs.Graph.{IsForm}
 use Rattle.hdt_build.proofs.Naming.{string_triple, term_in}
 use Rattle.hdt_build.specs.Layouts.{graph_parts_of}
 use Rattle.hdt_build.specs.Inside.Numbers.{term_numbered}
@@ -31,7 +31,7 @@ module _ {g : List StringTriple} (d : FourLists) (ts : List Triple) (h : IsForm 
       let x = term_numbered (strings_in d Predicate) n in
       let r = Contains-from_map (λ (t : StringTriple). t.1) g x ((h.sections.predicates x).0 (term_in (strings_in d Predicate) n a b)) in
       let s = Contains-from_map (string_triple d) ts r.0 ((h.denotes r.0).1 r.1) in
-      let range = All-contains (InRange d) ts s.0 h.in_range s.1 in
+      let range = All-contains (IsInRange (counts_of d)) ts s.0 h.in_range s.1 in
       (s.0, s.1, number_unique (strings_in d Predicate) (predicates_distinct d h.sections) s.0.1 n range.1.0 range.1.1 a b (ap (λ (t : StringTriple). t.1) s.2 ∙ r.2))
 
   object_occurs : (n : ℕ) → 0 < n → n ≤ length (strings_in d Object) → (t : Triple) × Contains ts t × (t.2 ≡ n)
@@ -39,7 +39,7 @@ module _ {g : List StringTriple} (d : FourLists) (ts : List Triple) (h : IsForm 
       let x = term_numbered (strings_in d Object) n in
       let r = Contains-from_map (λ (t : StringTriple). t.2) g x (object_term d h.sections x (term_in (strings_in d Object) n a b)) in
       let s = Contains-from_map (string_triple d) ts r.0 ((h.denotes r.0).1 r.1) in
-      let range = All-contains (InRange d) ts s.0 h.in_range s.1 in
+      let range = All-contains (IsInRange (counts_of d)) ts s.0 h.in_range s.1 in
       (s.0, s.1, number_unique (strings_in d Object) (objects_distinct d h.sections) s.0.2 n range.2.0 range.2.1 a b (ap (λ (t : StringTriple). t.2) s.2 ∙ r.2))
 
   found : (role : Role) (n : ℕ) (t : Triple) → Contains ts t → part role t ≡ n → Uses ts role n

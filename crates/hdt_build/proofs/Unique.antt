@@ -8,7 +8,7 @@ use Rattle.hdt_dict.specs.Split.{IsSplit}
 use Rattle.hdt_dict.specs.Laws.Members.{SameMembers-map, SameMembers-trans, Contains-map, Contains-from_map, ascending_unique}
 use Rattle.hdt_triples.specs.Counting.{Triple}
 use Rattle.hdt_file.specs.Denoted.{StringTriple}
-use Rattle.hdt_build.specs.Graph.{InRange, IsForm, triple_cmp}
+use Rattle.hdt_build.specs.Graph.{IsForm}
 use Rattle.hdt_build.proofs.Naming.{string_triple}
 use Rattle.hdt_build.proofs.Distinct.{number_unique, subjects_distinct, predicates_distinct, objects_distinct}
 use Rattle.hdt_build.proofs.Order.{triple_total}
@@ -43,7 +43,7 @@ same_triple : (a b c d e f : ℕ) → a ≡ b → c ≡ d → e ≡ f → let l 
 same_triple a b c d e f p q r = cc
 
 -- number triples in range that stand for one string triple are one
-pub triple_unique : {ss ps os : List (List ℕ)} (d : FourLists) → IsSplit ss ps os d → (m n : Triple) → InRange d m → InRange d n → string_triple d m ≡ string_triple d n → m ≡ n
+pub triple_unique : {ss ps os : List (List ℕ)} (d : FourLists) → IsSplit ss ps os d → (m n : Triple) → IsInRange (counts_of d) m → IsInRange (counts_of d) n → string_triple d m ≡ string_triple d n → m ≡ n
 triple_unique d h m n a b same =
     same_triple m.0 n.0 m.1 n.1 m.2 n.2
     (number_unique (strings_in d Subject) (subjects_distinct d h) m.0 n.0 a.0.0 a.0.1 b.0.0 b.0.1 (ap (λ (t : StringTriple). t.0) same))
@@ -55,10 +55,10 @@ carried : {g : List StringTriple} (d : FourLists) (ts us : List Triple) → IsFo
 carried {g} d ts us p q n there =
     let shown : Contains (map (string_triple d) us) (string_triple d n) = (q.denotes (string_triple d n)).1 ((p.denotes (string_triple d n)).0 (Contains-map (string_triple d) ts n there)) in
     let back = Contains-from_map (string_triple d) us (string_triple d n) shown in
-    subst (Contains us) (triple_unique d p.sections back.0 n (All-contains (InRange d) us back.0 q.in_range back.1) (All-contains (InRange d) ts n p.in_range there) back.2) back.1
+    subst (Contains us) (triple_unique d p.sections back.0 n (All-contains (IsInRange (counts_of d)) us back.0 q.in_range back.1) (All-contains (IsInRange (counts_of d)) ts n p.in_range there) back.2) back.1
 
 pub triples_unique : {g : List StringTriple} (d : FourLists) (ts us : List Triple) → IsForm g d ts → IsForm g d us → ts ≡ us
-triples_unique d ts us p q = ascending_unique triple_cmp triple_total ts us p.ascending q.ascending (λ n. (carried d ts us p q n, carried d us ts q p n))
+triples_unique d ts us p q = ascending_unique triple_cmp triple_total ts us (sorted_triples ts p.ascending) (sorted_triples us q.ascending) (λ n. (carried d ts us p q n, carried d us ts q p n))
 
 pub canonical_same : (g h : List StringTriple) (d : FourLists) (ts : List Triple) → SameMembers g h → IsForm g d ts → IsForm h d ts
 canonical_same g h d ts same p = record {

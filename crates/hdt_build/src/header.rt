@@ -3,6 +3,7 @@ ghost use Rattle.std.specs.Prelude.{◌≡◌, ◌++◌, ◌<◌, ◌^◌, IfOk,
 ghost use Rattle.std.specs.Fmt.{decimal};
 ghost use Rattle.hdt_build.specs.Header.{header_body, length_property, type_line, count_line};
 
+use hdt_wire::put_decimal;
 use std::alloc::{AllocError, Global};
 
 /// What stands behind the base in the line that tells what the file is.

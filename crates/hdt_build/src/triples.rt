@@ -3,7 +3,8 @@ ghost use Rattle.std.specs.Prelude.{◌≡◌, ◌<◌, map, length, IsTrue, IfO
 ghost use Rattle.std.specs.List.{All};
 ghost use Rattle.hdt_dict.specs.Strings.{SameMembers};
 ghost use Rattle.hdt_file.specs.Views.{graph_seen};
-ghost use Rattle.hdt_build.specs.Graph.{AscendingTriples, renumbered_triple};
+ghost use Rattle.hdt_triples.specs.Order.{AreAscending};
+ghost use Rattle.hdt_build.specs.Graph.{renumbered_triple};
 ghost use Rattle.hdt_build.specs.Inside.Kept.{renumbered};
 
 use crate::sections::Numbers;
@@ -42,7 +43,7 @@ pub fn replace(
 
 /// Whether each triple is less than the next.
 fn are_ascending(triples: &[(u64, u64, u64)]) -> bool
-    ensures { IsTrue result → AscendingTriples triples.now }
+    ensures { IsTrue result → AreAscending triples.now }
 {
     for at in 1..triples.len() {
         if !triples[at - 1].cmp(&triples[at]).is_lt() {
@@ -54,7 +55,7 @@ fn are_ascending(triples: &[(u64, u64, u64)]) -> bool
 
 /// Puts triples in ascending order, each once. Those that stand so are only looked at.
 pub fn order(triples: &mut Vec<(u64, u64, u64)>)
-    ensures ascending { AscendingTriples triples.new.items }
+    ensures ascending { AreAscending triples.new.items }
     ensures same { SameMembers triples.new.items triples.old.items }
 {
     if are_ascending(triples.as_slice()) {
@@ -90,7 +91,7 @@ pub fn new_triples(
     graph: &Graph<'_>,
     numbers: &Numbers,
 ) -> Result<Vec<(u64, u64, u64)>, AllocError>
-    ensures ascending { IfOk result (λ made. AscendingTriples made.items) }
+    ensures ascending { IfOk result (λ made. AreAscending made.items) }
     ensures same { IfOk result (λ made. SameMembers made.items (map (renumbered numbers.now) (graph_seen graph.now).triples)) }
 {
     let mut triples = renumbered(alloc, graph, numbers)?;

@@ -1,5 +1,6 @@
 -- A control block and four sections, appended one after another.
-use Rattle.std.proofs.Common.{◌≡◌, ◌+◌, ◌++◌, ◌<◌, ◌≤◌, ◌^◌, ℕ, List, [], length, append_assoc, append-nil, ap, sym, subst, ◌∙◌}
+use Rattle.std.proofs.Common.{◌≡◌, Result, Ok, Err, ◌+◌, ◌++◌, ◌<◌, ◌≤◌, ◌^◌, ℕ, List, [], length, append_assoc, append-nil, ap, sym, subst, ◌∙◌}
+use Rattle.std.specs.Result.{OnOk}
 use Rattle.hdt_wire.specs.declared.control.Kind.TheVariants as kinds
 use Rattle.hdt_wire.specs.Control.{control}
 use Rattle.hdt_wire.specs.Rows.{Stands}
@@ -30,3 +31,8 @@ dictionary_appended b d old new some low are small e =
     let text : List ℕ = canonical_dictionary b d in
     dictionary_stands b d new (length old) (length old + length text) some low are small
     (subst (λ (l : List ℕ). Stands l (length old) text (length old + length text)) (append-nil (old ++ text) ∙ sym e) (Stands-after old text []))
+
+-- what follows at Ok of two facts
+pub on_ok_both : {E P Q R : Type 0} (r : Result (Unit {0}) E) → (P → Q → R) → OnOk r P → OnOk r Q → OnOk r R
+on_ok_both (Ok done) f p q = f p q
+on_ok_both (Err error) f p q = tt

@@ -1,7 +1,7 @@
-use Rattle.std.proofs.Common.{arith}
-use Rattle.std.proofs.lemmas.Map.Keys.{sorted_from_all_adjacent}
-use Rattle.hdt_build.proofs.Order.{triple_total}
+use Rattle.std.proofs.Common.{arith, ◌+◌}
+use Rattle.hdt_triples.specs.Order.{triple_in}
+use Rattle.hdt_build.proofs.Order.{triple_less}
 use Rattle.hdt_build.proofs.triples.are_ascending.Goals as goal
 
 pub returns : goal.returns
-returns c = λ _. sorted_from_all_adjacent triple_total c.args.triples.now (0, 0, 0) (λ k lt. c.loop-at.invariant.ascend k (omega (arith, lt, c.loop-at-test.false)))
+returns c = λ _. λ k lt. triple_less (triple_in c.args.triples.now k) (triple_in c.args.triples.now (k + 1)) (c.loop-at.invariant.ascend k (omega (arith, lt, c.loop-at-test.false)))

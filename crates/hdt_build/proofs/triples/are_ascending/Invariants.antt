@@ -1,6 +1,6 @@
 use Rattle.std.proofs.Common.{◌≡◌, ℕ, ◌+◌, ◌<◌, get_or}
 use Rattle.std.specs.declared.cmp.Ordering.TheVariants.{Less}
-use Rattle.hdt_build.specs.Graph.{triple_cmp}
+use Rattle.hdt_build.proofs.Order.{triple_cmp}
 use Rattle.hdt_build.proofs.triples.are_ascending.Given as goal
 
 abbrev pub invariant-loop-at : goal.invariant-loop-at
