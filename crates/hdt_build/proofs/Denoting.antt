@@ -21,10 +21,11 @@ use Rattle.hdt_file.specs.Denoted.{StringTriple}
 use Rattle.hdt_build.specs.Graph.{IsForm, string_triple_at, string_triples_of, renumbered_triple}
 use Rattle.hdt_build.proofs.Naming.{string_triple, same_strings, term_in}
 use Rattle.hdt_build.proofs.Distinct.{number_unique, subjects_distinct}
-use Rattle.hdt_triples.specs.Order.{triple_in, AreWritable}
-use Rattle.hdt_build.proofs.Order.{triple_total, first_le, triple_less}
+use Rattle.hdt_triples.specs.Order.{triple_in, AreWritable, IsInRange, AreAscending}
+use Rattle.hdt_build.proofs.Order.{triple_total, first_le, triple_cmp, sorted_triples}
 use Rattle.hdt_build.proofs.Unique.{triple_unique}
 use Rattle.hdt_dict.specs.Dictionary.{FourLists, strings_in}
+use Rattle.hdt_file.specs.File.{counts_of}
 
 -- the strings of a role are the terms of the sections
 module _ {ss ps os : List (List ℕ)} (d : FourLists) (h : IsSplit ss ps os d) where

@@ -13,7 +13,7 @@ use Rattle.hdt_dict.specs.Laws.Strings.{member_cases}
 use Rattle.hdt_triples.specs.Counting.{Triple}
 use Rattle.hdt_triples.specs.Uses.{part, Uses}
 use Rattle.hdt_file.specs.Denoted.{string_of, strings_for}
-use Rattle.hdt_file.specs.File.{GraphParts}
+use Rattle.hdt_file.specs.File.{GraphParts, counts_of}
 use Rattle.hdt_file.specs.Graph.{IsGraph}
 use Rattle.hdt_dict.specs.Dictionary.{strings_in, FourLists}
 use Rattle.hdt_build.specs.declared.kept.Part.{Part}
@@ -28,6 +28,7 @@ use Rattle.hdt_build.proofs.Joining.{number_in_front, number_behind}
 use Rattle.hdt_build.proofs.Keeping.{IsOf, all_of}
 use Rattle.hdt_build.proofs.Naming.{string_triple, same_strings, term_is, term_in}
 use Rattle.hdt_build.proofs.RunOrder.{ascends_of, used_range, kept_used}
+use Rattle.hdt_triples.specs.Order.{IsInRange, AreAscending}
 
 -- where a string of two lists stands
 side : (xs ys : List (List ℕ)) (n : ℕ) → 1 ≤ n → n ≤ length (xs ++ ys) → ((n ≤ length xs) × (get_or xs (n - 1) [] ≡ term_numbered (xs ++ ys) n)) ⊎ Contains ys (term_numbered (xs ++ ys) n)

@@ -17,6 +17,8 @@ use Rattle.hdt_build.specs.Inside.Numbers.{term_numbered}
 use Rattle.hdt_build.proofs.Denoting.{occurs}
 use Rattle.hdt_build.proofs.Distinct.{number_unique, predicates_distinct, objects_distinct}
 use Rattle.hdt_dict.specs.Dictionary.{FourLists, strings_in}
+use Rattle.hdt_triples.specs.Order.{IsInRange}
+use Rattle.hdt_file.specs.File.{counts_of}
 
 object_term : {ss ps os : List (List ℕ)} (d : FourLists) (h : IsSplit ss ps os d) (x : List ℕ) → Contains (strings_in d Object) x → Contains os x
 object_term {os = os} d h x a =

@@ -11,9 +11,11 @@ use Rattle.hdt_file.specs.Denoted.{StringTriple}
 use Rattle.hdt_build.specs.Graph.{IsForm}
 use Rattle.hdt_build.proofs.Naming.{string_triple}
 use Rattle.hdt_build.proofs.Distinct.{number_unique, subjects_distinct, predicates_distinct, objects_distinct}
-use Rattle.hdt_build.proofs.Order.{triple_total}
+use Rattle.hdt_build.proofs.Order.{triple_total, triple_cmp, sorted_triples}
 use Rattle.hdt_dict.specs.Dictionary.{FourLists, strings_in}
 use Rattle.hdt_wire.specs.declared.role.Role.TheVariants.{Subject, Predicate, Object}
+use Rattle.hdt_triples.specs.Order.{IsInRange}
+use Rattle.hdt_file.specs.File.{counts_of}
 
 -- the sections of lists with the same members
 pub split_same : {ss ps os tt' qs us : List (List ℕ)} (d : FourLists) → SameMembers ss tt' → SameMembers ps qs → SameMembers os us → IsSplit ss ps os d → IsSplit tt' qs us d

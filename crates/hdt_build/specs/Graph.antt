@@ -1,9 +1,9 @@
 -- A graph as string triples, and its dictionary and number triples (HDT submission, dictionary and triples).
-use Rattle.std.specs.Prelude.{ℕ, List, [], map, length, slice_index, slice_index_or, ◌++◌, ◌&&◌, Bool, nat_eq}
+use Rattle.std.specs.Prelude.{ℕ, List, [], map, slice_index, slice_index_or}
 use Rattle.std.specs.List.{All}
 use Rattle.hdt_dict.specs.Split.{IsSplit}
 use Rattle.hdt_dict.specs.Strings.{SameMembers}
-use Rattle.hdt_triples.specs.Counting.{Triple, Counts}
+use Rattle.hdt_triples.specs.Counting.{Triple}
 use Rattle.hdt_triples.specs.Order.{AreAscending, IsInRange}
 use Rattle.hdt_file.specs.Denoted.{StringTriple}
 use Rattle.hdt_build.specs.Layouts.{denoted_by, graph_parts_of}
