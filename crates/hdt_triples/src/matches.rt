@@ -135,17 +135,7 @@ impl<'a> Matches<'a> {
     ghost use Rattle.hdt_triples.specs.Left.{limit_of, steps_of};
 
     /// The law that at every moment the looks since the call of `find` are within its limit.
-    #[tactic(auto, unfolding(crate::specs::Left::limit_of, crate::specs::Left::steps_of))]
     pub fn steps_are_few(&self)
         ensures { steps_of self.now ≤ limit_of self.now }
-    {
-        match self {
-            Matches::Empty => (),
-            Matches::Walk(matches) => matches.steps_are_few(),
-            Matches::Subject(matches) => matches.steps_are_few(),
-            Matches::Pair(matches) => matches.steps_are_few(),
-            Matches::Predicate(matches) => matches.steps_are_few(),
-            Matches::Object(matches) => matches.steps_are_few(),
-        }
-    }
+    {}
 }

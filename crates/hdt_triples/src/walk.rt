@@ -22,14 +22,15 @@ pub struct WalkMatches<'a> {
 }
 
 impl<'a> Triples<'a> {
-    ghost use Rattle.hdt_triples.specs.WalkLeft.{left_of_walk, limit_of_walk};
+    ghost use Rattle.hdt_triples.specs.Left.{left_of, limit_of};
+    ghost use Rattle.hdt_triples.specs.declared.matches.Matches.TheVariants.{Walk};
 
     /// The matches of a pattern, by a walk over all triples.
-    #[tactic(auto, using(crate::proofs::WalkLaws::from_start), unfolding(crate::specs::WalkLeft::left_of_walk, crate::specs::WalkLeft::limit_of_walk))]
+    #[tactic(auto, using(crate::proofs::WalkLaws::from_start), unfolding(crate::specs::Left::left_of, crate::specs::Left::limit_of))]
     pub(crate) fn find_walk(&self, pattern: Pattern) -> WalkMatches<'a>
-        ensures items { left_of_walk result ≡ matches pattern (triples_of (bitmap_read self.now)) }
-        ensures fits { length (left_of_walk result) < 2 ^ 64 }
-        ensures few { limit_of_walk result ≡ 4 * length (bitmap_read self.now).zs }
+        ensures items { left_of (Walk result) ≡ matches pattern (triples_of (bitmap_read self.now)) }
+        ensures fits { length (left_of (Walk result)) < 2 ^ 64 }
+        ensures few { limit_of (Walk result) ≡ 4 * length (bitmap_read self.now).zs }
     {
         WalkMatches {
             triples: *self,
@@ -45,18 +46,19 @@ impl<'a> Iterator for WalkMatches<'a> {
 
     ghost use Rattle.std.specs.Iterator.{YieldsFirst, MakesProgress, item_count};
     ghost use Rattle.std.specs.Prelude.{⊤};
-    ghost use Rattle.hdt_triples.specs.WalkLeft.{left_of_walk, limit_of_walk, steps_of_walk};
+    ghost use Rattle.hdt_triples.specs.Left.{left_of, limit_of, steps_of};
+    ghost use Rattle.hdt_triples.specs.declared.matches.Matches.TheVariants.{Walk};
 
-    ghost next_gives = { YieldsFirst left_of_walk };
+    ghost next_gives = { YieldsFirst (λ m. left_of (Walk m)) };
 
-    ghost remaining = { item_count left_of_walk };
+    ghost remaining = { item_count (λ m. left_of (Walk m)) };
 
-    #[tactic(auto, using(crate::proofs::WalkLaws::matches_taken, crate::proofs::WalkLaws::matches_passed, crate::proofs::WalkLaws::matches_none), unfolding(crate::specs::WalkLeft::left_of_walk, crate::specs::WalkLeft::limit_of_walk, crate::specs::WalkLeft::steps_of_walk))]
+    #[tactic(auto, using(crate::proofs::WalkLaws::matches_taken, crate::proofs::WalkLaws::matches_passed, crate::proofs::WalkLaws::matches_none), unfolding(crate::specs::Left::left_of, crate::specs::Left::limit_of, crate::specs::Left::steps_of))]
     fn next(&mut self) -> Option<(u64, u64, u64)>
-        ensures steps { YieldsFirst left_of_walk self.old result self.new }
-        ensures goes { MakesProgress (λ _. ⊤) (item_count left_of_walk) self.old result self.new }
-        ensures same { limit_of_walk self.new ≡ limit_of_walk self.old }
-        ensures more { steps_of_walk self.old ≤ steps_of_walk self.new }
+        ensures steps { YieldsFirst (λ m. left_of (Walk m)) self.old result self.new }
+        ensures goes { MakesProgress (λ _. ⊤) (item_count (λ m. left_of (Walk m))) self.old result self.new }
+        ensures same { limit_of (Walk self.new) ≡ limit_of (Walk self.old) }
+        ensures more { steps_of (Walk self.old) ≤ steps_of (Walk self.new) }
     {
         while self.place.at < self.triples.len() {
             let triple = self.triples.look(self.place, &mut self.steps);
@@ -66,17 +68,5 @@ impl<'a> Iterator for WalkMatches<'a> {
             }
         }
         None
-    }
-}
-
-impl<'a> WalkMatches<'a> {
-    ghost use Rattle.hdt_triples.specs.WalkLeft.{limit_of_walk, steps_of_walk};
-
-    /// The law that at every moment the steps are few.
-    #[tactic(auto, unfolding(crate::specs::WalkLeft::limit_of_walk, crate::specs::WalkLeft::steps_of_walk))]
-    pub fn steps_are_few(&self)
-        ensures { steps_of_walk self.now ≤ limit_of_walk self.now }
-    {
-        let _ = &self.place;
     }
 }
