@@ -10,6 +10,7 @@ ghost use Rattle.hdt_triples.specs.Views.{bitmap_read};
 use crate::indexed::IndexedTriples;
 use crate::listed::ListedTriples;
 use crate::look::{entry, listed};
+use crate::matches::Matches;
 use crate::pattern::Pattern;
 use hdt_seq::Steps;
 
@@ -47,26 +48,25 @@ impl<'a> IndexedTriples<'a> {
 
 impl<'a> ListedTriples<'a> {
     ghost use Rattle.hdt_triples.specs.Left.{left_of, limit_of};
-    ghost use Rattle.hdt_triples.specs.declared.matches.Matches.TheVariants.{Object};
     ghost use Rattle.hdt_triples.specs.ListedViews.{triples_listed};
 
     /// The matches of a pattern that gives this object.
     #[tactic(auto, unfolding(crate::specs::Left::left_of, crate::specs::Left::limit_of))]
-    pub(crate) fn find_object(&self, pattern: Pattern, object: u64) -> ObjectMatches<'_>
+    pub(crate) fn find_object(&self, pattern: Pattern, object: u64) -> Matches<'_>
         requires { pattern.o ≡ Some object }
-        ensures items { left_of (Object result) ≡ matches pattern (triples_of (bitmap_read (triples_listed self.now))) }
-        ensures fits { length (left_of (Object result)) < 2 ^ 64 }
-        ensures few { limit_of (Object result) ≡ limit (object_price object) (bitmap_read (triples_listed self.now)) }
+        ensures items { left_of result ≡ matches pattern (triples_of (bitmap_read (triples_listed self.now))) }
+        ensures fits { length (left_of result) < 2 ^ 64 }
+        ensures few { limit_of result ≡ limit (object_price object) (bitmap_read (triples_listed self.now)) }
     {
         let mut steps = Steps::new();
         let rest = self.places_of(object, &mut steps);
-        ObjectMatches {
+        Matches::Object(ObjectMatches {
             indexed: &self.indexed,
             pattern,
             object,
             rest,
             steps,
-        }
+        })
     }
 }
 

@@ -12,6 +12,7 @@ ghost use Rattle.hdt_triples.specs.Walking.{triples_from};
 use crate::halving::place_from;
 use crate::indexed::IndexedTriples;
 use crate::look::entry;
+use crate::matches::Matches;
 use crate::pattern::Pattern;
 use crate::triples::Triples;
 use hdt_seq::Steps;
@@ -33,7 +34,6 @@ pub struct PairMatches<'a> {
 impl<'a> IndexedTriples<'a> {
     ghost use Rattle.hdt_triples.specs.Left.{left_of, limit_of};
     ghost use Rattle.hdt_triples.specs.ListedViews.{triples_indexed};
-    ghost use Rattle.hdt_triples.specs.declared.matches.Matches.TheVariants.{Pair};
 
     /// Where the pairs of a subject begin and end.
     #[tactic(auto, unfolding(crate::specs::Views::bitmap_read))]
@@ -105,21 +105,16 @@ impl<'a> IndexedTriples<'a> {
 
     /// The matches of a pattern that gives this subject and this predicate.
     #[tactic(auto, unfolding(crate::specs::Left::left_of, crate::specs::Left::limit_of))]
-    pub(crate) fn find_pair(
-        &self,
-        pattern: Pattern,
-        subject: u64,
-        predicate: u64,
-    ) -> PairMatches<'a>
+    pub(crate) fn find_pair(&self, pattern: Pattern, subject: u64, predicate: u64) -> Matches<'a>
         requires subject_given { pattern.s ≡ Some subject }
         requires predicate_given { pattern.p ≡ Some predicate }
-        ensures items { left_of (Pair result) ≡ matches pattern (triples_of (bitmap_read (triples_indexed self.now))) }
-        ensures fits { length (left_of (Pair result)) < 2 ^ 64 }
-        ensures few { limit_of (Pair result) ≡ limit (pair_price (bitmap_read (triples_indexed self.now)) pattern) (bitmap_read (triples_indexed self.now)) }
+        ensures items { left_of result ≡ matches pattern (triples_of (bitmap_read (triples_indexed self.now))) }
+        ensures fits { length (left_of result) < 2 ^ 64 }
+        ensures few { limit_of result ≡ limit (pair_price (bitmap_read (triples_indexed self.now)) pattern) (bitmap_read (triples_indexed self.now)) }
     {
         let mut steps = Steps::new();
         let (at, end) = self.run_of(pattern, subject, predicate, &mut steps);
-        PairMatches {
+        Matches::Pair(PairMatches {
             triples: self.triples,
             pattern,
             subject,
@@ -127,7 +122,7 @@ impl<'a> IndexedTriples<'a> {
             at,
             end,
             steps,
-        }
+        })
     }
 }
 

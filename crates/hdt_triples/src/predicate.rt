@@ -10,6 +10,7 @@ ghost use Rattle.hdt_triples.specs.Walking.{triples_from};
 use crate::indexed::IndexedTriples;
 use crate::listed::ListedTriples;
 use crate::look::entry;
+use crate::matches::Matches;
 use crate::spot::Spot;
 use hdt_seq::Steps;
 
@@ -26,19 +27,18 @@ pub struct PredicateMatches<'a> {
 
 impl<'a> ListedTriples<'a> {
     ghost use Rattle.hdt_triples.specs.Left.{left_of, limit_of};
-    ghost use Rattle.hdt_triples.specs.declared.matches.Matches.TheVariants.{Predicate};
     ghost use Rattle.hdt_triples.specs.ListedViews.{triples_listed};
 
     /// The triples of a predicate.
     #[tactic(auto, unfolding(crate::specs::Left::left_of, crate::specs::Left::limit_of))]
-    pub(crate) fn find_predicate(&self, predicate: u64) -> PredicateMatches<'_>
-        ensures items { left_of (Predicate result) ≡ matches (of_predicate predicate) (triples_of (bitmap_read (triples_listed self.now))) }
-        ensures fits { length (left_of (Predicate result)) < 2 ^ 64 }
-        ensures few { limit_of (Predicate result) ≡ limit (predicate_price (bitmap_read (triples_listed self.now)) predicate) (bitmap_read (triples_listed self.now)) }
+    pub(crate) fn find_predicate(&self, predicate: u64) -> Matches<'_>
+        ensures items { left_of result ≡ matches (of_predicate predicate) (triples_of (bitmap_read (triples_listed self.now))) }
+        ensures fits { length (left_of result) < 2 ^ 64 }
+        ensures few { limit_of result ≡ limit (predicate_price (bitmap_read (triples_listed self.now)) predicate) (bitmap_read (triples_listed self.now)) }
     {
         let mut steps = Steps::new();
         let rest = self.pairs_of(predicate, &mut steps);
-        PredicateMatches {
+        Matches::Predicate(PredicateMatches {
             indexed: &self.indexed,
             predicate,
             spot: Spot {
@@ -48,7 +48,7 @@ impl<'a> ListedTriples<'a> {
                 inside: false,
             },
             steps,
-        }
+        })
     }
 }
 

@@ -7,6 +7,7 @@ ghost use Rattle.hdt_triples.specs.Views.{bitmap_read};
 ghost use Rattle.hdt_triples.specs.Walking.{StandsAt, triples_from};
 
 use crate::indexed::IndexedTriples;
+use crate::matches::Matches;
 use crate::pattern::Pattern;
 use crate::place::Place;
 use crate::triples::Triples;
@@ -29,25 +30,24 @@ pub struct SubjectMatches<'a> {
 impl<'a> IndexedTriples<'a> {
     ghost use Rattle.hdt_triples.specs.ListedViews.{triples_indexed};
     ghost use Rattle.hdt_triples.specs.Left.{left_of, limit_of};
-    ghost use Rattle.hdt_triples.specs.declared.matches.Matches.TheVariants.{Subject};
 
     /// The matches of a pattern that gives this subject.
     #[tactic(auto, using(crate::proofs::SubjectLaws::matches_skipped), unfolding(crate::specs::Left::left_of, crate::specs::Left::limit_of))]
-    pub(crate) fn find_subject(&self, pattern: Pattern, subject: u64) -> SubjectMatches<'a>
+    pub(crate) fn find_subject(&self, pattern: Pattern, subject: u64) -> Matches<'a>
         requires { pattern.s ≡ Some subject }
-        ensures items { left_of (Subject result) ≡ matches pattern (triples_of (bitmap_read (triples_indexed self.now))) }
-        ensures fits { length (left_of (Subject result)) < 2 ^ 64 }
-        ensures few { limit_of (Subject result) ≡ limit (subject_price (bitmap_read (triples_indexed self.now)) subject) (bitmap_read (triples_indexed self.now)) }
+        ensures items { left_of result ≡ matches pattern (triples_of (bitmap_read (triples_indexed self.now))) }
+        ensures fits { length (left_of result) < 2 ^ 64 }
+        ensures few { limit_of result ≡ limit (subject_price (bitmap_read (triples_indexed self.now)) subject) (bitmap_read (triples_indexed self.now)) }
     {
         let mut steps = Steps::new();
         let place = self.start_of(subject, &mut steps);
-        SubjectMatches {
+        Matches::Subject(SubjectMatches {
             triples: self.triples,
             pattern,
             subject,
             place,
             steps,
-        }
+        })
     }
 }
 

@@ -5,6 +5,7 @@ ghost use Rattle.hdt_triples.specs.Patterns.{matches};
 ghost use Rattle.hdt_triples.specs.Views.{bitmap_read};
 ghost use Rattle.hdt_triples.specs.Walking.{StandsAt};
 
+use crate::matches::Matches;
 use crate::pattern::Pattern;
 use crate::place::Place;
 use crate::triples::Triples;
@@ -23,21 +24,22 @@ pub struct WalkMatches<'a> {
 
 impl<'a> Triples<'a> {
     ghost use Rattle.hdt_triples.specs.Left.{left_of, limit_of};
-    ghost use Rattle.hdt_triples.specs.declared.matches.Matches.TheVariants.{Walk};
 
-    /// The matches of a pattern, by a walk over all triples.
+    /// The matches of a pattern: exactly the triples that agree with each number that is given, once each, in the order of
+    /// the triples. The walk over all triples takes at most four looks a triple, and no memory.
     #[tactic(auto, using(crate::proofs::WalkLaws::from_start), unfolding(crate::specs::Left::left_of, crate::specs::Left::limit_of))]
-    pub(crate) fn find_walk(&self, pattern: Pattern) -> WalkMatches<'a>
-        ensures items { left_of (Walk result) ≡ matches pattern (triples_of (bitmap_read self.now)) }
-        ensures fits { length (left_of (Walk result)) < 2 ^ 64 }
-        ensures few { limit_of (Walk result) ≡ 4 * length (bitmap_read self.now).zs }
+    pub fn find(&self, pattern: Pattern) -> Matches<'a>
+        ensures items { left_of result ≡ matches pattern (triples_of (bitmap_read self.now)) }
+        // As many as fit, so they can be counted.
+        ensures fits { length (left_of result) < 2 ^ 64 }
+        ensures few { limit_of result ≡ 4 * length (bitmap_read self.now).zs }
     {
-        WalkMatches {
+        Matches::Walk(WalkMatches {
             triples: *self,
             pattern,
             place: self.first(),
             steps: Steps::new(),
-        }
+        })
     }
 }
 

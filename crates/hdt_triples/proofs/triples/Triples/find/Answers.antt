@@ -4,7 +4,7 @@ use Rattle.hdt_triples.specs.Views.{bitmap_read}
 use Rattle.hdt_triples.specs.Left.{left_of}
 use Rattle.hdt_triples.specs.Walking.{triples_from}
 use Rattle.hdt_triples.proofs.WalkLaws.{from_start, matches_fit}
-use Rattle.hdt_triples.proofs.triples.Triples.find_walk.Goals as goal
+use Rattle.hdt_triples.proofs.triples.Triples.find.Goals as goal
 
 pub returns-clause-items : goal.returns-clause-items
 unfolding left_of
