@@ -6,7 +6,7 @@ use Rattle.hdt_seq.specs.Marks.{marks_before}
 use Rattle.hdt_triples.specs.Counting.{BitmapTriples, IsMarked, Triple, triple_at, subject_at, pair_of}
 use Rattle.hdt_triples.specs.Walking.{triples_from}
 use Rattle.hdt_triples.specs.Patterns.{matches}
-use Rattle.hdt_triples.specs.Bounds.{of_predicate, predicate_price, Pays, limit, counting, jump}
+use Rattle.hdt_triples.specs.Bounds.{of_predicate, predicate_price, Pays, limit, jump}
 use Rattle.hdt_triples.specs.Lists.{places_of, places_from}
 use Rattle.hdt_triples.specs.Inside.Spots.{Between, IsInRun, InPairs}
 use Rattle.hdt_triples.specs.declared.spot.Spot.{Spot}
@@ -29,17 +29,21 @@ pub record Begins (f : BitmapTriples) (q at : ℕ) : Type 0 where
   pub is : pair_of f at ≡ q
   pub earlier : (i : ℕ) → i < at → pair_of f i < q
 
+-- the next pair of the predicate
+pub next_of : (f : BitmapTriples) (p at q : ℕ) (rest qs : List ℕ) → Between f p rest at → rest ≡ q ∷ qs → IsFirstPlace f.ys p (pair_of f at) q qs
+next_of f p at q rest qs s split = first_place f.ys p (pair_of f at) q qs (sym split ∙ s.rest_is)
+
 pub predicate_entered : (f : BitmapTriples) (p q at start : ℕ) (rest qs : List ℕ) → IsMarked f → Between f p rest at → rest ≡ q ∷ qs → Begins f q start
     → matches (of_predicate p) (triples_from f at) ≡ matches (of_predicate p) (triples_from f start)
 predicate_entered f p q at start rest qs marked s split b =
-    let first = first_place f.ys p (pair_of f at) q qs (sym split ∙ s.rest_is) in
+    let first = next_of f p at q rest qs s split in
     let h : at ≤ start = not_less at start (λ l. omega (arith, s.earlier start l, b.is, first.from)) in
     jumped (of_predicate p) f at start h (omega (arith, b.within))
     (λ i l w. other_predicate (of_predicate p) p (triple_at f i) refl (first.before (pair_of f i) (marks_mono f.mz at i l) (b.earlier i w)))
 
 pub inside_entered : (f : BitmapTriples) (p q at start subject : ℕ) (rest qs : List ℕ) → Between f p rest at → rest ≡ q ∷ qs → Begins f q start → subject ≡ subject_at f q → IsInRun f p qs start subject
 inside_entered f p q at start subject rest qs s split b subject_is =
-    let first = first_place f.ys p (pair_of f at) q qs (sym split ∙ s.rest_is) in
+    let first = next_of f p at q rest qs s split in
     record {
       within = b.within;
       rest_is = first.behind ∙ ap (λ n. places_from f.ys p (n + 1)) (sym b.is);
@@ -96,7 +100,7 @@ pub predicate_pays_on : (f : BitmapTriples) (p at start subject steps after : �
     → after ≤ steps + (digits (groups f.mz) + 19) → Pays (predicate_price f p) f steps (triples_from f at) → Pays (predicate_price f p) f after (triples_from f (start + 1))
 unfolding limit predicate_price jump
 predicate_pays_on f p at start subject steps after rest jump s few pays =
-    let count : counting (predicate_price f p) (triples_from f at) ≡ suc (counting (predicate_price f p) (triples_from f (start + 1))) =
+    let count : length (matches (of_predicate p) (triples_from f at)) ≡ suc (length (matches (of_predicate p) (triples_from f (start + 1)))) =
     ap length (jump ∙ predicate_taken f p start subject rest s) in
     omega (arith, few, pays, ap (λ n. (digits (groups f.my) + digits (groups f.mz) + 20) * n) count)
 
@@ -111,7 +115,3 @@ left_spot f p s false marked inside is st = record {
   between = λ u. let no : true ≡ false = u in absurd (cc);
   inside = λ u. inside_goes_on f p s.at s.subject s.rest.now marked (st.inside inside) is;
 }
-
--- the next pair of the predicate
-pub next_of : (f : BitmapTriples) (p at q : ℕ) (rest qs : List ℕ) → Between f p rest at → rest ≡ q ∷ qs → IsFirstPlace f.ys p (pair_of f at) q qs
-next_of f p at q rest qs s split = first_place f.ys p (pair_of f at) q qs (sym split ∙ s.rest_is)

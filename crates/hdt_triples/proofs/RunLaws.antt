@@ -1,5 +1,5 @@
 -- Matches that stand together.
-use Rattle.std.proofs.Common.{Option, ◌≡◌, ◌≢◌, ◌⊎◌, inl, inr, ℕ, ◌+◌, ◌*◌, ◌<◌, ◌≤◌, List, [], ◌∷◌, length, ap, sym, ◌∙◌, arith, Bool, true, false, Some, None, slice_index, subst, eq-or-lt_of_le}
+use Rattle.std.proofs.Common.{Option, ◌≡◌, ◌≢◌, ◌⊎◌, inl, inr, ℕ, ◌+◌, ◌*◌, ◌<◌, ◌≤◌, List, [], ◌∷◌, length, ap, sym, ◌∙◌, arith, Bool, true, false, Some, None, slice_index}
 use Rattle.std.proofs.lemmas.Bool.{cases_eq, cases_lt}
 use Rattle.hdt_seq.specs.Width.{digits}
 use Rattle.hdt_seq.specs.Directory.{groups}
@@ -214,17 +214,11 @@ pair_run f s p q at end pair only low begins earlier within below above = record
 pub ordered : (bits : List Bool) (low high s : ℕ) → marks_before bits low + 1 ≡ s → marks_before bits high ≡ s → low ≤ high
 ordered bits low high s at_low at_high = not_less low high (λ l. omega (arith, at_low, at_high, marks_mono bits high low (omega (arith, l))))
 
-not_at : (f : BitmapTriples) (at end j o i : ℕ) → ((i : ℕ) → j ≤ i → i < end → o ≤ slice_index f.zs i) → ((i k : ℕ) → at ≤ i → i < k → k < end → slice_index f.zs i < slice_index f.zs k) → at ≤ j → (j < end → slice_index f.zs j ≢ o)
-    → i < end → (j ≡ i) ⊎ (j < i) → slice_index f.zs i ≢ o
-not_at f at end j o i above up l ne w (inl e) = subst (λ n. slice_index f.zs n ≢ o) e (ne (omega (arith, w, e)))
-not_at f at end j o i above up l ne w (inr h) = λ same_object. omega (arith, same_object, above j (omega arith) (omega (arith, h, w)), up j i l h w)
-
-not_by : (f : BitmapTriples) (at end j o i : ℕ) → ((i : ℕ) → at ≤ i → i < j → slice_index f.zs i < o) → ((i : ℕ) → j ≤ i → i < end → o ≤ slice_index f.zs i)
-    → ((i k : ℕ) → at ≤ i → i < k → k < end → slice_index f.zs i < slice_index f.zs k) → at ≤ j → (j < end → slice_index f.zs j ≢ o) → at ≤ i → i < end → (i < j) ⊎ (j ≤ i) → slice_index f.zs i ≢ o
-not_by f at end j o i below above up l ne a w (inl h) = λ same_object. omega (arith, same_object, below i a h)
-not_by f at end j o i below above up l ne a w (inr h) = not_at f at end j o i above up l ne w (eq-or-lt_of_le h)
-
 -- no entry of the part is o
 pub not_there : (f : BitmapTriples) (at end j o : ℕ) → ((i : ℕ) → at ≤ i → i < j → slice_index f.zs i < o) → ((i : ℕ) → j ≤ i → i < end → o ≤ slice_index f.zs i)
     → ((i k : ℕ) → at ≤ i → i < k → k < end → slice_index f.zs i < slice_index f.zs k) → at ≤ j → (j < end → slice_index f.zs j ≢ o) → (i : ℕ) → at ≤ i → i < end → slice_index f.zs i ≢ o
-not_there f at end j o below above up l ne i a w = not_by f at end j o i below above up l ne a w (cases_lt i j)
+not_there f at end j o below above up l ne i a w = λ same.
+    let from = not_less j i (λ h. omega (arith, same, below i a h)) in
+    let to = not_less i j (λ h. omega (arith, same, above j (omega arith) (omega (arith, h, w)), up j i l h w)) in
+    let here : j ≡ i = omega (arith, from, to) in
+    ne (omega (arith, here, w)) (ap (slice_index f.zs) here ∙ same)
