@@ -3,7 +3,7 @@ use Rattle.std.proofs.Common.{◌≡◌, ℕ, ◌+◌, ◌*◌, ◌<◌, ◌≤�
 use Rattle.hdt_seq.specs.Width.{digits}
 use Rattle.hdt_seq.specs.Directory.{groups}
 use Rattle.hdt_seq.specs.Marks.{marks_before}
-use Rattle.hdt_triples.specs.Counting.{BitmapTriples, IsMarked, Triple, triple_at, subject_at, pair_of}
+use Rattle.hdt_triples.specs.Counting.{BitmapTriples, IsMarked, triple_at, subject_at, pair_of}
 use Rattle.hdt_triples.specs.Walking.{triples_from}
 use Rattle.hdt_triples.specs.Patterns.{matches}
 use Rattle.hdt_triples.specs.Bounds.{of_predicate, predicate_price, Pays, limit, jump}
@@ -12,7 +12,7 @@ use Rattle.hdt_triples.specs.Inside.Spots.{Between, IsInRun, InPairs}
 use Rattle.hdt_triples.specs.declared.spot.Spot.{Spot}
 use Rattle.hdt_seq.specs.Laws.Marks.{marks_mono, marks_marked, marks_unmarked, none_before}
 use Rattle.hdt_triples.specs.Laws.Order.{pair_within}
-use Rattle.hdt_triples.proofs.WalkLaws.{from_start, jumped, matches_taken, none_left, not_less}
+use Rattle.hdt_triples.proofs.WalkLaws.{from_start, jumped, matches_taken, none_left, not_less, parts_are}
 use Rattle.hdt_triples.proofs.AgreeLaws.{other_predicate, own_predicate}
 use Rattle.std.proofs.Math.Nat.{lt_of_not-le}
 use Rattle.hdt_triples.proofs.ListsLaws.{IsFirstPlace, first_place, no_place, places_from_start}
@@ -74,16 +74,11 @@ inside_ends f p at subject rest s mark =
       earlier = λ i h. omega (arith, e, marks_mono f.mz i at (omega (arith, h)));
     }
 
-pub inside_triple : (f : BitmapTriples) (p at subject : ℕ) (rest : List ℕ) → IsInRun f p rest at subject → triple_at f at ≡ (subject, p, slice_index f.zs at)
-inside_triple f p at subject rest s =
-    ap (λ x. let t : Triple = (x, slice_index f.ys (pair_of f at), slice_index f.zs at) in t) (sym s.subject_is)
-    ∙ ap (λ y. let t : Triple = (subject, y, slice_index f.zs at) in t) s.predicate_is
-
 pub predicate_taken : (f : BitmapTriples) (p at subject : ℕ) (rest : List ℕ) → IsInRun f p rest at subject
     → matches (of_predicate p) (triples_from f at) ≡ (subject, p, slice_index f.zs at) ∷ matches (of_predicate p) (triples_from f (at + 1))
 predicate_taken f p at subject rest s =
     matches_taken (of_predicate p) f at s.within (own_predicate p (triple_at f at) s.predicate_is)
-    ∙ ap (λ t. t ∷ matches (of_predicate p) (triples_from f (at + 1))) (inside_triple f p at subject rest s)
+    ∙ ap (λ t. t ∷ matches (of_predicate p) (triples_from f (at + 1))) (parts_are f at subject p (sym s.subject_is) s.predicate_is)
 
 pub between_first : (f : BitmapTriples) (p : ℕ) (rest : List ℕ) → rest ≡ places_of f.ys p → Between f p rest 0
 between_first f p rest is = record {

@@ -13,7 +13,7 @@ use Rattle.hdt_triples.specs.Bounds.{pair_price, Pays, limit, jump}
 use Rattle.hdt_triples.specs.Inside.Runs.{IsPairOf, PairsOf, IsRunOfTriples}
 use Rattle.hdt_seq.specs.Laws.Marks.{marks_mono, marks_before_last}
 use Rattle.hdt_triples.specs.Laws.Order.{pair_within}
-use Rattle.hdt_triples.proofs.WalkLaws.{matches_taken, none_left, not_less, skipped}
+use Rattle.hdt_triples.proofs.WalkLaws.{matches_taken, none_left, not_less, parts_are, skipped}
 use Rattle.hdt_triples.proofs.AgreeLaws.{admitted, other_object, other_predicate, other_subject, tells}
 use Rattle.std.proofs.Math.Nat.{lt_of_not-le}
 
@@ -171,8 +171,7 @@ pub run_taken : (f : BitmapTriples) (pattern : Pattern) (s p at end : ℕ) → I
     → matches pattern (triples_from f at) ≡ (s, p, slice_index f.zs at) ∷ matches pattern (triples_from f (at + 1))
 run_taken f pattern s p at end r h =
     matches_taken pattern f at (omega (arith, h, r.within)) (r.all at (omega arith) h)
-    ∙ ap (λ x. let t : Triple = (x, slice_index f.ys (pair_of f at), slice_index f.zs at) in t ∷ matches pattern (triples_from f (at + 1))) (r.subject_is at (omega arith) h)
-    ∙ ap (λ y. let t : Triple = (s, y, slice_index f.zs at) in t ∷ matches pattern (triples_from f (at + 1))) (r.predicate_is at (omega arith) h)
+    ∙ ap (λ t. t ∷ matches pattern (triples_from f (at + 1))) (parts_are f at s p (r.subject_is at (omega arith) h) (r.predicate_is at (omega arith) h))
 
 pub run_on : (f : BitmapTriples) (pattern : Pattern) (s p at end : ℕ) → IsRunOfTriples f pattern s p at end → at < end → IsRunOfTriples f pattern s p (at + 1) end
 run_on f pattern s p at end r h = record {

@@ -1,12 +1,12 @@
 -- What is left from a place on follows from its triple.
-use Rattle.std.proofs.Common.{◌≡◌, ℕ, ◌+◌, ◌-◌, ◌^◌, ◌<◌, ◌≤◌, [], ◌∷◌, zero, suc, length, map, ap, sym, ◌∙◌, arith, true, false, cond}
+use Rattle.std.proofs.Common.{◌≡◌, ℕ, ◌+◌, ◌-◌, ◌^◌, ◌<◌, ◌≤◌, [], ◌∷◌, zero, suc, length, slice_index, map, ap, sym, ◌∙◌, arith, true, false, cond}
 use Rattle.std.proofs.Math.Nat.{lt_of_not-le}
 use Rattle.std.specs.List.{filter, range_with_len}
 use Rattle.std.proofs.lemmas.List.Sums.{length-filter, count_by-le-length}
 use Rattle.hdt_seq.specs.Laws.Numbers.{numbers_below}
 use Rattle.hdt_triples.specs.declared.pattern.Pattern.{Pattern}
 use Rattle.hdt_triples.specs.declared.triples.Triples.{Triples}
-use Rattle.hdt_triples.specs.Counting.{BitmapTriples, triple_at, triples_of}
+use Rattle.hdt_triples.specs.Counting.{BitmapTriples, Triple, pair_of, subject_at, triple_at, triples_of}
 use Rattle.hdt_triples.specs.Laws.Counting.{length-triples}
 use Rattle.hdt_triples.specs.Patterns.{agrees, matches}
 use Rattle.hdt_triples.specs.Views.{bitmap_read}
@@ -20,6 +20,9 @@ range_first a b h = let e : b - a ≡ suc (b - (a + 1)) = omega arith in ap (ran
 
 pub range_none : (a b : ℕ) → b ≤ a → range_with_len a (b - a) ≡ []
 range_none a b h = let e : b - a ≡ 0 = omega arith in ap (range_with_len a) e
+
+pub parts_are : (f : BitmapTriples) (j s p : ℕ) → subject_at f (pair_of f j) ≡ s → slice_index f.ys (pair_of f j) ≡ p → triple_at f j ≡ (s, p, slice_index f.zs j)
+parts_are f j s p e h = ap (λ x. let t : Triple = (x, slice_index f.ys (pair_of f j), slice_index f.zs j) in t) e ∙ ap (λ y. let t : Triple = (s, y, slice_index f.zs j) in t) h
 
 -- from the first place on there are all
 pub from_start : (f : BitmapTriples) → triples_from f 0 ≡ triples_of f
