@@ -1,8 +1,8 @@
+mod AgreeLaws
 mod AscentLaws
 mod CountLaws
 mod EarlierLaws
 mod GoingLaws
-mod JumpLaws
 mod ListsLaws
 mod MatchingLaws
 mod ObjectLaws

@@ -1,12 +1,13 @@
 -- What the lists by key say of one key.
-use Rattle.std.proofs.Common.{◌≡◌, ◌≢◌, ◌⊎◌, inl, inr, ℕ, ◌+◌, ◌-◌, ◌<◌, ◌≤◌, ◌==◌, zero, suc, List, [], ◌∷◌, length, drop, slice_index, filter, refl, ap, sym, ◌∙◌, arith, Bool, true, false, cond, subst, eq-or-lt_of_le, eq-eqb}
-use Rattle.std.proofs.lemmas.Bool.{ne_eqb, cases_lt, eqb-true}
+use Rattle.std.proofs.Common.{◌≡◌, ◌≢◌, ◌⊎◌, inl, inr, ℕ, ◌+◌, ◌-◌, ◌<◌, ◌≤◌, ◌==◌, zero, suc, List, [], ◌∷◌, length, drop, slice_index, filter, refl, ap, sym, ◌∙◌, arith, Bool, true, false, cond, subst, eq-or-lt_of_le}
+use Rattle.std.proofs.lemmas.Bool.{ne_eqb, cases_lt, eqb-true, eqb-false}
 use Rattle.std.proofs.lemmas.List.{drop_more}
 use Rattle.std.specs.List.{All, range_with_len, slice_range}
 use Rattle.std.proofs.lemmas.List.Elements.{All-from_get_or}
 use Rattle.hdt_triples.specs.Counting.{AreGrouped}
 use Rattle.hdt_triples.specs.Lists.{IsListKey, places_of, places_from, AreLists, AreBounds}
 use Rattle.hdt_triples.proofs.CountLaws.{below_mono, below_le}
+use Rattle.hdt_triples.proofs.WalkLaws.{range_none}
 
 pub parts_of_lists : (xs : List ℕ) (greatest : ℕ) (starts flat : List ℕ) → AreLists xs greatest starts flat → AreBounds starts flat
 parts_of_lists xs greatest starts flat l = record {
@@ -37,9 +38,6 @@ key_part xs greatest k starts flat l low high =
 
 pub places_from_start : (xs : List ℕ) (k : ℕ) → places_of xs k ≡ places_from xs k 0
 places_from_start xs k = ap (λ n. filter (λ i. slice_index xs i == k) (range_with_len 0 n)) (let e : length xs ≡ length xs - 0 = omega arith in e)
-
-pub eqb_false_ne : (a b : ℕ) → (a == b) ≡ false → a ≢ b
-eqb_false_ne a b test e = let yes : (a == b) ≡ true = eq-eqb a b e in absurd (cc)
 
 -- the first place from a on, and those behind it
 pub record IsFirstPlace (xs : List ℕ) (k a q : ℕ) (qs : List ℕ) : Type 0 where
@@ -73,7 +71,7 @@ first_by n xs k a q qs true len test later is =
     }
 first_by n xs k a q qs false len test later is =
     let f = later is in
-    let ne : slice_index xs a ≢ k = λ e. eqb_false_ne (slice_index xs a) k test e in
+    let ne : slice_index xs a ≢ k = eqb-false (slice_index xs a) k test in
     record {
       from = omega (arith, f.from);
       within = f.within;
@@ -87,12 +85,9 @@ first_place_of zero xs k a q qs len is = absurd (cc)
 first_place_of (suc n) xs k a q qs len is =
     first_by n xs k a q qs (slice_index xs a == k) len refl (λ h. first_place_of n xs k (a + 1) q qs (omega (arith, len)) h) is
 
-none_past : (n a : ℕ) → n ≤ a → range_with_len a (n - a) ≡ []
-none_past n a h = ap (range_with_len a) (let e : n - a ≡ 0 = omega (arith, h) in e)
-
 first_cases : (xs : List ℕ) (k a q : ℕ) (qs : List ℕ) → q ∷ qs ≡ places_from xs k a → (a < length xs) ⊎ (length xs ≤ a) → IsFirstPlace xs k a q qs
 first_cases xs k a q qs is (inl h) = first_place_of (length xs - a) xs k a q qs (omega (arith, h)) is
-first_cases xs k a q qs is (inr h) = let none : places_from xs k a ≡ [] = ap (filter (λ i. slice_index xs i == k)) (none_past (length xs) a h) in absurd (cc)
+first_cases xs k a q qs is (inr h) = let none : places_from xs k a ≡ [] = ap (filter (λ i. slice_index xs i == k)) (range_none a (length xs) h) in absurd (cc)
 
 pub first_place : (xs : List ℕ) (k a q : ℕ) (qs : List ℕ) → q ∷ qs ≡ places_from xs k a → IsFirstPlace xs k a q qs
 first_place xs k a q qs is = first_cases xs k a q qs is (cases_lt a (length xs))
@@ -102,7 +97,7 @@ none_by : (n : ℕ) (xs : List ℕ) (k a : ℕ) (b : Bool) → (slice_index xs a
     → [] ≡ cond b (a ∷ kept_from xs k (a + 1) n) (kept_from xs k (a + 1) n) → (i : ℕ) → a ≤ i → i < a + suc n → slice_index xs i ≢ k
 none_by n xs k a true test later is = absurd (cc)
 none_by n xs k a false test later is = λ i l w.
-    not_yet xs k a i (λ e. eqb_false_ne (slice_index xs a) k test e) (eq-or-lt_of_le l) (λ h. later is i h (omega (arith, w)))
+    not_yet xs k a i (eqb-false (slice_index xs a) k test) (eq-or-lt_of_le l) (λ h. later is i h (omega (arith, w)))
 
 none_of : (n : ℕ) (xs : List ℕ) (k a : ℕ) → [] ≡ kept_from xs k a n → (i : ℕ) → a ≤ i → i < a + n → slice_index xs i ≢ k
 none_of zero xs k a is i l w = absurd (omega (arith, l, w))

@@ -1,9 +1,9 @@
 -- How many triples agree.
-use Rattle.std.proofs.Common.{◌≡◌, ◌≢◌, ◌⊎◌, inl, inr, ℕ, ◌+◌, ◌-◌, ◌*◌, ◌<◌, ◌≤◌, ◌==◌, ◌&&◌, zero, suc, List, [], ◌∷◌, length, map, drop, slice_get, ap, sym, ◌∙◌, arith, Bool, true, false, Some, None, add-zero, slice_index, eq-eqb, refl}
+use Rattle.std.proofs.Common.{◌≡◌, ℕ, ◌+◌, ◌-◌, ◌*◌, ◌<◌, ◌≤◌, ◌==◌, zero, suc, List, [], ◌∷◌, length, map, drop, slice_get, ap, sym, ◌∙◌, arith, Bool, true, false, Some, None, slice_index, eq-eqb, refl}
 use Rattle.std.specs.Int.{from_bool}
 use Rattle.std.proofs.lemmas.List.Elements.{All-rest}
 use Rattle.std.specs.List.{All}
-use Rattle.std.proofs.lemmas.Bool.{cases_eq}
+use Rattle.std.proofs.Math.Bool.{and-true}
 use Rattle.hdt_seq.specs.Directory.{groups}
 use Rattle.hdt_seq.specs.Width.{digits}
 use Rattle.hdt_seq.specs.Laws.Marks.{marks_marked, marks_mono}
@@ -16,9 +16,9 @@ use Rattle.hdt_triples.specs.Lists.{places_of, places_from, IsPlaceOf}
 use Rattle.hdt_triples.specs.Inside.Runs.{AreBetween, Edges, IsRunOfTriples, PairsOf}
 use Rattle.hdt_triples.specs.Inside.Spots.{Between}
 use Rattle.hdt_triples.specs.Laws.Order.{pair_within}
-use Rattle.hdt_triples.proofs.WalkLaws.{matches_taken, matches_passed}
-use Rattle.hdt_triples.proofs.SubjectLaws.{skipped, none_left, own_subject, other_subject}
-use Rattle.hdt_triples.proofs.PredicateLaws.{Begins, own_predicate, predicate_entered, next_of}
+use Rattle.hdt_triples.proofs.WalkLaws.{matches_taken, matches_passed, none_left, skipped}
+use Rattle.hdt_triples.proofs.AgreeLaws.{admitted, has_subject, other_subject, own_predicate, own_subject, tells}
+use Rattle.hdt_triples.proofs.PredicateLaws.{Begins, predicate_entered, next_of}
 use Rattle.hdt_triples.proofs.ObjectLaws.{among_first, among_places, object_law, object_step}
 
 -- one triple is taken or passed
@@ -28,23 +28,21 @@ count_on p f j true one h is more = omega (arith, more, ap length (matches_taken
 count_on p f j false one h is none = omega (arith, none, ap length (matches_passed p f j h is))
 
 -- all of a run are taken
-count_run : (n : ℕ) (p : Pattern) (f : BitmapTriples) (j : ℕ) → j + n ≤ length f.zs → ((i : ℕ) → j ≤ i → i < j + n → agrees p (triple_at f i) ≡ true)
-    → length (matches p (triples_from f j)) ≡ n + length (matches p (triples_from f (j + n)))
-count_run zero p f j h all = omega (arith, ap (λ k. length (matches p (triples_from f k))) (sym (add-zero j)))
-count_run (suc n) p f j h all =
-    let e : j + 1 + n ≡ j + suc n = omega arith in
+run_by : (n : ℕ) (p : Pattern) (f : BitmapTriples) (at end : ℕ) → at + n ≡ end → end ≤ length f.zs → ((i : ℕ) → at ≤ i → i < end → agrees p (triple_at f i) ≡ true)
+    → length (matches p (triples_from f at)) + at ≡ end + length (matches p (triples_from f end))
+run_by zero p f at end e within all =
+    let same : at ≡ end = omega (arith, e) in
+    omega (arith, e, ap (λ k. length (matches p (triples_from f k))) same)
+run_by (suc n) p f at end e within all =
     omega (
       arith,
-      ap length (matches_taken p f j (omega (arith, h)) (all j (omega arith) (omega arith))),
-      count_run n p f (j + 1) (omega (arith, h)) (λ i l w. all i (omega (arith, l)) (omega (arith, w))),
-      ap (λ k. length (matches p (triples_from f k))) e,
+      ap length (matches_taken p f at (omega (arith, e, within)) (all at (omega arith) (omega (arith, e)))),
+      run_by n p f (at + 1) end (omega (arith, e)) within (λ i l w. all i (omega (arith, l)) w),
     )
 
 run_to : (p : Pattern) (f : BitmapTriples) (at end : ℕ) → at ≤ end → end ≤ length f.zs → ((i : ℕ) → at ≤ i → i < end → agrees p (triple_at f i) ≡ true)
     → length (matches p (triples_from f at)) + at ≡ end + length (matches p (triples_from f end))
-run_to p f at end ordered within all =
-    let e : at + (end - at) ≡ end = omega (arith, ordered) in
-    omega (arith, ordered, count_run (end - at) p f at (omega (arith, e, within)) (λ i l w. all i l (omega (arith, w, e))), ap (λ k. length (matches p (triples_from f k))) e)
+run_to p f at end ordered within all = run_by (end - at) p f at end (omega (arith, ordered)) within all
 
 -- those that stand together
 pub count_between : (f : BitmapTriples) (p : Pattern) (at end : ℕ) → AreBetween f p at end → length (matches p (triples_of f)) + at ≡ end
@@ -53,7 +51,7 @@ count_between f p at end r =
       arith,
       ap length (skipped p f at (omega (arith, r.ordered, r.within)) r.before),
       run_to p f at end r.ordered r.within r.all,
-      ap length (none_left (length f.zs - end) p f end (omega (arith, r.within)) r.over),
+      ap length (none_left p f end r.within r.over),
     )
 
 pub run_between : (f : BitmapTriples) (p : Pattern) (s q at end : ℕ) → IsRunOfTriples f p s q at end → ((i : ℕ) → i < at → agrees p (triple_at f i) ≡ false) → AreBetween f p at end
@@ -65,10 +63,7 @@ all_between f p no_s no_p no_o = record {
   ordered = omega arith;
   within = omega arith;
   before = λ i h. absurd (omega (arith, h));
-  all = λ i l h.
-      ap (λ a. admits a (triple_at f i).0 && admits p.p (triple_at f i).1 && admits p.o (triple_at f i).2) no_s
-      ∙ ap (λ a. true && admits a (triple_at f i).1 && admits p.o (triple_at f i).2) no_p
-      ∙ ap (λ a. true && true && admits a (triple_at f i).2) no_o;
+  all = λ i l h. tells p (triple_at f i) true true true (ap (λ a. admits a (triple_at f i).0) no_s) (ap (λ a. admits a (triple_at f i).1) no_p) (ap (λ a. admits a (triple_at f i).2) no_o);
   over = λ i l h. absurd (omega (arith, l, h));
 }
 
@@ -95,36 +90,28 @@ subject_between f s low high last at end marked pairs next e = record {
       (λ same. omega (arith, next, e.ends, marks_mono f.mz end i l, pairs.to (pair_of f i) (pair_within f marked i h) same));
 }
 
-other_by : (p : Pattern) (s : ℕ) (t : Triple) → p.s ≡ Some s → agrees (of_subject s) t ≡ false → (t.0 ≡ s) ⊎ (t.0 ≢ s) → agrees p t ≡ false
-other_by p s t given other (inl e) = let own = own_subject s t e in absurd (cc)
-other_by p s t given other (inr ne) = other_subject p s t given ne
-
-own_by : (s : ℕ) (t : Triple) → agrees (of_subject s) t ≡ true → (t.0 ≡ s) ⊎ (t.0 ≢ s) → t.0 ≡ s
-own_by s t own (inl e) = e
-own_by s t own (inr ne) = let other = other_subject (of_subject s) s t refl ne in absurd (cc)
+other_by : (p : Pattern) (s : ℕ) (t : Triple) → p.s ≡ Some s → agrees (of_subject s) t ≡ false → agrees p t ≡ false
+other_by p s t given other = other_subject p s t given (λ e. let own = own_subject s t e in absurd (cc))
 
 -- none of the subject stands before its triples, and none behind them
 pub in_subject_first : (f : BitmapTriples) (p : Pattern) (s at end : ℕ) → p.s ≡ Some s → AreBetween f (of_subject s) at end → matches p (triples_from f at) ≡ matches p (triples_of f)
 in_subject_first f p s at end given r =
-    sym (skipped p f at (omega (arith, r.ordered, r.within)) (λ i h. other_by p s (triple_at f i) given (r.before i h) (cases_eq (triple_at f i).0 s)))
+    sym (skipped p f at (omega (arith, r.ordered, r.within)) (λ i h. other_by p s (triple_at f i) given (r.before i h)))
 
 pub in_subject_over : (f : BitmapTriples) (p : Pattern) (s at end i : ℕ) → p.s ≡ Some s → AreBetween f (of_subject s) at end → end ≤ i → i ≤ length f.zs → matches p (triples_from f i) ≡ []
 in_subject_over f p s at end i given r h within =
-    none_left (length f.zs - i) p f i (omega (arith, within)) (λ j l w. other_by p s (triple_at f j) given (r.over j (omega (arith, h, l)) w) (cases_eq (triple_at f j).0 s))
+    none_left p f i within (λ j l w. other_by p s (triple_at f j) given (r.over j (omega (arith, h, l)) w))
 
 -- a triple of the subject agrees as its object does
 object_tells : (p : Pattern) (f : BitmapTriples) (s o i : ℕ) → p.s ≡ Some s → p.p ≡ None → p.o ≡ Some o → subject_at f (pair_of f i) ≡ s → agrees p (triple_at f i) ≡ (o == slice_index f.zs i)
 object_tells p f s o i given_s free given_o own =
-    ap (λ a. admits a (triple_at f i).0 && admits p.p (triple_at f i).1 && admits p.o (triple_at f i).2) given_s
-    ∙ ap (λ b. b && admits p.p (triple_at f i).1 && admits p.o (triple_at f i).2) (eq-eqb s (triple_at f i).0 (sym own))
-    ∙ ap (λ a. true && admits a (triple_at f i).1 && admits p.o (triple_at f i).2) free
-    ∙ ap (λ a. true && true && admits a (triple_at f i).2) given_o
+    tells p (triple_at f i) true true (o == slice_index f.zs i) (admitted p.s s (triple_at f i).0 given_s own) (ap (λ a. admits a (triple_at f i).1) free) (ap (λ a. admits a (triple_at f i).2) given_o)
 
 pub in_subject_on : (f : BitmapTriples) (p : Pattern) (s o at end i z one : ℕ) → p.s ≡ Some s → p.p ≡ None → p.o ≡ Some o → AreBetween f (of_subject s) at end → at ≤ i → i < end → z ≡ slice_index f.zs i → one ≡ from_bool (o == z)
     → length (matches p (triples_from f i)) ≡ one + length (matches p (triples_from f (i + 1)))
 in_subject_on f p s o at end i z one given_s free given_o r l h is more =
     count_on p f i (o == z) one (omega (arith, h, r.within))
-    (object_tells p f s o i given_s free given_o (own_by s (triple_at f i) (r.all i l h) (cases_eq (triple_at f i).0 s)) ∙ ap (λ n. o == n) (sym is)) more
+    (object_tells p f s o i given_s free given_o (has_subject s (triple_at f i) (r.all i l h)) ∙ ap (λ n. o == n) (sym is)) more
 
 -- ---- a predicate
 
@@ -174,19 +161,11 @@ pairs_pay_on f q steps after most rest qs split few pays =
 
 -- ---- an object
 
-and_true : (b : Bool) → (b && true) ≡ b
-and_true true = refl
-and_true false = refl
-
 -- a triple of the object agrees as its predicate does
 predicate_tells : (p : Pattern) (f : BitmapTriples) (q o i n : ℕ) → p.s ≡ None → p.p ≡ Some q → p.o ≡ Some o → IsPlaceOf f.zs o i → n ≡ slice_index f.ys (pair_of f i) → agrees p (triple_at f i) ≡ (q == n)
 predicate_tells p f q o i n free given_p given_o place is =
-    ap (λ a. admits a (triple_at f i).0 && admits p.p (triple_at f i).1 && admits p.o (triple_at f i).2) free
-    ∙ ap (λ a. true && admits a (triple_at f i).1 && admits p.o (triple_at f i).2) given_p
-    ∙ ap (λ a. true && (q == (triple_at f i).1) && admits a (triple_at f i).2) given_o
-    ∙ ap (λ b. true && (q == (triple_at f i).1) && b) (eq-eqb o (triple_at f i).2 (sym place.1))
-    ∙ and_true (q == (triple_at f i).1)
-    ∙ ap (λ m. q == m) (sym is)
+    tells p (triple_at f i) true (q == n) true (ap (λ a. admits a (triple_at f i).0) free) (ap (λ a. admits a (triple_at f i).1) given_p ∙ ap (λ m. q == m) (sym is)) (admitted p.o o (triple_at f i).2 given_o place.1)
+    ∙ and-true (q == n)
 
 -- the triple at the first of its places is taken or passed
 object_on : (p : Pattern) (f : BitmapTriples) (rest js : List ℕ) (at : ℕ) (b : Bool) (one : ℕ) → 0 < length rest → at ≡ slice_index rest 0 → js ≡ drop 1 rest → agrees p (triple_at f at) ≡ b → one ≡ from_bool b

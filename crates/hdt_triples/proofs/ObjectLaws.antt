@@ -1,16 +1,17 @@
 -- The triples at an object's places.
-use Rattle.std.proofs.Common.{◌≡◌, ◌≢◌, ℕ, ◌+◌, ◌<◌, ◌≤◌, ◌==◌, ◌&&◌, List, [], ◌∷◌, length, map, filter, drop, refl, ap, sym, ◌∙◌, arith, Bool, true, false, cond, Some, slice_index, subst, eq-eqb}
-use Rattle.std.proofs.lemmas.Bool.{ne_eqb, eqb-true}
+use Rattle.std.proofs.Common.{◌≡◌, ℕ, ◌+◌, ◌<◌, ◌≤◌, ◌==◌, List, [], ◌∷◌, length, map, filter, drop, refl, ap, sym, ◌∙◌, arith, Bool, true, false, cond, Some, slice_index, subst, eq-eqb}
+use Rattle.std.proofs.lemmas.Bool.{eqb-true, eqb-false}
 use Rattle.std.proofs.lemmas.List.{nil_from_length}
 use Rattle.std.proofs.lemmas.List.Elements.{filter_passes, All-filter, All-from_get_or, All-rest}
 use Rattle.std.proofs.lemmas.List.FromFn.{length-range_with_len, get_or-range_with_len}
 use Rattle.std.specs.List.{All, range_with_len}
 use Rattle.hdt_triples.specs.declared.pattern.Pattern.{Pattern}
 use Rattle.hdt_triples.specs.Counting.{BitmapTriples, Triple, triple_at, triples_of}
-use Rattle.hdt_triples.specs.Patterns.{agrees, admits, matches}
+use Rattle.hdt_triples.specs.Patterns.{agrees, matches}
 use Rattle.hdt_triples.specs.Bounds.{of_object, object_price, Pays, limit}
 use Rattle.hdt_triples.specs.Lists.{places_of, IsPlaceOf}
-use Rattle.hdt_triples.proofs.ListsLaws.{eqb_false_ne, split_rest}
+use Rattle.hdt_triples.proofs.AgreeLaws.{other_object}
+use Rattle.hdt_triples.proofs.ListsLaws.{split_rest}
 
 pub among_places : (xs : List ℕ) (k : ℕ) → All (IsPlaceOf xs k) (places_of xs k)
 among_places xs k =
@@ -31,22 +32,10 @@ kept_matches : (p : Pattern) (t : ℕ → Triple) (keep : ℕ → Bool) (js : Li
 kept_matches p t keep [] none = refl
 kept_matches p t keep (j ∷ js) none = by_test p t keep j js (keep j) (agrees p (t j)) (none j) (kept_matches p t keep js none) refl
 
-and_false : (a b : Bool) → (a && b && false) ≡ false
-and_false true true = refl
-and_false true false = refl
-and_false false b = refl
-
--- a triple of another object doesn't agree
-pub other_object : (p : Pattern) (o : ℕ) (t : Triple) → p.o ≡ Some o → t.2 ≢ o → agrees p t ≡ false
-other_object p o t given ne =
-    ap (λ g. admits p.s t.0 && admits p.p t.1 && admits g t.2) given
-    ∙ ap (λ b. admits p.s t.0 && admits p.p t.1 && b) (ne_eqb o t.2 (λ e. ne (sym e)))
-    ∙ and_false (admits p.s t.0) (admits p.p t.1)
-
 -- the matches are those at the object's places
 pub object_law : (p : Pattern) (f : BitmapTriples) (o : ℕ) → p.o ≡ Some o → matches p (map (triple_at f) (places_of f.zs o)) ≡ matches p (triples_of f)
 unfolding matches triples_of
-object_law p f o given = kept_matches p (triple_at f) (λ j. slice_index f.zs j == o) (range_with_len 0 (length f.zs)) (λ j no. other_object p o (triple_at f j) given (eqb_false_ne (slice_index f.zs j) o no))
+object_law p f o given = kept_matches p (triple_at f) (λ j. slice_index f.zs j == o) (range_with_len 0 (length f.zs)) (λ j no. other_object p o (triple_at f j) given (eqb-false (slice_index f.zs j) o no))
 
 pub object_pays_first : (f : BitmapTriples) (o steps : ℕ) → steps ≤ 20 → Pays (object_price o) f steps (map (triple_at f) (places_of f.zs o))
 unfolding limit object_price

@@ -1,34 +1,27 @@
 -- The triples of a predicate's pairs.
-use Rattle.std.proofs.Common.{◌≡◌, ◌≢◌, ◌⊎◌, inl, inr, ℕ, ◌+◌, ◌*◌, ◌-◌, ◌<◌, ◌≤◌, ◌&&◌, suc, List, [], ◌∷◌, length, refl, ap, sym, ◌∙◌, arith, Bool, true, false, not, Some, slice_index, slice_get, eq-eqb}
-use Rattle.std.proofs.lemmas.Bool.{ne_eqb, cases_lt}
+use Rattle.std.proofs.Common.{◌≡◌, ℕ, ◌+◌, ◌*◌, ◌<◌, ◌≤◌, suc, List, [], ◌∷◌, length, refl, ap, sym, ◌∙◌, arith, Bool, true, false, not, Some, slice_index, slice_get}
 use Rattle.hdt_seq.specs.Width.{digits}
 use Rattle.hdt_seq.specs.Directory.{groups}
 use Rattle.hdt_seq.specs.Marks.{marks_before}
-use Rattle.hdt_triples.specs.Counting.{BitmapTriples, IsMarked, Triple, triple_at, subject_at, pair_of}
+use Rattle.hdt_triples.specs.Counting.{BitmapTriples, IsMarked, triple_at, subject_at, pair_of}
 use Rattle.hdt_triples.specs.Walking.{triples_from}
-use Rattle.hdt_triples.specs.Patterns.{agrees, matches}
-use Rattle.hdt_triples.specs.Bounds.{of_predicate, predicate_price, Pays, limit, counting, jump}
+use Rattle.hdt_triples.specs.Patterns.{matches}
+use Rattle.hdt_triples.specs.Bounds.{of_predicate, predicate_price, Pays, limit, jump}
 use Rattle.hdt_triples.specs.Lists.{places_of, places_from}
 use Rattle.hdt_triples.specs.Inside.Spots.{Between, IsInRun, InPairs}
 use Rattle.hdt_triples.specs.declared.spot.Spot.{Spot}
-use Rattle.hdt_seq.specs.Laws.Marks.{marks_mono, marks_marked, marks_unmarked}
+use Rattle.hdt_seq.specs.Laws.Marks.{marks_mono, marks_marked, marks_unmarked, none_before}
 use Rattle.hdt_triples.specs.Laws.Order.{pair_within}
-use Rattle.hdt_triples.proofs.WalkLaws.{from_start, matches_taken}
-use Rattle.hdt_triples.proofs.SubjectLaws.{none_left}
-use Rattle.hdt_triples.proofs.JumpLaws.{matches_jump}
+use Rattle.hdt_triples.proofs.WalkLaws.{from_start, jumped, matches_taken, none_left, not_less, parts_are}
+use Rattle.hdt_triples.proofs.AgreeLaws.{other_predicate, own_predicate}
+use Rattle.std.proofs.Math.Nat.{lt_of_not-le}
 use Rattle.hdt_triples.proofs.ListsLaws.{IsFirstPlace, first_place, no_place, places_from_start}
-
-other_predicate : (p : ℕ) (t : Triple) → t.1 ≢ p → agrees (of_predicate p) t ≡ false
-other_predicate p t ne = ap (λ b. true && b && true) (ne_eqb p t.1 (λ e. ne (sym e)))
-
-pub own_predicate : (p : ℕ) (t : Triple) → t.1 ≡ p → agrees (of_predicate p) t ≡ true
-own_predicate p t e = ap (λ b. true && b && true) (eq-eqb p t.1 (sym e))
 
 -- where no pair is left no triple is
 pub predicate_over : (f : BitmapTriples) (p at : ℕ) (rest : List ℕ) → IsMarked f → Between f p rest at → rest ≡ [] → matches (of_predicate p) (triples_from f at) ≡ []
 predicate_over f p at rest marked s none =
-    none_left (length f.zs - at) (of_predicate p) f at (omega (arith, s.within))
-    (λ i l w. other_predicate p (triple_at f i) (no_place f.ys p (pair_of f at) (sym none ∙ s.rest_is) (pair_of f i) (marks_mono f.mz at i l) (pair_within f marked i w)))
+    none_left (of_predicate p) f at s.within
+    (λ i l w. other_predicate (of_predicate p) p (triple_at f i) refl (no_place f.ys p (pair_of f at) (sym none ∙ s.rest_is) (pair_of f i) (marks_mono f.mz at i l) (pair_within f marked i w)))
 
 -- a place where pair q begins
 pub record Begins (f : BitmapTriples) (q at : ℕ) : Type 0 where
@@ -36,23 +29,21 @@ pub record Begins (f : BitmapTriples) (q at : ℕ) : Type 0 where
   pub is : pair_of f at ≡ q
   pub earlier : (i : ℕ) → i < at → pair_of f i < q
 
-not_before : (f : BitmapTriples) (p q at start : ℕ) (rest : List ℕ) → Between f p rest at → Begins f q start → pair_of f at ≤ q → (start < at) ⊎ (at ≤ start) → at ≤ start
-not_before f p q at start rest s b from (inl h) = absurd (omega (arith, s.earlier start h, b.is, from))
-not_before f p q at start rest s b from (inr h) = h
+-- the next pair of the predicate
+pub next_of : (f : BitmapTriples) (p at q : ℕ) (rest qs : List ℕ) → Between f p rest at → rest ≡ q ∷ qs → IsFirstPlace f.ys p (pair_of f at) q qs
+next_of f p at q rest qs s split = first_place f.ys p (pair_of f at) q qs (sym split ∙ s.rest_is)
 
 pub predicate_entered : (f : BitmapTriples) (p q at start : ℕ) (rest qs : List ℕ) → IsMarked f → Between f p rest at → rest ≡ q ∷ qs → Begins f q start
     → matches (of_predicate p) (triples_from f at) ≡ matches (of_predicate p) (triples_from f start)
 predicate_entered f p q at start rest qs marked s split b =
-    let first = first_place f.ys p (pair_of f at) q qs (sym split ∙ s.rest_is) in
-    let h : at ≤ start = not_before f p q at start rest s b first.from (cases_lt start at) in
-    let e : at + (start - at) ≡ start = omega (arith, h) in
-    matches_jump (start - at) (of_predicate p) f at (omega (arith, e, b.within))
-    (λ i l w. other_predicate p (triple_at f i) (first.before (pair_of f i) (marks_mono f.mz at i l) (b.earlier i (omega (arith, w, e)))))
-    ∙ ap (λ j. matches (of_predicate p) (triples_from f j)) e
+    let first = next_of f p at q rest qs s split in
+    let h : at ≤ start = not_less at start (λ l. omega (arith, s.earlier start l, b.is, first.from)) in
+    jumped (of_predicate p) f at start h (omega (arith, b.within))
+    (λ i l w. other_predicate (of_predicate p) p (triple_at f i) refl (first.before (pair_of f i) (marks_mono f.mz at i l) (b.earlier i w)))
 
 pub inside_entered : (f : BitmapTriples) (p q at start subject : ℕ) (rest qs : List ℕ) → Between f p rest at → rest ≡ q ∷ qs → Begins f q start → subject ≡ subject_at f q → IsInRun f p qs start subject
 inside_entered f p q at start subject rest qs s split b subject_is =
-    let first = first_place f.ys p (pair_of f at) q qs (sym split ∙ s.rest_is) in
+    let first = next_of f p at q rest qs s split in
     record {
       within = b.within;
       rest_is = first.behind ∙ ap (λ n. places_from f.ys p (n + 1)) (sym b.is);
@@ -60,19 +51,14 @@ inside_entered f p q at start subject rest qs s split b subject_is =
       subject_is = subject_is ∙ ap (subject_at f) (sym b.is);
     }
 
--- a pair has an end
-not_last : (f : BitmapTriples) (at : ℕ) → IsMarked f → at < length f.zs → pair_of f (at + 1) ≡ pair_of f at → (at + 1 < length f.zs) ⊎ (length f.zs ≤ at + 1) → at + 1 < length f.zs
-not_last f at marked h e (inl more) = more
-not_last f at marked h e (inr over) =
-    let last : at + 1 ≡ length f.mz = omega (arith, h, over, marked.triples) in
-    absurd (omega (arith, e, pair_within f marked at h, marked.each_pair, ap (marks_before f.mz) last))
-
 -- the next triple is of the same pair
 pub inside_goes_on : (f : BitmapTriples) (p at subject : ℕ) (rest : List ℕ) → IsMarked f → IsInRun f p rest at subject → slice_get f.mz at ≡ Some false → IsInRun f p rest (at + 1) subject
 inside_goes_on f p at subject rest marked s mark =
     let e : pair_of f (at + 1) ≡ pair_of f at = marks_unmarked f.mz at mark in
     record {
-      within = not_last f at marked s.within e (cases_lt (at + 1) (length f.zs));
+      within = lt_of_not-le (λ over.
+          let last : at + 1 ≡ length f.mz = omega (arith, s.within, over, marked.triples) in
+          omega (arith, e, pair_within f marked at s.within, marked.each_pair, ap (marks_before f.mz) last));
       rest_is = s.rest_is ∙ ap (λ n. places_from f.ys p (n + 1)) (sym e);
       predicate_is = ap (slice_index f.ys) e ∙ s.predicate_is;
       subject_is = s.subject_is ∙ ap (subject_at f) (sym e);
@@ -88,29 +74,16 @@ inside_ends f p at subject rest s mark =
       earlier = λ i h. omega (arith, e, marks_mono f.mz i at (omega (arith, h)));
     }
 
-pub inside_triple : (f : BitmapTriples) (p at subject : ℕ) (rest : List ℕ) → IsInRun f p rest at subject → triple_at f at ≡ (subject, p, slice_index f.zs at)
-inside_triple f p at subject rest s =
-    ap (λ x. let t : Triple = (x, slice_index f.ys (pair_of f at), slice_index f.zs at) in t) (sym s.subject_is)
-    ∙ ap (λ y. let t : Triple = (subject, y, slice_index f.zs at) in t) s.predicate_is
-
 pub predicate_taken : (f : BitmapTriples) (p at subject : ℕ) (rest : List ℕ) → IsInRun f p rest at subject
     → matches (of_predicate p) (triples_from f at) ≡ (subject, p, slice_index f.zs at) ∷ matches (of_predicate p) (triples_from f (at + 1))
 predicate_taken f p at subject rest s =
     matches_taken (of_predicate p) f at s.within (own_predicate p (triple_at f at) s.predicate_is)
-    ∙ ap (λ t. t ∷ matches (of_predicate p) (triples_from f (at + 1))) (inside_triple f p at subject rest s)
-
-pub none_marked : (bits : List Bool) → marks_before bits 0 ≡ 0
-unfolding marks_before
-none_marked bits = refl
-
-pub none_before : (f : BitmapTriples) → pair_of f 0 ≡ 0
-unfolding marks_before
-none_before f = refl
+    ∙ ap (λ t. t ∷ matches (of_predicate p) (triples_from f (at + 1))) (parts_are f at subject p (sym s.subject_is) s.predicate_is)
 
 pub between_first : (f : BitmapTriples) (p : ℕ) (rest : List ℕ) → rest ≡ places_of f.ys p → Between f p rest 0
 between_first f p rest is = record {
   within = omega arith;
-  rest_is = is ∙ places_from_start f.ys p ∙ ap (places_from f.ys p) (sym (none_before f));
+  rest_is = is ∙ places_from_start f.ys p ∙ ap (places_from f.ys p) (sym (none_before f.mz));
   earlier = λ i h. absurd (omega (arith, h));
 }
 
@@ -122,7 +95,7 @@ pub predicate_pays_on : (f : BitmapTriples) (p at start subject steps after : �
     → after ≤ steps + (digits (groups f.mz) + 19) → Pays (predicate_price f p) f steps (triples_from f at) → Pays (predicate_price f p) f after (triples_from f (start + 1))
 unfolding limit predicate_price jump
 predicate_pays_on f p at start subject steps after rest jump s few pays =
-    let count : counting (predicate_price f p) (triples_from f at) ≡ suc (counting (predicate_price f p) (triples_from f (start + 1))) =
+    let count : length (matches (of_predicate p) (triples_from f at)) ≡ suc (length (matches (of_predicate p) (triples_from f (start + 1)))) =
     ap length (jump ∙ predicate_taken f p start subject rest s) in
     omega (arith, few, pays, ap (λ n. (digits (groups f.my) + digits (groups f.mz) + 20) * n) count)
 
@@ -137,7 +110,3 @@ left_spot f p s false marked inside is st = record {
   between = λ u. let no : true ≡ false = u in absurd (cc);
   inside = λ u. inside_goes_on f p s.at s.subject s.rest.now marked (st.inside inside) is;
 }
-
--- the next pair of the predicate
-pub next_of : (f : BitmapTriples) (p at q : ℕ) (rest qs : List ℕ) → Between f p rest at → rest ≡ q ∷ qs → IsFirstPlace f.ys p (pair_of f at) q qs
-next_of f p at q rest qs s split = first_place f.ys p (pair_of f at) q qs (sym split ∙ s.rest_is)

@@ -1,6 +1,6 @@
 -- Matches that stand together.
-use Rattle.std.proofs.Common.{Option, ◌≡◌, ◌≢◌, ◌⊎◌, inl, inr, ℕ, ◌+◌, ◌*◌, ◌-◌, ◌<◌, ◌≤◌, ◌==◌, ◌&&◌, List, [], ◌∷◌, length, ap, sym, ◌∙◌, arith, Bool, true, false, Some, None, slice_index, subst, eq-eqb, eq-or-lt_of_le}
-use Rattle.std.proofs.lemmas.Bool.{ne_eqb, cases_eq, cases_lt}
+use Rattle.std.proofs.Common.{Option, ◌≡◌, ◌≢◌, ◌⊎◌, inl, inr, ℕ, ◌+◌, ◌*◌, ◌<◌, ◌≤◌, List, [], ◌∷◌, length, ap, sym, ◌∙◌, arith, Bool, true, false, Some, None, slice_index}
+use Rattle.std.proofs.lemmas.Bool.{cases_eq, cases_lt}
 use Rattle.hdt_seq.specs.Width.{digits}
 use Rattle.hdt_seq.specs.Directory.{groups}
 use Rattle.hdt_seq.specs.Marks.{marks_before}
@@ -13,9 +13,9 @@ use Rattle.hdt_triples.specs.Bounds.{pair_price, Pays, limit, jump}
 use Rattle.hdt_triples.specs.Inside.Runs.{IsPairOf, PairsOf, IsRunOfTriples}
 use Rattle.hdt_seq.specs.Laws.Marks.{marks_mono, marks_before_last}
 use Rattle.hdt_triples.specs.Laws.Order.{pair_within}
-use Rattle.hdt_triples.proofs.WalkLaws.{matches_taken}
-use Rattle.hdt_triples.proofs.SubjectLaws.{none_left, skipped}
-use Rattle.hdt_triples.proofs.ObjectLaws.{other_object}
+use Rattle.hdt_triples.proofs.WalkLaws.{matches_taken, none_left, not_less, parts_are, skipped}
+use Rattle.hdt_triples.proofs.AgreeLaws.{admitted, other_object, other_predicate, other_subject, tells}
+use Rattle.std.proofs.Math.Nat.{lt_of_not-le}
 
 has_none : (f : BitmapTriples) (s q : ℕ) → IsMarked f → (s ≡ 0) ⊎ (marks_before f.my (length f.my) < s) → q < length f.ys → subject_at f q ≡ s → q < 0
 has_none f s q marked (inl zero_is) h e = absurd (omega (arith, zero_is, e))
@@ -31,14 +31,6 @@ no_pairs f s marked out = record {
   to = λ q h e. has_none f s q marked out h e;
 }
 
-after : (low q : ℕ) → (q < low) ⊎ (low ≤ q) → (q < low → ⊥) → low ≤ q
-after low q (inl l) never = absurd (never l)
-after low q (inr h) never = h
-
-before : (high q : ℕ) → (q < high) ⊎ (high ≤ q) → (high ≤ q → ⊥) → q < high
-before high q (inl l) never = l
-before high q (inr h) never = absurd (never h)
-
 -- from behind mark s - 1 to behind mark s
 pub pairs_between : (f : BitmapTriples) (s low high : ℕ) → IsMarked f → 0 < s → low ≤ high → high ≤ length f.my → marks_before f.my low + 1 ≡ s → marks_before f.my high ≡ s
     → ((q : ℕ) → q < low → marks_before f.my q + 1 < s) → ((q : ℕ) → q < high → marks_before f.my q < s) → PairsOf f s low high
@@ -46,63 +38,49 @@ pairs_between f s low high marked some ordered within at_low at_high below below
   ordered = ordered;
   within = omega (arith, within, marked.pairs);
   inside = λ q l h. omega (arith, at_low, marks_mono f.my low q l, below_high q h);
-  from = λ q h e. after low q (cases_lt q low) (λ l. absurd (omega (arith, e, below q l)));
-  to = λ q h e. before high q (cases_lt q high) (λ l. absurd (omega (arith, e, at_high, marks_mono f.my high q l)));
+  from = λ q h e. not_less low q (λ l. omega (arith, e, below q l));
+  to = λ q h e. lt_of_not-le (λ l. omega (arith, e, at_high, marks_mono f.my high q l));
 }
-
-same_or : (q r : ℕ) → (q ≡ r) ⊎ (q < r) → (q < r → q ≡ r) → q ≡ r
-same_or q r (inl e) never = e
-same_or q r (inr l) never = never l
-
-same : (q r : ℕ) → (r < q → q ≡ r) → (q < r → q ≡ r) → (r < q) ⊎ (q ≤ r) → q ≡ r
-same q r less more (inl l) = less l
-same q r less more (inr h) = same_or q r (eq-or-lt_of_le h) more
-
--- the pair that stands where the predicate belongs
-pub found_pair : (f : BitmapTriples) (s p low high q : ℕ) → PairsOf f s low high → low ≤ q → q < high → slice_index f.ys q ≡ p → IsPairOf f s p q
-found_pair f s p low high q pairs l h is = (omega (arith, h, pairs.within), pairs.inside q l h, is)
 
 pub only_found : (f : BitmapTriples) (s p low high q r : ℕ) → Ascend f → PairsOf f s low high → low ≤ q → q ≤ high → ((i : ℕ) → low ≤ i → i < q → slice_index f.ys i < p) → ((i : ℕ) → q ≤ i → i < high → p ≤ slice_index f.ys i)
     → IsPairOf f s p r → q ≡ r
 only_found f s p low high q r up pairs l h below above is =
-    same q r
-    (λ w. absurd (omega (arith, is.2, below r (pairs.from r is.0 is.1) w)))
-    (λ w. absurd (omega (
+    omega (
       arith,
-      is.2,
-      above q (omega arith) (omega (arith, w, pairs.to r is.0 is.1)),
-      up.predicates q r w is.0 (pairs.inside q l (omega (arith, w, pairs.to r is.0 is.1)) ∙ sym is.1),
-    )))
-    (cases_lt r q)
+      not_less q r (λ w. omega (arith, is.2, below r (pairs.from r is.0 is.1) w)),
+      not_less r q (λ w. omega (
+        arith,
+        is.2,
+        above q (omega arith) (omega (arith, w, pairs.to r is.0 is.1)),
+        up.predicates q r w is.0 (pairs.inside q l (omega (arith, w, pairs.to r is.0 is.1)) ∙ sym is.1),
+      )),
+    )
 
 -- predicates of a subject's pairs ascend
 pub pairs_ascend : (f : BitmapTriples) (s low high : ℕ) → Ascend f → PairsOf f s low high → (i j : ℕ) → low ≤ i → i < j → j < high → slice_index f.ys i < slice_index f.ys j
 pairs_ascend f s low high up pairs i j l m h = up.predicates i j m (omega (arith, h, pairs.within)) (pairs.inside i l (omega (arith, m, h)) ∙ sym (pairs.inside j (omega (arith, l, m)) h))
 
-second_false : (p y : ℕ) (c : Bool) → (p ≡ y → ⊥) → (true && (p == y) && c) ≡ false
-second_false p y c never = ap (λ b. true && b && c) (ne_eqb p y never)
-
-both_false : (s p x y : ℕ) (c : Bool) → (x ≡ s → y ≡ p → ⊥) → (s ≡ x) ⊎ (s ≢ x) → ((s == x) && (p == y) && c) ≡ false
-both_false s p x y c none (inl e) = ap (λ b. b && (p == y) && c) (eq-eqb s x e) ∙ second_false p y c (λ w. none (sym e) (sym w))
-both_false s p x y c none (inr ne) = ap (λ b. b && (p == y) && c) (ne_eqb s x ne)
-
 -- no triple agrees where there is never such pair
 other_pair : (f : BitmapTriples) (pattern : Pattern) (s p i : ℕ) → pattern.s ≡ Some s → pattern.p ≡ Some p → (subject_at f (pair_of f i) ≡ s → slice_index f.ys (pair_of f i) ≡ p → ⊥) → agrees pattern (triple_at f i) ≡ false
 other_pair f pattern s p i given_s given_p none =
-    ap (λ a. admits a (triple_at f i).0 && admits pattern.p (triple_at f i).1 && admits pattern.o (triple_at f i).2) given_s
-    ∙ ap (λ a. admits (Some s) (triple_at f i).0 && admits a (triple_at f i).1 && admits pattern.o (triple_at f i).2) given_p
-    ∙ both_false s p (triple_at f i).0 (triple_at f i).1 (admits pattern.o (triple_at f i).2) none (cases_eq s (triple_at f i).0)
+    elim (cases_eq (subject_at f (pair_of f i)) s) [
+      | inl e ↦ other_predicate pattern p (triple_at f i) given_p (none e)
+      | inr ne ↦ other_subject pattern s (triple_at f i) given_s ne
+    ]
 
 -- nothing at all
-pub no_run : (f : BitmapTriples) (pattern : Pattern) (s p : ℕ) → IsMarked f → pattern.s ≡ Some s → pattern.p ≡ Some p → ((q : ℕ) → IsPairOf f s p q → ⊥) → IsRunOfTriples f pattern s p 0 0
-no_run f pattern s p marked given_s given_p none = record {
+empty_run : (f : BitmapTriples) (pattern : Pattern) (s p : ℕ) → ((i : ℕ) → i < length f.zs → agrees pattern (triple_at f i) ≡ false) → IsRunOfTriples f pattern s p 0 0
+empty_run f pattern s p none = record {
   ordered = omega arith;
   within = omega arith;
   all = λ i l h. absurd (omega (arith, h));
   subject_is = λ i l h. absurd (omega (arith, h));
   predicate_is = λ i l h. absurd (omega (arith, h));
-  over = λ i l h. other_pair f pattern s p i given_s given_p (λ e w. none (pair_of f i) (pair_within f marked i h, e, w));
+  over = λ i l h. none i h;
 }
+
+pub no_run : (f : BitmapTriples) (pattern : Pattern) (s p : ℕ) → IsMarked f → pattern.s ≡ Some s → pattern.p ≡ Some p → ((q : ℕ) → IsPairOf f s p q → ⊥) → IsRunOfTriples f pattern s p 0 0
+no_run f pattern s p marked given_s given_p none = empty_run f pattern s p (λ i h. other_pair f pattern s p i given_s given_p (λ e w. none (pair_of f i) (pair_within f marked i h, e, w)))
 
 -- what is known of the one pair and its places
 pub record IsPairRun (f : BitmapTriples) (s p q at end : ℕ) : Type 0 where
@@ -122,16 +100,11 @@ pub outside : (f : BitmapTriples) (pattern : Pattern) (s p q at end i : ℕ) →
 outside f pattern s p q at end i marked given_s given_p r h ne =
     other_pair f pattern s p i given_s given_p (λ e w. ne (sym (r.only (pair_of f i) (pair_within f marked i h, e, w))))
 
-pub run_ordered : (f : BitmapTriples) (s p q at end : ℕ) → IsPairRun f s p q at end → at ≤ end
-run_ordered f s p q at end r = after at end (cases_lt end at) (λ l. omega (arith, r.earlier end l, r.above end (omega arith)))
+run_ordered : (f : BitmapTriples) (s p q at end : ℕ) → IsPairRun f s p q at end → at ≤ end
+run_ordered f s p q at end r = not_less at end (λ l. omega (arith, r.earlier end l, r.above end (omega arith)))
 
 agree_parts : (pattern : Pattern) (s p : ℕ) (t : Triple) → pattern.s ≡ Some s → pattern.p ≡ Some p → t.0 ≡ s → t.1 ≡ p → admits pattern.o t.2 ≡ true → agrees pattern t ≡ true
-agree_parts pattern s p t given_s given_p first second third =
-    ap (λ a. admits a t.0 && admits pattern.p t.1 && admits pattern.o t.2) given_s
-    ∙ ap (λ a. admits (Some s) t.0 && admits a t.1 && admits pattern.o t.2) given_p
-    ∙ ap (λ b. b && (p == t.1) && admits pattern.o t.2) (eq-eqb s t.0 (sym first))
-    ∙ ap (λ b. true && b && admits pattern.o t.2) (eq-eqb p t.1 (sym second))
-    ∙ ap (λ b. true && true && b) third
+agree_parts pattern s p t given_s given_p first second third = tells pattern t true true true (admitted pattern.s s t.0 given_s first) (admitted pattern.p p t.1 given_p second) third
 
 -- all triples of the pair
 pub whole_run : (f : BitmapTriples) (pattern : Pattern) (s p q at end : ℕ) → IsMarked f → pattern.s ≡ Some s → pattern.p ≡ Some p → pattern.o ≡ None → IsPairRun f s p q at end → IsRunOfTriples f pattern s p at end
@@ -177,7 +150,7 @@ one_run f pattern s p o q at end j marked up given_s given_p given_o r l h is =
       ordered = omega arith;
       within = omega (arith, h, r.within);
       all = λ i a w. agree_parts pattern s p (triple_at f i) given_s given_p (subject i a w) (predicate i a w)
-          (ap (λ m. admits m (slice_index f.zs i)) given_o ∙ eq-eqb o (slice_index f.zs i) (sym (ap (slice_index f.zs) (here i a w) ∙ is)));
+          (admitted pattern.o o (slice_index f.zs i) given_o (ap (slice_index f.zs) (here i a w) ∙ is));
       subject_is = subject;
       predicate_is = predicate;
       over = λ i a w. apart_by f pattern s p o q at end i marked given_s given_p given_o r w
@@ -185,28 +158,20 @@ one_run f pattern s p o q at end j marked up given_s given_p given_o r l h is =
     }
 
 -- and where it doesn't stand
-pub none_run : (f : BitmapTriples) (pattern : Pattern) (s p o q at end j : ℕ) → IsMarked f → pattern.s ≡ Some s → pattern.p ≡ Some p → pattern.o ≡ Some o → IsPairRun f s p q at end
+pub none_run : (f : BitmapTriples) (pattern : Pattern) (s p o q at end : ℕ) → IsMarked f → pattern.s ≡ Some s → pattern.p ≡ Some p → pattern.o ≡ Some o → IsPairRun f s p q at end
     → ((i : ℕ) → at ≤ i → i < end → slice_index f.zs i ≢ o) → IsRunOfTriples f pattern s p 0 0
-none_run f pattern s p o q at end j marked given_s given_p given_o r none = record {
-  ordered = omega arith;
-  within = omega arith;
-  all = λ i l h. absurd (omega (arith, h));
-  subject_is = λ i l h. absurd (omega (arith, h));
-  predicate_is = λ i l h. absurd (omega (arith, h));
-  over = λ i l h. apart_by f pattern s p o q at end i marked given_s given_p given_o r h (λ a w. none i a w) (cases_lt i at) (cases_lt i end);
-}
+none_run f pattern s p o q at end marked given_s given_p given_o r none = empty_run f pattern s p (λ i h. apart_by f pattern s p o q at end i marked given_s given_p given_o r h (none i) (cases_lt i at) (cases_lt i end))
 
 -- the iterator
 pub run_over : (f : BitmapTriples) (pattern : Pattern) (s p at end : ℕ) → IsRunOfTriples f pattern s p at end → end ≤ at → matches pattern (triples_from f at) ≡ []
 run_over f pattern s p at end r h =
-    none_left (length f.zs - at) pattern f at (omega (arith, r.ordered, r.within)) (λ i l w. r.over i (omega (arith, h, l)) w)
+    none_left pattern f at (omega (arith, r.ordered, r.within)) (λ i l w. r.over i (omega (arith, h, l)) w)
 
 pub run_taken : (f : BitmapTriples) (pattern : Pattern) (s p at end : ℕ) → IsRunOfTriples f pattern s p at end → at < end
     → matches pattern (triples_from f at) ≡ (s, p, slice_index f.zs at) ∷ matches pattern (triples_from f (at + 1))
 run_taken f pattern s p at end r h =
     matches_taken pattern f at (omega (arith, h, r.within)) (r.all at (omega arith) h)
-    ∙ ap (λ x. let t : Triple = (x, slice_index f.ys (pair_of f at), slice_index f.zs at) in t ∷ matches pattern (triples_from f (at + 1))) (r.subject_is at (omega arith) h)
-    ∙ ap (λ y. let t : Triple = (s, y, slice_index f.zs at) in t ∷ matches pattern (triples_from f (at + 1))) (r.predicate_is at (omega arith) h)
+    ∙ ap (λ t. t ∷ matches pattern (triples_from f (at + 1))) (parts_are f at s p (r.subject_is at (omega arith) h) (r.predicate_is at (omega arith) h))
 
 pub run_on : (f : BitmapTriples) (pattern : Pattern) (s p at end : ℕ) → IsRunOfTriples f pattern s p at end → at < end → IsRunOfTriples f pattern s p (at + 1) end
 run_on f pattern s p at end r h = record {
@@ -231,14 +196,11 @@ pub run_pays_on : (f : BitmapTriples) (pattern : Pattern) (s p at end steps afte
 unfolding limit pair_price jump
 run_pays_on f pattern s p at end steps after r h few pays = omega (arith, few, pays, ap length (run_taken f pattern s p at end r h))
 
-some_same : (q r : ℕ) → ◌≡◌ {A = Option ℕ} (Some q) (Some r) → q ≡ r
-some_same q r e = cc
-
 pub pair_run : (f : BitmapTriples) (s p q at end : ℕ) → IsPairOf f s p q → ((r : ℕ) → IsPairOf f s p r → ◌≡◌ {A = Option ℕ} (Some q) (Some r)) → at < length f.zs → pair_of f at ≡ q → ((i : ℕ) → i < at → pair_of f i < q)
     → end ≤ length f.zs → ((i : ℕ) → i < end → pair_of f i ≤ q) → ((i : ℕ) → end ≤ i → q < pair_of f i) → IsPairRun f s p q at end
 pair_run f s p q at end pair only low begins earlier within below above = record {
   pair = pair;
-  only = λ r h. some_same q r (only r h);
+  only = λ r h. let e = only r h in cc;
   begins = begins;
   earlier = earlier;
   low = low;
@@ -247,24 +209,15 @@ pair_run f s p q at end pair only low begins earlier within below above = record
   above = above;
 }
 
-pub none_pair : (r : Option ℕ) (q : ℕ) → r ≡ None → r ≡ Some q → ⊥
-none_pair r q e h = let both : ◌≡◌ {A = Option ℕ} None (Some q) = sym e ∙ h in cc
-
 -- fewer marks stand before an earlier place
 pub ordered : (bits : List Bool) (low high s : ℕ) → marks_before bits low + 1 ≡ s → marks_before bits high ≡ s → low ≤ high
-ordered bits low high s at_low at_high = after low high (cases_lt high low) (λ l. omega (arith, at_low, at_high, marks_mono bits high low (omega (arith, l))))
-
-not_at : (f : BitmapTriples) (at end j o i : ℕ) → ((i : ℕ) → j ≤ i → i < end → o ≤ slice_index f.zs i) → ((i k : ℕ) → at ≤ i → i < k → k < end → slice_index f.zs i < slice_index f.zs k) → at ≤ j → (j < end → slice_index f.zs j ≢ o)
-    → i < end → (j ≡ i) ⊎ (j < i) → slice_index f.zs i ≢ o
-not_at f at end j o i above up l ne w (inl e) = subst (λ n. slice_index f.zs n ≢ o) e (ne (omega (arith, w, e)))
-not_at f at end j o i above up l ne w (inr h) = λ same_object. omega (arith, same_object, above j (omega arith) (omega (arith, h, w)), up j i l h w)
-
-not_by : (f : BitmapTriples) (at end j o i : ℕ) → ((i : ℕ) → at ≤ i → i < j → slice_index f.zs i < o) → ((i : ℕ) → j ≤ i → i < end → o ≤ slice_index f.zs i)
-    → ((i k : ℕ) → at ≤ i → i < k → k < end → slice_index f.zs i < slice_index f.zs k) → at ≤ j → (j < end → slice_index f.zs j ≢ o) → at ≤ i → i < end → (i < j) ⊎ (j ≤ i) → slice_index f.zs i ≢ o
-not_by f at end j o i below above up l ne a w (inl h) = λ same_object. omega (arith, same_object, below i a h)
-not_by f at end j o i below above up l ne a w (inr h) = not_at f at end j o i above up l ne w (eq-or-lt_of_le h)
+ordered bits low high s at_low at_high = not_less low high (λ l. omega (arith, at_low, at_high, marks_mono bits high low (omega (arith, l))))
 
 -- no entry of the part is o
 pub not_there : (f : BitmapTriples) (at end j o : ℕ) → ((i : ℕ) → at ≤ i → i < j → slice_index f.zs i < o) → ((i : ℕ) → j ≤ i → i < end → o ≤ slice_index f.zs i)
     → ((i k : ℕ) → at ≤ i → i < k → k < end → slice_index f.zs i < slice_index f.zs k) → at ≤ j → (j < end → slice_index f.zs j ≢ o) → (i : ℕ) → at ≤ i → i < end → slice_index f.zs i ≢ o
-not_there f at end j o below above up l ne i a w = not_by f at end j o i below above up l ne a w (cases_lt i j)
+not_there f at end j o below above up l ne i a w = λ same.
+    let from = not_less j i (λ h. omega (arith, same, below i a h)) in
+    let to = not_less i j (λ h. omega (arith, same, above j (omega arith) (omega (arith, h, w)), up j i l h w)) in
+    let here : j ≡ i = omega (arith, from, to) in
+    ne (omega (arith, here, w)) (ap (slice_index f.zs) here ∙ same)

@@ -1,41 +1,18 @@
 -- The triples of a subject stand together.
-use Rattle.std.proofs.Common.{◌≡◌, ◌≢◌, ℕ, ◌+◌, ◌-◌, ◌<◌, ◌≤◌, zero, suc, [], length, refl, ap, sym, ◌∙◌, arith, true, false, Some, add-one, ◌&&◌}
-use Rattle.std.proofs.lemmas.Bool.{ne_eqb, eq-eqb}
+use Rattle.std.proofs.Common.{◌≡◌, ◌≢◌, ℕ, ◌+◌, ◌<◌, ◌≤◌, [], length, refl, ap, arith, Some}
 use Rattle.hdt_seq.specs.Width.{digits}
 use Rattle.hdt_seq.specs.Directory.{groups}
 use Rattle.hdt_triples.specs.declared.pattern.Pattern.{Pattern}
 use Rattle.hdt_triples.specs.declared.place.Place.{Place}
-use Rattle.hdt_triples.specs.Counting.{BitmapTriples, IsMarked, Triple, triple_at, triples_of, subject_at, pair_of}
-use Rattle.hdt_triples.specs.Patterns.{agrees, admits, matches}
+use Rattle.hdt_triples.specs.Counting.{BitmapTriples, IsMarked, triple_at, triples_of, subject_at, pair_of}
+use Rattle.hdt_triples.specs.Patterns.{matches}
 use Rattle.hdt_triples.specs.Walking.{StandsAt, triples_from}
 use Rattle.hdt_triples.specs.Bounds.{subject_price, of_subject, Pays, limit, jump}
 use Rattle.hdt_seq.specs.Laws.Marks.{marks_mono, marks_before_last}
 use Rattle.hdt_seq.specs.Marks.{marks_before}
 use Rattle.hdt_triples.specs.Laws.Order.{pair_within}
-use Rattle.hdt_triples.proofs.WalkLaws.{from_start, matches_taken, matches_passed, matches_none}
-
--- none agrees before a place
-pub skipped : (p : Pattern) (f : BitmapTriples) (j : ℕ) → j ≤ length f.zs → ((i : ℕ) → i < j → agrees p (triple_at f i) ≡ false) → matches p (triples_of f) ≡ matches p (triples_from f j)
-skipped p f zero h none = ap (matches p) (sym (from_start f))
-skipped p f (suc j) h none =
-    skipped p f j (omega (arith, h)) (λ i l. none i (omega (arith, l)))
-    ∙ matches_passed p f j (omega (arith, h)) (none j (omega arith))
-    ∙ ap (λ n. matches p (triples_from f n)) (add-one j)
-
-pub none_left : (n : ℕ) (p : Pattern) (f : BitmapTriples) (j : ℕ) → j + n ≡ length f.zs → ((i : ℕ) → j ≤ i → i < length f.zs → agrees p (triple_at f i) ≡ false) → matches p (triples_from f j) ≡ []
-none_left zero p f j h none = matches_none p f j (omega (arith, h))
-none_left (suc n) p f j h none =
-    matches_passed p f j (omega (arith, h)) (none j (omega arith) (omega (arith, h)))
-    ∙ none_left n p f (j + 1) (omega (arith, h)) (λ i l w. none i (omega (arith, l)) w)
-
--- a triple of another subject doesn't agree
-pub other_subject : (p : Pattern) (s : ℕ) (t : Triple) → p.s ≡ Some s → t.0 ≢ s → agrees p t ≡ false
-other_subject p s t given ne =
-    ap (λ o. admits o t.0 && admits p.p t.1 && admits p.o t.2) given
-    ∙ ap (λ b. b && admits p.p t.1 && admits p.o t.2) (ne_eqb s t.0 (λ e. ne (sym e)))
-
-pub own_subject : (s : ℕ) (t : Triple) → t.0 ≡ s → agrees (of_subject s) t ≡ true
-own_subject s t e = ap (λ b. b && true && true) (eq-eqb s t.0 (sym e))
+use Rattle.hdt_triples.proofs.WalkLaws.{matches_taken, none_left, skipped}
+use Rattle.hdt_triples.proofs.AgreeLaws.{other_subject, own_subject}
 
 pub matches_skipped : (p : Pattern) (s : ℕ) (f : BitmapTriples) (j : ℕ) → p.s ≡ Some s → j ≤ length f.zs → ((i : ℕ) → i < j → subject_at f (pair_of f i) ≢ s)
     → matches p (triples_of f) ≡ matches p (triples_from f j)
@@ -44,7 +21,7 @@ matches_skipped p s f j given h before = skipped p f j h (λ i l. other_subject 
 -- where a later subject stands none of this one is left
 pub matches_over : (p : Pattern) (s : ℕ) (f : BitmapTriples) (at : Place) → p.s ≡ Some s → StandsAt f at → s < at.subject → matches p (triples_from f at.at) ≡ []
 matches_over p s f at given st later =
-    none_left (length f.zs - at.at) p f at.at (omega (arith, st.within))
+    none_left p f at.at st.within
     (λ i l w. other_subject p s (triple_at f i) given
     (let e : subject_at f (pair_of f at.at) ≤ subject_at f (pair_of f i) = omega (arith, marks_mono f.my (pair_of f at.at) (pair_of f i) (marks_mono f.mz at.at i l)) in
     λ same. omega (arith, e, same, later, st.subject_is, ap (subject_at f) st.pair_is)))

@@ -1,6 +1,7 @@
 -- The numbers that triples use, by the sequences that hold them.
-use Rattle.std.proofs.Common.{◌≡◌, ◌∙◌, ℕ, zero, suc, ◌+◌, ◌-◌, ◌<◌, ◌≤◌, Bool, true, false, not, eqb, leb, List, [], ◌∷◌, length, slice_index, refl, ap, sym, subst, arith}
+use Rattle.std.proofs.Common.{◌≡◌, ◌∙◌, ℕ, zero, suc, ◌+◌, ◌-◌, ◌<◌, ◌≤◌, Bool, true, not, eqb, leb, List, [], ◌∷◌, length, slice_index, ap, sym, subst, arith}
 use Rattle.std.proofs.lemmas.Bool.{leb-true, le-leb, ne_eqb}
+use Rattle.std.proofs.lemmas.Bool.Decides.{same_from_decides}
 use Rattle.std.proofs.lemmas.List.{get_or-map, length-map}
 use Rattle.hdt_wire.specs.declared.role.Role.{Role}
 use Rattle.hdt_wire.specs.declared.role.Role.TheVariants.{Subject, Predicate, Object}
@@ -11,7 +12,7 @@ use Rattle.hdt_triples.specs.Laws.Counting.{length-triples, triple_is}
 use Rattle.hdt_triples.specs.Laws.Order.{pair_within}
 use Rattle.hdt_triples.specs.Lists.{places_of}
 use Rattle.hdt_triples.specs.Uses.{part, Uses, uses}
-use Rattle.hdt_triples.specs.Laws.Uses.{uses_found, uses_only}
+use Rattle.hdt_triples.specs.Laws.Uses.{uses_decides}
 use Rattle.hdt_triples.proofs.ListsLaws.{first_place, no_place, places_from_start}
 use Rattle.hdt_triples.proofs.SubjectLaws.{subject_above}
 
@@ -43,11 +44,6 @@ used_by f role n h =
     let lt : h.0 < length f.zs = omega (arith, h.1, length-triples f, length-map (triples_of f) (part role)) in
     (h.0, lt, sym (ap (part role) (triple_is f h.0 lt)) ∙ (sym (get_or-map (part role) (triples_of f) h.0 (0, 0, 0) n (omega (arith, lt, length-triples f))) ∙ h.2))
 
-same : (a b : Bool) → (a ≡ true → b ≡ true) → (b ≡ true → a ≡ true) → a ≡ b
-same true b to from = sym (to refl)
-same false true to from = from refl
-same false false to from = refl
-
 -- ---- subjects: those up to how many there are
 
 subject_used : (f : BitmapTriples) (s : ℕ) → IsMarked f → 1 ≤ s → s ≤ marks_before f.my (length f.my) → Uses (triples_of f) Subject s
@@ -59,16 +55,15 @@ subject_used f s marked from to =
 
 pub subject_is : (f : BitmapTriples) (s : ℕ) → IsMarked f → 1 ≤ s → leb s (marks_before f.my (length f.my)) ≡ uses (triples_of f) Subject s
 subject_is f s marked from =
-    same (leb s (marks_before f.my (length f.my))) (uses (triples_of f) Subject s)
-    (λ h. uses_only (triples_of f) Subject s (subject_used f s marked from (leb-true _ _ h)))
-    (λ h. let j = used_by f Subject s (uses_found (triples_of f) Subject s h) in
-    le-leb _ _ (omega (arith, j.2, subject_above f j.0 marked j.1)))
+    same_from_decides (leb s (marks_before f.my (length f.my))) (uses (triples_of f) Subject s)
+    (λ h. subject_used f s marked from (leb-true _ _ h), λ h. let j = used_by f Subject s h in le-leb _ _ (omega (arith, j.2, subject_above f j.0 marked j.1)))
+    (uses_decides (triples_of f) Subject s)
 
 pub no_subject : (f : BitmapTriples) (s : ℕ) → s < 1 → leb 1 s ≡ uses (triples_of f) Subject s
 no_subject f s none =
-    same (leb 1 s) (uses (triples_of f) Subject s)
-    (λ h. absurd (omega (arith, none, leb-true 1 s h)))
-    (λ h. let j = used_by f Subject s (uses_found (triples_of f) Subject s h) in absurd (omega (arith, none, j.2)))
+    same_from_decides (leb 1 s) (uses (triples_of f) Subject s)
+    (λ h. absurd (omega (arith, none, leb-true 1 s h)), λ h. let j = used_by f Subject s h in absurd (omega (arith, none, j.2)))
+    (uses_decides (triples_of f) Subject s)
 
 -- ---- predicates and objects: those whose lists aren't empty
 
@@ -82,17 +77,19 @@ one_of xs k (p ∷ qs) is q lt key = ap not (ne_eqb (length (p ∷ qs)) 0 (λ (e
 
 pub predicate_is : (f : BitmapTriples) (p : ℕ) (qs : List ℕ) → IsMarked f → qs ≡ places_of f.ys p → not (eqb (length qs) 0) ≡ uses (triples_of f) Predicate p
 predicate_is f p qs marked is =
-    same (not (eqb (length qs) 0)) (uses (triples_of f) Predicate p)
-    (λ h. let q = some_of f.ys p qs is h in
-    let j = pair_used f q.0 marked q.1 in
-    uses_only (triples_of f) Predicate p (subst (λ (n : ℕ). Uses (triples_of f) Predicate n) (ap (slice_index f.ys) j.2 ∙ q.2) (used_at f Predicate j.0 j.1)))
-    (λ h. let j = used_by f Predicate p (uses_found (triples_of f) Predicate p h) in
-    one_of f.ys p qs is (pair_of f j.0) (pair_within f marked j.0 j.1) j.2)
+    same_from_decides (not (eqb (length qs) 0)) (uses (triples_of f) Predicate p) (
+      λ h.
+          let q = some_of f.ys p qs is h in
+          let j = pair_used f q.0 marked q.1 in
+          subst (λ (n : ℕ). Uses (triples_of f) Predicate n) (ap (slice_index f.ys) j.2 ∙ q.2) (used_at f Predicate j.0 j.1),
+      λ h. let j = used_by f Predicate p h in one_of f.ys p qs is (pair_of f j.0) (pair_within f marked j.0 j.1) j.2,
+    )
+    (uses_decides (triples_of f) Predicate p)
 
 pub object_is : (f : BitmapTriples) (o : ℕ) (qs : List ℕ) → qs ≡ places_of f.zs o → not (eqb (length qs) 0) ≡ uses (triples_of f) Object o
 object_is f o qs is =
-    same (not (eqb (length qs) 0)) (uses (triples_of f) Object o)
-    (λ h. let j = some_of f.zs o qs is h in
-    uses_only (triples_of f) Object o (subst (λ (n : ℕ). Uses (triples_of f) Object n) j.2 (used_at f Object j.0 j.1)))
-    (λ h. let j = used_by f Object o (uses_found (triples_of f) Object o h) in
-    one_of f.zs o qs is j.0 j.1 j.2)
+    same_from_decides (not (eqb (length qs) 0)) (uses (triples_of f) Object o) (
+      λ h. let j = some_of f.zs o qs is h in subst (λ (n : ℕ). Uses (triples_of f) Object n) j.2 (used_at f Object j.0 j.1),
+      λ h. let j = used_by f Object o h in one_of f.zs o qs is j.0 j.1 j.2,
+    )
+    (uses_decides (triples_of f) Object o)

@@ -1,21 +1,28 @@
 -- What is left from a place on follows from its triple.
-use Rattle.std.proofs.Common.{◌≡◌, ℕ, ◌+◌, ◌-◌, ◌^◌, ◌<◌, ◌≤◌, [], ◌∷◌, suc, length, map, ap, ◌∙◌, arith, true, false, cond}
+use Rattle.std.proofs.Common.{◌≡◌, ℕ, ◌+◌, ◌-◌, ◌^◌, ◌<◌, ◌≤◌, [], ◌∷◌, zero, suc, length, slice_index, map, ap, sym, ◌∙◌, arith, true, false, cond}
+use Rattle.std.proofs.Math.Nat.{lt_of_not-le}
 use Rattle.std.specs.List.{filter, range_with_len}
 use Rattle.std.proofs.lemmas.List.Sums.{length-filter, count_by-le-length}
 use Rattle.hdt_seq.specs.Laws.Numbers.{numbers_below}
 use Rattle.hdt_triples.specs.declared.pattern.Pattern.{Pattern}
 use Rattle.hdt_triples.specs.declared.triples.Triples.{Triples}
-use Rattle.hdt_triples.specs.Counting.{BitmapTriples, triple_at, triples_of}
+use Rattle.hdt_triples.specs.Counting.{BitmapTriples, Triple, pair_of, subject_at, triple_at, triples_of}
 use Rattle.hdt_triples.specs.Laws.Counting.{length-triples}
 use Rattle.hdt_triples.specs.Patterns.{agrees, matches}
 use Rattle.hdt_triples.specs.Views.{bitmap_read}
 use Rattle.hdt_triples.specs.Walking.{triples_from}
 
+pub not_less : (a b : ℕ) → (b < a → ⊥) → a ≤ b
+not_less a b never = omega (arith, lt_of_not-le {n = b + 1} {m = a} (λ h. never (omega (arith, h))))
+
 range_first : (a b : ℕ) → a < b → range_with_len a (b - a) ≡ a ∷ range_with_len (a + 1) (b - (a + 1))
 range_first a b h = let e : b - a ≡ suc (b - (a + 1)) = omega arith in ap (range_with_len a) e
 
-range_none : (a b : ℕ) → b ≤ a → range_with_len a (b - a) ≡ []
+pub range_none : (a b : ℕ) → b ≤ a → range_with_len a (b - a) ≡ []
 range_none a b h = let e : b - a ≡ 0 = omega arith in ap (range_with_len a) e
+
+pub parts_are : (f : BitmapTriples) (j s p : ℕ) → subject_at f (pair_of f j) ≡ s → slice_index f.ys (pair_of f j) ≡ p → triple_at f j ≡ (s, p, slice_index f.zs j)
+parts_are f j s p e h = ap (λ x. let t : Triple = (x, slice_index f.ys (pair_of f j), slice_index f.zs j) in t) e ∙ ap (λ y. let t : Triple = (s, y, slice_index f.zs j) in t) h
 
 -- from the first place on there are all
 pub from_start : (f : BitmapTriples) → triples_from f 0 ≡ triples_of f
@@ -47,6 +54,26 @@ matches_passed p f j h passed =
 pub matches_none : (p : Pattern) (f : BitmapTriples) (j : ℕ) → length f.zs ≤ j → matches p (triples_from f j) ≡ []
 unfolding matches
 matches_none p f j h = ap (filter (agrees p)) (from_end f j h)
+
+jumped_by : (n : ℕ) (p : Pattern) (f : BitmapTriples) (j k : ℕ) → j + n ≡ k → k ≤ length f.zs → ((i : ℕ) → j ≤ i → i < k → agrees p (triple_at f i) ≡ false)
+    → matches p (triples_from f j) ≡ matches p (triples_from f k)
+jumped_by zero p f j k e h none = ap (λ i. matches p (triples_from f i)) (let same : j ≡ k = omega (arith, e) in same)
+jumped_by (suc n) p f j k e h none =
+    matches_passed p f j (omega (arith, e, h)) (none j (omega arith) (omega (arith, e)))
+    ∙ jumped_by n p f (j + 1) k (omega (arith, e)) h (λ i l w. none i (omega (arith, l)) w)
+
+-- past places where none agrees
+pub jumped : (p : Pattern) (f : BitmapTriples) (j k : ℕ) → j ≤ k → k ≤ length f.zs → ((i : ℕ) → j ≤ i → i < k → agrees p (triple_at f i) ≡ false)
+    → matches p (triples_from f j) ≡ matches p (triples_from f k)
+jumped p f j k l h none = jumped_by (k - j) p f j k (omega (arith, l)) h none
+
+-- none agrees before a place
+pub skipped : (p : Pattern) (f : BitmapTriples) (j : ℕ) → j ≤ length f.zs → ((i : ℕ) → i < j → agrees p (triple_at f i) ≡ false) → matches p (triples_of f) ≡ matches p (triples_from f j)
+skipped p f j h none = ap (matches p) (sym (from_start f)) ∙ jumped p f 0 j (omega arith) h (λ i l w. none i w)
+
+-- none from a place on
+pub none_left : (p : Pattern) (f : BitmapTriples) (j : ℕ) → j ≤ length f.zs → ((i : ℕ) → j ≤ i → i < length f.zs → agrees p (triple_at f i) ≡ false) → matches p (triples_from f j) ≡ []
+none_left p f j h none = jumped p f j (length f.zs) h (omega arith) none ∙ matches_none p f (length f.zs) (omega arith)
 
 -- no more matches than triples
 pub matches_few : (p : Pattern) (f : BitmapTriples) → length (matches p (triples_of f)) ≤ length f.zs

@@ -44,12 +44,12 @@ predicate_price f p = record { base = 0; each = jump f; counted = of_predicate p
 unfoldable pub object_price : ℕ → Price
 object_price o = record { base = 0; each = 20; counted = of_object o }
 
--- so many of them count
-abbrev pub counting : Price → List Triple → ℕ
-counting c ts = length (matches c.counted ts)
+-- so many triples agree
+abbrev pub triples_with : Pattern → BitmapTriples → ℕ
+triples_with p f = length (matches p (triples_of f))
 
 unfoldable pub limit : Price → BitmapTriples → ℕ
-limit c f = c.base + c.each * (1 + counting c (triples_of f))
+limit c f = c.base + c.each * (1 + triples_with c.counted f)
 
 abbrev pub most_steps_by : BitmapTriples → Pattern → Option ℕ → Option ℕ → Option ℕ → ℕ
 most_steps_by f pattern (Some s) None o = limit (subject_price f s) f
@@ -62,10 +62,6 @@ most_steps_by f pattern None None None = 4 * length f.zs
 -- the table
 unfoldable pub most_steps : BitmapTriples → Pattern → ℕ
 most_steps f p = most_steps_by f p p.s p.p p.o
-
--- so many triples have this subject, or this object
-abbrev pub triples_with : Pattern → BitmapTriples → ℕ
-triples_with p f = length (matches p (triples_of f))
 
 abbrev pub counting_steps_by : BitmapTriples → Option ℕ → Option ℕ → Option ℕ → ℕ
 -- nothing: how many triples there are is known
@@ -95,4 +91,4 @@ walking_steps f p = walking_steps_by f p.s p.p p.o
 
 -- what is left can be paid: the steps so far, and the price of what is left, are within the limit
 abbrev pub Pays : Price → BitmapTriples → ℕ → List Triple → Type 0
-Pays c f steps left = steps + c.each * counting c left ≤ limit c f
+Pays c f steps left = steps + c.each * length (matches c.counted left) ≤ limit c f

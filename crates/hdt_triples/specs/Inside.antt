@@ -1,4 +1,5 @@
 pub mod Fitting
+pub mod Placing
 pub mod Runs
 pub mod SequencesView
 pub mod Spots

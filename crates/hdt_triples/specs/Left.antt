@@ -1,34 +1,34 @@
 -- Matches: those that are still to come, the looks that they may take in all, and the looks so far.
-use Rattle.std.specs.Prelude.{ℕ, List, []}
-use Rattle.hdt_triples.specs.Counting.{Triple}
-use Rattle.hdt_triples.specs.WalkLeft.{left_of_walk, limit_of_walk, steps_of_walk}
-use Rattle.hdt_triples.specs.SubjectLeft.{left_of_subject, limit_of_subject, steps_of_subject}
-use Rattle.hdt_triples.specs.PairLeft.{left_of_pair, limit_of_pair, steps_of_pair}
-use Rattle.hdt_triples.specs.PredicateLeft.{left_of_predicate, limit_of_predicate, steps_of_predicate}
-use Rattle.hdt_triples.specs.ObjectLeft.{left_of_object, limit_of_object, steps_of_object}
+use Rattle.std.specs.Prelude.{ℕ, ◌*◌, List, [], length, map}
+use Rattle.hdt_triples.specs.Bounds.{limit, object_price, of_predicate, pair_price, predicate_price, subject_price}
+use Rattle.hdt_triples.specs.Counting.{Triple, triple_at}
+use Rattle.hdt_triples.specs.Patterns.{matches}
+use Rattle.hdt_triples.specs.Views.{bitmap_read}
+use Rattle.hdt_triples.specs.Walking.{triples_from}
 use Rattle.hdt_triples.specs.declared.matches.Matches.{Matches}
 use Rattle.hdt_triples.specs.declared.matches.Matches.TheVariants.{Empty, Walk, Subject, Pair, Predicate, Object}
 
+-- the triples that agree from a place on, or among the places of an object that are left
 unfoldable pub left_of : Matches → List Triple
 left_of Empty = []
-left_of (Walk m) = left_of_walk m
-left_of (Subject m) = left_of_subject m
-left_of (Pair m) = left_of_pair m
-left_of (Predicate m) = left_of_predicate m
-left_of (Object m) = left_of_object m
+left_of (Walk m) = matches m.pattern (triples_from (bitmap_read m.triples) m.place.at)
+left_of (Subject m) = matches m.pattern (triples_from (bitmap_read m.triples) m.place.at)
+left_of (Pair m) = matches m.pattern (triples_from (bitmap_read m.triples) m.at)
+left_of (Predicate m) = matches (of_predicate m.predicate) (triples_from (bitmap_read m.indexed.now.triples) m.spot.at)
+left_of (Object m) = matches m.pattern (map (triple_at (bitmap_read m.indexed.now.triples)) m.rest.now)
 
 unfoldable pub limit_of : Matches → ℕ
 limit_of Empty = 0
-limit_of (Walk m) = limit_of_walk m
-limit_of (Subject m) = limit_of_subject m
-limit_of (Pair m) = limit_of_pair m
-limit_of (Predicate m) = limit_of_predicate m
-limit_of (Object m) = limit_of_object m
+limit_of (Walk m) = 4 * length (bitmap_read m.triples).zs
+limit_of (Subject m) = limit (subject_price (bitmap_read m.triples) m.subject) (bitmap_read m.triples)
+limit_of (Pair m) = limit (pair_price (bitmap_read m.triples) m.pattern) (bitmap_read m.triples)
+limit_of (Predicate m) = limit (predicate_price (bitmap_read m.indexed.now.triples) m.predicate) (bitmap_read m.indexed.now.triples)
+limit_of (Object m) = limit (object_price m.object) (bitmap_read m.indexed.now.triples)
 
 unfoldable pub steps_of : Matches → ℕ
 steps_of Empty = 0
-steps_of (Walk m) = steps_of_walk m
-steps_of (Subject m) = steps_of_subject m
-steps_of (Pair m) = steps_of_pair m
-steps_of (Predicate m) = steps_of_predicate m
-steps_of (Object m) = steps_of_object m
+steps_of (Walk m) = m.steps
+steps_of (Subject m) = m.steps
+steps_of (Pair m) = m.steps
+steps_of (Predicate m) = m.steps
+steps_of (Object m) = m.steps

@@ -5,16 +5,11 @@ pub mod Groups
 pub mod Left
 pub mod ListedViews
 pub mod Lists
-pub mod ObjectLeft
 pub mod Order
-pub mod PairLeft
 pub mod Patterns
-pub mod PredicateLeft
-pub mod SubjectLeft
 pub mod Triples
 pub mod Uses
 pub mod Views
-pub mod WalkLeft
 pub mod Walking
 pub mod Writing
 pub mod Laws

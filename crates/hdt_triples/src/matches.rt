@@ -12,7 +12,6 @@ use crate::pair::PairMatches;
 use crate::pattern::Pattern;
 use crate::predicate::PredicateMatches;
 use crate::subject::SubjectMatches;
-use crate::triples::Triples;
 use crate::walk::WalkMatches;
 
 /// The matches of a pattern, in order, one after another: an iterator, each of whose ways to the next match gives the
@@ -38,22 +37,6 @@ pub enum Matches<'a> {
     Object(ObjectMatches<'a>),
 }
 
-impl<'a> Triples<'a> {
-    ghost use Rattle.hdt_triples.specs.Left.{left_of, limit_of};
-
-    /// The matches of a pattern: exactly the triples that agree with each number that is given, once each, in the order of
-    /// the triples. The walk over all triples takes at most four looks a triple, and no memory.
-    #[tactic(auto, unfolding(crate::specs::Left::left_of, crate::specs::Left::limit_of))]
-    pub fn find(&self, pattern: Pattern) -> Matches<'a>
-        ensures items { left_of result ≡ matches pattern (triples_of (bitmap_read self.now)) }
-        // As many as fit, so they can be counted.
-        ensures fits { length (left_of result) < 2 ^ 64 }
-        ensures few { limit_of result ≡ 4 * length (bitmap_read self.now).zs }
-    {
-        Matches::Walk(self.find_walk(pattern))
-    }
-}
-
 impl<'a> IndexedTriples<'a> {
     ghost use Rattle.hdt_triples.specs.Left.{left_of, limit_of};
     ghost use Rattle.hdt_triples.specs.ListedViews.{triples_indexed};
@@ -61,7 +44,7 @@ impl<'a> IndexedTriples<'a> {
     /// The matches of a pattern: exactly the triples that agree with each number that is given, once each, in the order of
     /// the triples. Where a subject is given it is found by the directories, else it is a walk over all triples. It takes
     /// no memory.
-    #[tactic(auto, unfolding(crate::specs::Bounds::most_steps, crate::specs::Left::left_of, crate::specs::Left::limit_of))]
+    #[tactic(auto, unfolding(crate::specs::Bounds::most_steps))]
     pub fn find(&self, pattern: Pattern) -> Matches<'_>
         ensures items { left_of result ≡ matches pattern (triples_of (bitmap_read (triples_indexed self.now))) }
         ensures fits { length (left_of result) < 2 ^ 64 }
@@ -71,11 +54,9 @@ impl<'a> IndexedTriples<'a> {
         ensures walked { pattern.s ≡ None → limit_of result ≡ 4 * length (bitmap_read (triples_indexed self.now)).zs }
     {
         match (pattern.s, pattern.p) {
-            (Some(subject), Some(predicate)) => {
-                Matches::Pair(self.find_pair(pattern, subject, predicate))
-            }
-            (Some(subject), None) => Matches::Subject(self.find_subject(pattern, subject)),
-            (None, _) => Matches::Walk(self.triples.find_walk(pattern)),
+            (Some(subject), Some(predicate)) => self.find_pair(pattern, subject, predicate),
+            (Some(subject), None) => self.find_subject(pattern, subject),
+            (None, _) => self.triples.find(pattern),
         }
     }
 }
@@ -87,7 +68,7 @@ impl<'a> ListedTriples<'a> {
     /// The matches of a pattern: exactly the triples that agree with each number that is given, once each, in the order of
     /// the triples. A subject is found by the directories, a predicate alone by its list of pairs, an object without a
     /// subject by its list of places; where nothing is given it is a walk. It takes no memory.
-    #[tactic(auto, unfolding(crate::specs::Bounds::most_steps, crate::specs::Left::left_of, crate::specs::Left::limit_of))]
+    #[tactic(auto, unfolding(crate::specs::Bounds::most_steps))]
     pub fn find(&self, pattern: Pattern) -> Matches<'_>
         ensures items { left_of result ≡ matches pattern (triples_of (bitmap_read (triples_listed self.now))) }
         ensures fits { length (left_of result) < 2 ^ 64 }
@@ -96,9 +77,9 @@ impl<'a> ListedTriples<'a> {
     {
         match (pattern.s, pattern.p, pattern.o) {
             (Some(_), _, _) => self.indexed.find(pattern),
-            (None, _, Some(object)) => Matches::Object(self.find_object(pattern, object)),
-            (None, Some(predicate), None) => Matches::Predicate(self.find_predicate(predicate)),
-            (None, None, None) => Matches::Walk(self.indexed.triples.find_walk(pattern)),
+            (None, _, Some(object)) => self.find_object(pattern, object),
+            (None, Some(predicate), None) => self.find_predicate(predicate),
+            (None, None, None) => self.indexed.triples.find(pattern),
         }
     }
 }
@@ -135,17 +116,7 @@ impl<'a> Matches<'a> {
     ghost use Rattle.hdt_triples.specs.Left.{limit_of, steps_of};
 
     /// The law that at every moment the looks since the call of `find` are within its limit.
-    #[tactic(auto, unfolding(crate::specs::Left::limit_of, crate::specs::Left::steps_of))]
     pub fn steps_are_few(&self)
         ensures { steps_of self.now ≤ limit_of self.now }
-    {
-        match self {
-            Matches::Empty => (),
-            Matches::Walk(matches) => matches.steps_are_few(),
-            Matches::Subject(matches) => matches.steps_are_few(),
-            Matches::Pair(matches) => matches.steps_are_few(),
-            Matches::Predicate(matches) => matches.steps_are_few(),
-            Matches::Object(matches) => matches.steps_are_few(),
-        }
-    }
+    {}
 }

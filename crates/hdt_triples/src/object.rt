@@ -10,6 +10,7 @@ ghost use Rattle.hdt_triples.specs.Views.{bitmap_read};
 use crate::indexed::IndexedTriples;
 use crate::listed::ListedTriples;
 use crate::look::{entry, listed};
+use crate::matches::Matches;
 use crate::pattern::Pattern;
 use hdt_seq::Steps;
 
@@ -46,26 +47,26 @@ impl<'a> IndexedTriples<'a> {
 }
 
 impl<'a> ListedTriples<'a> {
-    ghost use Rattle.hdt_triples.specs.ObjectLeft.{left_of_object, limit_of_object};
+    ghost use Rattle.hdt_triples.specs.Left.{left_of, limit_of};
     ghost use Rattle.hdt_triples.specs.ListedViews.{triples_listed};
 
     /// The matches of a pattern that gives this object.
-    #[tactic(auto, unfolding(crate::specs::ObjectLeft::left_of_object, crate::specs::ObjectLeft::limit_of_object))]
-    pub(crate) fn find_object(&self, pattern: Pattern, object: u64) -> ObjectMatches<'_>
+    #[tactic(auto, unfolding(crate::specs::Left::left_of, crate::specs::Left::limit_of))]
+    pub(crate) fn find_object(&self, pattern: Pattern, object: u64) -> Matches<'_>
         requires { pattern.o ≡ Some object }
-        ensures items { left_of_object result ≡ matches pattern (triples_of (bitmap_read (triples_listed self.now))) }
-        ensures fits { length (left_of_object result) < 2 ^ 64 }
-        ensures few { limit_of_object result ≡ limit (object_price object) (bitmap_read (triples_listed self.now)) }
+        ensures items { left_of result ≡ matches pattern (triples_of (bitmap_read (triples_listed self.now))) }
+        ensures fits { length (left_of result) < 2 ^ 64 }
+        ensures few { limit_of result ≡ limit (object_price object) (bitmap_read (triples_listed self.now)) }
     {
         let mut steps = Steps::new();
         let rest = self.places_of(object, &mut steps);
-        ObjectMatches {
+        Matches::Object(ObjectMatches {
             indexed: &self.indexed,
             pattern,
             object,
             rest,
             steps,
-        }
+        })
     }
 }
 
@@ -74,18 +75,19 @@ impl<'a> Iterator for ObjectMatches<'a> {
 
     ghost use Rattle.std.specs.Iterator.{YieldsFirst, MakesProgress, item_count};
     ghost use Rattle.std.specs.Prelude.{⊤};
-    ghost use Rattle.hdt_triples.specs.ObjectLeft.{left_of_object, limit_of_object, steps_of_object};
+    ghost use Rattle.hdt_triples.specs.Left.{left_of, limit_of, steps_of};
+    ghost use Rattle.hdt_triples.specs.declared.matches.Matches.TheVariants.{Object};
 
-    ghost next_gives = { YieldsFirst left_of_object };
+    ghost next_gives = { YieldsFirst (λ m. left_of (Object m)) };
 
-    ghost remaining = { item_count left_of_object };
+    ghost remaining = { item_count (λ m. left_of (Object m)) };
 
-    #[tactic(auto, unfolding(crate::specs::ObjectLeft::left_of_object, crate::specs::ObjectLeft::limit_of_object, crate::specs::ObjectLeft::steps_of_object))]
+    #[tactic(auto, unfolding(crate::specs::Left::left_of, crate::specs::Left::limit_of, crate::specs::Left::steps_of))]
     fn next(&mut self) -> Option<(u64, u64, u64)>
-        ensures steps { YieldsFirst left_of_object self.old result self.new }
-        ensures goes { MakesProgress (λ _. ⊤) (item_count left_of_object) self.old result self.new }
-        ensures same { limit_of_object self.new ≡ limit_of_object self.old }
-        ensures more { steps_of_object self.old ≤ steps_of_object self.new }
+        ensures steps { YieldsFirst (λ m. left_of (Object m)) self.old result self.new }
+        ensures goes { MakesProgress (λ _. ⊤) (item_count (λ m. left_of (Object m))) self.old result self.new }
+        ensures same { limit_of (Object self.new) ≡ limit_of (Object self.old) }
+        ensures more { steps_of (Object self.old) ≤ steps_of (Object self.new) }
     {
         while !self.rest.is_empty() {
             let at = listed(self.rest, 0, &mut self.steps);
@@ -98,17 +100,5 @@ impl<'a> Iterator for ObjectMatches<'a> {
             }
         }
         None
-    }
-}
-
-impl<'a> ObjectMatches<'a> {
-    ghost use Rattle.hdt_triples.specs.ObjectLeft.{limit_of_object, steps_of_object};
-
-    /// The law that at every moment the steps are few.
-    #[tactic(auto, unfolding(crate::specs::ObjectLeft::limit_of_object, crate::specs::ObjectLeft::steps_of_object))]
-    pub(crate) fn steps_are_few(&self)
-        ensures { steps_of_object self.now ≤ limit_of_object self.now }
-    {
-        let _ = &self.rest;
     }
 }

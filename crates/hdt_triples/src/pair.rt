@@ -12,6 +12,7 @@ ghost use Rattle.hdt_triples.specs.Walking.{triples_from};
 use crate::halving::place_from;
 use crate::indexed::IndexedTriples;
 use crate::look::entry;
+use crate::matches::Matches;
 use crate::pattern::Pattern;
 use crate::triples::Triples;
 use hdt_seq::Steps;
@@ -31,6 +32,7 @@ pub struct PairMatches<'a> {
 }
 
 impl<'a> IndexedTriples<'a> {
+    ghost use Rattle.hdt_triples.specs.Left.{left_of, limit_of};
     ghost use Rattle.hdt_triples.specs.ListedViews.{triples_indexed};
 
     /// Where the pairs of a subject begin and end.
@@ -100,29 +102,19 @@ impl<'a> IndexedTriples<'a> {
         }
         (0, 0)
     }
-}
-
-impl<'a> IndexedTriples<'a> {
-    ghost use Rattle.hdt_triples.specs.ListedViews.{triples_indexed};
-    ghost use Rattle.hdt_triples.specs.PairLeft.{left_of_pair, limit_of_pair};
 
     /// The matches of a pattern that gives this subject and this predicate.
-    #[tactic(auto, unfolding(crate::specs::PairLeft::left_of_pair, crate::specs::PairLeft::limit_of_pair))]
-    pub(crate) fn find_pair(
-        &self,
-        pattern: Pattern,
-        subject: u64,
-        predicate: u64,
-    ) -> PairMatches<'a>
+    #[tactic(auto, unfolding(crate::specs::Left::left_of, crate::specs::Left::limit_of))]
+    pub(crate) fn find_pair(&self, pattern: Pattern, subject: u64, predicate: u64) -> Matches<'a>
         requires subject_given { pattern.s ≡ Some subject }
         requires predicate_given { pattern.p ≡ Some predicate }
-        ensures items { left_of_pair result ≡ matches pattern (triples_of (bitmap_read (triples_indexed self.now))) }
-        ensures fits { length (left_of_pair result) < 2 ^ 64 }
-        ensures few { limit_of_pair result ≡ limit (pair_price (bitmap_read (triples_indexed self.now)) pattern) (bitmap_read (triples_indexed self.now)) }
+        ensures items { left_of result ≡ matches pattern (triples_of (bitmap_read (triples_indexed self.now))) }
+        ensures fits { length (left_of result) < 2 ^ 64 }
+        ensures few { limit_of result ≡ limit (pair_price (bitmap_read (triples_indexed self.now)) pattern) (bitmap_read (triples_indexed self.now)) }
     {
         let mut steps = Steps::new();
         let (at, end) = self.run_of(pattern, subject, predicate, &mut steps);
-        PairMatches {
+        Matches::Pair(PairMatches {
             triples: self.triples,
             pattern,
             subject,
@@ -130,7 +122,7 @@ impl<'a> IndexedTriples<'a> {
             at,
             end,
             steps,
-        }
+        })
     }
 }
 
@@ -139,18 +131,19 @@ impl<'a> Iterator for PairMatches<'a> {
 
     ghost use Rattle.std.specs.Iterator.{YieldsFirst, MakesProgress, item_count};
     ghost use Rattle.std.specs.Prelude.{⊤};
-    ghost use Rattle.hdt_triples.specs.PairLeft.{left_of_pair, limit_of_pair, steps_of_pair};
+    ghost use Rattle.hdt_triples.specs.Left.{left_of, limit_of, steps_of};
+    ghost use Rattle.hdt_triples.specs.declared.matches.Matches.TheVariants.{Pair};
 
-    ghost next_gives = { YieldsFirst left_of_pair };
+    ghost next_gives = { YieldsFirst (λ m. left_of (Pair m)) };
 
-    ghost remaining = { item_count left_of_pair };
+    ghost remaining = { item_count (λ m. left_of (Pair m)) };
 
-    #[tactic(auto, unfolding(crate::specs::PairLeft::left_of_pair, crate::specs::PairLeft::limit_of_pair, crate::specs::PairLeft::steps_of_pair))]
+    #[tactic(auto, unfolding(crate::specs::Left::left_of, crate::specs::Left::limit_of, crate::specs::Left::steps_of))]
     fn next(&mut self) -> Option<(u64, u64, u64)>
-        ensures steps { YieldsFirst left_of_pair self.old result self.new }
-        ensures goes { MakesProgress (λ _. ⊤) (item_count left_of_pair) self.old result self.new }
-        ensures same { limit_of_pair self.new ≡ limit_of_pair self.old }
-        ensures more { steps_of_pair self.old ≤ steps_of_pair self.new }
+        ensures steps { YieldsFirst (λ m. left_of (Pair m)) self.old result self.new }
+        ensures goes { MakesProgress (λ _. ⊤) (item_count (λ m. left_of (Pair m))) self.old result self.new }
+        ensures same { limit_of (Pair self.new) ≡ limit_of (Pair self.old) }
+        ensures more { steps_of (Pair self.old) ≤ steps_of (Pair self.new) }
     {
         let triples = self.triples;
         if self.at >= self.end {
@@ -159,17 +152,5 @@ impl<'a> Iterator for PairMatches<'a> {
         let object = entry(&triples.zs, self.at, &mut self.steps);
         self.at += 1;
         Some((self.subject, self.predicate, object))
-    }
-}
-
-impl<'a> PairMatches<'a> {
-    ghost use Rattle.hdt_triples.specs.PairLeft.{limit_of_pair, steps_of_pair};
-
-    /// The law that at every moment the steps are few.
-    #[tactic(auto, unfolding(crate::specs::PairLeft::limit_of_pair, crate::specs::PairLeft::steps_of_pair))]
-    pub(crate) fn steps_are_few(&self)
-        ensures { steps_of_pair self.now ≤ limit_of_pair self.now }
-    {
-        let _ = &self.at;
     }
 }

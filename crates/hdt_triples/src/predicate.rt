@@ -10,6 +10,7 @@ ghost use Rattle.hdt_triples.specs.Walking.{triples_from};
 use crate::indexed::IndexedTriples;
 use crate::listed::ListedTriples;
 use crate::look::entry;
+use crate::matches::Matches;
 use crate::spot::Spot;
 use hdt_seq::Steps;
 
@@ -25,19 +26,19 @@ pub struct PredicateMatches<'a> {
 }
 
 impl<'a> ListedTriples<'a> {
-    ghost use Rattle.hdt_triples.specs.PredicateLeft.{left_of_predicate, limit_of_predicate};
+    ghost use Rattle.hdt_triples.specs.Left.{left_of, limit_of};
     ghost use Rattle.hdt_triples.specs.ListedViews.{triples_listed};
 
     /// The triples of a predicate.
-    #[tactic(auto, unfolding(crate::specs::PredicateLeft::left_of_predicate, crate::specs::PredicateLeft::limit_of_predicate))]
-    pub(crate) fn find_predicate(&self, predicate: u64) -> PredicateMatches<'_>
-        ensures items { left_of_predicate result ≡ matches (of_predicate predicate) (triples_of (bitmap_read (triples_listed self.now))) }
-        ensures fits { length (left_of_predicate result) < 2 ^ 64 }
-        ensures few { limit_of_predicate result ≡ limit (predicate_price (bitmap_read (triples_listed self.now)) predicate) (bitmap_read (triples_listed self.now)) }
+    #[tactic(auto, unfolding(crate::specs::Left::left_of, crate::specs::Left::limit_of))]
+    pub(crate) fn find_predicate(&self, predicate: u64) -> Matches<'_>
+        ensures items { left_of result ≡ matches (of_predicate predicate) (triples_of (bitmap_read (triples_listed self.now))) }
+        ensures fits { length (left_of result) < 2 ^ 64 }
+        ensures few { limit_of result ≡ limit (predicate_price (bitmap_read (triples_listed self.now)) predicate) (bitmap_read (triples_listed self.now)) }
     {
         let mut steps = Steps::new();
         let rest = self.pairs_of(predicate, &mut steps);
-        PredicateMatches {
+        Matches::Predicate(PredicateMatches {
             indexed: &self.indexed,
             predicate,
             spot: Spot {
@@ -47,7 +48,7 @@ impl<'a> ListedTriples<'a> {
                 inside: false,
             },
             steps,
-        }
+        })
     }
 }
 
@@ -56,18 +57,19 @@ impl<'a> Iterator for PredicateMatches<'a> {
 
     ghost use Rattle.std.specs.Iterator.{YieldsFirst, MakesProgress, item_count};
     ghost use Rattle.std.specs.Prelude.{⊤};
-    ghost use Rattle.hdt_triples.specs.PredicateLeft.{left_of_predicate, limit_of_predicate, steps_of_predicate};
+    ghost use Rattle.hdt_triples.specs.Left.{left_of, limit_of, steps_of};
+    ghost use Rattle.hdt_triples.specs.declared.matches.Matches.TheVariants.{Predicate};
 
-    ghost next_gives = { YieldsFirst left_of_predicate };
+    ghost next_gives = { YieldsFirst (λ m. left_of (Predicate m)) };
 
-    ghost remaining = { item_count left_of_predicate };
+    ghost remaining = { item_count (λ m. left_of (Predicate m)) };
 
-    #[tactic(auto, unfolding(crate::specs::PredicateLeft::left_of_predicate, crate::specs::PredicateLeft::limit_of_predicate, crate::specs::PredicateLeft::steps_of_predicate))]
+    #[tactic(auto, unfolding(crate::specs::Left::left_of, crate::specs::Left::limit_of, crate::specs::Left::steps_of))]
     fn next(&mut self) -> Option<(u64, u64, u64)>
-        ensures steps { YieldsFirst left_of_predicate self.old result self.new }
-        ensures goes { MakesProgress (λ _. ⊤) (item_count left_of_predicate) self.old result self.new }
-        ensures same { limit_of_predicate self.new ≡ limit_of_predicate self.old }
-        ensures more { steps_of_predicate self.old ≤ steps_of_predicate self.new }
+        ensures steps { YieldsFirst (λ m. left_of (Predicate m)) self.old result self.new }
+        ensures goes { MakesProgress (λ _. ⊤) (item_count (λ m. left_of (Predicate m))) self.old result self.new }
+        ensures same { limit_of (Predicate self.new) ≡ limit_of (Predicate self.old) }
+        ensures more { steps_of (Predicate self.old) ≤ steps_of (Predicate self.new) }
     {
         if !self.spot.inside && self.spot.rest.is_empty() {
             return None;
@@ -77,17 +79,5 @@ impl<'a> Iterator for PredicateMatches<'a> {
         let object = entry(&indexed.triples.zs, spot.at, &mut self.steps);
         self.spot = indexed.triples.leave(spot, &mut self.steps);
         Some((spot.subject, self.predicate, object))
-    }
-}
-
-impl<'a> PredicateMatches<'a> {
-    ghost use Rattle.hdt_triples.specs.PredicateLeft.{limit_of_predicate, steps_of_predicate};
-
-    /// The law that at every moment the steps are few.
-    #[tactic(auto, unfolding(crate::specs::PredicateLeft::limit_of_predicate, crate::specs::PredicateLeft::steps_of_predicate))]
-    pub(crate) fn steps_are_few(&self)
-        ensures { steps_of_predicate self.now ≤ limit_of_predicate self.now }
-    {
-        let _ = &self.spot;
     }
 }

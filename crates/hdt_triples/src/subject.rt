@@ -7,6 +7,7 @@ ghost use Rattle.hdt_triples.specs.Views.{bitmap_read};
 ghost use Rattle.hdt_triples.specs.Walking.{StandsAt, triples_from};
 
 use crate::indexed::IndexedTriples;
+use crate::matches::Matches;
 use crate::pattern::Pattern;
 use crate::place::Place;
 use crate::triples::Triples;
@@ -28,25 +29,25 @@ pub struct SubjectMatches<'a> {
 
 impl<'a> IndexedTriples<'a> {
     ghost use Rattle.hdt_triples.specs.ListedViews.{triples_indexed};
-    ghost use Rattle.hdt_triples.specs.SubjectLeft.{left_of_subject, limit_of_subject};
+    ghost use Rattle.hdt_triples.specs.Left.{left_of, limit_of};
 
     /// The matches of a pattern that gives this subject.
-    #[tactic(auto, using(crate::proofs::SubjectLaws::matches_skipped), unfolding(crate::specs::SubjectLeft::left_of_subject, crate::specs::SubjectLeft::limit_of_subject))]
-    pub(crate) fn find_subject(&self, pattern: Pattern, subject: u64) -> SubjectMatches<'a>
+    #[tactic(auto, using(crate::proofs::SubjectLaws::matches_skipped), unfolding(crate::specs::Left::left_of, crate::specs::Left::limit_of))]
+    pub(crate) fn find_subject(&self, pattern: Pattern, subject: u64) -> Matches<'a>
         requires { pattern.s ≡ Some subject }
-        ensures items { left_of_subject result ≡ matches pattern (triples_of (bitmap_read (triples_indexed self.now))) }
-        ensures fits { length (left_of_subject result) < 2 ^ 64 }
-        ensures few { limit_of_subject result ≡ limit (subject_price (bitmap_read (triples_indexed self.now)) subject) (bitmap_read (triples_indexed self.now)) }
+        ensures items { left_of result ≡ matches pattern (triples_of (bitmap_read (triples_indexed self.now))) }
+        ensures fits { length (left_of result) < 2 ^ 64 }
+        ensures few { limit_of result ≡ limit (subject_price (bitmap_read (triples_indexed self.now)) subject) (bitmap_read (triples_indexed self.now)) }
     {
         let mut steps = Steps::new();
         let place = self.start_of(subject, &mut steps);
-        SubjectMatches {
+        Matches::Subject(SubjectMatches {
             triples: self.triples,
             pattern,
             subject,
             place,
             steps,
-        }
+        })
     }
 }
 
@@ -55,18 +56,19 @@ impl<'a> Iterator for SubjectMatches<'a> {
 
     ghost use Rattle.std.specs.Iterator.{YieldsFirst, MakesProgress, item_count};
     ghost use Rattle.std.specs.Prelude.{⊤};
-    ghost use Rattle.hdt_triples.specs.SubjectLeft.{left_of_subject, limit_of_subject, steps_of_subject};
+    ghost use Rattle.hdt_triples.specs.Left.{left_of, limit_of, steps_of};
+    ghost use Rattle.hdt_triples.specs.declared.matches.Matches.TheVariants.{Subject};
 
-    ghost next_gives = { YieldsFirst left_of_subject };
+    ghost next_gives = { YieldsFirst (λ m. left_of (Subject m)) };
 
-    ghost remaining = { item_count left_of_subject };
+    ghost remaining = { item_count (λ m. left_of (Subject m)) };
 
-    #[tactic(auto, using(crate::proofs::WalkLaws::matches_taken, crate::proofs::WalkLaws::matches_passed, crate::proofs::WalkLaws::matches_none, crate::proofs::SubjectLaws::matches_over, crate::proofs::SubjectLaws::pays_on), unfolding(crate::specs::SubjectLeft::left_of_subject, crate::specs::SubjectLeft::limit_of_subject, crate::specs::SubjectLeft::steps_of_subject))]
+    #[tactic(auto, using(crate::proofs::WalkLaws::matches_taken, crate::proofs::WalkLaws::matches_passed, crate::proofs::WalkLaws::matches_none, crate::proofs::SubjectLaws::matches_over, crate::proofs::SubjectLaws::pays_on), unfolding(crate::specs::Left::left_of, crate::specs::Left::limit_of, crate::specs::Left::steps_of))]
     fn next(&mut self) -> Option<(u64, u64, u64)>
-        ensures steps { YieldsFirst left_of_subject self.old result self.new }
-        ensures goes { MakesProgress (λ _. ⊤) (item_count left_of_subject) self.old result self.new }
-        ensures same { limit_of_subject self.new ≡ limit_of_subject self.old }
-        ensures more { steps_of_subject self.old ≤ steps_of_subject self.new }
+        ensures steps { YieldsFirst (λ m. left_of (Subject m)) self.old result self.new }
+        ensures goes { MakesProgress (λ _. ⊤) (item_count (λ m. left_of (Subject m))) self.old result self.new }
+        ensures same { limit_of (Subject self.new) ≡ limit_of (Subject self.old) }
+        ensures more { steps_of (Subject self.old) ≤ steps_of (Subject self.new) }
     {
         while self.place.at < self.triples.len() && self.place.subject == self.subject {
             let triple = self.triples.look(self.place, &mut self.steps);
@@ -76,17 +78,5 @@ impl<'a> Iterator for SubjectMatches<'a> {
             }
         }
         None
-    }
-}
-
-impl<'a> SubjectMatches<'a> {
-    ghost use Rattle.hdt_triples.specs.SubjectLeft.{limit_of_subject, steps_of_subject};
-
-    /// The law that at every moment the steps are few.
-    #[tactic(auto, unfolding(crate::specs::SubjectLeft::limit_of_subject, crate::specs::SubjectLeft::steps_of_subject))]
-    pub(crate) fn steps_are_few(&self)
-        ensures { steps_of_subject self.now ≤ limit_of_subject self.now }
-    {
-        let _ = &self.place;
     }
 }

@@ -5,6 +5,7 @@ ghost use Rattle.hdt_triples.specs.Patterns.{matches};
 ghost use Rattle.hdt_triples.specs.Views.{bitmap_read};
 ghost use Rattle.hdt_triples.specs.Walking.{StandsAt};
 
+use crate::matches::Matches;
 use crate::pattern::Pattern;
 use crate::place::Place;
 use crate::triples::Triples;
@@ -22,21 +23,23 @@ pub struct WalkMatches<'a> {
 }
 
 impl<'a> Triples<'a> {
-    ghost use Rattle.hdt_triples.specs.WalkLeft.{left_of_walk, limit_of_walk};
+    ghost use Rattle.hdt_triples.specs.Left.{left_of, limit_of};
 
-    /// The matches of a pattern, by a walk over all triples.
-    #[tactic(auto, using(crate::proofs::WalkLaws::from_start), unfolding(crate::specs::WalkLeft::left_of_walk, crate::specs::WalkLeft::limit_of_walk))]
-    pub(crate) fn find_walk(&self, pattern: Pattern) -> WalkMatches<'a>
-        ensures items { left_of_walk result ≡ matches pattern (triples_of (bitmap_read self.now)) }
-        ensures fits { length (left_of_walk result) < 2 ^ 64 }
-        ensures few { limit_of_walk result ≡ 4 * length (bitmap_read self.now).zs }
+    /// The matches of a pattern: exactly the triples that agree with each number that is given, once each, in the order of
+    /// the triples. The walk over all triples takes at most four looks a triple, and no memory.
+    #[tactic(auto, using(crate::proofs::WalkLaws::from_start), unfolding(crate::specs::Left::left_of, crate::specs::Left::limit_of))]
+    pub fn find(&self, pattern: Pattern) -> Matches<'a>
+        ensures items { left_of result ≡ matches pattern (triples_of (bitmap_read self.now)) }
+        // As many as fit, so they can be counted.
+        ensures fits { length (left_of result) < 2 ^ 64 }
+        ensures few { limit_of result ≡ 4 * length (bitmap_read self.now).zs }
     {
-        WalkMatches {
+        Matches::Walk(WalkMatches {
             triples: *self,
             pattern,
             place: self.first(),
             steps: Steps::new(),
-        }
+        })
     }
 }
 
@@ -45,18 +48,19 @@ impl<'a> Iterator for WalkMatches<'a> {
 
     ghost use Rattle.std.specs.Iterator.{YieldsFirst, MakesProgress, item_count};
     ghost use Rattle.std.specs.Prelude.{⊤};
-    ghost use Rattle.hdt_triples.specs.WalkLeft.{left_of_walk, limit_of_walk, steps_of_walk};
+    ghost use Rattle.hdt_triples.specs.Left.{left_of, limit_of, steps_of};
+    ghost use Rattle.hdt_triples.specs.declared.matches.Matches.TheVariants.{Walk};
 
-    ghost next_gives = { YieldsFirst left_of_walk };
+    ghost next_gives = { YieldsFirst (λ m. left_of (Walk m)) };
 
-    ghost remaining = { item_count left_of_walk };
+    ghost remaining = { item_count (λ m. left_of (Walk m)) };
 
-    #[tactic(auto, using(crate::proofs::WalkLaws::matches_taken, crate::proofs::WalkLaws::matches_passed, crate::proofs::WalkLaws::matches_none), unfolding(crate::specs::WalkLeft::left_of_walk, crate::specs::WalkLeft::limit_of_walk, crate::specs::WalkLeft::steps_of_walk))]
+    #[tactic(auto, using(crate::proofs::WalkLaws::matches_taken, crate::proofs::WalkLaws::matches_passed, crate::proofs::WalkLaws::matches_none), unfolding(crate::specs::Left::left_of, crate::specs::Left::limit_of, crate::specs::Left::steps_of))]
     fn next(&mut self) -> Option<(u64, u64, u64)>
-        ensures steps { YieldsFirst left_of_walk self.old result self.new }
-        ensures goes { MakesProgress (λ _. ⊤) (item_count left_of_walk) self.old result self.new }
-        ensures same { limit_of_walk self.new ≡ limit_of_walk self.old }
-        ensures more { steps_of_walk self.old ≤ steps_of_walk self.new }
+        ensures steps { YieldsFirst (λ m. left_of (Walk m)) self.old result self.new }
+        ensures goes { MakesProgress (λ _. ⊤) (item_count (λ m. left_of (Walk m))) self.old result self.new }
+        ensures same { limit_of (Walk self.new) ≡ limit_of (Walk self.old) }
+        ensures more { steps_of (Walk self.old) ≤ steps_of (Walk self.new) }
     {
         while self.place.at < self.triples.len() {
             let triple = self.triples.look(self.place, &mut self.steps);
@@ -66,17 +70,5 @@ impl<'a> Iterator for WalkMatches<'a> {
             }
         }
         None
-    }
-}
-
-impl<'a> WalkMatches<'a> {
-    ghost use Rattle.hdt_triples.specs.WalkLeft.{limit_of_walk, steps_of_walk};
-
-    /// The law that at every moment the steps are few.
-    #[tactic(auto, unfolding(crate::specs::WalkLeft::limit_of_walk, crate::specs::WalkLeft::steps_of_walk))]
-    pub fn steps_are_few(&self)
-        ensures { steps_of_walk self.now ≤ limit_of_walk self.now }
-    {
-        let _ = &self.place;
     }
 }

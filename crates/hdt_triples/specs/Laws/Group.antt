@@ -5,7 +5,7 @@ use Rattle.std.proofs.lemmas.List.{take_all, take_more}
 use Rattle.std.proofs.lemmas.List.Sums.{sum_by-cons}
 use Rattle.std.proofs.lemmas.Bool.{eqb-true, eq-eqb}
 use Rattle.hdt_seq.specs.Marks.{marks_before}
-use Rattle.hdt_seq.specs.Laws.Marks.{none_before}
+use Rattle.hdt_seq.specs.Laws.Marks.{none_before, marks_before_last}
 use Rattle.hdt_triples.specs.Groups.{last_marks, last_marks_from}
 
 marks_cons : (b : Bool) (bits : List Bool) (i : ℕ) → marks_before (b ∷ bits) (suc i) ≡ cond b 1 0 + marks_before bits i
@@ -89,6 +89,13 @@ module _ {X : Type 0} (same : X → X → Bool) where
     groups [] = none_before []
     groups (x ∷ xs) = ap (marks_before (last_marks_from same x xs)) (length-last_marks_from x xs) ∙ groups_from x xs
 
+-- the last place of a list that isn't empty is marked
+pub last_is_marked : {X : Type 0} (same : X → X → Bool) (xs : List X) → 0 < length xs → slice_get (last_marks same xs) (length (last_marks same xs) - 1) ≡ Some true
+last_is_marked same [] h = absurd (omega arith)
+last_is_marked same (x ∷ xs) h =
+    let e : length (last_marks_from same x xs) - 1 ≡ length xs = omega (arith, length-last_marks_from same x xs) in
+    ap (slice_get (last_marks_from same x xs)) e ∙ last_marked same x xs
+
 -- a loop's step over marks
 pub marks_more : {X : Type 0} (same : X → X → Bool) (xs : List X) (made : List Bool) (i : ℕ) (b : Bool) → i < length xs → b ≡ get_or (last_marks same xs) i false → made ≡ take i (last_marks same xs) → made ++ b ∷ [] ≡ take (i + 1) (last_marks same xs)
 marks_more same xs made i b h is front = (λ j. front j ++ is j ∷ []) ∙ sym (take_more (last_marks same xs) i false (omega (arith, length-last_marks same xs)))
@@ -117,28 +124,10 @@ module _ {X : Type 0} (same : X → X → Bool) (P : X → Type 0) where
 
 -- each mark's group is there
 module _ {X : Type 0} (same : X → X → Bool) (exact : (x y : X) → same x y ≡ true → x ≡ y) where
-  some_from : (k : X) (xs : List X) → 0 < length (dedup_from same k xs)
-  some_from k [] = omega arith
-  some_from k (x ∷ xs) = by (same x k) (some_from k xs)
-    where
-      by : (b : Bool) → 0 < length (dedup_from same k xs) → 0 < length (cond b (dedup_from same k xs) (k ∷ dedup_from same x xs))
-      by true h = h
-      by false h = omega arith
-
-  within_step : (k x : X) (xs : List X) (b : Bool) → same x k ≡ b → (n : ℕ) → n < length (dedup_from same x xs) → cond (not b) 1 0 + n < length (cond b (dedup_from same k xs) (k ∷ dedup_from same x xs))
-  within_step k x xs true e n h = let f = ap (λ y. length (dedup_from same y xs)) (exact x k e) in omega arith
-  within_step k x xs false e n h = omega arith
-
-  within_from : (k : X) (xs : List X) (i : ℕ) → i < suc (length xs) → marks_before (last_marks_from same k xs) i < length (dedup_from same k xs)
-  within_from k xs zero h = omega (arith, none_before (last_marks_from same k xs), some_from k xs)
-  within_from k [] (suc i) h = absurd (omega arith)
-  within_from k (x ∷ xs) (suc i) h =
-      subst (λ n. n < length (dedup_from same k (x ∷ xs))) (sym (marks_cons (not (same x k)) (last_marks_from same x xs) i))
-      (within_step k x xs (same x k) refl (marks_before (last_marks_from same x xs) i) (within_from x xs i (omega arith)))
-
   pub group_within : (xs : List X) (i : ℕ) → i < length xs → marks_before (last_marks same xs) i < length (dedup same xs)
-  group_within [] i h = absurd (omega arith)
-  group_within (x ∷ xs) i h = within_from x xs i h
+  group_within xs i h =
+      let long = length-last_marks same xs in
+      omega (arith, marks_before_last (last_marks same xs) i (last_is_marked same xs (omega (arith, h))) (omega (arith, h, long)), groups same exact xs)
 
   -- what holds of neighbours that differ holds of neighbouring groups
   module _ (R : X → X → Type 0) where
@@ -194,13 +183,6 @@ pub get_or-map_any : {X Y : Type 0} (f : X → Y) (xs : List X) (i : ℕ) (d : X
 get_or-map_any f [] i d = refl
 get_or-map_any f (x ∷ xs) zero d = refl
 get_or-map_any f (x ∷ xs) (suc i) d = get_or-map_any f xs i d
-
--- the last place of a list that isn't empty is marked
-pub last_is_marked : {X : Type 0} (same : X → X → Bool) (xs : List X) → 0 < length xs → slice_get (last_marks same xs) (length (last_marks same xs) - 1) ≡ Some true
-last_is_marked same [] h = absurd (omega arith)
-last_is_marked same (x ∷ xs) h =
-    let e : length (last_marks_from same x xs) - 1 ≡ length xs = omega (arith, length-last_marks_from same x xs) in
-    ap (slice_get (last_marks_from same x xs)) e ∙ last_marked same x xs
 
 pub first_group : {X : Type 0} (same : X → X → Bool) (xs : List X) (d : X) → get_or (dedup same xs) 0 d ≡ get_or xs 0 d
 first_group same [] d = refl

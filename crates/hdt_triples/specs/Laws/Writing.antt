@@ -1,13 +1,13 @@
 -- The four sequences of triples that can be written fit together, their triples by counting are those triples, and
 -- their bytes are read again, whatever stands around them.
-use Rattle.std.proofs.Common.{◌≡◌, ℕ, ◌+◌, ◌<◌, ◌≤◌, ◌^◌, ◌&&◌, Bool, true, false, nat_eq, List, [], ◌∷◌, ◌++◌, length, get_or, map, codes, Ok, Some, inl, inr, refl, ap, sym, ◌∙◌, subst, arith, eqb, not}
+use Rattle.std.proofs.Common.{◌≡◌, ℕ, ◌+◌, ◌<◌, ◌≤◌, ◌^◌, ◌&&◌, Bool, true, false, nat_eq, List, [], ◌∷◌, ◌++◌, length, get_or, map, codes, Some, inl, inr, refl, ap, sym, ◌∙◌, subst, arith, eqb, not}
 use Rattle.std.proofs.lemmas.Bool.{cases_lt, and_parts, eqb-true, eq-eqb, eqb-false}
 use Rattle.std.proofs.lemmas.List.{get_or-map, get_or_past, length-map, get_or_default, same_lists}
 use Rattle.std.proofs.lemmas.List.FromFn.{length-map-range_with_len, get_or-map-range_with_len}
 use Rattle.std.proofs.lemmas.List.Sums.{AllPass-from_list_all}
 use Rattle.hdt_wire.specs.declared.control.Kind.TheVariants as kinds
-use Rattle.hdt_wire.specs.Rows.{IsBytes, Stands}
-use Rattle.hdt_wire.specs.Laws.Row.{not-true, Stands-front, Stands-back, Stands-after}
+use Rattle.hdt_wire.specs.Rows.{Stands}
+use Rattle.hdt_wire.specs.Laws.Row.{not-true, Stands-front, Stands-back}
 use Rattle.hdt_wire.specs.Control.{HasNoZero, control}
 use Rattle.hdt_wire.specs.Property.{property_value}
 use Rattle.hdt_seq.specs.Marks.{marks_before}
@@ -24,8 +24,7 @@ use Rattle.hdt_triples.specs.Counting.{Triple, BitmapTriples, Counts, triple_at,
 use Rattle.hdt_triples.specs.Order.{triple_in, TripleLess, AreFew, AreWithin, AreWritable}
 use Rattle.hdt_triples.specs.Groups.{last_marks}
 use Rattle.hdt_triples.specs.Laws.Group.{length-last_marks, last_is_marked, group_at, group_within, groups, linked_groups, first_group, counted, all_groups, get_or-map_any}
-use Rattle.hdt_triples.specs.Triples.{IsTriples, triples_at}
-use Rattle.hdt_triples.specs.Laws.Triples.{triples_exact}
+use Rattle.hdt_triples.specs.Triples.{IsTriples}
 use Rattle.hdt_triples.specs.Writing.{pair_eq, all_pairs, pairs_of, sequences_of, ordered, canonical_sequences, sequences_parts, canonical_triples, canonical_triples_parts}
 
 pub pair_exact : (x y : ℕ × ℕ) → pair_eq x y ≡ true → x ≡ y
@@ -70,10 +69,6 @@ object_rises : (a b : Triple) → TripleLess a b → a.0 ≡ b.0 → a.1 ≡ b.1
 object_rises a b (inl lt) same alike = absurd (omega (arith, lt, same))
 object_rises a b (inr (first, inl lt)) same alike = absurd (omega (arith, lt, alike))
 object_rises a b (inr (first, inr one)) same alike = one.1
-
-not_false : (b : Bool) → not b ≡ false → b ≡ true
-not_false true h = refl
-not_false false h = cc
 
 module _ (ts : List Triple) (can : AreWritable ts) where
   abbrev subjects : List ℕ
@@ -340,10 +335,3 @@ triples_stand ts counts bytes at end can within low few h =
       predicates_fit = most_numbers ts can counts within low.0;
       objects_fit = most_objects ts can counts within low.1;
     }) h
-
--- they are read again, whatever stands before and after them
-pub triples_again : (ts : List Triple) (counts : Counts) (before after : List ℕ) → AreWritable ts → AreWithin counts ts → AreFew counts → length ts < 2 ^ 64
-    → IsBytes (before ++ canonical_triples ts ++ after) → triples_at counts (before ++ canonical_triples ts ++ after) (length before) ≡ Ok (canonical_triples_parts ts (length before))
-triples_again ts counts before after can within low few fits =
-    (triples_exact counts (before ++ canonical_triples ts ++ after) (length before) fits).only (canonical_triples_parts ts (length before))
-    (triples_stand ts counts (before ++ canonical_triples ts ++ after) (length before) (length before + length (canonical_triples ts)) can within low few (Stands-after before (canonical_triples ts) after))

@@ -1,7 +1,7 @@
 use Rattle.std.proofs.Common.{arith, ◌+◌, inl, inr}
 use Rattle.hdt_triples.specs.Views.{bitmap_read}
 use Rattle.hdt_seq.specs.Laws.Marks.{marks_mono}
-use Rattle.hdt_triples.proofs.PredicateLaws.{none_marked}
+use Rattle.hdt_seq.specs.Laws.Marks.{none_before}
 use Rattle.hdt_triples.proofs.RunLaws.{no_pairs, pairs_between, ordered}
 use Rattle.hdt_seq.specs.Laws.Bits.{bits_below}
 use Rattle.hdt_triples.proofs.indexed.IndexedTriples.pairs_of_subject.Goals as goal
@@ -22,7 +22,7 @@ returns-then-subject-eq1-clause-are c =
     let t = c.args.self.now.triples in
     let my = (bitmap_read t).my in
     pairs_between (bitmap_read t) c.args.subject 0 (c.select-high.result + 1) t.fit.marked (omega (arith, c.if-subject-eq1.true)) (omega arith) (omega (arith, c.select-high.ensures.within))
-    (omega (arith, none_marked my, c.if-subject-eq1.true)) c.select-high.ensures.through
+    (omega (arith, none_before my, c.if-subject-eq1.true)) c.select-high.ensures.through
     (λ q h. absurd (omega (arith, h))) (λ q h. omega (arith, c.select-high.ensures.is.before, marks_mono my q c.select-high.result (omega (arith, h))))
 
 pub returns-clause-are : goal.returns-clause-are

@@ -1,7 +1,8 @@
 use Rattle.std.proofs.Common.{arith, ◌-◌, sym, ◌∙◌, length}
+use Rattle.std.proofs.lemmas.Option.{none-some}
 use Rattle.hdt_seq.specs.Laws.Width.{digits_mono}
 use Rattle.hdt_triples.specs.Views.{bitmap_read}
-use Rattle.hdt_triples.proofs.RunLaws.{no_run, none_pair, pair_run, whole_run, before_run, objects_ascend, one_run, one_before, none_run, not_there}
+use Rattle.hdt_triples.proofs.RunLaws.{no_run, pair_run, whole_run, before_run, objects_ascend, one_run, one_before, none_run, not_there}
 use Rattle.hdt_triples.specs.CountsView.{counts_seen}
 use Rattle.hdt_triples.proofs.AscentLaws.{ascend_all}
 use Rattle.hdt_triples.proofs.indexed.IndexedTriples.run_of.Goals as goal
@@ -12,7 +13,7 @@ unfolding bitmap_read
 returns-in_default-clause-run c =
     let t = c.args.self.now.triples in
     no_run (bitmap_read t) c.args.pattern c.args.subject c.args.predicate t.fit.marked c.requires.subject_given c.requires.predicate_given
-    (λ q h. none_pair c.pair_with.result q c.in_default.is (c.pair_with.ensures.only q h))
+    (λ q h. none-some q (sym c.in_default.is ∙ c.pair_with.ensures.only q h))
 
 pub returns-in_default-o-clause-run : goal.returns-in_default-o-clause-run
 unfolding bitmap_read
@@ -76,7 +77,7 @@ returns-clause-run c =
     let d = c.end_of_pair-end.ensures in
     let p = c.place_from-place.ensures in
     let r = pair_run f c.args.subject c.args.predicate c.in-Some.pair c.start_of_pair-at.result c.end_of_pair-end.result c.in-Some.ensures.found c.in-Some.ensures.only e.within e.is e.earlier d.within d.below d.above in
-    none_run f c.args.pattern c.args.subject c.args.predicate c.in-Some-o.object c.in-Some.pair c.start_of_pair-at.result c.end_of_pair-end.result c.place_from-place.result t.fit.marked c.requires.subject_given c.requires.predicate_given c.in-Some-o.is r
+    none_run f c.args.pattern c.args.subject c.args.predicate c.in-Some-o.object c.in-Some.pair c.start_of_pair-at.result c.end_of_pair-end.result t.fit.marked c.requires.subject_given c.requires.predicate_given c.in-Some-o.is r
     (elim c.else-place-end.branch [
       | else-place-end-via-then-place-end+else-entry-object w ↦ not_there f c.start_of_pair-at.result c.end_of_pair-end.result c.place_from-place.result c.in-Some-o.object p.below p.above
           (objects_ascend f c.args.subject c.args.predicate c.in-Some.pair _ _ (ascend_all (counts_seen t.counts) (bitmap_read t) t.fit) r) p.low (λ h same. w.if-entry-object.false (w.entry.ensures.is ∙ same))

@@ -1,12 +1,12 @@
 use Rattle.std.proofs.Common.{arith, sym, ◌∙◌}
 use Rattle.hdt_triples.specs.Views.{bitmap_read}
 use Rattle.hdt_seq.specs.Laws.Marks.{marks_mono}
-use Rattle.hdt_triples.proofs.PredicateLaws.{none_before}
+use Rattle.hdt_seq.specs.Laws.Marks.{none_before}
 use Rattle.hdt_seq.specs.Laws.Bits.{bits_below}
 use Rattle.hdt_triples.proofs.indexed.IndexedTriples.start_of_pair.Goals as goal
 
 pub returns-then-pair-eq0-clause-is : goal.returns-then-pair-eq0-clause-is
-returns-then-pair-eq0-clause-is c = none_before (bitmap_read c.args.self.now.triples) ∙ sym c.if-pair-eq0.true
+returns-then-pair-eq0-clause-is c = none_before (bitmap_read c.args.self.now.triples).mz ∙ sym c.if-pair-eq0.true
 
 pub returns-clause-earlier : goal.returns-clause-earlier
 unfolding bitmap_read

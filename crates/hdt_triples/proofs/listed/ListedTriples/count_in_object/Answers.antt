@@ -1,11 +1,11 @@
 use Rattle.std.proofs.Common.{◌<◌, ◌∙◌, ap, arith, drop, length, map, refl, subst, sym}
-use Rattle.std.proofs.lemmas.Bool.{eqb-true}
+use Rattle.std.proofs.lemmas.Bool.{eqb-true, eqb-false}
 use Rattle.std.specs.List.{All}
 use Rattle.hdt_triples.specs.Counting.{triple_at}
 use Rattle.hdt_triples.specs.Lists.{IsPlaceOf}
 use Rattle.hdt_triples.specs.Patterns.{matches}
 use Rattle.hdt_triples.specs.Views.{bitmap_read}
-use Rattle.hdt_triples.proofs.ListsLaws.{eqb_false_ne, split_rest}
+use Rattle.hdt_triples.proofs.ListsLaws.{split_rest}
 use Rattle.hdt_triples.proofs.MatchingLaws.{in_object_on, object_count}
 use Rattle.hdt_triples.proofs.ObjectLaws.{among_behind, among_first, among_places, object_law, object_over}
 use Rattle.hdt_triples.proofs.WalkLaws.{matches_fit}
@@ -25,14 +25,14 @@ places-init c =
 pub predicate_at-requires : goal.predicate_at-requires
 predicate_at-requires c =
     let rest = c.places.rest.now in
-    let some : 0 < length rest = omega (arith, eqb_false_ne (length rest) 0 (sym c.is_empty.ensures ∙ c.places-test.true)) in
+    let some : 0 < length rest = omega (arith, eqb-false (length rest) 0 (sym c.is_empty.ensures ∙ c.places-test.true)) in
     (among_first (bitmap_read c.args.self.now.indexed.triples).zs c.args.object rest c.listed-at.result some c.listed-at.ensures.is c.places.invariant.among).0
 
 pub overflow_add-count : goal.overflow_add-count
 overflow_add-count c =
     let t = c.args.self.now.indexed.triples in
     let rest = c.places.rest.now in
-    let some : 0 < length rest = omega (arith, eqb_false_ne (length rest) 0 (sym c.is_empty.ensures ∙ c.places-test.true)) in
+    let some : 0 < length rest = omega (arith, eqb-false (length rest) 0 (sym c.is_empty.ensures ∙ c.places-test.true)) in
     omega (
       arith,
       c.places.invariant.so_far,
@@ -49,7 +49,7 @@ places-preserved c =
     let at = c.listed-at.result in
     let first = c.listed-at.ensures.is in
     let behind = c.split_at.ensures.back in
-    let some : 0 < length rest = omega (arith, eqb_false_ne (length rest) 0 (sym c.is_empty.ensures ∙ c.places-test.true)) in
+    let some : 0 < length rest = omega (arith, eqb-false (length rest) 0 (sym c.is_empty.ensures ∙ c.places-test.true)) in
     record {
       among = among_behind f.zs c.args.object rest js at some first behind c.places.invariant.among;
       so_far = omega (

@@ -1,10 +1,10 @@
 use Rattle.std.proofs.Common.{◌<◌, ◌*◌, ◌∙◌, ap, arith, drop, length, refl, sym}
-use Rattle.std.proofs.lemmas.Bool.{eqb-true}
+use Rattle.std.proofs.lemmas.Bool.{eqb-true, eqb-false}
 use Rattle.std.proofs.lemmas.List.{nil_from_length}
 use Rattle.hdt_triples.specs.Bounds.{jump, of_predicate}
 use Rattle.hdt_triples.specs.Patterns.{matches}
 use Rattle.hdt_triples.specs.Views.{bitmap_read}
-use Rattle.hdt_triples.proofs.ListsLaws.{eqb_false_ne, split_rest}
+use Rattle.hdt_triples.proofs.ListsLaws.{split_rest}
 use Rattle.hdt_triples.proofs.MatchingLaws.{between_on, pairs_pay_first, pairs_pay_on, predicate_on}
 use Rattle.hdt_triples.proofs.PredicateLaws.{between_first, next_of, predicate_over}
 use Rattle.hdt_triples.proofs.WalkLaws.{from_start, matches_fit}
@@ -24,7 +24,7 @@ edges-at-requires-clause-within c =
     let f = bitmap_read c.args.self.now.indexed.triples in
     let rest = c.pairs.rest.now in
     let at = c.pairs.invariant.so_far in
-    let some : 0 < length rest = omega (arith, eqb_false_ne (length rest) 0 (sym c.is_empty.ensures ∙ c.pairs-test.true)) in
+    let some : 0 < length rest = omega (arith, eqb-false (length rest) 0 (sym c.is_empty.ensures ∙ c.pairs-test.true)) in
     (next_of f c.args.predicate at.0 c.listed-pair.result rest (drop 1 rest) at.1 (split_rest rest (drop 1 rest) c.listed-pair.result some c.listed-pair.ensures.is refl)).within
 
 pub overflow_add-count : goal.overflow_add-count
@@ -34,7 +34,7 @@ overflow_add-count c =
     let f = bitmap_read t in
     let rest = c.pairs.rest.now in
     let at = c.pairs.invariant.so_far in
-    let some : 0 < length rest = omega (arith, eqb_false_ne (length rest) 0 (sym c.is_empty.ensures ∙ c.pairs-test.true)) in
+    let some : 0 < length rest = omega (arith, eqb-false (length rest) 0 (sym c.is_empty.ensures ∙ c.pairs-test.true)) in
     let e = c.edges-at.ensures.are in
     omega (
       arith,
@@ -53,7 +53,7 @@ pairs-preserved c =
     let rest = c.pairs.rest.now in
     let qs = c.split_at.result.1.now in
     let at = c.pairs.invariant.so_far in
-    let some : 0 < length rest = omega (arith, eqb_false_ne (length rest) 0 (sym c.is_empty.ensures ∙ c.pairs-test.true)) in
+    let some : 0 < length rest = omega (arith, eqb-false (length rest) 0 (sym c.is_empty.ensures ∙ c.pairs-test.true)) in
     let split = split_rest rest qs q some c.listed-pair.ensures.is c.split_at.ensures.back in
     let e = c.edges-at.ensures.are in
     let r = c.edges-at.result in

@@ -5,7 +5,7 @@ use Rattle.hdt_triples.specs.Counting.{triple_at}
 use Rattle.hdt_triples.specs.Lists.{IsPlaceOf}
 use Rattle.hdt_triples.specs.Patterns.{matches}
 use Rattle.hdt_triples.specs.Views.{bitmap_read}
-use Rattle.hdt_triples.specs.ObjectLeft.{left_of_object}
+use Rattle.hdt_triples.specs.Left.{left_of}
 use Rattle.hdt_triples.proofs.ObjectLaws.{among_places, object_law, object_pays_first}
 use Rattle.hdt_triples.proofs.WalkLaws.{matches_fit}
 use Rattle.hdt_triples.proofs.listed.ListedTriples.find_object.Goals as goal
@@ -22,11 +22,11 @@ invariant_of-result c =
     }
 
 pub returns-clause-items : goal.returns-clause-items
-unfolding left_of_object
+unfolding left_of
 returns-clause-items c =
     let f = bitmap_read c.args.self.now.indexed.triples in
     ap (λ js. matches c.args.pattern (map (triple_at f) js)) c.places_of-rest.ensures.is ∙ object_law c.args.pattern f c.args.object c.requires
 
 pub returns-clause-fits : goal.returns-clause-fits
-unfolding left_of_object
+unfolding left_of
 returns-clause-fits c = omega (arith, ap length (returns-clause-items c), matches_fit c.args.pattern c.args.self.now.indexed.triples)

@@ -2,7 +2,7 @@ use Rattle.std.proofs.Common.{arith, ◌≡◌, true, false, ap, length}
 use Rattle.hdt_triples.specs.Views.{bitmap_read}
 use Rattle.hdt_triples.proofs.PredicateLaws.{between_first, predicate_pays_first}
 use Rattle.hdt_triples.proofs.WalkLaws.{from_start, matches_fit}
-use Rattle.hdt_triples.specs.PredicateLeft.{left_of_predicate}
+use Rattle.hdt_triples.specs.Left.{left_of}
 use Rattle.hdt_triples.specs.Bounds.{of_predicate}
 use Rattle.hdt_triples.specs.Patterns.{matches}
 use Rattle.hdt_triples.proofs.listed.ListedTriples.find_predicate.Goals as goal
@@ -16,9 +16,9 @@ invariant_of-result c =
     }
 
 pub returns-clause-items : goal.returns-clause-items
-unfolding left_of_predicate
+unfolding left_of
 returns-clause-items c = ap (matches (of_predicate c.args.predicate)) (from_start (bitmap_read c.args.self.now.indexed.triples))
 
 pub returns-clause-fits : goal.returns-clause-fits
-unfolding left_of_predicate
+unfolding left_of
 returns-clause-fits c = omega (arith, ap length (returns-clause-items c), matches_fit (of_predicate c.args.predicate) c.args.self.now.indexed.triples)

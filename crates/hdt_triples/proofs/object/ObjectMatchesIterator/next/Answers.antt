@@ -3,7 +3,8 @@ use Rattle.std.proofs.lemmas.Bool.{eqb-true}
 use Rattle.hdt_triples.specs.Counting.{triple_at}
 use Rattle.hdt_triples.specs.Patterns.{agrees, matches}
 use Rattle.hdt_triples.specs.Views.{bitmap_read}
-use Rattle.hdt_triples.specs.ObjectLeft.{left_of_object, limit_of_object, steps_of_object}
+use Rattle.hdt_triples.specs.Left.{left_of, limit_of, steps_of}
+use Rattle.hdt_triples.specs.declared.matches.Matches.TheVariants.{Object}
 use Rattle.hdt_triples.proofs.GoingLaws.{goes_some}
 use Rattle.hdt_triples.proofs.ObjectLaws.{among_first, among_behind, object_pays_on, object_step, object_over}
 use Rattle.hdt_triples.proofs.object.ObjectMatchesIterator.next.Goals as goal
@@ -22,7 +23,7 @@ invariant_of-self c =
     }
 
 pub returns-then-takes-clause-steps : goal.returns-then-takes-clause-steps
-unfolding left_of_object limit_of_object
+unfolding left_of limit_of
 returns-then-takes-clause-steps c =
     let m = c.loop-self.self in
     let f = bitmap_read m.indexed.now.triples in
@@ -33,7 +34,7 @@ returns-then-takes-clause-steps c =
     ∙ ap (λ t. t ∷ matches m.pattern (map (triple_at f) c.split_at.result.1.now)) (sym is)
 
 pub loop-self-preserved : goal.loop-self-preserved
-unfolding left_of_object limit_of_object steps_of_object
+unfolding left_of limit_of steps_of
 loop-self-preserved c =
     let m = c.loop-self.self in
     let f = bitmap_read m.indexed.now.triples in
@@ -47,17 +48,17 @@ loop-self-preserved c =
     }
 
 pub returns-clause-steps : goal.returns-clause-steps
-unfolding left_of_object limit_of_object
+unfolding left_of limit_of
 returns-clause-steps c =
     let m = c.loop-self.self in
     let none = object_over m.pattern (bitmap_read m.indexed.now.triples) m.rest.now (eqb-true (length m.rest.now) 0 (sym c.is_empty.ensures ∙ c.loop-self-test.false)) in
     (sym c.loop-self.invariant.left ∙ none, none)
 
 pub returns-then-takes-clause-goes : goal.returns-then-takes-clause-goes
-returns-then-takes-clause-goes c = goes_some left_of_object _ _ _ (returns-then-takes-clause-steps c)
+returns-then-takes-clause-goes c = goes_some (λ m. left_of (Object m)) _ _ _ (returns-then-takes-clause-steps c)
 
 pub returns-then-takes-clause-more : goal.returns-then-takes-clause-more
-unfolding steps_of_object
+unfolding steps_of
 returns-then-takes-clause-more c = omega (arith, c.loop-self.invariant.more, c.listed-at.ensures.cost, c.triple_of_object-triple.ensures.more)
 
 pub returns-clause-more : goal.returns-clause-more

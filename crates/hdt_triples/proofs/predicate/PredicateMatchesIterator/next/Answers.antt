@@ -6,13 +6,14 @@ use Rattle.hdt_triples.specs.Counting.{Triple}
 use Rattle.hdt_triples.specs.Walking.{triples_from}
 use Rattle.hdt_triples.specs.Patterns.{matches}
 use Rattle.hdt_triples.specs.Views.{bitmap_read}
-use Rattle.hdt_triples.specs.PredicateLeft.{left_of_predicate}
+use Rattle.hdt_triples.specs.Left.{left_of}
+use Rattle.hdt_triples.specs.declared.matches.Matches.TheVariants.{Predicate}
 use Rattle.hdt_triples.proofs.GoingLaws.{goes_some}
 use Rattle.hdt_triples.proofs.PredicateLaws.{predicate_over, predicate_taken, predicate_pays_on}
 use Rattle.hdt_triples.proofs.predicate.PredicateMatchesIterator.next.Goals as goal
 
 pub returns-then-is_empty-clause-steps : goal.returns-then-is_empty-clause-steps
-unfolding left_of_predicate bitmap_read
+unfolding left_of bitmap_read
 returns-then-is_empty-clause-steps c =
     let m = c.args.self.now in
     let none = predicate_over (bitmap_read m.indexed.now.triples) m.predicate m.spot.at m.spot.rest.now m.indexed.now.triples.fit.marked (m.stands.between c.if-not-self.true)
@@ -36,7 +37,7 @@ invariant_of-self c =
     }
 
 pub returns-clause-steps : goal.returns-clause-steps
-unfolding left_of_predicate bitmap_read
+unfolding left_of bitmap_read
 returns-clause-steps c =
     let m = c.args.self.now in
     let f = bitmap_read m.indexed.now.triples in
@@ -48,4 +49,4 @@ returns-clause-steps c =
     ∙ ap (λ j. let t : Triple = (spot.subject, m.predicate, c.entry-object.result) in t ∷ rest j) (sym c.leave-self.ensures.at)
 
 pub returns-clause-goes : goal.returns-clause-goes
-returns-clause-goes c = goes_some left_of_predicate _ _ _ (returns-clause-steps c)
+returns-clause-goes c = goes_some (λ m. left_of (Predicate m)) _ _ _ (returns-clause-steps c)

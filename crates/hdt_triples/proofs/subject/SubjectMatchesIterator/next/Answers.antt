@@ -3,7 +3,7 @@ use Rattle.hdt_triples.specs.Counting.{subject_at}
 use Rattle.hdt_triples.specs.Walking.{triples_from}
 use Rattle.hdt_triples.specs.Bounds.{Pays, subject_price}
 use Rattle.hdt_triples.specs.Views.{bitmap_read}
-use Rattle.hdt_triples.specs.SubjectLeft.{left_of_subject}
+use Rattle.hdt_triples.specs.Left.{left_of}
 use Rattle.hdt_triples.proofs.SubjectLaws.{matches_over, pays_on}
 use Rattle.hdt_triples.proofs.subject.SubjectMatchesIterator.next.Goals as goal
 
@@ -21,7 +21,7 @@ invariant_of-self c =
     }
 
 pub returns-else-self-clause-steps : goal.returns-else-self-clause-steps
-unfolding left_of_subject
+unfolding left_of
 returns-else-self-clause-steps c =
     let m = c.loop-self.self in
     let none = matches_over m.pattern m.subject (bitmap_read m.triples) m.place m.given m.stands (omega (arith, m.reached (omega (arith, c.loop-self-test.true, c.len.ensures)), c.if-self.false)) in
