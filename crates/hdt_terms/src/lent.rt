@@ -5,9 +5,9 @@ ghost use Rattle.hdt_terms.specs.Terms.{IsText};
 ghost use Rattle.hdt_terms.specs.Strings.{TermOf, SuffixOf, suffix_seen, term_seen, kind_of};
 
 use crate::chars::is_absolute;
+use crate::encoding::is_ascii_text;
 use crate::iri::is_iri;
 use crate::label::is_label;
-use crate::lanes::{Class, run_len};
 use crate::tag::is_tag;
 use crate::term::{Kind, Suffix, Term};
 use crate::text::Text;
@@ -86,13 +86,6 @@ pub fn kind_of(term: LentTerm<'_>) -> Kind
         LentTerm::Blank(_) => Kind::Blank,
         LentTerm::Literal(_, _) => Kind::Literal,
     }
-}
-
-/// Whether the bytes are ASCII without U+0000, as those of most terms.
-fn is_ascii_text(bytes: &[u8]) -> bool
-    ensures { IsTrue result → IsText bytes.now }
-{
-    run_len(Class::AsciiText, bytes) == bytes.len()
 }
 
 /// Whether the bytes are UTF-8 without U+0000, by two looks at each.
