@@ -154,10 +154,7 @@ triple_found text triple utf8 e =
     } in
     subst (SpelledTriple text) (ok_is _ triple d.2) made
 
-abbrev read : Triple → Result Triple TermFault
-read triple = Ok triple
-
-located_ok : (text : List ℕ) (triple : Triple) (r : Result Triple Stop) → located text r ≡ read triple → r ≡ Ok triple
+located_ok : (text : List ℕ) (triple : Triple) (r : Result Triple Stop) → located text r ≡ Ok triple → r ≡ Ok triple
 located_ok text triple (Ok x) e = cc
 located_ok text triple (Err stop) e = absurd cc
 

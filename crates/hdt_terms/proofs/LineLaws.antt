@@ -5,33 +5,18 @@ use Rattle.hdt_terms.specs.declared.fault.TermFault.{TermFault}
 use Rattle.hdt_terms.specs.declared.triple.Triple.{Triple}
 use Rattle.hdt_terms.specs.LineReading.{is_bare, line_triple, as_line, line_in, LineFaultStands}
 use Rattle.hdt_terms.specs.Lines.{Line}
-use Rattle.hdt_terms.proofs.Cases.{chosen}
+use Rattle.hdt_terms.proofs.Cases.{chosen, done, ok_is, err_is, ok_or_err}
 use Rattle.hdt_terms.proofs.LawsLemmas.{checked_utf8}
 use Rattle.hdt_terms.proofs.LineAgain.{line_again}
 use Rattle.hdt_terms.proofs.LineFound.{bare_found, line_found}
 use Rattle.hdt_terms.proofs.Tops.{checked_ok}
 
-abbrev read : Option Triple → Result (Option Triple) TermFault
-read x = Ok x
-
-read_is : (x y : Option Triple) → read x ≡ read y → x ≡ y
-read_is x y e = cc
-
-abbrev refused : TermFault → Result (Option Triple) TermFault
-refused fault = Err fault
-
-refused_is : (f g : TermFault) → refused f ≡ refused g → f ≡ g
-refused_is f g e = cc
-
-read_or_refused : (x : Option Triple) (fault : TermFault) → read x ≡ refused fault → ⊥
-read_or_refused x fault e = cc
-
-as_line_found : (text : List ℕ) (r : Result Triple TermFault) (x : Option Triple) → IsUtf8 text → line_triple text ≡ r → as_line r ≡ read x → Line text x
+as_line_found : (text : List ℕ) (r : Result Triple TermFault) (x : Option Triple) → IsUtf8 text → line_triple text ≡ r → as_line r ≡ done x → Line text x
 as_line_found text (Ok triple) None utf8 h e = absurd cc
 as_line_found text (Ok triple) (Some other) utf8 h e = let is : Ok triple ≡ Ok other = cc in line_found text other utf8 (h ∙ is)
 as_line_found text (Err fault) x utf8 h e = absurd cc
 
-bare_line : (text : List ℕ) (x : Option Triple) → IsUtf8 text → is_bare text ≡ true → read None ≡ read x → Line text x
+bare_line : (text : List ℕ) (x : Option Triple) → IsUtf8 text → is_bare text ≡ true → done {E = TermFault} None ≡ done x → Line text x
 bare_line text None utf8 b e = (utf8, bare_found text b)
 bare_line text (Some triple) utf8 b e = absurd cc
 
@@ -39,7 +24,7 @@ pub line_read : (text : List ℕ) (x : Option Triple) → line_in text ≡ Ok x 
 unfolding line_in
 line_read text x e =
     let utf8 = checked_utf8 text _ x e in
-    elim (chosen (is_bare text) (read None) (as_line (line_triple text)) (read x) (sym (checked_ok text _ utf8) ∙ e)) [
+    elim (chosen (is_bare text) (done None) (as_line (line_triple text)) (done x) (sym (checked_ok text _ utf8) ∙ e)) [
       | inl p ↦ bare_line text x utf8 p.0 p.1
       | inr p ↦ as_line_found text (line_triple text) x utf8 refl p.1
     ]
@@ -52,10 +37,10 @@ line_or_fault text = case (line_in text) refl
     case (Err fault) e = inr (fault, e)
 
 pub apart : (text : List ℕ) (x : Option Triple) (fault : TermFault) → Line text x → LineFaultStands text fault → ⊥
-apart text x fault line stands = read_or_refused x fault (sym (line_again text x line) ∙ stands)
+apart text x fault line stands = ok_or_err x fault (sym (line_again text x line) ∙ stands)
 
 pub one_line : (text : List ℕ) (x y : Option Triple) → Line text x → Line text y → x ≡ y
-one_line text x y hx hy = read_is x y (sym (line_again text x hx) ∙ line_again text y hy)
+one_line text x y hx hy = ok_is x y (sym (line_again text x hx) ∙ line_again text y hy)
 
 pub one_fault : (text : List ℕ) (f g : TermFault) → LineFaultStands text f → LineFaultStands text g → f ≡ g
-one_fault text f g hf hg = refused_is f g (sym hf ∙ hg)
+one_fault text f g hf hg = err_is g f (sym hg ∙ hf)

@@ -11,7 +11,7 @@ use Rattle.hdt_terms.specs.RawReading.{RawAsked, raw_letter, raw_at, tab_at, not
 use Rattle.hdt_terms.specs.RawRequests.{SpelledByte, SpelledRaw, SpelledRawRequest, RawRequestLine}
 use Rattle.hdt_terms.specs.Reading.{◌>>=◌, stops, with_front}
 use Rattle.hdt_terms.specs.RequestReading.{as_asked, asked_in}
-use Rattle.hdt_terms.proofs.Cases.{bind_ok, chosen, ok_is}
+use Rattle.hdt_terms.proofs.Cases.{bind_ok, chosen, done, ok_is}
 use Rattle.hdt_terms.proofs.LawsLemmas.{checked_utf8}
 use Rattle.hdt_terms.proofs.LineAgain.{bare_again}
 use Rattle.hdt_terms.proofs.LineFound.{bare_found}
@@ -139,17 +139,14 @@ raw_request_again text asked h =
 
 -- ---- its line
 
-abbrev read : Option RawAsked → Result (Option RawAsked) TermFault
-read x = Ok x
-
-line_of_found : (text : List ℕ) (r : Result RawAsked Stop) (x : Option RawAsked) → IsUtf8 text → is_bare text ≡ false → raw_request_at text ≡ r → as_asked (located text r) ≡ read x → RawRequestLine text x
+line_of_found : (text : List ℕ) (r : Result RawAsked Stop) (x : Option RawAsked) → IsUtf8 text → is_bare text ≡ false → raw_request_at text ≡ r → as_asked (located text r) ≡ done x → RawRequestLine text x
 line_of_found text (Ok asked) None utf8 b h e = absurd cc
 line_of_found text (Ok asked) (Some other) utf8 b h e =
     let is : Ok asked ≡ Ok other = cc in
     (utf8, λ bare. absurd (let both : true ≡ false = sym (bare_again text bare) ∙ b in cc), raw_request_found text other (h ∙ is))
 line_of_found text (Err stop) x utf8 b h e = absurd cc
 
-bare_line : (text : List ℕ) (x : Option RawAsked) → IsUtf8 text → is_bare text ≡ true → read None ≡ read x → RawRequestLine text x
+bare_line : (text : List ℕ) (x : Option RawAsked) → IsUtf8 text → is_bare text ≡ true → done {E = TermFault} None ≡ done x → RawRequestLine text x
 bare_line text None utf8 b e = (utf8, bare_found text b)
 bare_line text (Some asked) utf8 b e = absurd cc
 
@@ -157,7 +154,7 @@ pub raw_line_found : (text : List ℕ) (x : Option RawAsked) → raw_request_in 
 unfolding asked_in
 raw_line_found text x e =
     let utf8 = checked_utf8 text _ x e in
-    elim (chosen (is_bare text) (read None) (as_asked (located text (raw_request_at text))) (read x) (sym (checked_ok text _ utf8) ∙ e)) [
+    elim (chosen (is_bare text) (done None) (as_asked (located text (raw_request_at text))) (done x) (sym (checked_ok text _ utf8) ∙ e)) [
       | inl p ↦ bare_line text x utf8 p.0 p.1
       | inr p ↦ line_of_found text (raw_request_at text) x utf8 p.0 refl p.1
     ]

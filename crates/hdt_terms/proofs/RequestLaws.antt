@@ -16,7 +16,7 @@ use Rattle.hdt_terms.specs.Lines.{Line}
 use Rattle.hdt_terms.specs.declared.triple.Triple.{Triple}
 use Rattle.hdt_terms.specs.Requests.{Asked, RequestLine, whole_triple}
 use Rattle.hdt_terms.specs.Table.{not_utf8_at}
-use Rattle.hdt_terms.proofs.Cases.{chosen}
+use Rattle.hdt_terms.proofs.Cases.{chosen, done, ok_is, err_is, ok_or_err}
 use Rattle.hdt_terms.proofs.FaultTable.{not_valid}
 use Rattle.hdt_terms.proofs.LawsLemmas.{checked_utf8}
 use Rattle.hdt_terms.proofs.LineFound.{bare_found}
@@ -51,27 +51,12 @@ module _ {A : Type 0} (text : List ℕ) (read : Result A Stop) (utf8 : IsUtf8 te
 
 -- ---- the laws
 
-abbrev read : Option Asked → Result (Option Asked) TermFault
-read x = Ok x
-
-read_is : (x y : Option Asked) → read x ≡ read y → x ≡ y
-read_is x y e = cc
-
-abbrev refused : TermFault → Result (Option Asked) TermFault
-refused fault = Err fault
-
-refused_is : (f g : TermFault) → refused f ≡ refused g → f ≡ g
-refused_is f g e = cc
-
-read_or_refused : (x : Option Asked) (fault : TermFault) → read x ≡ refused fault → ⊥
-read_or_refused x fault e = cc
-
-asked_of_found : (text : List ℕ) (r : Result Asked Stop) (x : Option Asked) → IsUtf8 text → request_at text ≡ r → as_asked (located text r) ≡ read x → RequestLine text x
+asked_of_found : (text : List ℕ) (r : Result Asked Stop) (x : Option Asked) → IsUtf8 text → request_at text ≡ r → as_asked (located text r) ≡ done x → RequestLine text x
 asked_of_found text (Ok asked) None utf8 h e = absurd cc
 asked_of_found text (Ok asked) (Some other) utf8 h e = let is : Ok asked ≡ Ok other = cc in (utf8, request_found text other utf8 (h ∙ is))
 asked_of_found text (Err stop) x utf8 h e = absurd cc
 
-bare_line : (text : List ℕ) (x : Option Asked) → IsUtf8 text → is_bare text ≡ true → read None ≡ read x → RequestLine text x
+bare_line : (text : List ℕ) (x : Option Asked) → IsUtf8 text → is_bare text ≡ true → done {E = TermFault} None ≡ done x → RequestLine text x
 bare_line text None utf8 b e = (utf8, bare_found text b)
 bare_line text (Some asked) utf8 b e = absurd cc
 
@@ -79,7 +64,7 @@ pub asked_found : (text : List ℕ) (x : Option Asked) → request_in text ≡ O
 unfolding asked_in
 asked_found text x e =
     let utf8 = checked_utf8 text _ x e in
-    elim (chosen (is_bare text) (read None) (as_asked (located text (request_at text))) (read x) (sym (checked_ok text _ utf8) ∙ e)) [
+    elim (chosen (is_bare text) (done None) (as_asked (located text (request_at text))) (done x) (sym (checked_ok text _ utf8) ∙ e)) [
       | inl p ↦ bare_line text x utf8 p.0 p.1
       | inr p ↦ asked_of_found text (request_at text) x utf8 refl p.1
     ]
@@ -92,13 +77,13 @@ request_or_fault text = case (request_in text) refl
     case (Err fault) e = inr (fault, e)
 
 pub apart : (text : List ℕ) (x : Option Asked) (fault : TermFault) → RequestLine text x → RequestFaultStands text fault → ⊥
-apart text x fault line stands = read_or_refused x fault (sym (asked_again text x line) ∙ stands)
+apart text x fault line stands = ok_or_err x fault (sym (asked_again text x line) ∙ stands)
 
 pub one_request : (text : List ℕ) (x y : Option Asked) → RequestLine text x → RequestLine text y → x ≡ y
-one_request text x y hx hy = read_is x y (sym (asked_again text x hx) ∙ asked_again text y hy)
+one_request text x y hx hy = ok_is x y (sym (asked_again text x hx) ∙ asked_again text y hy)
 
 pub one_fault : (text : List ℕ) (f g : TermFault) → RequestFaultStands text f → RequestFaultStands text g → f ≡ g
-one_fault text f g hf hg = refused_is f g (sym hf ∙ hg)
+one_fault text f g hf hg = err_is g f (sym hg ∙ hf)
 
 -- a line of a document is a request for its triple
 pub triple_asked : (text : List ℕ) (x : Option Triple) → Line text x → RequestLine text (option_map whole_triple x)
