@@ -1,12 +1,11 @@
 -- A request of dictionary strings is what is read of its line.
 use Rattle.std.proofs.Common.{◌≡◌, ◌≢◌, ℕ, true, false, eqb, ne_eqb, List, [], ◌∷◌, ◌++◌, Option, Some, None, Result, Ok, Err, refl, sym, ap, subst, ◌∙◌, append_assoc, append-nil, inl, inr}
 use Rattle.std.specs.Prelude.{IsUtf8}
-use Rattle.std.proofs.lemmas.Bool.{eq-eqb, eqb-true}
+use Rattle.std.proofs.lemmas.Bool.{eq-eqb, eqb-true, cases_Bool, false_from_ne_true}
 use Rattle.hdt_terms.specs.declared.fault.LineReason.TheVariants.{Syntax}
 use Rattle.hdt_terms.specs.declared.fault.Stop.{Stop}
 use Rattle.hdt_terms.specs.declared.fault.TermFault.{TermFault}
 use Rattle.hdt_terms.specs.LineReading.{is_bare, located}
-use Rattle.hdt_terms.specs.Lines.{IsBare}
 use Rattle.hdt_terms.specs.RawReading.{RawAsked, raw_letter, raw_at, tab_at, nothing_at, raw_request_at, raw_request_in}
 use Rattle.hdt_terms.specs.RawRequests.{SpelledByte, SpelledRaw, SpelledRawRequest, RawRequestLine}
 use Rattle.hdt_terms.specs.Reading.{◌>>=◌, stops, with_front}
@@ -17,7 +16,6 @@ use Rattle.hdt_terms.proofs.LineAgain.{bare_again}
 use Rattle.hdt_terms.proofs.LineFound.{bare_found}
 use Rattle.hdt_terms.proofs.Raws.{at_tab, at_byte, at_escape, at_bad, nothing_there}
 use Rattle.hdt_terms.proofs.RequestLaws.{bare_asked, read_asked}
-use Rattle.hdt_terms.proofs.Running.{either}
 use Rattle.hdt_terms.proofs.Tops.{checked_ok}
 
 -- ---- a string
@@ -48,13 +46,13 @@ not_eqb c d e is = let both : true ≡ false = sym (eq-eqb c d is) ∙ e in cc
 found_at : (c : ℕ) (rest : List ℕ) (read : List ℕ × List ℕ) → ((x : List ℕ × List ℕ) → raw_at rest ≡ Ok x → RawFound rest x) → (raw_at (92 ∷ rest) ≡ Ok read → RawFound (92 ∷ rest) read)
     → raw_at (c ∷ rest) ≡ Ok read → RawFound (c ∷ rest) read
 found_at c rest read behind escaped e =
-    elim (either (eqb c 9)) [
+    elim (cases_Bool (eqb c 9)) [
       | inl t ↦
           let tab = eqb-true c 9 t in
           subst (RawFound (c ∷ rest)) (ok_is ([], c ∷ rest) read (ap (λ l. Ok ([], l ∷ rest)) tab ∙ sym (at_tab rest) ∙ ap (λ l. raw_at (l ∷ rest)) (sym tab) ∙ e))
           (record { text = []; whole = refl; spelled = refl; ends = tab })
       | inr t ↦
-          elim (either (eqb c 92)) [
+          elim (cases_Bool (eqb c 92)) [
             | inl s ↦
                 let slash = eqb-true c 92 s in
                 subst (λ l. RawFound (l ∷ rest) read) (sym slash) (escaped (ap (λ l. raw_at (l ∷ rest)) (sym slash) ∙ e))
@@ -159,13 +157,6 @@ raw_line_found text x e =
       | inr p ↦ line_of_found text (raw_request_at text) x utf8 p.0 refl p.1
     ]
 
-not_bare : (text : List ℕ) → (IsBare text → ⊥) → is_bare text ≡ false
-not_bare text none =
-    elim (either (is_bare text)) [
-      | inl b ↦ absurd (none (bare_found text b))
-      | inr b ↦ b
-    ]
-
 pub raw_line_again : (text : List ℕ) (x : Option RawAsked) → RawRequestLine text x → raw_request_in text ≡ Ok x
 raw_line_again text None h = bare_asked text _ h.0 (bare_again text h.1)
-raw_line_again text (Some asked) h = read_asked text _ h.0 asked (not_bare text h.1) (raw_request_again text asked h.2)
+raw_line_again text (Some asked) h = read_asked text _ h.0 asked (false_from_ne_true (is_bare text) (λ b. h.1 (bare_found text b))) (raw_request_again text asked h.2)

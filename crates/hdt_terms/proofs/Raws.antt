@@ -1,8 +1,7 @@
 -- Reading dictionary strings in a line, step by step.
-use Rattle.std.proofs.Common.{◌≡◌, ◌≢◌, ℕ, false, eqb, ne_eqb, List, [], ◌∷◌, ◌++◌, length, Option, Some, None, Result, Ok, Err, refl, sym, ap, ◌∙◌, append_assoc, arith}
+use Rattle.std.proofs.Common.{◌≡◌, ◌≢◌, ℕ, false, eqb, ne_eqb, List, [], ◌∷◌, ◌++◌, length, Option, Some, None, Ok, Err, refl, sym, ap, ◌∙◌, arith}
 use Rattle.std.proofs.lemmas.List.{append-nil}
 use Rattle.hdt_terms.specs.declared.fault.LineReason.TheVariants.{BadEscape}
-use Rattle.hdt_terms.specs.declared.fault.Stop.{Stop}
 use Rattle.hdt_terms.specs.Appending.{Appended, itself}
 use Rattle.hdt_terms.specs.RawReading.{raw_letter, raw_escape, raw_from, raw_at}
 use Rattle.hdt_terms.specs.Reading.{stops, with_front}
