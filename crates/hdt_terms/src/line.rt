@@ -60,27 +60,18 @@ fn read_end(bytes: &[u8]) -> Result<(), ReadError>
     Ok(())
 }
 
-/// The term of the role that begins here, and the bytes after it.
-#[tactic(auto, unfolding(crate::specs::LineReading::role_here))]
-fn read_here(alloc: Global, role: Role, bytes: &[u8]) -> Result<(Term, &[u8]), ReadError>
-    requires { IsUtf8 bytes.now }
-    ensures reads { GivesRead (λ x. (x.0, x.1.now)) result (role_here role bytes.now) }
-    ensures utf8 { IfOk result (λ x. IsUtf8 x.1.now) }
-{
-    match bytes.split_first() {
-        Some((first, _)) if begins(role, *first) => read_term(alloc, bytes),
-        _ => refuse(LineReason::Syntax, bytes.len()),
-    }
-}
-
 /// The term of the role behind tabs and spaces, and the bytes after it.
-#[tactic(auto, unfolding(crate::specs::LineReading::role_at))]
+#[tactic(auto, unfolding(crate::specs::LineReading::role_at, crate::specs::LineReading::role_here))]
 fn read_role(alloc: Global, role: Role, bytes: &[u8]) -> Result<(Term, &[u8]), ReadError>
     requires { IsUtf8 bytes.now }
     ensures reads { GivesRead (λ x. (x.0, x.1.now)) result (role_at role bytes.now) }
     ensures utf8 { IfOk result (λ x. IsUtf8 x.1.now) }
 {
-    read_here(alloc, role, after_blanks(bytes))
+    let bytes = after_blanks(bytes);
+    match bytes.split_first() {
+        Some((first, _)) if begins(role, *first) => read_term(alloc, bytes),
+        _ => refuse(LineReason::Syntax, bytes.len()),
+    }
 }
 
 /// Appends the string of the term of the role that begins here, and answers the bytes after it.
