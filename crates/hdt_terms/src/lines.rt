@@ -95,13 +95,6 @@ impl Lines {
         })
     }
 
-    /// Whether the last line was taken.
-    fn has_ended(&self) -> bool
-        ensures { result ≡ self.now.ended }
-    {
-        self.ended
-    }
-
     /// Reads until the text of the next line is held, and answers how many bytes it has, and whether it was seen that they
     /// are UTF-8.
     fn hold_line<R: Read>(&mut self, input: &mut Counted<R>) -> Result<(usize, bool), LineReason>
@@ -254,7 +247,7 @@ impl Lines {
                 Err(fault) => return Err(fault),
             }
             self.take(n);
-            if self.has_ended() {
+            if self.ended {
                 return Ok(None);
             }
         }

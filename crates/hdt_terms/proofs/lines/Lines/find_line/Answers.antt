@@ -22,19 +22,19 @@ returns-in-Err-look-clause-does g c =
     let held = c.in-Ok.ensures in
     look_fault _ c.lines.self c.hold_line.new.self c.hold_line.new.self _ _ _ c.in-Ok.found.0 _ before.0 before.1 before.2 held.does held.others held.within c.in-Err-look.fault c.in-Err-look.ensures
 
-pub returns-then-has_ended-clause-does : goal.returns-then-has_ended-clause-does
-returns-then-has_ended-clause-does g c =
+pub returns-then-self-clause-does : goal.returns-then-self-clause-does
+returns-then-self-clause-does g c =
     let before = c.lines.invariant.taken in
     let held = c.in-Ok.ensures in
     let taken = held_taken _ c.lines.self c.hold_line.new.self c.take.new.self _ _ _ c.in-Ok.found.0 _ before.0 before.1 before.2 held.does held.others held.within c.lines.invariant.going c.take.ensures in
-    rest_taken _ c.lines.self c.take.new.self _ _ _ before.0 _ before.1 before.2 taken (rw c.in-Ok-true.field-0-test at c.in-Ok-true.ensures) (sym c.has_ended.ensures ∙ c.if-has_ended.true)
+    rest_taken _ c.lines.self c.take.new.self _ _ _ before.0 _ before.1 before.2 taken (rw c.in-Ok-true.field-0-test at c.in-Ok-true.ensures) (ap (λ (s : State). s.ended) (sym c.self-in-lines.view_is) ∙ c.if-self.true)
 
 pub lines-preserved : goal.lines-preserved
 lines-preserved g c =
     let before = c.lines.invariant.taken in
     let held = c.in-Ok.ensures in
     let taken = held_taken _ c.lines.self c.hold_line.new.self c.take.new.self _ _ _ c.in-Ok.found.0 _ before.0 before.1 before.2 held.does held.others held.within c.lines.invariant.going c.take.ensures in
-    let going = sym c.has_ended.ensures ∙ c.if-has_ended.false in
+    let going = ap (λ (s : State). s.ended) (sym c.self-in-lines.view_is) ∙ c.if-self.false in
     record {
       taken = bare_taken _ c.lines.self c.take.new.self _ _ _ before.0 _ before.1 before.2 taken (rw c.in-Ok-true.field-0-test at c.in-Ok-true.ensures) going;
       going = going;
