@@ -130,13 +130,6 @@ impl Lines {
         if self.ended { self.ends + 1 } else { self.ends }
     }
 
-    /// The fault is the answer from now on.
-    fn fail(&mut self, fault: LineFault)
-        ensures { self.new ≡ record self.old { failed = Some fault } }
-    {
-        self.failed = Some(fault);
-    }
-
     /// Whether the line of n bytes at the front is bare; refuses one that is not UTF-8, which may be seen already.
     fn look(&self, n: usize, is_text: bool) -> Result<bool, LineFault>
         requires within { n ≤ length self.now.held }
@@ -339,7 +332,7 @@ impl Lines {
         match self.take_triple(input) {
             Ok(found) => Ok(found),
             Err(fault) => {
-                self.fail(fault);
+                self.failed = Some(fault);
                 Err(fault)
             }
         }
@@ -390,7 +383,7 @@ impl Lines {
             }
             Err(fault) => {
                 clear_all(s, p, o);
-                self.fail(fault);
+                self.failed = Some(fault);
                 Err(fault)
             }
         }
@@ -463,7 +456,7 @@ impl Lines {
         match self.take_text(input, text) {
             Ok(()) => Ok(true),
             Err(fault) => {
-                self.fail(fault);
+                self.failed = Some(fault);
                 Err(fault)
             }
         }
