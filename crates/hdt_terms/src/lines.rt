@@ -29,13 +29,6 @@ fn line_ends_of(after_cr: bool, n: usize, end: u8) -> u64
     }
 }
 
-/// Whether the byte before is still the last one after n bytes, none of which is a carriage return.
-fn keeps_cr(after_cr: bool, n: usize) -> bool
-    ensures { result ≡ (after_cr && n == 0) }
-{
-    after_cr && n == 0
-}
-
 /// The triples of a document, line by line, over any reader in any pieces (W3C RDF 1.1 N-Triples, by the profile of
 /// docs/NTRIPLES.md).
 ///
@@ -212,7 +205,7 @@ impl Lines {
         ensures { self.new ≡ record (take_of self.old (length self.old.held)) { ended = true } }
     {
         let n = self.held.len();
-        self.after_cr = keeps_cr(self.after_cr, n);
+        self.after_cr &= n == 0;
         self.held.skip(n);
         self.taken += n as u64;
         self.ended = true;
