@@ -3,6 +3,7 @@ use Rattle.std.proofs.Common.{◌≡◌, ℕ, suc, ◌+◌, ◌<◌, Bool, true,
 use Rattle.std.proofs.lemmas.Bool.{eqb-true, ne_eqb}
 use Rattle.std.proofs.lemmas.List.{length-append, length-take-le, take_more, take_all}
 use Rattle.std.proofs.lemmas.List.Elements.{All-head, All-tail, filter_map-append}
+use Rattle.std.specs.Int.{from_bool}
 use Rattle.std.proofs.KnownBytes.{Consumes-trans}
 use Rattle.std.proofs.Math.Bool.{and-true, and-false}
 use Rattle.hdt_terms.specs.declared.triple.Triple.{Triple}
@@ -103,6 +104,10 @@ BareLines-append bs cs p q = record {
 }
 
 -- what is kept of a line that is taken
+
+pub one_unless : (b : Bool) → from_bool (not b) ≡ cond {A = ℕ} b 0 1
+one_unless true = refl
+one_unless false = refl
 
 pub take_ended_is : (s : State) (n more : ℕ) (cr : Bool) (held : List ℕ) → n < length s.held → NoEnd (take n s.held) → is_end (get_or s.held n 0) ≡ true
     → held ≡ drop (n + 1) s.held → more ≡ cond {A = ℕ} ((s.after_cr && eqb n 0) && eqb (get_or s.held n 0) 10) 0 1 → cr ≡ eqb (get_or s.held n 0) 13

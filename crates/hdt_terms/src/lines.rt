@@ -17,18 +17,6 @@ use std::alloc::{AllocError, Global};
 use std::io::Read;
 use std::marker::Model;
 
-/// How many line ends a line with its end adds: none where the end is a line feed behind the carriage return before.
-fn line_ends_of(after_cr: bool, n: usize, end: u8) -> u64
-    ensures value { result ≡ (if after_cr && n == 0 && end == 10 then 0 else 1) }
-    ensures bound { result ≤ 1 }
-{
-    if after_cr && n == 0 && end == b'\n' {
-        0
-    } else {
-        1
-    }
-}
-
 /// The triples of a document, line by line, over any reader in any pieces (W3C RDF 1.1 N-Triples, by the profile of
 /// docs/NTRIPLES.md).
 ///
@@ -192,8 +180,9 @@ impl Lines {
         ensures { self.new ≡ take_of self.old (n + 1) }
     {
         let end = self.held.as_slice()[n];
-        let more = line_ends_of(self.after_cr, n, end);
-        self.ends += more;
+        // A line feed behind the carriage return before ends no other line.
+        let same = self.after_cr & (n == 0) & (end == b'\n');
+        self.ends += u64::from(!same);
         self.after_cr = end == b'\r';
         self.held.skip(n + 1);
         self.taken += n as u64 + 1;
