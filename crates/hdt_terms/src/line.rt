@@ -2,7 +2,7 @@
 ghost use Rattle.std.specs.Prelude.{◌≡◌, [], ◌<◌, ◌^◌, length, IfOk, IsUtf8};
 ghost use Rattle.hdt_terms.specs.Appending.{AppendsRead};
 ghost use Rattle.hdt_terms.specs.Faults.{IsRead};
-ghost use Rattle.hdt_terms.specs.LineReading.{begins, role_here, role_at, is_comment, is_bare, closed_at, line_triple_at, line_triple, Fills, HoldsTriple};
+ghost use Rattle.hdt_terms.specs.LineReading.{begins, role_here, role_at, is_comment, is_bare, bare_at, closed_at, line_triple_at, line_triple, Fills, HoldsTriple};
 ghost use Rattle.hdt_terms.specs.Reading.{GivesRead};
 ghost use Rattle.hdt_terms.specs.Terms.{str};
 
@@ -27,7 +27,7 @@ fn begins(role: Role, first: u8) -> bool
 }
 
 /// Nothing, or a comment.
-pub fn is_comment(bytes: &[u8]) -> bool
+fn is_comment(bytes: &[u8]) -> bool
     ensures { result ≡ is_comment bytes.now }
 {
     match bytes.split_first() {
@@ -44,6 +44,16 @@ pub fn is_bare(text: &[u8]) -> bool
     is_comment(after_blanks(text))
 }
 
+/// Nothing stands here, or a comment.
+pub fn read_bare(bytes: &[u8]) -> Result<(), ReadError>
+    ensures { GivesRead (λ _. tt) result (bare_at bytes.now) }
+{
+    if !is_comment(bytes) {
+        return refuse(LineReason::Syntax, bytes.len());
+    }
+    Ok(())
+}
+
 /// The full stop behind tabs and spaces, and then nothing or a comment.
 #[tactic(auto, unfolding(crate::specs::LineReading::closed_at))]
 fn read_end(bytes: &[u8]) -> Result<(), ReadError>
@@ -53,11 +63,7 @@ fn read_end(bytes: &[u8]) -> Result<(), ReadError>
     let [b'.', behind @ ..] = bytes else {
         return refuse(LineReason::Syntax, bytes.len());
     };
-    let behind = after_blanks(behind);
-    if !is_comment(behind) {
-        return refuse(LineReason::Syntax, behind.len());
-    }
-    Ok(())
+    read_bare(after_blanks(behind))
 }
 
 /// The term of the role behind tabs and spaces, and the bytes after it.

@@ -1,12 +1,11 @@
 //! Reading a request: a line of three words, each a term or `?` for any.
 ghost use Rattle.std.specs.Prelude.{◌≡◌, [], IfOk, IsUtf8};
 ghost use Rattle.hdt_terms.specs.RequestReading.{part_at, stop_at, request_at, request_in, FillsPart, FillsAsked, HoldsRequest};
-ghost use Rattle.hdt_terms.specs.LineReading.{bare_at};
 ghost use Rattle.hdt_terms.specs.Reading.{GivesRead};
 
 use crate::encoding::check_utf8;
 use crate::fault::{LineReason, ReadError, TermFault, fault_of, refuse};
-use crate::line::{append_here, is_bare, is_comment};
+use crate::line::{append_here, is_bare, read_bare};
 use crate::literal::after_blanks;
 use hdt_wire::Role;
 
@@ -34,16 +33,6 @@ fn put_part<'a>(
         Ok(rest) => Ok((true, rest)),
         Err(error) => Err(error),
     }
-}
-
-/// Nothing, or a comment.
-fn read_bare(bytes: &[u8]) -> Result<(), ReadError>
-    ensures { GivesRead (λ _. tt) result (bare_at bytes.now) }
-{
-    if !is_comment(bytes) {
-        return refuse(LineReason::Syntax, bytes.len());
-    }
-    Ok(())
 }
 
 /// A full stop or none behind tabs and spaces, and then nothing or a comment.
