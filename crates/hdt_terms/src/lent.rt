@@ -126,10 +126,7 @@ fn suffix_of(bytes: &[u8]) -> Option<LentSuffix<'_>>
     if let Some(tag) = behind(b"@", bytes) {
         return tag_of(tag);
     }
-    match behind(b"^^<", bytes) {
-        Some(rest) => datatype_of(rest),
-        None => None,
-    }
+    datatype_of(behind(b"^^<", bytes)?)
 }
 
 /// The suffix for these bytes behind `@`.
@@ -146,9 +143,7 @@ fn tag_of(tag: &[u8]) -> Option<LentSuffix<'_>>
 fn datatype_of(rest: &[u8]) -> Option<LentSuffix<'_>>
     ensures { SuffixOf (94 ∷ 94 ∷ 60 ∷ rest.now) (option_map suffix_seen result) }
 {
-    let Some(iri) = before(rest, b">") else {
-        return None;
-    };
+    let iri = before(rest, b">")?;
     if !is_iri(iri) {
         return None;
     }
@@ -160,14 +155,9 @@ fn literal_of(rest: &[u8]) -> Option<LentTerm<'_>>
     requires { IsText rest.now }
     ensures { TermOf (34 ∷ rest.now) (option_map term_seen result) }
 {
-    let Some(at) = memrchr(b'"', rest) else {
-        return None;
-    };
+    let at = memrchr(b'"', rest)?;
     let (text, quote) = rest.split_at(at);
-    match suffix_of(quote.split_at(1).1) {
-        Some(suffix) => Some(LentTerm::Literal(text, suffix)),
-        None => None,
-    }
+    Some(LentTerm::Literal(text, suffix_of(quote.split_at(1).1)?))
 }
 
 /// The blank node for these bytes behind `_:`.

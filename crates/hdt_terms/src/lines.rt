@@ -391,7 +391,7 @@ impl Lines {
             Ok(found) => found,
             Err(reason) => return Err(self.fault(0, reason)),
         };
-        match put_text(&self.held.as_slice()[..n], text) {
+        match text.extend_from_slice(&self.held.as_slice()[..n]) {
             Ok(()) => {}
             Err(AllocError) => return Err(self.fault(0, LineReason::OutOfMemory)),
         }
@@ -443,15 +443,6 @@ impl Lines {
             }
         }
     }
-}
-
-/// Puts the text into the buffer, which is empty.
-fn put_text(text: &[u8], out: &mut Vec<u8>) -> Result<(), AllocError>
-    requires { out.old.items ≡ [] }
-    ensures ok { OnOk result (out.new.items ≡ text.now) }
-    ensures err { OnErr result (out.new.items ≡ []) }
-{
-    out.extend_from_slice(text)
 }
 
 /// Empties the buffers.

@@ -25,13 +25,8 @@ fn letter(letter: u8) -> Option<u8>
 fn letter_at(rest: &[u8]) -> Option<(u8, &[u8])>
     ensures { IsLetterAt (λ x. x.0) (λ x. x.1.now) rest.now result }
 {
-    let Some((first, behind)) = rest.split_first() else {
-        return None;
-    };
-    match letter(*first) {
-        Some(byte) => Some((byte, behind)),
-        None => None,
-    }
+    let (first, behind) = rest.split_first()?;
+    Some((letter(*first)?, behind))
 }
 
 /// Appends the string that stands here, its escapes resolved, and answers the bytes from the tab behind it on.

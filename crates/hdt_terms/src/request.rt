@@ -29,10 +29,8 @@ fn put_part<'a>(
     if *first == b'?' {
         return Ok((false, rest));
     }
-    match append_here(role, bytes, out) {
-        Ok(rest) => Ok((true, rest)),
-        Err(error) => Err(error),
-    }
+    let rest = append_here(role, bytes, out)?;
+    Ok((true, rest))
 }
 
 /// A full stop or none behind tabs and spaces, and then nothing or a comment.
