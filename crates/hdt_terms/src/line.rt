@@ -1,5 +1,5 @@
 //! Reading one line.
-ghost use Rattle.std.specs.Prelude.{◌≡◌, [], ◌<◌, ◌^◌, length, IfOk, IsUtf8};
+ghost use Rattle.std.specs.Prelude.{◌≡◌, [], ◌<◌, IfOk, IsUtf8};
 ghost use Rattle.hdt_terms.specs.Appending.{AppendsRead};
 ghost use Rattle.hdt_terms.specs.Faults.{IsRead};
 ghost use Rattle.hdt_terms.specs.LineReading.{begins, role_here, role_at, is_comment, is_bare, bare_at, closed_at, line_triple_at, line_triple, Fills, HoldsTriple};

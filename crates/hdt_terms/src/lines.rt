@@ -1,5 +1,5 @@
 //! The lines of a document, over any reader in any pieces.
-ghost use Rattle.std.specs.Prelude.{◌≡◌, ◌≢◌, ◌+◌, ◌-◌, ◌==◌, ◌&&◌, if◌then◌else◌, take, slice_index, nat_lt, ◌^◌, ◌<◌, ◌≤◌, true, false, [], length, IfOk, OnOk, OnErr, IfErr, IsErrOf, IsUtf8, None, Some, Ok, Err, IfSome};
+ghost use Rattle.std.specs.Prelude.{◌≡◌, ◌≢◌, ◌+◌, ◌-◌, ◌==◌, take, slice_index, ◌^◌, ◌<◌, ◌≤◌, true, false, [], length, IfOk, OnOk, OnErr, IfErr, IsErrOf, IsUtf8, None, Some, Ok, Err, IfSome};
 ghost use Rattle.hdt_wire.specs.Counted.{inner, failures};
 ghost use Rattle.hdt_terms.specs.Chars.{is_end};
 ghost use Rattle.hdt_terms.specs.Inside.Filling.{Filled, text_len};
@@ -53,10 +53,9 @@ impl Model for Lines {
 }
 
 impl Lines {
-    ghost use Rattle.std.specs.Prelude.{List, ℕ};
     ghost use Rattle.hdt_terms.specs.LineReading.{is_bare};
     ghost use Rattle.hdt_terms.specs.TakingText.{TakesText, StandsNext, AnswersText, NoText};
-    ghost use Rattle.hdt_terms.specs.Taking.{State, start, left, line_number, take_of, take_line, Looked, Parsed, ParsedStrings, Ready, FindsLine, TakesNext, AnswersStrings, NoStrings};
+    ghost use Rattle.hdt_terms.specs.Taking.{State, start, left, line_number, take_of, take_line, Looked, Parsed, ParsedStrings, FindsLine, TakesNext, AnswersStrings, NoStrings};
 
     /// A reader of lines that has taken nothing. The input may have so many bytes at most: where it has more,
     /// [`LineReason::TooLong`] stands behind the lines that are whole within the limit. It allocates 64 KiB, whatever the limit.

@@ -1,7 +1,7 @@
 //! Reading a request of dictionary strings.
-ghost use Rattle.std.specs.Prelude.{◌≡◌, ◌++◌, [], Ok, Err, Option, MatchOption, IfOk};
+ghost use Rattle.std.specs.Prelude.{◌≡◌, [], Ok, Err, Option};
 ghost use Rattle.hdt_terms.specs.Appending.{AppendsRead, itself};
-ghost use Rattle.hdt_terms.specs.RawReading.{raw_letter, raw_escape, raw_at, tab_at, nothing_at, raw_request_at, raw_request_in, is_raw_given, FillsRaw, HoldsRaw, IsLetterAt};
+ghost use Rattle.hdt_terms.specs.RawReading.{raw_letter, raw_at, tab_at, nothing_at, raw_request_at, raw_request_in, is_raw_given, FillsRaw, HoldsRaw, IsLetterAt};
 ghost use Rattle.hdt_terms.specs.Reading.{GivesRead};
 
 use crate::encoding::check_utf8;
