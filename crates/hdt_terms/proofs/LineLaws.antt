@@ -6,10 +6,9 @@ use Rattle.hdt_terms.specs.declared.fault.ReadError.{ReadError}
 use Rattle.hdt_terms.specs.declared.fault.ReadError.TheVariants as errors
 use Rattle.hdt_terms.specs.declared.fault.Stop.{Stop}
 use Rattle.hdt_terms.specs.declared.fault.TermFault.{TermFault}
-use Rattle.hdt_terms.specs.Faults.{FaultOf, checked, out_of_memory}
+use Rattle.hdt_terms.specs.Faults.{FaultOf, checked, out_of_memory, not_utf8_at}
 use Rattle.hdt_terms.specs.LineReading.{is_bare, located, as_line, unless_bare}
 use Rattle.hdt_terms.specs.Reading.{Fails}
-use Rattle.hdt_terms.specs.Table.{not_utf8_at}
 use Rattle.hdt_terms.proofs.Cases.{chosen, done, ok_is}
 use Rattle.hdt_terms.proofs.FaultTable.{not_valid}
 use Rattle.hdt_terms.proofs.LawsLemmas.{checked_utf8}

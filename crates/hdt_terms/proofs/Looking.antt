@@ -6,8 +6,7 @@ use Rattle.hdt_terms.specs.declared.fault.LineFault.{LineFault}
 use Rattle.hdt_terms.specs.declared.fault.LineReason.TheVariants.{NotUtf8}
 use Rattle.hdt_terms.specs.declared.fault.TermFault.{TermFault}
 use Rattle.hdt_terms.specs.LineReading.{is_bare, line_triple}
-use Rattle.hdt_terms.specs.Faults.{out_of_memory}
-use Rattle.hdt_terms.specs.Table.{not_utf8_at}
+use Rattle.hdt_terms.specs.Faults.{out_of_memory, not_utf8_at}
 use Rattle.hdt_terms.specs.Taking.{State, Looked, FaultOfTriple}
 use Rattle.hdt_terms.proofs.LineFound.{bare_found}
 use Rattle.hdt_terms.proofs.LineLaws.{not_utf8_line}

@@ -2,7 +2,7 @@
 ghost use Rattle.std.specs.Prelude.{◌≡◌, ◌↔◌, IsTrue, MatchResult};
 ghost use Rattle.std.specs.Str.{IsUtf8};
 ghost use Rattle.std.specs.Str.Lossy.{utf8_valid_len};
-ghost use Rattle.hdt_terms.specs.Table.{not_utf8_at};
+ghost use Rattle.hdt_terms.specs.Faults.{not_utf8_at};
 ghost use Rattle.hdt_terms.specs.Terms.{IsText};
 
 use crate::fault::{LineReason, TermFault};
