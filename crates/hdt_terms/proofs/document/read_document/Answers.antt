@@ -17,14 +17,6 @@ returns-in-Ok-None-clause-found g c =
     (λ going. document_rest c.args.limit c.triples.lines c.next_triple.new.self _ _ _ _ (inv.going going) (rw c.in-Ok-None.field-0-is at c.in-Ok-None.ensures.answers inv.failed going))
     (cases_Bool c.triples.lines.ended)
 
-pub triples-smaller : goal.triples-smaller
-triples-smaller g c =
-    let inv = c.triples.invariant in
-    let read = c.in-Ok-Some.ensures in
-    let going : c.triples.lines.ended ≡ false = false_from_ne_true _ (λ end. cc ((read.ended inv.failed end).0, c.in-Ok-Some.field-0-is)) in
-    let size = triple_size _ _ c.triples.lines c.next_triple.new.self c.in-Ok-Some.triple (rw c.in-Ok-Some.field-0-is at read.answers inv.failed going) in
-    omega (arith, size.0, size.1, size.2)
-
 pub triples-preserved : goal.triples-preserved
 triples-preserved g c =
     let inv = c.triples.invariant in

@@ -13,6 +13,3 @@ returns-clause-apart c = apart Line line_in line_is line_again
 
 pub returns-clause-one_line : goal.returns-clause-one_line
 returns-clause-one_line c = one Line line_in line_is line_again
-
-pub returns-clause-one_fault : goal.returns-clause-one_fault
-returns-clause-one_fault c = one_fault line_in

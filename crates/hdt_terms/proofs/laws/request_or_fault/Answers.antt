@@ -14,9 +14,6 @@ returns-clause-apart c = apart RequestLine request_in asked_found asked_again
 pub returns-clause-one_request : goal.returns-clause-one_request
 returns-clause-one_request c = one RequestLine request_in asked_found asked_again
 
-pub returns-clause-one_fault : goal.returns-clause-one_fault
-returns-clause-one_fault c = one_fault request_in
-
 pub returns-clause-found : goal.returns-clause-found
 returns-clause-found c = asked_found
 
