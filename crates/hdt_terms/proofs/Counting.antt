@@ -3,7 +3,9 @@ use Rattle.std.proofs.Common.{◌≡◌, ℕ, suc, ◌+◌, ◌<◌, Bool, true,
 use Rattle.std.proofs.lemmas.Bool.{eqb-true, ne_eqb}
 use Rattle.std.proofs.lemmas.List.{length-append, length-take-le, take_more, take_all}
 use Rattle.std.proofs.lemmas.List.Elements.{All-head, All-tail, filter_map-append}
+use Rattle.std.specs.Int.{from_bool}
 use Rattle.std.proofs.KnownBytes.{Consumes-trans}
+use Rattle.std.proofs.Math.Bool.{and-true, and-false}
 use Rattle.hdt_terms.specs.declared.triple.Triple.{Triple}
 use Rattle.hdt_terms.specs.Chars.{is_end}
 use Rattle.hdt_terms.specs.Lines.{NoEnd, EndedLines, BareLines, line_ends, ends_in_cr}
@@ -34,17 +36,9 @@ ends_in_cr-no_end cr [] p h = absurd (omega (arith, h))
 ends_in_cr-no_end cr (b ∷ []) p h = head_no_cr b [] p
 ends_in_cr-no_end cr (b ∷ c ∷ bs) p h = ends_in_cr-no_end (eqb b 13) (c ∷ bs) (All-tail (λ x. is_end x ≡ false) b (c ∷ bs) p) (omega arith)
 
-and_true : (b : Bool) → (b && true) ≡ b
-and_true true = refl
-and_true false = refl
-
-and_false : (b p : Bool) → p ≡ false → (b && p) ≡ false
-and_false true p e = e
-and_false false p e = refl
-
 pub cr_of_no_end : (cr : Bool) (text : List ℕ) → NoEnd text → ends_in_cr cr text ≡ (cr && eqb (length text) 0)
-cr_of_no_end cr [] p = sym (and_true cr)
-cr_of_no_end cr (b ∷ bs) p = ends_in_cr-no_end cr (b ∷ bs) p (omega arith) ∙ sym (and_false cr _ (ne_eqb (suc (length bs)) 0 (λ z. absurd (omega (arith, z)))))
+cr_of_no_end cr [] p = sym (and-true cr)
+cr_of_no_end cr (b ∷ bs) p = ends_in_cr-no_end cr (b ∷ bs) p (omega arith) ∙ sym (ap (λ p. cr && p) (ne_eqb (suc (length bs)) 0 (λ z. absurd (omega (arith, z)))) ∙ and-false cr)
 
 -- a text and its end
 
@@ -110,6 +104,10 @@ BareLines-append bs cs p q = record {
 }
 
 -- what is kept of a line that is taken
+
+pub one_unless : (b : Bool) → from_bool (not b) ≡ cond {A = ℕ} b 0 1
+one_unless true = refl
+one_unless false = refl
 
 pub take_ended_is : (s : State) (n more : ℕ) (cr : Bool) (held : List ℕ) → n < length s.held → NoEnd (take n s.held) → is_end (get_or s.held n 0) ≡ true
     → held ≡ drop (n + 1) s.held → more ≡ cond {A = ℕ} ((s.after_cr && eqb n 0) && eqb (get_or s.held n 0) 10) 0 1 → cr ≡ eqb (get_or s.held n 0) 13

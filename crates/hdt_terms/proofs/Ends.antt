@@ -1,6 +1,6 @@
 -- Line ends of bytes that grow.
-use Rattle.std.proofs.Common.{◌≡◌, ℕ, ◌+◌, ◌-◌, ◌<◌, ◌≤◌, false, List, ◌++◌, length, take, drop, get_or, Option, Some, Ok, Err, inl, inr, sym, refl, ap, subst, ◌∙◌, arith, append_assoc}
-use Rattle.std.proofs.lemmas.List.{length-take-le, take_at, take_all, length-drop, get_or-take, get_or-drop}
+use Rattle.std.proofs.Common.{◌≡◌, ℕ, ◌+◌, ◌-◌, ◌<◌, ◌≤◌, false, List, ◌++◌, length, take, drop, get_or, Option, Some, Ok, Err, inl, inr, sym, ap, subst, ◌∙◌, arith, append_assoc}
+use Rattle.std.proofs.lemmas.List.{length-take-le, take_all, length-drop, get_or-take, get_or-drop}
 use Rattle.std.proofs.lemmas.List.Elements.{All-append, All-from_get_or}
 use Rattle.std.proofs.KnownBytes.{Consumes-trans, Consumes-kept}
 use Rattle.std.specs.Io.KnownBytes.{Keeps}
@@ -17,9 +17,6 @@ use Rattle.hdt_terms.specs.Inside.Filling.{Grew, FoundEnd, ReadMore, LineFront, 
 
 pub Grew-trans : (x y z : List ℕ) (a b c : Option (List ℕ)) → Grew x y a b → Grew y z b c → Grew x z a c
 Grew-trans x y z a b c p q = (p.0 ++ q.0, q.1 ∙ ap (λ l. l ++ q.0) p.1 ∙ append_assoc x p.0 q.0, Consumes-trans a b c p.0 q.0 p.2 q.2)
-
-pub NoEnd-front : (old new more : List ℕ) → new ≡ old ++ more → NoEnd old → NoEnd (take (length old) new)
-NoEnd-front old new more grew p = subst NoEnd (sym (ap (take (length old)) grew ∙ take_at old more (length old) refl)) p
 
 -- ---- the first line end, where none stands in a front
 

@@ -12,7 +12,7 @@ use Rattle.hdt_terms.specs.declared.term.Term.TheVariants as terms
 use Rattle.hdt_terms.specs.declared.triple.Triple.{Triple}
 use Rattle.hdt_terms.specs.Chars.{is_blank, is_pn_chars}
 use Rattle.hdt_terms.specs.Labels.{label_rest, dotted}
-use Rattle.hdt_terms.specs.LineReading.{begins, role_here, role_at, is_comment, is_bare, closed_here, closed_at, line_triple_at, line_triple, line_in}
+use Rattle.hdt_terms.specs.LineReading.{begins, role_here, role_at, is_comment, is_bare, closed_here, closed_at, line_triple_at, line_in}
 use Rattle.hdt_terms.specs.Lines.{IsComment, IsBare, IsSubject, IsPredicate, SpelledTriple, Line}
 use Rattle.hdt_terms.specs.Reading.{after_blanks, suffix_after, suffix_at, term_at}
 use Rattle.hdt_terms.specs.Spelling.{AreBlanks, Spelled, SpelledTerm}
@@ -20,7 +20,7 @@ use Rattle.hdt_terms.proofs.Bools.{and_first}
 use Rattle.hdt_terms.proofs.LineFound.{IsOf}
 use Rattle.hdt_terms.proofs.LiteralAgain.{after_blanks-blanks, Closes, ClosesTerm, term_again}
 use Rattle.hdt_terms.proofs.TagFound.{Ends}
-use Rattle.hdt_terms.proofs.Tops.{checked_ok}
+use Rattle.hdt_terms.proofs.LineLaws.{bare_line, read_line}
 use Rattle.hdt_terms.proofs.Utf8.{unblanked}
 
 -- ---- bare lines
@@ -180,6 +180,5 @@ module _ (text : List ℕ) (triple : Triple) (h : SpelledTriple text triple) whe
 -- ---- a line
 
 pub line_again : (text : List ℕ) (x : Option Triple) → Line text x → line_in text ≡ Ok x
-unfolding line_in line_triple
-line_again text None h = checked_ok text _ h.0 ∙ rw (bare_again text h.1) refl
-line_again text (Some triple) h = checked_ok text _ h.0 ∙ rw (triple_not_bare text triple h.1, triple_again text triple h.1) refl
+line_again text None h = bare_line text _ h.0 (bare_again text h.1)
+line_again text (Some triple) h = read_line text _ h.0 triple (triple_not_bare text triple h.1) (triple_again text triple h.1)

@@ -1,7 +1,6 @@
 -- What is read of a line is spelled there.
-use Rattle.std.proofs.Common.{◌≡◌, ℕ, true, false, eqb, List, [], ◌∷◌, ◌++◌, Some, Result, Ok, Err, refl, ap, subst, ◌∙◌, inl, inr}
+use Rattle.std.proofs.Common.{◌≡◌, ℕ, true, false, eqb, List, [], ◌∷◌, ◌++◌, Option, Some, Result, Ok, Err, refl, ap, subst, ◌∙◌, inl, inr}
 use Rattle.std.specs.Prelude.{IsUtf8}
-use Rattle.std.specs.Str.Lossy.{utf8_valid_len}
 use Rattle.std.proofs.lemmas.Bool.{eqb-true}
 use Rattle.hdt_terms.specs.declared.fault.LineReason.TheVariants.{Syntax}
 use Rattle.hdt_terms.specs.declared.fault.Stop.{Stop}
@@ -11,14 +10,12 @@ use Rattle.hdt_wire.specs.declared.role.Role.TheVariants.{Subject, Predicate, Ob
 use Rattle.hdt_terms.specs.declared.term.Term.{Term}
 use Rattle.hdt_terms.specs.declared.term.Term.TheVariants as terms
 use Rattle.hdt_terms.specs.declared.triple.Triple.{Triple}
-use Rattle.hdt_terms.specs.Faults.{checked}
-use Rattle.hdt_terms.specs.LineReading.{begins, role_here, role_at, is_comment, is_bare, bare_at, closed_here, closed_at, line_triple_at, line_triple, line_in, located}
+use Rattle.hdt_terms.specs.LineReading.{begins, role_here, role_at, is_comment, is_bare, bare_at, closed_here, closed_at, line_triple_at, line_triple, line_in, located, unless_bare}
 use Rattle.hdt_terms.specs.Lines.{IsComment, IsBare, IsSubject, IsPredicate, SpelledTriple, Line}
 use Rattle.hdt_terms.specs.Reading.{◌>>=◌, stops, after_blanks, term_at}
 use Rattle.hdt_terms.specs.Spelling.{AreBlanks, Spelled}
-use Rattle.hdt_terms.specs.Table.{not_utf8_at}
 use Rattle.hdt_terms.proofs.Cases.{bind_ok, chosen, ok_is}
-use Rattle.hdt_terms.proofs.FaultTable.{not_valid}
+use Rattle.hdt_terms.proofs.LineLaws.{line_read}
 use Rattle.hdt_terms.proofs.LineUtf8.{rest_utf8}
 use Rattle.hdt_terms.proofs.LiteralFound.{passed, term_found}
 use Rattle.hdt_terms.proofs.Tops.{checked_ok}
@@ -154,10 +151,7 @@ triple_found text triple utf8 e =
     } in
     subst (SpelledTriple text) (ok_is _ triple d.2) made
 
-abbrev read : Triple → Result Triple TermFault
-read triple = Ok triple
-
-located_ok : (text : List ℕ) (triple : Triple) (r : Result Triple Stop) → located text r ≡ read triple → r ≡ Ok triple
+located_ok : (text : List ℕ) (triple : Triple) (r : Result Triple Stop) → located text r ≡ Ok triple → r ≡ Ok triple
 located_ok text triple (Ok x) e = cc
 located_ok text triple (Err stop) e = absurd cc
 
@@ -165,12 +159,11 @@ pub line_found : (text : List ℕ) (triple : Triple) → IsUtf8 text → line_tr
 unfolding line_triple
 line_found text triple utf8 e = (utf8, triple_found text triple utf8 (located_ok text triple (line_triple_at text) e))
 
--- ---- a line that is not UTF-8
+pub line_is : (text : List ℕ) (x : Option Triple) → line_in text ≡ Ok x → Line text x
+line_is = line_read Line line_triple_at (λ text utf8 b. (utf8, bare_found text b)) (λ text triple utf8 b e. (utf8, triple_found text triple utf8 e))
 
-pub line_not_utf8 : (text : List ℕ) → ¬ (IsUtf8 text) → line_in text ≡ Err (not_utf8_at (utf8_valid_len text))
-unfolding line_in checked
-line_not_utf8 text none = rw (not_valid text none) refl
+-- ---- the fault of a line
 
 pub line_fault : (text : List ℕ) (fault : TermFault) → IsUtf8 text → is_bare text ≡ false → line_triple text ≡ Err fault → line_in text ≡ Err fault
-unfolding line_in
+unfolding unless_bare line_triple
 line_fault text fault utf8 some e = checked_ok text _ utf8 ∙ rw (some, e) refl

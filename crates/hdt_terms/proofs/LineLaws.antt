@@ -1,61 +1,49 @@
--- The laws of lines.
-use Rattle.std.proofs.Common.{◌≡◌, true, List, ℕ, Option, None, Some, Result, Ok, Err, refl, sym, ◌∙◌, inl, inr, ◌⊎◌}
+-- The exits of a reader of lines, and what is read of a line, whatever lines say.
+use Rattle.std.proofs.Common.{◌≡◌, true, false, ℕ, List, length, Option, None, Some, Result, Ok, Err, refl, sym, subst, ◌∙◌, inl, inr, ◌⊎◌}
 use Rattle.std.specs.Prelude.{IsUtf8}
+use Rattle.std.specs.Str.Lossy.{utf8_valid_len}
+use Rattle.hdt_terms.specs.declared.fault.ReadError.{ReadError}
+use Rattle.hdt_terms.specs.declared.fault.ReadError.TheVariants as errors
+use Rattle.hdt_terms.specs.declared.fault.Stop.{Stop}
 use Rattle.hdt_terms.specs.declared.fault.TermFault.{TermFault}
-use Rattle.hdt_terms.specs.declared.triple.Triple.{Triple}
-use Rattle.hdt_terms.specs.LineReading.{is_bare, line_triple, as_line, line_in, LineFaultStands}
-use Rattle.hdt_terms.specs.Lines.{Line}
-use Rattle.hdt_terms.proofs.Cases.{chosen}
+use Rattle.hdt_terms.specs.Faults.{FaultOf, checked, out_of_memory, not_utf8_at}
+use Rattle.hdt_terms.specs.LineReading.{is_bare, located, as_line, unless_bare}
+use Rattle.hdt_terms.specs.Reading.{Fails}
+use Rattle.hdt_terms.proofs.Cases.{chosen, done, ok_is}
+use Rattle.hdt_terms.proofs.FaultTable.{not_valid}
 use Rattle.hdt_terms.proofs.LawsLemmas.{checked_utf8}
-use Rattle.hdt_terms.proofs.LineAgain.{line_again}
-use Rattle.hdt_terms.proofs.LineFound.{bare_found, line_found}
 use Rattle.hdt_terms.proofs.Tops.{checked_ok}
 
-abbrev read : Option Triple → Result (Option Triple) TermFault
-read x = Ok x
+pub not_utf8_line : {A : Type 0} (text : List ℕ) (read : Result A Stop) → ¬ (IsUtf8 text) → unless_bare text read ≡ Err (not_utf8_at (utf8_valid_len text))
+unfolding unless_bare checked
+not_utf8_line text read none = rw (not_valid text none) refl
 
-read_is : (x y : Option Triple) → read x ≡ read y → x ≡ y
-read_is x y e = cc
+module _ {A : Type 0} (text : List ℕ) (read : Result A Stop) (utf8 : IsUtf8 text) where
+  pub bare_line : is_bare text ≡ true → unless_bare text read ≡ Ok None
+  unfolding unless_bare
+  bare_line b = checked_ok text _ utf8 ∙ rw b refl
 
-abbrev refused : TermFault → Result (Option Triple) TermFault
-refused fault = Err fault
+  pub read_line : (x : A) → is_bare text ≡ false → read ≡ Ok x → unless_bare text read ≡ Ok (Some x)
+  unfolding unless_bare
+  read_line x some e = checked_ok text _ utf8 ∙ rw (some, e) refl
 
-refused_is : (f g : TermFault) → refused f ≡ refused g → f ≡ g
-refused_is f g e = cc
+  pub fails_line : (error : ReadError) (fault : TermFault) → is_bare text ≡ false → Fails error read → FaultOf (length text) error fault → (fault ≡ out_of_memory) ⊎ (unless_bare text read ≡ Err fault)
+  unfolding unless_bare
+  fails_line errors.Memory fault some h f = inl f
+  fails_line (errors.Fault stop) fault some h f = inr (checked_ok text _ utf8 ∙ rw (some, h, f) refl)
 
-read_or_refused : (x : Option Triple) (fault : TermFault) → read x ≡ refused fault → ⊥
-read_or_refused x fault e = cc
+-- what is read of a line is what it says, where that holds of bare lines and of all others
+module _ {A : Type 0} (Says : List ℕ → Option A → Type 0) (read : List ℕ → Result A Stop) (bare : (text : List ℕ) → IsUtf8 text → is_bare text ≡ true → Says text None)
+    (found : (text : List ℕ) (x : A) → IsUtf8 text → is_bare text ≡ false → read text ≡ Ok x → Says text (Some x)) where
+  found_there : (text : List ℕ) (r : Result A Stop) (x : Option A) → IsUtf8 text → is_bare text ≡ false → read text ≡ r → as_line (located text r) ≡ done x → Says text x
+  found_there text (Ok y) x utf8 b h e = subst (Says text) (ok_is (Some y) x e) (found text y utf8 b h)
+  found_there text (Err stop) x utf8 b h e = absurd cc
 
-as_line_found : (text : List ℕ) (r : Result Triple TermFault) (x : Option Triple) → IsUtf8 text → line_triple text ≡ r → as_line r ≡ read x → Line text x
-as_line_found text (Ok triple) None utf8 h e = absurd cc
-as_line_found text (Ok triple) (Some other) utf8 h e = let is : Ok triple ≡ Ok other = cc in line_found text other utf8 (h ∙ is)
-as_line_found text (Err fault) x utf8 h e = absurd cc
-
-bare_line : (text : List ℕ) (x : Option Triple) → IsUtf8 text → is_bare text ≡ true → read None ≡ read x → Line text x
-bare_line text None utf8 b e = (utf8, bare_found text b)
-bare_line text (Some triple) utf8 b e = absurd cc
-
-pub line_read : (text : List ℕ) (x : Option Triple) → line_in text ≡ Ok x → Line text x
-unfolding line_in
-line_read text x e =
-    let utf8 = checked_utf8 text _ x e in
-    elim (chosen (is_bare text) (read None) (as_line (line_triple text)) (read x) (sym (checked_ok text _ utf8) ∙ e)) [
-      | inl p ↦ bare_line text x utf8 p.0 p.1
-      | inr p ↦ as_line_found text (line_triple text) x utf8 refl p.1
-    ]
-
-pub line_or_fault : (text : List ℕ) → ((x : Option Triple) × Line text x) ⊎ ((fault : TermFault) × LineFaultStands text fault)
-line_or_fault text = case (line_in text) refl
-  where
-    case : (r : Result (Option Triple) TermFault) → line_in text ≡ r → ((x : Option Triple) × Line text x) ⊎ ((fault : TermFault) × LineFaultStands text fault)
-    case (Ok x) e = inl (x, line_read text x e)
-    case (Err fault) e = inr (fault, e)
-
-pub apart : (text : List ℕ) (x : Option Triple) (fault : TermFault) → Line text x → LineFaultStands text fault → ⊥
-apart text x fault line stands = read_or_refused x fault (sym (line_again text x line) ∙ stands)
-
-pub one_line : (text : List ℕ) (x y : Option Triple) → Line text x → Line text y → x ≡ y
-one_line text x y hx hy = read_is x y (sym (line_again text x hx) ∙ line_again text y hy)
-
-pub one_fault : (text : List ℕ) (f g : TermFault) → LineFaultStands text f → LineFaultStands text g → f ≡ g
-one_fault text f g hf hg = refused_is f g (sym hf ∙ hg)
+  pub line_read : (text : List ℕ) (x : Option A) → unless_bare text (read text) ≡ Ok x → Says text x
+  unfolding unless_bare
+  line_read text x e =
+      let utf8 = checked_utf8 text _ x e in
+      elim (chosen (is_bare text) (done None) (as_line (located text (read text))) (done x) (sym (checked_ok text _ utf8) ∙ e)) [
+        | inl p ↦ subst (Says text) (ok_is None x p.1) (bare text utf8 p.0)
+        | inr p ↦ found_there text (read text) x utf8 p.0 refl p.1
+      ]

@@ -6,10 +6,10 @@ use Rattle.hdt_terms.specs.declared.fault.LineFault.{LineFault}
 use Rattle.hdt_terms.specs.declared.fault.LineReason.TheVariants.{NotUtf8}
 use Rattle.hdt_terms.specs.declared.fault.TermFault.{TermFault}
 use Rattle.hdt_terms.specs.LineReading.{is_bare, line_triple}
-use Rattle.hdt_terms.specs.Faults.{out_of_memory}
-use Rattle.hdt_terms.specs.Table.{not_utf8_at}
+use Rattle.hdt_terms.specs.Faults.{out_of_memory, not_utf8_at}
 use Rattle.hdt_terms.specs.Taking.{State, Looked, FaultOfTriple}
-use Rattle.hdt_terms.proofs.LineFound.{bare_found, line_not_utf8}
+use Rattle.hdt_terms.proofs.LineFound.{bare_found}
+use Rattle.hdt_terms.proofs.LineLaws.{not_utf8_line}
 use Rattle.hdt_terms.proofs.TextReasons.{fault_of_triple}
 
 pub looked : (s : State) (text : List ℕ) (b : Bool) → IsUtf8 text → b ≡ is_bare text → Looked (Ok b) s text
@@ -21,7 +21,7 @@ pub not_text : (s : State) (text : List ℕ) (f : TermFault) (fault : LineFault)
 not_text s text f fault none is told = (
   ap (λ (x : LineFault). x.line) told,
   ap (λ (x : LineFault). x.reason) told ∙ ap (λ (x : TermFault). x.reason) is,
-  line_not_utf8 text none
+  not_utf8_line text _ none
       ∙ ap (λ k. Err (record { column = k; reason = NotUtf8 })) (sym (ap (λ (x : LineFault). x.column) told ∙ ap (λ (x : TermFault). x.column) is)),
 )
 

@@ -1,15 +1,13 @@
 -- The words of a request, step by step.
 use Rattle.std.proofs.Common.{◌≡◌, ℕ, true, false, eqb, List, [], ◌∷◌, Option, Some, Ok, refl, ap, subst, ◌∙◌, arith}
 use Rattle.std.specs.Prelude.{IsUtf8}
-use Rattle.hdt_terms.specs.declared.fault.ReadError.{ReadError}
 use Rattle.hdt_wire.specs.declared.role.Role.{Role}
 use Rattle.hdt_terms.specs.declared.term.Term.{Term}
 use Rattle.hdt_terms.specs.Appending.{Appended}
 use Rattle.hdt_terms.specs.LineReading.{role_here}
-use Rattle.hdt_terms.specs.Reading.{◌>>=◌, Fails}
+use Rattle.hdt_terms.specs.Reading.{◌>>=◌}
 use Rattle.hdt_terms.specs.RequestReading.{as_part, part_here, is_given, part_string}
 use Rattle.hdt_terms.specs.Terms.{str}
-use Rattle.hdt_terms.proofs.Appends.{fails_then, fails_behind}
 use Rattle.hdt_terms.proofs.Utf8.{behind_ascii}
 
 -- behind ?
@@ -24,6 +22,3 @@ module _ (role : Role) (bytes tail : List ℕ) (c : ℕ) (e : bytes ≡ c ∷ ta
   pub part_read : (out rest : List ℕ) → Appended str [] out rest (role_here role bytes)
       → (part : Option Term) × (part_here role bytes ≡ Ok (part, rest)) × (true ≡ is_given part) × (out ≡ part_string part)
   part_read out rest a = (Some a.value, here_is role bytes tail c e f ∙ ap (λ r. r >>= as_part) a.reads, refl, a.whole)
-
-  pub part_fails : (error : ReadError) → Fails error (role_here role bytes) → Fails error (part_here role bytes)
-  part_fails error h = fails_behind error (role_here role bytes >>= as_part) (part_here role bytes) (here_is role bytes tail c e f) (fails_then error (role_here role bytes) as_part h)

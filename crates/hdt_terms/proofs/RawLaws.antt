@@ -1,24 +1,16 @@
 -- A request of dictionary strings is what is read of its line.
-use Rattle.std.proofs.Common.{◌≡◌, ◌≢◌, ℕ, true, false, eqb, ne_eqb, List, [], ◌∷◌, ◌++◌, Option, Some, None, Result, Ok, Err, refl, sym, ap, subst, ◌∙◌, append_assoc, append-nil, inl, inr}
-use Rattle.std.specs.Prelude.{IsUtf8}
-use Rattle.std.proofs.lemmas.Bool.{eq-eqb, eqb-true}
+use Rattle.std.proofs.Common.{◌≡◌, ◌≢◌, ℕ, true, false, eqb, ne_eqb, List, [], ◌∷◌, ◌++◌, Option, Some, None, Ok, refl, sym, ap, subst, ◌∙◌, append_assoc, append-nil, inl, inr}
+use Rattle.std.proofs.lemmas.Bool.{eq-eqb, eqb-true, cases_Bool, false_from_ne_true}
 use Rattle.hdt_terms.specs.declared.fault.LineReason.TheVariants.{Syntax}
-use Rattle.hdt_terms.specs.declared.fault.Stop.{Stop}
-use Rattle.hdt_terms.specs.declared.fault.TermFault.{TermFault}
-use Rattle.hdt_terms.specs.LineReading.{is_bare, located}
-use Rattle.hdt_terms.specs.Lines.{IsBare}
+use Rattle.hdt_terms.specs.LineReading.{is_bare}
 use Rattle.hdt_terms.specs.RawReading.{RawAsked, raw_letter, raw_at, tab_at, nothing_at, raw_request_at, raw_request_in}
 use Rattle.hdt_terms.specs.RawRequests.{SpelledByte, SpelledRaw, SpelledRawRequest, RawRequestLine}
 use Rattle.hdt_terms.specs.Reading.{◌>>=◌, stops, with_front}
-use Rattle.hdt_terms.specs.RequestReading.{as_asked, asked_in}
-use Rattle.hdt_terms.proofs.Cases.{bind_ok, chosen, ok_is}
-use Rattle.hdt_terms.proofs.LawsLemmas.{checked_utf8}
+use Rattle.hdt_terms.proofs.Cases.{bind_ok, chosen, done, ok_is}
 use Rattle.hdt_terms.proofs.LineAgain.{bare_again}
 use Rattle.hdt_terms.proofs.LineFound.{bare_found}
+use Rattle.hdt_terms.proofs.LineLaws.{bare_line, read_line, line_read}
 use Rattle.hdt_terms.proofs.Raws.{at_tab, at_byte, at_escape, at_bad, nothing_there}
-use Rattle.hdt_terms.proofs.RequestLaws.{bare_asked, read_asked}
-use Rattle.hdt_terms.proofs.Running.{either}
-use Rattle.hdt_terms.proofs.Tops.{checked_ok}
 
 -- ---- a string
 
@@ -48,13 +40,13 @@ not_eqb c d e is = let both : true ≡ false = sym (eq-eqb c d is) ∙ e in cc
 found_at : (c : ℕ) (rest : List ℕ) (read : List ℕ × List ℕ) → ((x : List ℕ × List ℕ) → raw_at rest ≡ Ok x → RawFound rest x) → (raw_at (92 ∷ rest) ≡ Ok read → RawFound (92 ∷ rest) read)
     → raw_at (c ∷ rest) ≡ Ok read → RawFound (c ∷ rest) read
 found_at c rest read behind escaped e =
-    elim (either (eqb c 9)) [
+    elim (cases_Bool (eqb c 9)) [
       | inl t ↦
           let tab = eqb-true c 9 t in
           subst (RawFound (c ∷ rest)) (ok_is ([], c ∷ rest) read (ap (λ l. Ok ([], l ∷ rest)) tab ∙ sym (at_tab rest) ∙ ap (λ l. raw_at (l ∷ rest)) (sym tab) ∙ e))
           (record { text = []; whole = refl; spelled = refl; ends = tab })
       | inr t ↦
-          elim (either (eqb c 92)) [
+          elim (cases_Bool (eqb c 92)) [
             | inl s ↦
                 let slash = eqb-true c 92 s in
                 subst (λ l. RawFound (l ∷ rest) read) (sym slash) (escaped (ap (λ l. raw_at (l ∷ rest)) (sym slash) ∙ e))
@@ -139,36 +131,11 @@ raw_request_again text asked h =
 
 -- ---- its line
 
-abbrev read : Option RawAsked → Result (Option RawAsked) TermFault
-read x = Ok x
-
-line_of_found : (text : List ℕ) (r : Result RawAsked Stop) (x : Option RawAsked) → IsUtf8 text → is_bare text ≡ false → raw_request_at text ≡ r → as_asked (located text r) ≡ read x → RawRequestLine text x
-line_of_found text (Ok asked) None utf8 b h e = absurd cc
-line_of_found text (Ok asked) (Some other) utf8 b h e =
-    let is : Ok asked ≡ Ok other = cc in
-    (utf8, λ bare. absurd (let both : true ≡ false = sym (bare_again text bare) ∙ b in cc), raw_request_found text other (h ∙ is))
-line_of_found text (Err stop) x utf8 b h e = absurd cc
-
-bare_line : (text : List ℕ) (x : Option RawAsked) → IsUtf8 text → is_bare text ≡ true → read None ≡ read x → RawRequestLine text x
-bare_line text None utf8 b e = (utf8, bare_found text b)
-bare_line text (Some asked) utf8 b e = absurd cc
-
 pub raw_line_found : (text : List ℕ) (x : Option RawAsked) → raw_request_in text ≡ Ok x → RawRequestLine text x
-unfolding asked_in
-raw_line_found text x e =
-    let utf8 = checked_utf8 text _ x e in
-    elim (chosen (is_bare text) (read None) (as_asked (located text (raw_request_at text))) (read x) (sym (checked_ok text _ utf8) ∙ e)) [
-      | inl p ↦ bare_line text x utf8 p.0 p.1
-      | inr p ↦ line_of_found text (raw_request_at text) x utf8 p.0 refl p.1
-    ]
-
-not_bare : (text : List ℕ) → (IsBare text → ⊥) → is_bare text ≡ false
-not_bare text none =
-    elim (either (is_bare text)) [
-      | inl b ↦ absurd (none (bare_found text b))
-      | inr b ↦ b
-    ]
+raw_line_found =
+    line_read RawRequestLine raw_request_at (λ text utf8 b. (utf8, bare_found text b))
+    (λ text asked utf8 b e. (utf8, λ bare. absurd (let both : true ≡ false = sym (bare_again text bare) ∙ b in cc), raw_request_found text asked e))
 
 pub raw_line_again : (text : List ℕ) (x : Option RawAsked) → RawRequestLine text x → raw_request_in text ≡ Ok x
-raw_line_again text None h = bare_asked text _ h.0 (bare_again text h.1)
-raw_line_again text (Some asked) h = read_asked text _ h.0 asked (not_bare text h.1) (raw_request_again text asked h.2)
+raw_line_again text None h = bare_line text _ h.0 (bare_again text h.1)
+raw_line_again text (Some asked) h = read_line text _ h.0 asked (false_from_ne_true (is_bare text) (λ b. h.1 (bare_found text b))) (raw_request_again text asked h.2)

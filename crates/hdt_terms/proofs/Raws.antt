@@ -1,24 +1,17 @@
 -- Reading dictionary strings in a line, step by step.
-use Rattle.std.proofs.Common.{◌≡◌, ◌≢◌, ℕ, false, eqb, ne_eqb, List, [], ◌∷◌, ◌++◌, length, Option, Some, None, Result, Ok, Err, refl, sym, ap, ◌∙◌, append_assoc, arith}
+use Rattle.std.proofs.Common.{◌≡◌, ◌≢◌, ℕ, false, eqb, ne_eqb, List, [], ◌∷◌, ◌++◌, length, Option, Some, None, Ok, Err, refl, sym, ap, ◌∙◌, arith}
 use Rattle.std.proofs.lemmas.List.{append-nil}
 use Rattle.hdt_terms.specs.declared.fault.LineReason.TheVariants.{BadEscape}
-use Rattle.hdt_terms.specs.declared.fault.Stop.{Stop}
 use Rattle.hdt_terms.specs.Appending.{Appended, itself}
 use Rattle.hdt_terms.specs.RawReading.{raw_letter, raw_escape, raw_from, raw_at}
 use Rattle.hdt_terms.specs.Reading.{stops, with_front}
 use Rattle.hdt_terms.proofs.Appends.{appended}
 use Rattle.hdt_terms.proofs.Stops.{front_err}
-
-abbrev Reading : Type 0
-Reading = Result (List ℕ × List ℕ) Stop
+use Rattle.hdt_terms.proofs.Walk.{regroup}
 
 -- what was read before, and what is read here, is what is read of all
 abbrev pub GoesOn : List ℕ → List ℕ → List ℕ → List ℕ → Type 0
 GoesOn out rest old bytes = with_front out (raw_at rest) ≡ with_front old (raw_at bytes)
-
-regroup : (front mid : List ℕ) (read : Reading) → with_front front (with_front mid read) ≡ with_front (front ++ mid) read
-regroup front mid (Ok x) = ap (λ l. Ok (l, x.1)) (sym (append_assoc front mid x.0))
-regroup front mid (Err e) = refl
 
 pub at_tab : (rest : List ℕ) → raw_at (9 ∷ rest) ≡ Ok ([], 9 ∷ rest)
 unfolding raw_from

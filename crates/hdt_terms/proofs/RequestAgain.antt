@@ -12,7 +12,7 @@ use Rattle.hdt_terms.specs.Labels.{label_rest}
 use Rattle.hdt_terms.specs.LineReading.{is_comment, is_bare}
 use Rattle.hdt_terms.specs.Lines.{IsComment, IsBare, IsSubject, IsPredicate}
 use Rattle.hdt_terms.specs.Reading.{◌>>=◌, after_blanks, suffix_after, suffix_at}
-use Rattle.hdt_terms.specs.RequestReading.{as_part, part_here, part_at, stop_here, stop_at, request_at, request_in, asked_in}
+use Rattle.hdt_terms.specs.RequestReading.{as_part, part_here, part_at, stop_here, stop_at, request_at, request_in}
 use Rattle.hdt_terms.specs.Requests.{Asked, SpelledPart, IsStop, SpelledRequest, RequestLine}
 use Rattle.hdt_terms.specs.Spelling.{AreBlanks}
 use Rattle.hdt_terms.proofs.LineAgain.{bare_again, First, first_of, here_again, label_ends, label_dot, label_behind, bare_label, plain_behind, ends_at, ends_behind}
@@ -21,7 +21,7 @@ use Rattle.hdt_terms.proofs.LiteralAgain.{after_blanks-blanks, Closes, ClosesTer
 use Rattle.hdt_terms.proofs.Bools.{and_first}
 use Rattle.hdt_terms.proofs.Parts.{here_is}
 use Rattle.hdt_terms.proofs.TagFound.{Ends}
-use Rattle.hdt_terms.proofs.Tops.{checked_ok}
+use Rattle.hdt_terms.proofs.LineLaws.{bare_line, read_line}
 use Rattle.hdt_terms.proofs.Utf8.{unblanked}
 
 -- ---- a word
@@ -164,6 +164,5 @@ module _ (text : List ℕ) (asked : Asked) (h : SpelledRequest text asked) where
   request_not_bare = ap is_bare h.whole ∙ part_not_bare h.before_s h.s _ asked.s h.blanks.0 h.subject
 
 pub asked_again : (text : List ℕ) (x : Option Asked) → RequestLine text x → request_in text ≡ Ok x
-unfolding asked_in
-asked_again text None h = checked_ok text _ h.0 ∙ rw (bare_again text h.1) refl
-asked_again text (Some asked) h = checked_ok text _ h.0 ∙ rw (request_not_bare text asked h.1, request_again text asked h.1) refl
+asked_again text None h = bare_line text _ h.0 (bare_again text h.1)
+asked_again text (Some asked) h = read_line text _ h.0 asked (request_not_bare text asked h.1) (request_again text asked h.1)

@@ -2,6 +2,7 @@
 use Rattle.std.proofs.Common.{◌≡◌, ℕ, eqb, List, [], ◌∷◌, ◌++◌, Option, None, Some, Ok, refl, ap, subst, ◌∙◌, inl, inr}
 use Rattle.std.specs.Prelude.{IsUtf8}
 use Rattle.std.proofs.lemmas.Bool.{eqb-true}
+use Rattle.std.proofs.lemmas.Option.{same_Some}
 use Rattle.hdt_terms.specs.declared.fault.LineReason.TheVariants.{Syntax}
 use Rattle.hdt_wire.specs.declared.role.Role.{Role}
 use Rattle.hdt_wire.specs.declared.role.Role.TheVariants.{Subject, Predicate, Object}
@@ -12,7 +13,7 @@ use Rattle.hdt_terms.specs.Reading.{◌>>=◌, stops, after_blanks}
 use Rattle.hdt_terms.specs.RequestReading.{as_part, part_here, part_at, stop_here, stop_at, request_at}
 use Rattle.hdt_terms.specs.Requests.{Asked, SpelledPart, IsStop, SpelledRequest}
 use Rattle.hdt_terms.specs.Spelling.{AreBlanks}
-use Rattle.hdt_terms.proofs.Cases.{bind_ok, chosen, ok_is, some_is}
+use Rattle.hdt_terms.proofs.Cases.{bind_ok, chosen, ok_is}
 use Rattle.hdt_terms.proofs.LineFound.{IsOf, bare_found, comment_found, here_found}
 use Rattle.hdt_terms.proofs.LiteralFound.{passed}
 use Rattle.hdt_terms.proofs.Parts.{behind_any}
@@ -61,7 +62,7 @@ part_here_found role bytes (c ∷ cs) (Some term) rest before utf8 are whole e =
       | inr p ↦
           let b = bind_ok (role_here role (c ∷ cs)) as_part (Some term, rest) p.1 in
           let same = ok_is (given b.0.0, b.0.1) (given term, rest) b.2 in
-          let read : role_here role (c ∷ cs) ≡ Ok (term, rest) = b.1 ∙ ap (λ t. Ok (t, b.0.1)) (some_is b.0.0 term (ap (λ x. x.0) same)) ∙ ap (λ l. Ok (term, l)) (ap (λ x. x.1) same) in
+          let read : role_here role (c ∷ cs) ≡ Ok (term, rest) = b.1 ∙ ap (λ t. Ok (t, b.0.1)) (same_Some b.0.0 term (ap (λ x. x.0) same)) ∙ ap (λ l. Ok (term, l)) (ap (λ x. x.1) same) in
           let f = here_found role bytes (c ∷ cs) term rest before utf8 are whole read in
           record { before = f.before; text = f.text; blanks = f.blanks; spelled = (f.spelled, f.is_of); whole = f.whole; utf8 = f.utf8 }
     ]

@@ -1,28 +1,16 @@
--- The exits of a reader of requests, and the laws of requests.
-use Rattle.std.proofs.Common.{◌≡◌, true, false, ℕ, List, [], ◌∷◌, length, Option, None, Some, Result, Ok, Err, refl, sym, ◌∙◌, inl, inr, ◌⊎◌}
-use Rattle.std.specs.Prelude.{IsUtf8, option_map}
-use Rattle.std.specs.Str.Lossy.{utf8_valid_len}
-use Rattle.hdt_terms.specs.declared.fault.ReadError.{ReadError}
-use Rattle.hdt_terms.specs.declared.fault.ReadError.TheVariants as errors
-use Rattle.hdt_terms.specs.declared.fault.Stop.{Stop}
-use Rattle.hdt_terms.specs.declared.fault.TermFault.{TermFault}
+-- What is read of a request is what it asks for.
+use Rattle.std.proofs.Common.{◌≡◌, ℕ, List, [], ◌∷◌, Option, None, Some, Ok, refl, inr}
+use Rattle.std.specs.Prelude.{option_map}
 use Rattle.hdt_wire.specs.declared.role.Role.TheVariants.{Subject, Predicate, Object}
 use Rattle.hdt_terms.specs.declared.term.Term.{Term}
-use Rattle.hdt_terms.specs.Faults.{FaultOf, checked, out_of_memory}
-use Rattle.hdt_terms.specs.LineReading.{is_bare, located}
-use Rattle.hdt_terms.specs.Reading.{Fails}
-use Rattle.hdt_terms.specs.RequestReading.{part_at, stop_at, request_at, as_asked, asked_in, request_in, RequestFaultStands}
+use Rattle.hdt_terms.specs.RequestReading.{part_at, stop_at, request_at, request_in}
 use Rattle.hdt_terms.specs.Lines.{Line}
 use Rattle.hdt_terms.specs.declared.triple.Triple.{Triple}
 use Rattle.hdt_terms.specs.Requests.{Asked, RequestLine, whole_triple}
-use Rattle.hdt_terms.specs.Table.{not_utf8_at}
-use Rattle.hdt_terms.proofs.Cases.{chosen}
-use Rattle.hdt_terms.proofs.FaultTable.{not_valid}
-use Rattle.hdt_terms.proofs.LawsLemmas.{checked_utf8}
+use Rattle.hdt_terms.proofs.Cases.{done}
 use Rattle.hdt_terms.proofs.LineFound.{bare_found}
-use Rattle.hdt_terms.proofs.RequestAgain.{asked_again}
+use Rattle.hdt_terms.proofs.LineLaws.{line_read}
 use Rattle.hdt_terms.proofs.RequestFound.{request_found}
-use Rattle.hdt_terms.proofs.Tops.{checked_ok}
 
 -- ---- the exits
 
@@ -31,74 +19,10 @@ pub parts_read : (text r1 r2 r3 : List ℕ) (s p o : Option Term) (done : Unit {
 unfolding request_at
 parts_read text r1 r2 r3 s p o done hs hp ho hd = rw (hs, hp, ho, hd) refl
 
-pub not_utf8_asked : {A : Type 0} (text : List ℕ) (read : Result A Stop) → ¬ (IsUtf8 text) → asked_in text read ≡ Err (not_utf8_at (utf8_valid_len text))
-unfolding asked_in checked
-not_utf8_asked text read none = rw (not_valid text none) refl
-
-module _ {A : Type 0} (text : List ℕ) (read : Result A Stop) (utf8 : IsUtf8 text) where
-  pub bare_asked : is_bare text ≡ true → asked_in text read ≡ Ok None
-  unfolding asked_in
-  bare_asked b = checked_ok text _ utf8 ∙ rw b refl
-
-  pub read_asked : (asked : A) → is_bare text ≡ false → read ≡ Ok asked → asked_in text read ≡ Ok (Some asked)
-  unfolding asked_in
-  read_asked asked some e = checked_ok text _ utf8 ∙ rw (some, e) refl
-
-  pub fails_asked : (error : ReadError) (fault : TermFault) → is_bare text ≡ false → Fails error read → FaultOf (length text) error fault → (fault ≡ out_of_memory) ⊎ (asked_in text read ≡ Err fault)
-  unfolding asked_in
-  fails_asked errors.Memory fault some h f = inl f
-  fails_asked (errors.Fault stop) fault some h f = inr (checked_ok text _ utf8 ∙ rw (some, h, f) refl)
-
 -- ---- the laws
 
-abbrev read : Option Asked → Result (Option Asked) TermFault
-read x = Ok x
-
-read_is : (x y : Option Asked) → read x ≡ read y → x ≡ y
-read_is x y e = cc
-
-abbrev refused : TermFault → Result (Option Asked) TermFault
-refused fault = Err fault
-
-refused_is : (f g : TermFault) → refused f ≡ refused g → f ≡ g
-refused_is f g e = cc
-
-read_or_refused : (x : Option Asked) (fault : TermFault) → read x ≡ refused fault → ⊥
-read_or_refused x fault e = cc
-
-asked_of_found : (text : List ℕ) (r : Result Asked Stop) (x : Option Asked) → IsUtf8 text → request_at text ≡ r → as_asked (located text r) ≡ read x → RequestLine text x
-asked_of_found text (Ok asked) None utf8 h e = absurd cc
-asked_of_found text (Ok asked) (Some other) utf8 h e = let is : Ok asked ≡ Ok other = cc in (utf8, request_found text other utf8 (h ∙ is))
-asked_of_found text (Err stop) x utf8 h e = absurd cc
-
-bare_line : (text : List ℕ) (x : Option Asked) → IsUtf8 text → is_bare text ≡ true → read None ≡ read x → RequestLine text x
-bare_line text None utf8 b e = (utf8, bare_found text b)
-bare_line text (Some asked) utf8 b e = absurd cc
-
 pub asked_found : (text : List ℕ) (x : Option Asked) → request_in text ≡ Ok x → RequestLine text x
-unfolding asked_in
-asked_found text x e =
-    let utf8 = checked_utf8 text _ x e in
-    elim (chosen (is_bare text) (read None) (as_asked (located text (request_at text))) (read x) (sym (checked_ok text _ utf8) ∙ e)) [
-      | inl p ↦ bare_line text x utf8 p.0 p.1
-      | inr p ↦ asked_of_found text (request_at text) x utf8 refl p.1
-    ]
-
-pub request_or_fault : (text : List ℕ) → ((x : Option Asked) × RequestLine text x) ⊎ ((fault : TermFault) × RequestFaultStands text fault)
-request_or_fault text = case (request_in text) refl
-  where
-    case : (r : Result (Option Asked) TermFault) → request_in text ≡ r → ((x : Option Asked) × RequestLine text x) ⊎ ((fault : TermFault) × RequestFaultStands text fault)
-    case (Ok x) e = inl (x, asked_found text x e)
-    case (Err fault) e = inr (fault, e)
-
-pub apart : (text : List ℕ) (x : Option Asked) (fault : TermFault) → RequestLine text x → RequestFaultStands text fault → ⊥
-apart text x fault line stands = read_or_refused x fault (sym (asked_again text x line) ∙ stands)
-
-pub one_request : (text : List ℕ) (x y : Option Asked) → RequestLine text x → RequestLine text y → x ≡ y
-one_request text x y hx hy = read_is x y (sym (asked_again text x hx) ∙ asked_again text y hy)
-
-pub one_fault : (text : List ℕ) (f g : TermFault) → RequestFaultStands text f → RequestFaultStands text g → f ≡ g
-one_fault text f g hf hg = refused_is f g (sym hf ∙ hg)
+asked_found = line_read RequestLine request_at (λ text utf8 b. (utf8, bare_found text b)) (λ text asked utf8 b e. (utf8, request_found text asked utf8 e))
 
 -- a line of a document is a request for its triple
 pub triple_asked : (text : List ℕ) (x : Option Triple) → Line text x → RequestLine text (option_map whole_triple x)

@@ -1,5 +1,5 @@
 -- A whole run: what was taken grows line by line, up to the document or the fault.
-use Rattle.std.proofs.Common.{◌≡◌, ℕ, Bool, true, false, List, [], ◌∷◌, ◌++◌, length, ◌+◌, ◌<◌, ◌≤◌, ◌⊎◌, arith, Option, None, Some, eqb, inl, inr, sym, refl, ap, subst, ◌∙◌, append_assoc, append-nil, zero-add}
+use Rattle.std.proofs.Common.{◌≡◌, ℕ, Bool, true, false, List, [], ◌∷◌, ◌++◌, length, ◌+◌, ◌<◌, ◌≤◌, arith, Option, None, Some, eqb, inl, inr, sym, refl, ap, subst, ◌∙◌, append_assoc, append-nil, zero-add}
 use Rattle.std.proofs.lemmas.Bool.{ne_eqb}
 use Rattle.std.proofs.lemmas.List.Elements.{filter_map-append}
 use Rattle.std.proofs.lemmas.List.{length-append}
@@ -185,10 +185,6 @@ memory_behind fault limit s new all mid after given triples triple r t is =
     fault_behind fault limit s all mid given triples r (subst (λ (f : LineFault). FaultIsAhead f s mid given) (sym is) (memory_stands s new mid after given triple t))
 
 -- ---- of a run
-
-pub either : (b : Bool) → (b ≡ true) ⊎ (b ≡ false)
-either true = inl refl
-either false = inr refl
 
 pub triple_size : (x y : Option (List ℕ)) (old new : State) (triple : Triple) → TakesTriple old new x y triple → (old.taken < new.taken) × (new.taken ≤ old.limit) × (new.limit ≡ old.limit)
 triple_size x y old new triple t =

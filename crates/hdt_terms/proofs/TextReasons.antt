@@ -68,9 +68,6 @@ table_reason bytes s (blank rest whole none is) = of_text Syntax s tt (stop_reas
 table_reason bytes s (string rest whole h) = inside_reason Quoted rest s h
 table_reason bytes s (suffix inner value behind i whole h) = suffix_reason behind s h
 
-abbrev stopped : Stop → Result (Unit {0}) Stop
-stopped s = Err s
-
 here_reason : (role : Role) (bytes : List ℕ) (s : Stop) → IsUtf8 bytes → role_here role bytes ≡ Err s → OfText s.reason
 unfolding role_here
 here_reason role [] s utf8 e = let is : s.reason ≡ Syntax = cc in of_text Syntax s tt is
@@ -84,19 +81,19 @@ role_reason : (role : Role) (bytes : List ℕ) (s : Stop) → IsUtf8 bytes → r
 unfolding role_at
 role_reason role bytes s utf8 e = here_reason role (after_blanks bytes) s (blanks_utf8 bytes utf8) e
 
-closed_reason : (bytes : List ℕ) (s : Stop) → closed_here bytes ≡ stopped s → OfText s.reason
+closed_reason : (bytes : List ℕ) (s : Stop) → closed_here bytes ≡ Err s → OfText s.reason
 closed_reason [] s e = let is : s.reason ≡ Syntax = cc in of_text Syntax s tt is
 closed_reason (c ∷ cs) s e =
-    elim (chosen (eqb c 46) (bare_at (after_blanks cs)) (stops Syntax (c ∷ cs)) (stopped s) e) [
+    elim (chosen (eqb c 46) (bare_at (after_blanks cs)) (stops Syntax (c ∷ cs)) (Err s) e) [
       | inl p ↦
-          elim (chosen (is_comment (after_blanks cs)) (Ok tt) (stops Syntax (after_blanks cs)) (stopped s) p.1) [
+          elim (chosen (is_comment (after_blanks cs)) (Ok tt) (stops Syntax (after_blanks cs)) (Err s) p.1) [
             | inl q ↦ absurd cc
             | inr q ↦ let is : s.reason ≡ Syntax = cc in of_text Syntax s tt is
           ]
       | inr p ↦ let is : s.reason ≡ Syntax = cc in of_text Syntax s tt is
     ]
 
-end_reason : (bytes : List ℕ) (s : Stop) → closed_at bytes ≡ stopped s → OfText s.reason
+end_reason : (bytes : List ℕ) (s : Stop) → closed_at bytes ≡ Err s → OfText s.reason
 unfolding closed_at
 end_reason bytes s e = closed_reason (after_blanks bytes) s e
 

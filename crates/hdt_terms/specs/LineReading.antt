@@ -66,13 +66,17 @@ located text (Err stop) = Err (fault_at (length text) stop.left stop.reason)
 unfoldable pub line_triple : List ℕ → Result Triple TermFault
 line_triple text = located text (line_triple_at text)
 
-abbrev pub as_line : Result Triple TermFault → Result (Option Triple) TermFault
-as_line (Ok triple) = Ok (Some triple)
+abbrev pub as_line : {A : Type 0} → Result A TermFault → Result (Option A) TermFault
+as_line (Ok x) = Ok (Some x)
 as_line (Err fault) = Err fault
 
+-- nothing where the line is bare, or what reading it gives, or the fault that stands in it
+unfoldable pub unless_bare : {A : Type 0} → List ℕ → Result A Stop → Result (Option A) TermFault
+unless_bare text read = checked text (if is_bare text then Ok None else as_line (located text read))
+
 -- The line's triple if it has one, or the fault that stands in it.
-unfoldable pub line_in : List ℕ → Result (Option Triple) TermFault
-line_in text = checked text (if is_bare text then Ok None else as_line (line_triple text))
+abbrev pub line_in : List ℕ → Result (Option Triple) TermFault
+line_in text = unless_bare text (line_triple_at text)
 
 -- The text is no line, and this is its fault.
 abbrev pub LineFaultStands : List ℕ → TermFault → Type 0

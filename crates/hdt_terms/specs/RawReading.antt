@@ -7,8 +7,8 @@ use Rattle.hdt_terms.specs.declared.fault.ReadError.{ReadError}
 use Rattle.hdt_terms.specs.declared.fault.Stop.{Stop}
 use Rattle.hdt_terms.specs.declared.fault.TermFault.{TermFault}
 use Rattle.hdt_terms.specs.Faults.{out_of_memory}
+use Rattle.hdt_terms.specs.LineReading.{unless_bare}
 use Rattle.hdt_terms.specs.Reading.{◌>>=◌, Fails, stops, with_front}
-use Rattle.hdt_terms.specs.RequestReading.{asked_in}
 
 -- what a backslash and this letter stand for
 abbrev pub raw_letter : ℕ → Option ℕ
@@ -83,7 +83,7 @@ raw_request_at bytes =
 
 -- What the line asks for if it isn't bare, or the fault that stands in it.
 abbrev pub raw_request_in : List ℕ → Result (Option RawAsked) TermFault
-raw_request_in text = asked_in text (raw_request_at text)
+raw_request_in text = unless_bare text (raw_request_at text)
 
 -- any other string than ? is given
 abbrev pub is_raw_given : List ℕ → Bool

@@ -7,8 +7,8 @@ use Rattle.hdt_terms.specs.declared.fault.TermFault.{TermFault}
 use Rattle.hdt_wire.specs.declared.role.Role.{Role}
 use Rattle.hdt_wire.specs.declared.role.Role.TheVariants.{Subject, Predicate, Object}
 use Rattle.hdt_terms.specs.declared.term.Term.{Term}
-use Rattle.hdt_terms.specs.Faults.{out_of_memory, checked}
-use Rattle.hdt_terms.specs.LineReading.{role_here, is_bare, bare_at, located}
+use Rattle.hdt_terms.specs.Faults.{out_of_memory}
+use Rattle.hdt_terms.specs.LineReading.{role_here, bare_at, unless_bare}
 use Rattle.hdt_terms.specs.Reading.{◌>>=◌, Fails, stops, after_blanks}
 use Rattle.hdt_terms.specs.Requests.{Asked}
 use Rattle.hdt_terms.specs.Terms.{str}
@@ -42,17 +42,9 @@ request_at bytes =
     part_at Object p.1 >>= λ o.
     stop_at o.1 >>= λ _. Ok (record { s = s.0; p = p.0; o = o.0 })
 
-abbrev pub as_asked : {A : Type 0} → Result A TermFault → Result (Option A) TermFault
-as_asked (Ok asked) = Ok (Some asked)
-as_asked (Err fault) = Err fault
-
--- nothing where the line is bare, or what reading it gives, or the fault that stands in it
-unfoldable pub asked_in : {A : Type 0} → List ℕ → Result A Stop → Result (Option A) TermFault
-asked_in text read = checked text (if is_bare text then Ok None else as_asked (located text read))
-
 -- What the line asks for if it isn't bare, or the fault that stands in it.
 abbrev pub request_in : List ℕ → Result (Option Asked) TermFault
-request_in text = asked_in text (request_at text)
+request_in text = unless_bare text (request_at text)
 
 -- The text is no line of a request, and this is its fault.
 abbrev pub RequestFaultStands : List ℕ → TermFault → Type 0

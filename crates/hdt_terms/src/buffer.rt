@@ -1,5 +1,5 @@
 //! The bytes that were read and not yet taken: one vector, filled at its end and taken from its front.
-ghost use Rattle.std.specs.Prelude.{◌≡◌, ◌≢◌, IfErr, ℕ, ◌+◌, ◌-◌, ◌*◌, ◌<◌, ◌≤◌, List, [], length, drop, take, IfOk, OnOk, OnErr, IsErrOf, vec_len, replicate, ◌++◌};
+ghost use Rattle.std.specs.Prelude.{◌≡◌, ◌≢◌, IfErr, ℕ, ◌+◌, ◌-◌, ◌*◌, ◌<◌, ◌≤◌, List, [], length, drop, take, IfOk, OnOk, OnErr, IsErrOf, vec_len};
 ghost use Rattle.std.specs.Io.KnownBytes.{Consumes, Keeps, IsAtEnd};
 ghost use Rattle.hdt_wire.specs.Counted.{inner, failures};
 ghost use Rattle.hdt_terms.specs.Inside.Filling.{ReadOnce};
@@ -30,25 +30,6 @@ impl Model for Buffer {
     ghost invariant = { λ b. (b.start ≤ b.end) × (b.end ≤ vec_len b.bytes) × (0 < vec_len b.bytes) };
 }
 
-/// Moves the bytes from `start` to `end` to the front.
-fn move_front(bytes: &mut Vec<u8>, start: usize, end: usize)
-    requires order { start ≤ end }
-    requires within { end ≤ vec_len bytes.old }
-    ensures len { vec_len bytes.new ≡ vec_len bytes.old }
-    ensures front { take (end - start) bytes.new.items ≡ take (end - start) (drop start bytes.old.items) }
-{
-    bytes.copy_within(start..end, 0);
-}
-
-/// Doubles the vector.
-fn grow(bytes: &mut Vec<u8>) -> Result<(), AllocError>
-    ensures ok { OnOk result (bytes.new.items ≡ bytes.old.items ++ replicate (vec_len bytes.old) 0) }
-    ensures err { OnErr result (bytes.new.items ≡ bytes.old.items) }
-{
-    let len = bytes.len();
-    bytes.resize(2 * len, 0)
-}
-
 /// Brings the bytes from `start` to `end` to the front, with room behind them: where they fill the vector it grows.
 fn make_room(bytes: &mut Vec<u8>, start: usize, end: usize) -> Result<(), AllocError>
     requires order { start ≤ end }
@@ -61,9 +42,9 @@ fn make_room(bytes: &mut Vec<u8>, start: usize, end: usize) -> Result<(), AllocE
     ensures size { end - start < vec_len bytes.old → vec_len bytes.new ≡ vec_len bytes.old }
 {
     if start > 0 {
-        move_front(bytes, start, end);
+        bytes.copy_within(start..end, 0);
     } else if end == bytes.len() {
-        grow(bytes)?;
+        bytes.resize(2 * end, 0)?;
     }
     Ok(())
 }

@@ -1,15 +1,16 @@
 //! Whether a text is UTF-8.
-ghost use Rattle.std.specs.Prelude.{◌≡◌, ◌≤◌, ◌↔◌, length, IsTrue, MatchResult};
-ghost use Rattle.std.specs.Str.{IsAscii, IsUtf8};
+ghost use Rattle.std.specs.Prelude.{◌≡◌, ◌↔◌, IsTrue, MatchResult};
+ghost use Rattle.std.specs.Str.{IsUtf8};
 ghost use Rattle.std.specs.Str.Lossy.{utf8_valid_len};
-ghost use Rattle.hdt_terms.specs.Table.{not_utf8_at};
+ghost use Rattle.hdt_terms.specs.Faults.{not_utf8_at};
+ghost use Rattle.hdt_terms.specs.Terms.{IsText};
 
 use crate::fault::{LineReason, TermFault};
 use crate::lanes::{Class, run_len};
 
-/// Whether each byte is ASCII but U+0000, as in most texts.
-fn is_ascii(bytes: &[u8]) -> bool
-    ensures { IsTrue result → IsAscii bytes.now }
+/// Whether the bytes are ASCII without U+0000, as those of most texts.
+pub fn is_ascii_text(bytes: &[u8]) -> bool
+    ensures { IsTrue result → IsText bytes.now }
 {
     run_len(Class::AsciiText, bytes) == bytes.len()
 }
@@ -33,7 +34,7 @@ pub fn check_beyond_ascii(text: &[u8]) -> Result<(), TermFault>
 pub fn check_utf8(text: &[u8]) -> Result<(), TermFault>
     ensures { MatchResult result (λ _. IsUtf8 text.now) (λ fault. ¬ (IsUtf8 text.now) × (fault ≡ not_utf8_at (utf8_valid_len text.now))) }
 {
-    if is_ascii(text) {
+    if is_ascii_text(text) {
         return Ok(());
     }
     check_beyond_ascii(text)
@@ -44,5 +45,5 @@ pub fn check_utf8(text: &[u8]) -> Result<(), TermFault>
 pub fn is_utf8(bytes: &[u8]) -> bool
     ensures { IsTrue result ↔ IsUtf8 bytes.now }
 {
-    is_ascii(bytes) || simdutf8::is_utf8(bytes)
+    is_ascii_text(bytes) || simdutf8::is_utf8(bytes)
 }

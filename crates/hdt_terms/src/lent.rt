@@ -5,9 +5,9 @@ ghost use Rattle.hdt_terms.specs.Terms.{IsText};
 ghost use Rattle.hdt_terms.specs.Strings.{TermOf, SuffixOf, suffix_seen, term_seen, kind_of};
 
 use crate::chars::is_absolute;
+use crate::encoding::is_ascii_text;
 use crate::iri::is_iri;
 use crate::label::is_label;
-use crate::lanes::{Class, run_len};
 use crate::tag::is_tag;
 use crate::term::{Kind, Suffix, Term};
 use crate::text::Text;
@@ -88,13 +88,6 @@ pub fn kind_of(term: LentTerm<'_>) -> Kind
     }
 }
 
-/// Whether the bytes are ASCII without U+0000, as those of most terms.
-fn is_ascii_text(bytes: &[u8]) -> bool
-    ensures { IsTrue result → IsText bytes.now }
-{
-    run_len(Class::AsciiText, bytes) == bytes.len()
-}
-
 /// Whether the bytes are UTF-8 without U+0000, by two looks at each.
 fn is_text_beyond_ascii(bytes: &[u8]) -> bool
     ensures { IsTrue result ↔ IsText bytes.now }
@@ -133,10 +126,7 @@ fn suffix_of(bytes: &[u8]) -> Option<LentSuffix<'_>>
     if let Some(tag) = behind(b"@", bytes) {
         return tag_of(tag);
     }
-    match behind(b"^^<", bytes) {
-        Some(rest) => datatype_of(rest),
-        None => None,
-    }
+    datatype_of(behind(b"^^<", bytes)?)
 }
 
 /// The suffix for these bytes behind `@`.
@@ -153,9 +143,7 @@ fn tag_of(tag: &[u8]) -> Option<LentSuffix<'_>>
 fn datatype_of(rest: &[u8]) -> Option<LentSuffix<'_>>
     ensures { SuffixOf (94 ∷ 94 ∷ 60 ∷ rest.now) (option_map suffix_seen result) }
 {
-    let Some(iri) = before(rest, b">") else {
-        return None;
-    };
+    let iri = before(rest, b">")?;
     if !is_iri(iri) {
         return None;
     }
@@ -167,14 +155,9 @@ fn literal_of(rest: &[u8]) -> Option<LentTerm<'_>>
     requires { IsText rest.now }
     ensures { TermOf (34 ∷ rest.now) (option_map term_seen result) }
 {
-    let Some(at) = memrchr(b'"', rest) else {
-        return None;
-    };
+    let at = memrchr(b'"', rest)?;
     let (text, quote) = rest.split_at(at);
-    match suffix_of(quote.split_at(1).1) {
-        Some(suffix) => Some(LentTerm::Literal(text, suffix)),
-        None => None,
-    }
+    Some(LentTerm::Literal(text, suffix_of(quote.split_at(1).1)?))
 }
 
 /// The blank node for these bytes behind `_:`.

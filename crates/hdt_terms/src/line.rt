@@ -1,8 +1,8 @@
 //! Reading one line.
-ghost use Rattle.std.specs.Prelude.{◌≡◌, [], ◌<◌, ◌^◌, length, IfOk, IsUtf8};
+ghost use Rattle.std.specs.Prelude.{◌≡◌, [], ◌<◌, IfOk, IsUtf8};
 ghost use Rattle.hdt_terms.specs.Appending.{AppendsRead};
 ghost use Rattle.hdt_terms.specs.Faults.{IsRead};
-ghost use Rattle.hdt_terms.specs.LineReading.{begins, role_here, role_at, is_comment, is_bare, closed_at, line_triple_at, line_triple, Fills, HoldsTriple};
+ghost use Rattle.hdt_terms.specs.LineReading.{begins, role_here, role_at, is_comment, is_bare, bare_at, closed_at, line_triple_at, line_triple, Fills, HoldsTriple};
 ghost use Rattle.hdt_terms.specs.Reading.{GivesRead};
 ghost use Rattle.hdt_terms.specs.Terms.{str};
 
@@ -27,7 +27,7 @@ fn begins(role: Role, first: u8) -> bool
 }
 
 /// Nothing, or a comment.
-pub fn is_comment(bytes: &[u8]) -> bool
+fn is_comment(bytes: &[u8]) -> bool
     ensures { result ≡ is_comment bytes.now }
 {
     match bytes.split_first() {
@@ -44,6 +44,16 @@ pub fn is_bare(text: &[u8]) -> bool
     is_comment(after_blanks(text))
 }
 
+/// Nothing stands here, or a comment.
+pub fn read_bare(bytes: &[u8]) -> Result<(), ReadError>
+    ensures { GivesRead (λ _. tt) result (bare_at bytes.now) }
+{
+    if !is_comment(bytes) {
+        return refuse(LineReason::Syntax, bytes.len());
+    }
+    Ok(())
+}
+
 /// The full stop behind tabs and spaces, and then nothing or a comment.
 #[tactic(auto, unfolding(crate::specs::LineReading::closed_at))]
 fn read_end(bytes: &[u8]) -> Result<(), ReadError>
@@ -53,34 +63,21 @@ fn read_end(bytes: &[u8]) -> Result<(), ReadError>
     let [b'.', behind @ ..] = bytes else {
         return refuse(LineReason::Syntax, bytes.len());
     };
-    let behind = after_blanks(behind);
-    if !is_comment(behind) {
-        return refuse(LineReason::Syntax, behind.len());
-    }
-    Ok(())
-}
-
-/// The term of the role that begins here, and the bytes after it.
-#[tactic(auto, unfolding(crate::specs::LineReading::role_here))]
-fn read_here(alloc: Global, role: Role, bytes: &[u8]) -> Result<(Term, &[u8]), ReadError>
-    requires { IsUtf8 bytes.now }
-    ensures reads { GivesRead (λ x. (x.0, x.1.now)) result (role_here role bytes.now) }
-    ensures utf8 { IfOk result (λ x. IsUtf8 x.1.now) }
-{
-    match bytes.split_first() {
-        Some((first, _)) if begins(role, *first) => read_term(alloc, bytes),
-        _ => refuse(LineReason::Syntax, bytes.len()),
-    }
+    read_bare(after_blanks(behind))
 }
 
 /// The term of the role behind tabs and spaces, and the bytes after it.
-#[tactic(auto, unfolding(crate::specs::LineReading::role_at))]
+#[tactic(auto, unfolding(crate::specs::LineReading::role_at, crate::specs::LineReading::role_here))]
 fn read_role(alloc: Global, role: Role, bytes: &[u8]) -> Result<(Term, &[u8]), ReadError>
     requires { IsUtf8 bytes.now }
     ensures reads { GivesRead (λ x. (x.0, x.1.now)) result (role_at role bytes.now) }
     ensures utf8 { IfOk result (λ x. IsUtf8 x.1.now) }
 {
-    read_here(alloc, role, after_blanks(bytes))
+    let bytes = after_blanks(bytes);
+    match bytes.split_first() {
+        Some((first, _)) if begins(role, *first) => read_term(alloc, bytes),
+        _ => refuse(LineReason::Syntax, bytes.len()),
+    }
 }
 
 /// Appends the string of the term of the role that begins here, and answers the bytes after it.

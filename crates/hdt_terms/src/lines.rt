@@ -1,5 +1,5 @@
 //! The lines of a document, over any reader in any pieces.
-ghost use Rattle.std.specs.Prelude.{◌≡◌, ◌≢◌, ◌+◌, ◌-◌, ◌==◌, ◌&&◌, if◌then◌else◌, take, slice_index, nat_lt, ◌^◌, ◌<◌, ◌≤◌, true, false, [], length, IfOk, OnOk, OnErr, IfErr, IsErrOf, IsUtf8, None, Some, Ok, Err, IfSome};
+ghost use Rattle.std.specs.Prelude.{◌≡◌, ◌≢◌, ◌+◌, ◌-◌, ◌==◌, take, slice_index, ◌^◌, ◌<◌, ◌≤◌, true, false, [], length, IfOk, OnOk, OnErr, IfErr, IsErrOf, IsUtf8, None, Some, Ok, Err, IfSome};
 ghost use Rattle.hdt_wire.specs.Counted.{inner, failures};
 ghost use Rattle.hdt_terms.specs.Chars.{is_end};
 ghost use Rattle.hdt_terms.specs.Inside.Filling.{Filled, text_len};
@@ -16,25 +16,6 @@ use hdt_wire::Counted;
 use std::alloc::{AllocError, Global};
 use std::io::Read;
 use std::marker::Model;
-
-/// How many line ends a line with its end adds: none where the end is a line feed behind the carriage return before.
-fn line_ends_of(after_cr: bool, n: usize, end: u8) -> u64
-    ensures value { result ≡ (if after_cr && n == 0 && end == 10 then 0 else 1) }
-    ensures bound { result ≤ 1 }
-{
-    if after_cr && n == 0 && end == b'\n' {
-        0
-    } else {
-        1
-    }
-}
-
-/// Whether the byte before is still the last one after n bytes, none of which is a carriage return.
-fn keeps_cr(after_cr: bool, n: usize) -> bool
-    ensures { result ≡ (after_cr && n == 0) }
-{
-    after_cr && n == 0
-}
 
 /// The triples of a document, line by line, over any reader in any pieces (W3C RDF 1.1 N-Triples, by the profile of
 /// docs/NTRIPLES.md).
@@ -72,10 +53,9 @@ impl Model for Lines {
 }
 
 impl Lines {
-    ghost use Rattle.std.specs.Prelude.{List, ℕ};
     ghost use Rattle.hdt_terms.specs.LineReading.{is_bare};
     ghost use Rattle.hdt_terms.specs.TakingText.{TakesText, StandsNext, AnswersText, NoText};
-    ghost use Rattle.hdt_terms.specs.Taking.{State, start, left, line_number, take_of, take_line, Looked, Parsed, ParsedStrings, Ready, FindsLine, TakesNext, AnswersStrings, NoStrings};
+    ghost use Rattle.hdt_terms.specs.Taking.{State, start, left, line_number, take_of, take_line, Looked, Parsed, ParsedStrings, FindsLine, TakesNext, AnswersStrings, NoStrings};
 
     /// A reader of lines that has taken nothing. The input may have so many bytes at most: where it has more,
     /// [`LineReason::TooLong`] stands behind the lines that are whole within the limit. It allocates 64 KiB, whatever the limit.
@@ -93,13 +73,6 @@ impl Lines {
             ended: false,
             failed: None,
         })
-    }
-
-    /// Whether the last line was taken.
-    fn has_ended(&self) -> bool
-        ensures { result ≡ self.now.ended }
-    {
-        self.ended
     }
 
     /// Reads until the text of the next line is held, and answers how many bytes it has, and whether it was seen that they
@@ -135,13 +108,6 @@ impl Lines {
         ensures { result ≡ line_number self.now }
     {
         if self.ended { self.ends + 1 } else { self.ends }
-    }
-
-    /// The fault is the answer from now on.
-    fn fail(&mut self, fault: LineFault)
-        ensures { self.new ≡ record self.old { failed = Some fault } }
-    {
-        self.failed = Some(fault);
     }
 
     /// Whether the line of n bytes at the front is bare; refuses one that is not UTF-8, which may be seen already.
@@ -213,8 +179,9 @@ impl Lines {
         ensures { self.new ≡ take_of self.old (n + 1) }
     {
         let end = self.held.as_slice()[n];
-        let more = line_ends_of(self.after_cr, n, end);
-        self.ends += more;
+        // A line feed behind the carriage return before ends no other line.
+        let same = self.after_cr & (n == 0) & (end == b'\n');
+        self.ends += u64::from(!same);
         self.after_cr = end == b'\r';
         self.held.skip(n + 1);
         self.taken += n as u64 + 1;
@@ -226,7 +193,7 @@ impl Lines {
         ensures { self.new ≡ record (take_of self.old (length self.old.held)) { ended = true } }
     {
         let n = self.held.len();
-        self.after_cr = keeps_cr(self.after_cr, n);
+        self.after_cr &= n == 0;
         self.held.skip(n);
         self.taken += n as u64;
         self.ended = true;
@@ -254,7 +221,7 @@ impl Lines {
                 Err(fault) => return Err(fault),
             }
             self.take(n);
-            if self.has_ended() {
+            if self.ended {
                 return Ok(None);
             }
         }
@@ -346,7 +313,7 @@ impl Lines {
         match self.take_triple(input) {
             Ok(found) => Ok(found),
             Err(fault) => {
-                self.fail(fault);
+                self.failed = Some(fault);
                 Err(fault)
             }
         }
@@ -397,7 +364,7 @@ impl Lines {
             }
             Err(fault) => {
                 clear_all(s, p, o);
-                self.fail(fault);
+                self.failed = Some(fault);
                 Err(fault)
             }
         }
@@ -423,7 +390,7 @@ impl Lines {
             Ok(found) => found,
             Err(reason) => return Err(self.fault(0, reason)),
         };
-        match put_text(&self.held.as_slice()[..n], text) {
+        match text.extend_from_slice(&self.held.as_slice()[..n]) {
             Ok(()) => {}
             Err(AllocError) => return Err(self.fault(0, LineReason::OutOfMemory)),
         }
@@ -470,20 +437,11 @@ impl Lines {
         match self.take_text(input, text) {
             Ok(()) => Ok(true),
             Err(fault) => {
-                self.fail(fault);
+                self.failed = Some(fault);
                 Err(fault)
             }
         }
     }
-}
-
-/// Puts the text into the buffer, which is empty.
-fn put_text(text: &[u8], out: &mut Vec<u8>) -> Result<(), AllocError>
-    requires { out.old.items ≡ [] }
-    ensures ok { OnOk result (out.new.items ≡ text.now) }
-    ensures err { OnErr result (out.new.items ≡ []) }
-{
-    out.extend_from_slice(text)
 }
 
 /// Empties the buffers.

@@ -1,5 +1,5 @@
 //! Literals.
-ghost use Rattle.std.specs.Prelude.{◌≡◌, length, IsUtf8};
+ghost use Rattle.std.specs.Prelude.{◌≡◌, IsUtf8};
 ghost use Rattle.std.specs.Str.{bytes_eq};
 ghost use Rattle.hdt_terms.specs.Terms.{xsd_string};
 ghost use Rattle.hdt_terms.specs.Reading.{GivesRead, after_blanks, datatype_of, datatype_at, suffix_at, literal_at};

@@ -1,5 +1,5 @@
 //! The inside of an IRI or a string, its escapes resolved.
-ghost use Rattle.std.specs.Prelude.{◌≡◌, ◌≤◌, ◌+◌, ◌^◌, ◌<◌, ◌∷◌, length, false, ◌++◌, encode_utf8, IfSome, IfOk, IfErr, OnOk, OnErr};
+ghost use Rattle.std.specs.Prelude.{◌≡◌, ◌≤◌, ◌+◌, ◌^◌, ◌<◌, length, false, ◌++◌, encode_utf8, IfSome, IfOk, IfErr, OnOk, OnErr};
 ghost use Rattle.std.specs.Prelude.{ℕ, true, slice_index};
 ghost use Rattle.hdt_terms.specs.Chars.{echar};
 ghost use Rattle.hdt_terms.specs.Spelling.{close, is_raw};

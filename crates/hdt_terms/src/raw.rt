@@ -1,7 +1,7 @@
 //! Reading a request of dictionary strings.
-ghost use Rattle.std.specs.Prelude.{◌≡◌, ◌++◌, [], Ok, Err, Option, MatchOption, IfOk};
+ghost use Rattle.std.specs.Prelude.{◌≡◌, [], Ok, Err, Option};
 ghost use Rattle.hdt_terms.specs.Appending.{AppendsRead, itself};
-ghost use Rattle.hdt_terms.specs.RawReading.{raw_letter, raw_escape, raw_at, tab_at, nothing_at, raw_request_at, raw_request_in, is_raw_given, FillsRaw, HoldsRaw, IsLetterAt};
+ghost use Rattle.hdt_terms.specs.RawReading.{raw_letter, raw_at, tab_at, nothing_at, raw_request_at, raw_request_in, is_raw_given, FillsRaw, HoldsRaw, IsLetterAt};
 ghost use Rattle.hdt_terms.specs.Reading.{GivesRead};
 
 use crate::encoding::check_utf8;
@@ -25,13 +25,8 @@ fn letter(letter: u8) -> Option<u8>
 fn letter_at(rest: &[u8]) -> Option<(u8, &[u8])>
     ensures { IsLetterAt (λ x. x.0) (λ x. x.1.now) rest.now result }
 {
-    let Some((first, behind)) = rest.split_first() else {
-        return None;
-    };
-    match letter(*first) {
-        Some(byte) => Some((byte, behind)),
-        None => None,
-    }
+    let (first, behind) = rest.split_first()?;
+    Some((letter(*first)?, behind))
 }
 
 /// Appends the string that stands here, its escapes resolved, and answers the bytes from the tab behind it on.

@@ -1,42 +1,17 @@
 //! Reading a request: a line of three words, each a term or `?` for any.
-ghost use Rattle.std.specs.Prelude.{◌≡◌, [], IfOk, IsUtf8};
-ghost use Rattle.hdt_terms.specs.RequestReading.{part_here, part_at, stop_at, request_at, request_in, FillsPart, FillsAsked, HoldsRequest};
-ghost use Rattle.hdt_terms.specs.LineReading.{bare_at};
+ghost use Rattle.std.specs.Prelude.{IfOk, IsUtf8};
+ghost use Rattle.hdt_terms.specs.RequestReading.{part_at, stop_at, request_at, request_in, FillsPart, FillsAsked, HoldsRequest};
 ghost use Rattle.hdt_terms.specs.Reading.{GivesRead};
 
 use crate::encoding::check_utf8;
 use crate::fault::{LineReason, ReadError, TermFault, fault_of, refuse};
-use crate::line::{append_here, is_bare, is_comment};
+use crate::line::{append_here, is_bare, read_bare};
 use crate::literal::after_blanks;
 use hdt_wire::Role;
 
-/// Puts the string of the term of the role that begins here into the buffer, where it is not `?`: whether there is a term,
-/// and the bytes after it.
-#[tactic(auto, unfolding(crate::specs::RequestReading::part_here))]
-fn put_part_here<'a>(
-    role: Role,
-    bytes: &'a [u8],
-    out: &mut Vec<u8>,
-) -> Result<(bool, &'a [u8]), ReadError>
-    requires { IsUtf8 bytes.now }
-    ensures reads { FillsPart (λ x. x.0) (λ x. x.1.now) out.new.items result (part_here role bytes.now) }
-    ensures utf8 { IfOk result (λ x. IsUtf8 x.1.now) }
-{
-    out.clear();
-    let Some((first, rest)) = bytes.split_first() else {
-        return refuse(LineReason::Syntax, bytes.len());
-    };
-    if *first == b'?' {
-        return Ok((false, rest));
-    }
-    match append_here(role, bytes, out) {
-        Ok(rest) => Ok((true, rest)),
-        Err(error) => Err(error),
-    }
-}
-
-/// The same behind tabs and spaces.
-#[tactic(auto, unfolding(crate::specs::RequestReading::part_at))]
+/// Puts the string of the term of the role behind tabs and spaces into the buffer, where it is not `?`: whether there is a
+/// term, and the bytes after it.
+#[tactic(auto, unfolding(crate::specs::RequestReading::part_at, crate::specs::RequestReading::part_here))]
 fn put_part<'a>(
     role: Role,
     bytes: &'a [u8],
@@ -46,17 +21,16 @@ fn put_part<'a>(
     ensures reads { FillsPart (λ x. x.0) (λ x. x.1.now) out.new.items result (part_at role bytes.now) }
     ensures utf8 { IfOk result (λ x. IsUtf8 x.1.now) }
 {
-    put_part_here(role, after_blanks(bytes), out)
-}
-
-/// Nothing, or a comment.
-fn read_bare(bytes: &[u8]) -> Result<(), ReadError>
-    ensures { GivesRead (λ _. tt) result (bare_at bytes.now) }
-{
-    if !is_comment(bytes) {
+    out.clear();
+    let bytes = after_blanks(bytes);
+    let Some((first, rest)) = bytes.split_first() else {
         return refuse(LineReason::Syntax, bytes.len());
+    };
+    if *first == b'?' {
+        return Ok((false, rest));
     }
-    Ok(())
+    let rest = append_here(role, bytes, out)?;
+    Ok((true, rest))
 }
 
 /// A full stop or none behind tabs and spaces, and then nothing or a comment.

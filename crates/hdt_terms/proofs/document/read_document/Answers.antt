@@ -1,12 +1,13 @@
 use Rattle.std.proofs.Common.{◌≡◌, false, ⊎_elim, ◌∙◌, arith}
-use Rattle.hdt_terms.proofs.Running.{either, triple_size, ran_on, document_last, document_rest, fault_behind, memory_first, memory_behind}
+use Rattle.std.proofs.lemmas.Bool.{cases_Bool, false_from_ne_true}
+use Rattle.hdt_terms.proofs.Running.{triple_size, ran_on, document_last, document_rest, fault_behind, memory_first, memory_behind}
 use Rattle.hdt_terms.proofs.document.read_document.Goals as goal
 
 pub returns-in-Err-next_triple-clause-fault : goal.returns-in-Err-next_triple-clause-fault
 returns-in-Err-next_triple-clause-fault g c =
     let inv = c.triples.invariant in
     let read = c.in-Err-next_triple.ensures in
-    let going : c.triples.lines.ended ≡ false = ⊎_elim (λ end. absurd (cc (read.ended inv.failed end).0)) (λ e. e) (either c.triples.lines.ended) in
+    let going : c.triples.lines.ended ≡ false = false_from_ne_true _ (λ end. cc (read.ended inv.failed end).0) in
     fault_behind c.in-Err-next_triple.fault c.args.limit c.triples.lines _ _ _ _ (inv.going going) (read.answers inv.failed going)
 
 pub returns-in-Ok-None-clause-found : goal.returns-in-Ok-None-clause-found
@@ -14,21 +15,13 @@ returns-in-Ok-None-clause-found g c =
     let inv = c.triples.invariant in
     ⊎_elim (λ end. inv.ended end)
     (λ going. document_rest c.args.limit c.triples.lines c.next_triple.new.self _ _ _ _ (inv.going going) (rw c.in-Ok-None.field-0-is at c.in-Ok-None.ensures.answers inv.failed going))
-    (either c.triples.lines.ended)
-
-pub triples-smaller : goal.triples-smaller
-triples-smaller g c =
-    let inv = c.triples.invariant in
-    let read = c.in-Ok-Some.ensures in
-    let going : c.triples.lines.ended ≡ false = ⊎_elim (λ end. absurd (cc ((read.ended inv.failed end).0, c.in-Ok-Some.field-0-is))) (λ e. e) (either c.triples.lines.ended) in
-    let size = triple_size _ _ c.triples.lines c.next_triple.new.self c.in-Ok-Some.triple (rw c.in-Ok-Some.field-0-is at read.answers inv.failed going) in
-    omega (arith, size.0, size.1, size.2)
+    (cases_Bool c.triples.lines.ended)
 
 pub triples-preserved : goal.triples-preserved
 triples-preserved g c =
     let inv = c.triples.invariant in
     let read = c.in-Ok-Some.ensures in
-    let going : c.triples.lines.ended ≡ false = ⊎_elim (λ end. absurd (cc ((read.ended inv.failed end).0, c.in-Ok-Some.field-0-is))) (λ e. e) (either c.triples.lines.ended) in
+    let going : c.triples.lines.ended ≡ false = false_from_ne_true _ (λ end. cc ((read.ended inv.failed end).0, c.in-Ok-Some.field-0-is)) in
     let taken = rw c.in-Ok-Some.field-0-is at read.answers inv.failed going in
     record {
       failed = taken.2.failed ∙ inv.failed;
@@ -44,5 +37,5 @@ pub returns-in-Err-push-clause-fault : goal.returns-in-Err-push-clause-fault
 returns-in-Err-push-clause-fault g c =
     let inv = c.triples.invariant in
     let read = c.in-Ok-Some.ensures in
-    let going : c.triples.lines.ended ≡ false = ⊎_elim (λ end. absurd (cc ((read.ended inv.failed end).0, c.in-Ok-Some.field-0-is))) (λ e. e) (either c.triples.lines.ended) in
+    let going : c.triples.lines.ended ≡ false = false_from_ne_true _ (λ end. cc ((read.ended inv.failed end).0, c.in-Ok-Some.field-0-is)) in
     memory_behind c.no_memory-in-Err-push.result c.args.limit c.triples.lines c.next_triple.new.self _ _ _ _ _ c.in-Ok-Some.triple (inv.going going) (rw c.in-Ok-Some.field-0-is at read.answers inv.failed going) (rw c.line_number.ensures at c.no_memory-in-Err-push.ensures)

@@ -9,9 +9,6 @@ returns-then-n-bytes-clause-utf8 c = line_utf8 c.args.bytes.now c.run_len-n.resu
 pub returns-then-n-bytes-clause-end : goal.returns-then-n-bytes-clause-end
 returns-then-n-bytes-clause-end c = λ yes. (c.if-n-bytes.true, sym c.is_end.ensures ∙ yes, ascii_no_end c.args.bytes.now c.run_len-n.result c.run_len-n.ensures.within c.run_len-n.ensures.run)
 
-pub returns-then-n-bytes-clause-none : goal.returns-then-n-bytes-clause-none
-returns-then-n-bytes-clause-none c = ascii_no_end c.args.bytes.now c.run_len-n.result c.run_len-n.ensures.within c.run_len-n.ensures.run
-
 pub returns-else-n-bytes-clause-none : goal.returns-else-n-bytes-clause-none
 returns-else-n-bytes-clause-none c = ascii_no_end c.args.bytes.now c.run_len-n.result c.run_len-n.ensures.within c.run_len-n.ensures.run
 

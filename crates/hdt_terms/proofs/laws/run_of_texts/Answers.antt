@@ -1,14 +1,8 @@
 use Rattle.hdt_terms.proofs.RunningTexts.{texts_begin, texts_on, texts_last, fault_next}
 use Rattle.hdt_terms.proofs.laws.run_of_texts.Goals as goal
 
-pub returns-clause-begins : goal.returns-clause-begins
-returns-clause-begins c = texts_begin
-
 pub returns-clause-goes_on : goal.returns-clause-goes_on
 returns-clause-goes_on c = texts_on
 
 pub returns-clause-last : goal.returns-clause-last
 returns-clause-last c = texts_last
-
-pub returns-clause-fault : goal.returns-clause-fault
-returns-clause-fault c = fault_next

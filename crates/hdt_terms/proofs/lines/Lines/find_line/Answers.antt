@@ -4,37 +4,25 @@ use Rattle.hdt_terms.proofs.Answering.{rest_taken, bare_taken}
 use Rattle.hdt_terms.proofs.Taken.{held_taken, held_ready, look_fault, stands_unread, stands_behind}
 use Rattle.hdt_terms.proofs.lines.Lines.find_line.Goals as goal
 
-pub returns-in-Err-clause-does : goal.returns-in-Err-clause-does
-returns-in-Err-clause-does g c =
-    let before = c.lines.invariant.taken in
-    let held = c.in-Err.ensures in
-    rw c.fault.ensures (stands_behind _ _ c.lines.self _ _ _ before.0 before.1 before.2 (ap (λ (s : State). s.ends + 1) held.others) (stands_unread c.in-Err.reason _ _ _ _ _ _ held.room held.does))
-
-pub returns-in-Ok-false-clause-does : goal.returns-in-Ok-false-clause-does
-returns-in-Ok-false-clause-does g c =
-    let before = c.lines.invariant.taken in
-    let held = c.in-Ok.ensures in
-    held_ready _ c.lines.self c.hold_line.new.self c.hold_line.new.self _ _ _ c.in-Ok.found.0 _ before.0 before.1 before.2 held.does held.others held.within c.lines.invariant.going (rw c.in-Ok-false.field-0-test at c.in-Ok-false.ensures)
-
 pub returns-in-Err-look-clause-does : goal.returns-in-Err-look-clause-does
 returns-in-Err-look-clause-does g c =
     let before = c.lines.invariant.taken in
     let held = c.in-Ok.ensures in
     look_fault _ c.lines.self c.hold_line.new.self c.hold_line.new.self _ _ _ c.in-Ok.found.0 _ before.0 before.1 before.2 held.does held.others held.within c.in-Err-look.fault c.in-Err-look.ensures
 
-pub returns-then-has_ended-clause-does : goal.returns-then-has_ended-clause-does
-returns-then-has_ended-clause-does g c =
+pub returns-then-self-clause-does : goal.returns-then-self-clause-does
+returns-then-self-clause-does g c =
     let before = c.lines.invariant.taken in
     let held = c.in-Ok.ensures in
     let taken = held_taken _ c.lines.self c.hold_line.new.self c.take.new.self _ _ _ c.in-Ok.found.0 _ before.0 before.1 before.2 held.does held.others held.within c.lines.invariant.going c.take.ensures in
-    rest_taken _ c.lines.self c.take.new.self _ _ _ before.0 _ before.1 before.2 taken (rw c.in-Ok-true.field-0-test at c.in-Ok-true.ensures) (sym c.has_ended.ensures ∙ c.if-has_ended.true)
+    rest_taken _ c.lines.self c.take.new.self _ _ _ before.0 _ before.1 before.2 taken (rw c.in-Ok-true.field-0-test at c.in-Ok-true.ensures) (ap (λ (s : State). s.ended) (sym c.self-in-lines.view_is) ∙ c.if-self.true)
 
 pub lines-preserved : goal.lines-preserved
 lines-preserved g c =
     let before = c.lines.invariant.taken in
     let held = c.in-Ok.ensures in
     let taken = held_taken _ c.lines.self c.hold_line.new.self c.take.new.self _ _ _ c.in-Ok.found.0 _ before.0 before.1 before.2 held.does held.others held.within c.lines.invariant.going c.take.ensures in
-    let going = sym c.has_ended.ensures ∙ c.if-has_ended.false in
+    let going = ap (λ (s : State). s.ended) (sym c.self-in-lines.view_is) ∙ c.if-self.false in
     record {
       taken = bare_taken _ c.lines.self c.take.new.self _ _ _ before.0 _ before.1 before.2 taken (rw c.in-Ok-true.field-0-test at c.in-Ok-true.ensures) going;
       going = going;

@@ -7,4 +7,4 @@ pub returns-clause-does : goal.returns-clause-does
 returns-clause-does g c =
     let held = c.in-Ok.ensures in
     text_taken c.args.self.now c.hold_line.new.self c.take.new.self _ _ c.in-Ok.found.0 _ _ held.does held.others held.within c.requires.going c.take.ensures
-    (c.in-Ok-put_text.ensures.ok ∙ ap (take c.in-Ok.found.0) (c.as_slice.ensures ∙ ap (λ (s : State). s.held) c.self.view_is))
+    ((rw c.requires.empty at c.in-Ok-extend_from_slice.ensures.items) ∙ ap (take c.in-Ok.found.0) (c.as_slice.ensures ∙ ap (λ (s : State). s.held) c.self.view_is))

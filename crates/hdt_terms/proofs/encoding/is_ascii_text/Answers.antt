@@ -1,6 +1,6 @@
-use Rattle.std.proofs.lemmas.Bool.{eqb-true}
 use Rattle.hdt_terms.proofs.StringParts.{all_ascii}
-use Rattle.hdt_terms.proofs.encoding.is_ascii.Goals as goal
+use Rattle.std.proofs.lemmas.Bool.{eqb-true}
+use Rattle.hdt_terms.proofs.encoding.is_ascii_text.Goals as goal
 
 pub returns : goal.returns
 returns c = λ yes. all_ascii c.args.bytes.now c.run_len.result (eqb-true _ _ yes) c.run_len.ensures.run

@@ -1,5 +1,0 @@
-use Rattle.std.proofs.lemmas.Str.{IsUtf8-from_ascii}
-use Rattle.hdt_terms.proofs.encoding.is_utf8.Goals as goal
-
-pub returns-then-is_ascii : goal.returns-then-is_ascii
-returns-then-is_ascii c = (λ yes. IsUtf8-from_ascii c.args.bytes.now (c.is_ascii.ensures yes), λ utf8. c.if-is_ascii.true)
