@@ -5,7 +5,7 @@ ghost use Rattle.hdt_wire.specs.Control.{block_of, block_at, control, control_at
 
 use crate::check::check16;
 use crate::fault::{Fault, Reason};
-use crate::rows::{cut_on_error, bytes_at, demand, text_at};
+use crate::rows::{bytes_at, cut_on_error, demand, text_at};
 use byteorder::{ByteOrder, LittleEndian};
 use std::alloc::AllocError;
 
