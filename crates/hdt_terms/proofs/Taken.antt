@@ -229,11 +229,3 @@ module _ (a s held new : State) (before given given' : Option (List ℕ)) (n mos
 
   pub held_taken : s.ended ≡ false → new ≡ take_line held n → LineTaken s new (take n held.held) (left s given) (left new given')
   held_taken going is = line_held s held new given given' n most filled others within going is
-
-  pub held_ready : s.ended ≡ false → Looked (Ok false) held (take n held.held) → FindsLine (Ok (Some n)) a held before (left held given') given'
-  held_ready going seen = (
-    front,
-    subst (λ (t : State). Takes a t before (left t given') front) (sym others) (takes_held a s held.held before given given' front takes filled.0 within),
-    bare,
-    record { front = filled.1; utf8 = seen.0; triple = seen.1; going = ap (λ (x : State). x.ended) others ∙ going },
-  )
