@@ -1,15 +1,13 @@
 -- A whole run over the texts of lines: what was taken grows line by line, up to the lines of the input.
-use Rattle.std.proofs.Common.{◌≡◌, ℕ, Bool, true, false, List, [], ◌∷◌, ◌++◌, length, ◌+◌, arith, Option, None, Some, inl, inr, sym, refl, ap, subst, ◌∙◌, append_assoc, append-nil, zero-add, add-zero}
+use Rattle.std.proofs.Common.{◌≡◌, ℕ, Bool, true, false, List, [], ◌∷◌, ◌++◌, length, ◌+◌, arith, Option, None, Some, inl, inr, sym, refl, ap, ◌∙◌, append_assoc, append-nil, zero-add, add-zero}
 use Rattle.std.specs.Io.KnownBytes.{IsAtEnd}
 use Rattle.std.proofs.lemmas.List.Elements.{All-head, All-tail}
 use Rattle.hdt_terms.specs.Chars.{is_end}
-use Rattle.hdt_terms.specs.Documents.{numbered_lines, AreLines, RanTexts, FaultBehind}
+use Rattle.hdt_terms.specs.Documents.{numbered_lines, AreLines, RanTexts}
 use Rattle.hdt_terms.specs.Lines.{NoEnd, line_ends, ends_in_cr}
-use Rattle.hdt_terms.specs.declared.fault.LineFault.{LineFault}
-use Rattle.hdt_terms.specs.Taking.{State, start, left, line_number, Takes}
-use Rattle.hdt_terms.specs.TakingText.{TakesText, StandsNext, StandsUnread}
+use Rattle.hdt_terms.specs.Taking.{State, start, line_number, Takes}
+use Rattle.hdt_terms.specs.TakingText.{TakesText}
 use Rattle.hdt_terms.proofs.Counting.{head_no_cr, head_no_lf, ends_in_cr-ended, line_ends-no_end, Takes-trans}
-use Rattle.hdt_terms.proofs.Running.{nothing_taken}
 
 -- ---- one line at the front
 
