@@ -1,5 +1,5 @@
 -- A whole run: what was taken grows line by line, up to the document or the fault.
-use Rattle.std.proofs.Common.{◌≡◌, ℕ, Bool, true, false, List, [], ◌∷◌, ◌++◌, length, ◌+◌, ◌<◌, ◌≤◌, arith, Option, None, Some, eqb, inl, inr, sym, refl, ap, subst, ◌∙◌, append_assoc, append-nil, zero-add}
+use Rattle.std.proofs.Common.{◌≡◌, ℕ, Bool, true, false, List, [], ◌∷◌, ◌++◌, length, ◌+◌, ◌<◌, arith, Option, None, Some, eqb, inl, inr, sym, refl, ap, subst, ◌∙◌, append_assoc, append-nil, zero-add}
 use Rattle.std.proofs.lemmas.Bool.{ne_eqb}
 use Rattle.std.proofs.lemmas.List.Elements.{filter_map-append}
 use Rattle.std.proofs.lemmas.List.{length-append}
@@ -183,10 +183,3 @@ pub memory_behind : (fault : LineFault) (limit : ℕ) (s new : State) (all mid a
     → fault ≡ record { line = line_number new; column = 0; reason = OutOfMemory } → FaultInDocument fault limit all given
 memory_behind fault limit s new all mid after given triples triple r t is =
     fault_behind fault limit s all mid given triples r (subst (λ (f : LineFault). FaultIsAhead f s mid given) (sym is) (memory_stands s new mid after given triple t))
-
--- ---- of a run
-
-pub triple_size : (x y : Option (List ℕ)) (old new : State) (triple : Triple) → TakesTriple old new x y triple → (old.taken < new.taken) × (new.taken ≤ old.limit) × (new.limit ≡ old.limit)
-triple_size x y old new triple t =
-    let some : 0 < length t.1 = elim t.4.3 [ inl w ↦ omega (arith, ap length w.2, length-append t.4.0 (w.0 ∷ [])) | inr w ↦ subst (λ l. 0 < length l) (sym w.0) (triple_some t.4.0 triple t.4.1.1) ] in
-    (omega (arith, t.2.taken, length-append t.0 t.1), omega (arith, t.2.within, t.2.limit), t.2.limit)

@@ -1,22 +1,13 @@
 -- A whole run over the texts of lines: what was taken grows line by line, up to the lines of the input.
-use Rattle.std.proofs.Common.{◌≡◌, ℕ, Bool, true, false, List, [], ◌∷◌, ◌++◌, length, ◌+◌, arith, Option, None, Some, inl, inr, sym, refl, ap, subst, ◌∙◌, append_assoc, append-nil, zero-add, add-zero}
+use Rattle.std.proofs.Common.{◌≡◌, ℕ, Bool, true, false, List, [], ◌∷◌, ◌++◌, length, ◌+◌, arith, Option, None, Some, inl, inr, sym, refl, ap, ◌∙◌, append_assoc, append-nil, zero-add, add-zero}
 use Rattle.std.specs.Io.KnownBytes.{IsAtEnd}
 use Rattle.std.proofs.lemmas.List.Elements.{All-head, All-tail}
 use Rattle.hdt_terms.specs.Chars.{is_end}
-use Rattle.hdt_terms.specs.Documents.{numbered_lines, AreLines, RanTexts, FaultBehind}
+use Rattle.hdt_terms.specs.Documents.{numbered_lines, AreLines, RanTexts}
 use Rattle.hdt_terms.specs.Lines.{NoEnd, line_ends, ends_in_cr}
-use Rattle.hdt_terms.specs.declared.fault.LineFault.{LineFault}
-use Rattle.hdt_terms.specs.Taking.{State, start, left, line_number, Takes}
-use Rattle.hdt_terms.specs.TakingText.{TakesText, StandsNext, StandsUnread}
+use Rattle.hdt_terms.specs.Taking.{State, start, line_number, Takes}
+use Rattle.hdt_terms.specs.TakingText.{TakesText}
 use Rattle.hdt_terms.proofs.Counting.{head_no_cr, head_no_lf, ends_in_cr-ended, line_ends-no_end, Takes-trans}
-use Rattle.hdt_terms.proofs.Running.{nothing_taken}
-
-pub texts_begin : (limit : ℕ) (input : Option (List ℕ)) → RanTexts limit (start limit) input (left (start limit) input) []
-texts_begin limit input = record {
-  front = [];
-  takes = record { consumed = nothing_taken input; taken = refl; ends = refl; after_cr = refl; within = omega arith; limit = refl; failed = refl };
-  lines_are = λ rest. refl;
-}
 
 -- ---- one line at the front
 
@@ -74,20 +65,3 @@ texts_last limit s new input mid after lines text r t end =
           all_lines limit new input after (r.front ++ t.0) (lines ++ (line_number new, text) ∷ []) (Takes-trans (start limit) s new input mid after r.front t.0 r.takes t.1) w.3
           (r.lines_are t.0 ∙ ap (λ l. lines ++ numbered_lines s.after_cr s.ends l) w.0 ∙ ap (λ l. lines ++ l) (last_line s.after_cr s.ends text t.2.0) ∙ rw (end, ends) refl)
     ]
-
--- the line behind those that were taken can't be had
-pub fault_next : (fault : LineFault) (limit : ℕ) (s : State) (input mid given : Option (List ℕ)) (lines : List (ℕ × List ℕ)) → RanTexts limit s input mid lines → StandsNext fault s mid given
-    → FaultBehind fault limit input given lines
-fault_next fault limit s input mid given lines r st =
-    let taken : s.taken ≡ length r.front = r.takes.taken ∙ zero-add (length r.front) in
-    let ends : s.ends ≡ line_ends false r.front = r.takes.ends ∙ zero-add (line_ends false r.front) in
-    record {
-      front = r.front;
-      left = mid;
-      consumed = r.takes.consumed;
-      lines_are = λ rest. r.lines_are rest ∙ rw (r.takes.after_cr, ends) refl;
-      line = st.line ∙ ap (λ k. k + 1) ends;
-      column = st.column;
-      fault_is =
-          subst (λ k. StandsUnread fault.reason k limit mid given) taken (subst (λ k. StandsUnread fault.reason s.taken k mid given) r.takes.limit st.fault_is);
-    }

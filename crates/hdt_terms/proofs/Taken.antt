@@ -14,7 +14,7 @@ use Rattle.hdt_terms.specs.Chars.{is_end}
 use Rattle.hdt_terms.specs.Inside.Filling.{Grew, LineFront, Filled}
 use Rattle.hdt_terms.specs.LineReading.{is_bare}
 use Rattle.hdt_terms.specs.Lines.{NoEnd, Line, BareLines}
-use Rattle.hdt_terms.specs.Taking.{State, left, take_of, take_line, Takes, OneLine, WholeLine, StandsInLine, FaultIsAhead, FaultOfTriple, Looked, FindsLine}
+use Rattle.hdt_terms.specs.Taking.{State, left, take_of, take_line, Takes, OneLine, WholeLine, StandsInLine, FaultIsAhead, FaultOfTriple, Looked}
 use Rattle.hdt_terms.specs.TakingText.{IsLineOf, TakesText}
 use Rattle.hdt_terms.proofs.LineFound.{line_fault}
 
@@ -134,18 +134,6 @@ line_taken old h n given given' grew front within going =
 
 -- ---- what is held grew, and nothing was taken
 
-pub takes_held : (a old : State) (h : List ℕ) (before given given' : Option (List ℕ)) (bytes : List ℕ) → Takes a old before (left old given) bytes → Grew old.held h given given' → old.taken + length h ≤ old.limit
-    → Takes a (record old { held = h }) before (prepend_known h given') bytes
-takes_held a old h before given given' bytes t grew within = record {
-  consumed = Consumes-Keeps before (left old given) (prepend_known h given') bytes t.consumed (left_kept old.held h given given' grew);
-  taken = t.taken;
-  ends = t.ends;
-  after_cr = t.after_cr;
-  within = within;
-  limit = t.limit;
-  failed = t.failed;
-}
-
 -- ---- faults
 
 -- a read that fails, or that gives too much
@@ -229,11 +217,3 @@ module _ (a s held new : State) (before given given' : Option (List ℕ)) (n mos
 
   pub held_taken : s.ended ≡ false → new ≡ take_line held n → LineTaken s new (take n held.held) (left s given) (left new given')
   held_taken going is = line_held s held new given given' n most filled others within going is
-
-  pub held_ready : s.ended ≡ false → Looked (Ok false) held (take n held.held) → FindsLine (Ok (Some n)) a held before (left held given') given'
-  held_ready going seen = (
-    front,
-    subst (λ (t : State). Takes a t before (left t given') front) (sym others) (takes_held a s held.held before given given' front takes filled.0 within),
-    bare,
-    record { front = filled.1; utf8 = seen.0; triple = seen.1; going = ap (λ (x : State). x.ended) others ∙ going },
-  )

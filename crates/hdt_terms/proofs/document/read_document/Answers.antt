@@ -1,6 +1,6 @@
-use Rattle.std.proofs.Common.{◌≡◌, false, ⊎_elim, ◌∙◌, arith}
+use Rattle.std.proofs.Common.{◌≡◌, false, ⊎_elim, ◌∙◌}
 use Rattle.std.proofs.lemmas.Bool.{cases_Bool, false_from_ne_true}
-use Rattle.hdt_terms.proofs.Running.{triple_size, ran_on, document_last, document_rest, fault_behind, memory_first, memory_behind}
+use Rattle.hdt_terms.proofs.Running.{ran_on, document_last, document_rest, fault_behind, memory_first, memory_behind}
 use Rattle.hdt_terms.proofs.document.read_document.Goals as goal
 
 pub returns-in-Err-next_triple-clause-fault : goal.returns-in-Err-next_triple-clause-fault

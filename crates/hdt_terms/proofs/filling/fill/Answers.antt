@@ -1,5 +1,4 @@
-use Rattle.std.proofs.Common.{◌∙◌}
-use Rattle.hdt_terms.proofs.Ends.{Grew-trans, found_front, filled_end, filled_fails}
+use Rattle.hdt_terms.proofs.Ends.{Grew-trans, found_front}
 use Rattle.hdt_terms.proofs.filling.fill.Goals as goal
 
 pub returns-in-Some-clause-does : goal.returns-in-Some-clause-does

@@ -1,4 +1,4 @@
-use Rattle.hdt_terms.proofs.RunningTexts.{texts_begin, texts_on, texts_last, fault_next}
+use Rattle.hdt_terms.proofs.RunningTexts.{texts_on, texts_last}
 use Rattle.hdt_terms.proofs.laws.run_of_texts.Goals as goal
 
 pub returns-clause-goes_on : goal.returns-clause-goes_on

@@ -1,8 +1,14 @@
 use Rattle.std.proofs.Common.{◌+◌, sym, ap, ◌∙◌}
 use Rattle.hdt_terms.specs.Taking.{State}
 use Rattle.hdt_terms.proofs.Answering.{rest_taken, bare_taken}
-use Rattle.hdt_terms.proofs.Taken.{held_taken, held_ready, look_fault, stands_unread, stands_behind}
+use Rattle.hdt_terms.proofs.Taken.{held_taken, look_fault, stands_unread, stands_behind}
 use Rattle.hdt_terms.proofs.lines.Lines.find_line.Goals as goal
+
+pub returns-in-Err-clause-does : goal.returns-in-Err-clause-does
+returns-in-Err-clause-does g c =
+    let before = c.lines.invariant.taken in
+    let held = c.in-Err.ensures in
+    rw c.fault.ensures (stands_behind _ _ c.lines.self _ _ _ before.0 before.1 before.2 (ap (λ (s : State). s.ends + 1) held.others) (stands_unread c.in-Err.reason _ _ _ _ _ _ held.room held.does))
 
 pub returns-in-Err-look-clause-does : goal.returns-in-Err-look-clause-does
 returns-in-Err-look-clause-does g c =
