@@ -43,12 +43,6 @@ Keeps-Consumes (Some x) None c bs p q = absurd p
 Keeps-Consumes (Some x) (Some y) None bs p q = absurd q
 Keeps-Consumes (Some x) (Some y) (Some z) bs p q = sym p ∙ q
 
-Consumes-Keeps : (a b c : Option (List ℕ)) (bs : List ℕ) → Consumes a b bs → Keeps b c → Consumes a c bs
-Consumes-Keeps None b c bs p q = tt
-Consumes-Keeps (Some x) None c bs p q = absurd p
-Consumes-Keeps (Some x) (Some y) None bs p q = absurd q
-Consumes-Keeps (Some x) (Some y) (Some z) bs p q = p ∙ ap (λ l. bs ++ l) (sym q)
-
 -- the front of what is held is taken, after the reader gave some of it
 left_front : (held new front rest : List ℕ) (given given' : Option (List ℕ)) → Grew held new given given' → new ≡ front ++ rest → Consumes (prepend_known held given) (prepend_known rest given') front
 left_front held new front rest given given' p e =
