@@ -46,26 +46,12 @@ told_by names words e OutOfMemory h k = tt
 
 -- a fault that is told, by the words for the roles
 with : (names : Names) → AreRoles names → (words : List Text) (fault : UsageFault) → IsRefusedBy names words fault → IsRefused words fault
-with names roles words (Help text) h = record { names = names; roles = roles; refused = h }
-with names roles words (Usage text) h = record { names = names; roles = roles; refused = h }
-with names roles words (Word word fault) h = record { names = names; roles = roles; refused = h }
 with names roles words OutOfMemory h = tt
+with names roles words fault h = record { names = names; roles = roles; refused = h }
 
 -- an error of `clap` is told by its kind
 pub told : (names : Names) → AreRoles names → (words : List Text) (e : Error) (fault : UsageFault) → HasKind (refusals names words) e → TellsKind (kind_of e) fault → IsRefused words fault
 told names roles words e fault h k = with names roles words fault (told_by names words e fault h k)
-
--- a word that has no entry
-pub unstated_some : (o : Option Text) → o ≡ None → IsSome o → ⊥
-unstated_some None e some = search rules
-unstated_some (Some text) e some = cc
-
--- no word is missing where every word has its entry
-pub lacks : (P : Type 0) (fault : UsageFault) → (P → ⊥) → ComesWithout ⊥ fault → ComesWithout P fault
-lacks P (Help text) none h = absurd h
-lacks P (Usage text) none h = none
-lacks P (Word word fault) none h = absurd h
-lacks P OutOfMemory none h = tt
 
 -- the entries of the command that the words name ask for the request that the words want
 pub wanted : (names : Names) → AreRoles names → (words : List Text) (name : Text) (rows : List Row) (r : Result Call UsageFault) → refusals names words ≡ [] → subcommand_of (table names) words ≡ Some (name, rows)
