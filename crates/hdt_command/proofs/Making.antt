@@ -6,9 +6,9 @@ use Rattle.hdt_build.specs.declared.fault.BuildFault.{BuildFault}
 use Rattle.hdt_build.specs.declared.fault.BuildFault.TheVariants as building
 use Rattle.hdt_build.specs.declared.options.Options.{Options}
 use Rattle.hdt_command.specs.declared.fault.ToolFault.{ToolFault}
-use Rattle.hdt_command.specs.declared.fault.ToolFault.TheVariants.{File, Input, NoTriples, NoSuchTerm, NoSuchNumber, NotATerm, BadOptions, Read, Write, OutOfMemory}
+use Rattle.hdt_command.specs.declared.fault.ToolFault.TheVariants.{Read, Write}
 use Rattle.hdt_command.specs.declared.request.Action.{Action}
-use Rattle.hdt_command.specs.declared.request.Action.TheVariants.{Head, Verify, VerifyTight, Strings, Nth, Number, Find, Search, Answer, Build, Rewrite}
+use Rattle.hdt_command.specs.declared.request.Action.TheVariants.{Build, Rewrite}
 use Rattle.hdt_command.specs.Whole.{query_action}
 use Rattle.hdt_command.specs.declared.whole.Query.{Query}
 use Rattle.hdt_command.specs.declared.whole.Query.TheVariants as query

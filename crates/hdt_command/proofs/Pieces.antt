@@ -5,7 +5,7 @@ use Rattle.std.proofs.lemmas.List.{length-drop, length-append, take_at, drop_at,
 use Rattle.std.proofs.Math.Seq.{take-add}
 use Rattle.std.proofs.KnownBytes.{Appends-trans}
 use Rattle.hdt_command.specs.declared.fault.ToolFault.{ToolFault}
-use Rattle.hdt_command.specs.declared.fault.ToolFault.TheVariants.{File, Input, NoTriples, NoSuchTerm, NoSuchNumber, NotATerm, BadOptions, Read, Write, OutOfMemory}
+use Rattle.hdt_command.specs.declared.fault.ToolFault.TheVariants.{Write, OutOfMemory}
 use Rattle.hdt_command.specs.declared.request.Action.TheVariants.{Strings}
 use Rattle.hdt_wire.specs.declared.role.Role.{Role}
 use Rattle.hdt_file.specs.File.{GraphParts, IsLayout}

@@ -1,6 +1,6 @@
 -- Which command lines are refused, from what `clap` states of its errors.
-use Rattle.std.proofs.Common.{◌≡◌, List, [], ◌∷◌, true, Option, None, Some, Result, Ok, Err, codes, refl, sym, subst, inl, inr, rules}
-use Rattle.std.specs.Prelude.{IfOk, IfErr, IsSome, IsSomeAnd}
+use Rattle.std.proofs.Common.{◌≡◌, List, [], ◌∷◌, true, Option, Some, Result, Ok, Err, codes, refl, sym, subst, inl, inr}
+use Rattle.std.specs.Prelude.{IfOk, IfErr, IsSomeAnd}
 use Rattle.clap.specs.Words.{App, Row, Text, HasKind, HasMatchesOf, IsAmong, fault_of, found_of, is_simple, is_simple_and_free, kind_of, matches_of, one_of, rows_of, subcommand_of, subcommand_rows_of}
 use Rattle.clap.specs.declared.parser.matches.ArgMatches.{ArgMatches}
 use Rattle.clap.specs.declared.error.Error.{Error}
@@ -11,7 +11,7 @@ use Rattle.hdt_command.specs.declared.fault.UsageFault.TheVariants.{Usage, Help,
 use Rattle.hdt_command.specs.declared.request.Call.{Call}
 use Rattle.hdt_command.specs.declared.request.Request.{Request}
 use Rattle.hdt_usage.specs.Table.{Names, AreRoles, table}
-use Rattle.hdt_command.specs.Words.{Asks, AsksFor, Misspells, MisspellsIn, StatesFlag, Wants, WantsSo, IsRefused, IsRefusedBy, TellsKind, ComesWithout, ComesWithoutOr, refusals}
+use Rattle.hdt_command.specs.Words.{Asks, AsksFor, Misspells, MisspellsIn, StatesFlag, Wants, WantsSo, IsRefused, IsRefusedBy, TellsKind, ComesWithoutOr, refusals}
 
 -- what `clap` says of the commands that were built, said of the table
 pub taken : (names : Names) (app : App) (words : List Text) → app ≡ table names → (is_simple_and_free app ≡ true → fault_of app words ≡ []) → refusals names words ≡ []

@@ -1,5 +1,5 @@
 -- What `rewrite` tells of its input, and where bad options are told.
-use Rattle.std.proofs.Common.{◌≡◌, ◌≢◌, ◌↔◌, ◌⊎◌, ◌≤◌, ◌<◌, ℕ, List, Result, Ok, Err, ap, arith, inl, inr, refl}
+use Rattle.std.proofs.Common.{◌≡◌, ◌≢◌, ◌↔◌, ℕ, List, Result, Ok, Err, ap, arith, refl}
 use Rattle.std.specs.Prelude.{IsErrOf}
 use Rattle.hdt_file.specs.File.{GraphParts, IsLayout}
 use Rattle.hdt_build.specs.Options.{AreRight, IsBlockSize}
@@ -8,7 +8,7 @@ use Rattle.hdt_build.specs.declared.fault.RewriteFault.TheVariants as rewriting
 use Rattle.hdt_command.specs.declared.fault.ToolFault.{ToolFault}
 use Rattle.hdt_command.specs.declared.fault.ToolFault.TheVariants.{BadOptions, Write}
 use Rattle.hdt_command.specs.declared.request.Action.{Action}
-use Rattle.hdt_command.specs.declared.request.Action.TheVariants.{Head, Verify, VerifyTight, Strings, Nth, Number, Find, Search, Answer, Build, Rewrite}
+use Rattle.hdt_command.specs.declared.request.Action.TheVariants.{Build, Rewrite}
 use Rattle.hdt_command.specs.Answer.{IfBuild, IsTold}
 use Rattle.hdt_command.specs.Faults.{rewrite_fault_of}
 

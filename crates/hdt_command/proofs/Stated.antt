@@ -1,8 +1,6 @@
 -- What the entries of a command state, and what lacks where they state nothing.
-use Rattle.std.proofs.Common.{◌≡◌, ℕ, Bool, true, false, List, Option, None, Some, codes, refl, sym, ap, subst, inl, inr, ◌⊎◌, ⊎_elim, ◌∙◌}
-use Rattle.std.specs.Prelude.{◌≢◌, IsSome, IsSomeAnd, MatchOption}
-use Rattle.std.specs.declared.alloc.Global.{Global}
-use Rattle.std.specs.declared.vec.Vec.{Vec}
+use Rattle.std.proofs.Common.{◌≡◌, ℕ, Bool, true, false, List, Option, Some, codes, refl, sym, ap, subst, inl, inr, ◌⊎◌, ⊎_elim, ◌∙◌}
+use Rattle.std.specs.Prelude.{◌≢◌, IsSome, IsSomeAnd}
 use Rattle.std.specs.Str.{bytes_eq}
 use Rattle.std.proofs.lemmas.Slice.Eq.{bytes_eq-Decides}
 use Rattle.clap.specs.Words.{Row, Text, first_of, one_of}
@@ -17,7 +15,7 @@ use Rattle.hdt_command.specs.declared.request.Action.{Action}
 use Rattle.hdt_command.specs.declared.request.Form.{Form}
 use Rattle.hdt_command.specs.declared.request.Request.{Request}
 use Rattle.hdt_command.specs.declared.request.Action.TheVariants as action
-use Rattle.hdt_command.specs.Words.{AsksAction, AsksFor, AsksOfFile, AsksOfFiles, AsksToMake, ComesWithout, ComesWithoutOr, IsFaultOfWord, IsMisspelt, IsMisspeltPart, IsFinding, IsStringOf, IsUsed, IsUnused, Misspells, StatesForm, StatesNumberOrNone, StatesOptions, StatesPart, StatesString, StatesWords, TellsTerm}
+use Rattle.hdt_command.specs.Words.{AsksAction, AsksFor, AsksOfFile, AsksOfFiles, AsksToMake, ComesWithout, ComesWithoutOr, IsFaultOfWord, IsMisspelt, IsMisspeltPart, IsFinding, IsUsed, Misspells, StatesForm, StatesNumberOrNone, StatesOptions, StatesWords, TellsTerm}
 use Rattle.hdt_command.specs.Lines.{word_name}
 use Rattle.hdt_command.specs.TriplesText.{Given}
 

@@ -3,7 +3,7 @@ use Rattle.std.proofs.Common.{◌≡◌, ◌≢◌, ◌⊎◌, ⊎_elim, ◌∙�
 use Rattle.std.specs.Prelude.{List, Result, Ok, Err, MatchResult, IfOk, IfErr, OnOk}
 use Rattle.clap.specs.Words.{Text}
 use Rattle.hdt_command.specs.declared.fault.ToolFault.{ToolFault}
-use Rattle.hdt_command.specs.declared.fault.ToolFault.TheVariants.{File, Input, NoTriples, NoSuchTerm, NoSuchNumber, NotATerm, BadOptions, Read, Write, OutOfMemory}
+use Rattle.hdt_command.specs.declared.fault.ToolFault.TheVariants.{File, NoTriples, Write, OutOfMemory}
 use Rattle.hdt_command.specs.declared.fault.UsageFault.{UsageFault}
 use Rattle.hdt_command.specs.declared.request.Call.{Call}
 use Rattle.hdt_command.specs.declared.request.Action.{Action}

@@ -10,8 +10,15 @@ use std::alloc::{AllocError, Global};
 fn counts_line(alloc: Global, word: &str, report: &Report) -> Result<Vec<u8>, AllocError>
     ensures { IfOk result (λ text. text.items ≡ counts_line word.now report.now) }
 {
-    let line = format!(in alloc; "{word} {} {} {} {} {} {}\n", report.triples, report.shared,
-        report.subjects, report.predicates, report.objects, report.bytes)?;
+    let line = format!(in alloc;
+        "{word} {} {} {} {} {} {}\n",
+        report.triples,
+        report.shared,
+        report.subjects,
+        report.predicates,
+        report.objects,
+        report.bytes
+    )?;
     Ok(line.into_bytes())
 }
 

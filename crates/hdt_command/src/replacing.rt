@@ -74,8 +74,10 @@ fn filled<F: Write + OpenFile + Drop>(file: F, built: &[u8]) -> Result<F, ToolFa
     let mut file = Counted::new(file);
     file.write_all(built).map_err(ToolFault::Write)?;
     let whole = file.into_inner();
-    whole.sync_all().map_err(|_| ToolFault::Write(built.len() as u64))?;
-    Ok(whole)
+    match whole.sync_all() {
+        Ok(()) => Ok(whole),
+        Err(_) => Err(ToolFault::Write(built.len() as u64)),
+    }
 }
 
 /// Writes a new file with what was made, and gives it the name of the one that it replaces.
@@ -92,8 +94,8 @@ fn fill_and_rename<R: Files>(
         permit(&file, &replaced).map_err(|error| file_fault(&error, ToolFault::Write(0)))?;
     }
     let _whole = filled(file, built)?;
-    fs::rename(files, beside.as_path(), path.as_path())
-        .map_err(|_| ToolFault::Write(built.len() as u64))
+    let renamed = fs::rename(files, beside.as_path(), path.as_path());
+    renamed.map_err(|_| ToolFault::Write(built.len() as u64))
 }
 
 /// Puts a file with what was made at a path, in place of a regular file that is there, with its permissions: at a fault that
@@ -107,8 +109,8 @@ pub fn replace<R: Files>(
     // Memory was refused, or writing failed, behind no more bytes than there are.
     ensures fault { IfErr result (IsUnfilled built.now) }
 {
-    let (file, beside) = create_beside(files, alloc, path)
-        .map_err(|error| file_fault(&error, ToolFault::Write(0)))?;
+    let created = create_beside(files, alloc, path);
+    let (file, beside) = created.map_err(|error| file_fault(&error, ToolFault::Write(0)))?;
     let outcome = fill_and_rename(files, file, &beside, path, built);
     if outcome.is_err() {
         let _ = fs::remove_file(files, beside.as_path());

@@ -297,9 +297,8 @@ fn print_built(rt: &HostRuntime, built: &[u8], line: &[u8]) -> Result<(), ToolFa
 /// Puts what was made at a path: a regular file is replaced whole, into anything else it is written. Then it prints the line.
 fn put_at(rt: &HostRuntime, path: &str, built: &[u8], line: &[u8]) -> Result<(), ToolFault> {
     let mut out = Counted::new(io::writer(rt));
-    let replaced = replaced_path(rt, rt.alloc(), path)
-        .map_err(|error| file_fault(&error, ToolFault::Write(0)))?;
-    if let Some(path) = replaced {
+    let replaced = replaced_path(rt, rt.alloc(), path);
+    if let Some(path) = replaced.map_err(|error| file_fault(&error, ToolFault::Write(0)))? {
         replace(rt, rt.alloc(), &path, built)?;
         return print_line(&mut out, line);
     }
