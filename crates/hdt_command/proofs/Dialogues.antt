@@ -1,5 +1,7 @@
 -- Answers one behind the other.
-use Rattle.std.proofs.Common.{◌≡◌, ◌≢◌, ℕ, suc, zero-add, Bool, true, false, cond, ◌||◌, ◌⊎◌, ◌+◌, List, [], ◌∷◌, ◌++◌, length, Option, None, Some, Result, Ok, Err, refl, sym, ap, subst, ◌∙◌, inl, inr, arith, map, get_or, append_assoc, append-nil, take}
+use Rattle.std.proofs.Common.{◌≡◌, ◌≢◌, ℕ, Bool, true, false, cond, ◌||◌, ◌⊎◌, ◌+◌, List, [], ◌∷◌, ◌++◌, length, Option, None, Some, Result, Ok, Err, refl, sym, ap, subst, ◌∙◌, inl, inr, arith, map, get_or, append_assoc, append-nil, take}
+use Rattle.std.proofs.Math.Bool.{or-false, or_assoc}
+use Rattle.std.proofs.Math.Seq.{take-append-add}
 use Rattle.std.proofs.lemmas.List.{length-append}
 use Rattle.hdt_terms.specs.Documents.{AreLines, RanTexts, FaultBehind}
 use Rattle.hdt_terms.specs.Taking.{State, start, left, line_number}
@@ -9,7 +11,7 @@ use Rattle.hdt_terms.specs.declared.fault.LineReason.{LineReason}
 use Rattle.hdt_terms.specs.declared.fault.LineReason.TheVariants as reasons
 use Rattle.hdt_command.specs.Answer.{FailsAfter}
 use Rattle.hdt_command.specs.declared.fault.ToolFault.{ToolFault}
-use Rattle.hdt_command.specs.declared.fault.ToolFault.TheVariants.{File, Input, NoTriples, NoSuchTerm, NoSuchNumber, NotATerm, BadOptions, Read, Write, OutOfMemory}
+use Rattle.hdt_command.specs.declared.fault.ToolFault.TheVariants.{Input, Read, Write, OutOfMemory}
 use Rattle.std.specs.Io.KnownBytes.{Appends}
 use Rattle.std.specs.Prelude.{IfErr, option_map}
 use Rattle.hdt_dict.specs.Strings.{Lent}
@@ -18,19 +20,11 @@ use Rattle.hdt_file.specs.File.{GraphParts}
 use Rattle.hdt_command.specs.declared.request.Asking.{Asking}
 use Rattle.hdt_command.specs.Dialogue.{AnswersLine, AnswersLines, AnswersSome, AreSome, Gone, IsBehind, IsStopFor, IsStopped, given_of, most_bytes}
 
-or_assoc : (a b c : Bool) → (a || b) || c ≡ a || (b || c)
-or_assoc true b c = refl
-or_assoc false b c = refl
-
-or_false : (a : Bool) → a ≡ a || false
-or_false true = refl
-or_false false = refl
-
 -- one more answer
 pub lines_on : (g : GraphParts) (asking : Asking) (lines : List (ℕ × List ℕ)) (line : ℕ × List ℕ) (faulty one : Bool) (text answer : List ℕ) → AnswersLines g asking lines faulty text → AnswersLine g asking line one answer
     → AnswersLines g asking (lines ++ line ∷ []) (faulty || one) (text ++ answer)
 lines_on g asking [] line faulty one text answer h a =
-    (one, answer, false, [], a, (refl, refl), ap (λ b. b || one) h.0 ∙ or_false one, ap (λ t. t ++ answer) h.1 ∙ sym (append-nil answer))
+    (one, answer, false, [], a, (refl, refl), ap (λ b. b || one) h.0 ∙ sym (or-false one), ap (λ t. t ++ answer) h.1 ∙ sym (append-nil answer))
 lines_on g asking (first ∷ lines) line faulty one text answer h a = (
   h.0,
   h.1,
@@ -77,57 +71,33 @@ pub ended_fault : (P : LineFault → Type 0) (r : Result Bool LineFault) → r �
 ended_fault P (Ok told) e = tt
 ended_fault P (Err fault) e = absurd cc
 
-one_more : (k m : ℕ) → suc k + m ≡ suc (k + m)
-one_more k m = omega arith
-
-take-append-add : (xs ys : List ℕ) (m : ℕ) → take (length xs + m) (xs ++ ys) ≡ xs ++ take m ys
-take-append-add [] ys m = ap (λ k. take k ys) (zero-add m)
-take-append-add (x ∷ xs) ys m = ap (λ k. take k (x ∷ (xs ++ ys))) (one_more (length xs) m) ∙ ap (λ l. x ∷ l) (take-append-add xs ys m)
-
 -- ---- what stopped the answers
 
 -- a line that could not be read
 pub stopped_by : (fault : LineFault) (e : ToolFault) (text : List ℕ) (a b : Option (List ℕ)) (f h : ℕ) → IsStopFor fault e → h ≡ f → Appends a b text → IsStopped e text a b f h
-stopped_by fault (File x) text a b f h is same gained = absurd is
 stopped_by fault (Input x) text a b f h is same gained = (same, gained)
-stopped_by fault NoTriples text a b f h is same gained = absurd is
-stopped_by fault NoSuchTerm text a b f h is same gained = absurd is
-stopped_by fault NoSuchNumber text a b f h is same gained = absurd is
-stopped_by fault (NotATerm role n) text a b f h is same gained = absurd is
-stopped_by fault BadOptions text a b f h is same gained = absurd is
 stopped_by fault Read text a b f h is same gained = (same, gained)
-stopped_by fault (Write n) text a b f h is same gained = absurd is
 stopped_by fault OutOfMemory text a b f h is same gained = (same, gained)
+stopped_by fault e text a b f h is same gained = absurd is
 
 -- of these reasons one alone is a fault of the input
 too_long : (reason : LineReason) (taken : ℕ) (before given : Option (List ℕ)) → StandsUnread reason taken most_bytes before given → reason ≢ reasons.Read → reason ≢ reasons.OutOfMemory → reason ≡ reasons.TooLong
 too_long reasons.Read taken before given h read memory = absurd (read refl)
 too_long reasons.OutOfMemory taken before given h read memory = absurd (memory refl)
 too_long reasons.TooLong taken before given h read memory = refl
-too_long reasons.Syntax taken before given h read memory = absurd h
-too_long reasons.NotUtf8 taken before given h read memory = absurd h
-too_long reasons.BadEscape taken before given h read memory = absurd h
-too_long reasons.RelativeIri taken before given h read memory = absurd h
-too_long reasons.IriCharacter taken before given h read memory = absurd h
-too_long reasons.ZeroCharacter taken before given h read memory = absurd h
+too_long reason taken before given h read memory = absurd h
 
 read_fault : (fault : LineFault) → fault.reason ≡ reasons.Read → fault.column ≡ 0 → fault ≡ record { line = fault.line; column = 0; reason = reasons.Read }
 read_fault fault is none = ap (λ k. record { line = fault.line; column = k; reason = fault.reason }) none ∙ ap (λ r. record { line = fault.line; column = 0; reason = r }) is
 
 -- and it stands behind the lines that were answered
 pub stopped_behind : (fault : LineFault) (e : ToolFault) (input given : Option (List ℕ)) (lines : List (ℕ × List ℕ)) → IsStopFor fault e → FaultBehind fault most_bytes input given lines → IsBehind e input given lines
-stopped_behind fault (File x) input given lines is h = absurd is
 stopped_behind fault (Input x) input given lines is h =
     (ap (λ f. f.reason) is.0 ∙ too_long fault.reason (length h.front) h.left given h.fault_is is.1 is.2, subst (λ f. FaultBehind f most_bytes input given lines) (sym is.0) h)
-stopped_behind fault NoTriples input given lines is h = absurd is
-stopped_behind fault NoSuchTerm input given lines is h = absurd is
-stopped_behind fault NoSuchNumber input given lines is h = absurd is
-stopped_behind fault (NotATerm role n) input given lines is h = absurd is
-stopped_behind fault BadOptions input given lines is h = absurd is
 stopped_behind fault Read input given lines is h =
     (fault.line, subst (λ f. FaultBehind f most_bytes input given lines) (read_fault fault is h.column) h)
-stopped_behind fault (Write n) input given lines is h = absurd is
 stopped_behind fault OutOfMemory input given lines is h = tt
+stopped_behind fault e input given lines is h = absurd is
 
 -- the writer fails behind m bytes of one more answer
 pub fails_on : (a b c : Option (List ℕ)) (text answer : List ℕ) (n m f g h : ℕ) → n ≡ length text → Appends a b text → g ≡ f → FailsAfter m answer b c g h → FailsAfter (n + m) (text ++ answer) a c f h

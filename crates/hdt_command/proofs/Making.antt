@@ -6,9 +6,9 @@ use Rattle.hdt_build.specs.declared.fault.BuildFault.{BuildFault}
 use Rattle.hdt_build.specs.declared.fault.BuildFault.TheVariants as building
 use Rattle.hdt_build.specs.declared.options.Options.{Options}
 use Rattle.hdt_command.specs.declared.fault.ToolFault.{ToolFault}
-use Rattle.hdt_command.specs.declared.fault.ToolFault.TheVariants.{File, Input, NoTriples, NoSuchTerm, NoSuchNumber, NotATerm, BadOptions, Read, Write, OutOfMemory}
+use Rattle.hdt_command.specs.declared.fault.ToolFault.TheVariants.{Read, Write}
 use Rattle.hdt_command.specs.declared.request.Action.{Action}
-use Rattle.hdt_command.specs.declared.request.Action.TheVariants.{Head, Verify, VerifyTight, Strings, Nth, Number, Find, Search, Answer, Build, Rewrite}
+use Rattle.hdt_command.specs.declared.request.Action.TheVariants.{Build, Rewrite}
 use Rattle.hdt_command.specs.Whole.{query_action}
 use Rattle.hdt_command.specs.declared.whole.Query.{Query}
 use Rattle.hdt_command.specs.declared.whole.Query.TheVariants as query
@@ -18,49 +18,24 @@ use Rattle.hdt_command.specs.Faults.{build_fault_of, told_of_reason}
 -- a fault that doesn't tell of the reader comes of a fault of the builder that doesn't
 pub not_failed : (fault : BuildFault) → build_fault_of fault ≢ Read → ReadFailed fault → ⊥
 not_failed (building.Line fault) not h = not (ap (told_of_reason fault) h)
-not_failed building.NoTriples not h = h
-not_failed building.BadOptions not h = h
-not_failed building.OutOfMemory not h = h
-not_failed (building.Write n) not h = h
+not_failed fault not h = h
 
 -- a command that makes a text of its file reads that alone
 pub reads_file : (q : Query) → ReadsFile (query_action q)
 reads_file query.Head = tt
-reads_file query.Verify = tt
-reads_file query.VerifyTight = tt
-reads_file (query.Nth role n) = tt
-reads_file (query.Number role x) = tt
-reads_file (query.Find given numbers) = tt
-reads_file (query.Search given form most) = tt
-reads_file (query.Answer asking) = tt
+reads_file q = tt
 
 -- a command on a file makes nothing
 pub nothing_built : (action : Action) → ReadsFile action → (before after : Option (List ℕ)) (text made : List ℕ) → ReadsWith before after (λ bytes. Prints action bytes text)
     → Makes action before after text made made
-nothing_built Head is before after text made h = record { built = []; yields = (h, refl); made = sym (append-nil made) }
-nothing_built Verify is before after text made h = record { built = []; yields = (h, refl); made = sym (append-nil made) }
-nothing_built VerifyTight is before after text made h = record { built = []; yields = (h, refl); made = sym (append-nil made) }
-nothing_built (Strings role) is before after text made h = record { built = []; yields = (h, refl); made = sym (append-nil made) }
-nothing_built (Nth role n) is before after text made h = record { built = []; yields = (h, refl); made = sym (append-nil made) }
-nothing_built (Number role x) is before after text made h = record { built = []; yields = (h, refl); made = sym (append-nil made) }
-nothing_built (Find given numbers) is before after text made h = record { built = []; yields = (h, refl); made = sym (append-nil made) }
-nothing_built (Search given form most) is before after text made h = record { built = []; yields = (h, refl); made = sym (append-nil made) }
-nothing_built (Answer asking) is before after text made h = record { built = []; yields = (h, refl); made = sym (append-nil made) }
 nothing_built (Build options) is before after text made h = absurd is
 nothing_built (Rewrite b) is before after text made h = absurd is
+nothing_built action is before after text made h = record { built = []; yields = (h, refl); made = sym (append-nil made) }
 
 nothing_made : (action : Action) → ReadsFile action → (before after : Option (List ℕ)) (text made more : List ℕ) → Makes action before after text made more → more ≡ made
-nothing_made Head is before after text made more h = h.made ∙ ap (λ (b : List ℕ). made ++ b) h.yields.1 ∙ append-nil made
-nothing_made Verify is before after text made more h = h.made ∙ ap (λ (b : List ℕ). made ++ b) h.yields.1 ∙ append-nil made
-nothing_made VerifyTight is before after text made more h = h.made ∙ ap (λ (b : List ℕ). made ++ b) h.yields.1 ∙ append-nil made
-nothing_made (Strings role) is before after text made more h = h.made ∙ ap (λ (b : List ℕ). made ++ b) h.yields.1 ∙ append-nil made
-nothing_made (Nth role n) is before after text made more h = h.made ∙ ap (λ (b : List ℕ). made ++ b) h.yields.1 ∙ append-nil made
-nothing_made (Number role x) is before after text made more h = h.made ∙ ap (λ (b : List ℕ). made ++ b) h.yields.1 ∙ append-nil made
-nothing_made (Find given numbers) is before after text made more h = h.made ∙ ap (λ (b : List ℕ). made ++ b) h.yields.1 ∙ append-nil made
-nothing_made (Search given form most) is before after text made more h = h.made ∙ ap (λ (b : List ℕ). made ++ b) h.yields.1 ∙ append-nil made
-nothing_made (Answer asking) is before after text made more h = h.made ∙ ap (λ (b : List ℕ). made ++ b) h.yields.1 ∙ append-nil made
 nothing_made (Build options) is before after text made more h = absurd is
 nothing_made (Rewrite b) is before after text made more h = absurd is
+nothing_made action is before after text made more h = h.made ∙ ap (λ (b : List ℕ). made ++ b) h.yields.1 ∙ append-nil made
 
 pub nothing_lost : (action : Action) → ReadsFile action → (before old new : Option (List ℕ)) (more : List ℕ) → Performs action before old new [] more → Performs action before old new [] []
 nothing_lost action is before old new more h =
@@ -69,26 +44,8 @@ nothing_lost action is before old new more h =
 
 -- nor has it the options of `build`
 pub no_options : (action : Action) (Holds : Options → Type 0) → ReadsFile action → IfBuild action Holds
-no_options Head Holds is = tt
-no_options Verify Holds is = tt
-no_options VerifyTight Holds is = tt
-no_options (Strings role) Holds is = tt
-no_options (Nth role n) Holds is = tt
-no_options (Number role x) Holds is = tt
-no_options (Find given numbers) Holds is = tt
-no_options (Search given form most) Holds is = tt
-no_options (Answer asking) Holds is = tt
 no_options (Build options) Holds is = absurd is
-no_options (Rewrite b) Holds is = tt
+no_options action Holds is = tt
 
 pub not_writing : (e : ToolFault) → IsOfFile e → (n : ℕ) → e ≢ Write n
-not_writing (File fault) h n is = absurd cc
-not_writing (Input fault) h n is = absurd h
-not_writing NoTriples h n is = absurd h
-not_writing NoSuchTerm h n is = absurd cc
-not_writing NoSuchNumber h n is = absurd cc
-not_writing (NotATerm role m) h n is = absurd cc
-not_writing BadOptions h n is = absurd h
-not_writing Read h n is = absurd cc
-not_writing (Write m) h n is = absurd h
-not_writing OutOfMemory h n is = absurd cc
+not_writing e h n is = subst IsOfFile is h

@@ -5,36 +5,20 @@ use Rattle.std.specs.declared.alloc.Global.{Global}
 use Rattle.std.specs.declared.string.String.{String}
 use Rattle.clap.specs.Words.{Row, Text}
 use Rattle.hdt_command.specs.declared.request.Action.{Action}
-use Rattle.hdt_command.specs.declared.request.Action.TheVariants.{Head, Verify, VerifyTight, Strings, Nth, Number, Find, Search, Answer, Build, Rewrite}
+use Rattle.hdt_command.specs.declared.request.Action.TheVariants.{Build, Rewrite}
 use Rattle.hdt_command.specs.declared.request.Request.{Request}
 use Rattle.hdt_command.specs.Answer.{HasOut, MakesFile, ReadsFile}
 use Rattle.hdt_command.specs.Words.{Asks, AsksAction, AsksFor, AsksToMake, Wants}
 
 reads : (name : Text) (rows : List Row) (action : Action) → AsksAction name rows action → ReadsFile action
-reads name rows Head h = tt
-reads name rows Verify h = tt
-reads name rows VerifyTight h = tt
-reads name rows (Strings role) h = tt
-reads name rows (Nth role n) h = tt
-reads name rows (Number role x) h = tt
-reads name rows (Find given numbers) h = tt
-reads name rows (Search given form most) h = tt
-reads name rows (Answer asking) h = tt
 reads name rows (Build options) h = h
 reads name rows (Rewrite b) h = h
+reads name rows action h = tt
 
 makes : (name : Text) (rows : List Row) (action : Action) → AsksToMake name rows action → MakesFile action
-makes name rows Head h = h
-makes name rows Verify h = h
-makes name rows VerifyTight h = h
-makes name rows (Strings role) h = h
-makes name rows (Nth role n) h = h
-makes name rows (Number role x) h = h
-makes name rows (Find given numbers) h = h
-makes name rows (Search given form most) h = h
-makes name rows (Answer asking) h = h
 makes name rows (Build options) h = tt
 makes name rows (Rewrite b) h = tt
+makes name rows action h = h
 
 without : (A B : Type 0) (out : Option (String Global)) → option_map string_bytes out ≡ None → A → MatchOption out A (λ path. B)
 without A B None e h = h

@@ -5,7 +5,7 @@ use Rattle.std.proofs.lemmas.List.{length-drop, length-append, take_at, drop_at,
 use Rattle.std.proofs.Math.Seq.{take-add}
 use Rattle.std.proofs.KnownBytes.{Appends-trans}
 use Rattle.hdt_command.specs.declared.fault.ToolFault.{ToolFault}
-use Rattle.hdt_command.specs.declared.fault.ToolFault.TheVariants.{File, Input, NoTriples, NoSuchTerm, NoSuchNumber, NotATerm, BadOptions, Read, Write, OutOfMemory}
+use Rattle.hdt_command.specs.declared.fault.ToolFault.TheVariants.{Write, OutOfMemory}
 use Rattle.hdt_command.specs.declared.request.Action.TheVariants.{Strings}
 use Rattle.hdt_wire.specs.declared.role.Role.{Role}
 use Rattle.hdt_file.specs.File.{GraphParts, IsLayout}
@@ -23,16 +23,9 @@ all_lines role before after bytes seen read is graph stands =
 -- a cut that is not the writer's
 memory_cut : (fault : ToolFault) (text : List ℕ) (a b : Option (List ℕ)) (f g : ℕ) → IsCut fault text a b f g → ((n : ℕ) → fault ≢ Write n)
     → (fault ≡ OutOfMemory) × (g ≡ f) × AppendsSome a b text
-memory_cut (File fault) text a b f g h none = absurd h
-memory_cut (Input fault) text a b f g h none = absurd h
-memory_cut NoTriples text a b f g h none = absurd h
-memory_cut NoSuchTerm text a b f g h none = absurd h
-memory_cut NoSuchNumber text a b f g h none = absurd h
-memory_cut (NotATerm role n) text a b f g h none = absurd h
-memory_cut BadOptions text a b f g h none = absurd h
-memory_cut Read text a b f g h none = absurd h
 memory_cut (Write n) text a b f g h none = absurd (none n refl)
 memory_cut OutOfMemory text a b f g h none = (refl, h.0, h.1)
+memory_cut fault text a b f g h none = absurd h
 
 -- a part of what is kept is written
 pub more_within : (all part behind : List ℕ) (n : ℕ) → n ≤ length all → drop n all ≡ part ++ behind → n + length part ≤ length all

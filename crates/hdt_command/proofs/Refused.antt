@@ -1,6 +1,6 @@
 -- Which command lines are refused, from what `clap` states of its errors.
-use Rattle.std.proofs.Common.{◌≡◌, List, [], ◌∷◌, true, Option, None, Some, Result, Ok, Err, codes, refl, sym, subst, inl, inr, rules}
-use Rattle.std.specs.Prelude.{IfOk, IfErr, IsSome, IsSomeAnd}
+use Rattle.std.proofs.Common.{◌≡◌, List, [], ◌∷◌, true, Option, Some, Result, Ok, Err, codes, refl, sym, subst, inl, inr}
+use Rattle.std.specs.Prelude.{IfOk, IfErr, IsSomeAnd}
 use Rattle.clap.specs.Words.{App, Row, Text, HasKind, HasMatchesOf, IsAmong, fault_of, found_of, is_simple, is_simple_and_free, kind_of, matches_of, one_of, rows_of, subcommand_of, subcommand_rows_of}
 use Rattle.clap.specs.declared.parser.matches.ArgMatches.{ArgMatches}
 use Rattle.clap.specs.declared.error.Error.{Error}
@@ -11,7 +11,7 @@ use Rattle.hdt_command.specs.declared.fault.UsageFault.TheVariants.{Usage, Help,
 use Rattle.hdt_command.specs.declared.request.Call.{Call}
 use Rattle.hdt_command.specs.declared.request.Request.{Request}
 use Rattle.hdt_usage.specs.Table.{Names, AreRoles, table}
-use Rattle.hdt_command.specs.Words.{Asks, AsksFor, Misspells, MisspellsIn, StatesFlag, Wants, WantsSo, IsRefused, IsRefusedBy, TellsKind, ComesWithout, ComesWithoutOr, refusals}
+use Rattle.hdt_command.specs.Words.{Asks, AsksFor, Misspells, MisspellsIn, StatesFlag, Wants, WantsSo, IsRefused, IsRefusedBy, TellsKind, ComesWithoutOr, refusals}
 
 -- what `clap` says of the commands that were built, said of the table
 pub taken : (names : Names) (app : App) (words : List Text) → app ≡ table names → (is_simple_and_free app ≡ true → fault_of app words ≡ []) → refusals names words ≡ []
@@ -46,26 +46,12 @@ told_by names words e OutOfMemory h k = tt
 
 -- a fault that is told, by the words for the roles
 with : (names : Names) → AreRoles names → (words : List Text) (fault : UsageFault) → IsRefusedBy names words fault → IsRefused words fault
-with names roles words (Help text) h = record { names = names; roles = roles; refused = h }
-with names roles words (Usage text) h = record { names = names; roles = roles; refused = h }
-with names roles words (Word word fault) h = record { names = names; roles = roles; refused = h }
 with names roles words OutOfMemory h = tt
+with names roles words fault h = record { names = names; roles = roles; refused = h }
 
 -- an error of `clap` is told by its kind
 pub told : (names : Names) → AreRoles names → (words : List Text) (e : Error) (fault : UsageFault) → HasKind (refusals names words) e → TellsKind (kind_of e) fault → IsRefused words fault
 told names roles words e fault h k = with names roles words fault (told_by names words e fault h k)
-
--- a word that has no entry
-pub unstated_some : (o : Option Text) → o ≡ None → IsSome o → ⊥
-unstated_some None e some = search rules
-unstated_some (Some text) e some = cc
-
--- no word is missing where every word has its entry
-pub lacks : (P : Type 0) (fault : UsageFault) → (P → ⊥) → ComesWithout ⊥ fault → ComesWithout P fault
-lacks P (Help text) none h = absurd h
-lacks P (Usage text) none h = none
-lacks P (Word word fault) none h = absurd h
-lacks P OutOfMemory none h = tt
 
 -- the entries of the command that the words name ask for the request that the words want
 pub wanted : (names : Names) → AreRoles names → (words : List Text) (name : Text) (rows : List Row) (r : Result Call UsageFault) → refusals names words ≡ [] → subcommand_of (table names) words ≡ Some (name, rows)

@@ -1,5 +1,5 @@
 -- What `rewrite` tells of its input, and where bad options are told.
-use Rattle.std.proofs.Common.{◌≡◌, ◌≢◌, ◌↔◌, ◌⊎◌, ◌≤◌, ◌<◌, ℕ, List, Result, Ok, Err, ap, arith, inl, inr, refl}
+use Rattle.std.proofs.Common.{◌≡◌, ◌≢◌, ◌↔◌, ℕ, List, Result, Ok, Err, ap, arith, refl}
 use Rattle.std.specs.Prelude.{IsErrOf}
 use Rattle.hdt_file.specs.File.{GraphParts, IsLayout}
 use Rattle.hdt_build.specs.Options.{AreRight, IsBlockSize}
@@ -8,21 +8,13 @@ use Rattle.hdt_build.specs.declared.fault.RewriteFault.TheVariants as rewriting
 use Rattle.hdt_command.specs.declared.fault.ToolFault.{ToolFault}
 use Rattle.hdt_command.specs.declared.fault.ToolFault.TheVariants.{BadOptions, Write}
 use Rattle.hdt_command.specs.declared.request.Action.{Action}
-use Rattle.hdt_command.specs.declared.request.Action.TheVariants.{Head, Verify, VerifyTight, Strings, Nth, Number, Find, Search, Answer, Build, Rewrite}
+use Rattle.hdt_command.specs.declared.request.Action.TheVariants.{Build, Rewrite}
 use Rattle.hdt_command.specs.Answer.{IfBuild, IsTold}
 use Rattle.hdt_command.specs.Faults.{rewrite_fault_of}
 
-either : (i j : ℕ) → (i ≤ j) ⊎ (j < i)
-either i j = grind arith
-
-size_by : (b : ℕ) → (1 ≤ b) ⊎ (b < 1) → (b ≤ 65535) ⊎ (65535 < b) → ((IsBlockSize b → ⊥) → ⊥) → IsBlockSize b
-size_by b (inl some) (inl most) h = (some, most)
-size_by b (inl some) (inr more) h = absurd (h (λ s. absurd (omega (arith, s.1, more))))
-size_by b (inr none) most h = absurd (h (λ s. absurd (omega (arith, s.0, none))))
-
 -- a size of which it is not told that it is bad is one that is written
 pub size_written : (b : ℕ) → ((IsBlockSize b → ⊥) → ⊥) → IsBlockSize b
-size_written b h = size_by b (either 1 b) (either b 65535) h
+size_written b h = grind arith
 
 -- what is told where nothing is rewritten
 pub not_rewritten : (b : ℕ) (bytes : List ℕ) (graph : GraphParts) (fault : RewriteFault) → IsLayout bytes graph
@@ -35,17 +27,8 @@ not_rewritten b bytes graph (rewriting.Write n) stands bad unwritten = absurd (u
 pub still_bad : {T U : Type 0} (action : Action) (r : Result T ToolFault) (s : Result U ToolFault) → (IsErrOf r BadOptions → IsErrOf s BadOptions)
     → (IsErrOf s BadOptions → IsErrOf r BadOptions) → IfBuild action (λ options. IsErrOf r BadOptions ↔ (AreRight options → ⊥))
     → IfBuild action (λ options. IsErrOf s BadOptions ↔ (AreRight options → ⊥))
-still_bad Head r s to from h = tt
-still_bad Verify r s to from h = tt
-still_bad VerifyTight r s to from h = tt
-still_bad (Strings role) r s to from h = tt
-still_bad (Nth role n) r s to from h = tt
-still_bad (Number role x) r s to from h = tt
-still_bad (Find given numbers) r s to from h = tt
-still_bad (Search given form most) r s to from h = tt
-still_bad (Answer asking) r s to from h = tt
 still_bad (Build options) r s to from h = (λ e. h.0 (from e), λ bad. to (h.1 bad))
-still_bad (Rewrite b) r s to from h = tt
+still_bad action r s to from h = tt
 
 -- the same error as another kind of answer
 pub same_error : {T U : Type 0} (a b : ToolFault) → IsErrOf {T = T} (Err a) b → IsErrOf {T = U} (Err a) b

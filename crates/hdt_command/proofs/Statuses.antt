@@ -1,9 +1,9 @@
 -- What a status says of the outcome that it was made of.
-use Rattle.std.proofs.Common.{◌≡◌, ◌≢◌, ◌⊎◌, ◌∙◌, ℕ, Bool, true, false, cond, Option, refl, inl, inr, subst, sym}
+use Rattle.std.proofs.Common.{◌≡◌, ◌≢◌, ◌⊎◌, ⊎_elim, ◌∙◌, ap, ℕ, Bool, true, false, cond, Option, refl, inl, inr, subst, sym}
 use Rattle.std.specs.Prelude.{List, Result, Ok, Err, MatchResult, IfOk, IfErr, OnOk}
 use Rattle.clap.specs.Words.{Text}
 use Rattle.hdt_command.specs.declared.fault.ToolFault.{ToolFault}
-use Rattle.hdt_command.specs.declared.fault.ToolFault.TheVariants.{File, Input, NoTriples, NoSuchTerm, NoSuchNumber, NotATerm, BadOptions, Read, Write, OutOfMemory}
+use Rattle.hdt_command.specs.declared.fault.ToolFault.TheVariants.{File, NoTriples, Write, OutOfMemory}
 use Rattle.hdt_command.specs.declared.fault.UsageFault.{UsageFault}
 use Rattle.hdt_command.specs.declared.request.Call.{Call}
 use Rattle.hdt_command.specs.declared.request.Action.{Action}
@@ -15,16 +15,8 @@ use Rattle.hdt_command.proofs.Refused.{so}
 
 -- a fault that is not the writer's, or one that is
 by_writer : {A B : Type 0} (fault : ToolFault) → (((n : ℕ) → fault ≢ Write n) → A) → ((n : ℕ) → fault ≡ Write n → B) → A ⊎ B
-by_writer (File fault) other write = inl (other (λ n is. absurd cc))
-by_writer (Input fault) other write = inl (other (λ n is. absurd cc))
-by_writer NoTriples other write = inl (other (λ n is. absurd cc))
-by_writer BadOptions other write = inl (other (λ n is. absurd cc))
-by_writer NoSuchTerm other write = inl (other (λ n is. absurd cc))
-by_writer NoSuchNumber other write = inl (other (λ n is. absurd cc))
-by_writer (NotATerm role m) other write = inl (other (λ n is. absurd cc))
-by_writer Read other write = inl (other (λ n is. absurd cc))
 by_writer (Write m) other write = inr (write m refl)
-by_writer OutOfMemory other write = inl (other (λ n is. absurd cc))
+by_writer fault other write = inl (other (λ n is. absurd cc))
 
 -- a command's status, also where memory for the line of its fault was refused
 pub command_status : (outcome : Result (Unit {0}) ToolFault) (status : ℕ)
@@ -43,15 +35,7 @@ answers_status (Err fault) status (inr h) = inr (OutOfMemory, h)
 -- no fault ends with 0
 not_done : (fault : ToolFault) (status : ℕ) → (status ≡ fault_status fault) ⊎ (status ≡ 4) → status ≡ 0 → ⊥
 not_done (File fault) status (inl h) is = absurd cc
-not_done (Input fault) status (inl h) is = absurd cc
-not_done NoTriples status (inl h) is = absurd cc
-not_done BadOptions status (inl h) is = absurd cc
-not_done NoSuchTerm status (inl h) is = absurd cc
-not_done NoSuchNumber status (inl h) is = absurd cc
-not_done (NotATerm role n) status (inl h) is = absurd cc
-not_done Read status (inl h) is = absurd cc
-not_done (Write n) status (inl h) is = absurd cc
-not_done OutOfMemory status (inl h) is = absurd cc
+not_done fault status (inl h) is = absurd cc
 not_done fault status (inr h) is = absurd cc
 
 -- where the status of answers is 0, all were given and none is a fault
@@ -63,10 +47,6 @@ answers_done P (Ok true) status of ok is = absurd cc
 answers_done P (Ok false) status of ok is = ok
 answers_done P (Err fault) status of ok is = absurd (not_done fault status of is)
 
-pub no_fault_done : {A : Type 0} (outcome : Result Bool ToolFault) (status : ℕ) → IsAnswersStatus outcome status → OnOk outcome A → status ≡ 0 → A
-no_fault_done (Ok faulty) status of ok is = ok
-no_fault_done (Err fault) status of ok is = absurd (not_done fault status of is)
-
 -- else one is a fault, or a fault stopped them
 pub answers_stopped : {A : Type 0} (P : Bool → Type 0) (Q : ToolFault → Type 0) (outcome : Result Bool ToolFault) (status : ℕ) → IsAnswersStatus outcome status → IfOk outcome P → IfErr outcome (λ e. A ⊎ Q e) → status ≢ 0
     → A ⊎ (((status ≡ 1) × P true) ⊎ ((e : ToolFault) × ((status ≡ fault_status e) ⊎ (status ≡ 4)) × Q e))
@@ -76,20 +56,16 @@ answers_stopped P Q (Err fault) status of ok (inl a) not = inl a
 answers_stopped P Q (Err fault) status of ok (inr q) not = inr (inr (fault, of, q))
 
 -- where the status is 0, what is so of a command that was done is so
-pub if_done : {A : Type 0} (outcome : Result (Unit {0}) ToolFault) (status : ℕ) → MatchResult outcome (λ _. status ≡ 0) (λ fault. (status ≡ fault_status fault) ⊎ (status ≡ 4))
+pub if_done : {A T : Type 0} (P : T → Type 0) (outcome : Result T ToolFault) (status : ℕ) → MatchResult outcome P (λ fault. (status ≡ fault_status fault) ⊎ (status ≡ 4))
     → OnOk outcome A → status ≡ 0 → A
-if_done (Ok done) status of ok is = ok
-if_done (Err fault) status of ok is = absurd (not_done fault status of is)
+if_done P (Ok done) status of ok is = ok
+if_done P (Err fault) status of ok is = absurd (not_done fault status of is)
 
 -- the status that stands with the line of a fault, where there is memory for it
 pub told_status : {S E : Type 0} (fault : ToolFault) (line : Result (ℕ × S) E) (status : ℕ) → IfOk line (λ said. said.0 ≡ fault_status fault)
     → MatchResult line (λ said. status ≡ said.0) (λ _. status ≡ 4) → (status ≡ fault_status fault) ⊎ (status ≡ 4)
 told_status fault (Ok said) status is h = inl (h ∙ is)
 told_status fault (Err e) status is h = inr h
-
-pub second : {A B C : Type 0} → (B → C) → A ⊎ B → A ⊎ C
-second f (inl a) = inl a
-second f (inr b) = inr (f b)
 
 -- with status 1 nothing was written
 first : {A C D : Type 0} → (D → ⊥) → A ⊎ (D × C) → A
@@ -100,16 +76,9 @@ pub still_at_1 : (A C : Type 0) (outcome : Result (Unit {0}) ToolFault) (status 
     → IfErr outcome (λ fault. ((n : ℕ) → fault ≢ Write n) → A ⊎ ((fault ≡ OutOfMemory) × C)) → status ≡ 1 → A
 still_at_1 A C (Ok done) status of unwritten is = absurd cc
 still_at_1 A C (Err fault) status (inr memory) unwritten is = absurd cc
-still_at_1 A C (Err (File fault)) status (inl h) unwritten is = first (λ e. cc) (unwritten (λ n e. absurd cc))
-still_at_1 A C (Err (Input fault)) status (inl h) unwritten is = first (λ e. cc) (unwritten (λ n e. absurd cc))
-still_at_1 A C (Err NoTriples) status (inl h) unwritten is = first (λ e. cc) (unwritten (λ n e. absurd cc))
-still_at_1 A C (Err NoSuchTerm) status (inl h) unwritten is = first (λ e. cc) (unwritten (λ n e. absurd cc))
-still_at_1 A C (Err NoSuchNumber) status (inl h) unwritten is = first (λ e. cc) (unwritten (λ n e. absurd cc))
-still_at_1 A C (Err (NotATerm role m)) status (inl h) unwritten is = first (λ e. cc) (unwritten (λ n e. absurd cc))
-still_at_1 A C (Err BadOptions) status (inl h) unwritten is = absurd cc
-still_at_1 A C (Err Read) status (inl h) unwritten is = absurd cc
-still_at_1 A C (Err (Write m)) status (inl h) unwritten is = absurd cc
-still_at_1 A C (Err OutOfMemory) status (inl h) unwritten is = absurd cc
+still_at_1 A C (Err fault) status (inl h) unwritten is =
+    let other : (e : ToolFault) → fault_status e ≢ 1 → fault ≢ e = λ e not same. not (sym (ap fault_status same) ∙ sym h ∙ is) in
+    first (other OutOfMemory (λ e. cc)) (unwritten (λ n. other (Write n) (λ e. cc)))
 
 -- where the status is not 0, nothing was written, or the writer failed, or memory was refused in the midst
 joined : {A B C D : Type 0} → (A ⊎ (D × C)) ⊎ B → A ⊎ (B ⊎ C)
@@ -123,15 +92,11 @@ stopped (Ok done) status of unwritten write not = absurd (not of)
 stopped (Err fault) status of unwritten write not = joined (by_writer fault unwritten write)
 
 -- a fault that goes to memory is told as it is, or as want of memory
-either_way : {A : Type 0} → A ⊎ A → A
-either_way (inl a) = a
-either_way (inr a) = a
-
 pub told_in_memory : (action : Action) (before : Option (List ℕ)) (fault told : ToolFault) → ((n : ℕ) → fault ≡ Write n → told ≡ OutOfMemory) → (((n : ℕ) → fault ≢ Write n) → told ≡ fault)
     → Reports action before fault → Reports action before told
 told_in_memory action before fault told memory other h =
-    either_way (by_writer fault (λ not. subst (Reports action before) (sym (other not)) h)
-    (λ n is. subst (Reports action before) (sym (memory n is)) (record { after = h.after; tells = tt })))
+    ⊎_elim (λ same. subst (Reports action before) (sym same) h) (λ same. subst (Reports action before) (sym same) (record { after = h.after; tells = tt }))
+    (by_writer fault other memory)
 
 pub kept_in_memory : (outcome : Result (Unit {0}) ToolFault) (fault told kind : ToolFault) → outcome ≡ Err fault → (((n : ℕ) → fault ≢ Write n) → told ≡ fault) → ((n : ℕ) → kind ≢ Write n)
     → outcome ≡ Err kind → told ≡ kind

@@ -36,23 +36,11 @@ pub record PrintsHead (bytes text : List ℕ) : Type 0 where
   pub stands : IsHead head bytes
   pub printed : text ≡ head_text head
 
--- the bytes are a layout of a graph, and they print as the verdict on it
-pub record PrintsVerdict (bytes text : List ℕ) : Type 0 where
-  pub graph : GraphParts
-  pub stands : IsLayout bytes graph
-  pub printed : text ≡ verdict (lens_of graph)
-
 -- the bytes are a layout of a graph, triples use all of its strings, and they print as the verdict on it
 pub record PrintsTightVerdict (bytes text : List ℕ) : Type 0 where
   pub graph : GraphParts
   pub stands : IsTightLayout bytes graph
   pub printed : text ≡ verdict (lens_of graph)
-
--- the bytes are a layout of a graph, and of the strings of the role this holds
-pub record Consults (bytes : List ℕ) (role : Role) (Holds : List (List ℕ) → Type 0) : Type 0 where
-  pub graph : GraphParts
-  pub stands : IsLayout bytes graph
-  pub holds : Holds (strings_in graph.dictionary role)
 
 -- the bytes are a layout of a graph, and of it this holds
 pub record Opens (bytes : List ℕ) (Holds : GraphParts → Type 0) : Type 0 where
@@ -60,10 +48,14 @@ pub record Opens (bytes : List ℕ) (Holds : GraphParts → Type 0) : Type 0 whe
   pub stands : IsLayout bytes graph
   pub holds : Holds graph
 
+-- the bytes are a layout of a graph, and of the strings of the role this holds
+abbrev pub Consults : List ℕ → Role → (List (List ℕ) → Type 0) → Type 0
+Consults bytes role Holds = Opens bytes (λ graph. Holds (strings_in graph.dictionary role))
+
 -- a command on a file prints the text of these input bytes
 abbrev pub Prints : Action → List ℕ → List ℕ → Type 0
 Prints Head bytes text = PrintsHead bytes text
-Prints Verify bytes text = PrintsVerdict bytes text
+Prints Verify bytes text = Opens bytes (λ graph. text ≡ verdict (lens_of graph))
 Prints VerifyTight bytes text = PrintsTightVerdict bytes text
 Prints (Strings role) bytes text = Consults bytes role (λ strings. text ≡ string_lines 1 strings)
 Prints (Nth role n) bytes text = Consults bytes role (λ strings. PrintsString strings n text)
@@ -122,15 +114,12 @@ HasBadBlocks action bytes = ⊥
 -- what a command on a file tells of these input bytes, where it prints nothing of them
 abbrev pub IsTold : Action → List ℕ → ToolFault → Type 0
 IsTold action bytes (File fault) = HasFault action bytes fault
-IsTold action bytes (Input fault) = ⊥
-IsTold action bytes NoTriples = ⊥
 IsTold action bytes NoSuchNumber = LacksNumber action bytes
 IsTold action bytes NoSuchTerm = LacksTerm action bytes
 IsTold action bytes (NotATerm role n) = HasNoText action bytes role n
 IsTold action bytes BadOptions = HasBadBlocks action bytes
-IsTold action bytes Read = ⊥
-IsTold action bytes (Write n) = ⊥
 IsTold action bytes OutOfMemory = Unit {0}
+IsTold action bytes fault = ⊥
 
 -- a fault that a command that reads a file alone tells before it writes
 abbrev pub IsOfFile : ToolFault → Type 0
@@ -193,16 +182,13 @@ TellsBadOptions action before after = ⊥
 -- a fault of the file is the one that stands in the input, and so is one of a document, a look-up without an answer has none in
 -- it, and a string that is no term is the first of what is to be printed
 abbrev pub Tells : Action → Option (List ℕ) → Option (List ℕ) → ToolFault → Type 0
-Tells action before after (File fault) = ReadsWith before after (λ bytes. HasFault action bytes fault)
 Tells action before after (Input fault) = TellsDocument action before after (building.Line fault) × (fault.reason ≢ reasons.Read)
 Tells action before after NoTriples = TellsDocument action before after building.NoTriples
-Tells action before after NoSuchNumber = ReadsWith before after (LacksNumber action)
-Tells action before after NoSuchTerm = ReadsWith before after (LacksTerm action)
-Tells action before after (NotATerm role n) = ReadsWith before after (λ bytes. HasNoText action bytes role n)
 Tells action before after BadOptions = TellsBadOptions action before after
 Tells action before after Read = Unit {0}
 Tells action before after (Write n) = Unit {0}
 Tells action before after OutOfMemory = Unit {0}
+Tells action before after fault = ReadsWith before after (λ bytes. IsTold action bytes fault)
 
 -- of what the reader had left the command prints this text, and the file that it makes has been appended to what was made before
 pub record Makes (action : Action) (before after : Option (List ℕ)) (text made_before made_after : List ℕ) : Type 0 where

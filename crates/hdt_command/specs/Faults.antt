@@ -23,9 +23,10 @@ dump_fault_of (dumping.NotATerm role n) = NotATerm role n
 dump_fault_of (dumping.Write n) = Write n
 dump_fault_of dumping.OutOfMemory = OutOfMemory
 
--- a reader that failed is told without the line that it failed in
+-- a reader that failed is told without the line that it failed in, and so is want of memory
 abbrev pub told_of_reason : LineFault → LineReason → ToolFault
 told_of_reason fault reasons.Read = Read
+told_of_reason fault reasons.OutOfMemory = OutOfMemory
 told_of_reason fault reason = Input fault
 
 abbrev pub line_fault_of : LineFault → ToolFault

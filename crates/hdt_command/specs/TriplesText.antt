@@ -18,7 +18,7 @@ use Rattle.hdt_file.specs.declared.fault.DumpFault.TheVariants as dumping
 use Rattle.hdt_command.specs.declared.request.Form.{Form}
 use Rattle.hdt_command.specs.declared.request.Form.TheVariants.{Lines, Numbers, Count}
 use Rattle.hdt_command.specs.declared.fault.ToolFault.{ToolFault}
-use Rattle.hdt_command.specs.declared.fault.ToolFault.TheVariants.{File, Input, NoTriples, NoSuchTerm, NoSuchNumber, NotATerm, BadOptions, Read, Write, OutOfMemory}
+use Rattle.hdt_command.specs.declared.fault.ToolFault.TheVariants.{NotATerm, OutOfMemory}
 
 -- the strings that are given for subject, predicate and object, each or none
 abbrev pub Given : Type 0
@@ -85,13 +85,6 @@ LacksTermIn g given form most role n = (form ≡ Lines) × FindsWith g given (λ
 
 -- why these triples do not print: a string that is no term, or want of memory
 abbrev pub TellsFound : GraphParts → Given → Form → Option ℕ → ToolFault → Type 0
-TellsFound g given form most (File fault) = ⊥
-TellsFound g given form most (Input fault) = ⊥
-TellsFound g given form most NoTriples = ⊥
-TellsFound g given form most BadOptions = ⊥
-TellsFound g given form most NoSuchTerm = ⊥
-TellsFound g given form most NoSuchNumber = ⊥
 TellsFound g given form most (NotATerm role n) = LacksTermIn g given form most role n
-TellsFound g given form most Read = ⊥
-TellsFound g given form most (Write n) = ⊥
 TellsFound g given form most OutOfMemory = Unit {0}
+TellsFound g given form most fault = ⊥

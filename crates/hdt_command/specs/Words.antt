@@ -36,6 +36,11 @@ SpellsNumber bits text n = IsNumeral 10 (without_leading_plus text) × (digits_v
 abbrev pub StatesNumber : ℕ → Option Text → ℕ → Type 0
 StatesNumber bits entry n = IsSomeAnd entry (λ text. SpellsNumber bits text n)
 
+-- the number, or none
+abbrev pub StatesNumberOrNone : Option Text → Option ℕ → Type 0
+StatesNumberOrNone entry None = (n : ℕ) → StatesNumber 64 entry n → ⊥
+StatesNumberOrNone entry (Some n) = StatesNumber 64 entry n
+
 -- what `clap` states of a flag that was used, and of one that was not
 abbrev pub IsUsed : Option Text → Type 0
 IsUsed entry = entry ≡ Some (codes "true")
@@ -77,17 +82,12 @@ pub record StatesForm (rows : List Row) (form : Form) : Type 0 where
   pub numbers : IsUnused (one_of (codes "count") rows) → IsUsed (one_of (codes "numbers") rows) → form ≡ Numbers
   pub lines : IsUnused (one_of (codes "count") rows) → IsUnused (one_of (codes "numbers") rows) → form ≡ Lines
 
--- `--most` states the number, or none
-abbrev pub StatesMost : List Row → Option ℕ → Type 0
-StatesMost rows None = (n : ℕ) → StatesNumber 64 (one_of (codes "most") rows) n → ⊥
-StatesMost rows (Some n) = StatesNumber 64 (one_of (codes "most") rows) n
-
 -- `find` asks for what S, P and O state, in the form and up to the number that its options state
 pub record AsksFind (name : Text) (rows : List Row) (given : Given) (form : Form) (most : Option ℕ) : Type 0 where
   pub named : name ≡ codes "find"
   pub words : StatesWords rows given
   pub form_is : StatesForm rows form
-  pub most_is : StatesMost rows most
+  pub most_is : StatesNumberOrNone (one_of (codes "most") rows) most
 
 -- the command is `find` with these strings, this form and this number that it goes up to
 abbrev pub IsFinding : Given → Form → Option ℕ → Action → Type 0
@@ -107,7 +107,7 @@ AsksVerify name rows tight = (name ≡ codes "verify") × StatesFlag (one_of (co
 pub record AsksAnswer (name : Text) (rows : List Row) (asking : Asking) : Type 0 where
   pub named : name ≡ codes "answer"
   pub form_is : StatesForm rows asking.form
-  pub most_is : StatesMost rows asking.most
+  pub most_is : StatesNumberOrNone (one_of (codes "most") rows) asking.most
   pub raw_is : StatesFlag (one_of (codes "raw") rows) asking.raw
 
 -- the command's name, with the entries that it takes
@@ -222,19 +222,16 @@ pub record IsRefusedWith (words : List Text) (fault : UsageFault) : Type 0 where
   pub refused : IsRefusedBy names words fault
 
 abbrev pub IsRefused : List Text → UsageFault → Type 0
-IsRefused words (Help text) = IsRefusedWith words (Help text)
-IsRefused words (Usage text) = IsRefusedWith words (Usage text)
-IsRefused words (Word word fault) = IsRefusedWith words (Word word fault)
 IsRefused words OutOfMemory = Unit {0}
+IsRefused words fault = IsRefusedWith words fault
 
 -- ---- what the steps of a reading refuse
 
 -- a wrong command line, told by the text
 abbrev pub SaysUsage : Text → UsageFault → Type 0
-SaysUsage said (Help text) = ⊥
 SaysUsage said (Usage text) = string_bytes text ≡ said
-SaysUsage said (Word word fault) = ⊥
 SaysUsage said OutOfMemory = Unit {0}
+SaysUsage said fault = ⊥
 
 -- the fault of an error of `clap`
 abbrev pub TellsKind : ErrorKind → UsageFault → Type 0
@@ -243,26 +240,22 @@ TellsKind k (Usage text) = (IsShown k → ⊥) × (k ≢ kind.OutOfMemory)
 TellsKind k (Word word fault) = ⊥
 TellsKind k OutOfMemory = Unit {0}
 
--- a fault that comes only where the fact fails, and is no help and no fault of a term
-abbrev pub ComesWithout : Type 0 → UsageFault → Type 0
-ComesWithout P (Help text) = ⊥
-ComesWithout P (Usage text) = P → ⊥
-ComesWithout P (Word word fault) = ⊥
-ComesWithout P OutOfMemory = Unit {0}
-
--- the same, or the fault of a word of which this is so
+-- a fault that comes only where the fact fails, or the fault of a word of which this is so, and is no help
 abbrev pub ComesWithoutOr : Type 0 → (TermWord → TermFault → Type 0) → UsageFault → Type 0
 ComesWithoutOr P Q (Help text) = ⊥
 ComesWithoutOr P Q (Usage text) = P → ⊥
 ComesWithoutOr P Q (Word word fault) = Q word fault
 ComesWithoutOr P Q OutOfMemory = Unit {0}
 
+-- the same, and no fault of a word
+abbrev pub ComesWithout : Type 0 → UsageFault → Type 0
+ComesWithout P fault = ComesWithoutOr P (λ word fault. ⊥) fault
+
 -- the fault of a word that was read as a term
 abbrev pub TellsTerm : TermWord → TermFault → UsageFault → Type 0
-TellsTerm word fault (Help text) = ⊥
-TellsTerm word fault (Usage text) = ⊥
 TellsTerm word fault (Word other told) = (other ≡ word) × (told ≡ fault) × (fault.reason ≢ line.OutOfMemory)
 TellsTerm word fault OutOfMemory = fault.reason ≡ line.OutOfMemory
+TellsTerm word fault other = ⊥
 
 -- what is read of a text: itself where it is taken as it is, else the string of the term that it spells
 abbrev pub IsStringOf : Bool → Text → List ℕ → Type 0

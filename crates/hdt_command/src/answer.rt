@@ -3,7 +3,7 @@ ghost use Rattle.hdt_command.specs.declared.request.Asking.{Asking};
 ghost use Rattle.std.specs.Prelude.{◌≡◌, [], ◌≢◌, ◌⊎◌, IfOk, IfErr, OnOk};
 ghost use Rattle.std.specs.Io.KnownBytes.{Appends};
 ghost use Rattle.hdt_wire.specs.Counted.{inner, failures};
-ghost use Rattle.hdt_command.specs.Answer.{Consults, IsCut, IsTold, Opens, Prints, PrintsHead, PrintsTightVerdict, PrintsVerdict, ReadsFile};
+ghost use Rattle.hdt_command.specs.Answer.{Consults, IsCut, IsTold, Opens, Prints, PrintsHead, PrintsTightVerdict};
 ghost use Rattle.hdt_command.specs.StringsText.{string_lines, PrintsString, PrintsNumber};
 ghost use Rattle.hdt_command.specs.TriplesText.{PrintsFound, form_of};
 ghost use Rattle.hdt_command.specs.declared.request.Action.TheVariants as Action;
@@ -87,7 +87,7 @@ fn head_of(alloc: Global, bytes: &[u8]) -> Result<Vec<u8>, ToolFault>
 
 /// The text of `verify`.
 fn verdict_of(alloc: Global, bytes: &[u8]) -> Result<Vec<u8>, ToolFault>
-    ensures ok { IfOk result (λ text. PrintsVerdict bytes.now text.items) }
+    ensures ok { IfOk result (λ text. Prints Action.Verify bytes.now text.items) }
     ensures err { IfErr result (λ e. IsTold Action.Verify bytes.now e) }
 {
     let lens = verify(alloc, bytes)?;

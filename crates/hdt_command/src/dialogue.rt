@@ -1,5 +1,5 @@
 //! Requests that are answered one by one over a graph.
-ghost use Rattle.std.specs.Prelude.{◌≡◌, ◌≢◌, ◌+◌, ◌<◌, ◌∷◌, [], ◌++◌, ◌||◌, ℕ, List, Option, None, Some, Ok, true, false, option_map, if◌then◌else◌, IfOk, IfErr, OnOk, IsErrOf, string_bytes};
+ghost use Rattle.std.specs.Prelude.{◌≡◌, ◌≢◌, ◌+◌, ◌<◌, ◌∷◌, [], ◌++◌, ◌||◌, ℕ, List, Option, None, Some, Ok, true, false, option_map, if◌then◌else◌, IfOk, IfErr, OnOk, IsErrOf};
 ghost use Rattle.hdt_wire.specs.Counted.{inner, failures};
 ghost use Rattle.hdt_terms.specs.Documents.{AreLines, FaultBehind};
 ghost use Rattle.hdt_terms.specs.Taking.{left, line_number};
@@ -7,10 +7,10 @@ ghost use Rattle.hdt_terms.specs.declared.fault.LineReason.TheVariants as reason
 ghost use Rattle.hdt_file.specs.Kept.{KeepsTerms};
 ghost use Rattle.hdt_file.specs.TextWriting.{chosen, limited};
 ghost use Rattle.hdt_file.specs.Views.{graph_seen};
-ghost use Rattle.hdt_command.specs.Dialogue.{AnswersFound, AnswersInput, AnswersLine, AnswersSome, Gone, IsStopFor, ReadsWanted, ended, fault_comment, given_of, lines_left, most_bytes, no_term_comment, wanted_in};
+ghost use Rattle.hdt_command.specs.Dialogue.{AnswersFound, AnswersInput, AnswersLine, AnswersSome, Gone, ReadsWanted, ended, fault_comment, given_of, lines_left, most_bytes, no_term_comment, wanted_in};
 ghost use Rattle.hdt_command.specs.TriplesText.{FindsStrings};
 
-use crate::fault::ToolFault;
+use crate::fault::{ToolFault, line_fault};
 use crate::lines::role_name;
 use crate::printed_strings::write_piece;
 use crate::printed_triples::graph_triples_text;
@@ -67,24 +67,15 @@ fn asked_pattern(
     graph.pattern(lent, &mut Steps::new())
 }
 
-/// The comment that tells the fault of a line.
-fn fault_comment_line(alloc: Global, line: u64, fault: TermFault) -> Result<String, AllocError>
-    ensures { IfOk result (λ text. string_bytes text ≡ fault_comment line fault) }
-{
-    let column = fault.column;
-    let number = fault.reason.number();
-    let name = fault.reason.name();
-    format!(in alloc; "# line {line} column {column}: {number} {name}\n")
-}
-
 /// The answer of a line with a fault.
 fn fault_answer(alloc: Global, line: u64, fault: TermFault) -> Result<Vec<u8>, AllocError>
     ensures { IfOk result (λ answer. answer.items ≡ ended (fault_comment line fault)) }
 {
-    let text = fault_comment_line(alloc, line, fault)?;
-    let mut answer = text.into_bytes();
-    answer.push(b'\n')?;
-    Ok(answer)
+    let column = fault.column;
+    let number = fault.reason.number();
+    let name = fault.reason.name();
+    let text = format!(in alloc; "# line {line} column {column}: {number} {name}\n\n")?;
+    Ok(text.into_bytes())
 }
 
 /// The answer that tells a string that is no term.
@@ -173,17 +164,6 @@ fn next_line<R: Read>(
     lines.next_text(input, text)
 }
 
-/// Why answering stops where a line can't be read.
-fn stop_of(fault: LineFault) -> ToolFault
-    ensures { IsStopFor fault result }
-{
-    match fault.reason {
-        LineReason::Read => ToolFault::Read,
-        LineReason::OutOfMemory => ToolFault::OutOfMemory,
-        _ => ToolFault::Input(fault),
-    }
-}
-
 /// Whether one of two holds.
 fn either(one: bool, other: bool) -> bool
     ensures { result ≡ one || other }
@@ -231,7 +211,7 @@ pub fn answer_requests<R: Read, W: Write>(
         match next_line(&mut lines, input, &mut text) {
             Ok(true) => {}
             Ok(false) => return Ok(faulty),
-            Err(fault) => return Err(stop_of(fault)),
+            Err(fault) => return Err(line_fault(fault)),
         }
         let line = lines.line_number();
         let (is_fault, answer) = line_answer(

@@ -1,9 +1,9 @@
 //! The entries that `clap` states for a command.
-ghost use Rattle.std.specs.Prelude.{◌≡◌, ◌≢◌, ℕ, List, [], IfOk, IfErr, IsSome, MatchOption, Some, codes, string_bytes};
+ghost use Rattle.std.specs.Prelude.{◌≡◌, ◌≢◌, ℕ, List, [], IfOk, IfErr, IsSome, MatchOption, Some, codes, option_map, string_bytes};
 ghost use Rattle.clap.specs.Words.{first_of, one_of, found_of, rows_of};
 ghost use Rattle.hdt_build.specs.declared.options.Options.{Options};
 ghost use Rattle.hdt_wire.specs.declared.role.Role.{Role};
-ghost use Rattle.hdt_command.specs.Words.{AsksAction, ComesWithout, ComesWithoutOr, IsFaultOfWord, IsMisspelt, IsMisspeltPart, IsStringOf, IsFinding, Misspells, StatesFlag, StatesForm, StatesMost, StatesNumber, StatesOptions, StatesString, StatesWord, TellsTerm};
+ghost use Rattle.hdt_command.specs.Words.{AsksAction, ComesWithout, ComesWithoutOr, IsFaultOfWord, IsMisspelt, IsMisspeltPart, IsStringOf, IsFinding, Misspells, StatesFlag, StatesForm, StatesNumber, StatesNumberOrNone, StatesOptions, StatesString, StatesWord, TellsTerm};
 ghost use Rattle.hdt_command.specs.Lines.{word_name};
 ghost use Rattle.hdt_usage.specs.Table.{role_name};
 
@@ -22,27 +22,35 @@ pub fn missing(alloc: Global) -> UsageFault
     UsageFault::text(alloc, "error: a word is missing")
 }
 
+/// The text of a word, if it has one.
+fn word_at<'m>(matches: &ArgMatches<'m>, id: &str) -> Option<&'m str>
+    ensures { option_map (λ text. text.now) result ≡ first_of id.now (rows_of (found_of matches.now)) }
+{
+    matches.get_str(id)
+}
+
+/// The number that a word states, if it states one.
+fn number_in<'m>(matches: &ArgMatches<'m>, id: &str) -> Option<u64>
+    ensures { StatesNumberOrNone (one_of id.now (rows_of (found_of matches.now))) result }
+{
+    matches.get_one(id)
+}
+
+/// Whether a flag is among the words.
+pub fn flag_at<'m>(matches: &ArgMatches<'m>, id: &str) -> bool
+    ensures { StatesFlag (one_of id.now (rows_of (found_of matches.now))) result }
+{
+    matches.get_flag(id)
+}
+
 /// The text of a word.
 pub fn text_at<'m>(alloc: Global, matches: &ArgMatches<'m>, id: &str) -> Result<String, UsageFault>
     ensures ok { IfOk result (λ text. first_of id.now (rows_of (found_of matches.now)) ≡ Some (string_bytes text)) }
     ensures refused { IfErr result (ComesWithout (IsSome (first_of id.now (rows_of (found_of matches.now))))) }
 {
-    match matches.get_str(id) {
+    match word_at(matches, id) {
         Some(text) => Ok(String::from_str(alloc, text)?),
         None => Err(missing(alloc)),
-    }
-}
-
-/// The role that a word names.
-fn role_named(alloc: Global, text: &str) -> Result<Role, UsageFault>
-    ensures ok { IfOk result (λ role. text.now ≡ role_name role) }
-    ensures refused { IfErr result (ComesWithout ((role : Role) × (text.now ≡ role_name role))) }
-{
-    match text {
-        "subject" => Ok(Role::Subject),
-        "predicate" => Ok(Role::Predicate),
-        "object" => Ok(Role::Object),
-        _ => Err(missing(alloc)),
     }
 }
 
@@ -51,9 +59,11 @@ pub fn role_at<'m>(alloc: Global, matches: &ArgMatches<'m>) -> Result<Role, Usag
     ensures ok { IfOk result (λ role. first_of (codes "ROLE") (rows_of (found_of matches.now)) ≡ Some (role_name role)) }
     ensures refused { IfErr result (ComesWithout ((role : Role) × (first_of (codes "ROLE") (rows_of (found_of matches.now)) ≡ Some (role_name role)))) }
 {
-    match matches.get_str("ROLE") {
-        Some(text) => role_named(alloc, text),
-        None => Err(missing(alloc)),
+    match word_at(matches, "ROLE") {
+        Some("subject") => Ok(Role::Subject),
+        Some("predicate") => Ok(Role::Predicate),
+        Some("object") => Ok(Role::Object),
+        _ => Err(missing(alloc)),
     }
 }
 
@@ -62,7 +72,7 @@ pub fn number_at<'m>(alloc: Global, matches: &ArgMatches<'m>) -> Result<u64, Usa
     ensures ok { IfOk result (λ n. StatesNumber 64 (one_of (codes "N") (rows_of (found_of matches.now))) n) }
     ensures refused { IfErr result (ComesWithout ((n : ℕ) × StatesNumber 64 (one_of (codes "N") (rows_of (found_of matches.now))) n)) }
 {
-    match matches.get_one::<u64>("N") {
+    match number_in(matches, "N") {
         Some(number) => Ok(number),
         None => Err(missing(alloc)),
     }
@@ -73,8 +83,9 @@ pub fn block_size_at<'m>(alloc: Global, matches: &ArgMatches<'m>) -> Result<u32,
     ensures ok { IfOk result (λ n. StatesNumber 32 (one_of (codes "block-size") (rows_of (found_of matches.now))) n) }
     ensures refused { IfErr result (ComesWithout ((n : ℕ) × StatesNumber 32 (one_of (codes "block-size") (rows_of (found_of matches.now))) n)) }
 {
-    match matches.get_one::<u32>("block-size") {
-        Some(number) => Ok(number),
+    match number_in(matches, "block-size") {
+        Some(number) if number < 1 << 32 => Ok(number as u32),
+        Some(_) => Err(missing(alloc)),
         None => Err(missing(alloc)),
     }
 }
@@ -95,17 +106,10 @@ pub fn options_at<'m>(alloc: Global, matches: &ArgMatches<'m>) -> Result<Options
 pub fn verify_at<'m>(matches: &ArgMatches<'m>) -> Action
     ensures { AsksAction (codes "verify") (rows_of (found_of matches.now)) result }
 {
-    if matches.get_flag("tight") {
+    if flag_at(matches, "tight") {
         return Action::VerifyTight;
     }
     Action::Verify
-}
-
-/// Whether `--progress` is among the words.
-pub fn progress_at<'m>(matches: &ArgMatches<'m>) -> bool
-    ensures { StatesFlag (one_of (codes "progress") (rows_of (found_of matches.now))) result }
-{
-    matches.get_flag("progress")
 }
 
 /// The fault of a word that was read as a term.
@@ -140,8 +144,8 @@ pub fn string_at<'m>(alloc: Global, matches: &ArgMatches<'m>) -> Result<Vec<u8>,
     ensures refused { IfErr result (ComesWithoutOr (IsSome (first_of (codes "TERM") (rows_of (found_of matches.now))))
         (λ word fault. (word ≡ Word.Term) × IsMisspelt (rows_of (found_of matches.now)) Word.Term fault)) }
 {
-    let raw = matches.get_flag("raw");
-    match matches.get_str("TERM") {
+    let raw = flag_at(matches, "raw");
+    match word_at(matches, "TERM") {
         Some(text) => string_of(alloc, Word::Term, text.as_bytes(), raw),
         None => Err(missing(alloc)),
     }
@@ -169,8 +173,8 @@ fn part_at<'m>(
     ensures refused { IfErr result (ComesWithoutOr (IsSome (first_of (word_name word) (rows_of (found_of matches.now))))
         (λ other fault. (other ≡ word) × IsMisspeltPart (rows_of (found_of matches.now)) word fault)) }
 {
-    let raw = matches.get_flag("raw");
-    match matches.get_str(word.name()) {
+    let raw = flag_at(matches, "raw");
+    match word_at(matches, word.name()) {
         Some(text) => part_of(alloc, word, text, raw),
         None => Err(missing(alloc)),
     }
@@ -180,23 +184,13 @@ fn part_at<'m>(
 fn form_at<'m>(matches: &ArgMatches<'m>) -> Form
     ensures { StatesForm (rows_of (found_of matches.now)) result }
 {
-    if matches.get_flag("count") {
+    if flag_at(matches, "count") {
         return Form::Count;
     }
-    if matches.get_flag("numbers") {
+    if flag_at(matches, "numbers") {
         return Form::Numbers;
     }
     Form::Lines
-}
-
-/// The number of the option `--most`, where it is given.
-fn most_at<'m>(matches: &ArgMatches<'m>) -> Option<u64>
-    ensures { StatesMost (rows_of (found_of matches.now)) result }
-{
-    match matches.get_one::<u64>("most") {
-        Some(most) => Some(most),
-        None => None,
-    }
 }
 
 /// The command that `find` is by its strings, its form and the number that it goes up to.
@@ -226,7 +220,8 @@ pub fn find_at<'m>(alloc: Global, matches: &ArgMatches<'m>) -> Result<Action, Us
     let predicate = part_at(alloc, matches, Word::Predicate)?;
     let object = part_at(alloc, matches, Word::Object)?;
     let given = [subject, predicate, object];
-    Ok(found_action(given, form_at(matches), most_at(matches)))
+    let most = number_in(matches, "most");
+    Ok(found_action(given, form_at(matches), most))
 }
 
 /// What `answer` asks for.
@@ -235,7 +230,7 @@ pub fn answer_at<'m>(matches: &ArgMatches<'m>) -> Action
 {
     Action::Answer(Asking {
         form: form_at(matches),
-        most: most_at(matches),
-        raw: matches.get_flag("raw"),
+        most: number_in(matches, "most"),
+        raw: flag_at(matches, "raw"),
     })
 }

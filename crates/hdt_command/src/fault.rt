@@ -1,15 +1,18 @@
 //! What can go wrong: with a command line, and with a command.
-ghost use Rattle.std.specs.Prelude.{◌≡◌};
+ghost use Rattle.std.specs.Prelude.{◌≡◌, ◌≢◌, ◌⊎◌};
+ghost use Rattle.std.specs.IoError.{error_kind};
 ghost use Rattle.hdt_command.specs.declared.fault.UsageFault.TheVariants.{OutOfMemory as usage_memory};
 ghost use Rattle.hdt_command.specs.declared.fault.ToolFault.TheVariants.{OutOfMemory, File};
 ghost use Rattle.hdt_command.specs.Faults.{line_fault_of};
+ghost use Rattle.hdt_command.specs.Dialogue.{IsStopFor};
 
 use hdt_build::{BuildFault, RewriteFault};
 use hdt_dict::Role;
 use hdt_file::{DumpFault, OpenFault};
 use hdt_terms::{LineFault, LineReason, TermFault};
 use hdt_wire::Fault;
-use std::alloc::{AllocError, AllocFailed, Global};
+use std::alloc::{AllocError, Global};
+use std::io::{self, ErrorKind};
 use thiserror::Error;
 
 /// A word of a command line that is an N-Triples term.
@@ -73,14 +76,6 @@ impl UsageFault {
     }
 }
 
-impl<T: Drop> From<AllocFailed<T>> for UsageFault {
-    ghost from_gives = { λ _ e. e ≡ usage_memory };
-
-    fn from(_error: AllocFailed<T>) -> UsageFault {
-        UsageFault::OutOfMemory
-    }
-}
-
 impl From<AllocError> for UsageFault {
     ghost from_gives = { λ _ e. e ≡ usage_memory };
 
@@ -125,12 +120,26 @@ pub enum ToolFault {
     OutOfMemory,
 }
 
-/// The fault of a line of the input, or of the reader.
+/// The fault of a file that the system refused: want of memory where the error says so, else the other.
+pub fn file_fault(error: &io::Error, other: ToolFault) -> ToolFault
+    ensures memory { error_kind error.now ≡ ErrorKind.OutOfMemory → result ≡ ToolFault.OutOfMemory }
+    ensures other { error_kind error.now ≢ ErrorKind.OutOfMemory → result ≡ other }
+    ensures either { (result ≡ ToolFault.OutOfMemory) ⊎ (result ≡ other) }
+{
+    if error.kind() == ErrorKind::OutOfMemory {
+        return ToolFault::OutOfMemory;
+    }
+    other
+}
+
+/// The fault of a line of the input, or of the reader, or want of memory.
 pub fn line_fault(fault: LineFault) -> ToolFault
-    ensures { result ≡ line_fault_of fault }
+    ensures value { result ≡ line_fault_of fault }
+    ensures stop { IsStopFor fault result }
 {
     match fault.reason {
         LineReason::Read => ToolFault::Read,
+        LineReason::OutOfMemory => ToolFault::OutOfMemory,
         _ => ToolFault::Input(fault),
     }
 }
@@ -197,14 +206,6 @@ impl From<RewriteFault> for ToolFault {
             RewriteFault::OutOfMemory => ToolFault::OutOfMemory,
             RewriteFault::Write(count) => ToolFault::Write(count),
         }
-    }
-}
-
-impl<T: Drop> From<AllocFailed<T>> for ToolFault {
-    ghost from_gives = { λ _ e. e ≡ OutOfMemory };
-
-    fn from(_error: AllocFailed<T>) -> ToolFault {
-        ToolFault::OutOfMemory
     }
 }
 

@@ -1,39 +1,37 @@
 //! What `hdt build` and `hdt rewrite` print.
-ghost use Rattle.std.specs.Prelude.{◌≡◌, ◌++◌, ◌∷◌, [], IfOk};
-ghost use Rattle.hdt_command.specs.BuiltText.{built_line, counts_text, rewritten_line};
+ghost use Rattle.std.specs.Prelude.{◌≡◌, IfOk};
+ghost use Rattle.hdt_command.specs.BuiltText.{built_line, counts_line, rewritten_line};
 
-use crate::printed_verdict::put_count;
 use hdt_build::Report;
 use std::alloc::{AllocError, Global};
 
 /// The line of a word and six counts: triples, the strings of the sections shared, subjects, predicates, objects, and the
 /// file's bytes.
-#[tactic(auto, using(std::proofs::Common::append_assoc))]
-fn counts_line(alloc: Global, word: &[u8], report: &Report) -> Result<Vec<u8>, AllocError>
-    ensures { IfOk result (λ text. text.items ≡ word.now ++ counts_text report.now ++ 10 ∷ []) }
+fn counts_line(alloc: Global, word: &str, report: &Report) -> Result<Vec<u8>, AllocError>
+    ensures { IfOk result (λ text. text.items ≡ counts_line word.now report.now) }
 {
-    let mut text = Vec::new(alloc);
-    text.extend_from_slice(word)?;
-    put_count(report.triples, &mut text)?;
-    put_count(report.shared, &mut text)?;
-    put_count(report.subjects, &mut text)?;
-    put_count(report.predicates, &mut text)?;
-    put_count(report.objects, &mut text)?;
-    put_count(report.bytes, &mut text)?;
-    text.push(b'\n')?;
-    Ok(text)
+    let line = format!(in alloc;
+        "{word} {} {} {} {} {} {}\n",
+        report.triples,
+        report.shared,
+        report.subjects,
+        report.predicates,
+        report.objects,
+        report.bytes
+    )?;
+    Ok(line.into_bytes())
 }
 
 /// The line of a file that was built.
 pub fn built_line(alloc: Global, report: &Report) -> Result<Vec<u8>, AllocError>
     ensures { IfOk result (λ text. text.items ≡ built_line report.now) }
 {
-    counts_line(alloc, b"built", report)
+    counts_line(alloc, "built", report)
 }
 
 /// The line of a file that was rewritten.
 pub fn rewritten_line(alloc: Global, report: &Report) -> Result<Vec<u8>, AllocError>
     ensures { IfOk result (λ text. text.items ≡ rewritten_line report.now) }
 {
-    counts_line(alloc, b"rewritten", report)
+    counts_line(alloc, "rewritten", report)
 }

@@ -1,8 +1,8 @@
 //! What `hdt head` prints.
-ghost use Rattle.std.specs.Prelude.{◌≡◌, ◌++◌, OnOk, IfOk, string_bytes};
+ghost use Rattle.std.specs.Prelude.{◌≡◌, ◌++◌, OnOk, IfOk};
 ghost use Rattle.hdt_wire.specs.Control.{block_of};
 ghost use Rattle.hdt_file.specs.Head.{parts_of};
-ghost use Rattle.hdt_command.specs.HeadText.{labelled_line, block_lines, length_line, head_text};
+ghost use Rattle.hdt_command.specs.HeadText.{labelled_line, block_lines, head_text};
 
 use crate::escaping::put_escaped;
 use hdt_file::Head;
@@ -27,16 +27,8 @@ fn put_block(name: &str, block: &Control<'_>, out: &mut Vec<u8>) -> Result<(), A
     put_line("properties", block.properties(), out)
 }
 
-/// The line of a length.
-#[tactic(auto, using(std::proofs::Common::append_assoc))]
-fn length_line(alloc: Global, length: usize) -> Result<String, AllocError>
-    ensures { IfOk result (λ labelled_line. string_bytes labelled_line ≡ length_line length) }
-{
-    format!(in alloc; "length {length}\n")
-}
-
 /// The text that `hdt head` prints of a head: five lines, and the header body as it is.
-#[tactic(auto, unfolding(crate::specs::HeadText::head_text))]
+#[tactic(auto, using(std::proofs::Common::append_assoc), unfolding(crate::specs::HeadText::head_text))]
 pub fn head_text(alloc: Global, head: &Head<'_>) -> Result<Vec<u8>, AllocError>
     ensures { IfOk result (λ text. text.items ≡ head_text (parts_of head.now)) }
 {
@@ -44,7 +36,7 @@ pub fn head_text(alloc: Global, head: &Head<'_>) -> Result<Vec<u8>, AllocError>
     let mut text = Vec::new(alloc);
     put_block("global", &head.global(), &mut text)?;
     put_block("header", &head.header(), &mut text)?;
-    text.extend_from_slice(length_line(alloc, body.len())?.as_bytes())?;
+    text.extend_from_slice(format!(in alloc; "length {}\n", body.len())?.as_bytes())?;
     text.extend_from_slice(body)?;
     Ok(text)
 }

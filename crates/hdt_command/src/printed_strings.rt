@@ -15,23 +15,15 @@ use crate::fault::ToolFault;
 use hdt_dict::Role;
 use hdt_file::Layout;
 use hdt_seq::Steps;
-use hdt_wire::Counted;
+use hdt_wire::{Counted, put_decimal};
 use std::alloc::{AllocError, Global};
 use std::io::Write;
-
-/// Appends a number in decimal.
-pub fn put_number(number: u64, out: &mut Vec<u8>) -> Result<(), AllocError>
-    ensures { OnOk result (out.new.items ≡ out.old.items ++ decimal number) }
-{
-    let text = number.to_string(*out.allocator())?;
-    out.extend_from_slice(text.as_bytes())
-}
 
 /// Appends a string's line: its number, a tab, the string.
 fn put_string_line(number: u64, string: &[u8], out: &mut Vec<u8>) -> Result<(), AllocError>
     ensures { OnOk result (out.new.items ≡ out.old.items ++ string_line number string.now) }
 {
-    put_number(number, out)?;
+    put_decimal(number, out)?;
     out.push(b'\t')?;
     put_escaped(string, out)?;
     Ok(out.push(b'\n')?)
@@ -125,8 +117,15 @@ pub fn string_text(
     }
     let mut text = Vec::new(alloc);
     put_escaped(&string, &mut text)?;
-    text.push(b'\n')?;
+    text.extend_from_slice(b"\n")?;
     Ok(text)
+}
+
+/// The line with a number.
+pub fn number_line(alloc: Global, number: u64) -> Result<Vec<u8>, AllocError>
+    ensures { IfOk result (λ text. text.items ≡ decimal number ++ 10 ∷ []) }
+{
+    Ok(format!(in alloc; "{number}\n")?.into_bytes())
 }
 
 /// The line of a string's number in a role.
@@ -143,8 +142,5 @@ pub fn number_text(
     let Some(number) = layout.number_of(role, string, &mut Steps::new()) else {
         return Err(ToolFault::NoSuchTerm);
     };
-    let mut text = Vec::new(alloc);
-    put_number(number, &mut text)?;
-    text.push(b'\n')?;
-    Ok(text)
+    Ok(number_line(alloc, number)?)
 }

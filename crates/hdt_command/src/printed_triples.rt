@@ -1,5 +1,4 @@
 //! What `find` and `dump` print.
-ghost use Rattle.std.specs.Fmt.{decimal};
 ghost use Rattle.std.specs.Prelude.{◌≡◌, ◌<◌, ◌^◌, ◌++◌, ◌∷◌, [], OnOk, IfOk, IfErr, length};
 ghost use Rattle.hdt_file.specs.TextWriting.{chosen, limited};
 ghost use Rattle.hdt_file.specs.Kept.{KeepsTerms};
@@ -9,11 +8,12 @@ ghost use Rattle.hdt_triples.specs.Left.{left_of};
 ghost use Rattle.hdt_command.specs.TriplesText.{Finds, PrintsFound, TellsFound, PrintsTriples, TellsTriples, numbers_line, numbers_lines};
 
 use crate::fault::ToolFault;
-use crate::printed_strings::put_number;
+use crate::printed_strings::number_line;
 use crate::request::Form;
 use hdt_file::{DumpFault, Graph, Layout, Speller, graph_text_with, layout_text_up_to};
 use hdt_seq::Steps;
 use hdt_triples::{Matches, Pattern};
+use hdt_wire::put_decimal;
 use std::alloc::{AllocError, Global};
 
 /// Appends the line of a triple's numbers.
@@ -22,11 +22,11 @@ fn put_numbers(triple: (u64, u64, u64), out: &mut Vec<u8>) -> Result<(), AllocEr
     ensures { OnOk result (out.new.items ≡ out.old.items ++ numbers_line triple) }
 {
     let (subject, predicate, object) = triple;
-    put_number(subject, out)?;
+    put_decimal(subject, out)?;
     out.push(b' ')?;
-    put_number(predicate, out)?;
+    put_decimal(predicate, out)?;
     out.push(b' ')?;
-    put_number(object, out)?;
+    put_decimal(object, out)?;
     Ok(out.push(b'\n')?)
 }
 
@@ -75,10 +75,7 @@ fn count_of(layout: &Layout<'_>, pattern: Option<Pattern>, most: Option<u64>) ->
         return 0;
     };
     let count = layout.matching(pattern, &mut Steps::new());
-    match most {
-        Some(most) => count.min(most),
-        None => count,
-    }
+    count.min(most.unwrap_or(u64::MAX))
 }
 
 /// The pattern of the numbers of the strings that are given, where each is in its role.
@@ -121,10 +118,8 @@ pub fn triples_text(
     ensures ok { IfOk result (λ text. PrintsFound (layout_seen layout.now) given.now form most text.items) }
     ensures err { IfErr result (TellsFound (layout_seen layout.now) given.now form most) }
 {
-    match layout_triples_text(alloc, layout, pattern_of(layout, given), form, most) {
-        Ok(text) => Ok(text),
-        Err(fault) => Err(ToolFault::from(fault)),
-    }
+    let pattern = pattern_of(layout, given);
+    Ok(layout_triples_text(alloc, layout, pattern, form, most)?)
 }
 
 /// How many matches a pattern has in a graph, or nothing, but at most so many.
@@ -134,11 +129,8 @@ fn graph_count(graph: &Graph<'_>, pattern: Option<Pattern>, most: Option<u64>) -
     let Some(pattern) = pattern else {
         return 0;
     };
-    let count = graph.matching(pattern, &mut Steps::new());
-    match most {
-        Some(room) => count.min(room),
-        None => count,
-    }
+    let found = graph.matching(pattern, &mut Steps::new());
+    found.min(most.unwrap_or(u64::MAX))
 }
 
 /// The lines of the numbers of the matches of a pattern in a graph, or of nothing.
@@ -154,16 +146,6 @@ fn graph_numbers_text(
         Some(pattern) => matches_numbers(alloc, graph.search(pattern), most),
         None => Ok(Vec::new(alloc)),
     }
-}
-
-/// The line with a number.
-fn number_line(alloc: Global, number: u64) -> Result<Vec<u8>, AllocError>
-    ensures { IfOk result (λ text. text.items ≡ decimal number ++ 10 ∷ []) }
-{
-    let mut text = Vec::new(alloc);
-    put_number(number, &mut text)?;
-    text.push(b'\n')?;
-    Ok(text)
 }
 
 /// The text of the matches of a pattern in a graph, or of nothing, or of at most so many of the first: in N-Triples, their

@@ -1,7 +1,8 @@
 //! The program as a process: its standard streams, its words, and the status that it ends with.
 ghost use Rattle.std.specs.Prelude.{◌≤◌};
 
-use crate::status::{done, open_fault, status_of, words_of};
+use crate::fault::{ToolFault, file_fault};
+use crate::status::{done, status_of, words_of};
 use std::fs::File;
 use std::{env, io};
 
@@ -32,6 +33,6 @@ pub fn process_status(rt: &HostRuntime) -> u8
 {
     match Held::new(rt) {
         Ok(_held) => status_of(rt, words_of(rt.alloc(), env::args(rt))),
-        Err(error) => done(rt, Err(open_fault(&error))),
+        Err(error) => done(rt, Err(file_fault(&error, ToolFault::Read))),
     }
 }

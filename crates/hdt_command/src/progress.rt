@@ -1,8 +1,7 @@
 //! How far the reading of the input has come, told as it goes on.
-ghost use Rattle.std.specs.Prelude.{◌≡◌, ◌++◌, IfOk, OnOk};
-ghost use Rattle.hdt_command.specs.Inside.ProgressText.{of_text, progress_line};
+ghost use Rattle.std.specs.Prelude.{◌≡◌, IfOk, string_bytes};
+ghost use Rattle.hdt_command.specs.Inside.ProgressText.{progress_line};
 
-use crate::printed_strings::put_number;
 use hdt_wire::Counted;
 use std::alloc::{AllocError, Global};
 use std::io::{self, Read, Write};
@@ -27,28 +26,14 @@ pub struct Watched<R: Read, W: Write> {
     next: u64,
 }
 
-/// Appends of how many bytes they are.
-fn put_size(size: Option<u64>, out: &mut Vec<u8>) -> Result<(), AllocError>
-    ensures { OnOk result (out.new.items ≡ out.old.items ++ of_text size) }
-{
-    if let Some(size) = size {
-        out.extend_from_slice(b" of ")?;
-        put_number(size, out)?;
-    }
-    Ok(())
-}
-
 /// The line of so many bytes that were read, and of how many they are.
-#[tactic(auto, using(std::proofs::Common::append_assoc))]
-fn line_of(alloc: Global, read: u64, size: Option<u64>) -> Result<Vec<u8>, AllocError>
-    ensures { IfOk result (λ text. text.items ≡ progress_line read size) }
+fn line_of(alloc: Global, read: u64, size: Option<u64>) -> Result<String, AllocError>
+    ensures { IfOk result (λ line. string_bytes line ≡ progress_line read size) }
 {
-    let mut text = Vec::new(alloc);
-    text.extend_from_slice(b"hdt: read ")?;
-    put_number(read, &mut text)?;
-    put_size(size, &mut text)?;
-    text.extend_from_slice(b" bytes\n")?;
-    Ok(text)
+    match size {
+        Some(size) => format!(in alloc; "hdt: read {read} of {size} bytes\n"),
+        None => format!(in alloc; "hdt: read {read} bytes\n"),
+    }
 }
 
 impl<R: Read, W: Write + Drop> Watched<R, W> {
@@ -83,7 +68,7 @@ impl<R: Read, W: Write + Drop> Watched<R, W> {
             return;
         };
         if let Ok(line) = line_of(self.alloc, self.read, self.size) {
-            let _ = out.write_all(&line);
+            let _ = out.write_all(line.as_bytes());
         }
     }
 

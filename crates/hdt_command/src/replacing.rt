@@ -1,11 +1,10 @@
 //! Files that are replaced whole: what stands at a path is what it was until a new file, written beside it and handed to the
 //! disk, takes its name.
-ghost use Rattle.std.specs.Prelude.{◌≡◌, ◌≢◌, ◌≤◌, ℕ, List, length, Ok, Err, IfOk, IfErr};
+ghost use Rattle.std.specs.Prelude.{◌≡◌, ◌≤◌, ℕ, length, IfOk, IfErr};
 ghost use Rattle.std.specs.Io.KnownBytes.{Appends};
-ghost use Rattle.std.specs.IoError.{error_kind};
 ghost use Rattle.hdt_command.specs.Answer.{IsUnfilled};
 
-use crate::fault::ToolFault;
+use crate::fault::{ToolFault, file_fault};
 use hdt_wire::Counted;
 use std::alloc::Global;
 use std::fs::{self, File, Files, Metadata, OpenFile};
@@ -15,18 +14,6 @@ use std::path::{Path, PathBuf};
 /// How many names for a new file are tried. One is taken by each process that is at work in the folder, and by each that was
 /// killed there.
 const NAMES: u64 = 1000;
-
-/// The fault of a file that could not be created.
-pub fn create_fault(error: &io::Error) -> ToolFault
-    ensures memory { error_kind error.now ≡ ErrorKind.OutOfMemory → result ≡ ToolFault.OutOfMemory }
-    ensures other { error_kind error.now ≢ ErrorKind.OutOfMemory → result ≡ ToolFault.Write 0 }
-    ensures none { (built : List ℕ) → IsUnfilled built result }
-{
-    if error.kind() == ErrorKind::OutOfMemory {
-        return ToolFault::OutOfMemory;
-    }
-    ToolFault::Write(0)
-}
 
 /// The path of the regular file itself that a link leads to, if it does.
 fn linked_path<R: Files>(files: &R, alloc: Global, path: &str) -> io::Result<Option<PathBuf>> {
@@ -85,10 +72,7 @@ fn filled<F: Write + OpenFile + Drop>(file: F, built: &[u8]) -> Result<F, ToolFa
     ensures fault { IfErr result (λ e. (n : ℕ) × (e ≡ ToolFault.Write n) × (n ≤ length built.now)) }
 {
     let mut file = Counted::new(file);
-    match file.write_all(built) {
-        Ok(()) => {}
-        Err(count) => return Err(ToolFault::Write(count)),
-    }
+    file.write_all(built).map_err(ToolFault::Write)?;
     let whole = file.into_inner();
     match whole.sync_all() {
         Ok(()) => Ok(whole),
@@ -107,16 +91,11 @@ fn fill_and_rename<R: Files>(
     ensures fault { IfErr result (IsUnfilled built.now) }
 {
     if let Ok(replaced) = fs::metadata(files, path.as_path()) {
-        match permit(&file, &replaced) {
-            Ok(()) => {}
-            Err(error) => return Err(create_fault(&error)),
-        }
+        permit(&file, &replaced).map_err(|error| file_fault(&error, ToolFault::Write(0)))?;
     }
     let _whole = filled(file, built)?;
-    match fs::rename(files, beside.as_path(), path.as_path()) {
-        Ok(()) => Ok(()),
-        Err(_) => Err(ToolFault::Write(built.len() as u64)),
-    }
+    let renamed = fs::rename(files, beside.as_path(), path.as_path());
+    renamed.map_err(|_| ToolFault::Write(built.len() as u64))
 }
 
 /// Puts a file with what was made at a path, in place of a regular file that is there, with its permissions: at a fault that
@@ -130,10 +109,8 @@ pub fn replace<R: Files>(
     // Memory was refused, or writing failed, behind no more bytes than there are.
     ensures fault { IfErr result (IsUnfilled built.now) }
 {
-    let (file, beside) = match create_beside(files, alloc, path) {
-        Ok(created) => created,
-        Err(error) => return Err(create_fault(&error)),
-    };
+    let created = create_beside(files, alloc, path);
+    let (file, beside) = created.map_err(|error| file_fault(&error, ToolFault::Write(0)))?;
     let outcome = fill_and_rename(files, file, &beside, path, built);
     if outcome.is_err() {
         let _ = fs::remove_file(files, beside.as_path());

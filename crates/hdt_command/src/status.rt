@@ -19,10 +19,10 @@ ghost use Rattle.hdt_command.specs.Dialogue.{Converses, ConversesSome};
 ghost use Rattle.hdt_command.specs.Lines.{fault_status};
 ghost use Rattle.hdt_command.specs.Status.{Ends, IsCommandStatus, IsRefusalStatus};
 
-use crate::fault::{ToolFault, UsageFault};
+use crate::fault::{ToolFault, UsageFault, file_fault};
 use crate::lines::{fault_line, usage_line};
 use crate::progress::Watched;
-use crate::replacing::{create_fault, replace, replaced_path};
+use crate::replacing::{replace, replaced_path};
 use crate::request::{Action, Asking, Call, Request};
 use crate::running::{answer_file, run_in};
 use crate::words::parse_all_words;
@@ -75,17 +75,6 @@ pub fn done(rt: &HostRuntime, outcome: Result<(), ToolFault>) -> u8
     }
 }
 
-/// The fault of words that could not be had.
-fn words_fault(alloc: Global, error: &io::Error) -> UsageFault
-    ensures memory { error_kind error.now ≡ ErrorKind.OutOfMemory → result ≡ UsageFault.OutOfMemory }
-    ensures other { error_kind error.now ≢ ErrorKind.OutOfMemory → SaysUsage NOT_UTF8.now result }
-{
-    if error.kind() == ErrorKind::OutOfMemory {
-        return UsageFault::OutOfMemory;
-    }
-    UsageFault::text(alloc, NOT_UTF8)
-}
-
 /// The words, lent.
 fn lent<'a>(alloc: Global, words: &'a [String]) -> Result<Vec<&'a str>, AllocError>
     ensures { IfOk result (λ texts. map (λ text. text.now) texts.items ≡ map string_bytes words.now) }
@@ -107,25 +96,19 @@ fn asked_of(alloc: Global, words: &[String]) -> Result<Call, UsageFault>
     parse_all_words(alloc, texts.as_slice())
 }
 
-/// The words that were given, each. (`collect` would pass over a refused reservation.)
-fn all_words(alloc: Global, args: Args) -> io::Result<Vec<String>>
-    ensures ok { IfOk result (λ words. words.items ≡ into_iter_items args) }
-    ensures memory { IfErr result (λ error. error_kind error ≡ ErrorKind.OutOfMemory) }
-{
-    let mut words = Vec::new(alloc);
-    'words: for word in args {
-        words.push(word)?;
-    }
-    Ok(words)
-}
-
-/// The words of the command line, where they could be had; an error of theirs is passed on, and want of memory is one.
+/// The words of the command line, each, where they could be had; an error of theirs is passed on, and want of memory is one.
+/// (`collect` would pass over a refused reservation.)
 pub fn words_of(alloc: Global, given: io::Result<Args>) -> io::Result<Vec<String>>
     ensures ok { IfOk result (λ words. MatchResult given (λ args. words.items ≡ into_iter_items args) (λ _. ⊥)) }
     ensures memory { IfErr result (λ error. IfOk given (λ _. error_kind error ≡ ErrorKind.OutOfMemory)) }
     ensures refused { IfErr given (λ error. result ≡ Err error) }
 {
-    all_words(alloc, given?)
+    let args = given?;
+    let mut words = Vec::new(alloc);
+    'words: for word in args {
+        words.push(word)?;
+    }
+    Ok(words)
 }
 
 /// What the words of the command line ask for, where they could be had.
@@ -138,19 +121,9 @@ fn asked(alloc: Global, words: io::Result<Vec<String>>) -> Result<Call, UsageFau
 {
     match words {
         Ok(words) => asked_of(alloc, words.as_slice()),
-        Err(error) => Err(words_fault(alloc, &error)),
+        Err(error) if error.kind() == ErrorKind::OutOfMemory => Err(UsageFault::OutOfMemory),
+        Err(_) => Err(UsageFault::text(alloc, NOT_UTF8)),
     }
-}
-
-/// The fault of a file that could not be opened.
-pub fn open_fault(error: &io::Error) -> ToolFault
-    ensures memory { error_kind error.now ≡ ErrorKind.OutOfMemory → result ≡ ToolFault.OutOfMemory }
-    ensures other { error_kind error.now ≢ ErrorKind.OutOfMemory → result ≡ ToolFault.Read }
-{
-    if error.kind() == ErrorKind::OutOfMemory {
-        return ToolFault::OutOfMemory;
-    }
-    ToolFault::Read
 }
 
 /// Does what a request asks for, from its file, as it was opened, to a writer; the file that it makes is appended to `made`.
@@ -183,7 +156,7 @@ fn perform<R: Read + Drop, W: Write>(
 {
     let mut input = match file {
         Ok(input) => Counted::new(input),
-        Err(error) => return Err(open_fault(&error)),
+        Err(error) => return Err(file_fault(&error, ToolFault::Read)),
     };
     run_in(alloc, request, &mut input, room, out, made)
 }
@@ -256,10 +229,8 @@ fn created<F: Write>(file: io::Result<F>) -> Result<Counted<F>, ToolFault>
     ensures memory { IfErr file (λ e. error_kind e ≡ ErrorKind.OutOfMemory → result ≡ Err ToolFault.OutOfMemory) }
     ensures other { IfErr file (λ e. error_kind e ≢ ErrorKind.OutOfMemory → result ≡ Err (ToolFault.Write 0)) }
 {
-    match file {
-        Ok(file) => Ok(Counted::new(file)),
-        Err(error) => Err(create_fault(&error)),
-    }
+    let file = file.map_err(|error| file_fault(&error, ToolFault::Write(0)))?;
+    Ok(Counted::new(file))
 }
 
 /// Writes a line to a writer.
@@ -269,10 +240,7 @@ fn print_line<W: Write>(out: &mut Counted<W>, line: &[u8]) -> Result<(), ToolFau
     ensures failed { IfErr result (λ e. (n : ℕ) × (e ≡ ToolFault.Write n) × FailsAfter n line.now
         (W.contents (inner out.old)) (W.contents (inner out.new)) (failures out.old) (failures out.new)) }
 {
-    match out.write_all(line) {
-        Ok(()) => Ok(()),
-        Err(count) => Err(ToolFault::Write(count)),
-    }
+    out.write_all(line).map_err(ToolFault::Write)
 }
 
 /// Writes what was made to its file, and then the line to a writer.
@@ -295,10 +263,7 @@ fn store<F: Write, W: Write>(
         × Appends (F.contents (inner file.old)) (F.contents (inner file.new)) built.now
         × (failures file.new ≡ failures file.old)))) }
 {
-    match file.write_all(built) {
-        Ok(()) => {}
-        Err(count) => return Err(ToolFault::Write(count)),
-    }
+    file.write_all(built).map_err(ToolFault::Write)?;
     print_line(out, line)
 }
 
@@ -332,8 +297,8 @@ fn print_built(rt: &HostRuntime, built: &[u8], line: &[u8]) -> Result<(), ToolFa
 /// Puts what was made at a path: a regular file is replaced whole, into anything else it is written. Then it prints the line.
 fn put_at(rt: &HostRuntime, path: &str, built: &[u8], line: &[u8]) -> Result<(), ToolFault> {
     let mut out = Counted::new(io::writer(rt));
-    let replaced = replaced_path(rt, rt.alloc(), path).map_err(|error| create_fault(&error))?;
-    if let Some(path) = replaced {
+    let replaced = replaced_path(rt, rt.alloc(), path);
+    if let Some(path) = replaced.map_err(|error| file_fault(&error, ToolFault::Write(0)))? {
         replace(rt, rt.alloc(), &path, built)?;
         return print_line(&mut out, line);
     }
@@ -433,7 +398,7 @@ fn converse<F: Read + Drop, R: Read, W: Write>(
 {
     let mut file = match file {
         Ok(file) => Counted::new(file),
-        Err(why) => return Err(open_fault(&why)),
+        Err(why) => return Err(file_fault(&why, ToolFault::Read)),
     };
     answer_file(alloc, asking, &mut file, room, input, out)
 }
@@ -464,20 +429,12 @@ fn conversed<F: Read + Drop, R: Read, W: Write>(
     answers_status(rt, converse(rt.alloc(), asking, file, room, input, out))
 }
 
-/// Room for all of a file, where its size is known.
-fn room_of(file: &io::Result<File>) -> usize {
-    match file {
-        Ok(file) => size_of(file).unwrap_or(0) as usize,
-        Err(_) => 0,
-    }
-}
-
 /// Answers the requests of the standard input over a file on the standard output, and tells how that ended.
 fn conversed_over(rt: &HostRuntime, path: &str, asking: Asking) -> u8
     ensures { IsCommandStatus result }
 {
-    let file = File::open(rt, path);
-    let room = room_of(&file);
+    let file = opened(rt, path, false);
+    let room = room_for(&file);
     let mut input = Counted::new(rt.stdin());
     let mut out = Counted::new(io::writer(rt));
     conversed(rt, asking, file, room, &mut input, &mut out)

@@ -8,8 +8,8 @@ ghost use Rattle.hdt_command.specs.declared.request.Action.{Action};
 ghost use Rattle.hdt_command.specs.declared.request.Request.{Request};
 
 use crate::entries::{
-    answer_at, block_size_at, find_at, missing, number_at, options_at, progress_at, role_at,
-    string_at, text_at, verify_at,
+    answer_at, block_size_at, find_at, flag_at, missing, number_at, options_at, role_at, string_at,
+    text_at, verify_at,
 };
 use crate::fault::UsageFault;
 use crate::request::{Action, Call, Request};
@@ -130,7 +130,7 @@ fn asked_of<'m>(alloc: Global, name: &str, matches: &ArgMatches<'m>) -> Result<C
 {
     Ok(Call {
         request: request_of(alloc, name, matches)?,
-        progress: progress_at(matches),
+        progress: flag_at(matches, "progress"),
     })
 }
 

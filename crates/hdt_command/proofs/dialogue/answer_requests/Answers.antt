@@ -54,7 +54,7 @@ lines-preserved g c =
 pub returns-in-Err-clause-stopped : goal.returns-in-Err-clause-stopped
 returns-in-Err-clause-stopped g c =
     let inv = c.lines.invariant in
-    unread_line _ _ c.lines.lines _ _ _ _ _ inv.0 c.lines.faulty inv.1 _ _ c.in-Err.fault c.stop_of.result inv.2 inv.3 inv.4 inv.6 c.stop_of.ensures (c.in-Err.ensures.fault _ inv.0 inv.2)
+    unread_line _ _ c.lines.lines _ _ _ _ _ inv.0 c.lines.faulty inv.1 _ _ c.in-Err.fault c.line_fault.result inv.2 inv.3 inv.4 inv.6 c.line_fault.ensures.stop (c.in-Err.ensures.fault _ inv.0 inv.2)
 
 pub returns-in-Ok-false-clause-ok : goal.returns-in-Ok-false-clause-ok
 returns-in-Ok-false-clause-ok g c =

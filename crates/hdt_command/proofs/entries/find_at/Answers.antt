@@ -14,4 +14,4 @@ returns-clause-ok c =
       p = c.in_ok-predicate.ensures.ok;
       o = c.in_ok-object.ensures.ok;
     }
-    c.form_at.ensures c.most_at.ensures c.found_action.ensures
+    c.form_at.ensures c.number_in-most.ensures c.found_action.ensures

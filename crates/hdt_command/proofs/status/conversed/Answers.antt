@@ -1,4 +1,4 @@
-use Rattle.hdt_command.proofs.Statuses.{answers_status, answers_done, answers_stopped, no_fault_done}
+use Rattle.hdt_command.proofs.Statuses.{answers_status, answers_done, answers_stopped, if_done}
 use Rattle.hdt_command.proofs.status.conversed.Goals as goal
 
 pub returns-clause-statuses : goal.returns-clause-statuses
@@ -8,7 +8,7 @@ pub returns-clause-done : goal.returns-clause-done
 returns-clause-done g c is = answers_done _ c.converse.result c.answers_status.result c.answers_status.ensures c.converse.ensures.ok is
 
 pub returns-clause-well : goal.returns-clause-well
-returns-clause-well g c is = no_fault_done c.converse.result c.answers_status.result c.answers_status.ensures c.converse.ensures.writer_well is
+returns-clause-well g c is = if_done _ c.converse.result c.answers_status.result c.answers_status.ensures c.converse.ensures.writer_well is
 
 pub returns-clause-stopped : goal.returns-clause-stopped
 returns-clause-stopped g c not = answers_stopped _ _ c.converse.result c.answers_status.result c.answers_status.ensures c.converse.ensures.ok c.converse.ensures.stopped not

@@ -1,8 +1,8 @@
 use Rattle.std.proofs.Common.{IfOk, MatchResult, inl, refl, sym, subst}
+use Rattle.std.proofs.Math.Logic.{⊎_map}
 use Rattle.std.proofs.lemmas.Result.{IfErr-weaker, on_ok_weaker}
 use Rattle.hdt_wire.specs.Counted.{inner, failures}
 use Rattle.hdt_command.specs.Answer.{Answers, Begins, Breaks, Halts, Performs, Reports, Stops, Tells}
-use Rattle.hdt_command.proofs.Statuses.{second}
 use Rattle.hdt_command.proofs.status.perform.Goals as goal
 
 pub returns-in-Err-clause-unwritten : goal.returns-in-Err-clause-unwritten
@@ -32,7 +32,7 @@ returns-clause-unwritten g c =
     let new = g.W.Write.contents (inner c.run_in.new.out) in
     let f = failures c.args.out.now in
     let g' = failures c.run_in.new.out in
-    IfErr-weaker c.run_in.result _ _ (λ e h none. second (λ b. (
+    IfErr-weaker c.run_in.result _ _ (λ e h none. ⊎_map (λ a. a) (λ b. (
       b.0,
       subst (λ file. MatchResult file (λ input. Breaks action (left input) old new f g') (λ _. ⊥)) (sym c.in-Ok.is)
           (record { after = after; halts = subst (λ input. Halts action (left input) after old new f g') c.new-input.ensures.inner b.1 }),

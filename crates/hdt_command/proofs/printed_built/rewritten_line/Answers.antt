@@ -1,4 +1,0 @@
-use Rattle.hdt_command.proofs.printed_built.rewritten_line.Goals as goal
-
-pub returns : goal.returns
-returns c = c.counts_line.ensures
