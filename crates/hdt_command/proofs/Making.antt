@@ -15,11 +15,6 @@ use Rattle.hdt_command.specs.declared.whole.Query.TheVariants as query
 use Rattle.hdt_command.specs.Answer.{IfBuild, IsOfFile, Makes, Performs, Prints, ReadsFile, ReadsWith}
 use Rattle.hdt_command.specs.Faults.{build_fault_of, told_of_reason}
 
--- a fault that doesn't tell of the reader comes of a fault of the builder that doesn't
-pub not_failed : (fault : BuildFault) → build_fault_of fault ≢ Read → ReadFailed fault → ⊥
-not_failed (building.Line fault) not h = not (ap (told_of_reason fault) h)
-not_failed fault not h = h
-
 -- a command that makes a text of its file reads that alone
 pub reads_file : (q : Query) → ReadsFile (query_action q)
 reads_file query.Head = tt
@@ -46,6 +41,3 @@ nothing_lost action is before old new more h =
 pub no_options : (action : Action) (Holds : Options → Type 0) → ReadsFile action → IfBuild action Holds
 no_options (Build options) Holds is = absurd is
 no_options action Holds is = tt
-
-pub not_writing : (e : ToolFault) → IsOfFile e → (n : ℕ) → e ≢ Write n
-not_writing e h n is = subst IsOfFile is h

@@ -66,15 +66,6 @@ misspelt_part word rows text flag r on is h =
 differ : {P : Type 0} (name a b : Text) → name ≡ a → name ≡ b → bytes_eq a b ≡ false → P
 differ name a b p q apart = let same : bytes_eq a b ≡ true = (bytes_eq-Decides a b).1 (sym p ∙ q) in let bad : true ≡ false = sym same ∙ apart in absurd cc
 
--- what `find` asks for, by its words and its options
-pub finding : (rows : List Row) (given : Given) (form : Form) (most : Option ℕ) (a : Action) → StatesWords rows given → StatesForm rows form → StatesNumberOrNone (one_of (codes "most") rows) most
-    → IsFinding given form most a → AsksAction (codes "find") rows a
-finding rows given form most (action.Find strings numbers) words form_is most_is h =
-    inl (rw (h.0, h.1, sym h.2) record { named = refl; words = words; form_is = form_is; most_is = most_is })
-finding rows given form most (action.Search strings other n) words form_is most_is h =
-    rw (h.0, h.1, h.2) record { named = refl; words = words; form_is = form_is; most_is = most_is }
-finding rows given form most a words form_is most_is h = absurd h
-
 -- ---- `build` and `rewrite`
 
 -- `build` asks for options

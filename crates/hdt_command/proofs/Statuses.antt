@@ -61,12 +61,6 @@ pub if_done : {A T : Type 0} (P : T → Type 0) (outcome : Result T ToolFault) (
 if_done P (Ok done) status of ok is = ok
 if_done P (Err fault) status of ok is = absurd (not_done fault status of is)
 
--- the status that stands with the line of a fault, where there is memory for it
-pub told_status : {S E : Type 0} (fault : ToolFault) (line : Result (ℕ × S) E) (status : ℕ) → IfOk line (λ said. said.0 ≡ fault_status fault)
-    → MatchResult line (λ said. status ≡ said.0) (λ _. status ≡ 4) → (status ≡ fault_status fault) ⊎ (status ≡ 4)
-told_status fault (Ok said) status is h = inl (h ∙ is)
-told_status fault (Err e) status is h = inr h
-
 -- with status 1 nothing was written
 first : {A C D : Type 0} → (D → ⊥) → A ⊎ (D × C) → A
 first not (inl a) = a

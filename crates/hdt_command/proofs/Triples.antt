@@ -40,10 +40,3 @@ pub one_line : (text new all : List ℕ) (t : Triple) (left rest : List Triple) 
 one_line text new all t left rest first is h =
     ap (λ (x : List ℕ). x ++ numbers_lines rest) is ∙ append_assoc text (numbers_line t) (numbers_lines rest)
     ∙ sym (ap (λ (ts : List Triple). text ++ numbers_lines ts) first) ∙ h
-
--- why the triples that strings find do not print
-pub tells_found : (g : GraphParts) (given : Given) (found : List Triple) (form : Form) (most : Option ℕ) (e : DumpFault) → Finds g given found → TellsTriples form g (limited most found) e
-    → TellsFound g given form most (dump_fault_of e)
-tells_found g given found form most (dumping.NotATerm role n) finds h = (h.0, record { found = found; finds = finds; holds = h.1 })
-tells_found g given found form most (dumping.Write n) finds h = absurd h
-tells_found g given found form most dumping.OutOfMemory finds h = tt

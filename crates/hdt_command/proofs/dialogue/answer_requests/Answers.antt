@@ -55,14 +55,3 @@ pub returns-in-Err-clause-stopped : goal.returns-in-Err-clause-stopped
 returns-in-Err-clause-stopped g c =
     let inv = c.lines.invariant in
     unread_line _ _ c.lines.lines _ _ _ _ _ inv.0 c.lines.faulty inv.1 _ _ c.in-Err.fault c.line_fault.result inv.2 inv.3 inv.4 inv.6 c.line_fault.ensures.stop (c.in-Err.ensures.fault _ inv.0 inv.2)
-
-pub returns-in-Ok-false-clause-ok : goal.returns-in-Ok-false-clause-ok
-returns-in-Ok-false-clause-ok g c =
-    let inv = c.lines.invariant in
-    record {
-      lines = inv.0;
-      are = c.next_line.ensures.all _ inv.0 inv.2 (c.in-Ok-false.is ∙ ap Ok c.in-Ok-false.field-0-test);
-      text = inv.1;
-      answers = inv.3;
-      written = inv.4;
-    }

@@ -19,11 +19,6 @@ returns-in_err-text-clause-bad g c =
     let fault = c.in_err-text.field-0.0 in
     rw (p.1, p.2) (still_bad (whole_action c.args.whole) (Err fault) (Err fault) (same_error fault BadOptions) (same_error fault BadOptions) c.in_err-text.ensures.bad)
 
-pub returns-in_err-text-clause-unwritten : goal.returns-in_err-text-clause-unwritten
-returns-in_err-text-clause-unwritten g c =
-    let p = err_from_is_err_and c.from_residual.result c.from_residual.ensures.1 in
-    rw (p.1, p.2) (λ _. refl)
-
 pub returns-in-Ok-clause-ok : goal.returns-in-Ok-clause-ok
 returns-in-Ok-clause-ok g c =
     let old = g.W.Write.contents (inner c.args.out.now) in
@@ -33,9 +28,6 @@ returns-in-Ok-clause-ok g c =
       makes = c.in_ok-text.ensures.ok;
       written = subst (λ (text : List ℕ). Appends old new text) c.as_slice.ensures.value c.in-Ok.ensures.ok;
     }
-
-pub returns-in-Ok-clause-writer_well : goal.returns-in-Ok-clause-writer_well
-returns-in-Ok-clause-writer_well g c = c.in-Ok.ensures.well
 
 pub returns-in-Ok-clause-bad : goal.returns-in-Ok-clause-bad
 returns-in-Ok-clause-bad g c =

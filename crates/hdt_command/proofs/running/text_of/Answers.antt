@@ -8,7 +8,7 @@ use Rattle.hdt_command.specs.Answer.{IfBuild, Makes, ReadsFile}
 use Rattle.hdt_command.specs.Whole.{query_action, whole_action}
 use Rattle.hdt_command.specs.declared.whole.Whole.{Whole}
 use Rattle.hdt_command.specs.declared.fault.ToolFault.TheVariants.{BadOptions}
-use Rattle.hdt_command.proofs.Making.{nothing_built, no_options, not_writing, reads_file}
+use Rattle.hdt_command.proofs.Making.{nothing_built, no_options, reads_file}
 use Rattle.hdt_command.proofs.running.text_of.Goals as goal
 
 pub returns-in-Query-clause-ok : goal.returns-in-Query-clause-ok
@@ -27,9 +27,6 @@ returns-in-Query-clause-bad g c =
 pub returns-in-Query-clause-unread : goal.returns-in-Query-clause-unread
 returns-in-Query-clause-unread g c =
     no_options (whole_action c.args.whole) _ (subst (λ (w : Whole). ReadsFile (whole_action w)) (sym c.in-Query.is) (reads_file c.in-Query.query))
-
-pub returns-in-Query-clause-others : goal.returns-in-Query-clause-others
-returns-in-Query-clause-others g c = IfErr-weaker c.file_text.result _ _ not_writing c.file_text.ensures.others
 
 pub returns-in-Build-clause-bad : goal.returns-in-Build-clause-bad
 returns-in-Build-clause-bad g c =

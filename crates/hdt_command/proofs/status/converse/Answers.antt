@@ -1,12 +1,9 @@
-use Rattle.std.proofs.Common.{MatchResult, inl, inr, refl, sym, subst}
+use Rattle.std.proofs.Common.{MatchResult, inl, inr, sym, subst}
 use Rattle.std.proofs.lemmas.Result.{IfErr-weaker, IfOk-weaker}
 use Rattle.hdt_wire.specs.Counted.{inner, failures}
 use Rattle.hdt_command.specs.Answer.{Opens, ReadsWith}
 use Rattle.hdt_command.specs.Dialogue.{AnswersInput, AnswersSome, Converses, ConversesSome}
 use Rattle.hdt_command.proofs.status.converse.Goals as goal
-
-pub returns-in-Err-clause-stopped : goal.returns-in-Err-clause-stopped
-returns-in-Err-clause-stopped g c = inl refl
 
 pub returns-clause-ok : goal.returns-clause-ok
 returns-clause-ok g c =

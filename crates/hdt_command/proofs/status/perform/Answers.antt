@@ -1,12 +1,9 @@
-use Rattle.std.proofs.Common.{IfOk, MatchResult, inl, refl, sym, subst}
+use Rattle.std.proofs.Common.{IfOk, MatchResult, sym, subst}
 use Rattle.std.proofs.Math.Logic.{⊎_map}
 use Rattle.std.proofs.lemmas.Result.{IfErr-weaker, on_ok_weaker}
 use Rattle.hdt_wire.specs.Counted.{inner, failures}
 use Rattle.hdt_command.specs.Answer.{Answers, Begins, Breaks, Halts, Performs, Reports, Stops, Tells}
 use Rattle.hdt_command.proofs.status.perform.Goals as goal
-
-pub returns-in-Err-clause-unwritten : goal.returns-in-Err-clause-unwritten
-returns-in-Err-clause-unwritten g c = λ _. inl refl
 
 pub returns-clause-ok : goal.returns-clause-ok
 returns-clause-ok g c =
@@ -19,9 +16,6 @@ returns-clause-ok g c =
     let more = c.run_in.new.made.items in
     on_ok_weaker c.run_in.result (λ h. subst (λ file. MatchResult file (λ input. Performs action (left input) old new made more) (λ _. ⊥)) (sym c.in-Ok.is)
     (record { after = after; answers = subst (λ input. Answers action (left input) after old new made more) c.new-input.ensures.inner h })) c.run_in.ensures.ok
-
-pub returns-clause-writer_well : goal.returns-clause-writer_well
-returns-clause-writer_well g c = c.run_in.ensures.writer_well
 
 pub returns-clause-unwritten : goal.returns-clause-unwritten
 returns-clause-unwritten g c =

@@ -20,9 +20,6 @@ returns-clause-done g c is =
     MatchResult-weaker c.args.file (if_done _ c.perform.result c.done.result c.done.ensures c.perform.ensures.ok is)
     (λ input h. nothing_lost action c.requires (left input) old new more (subst (λ (made : List ℕ). Performs action (left input) old new made more) none h)) (λ e h. h)
 
-pub returns-clause-well : goal.returns-clause-well
-returns-clause-well g c = if_done _ c.perform.result c.done.result c.done.ensures c.perform.ensures.writer_well
-
 pub returns-clause-unwritten : goal.returns-clause-unwritten
 returns-clause-unwritten g c is = still_at_1 _ _ c.perform.result c.done.result c.done.ensures c.perform.ensures.unwritten is
 
