@@ -5,15 +5,19 @@ use Rattle.hdt_build.specs.Reading.{ReadFailed}
 use Rattle.hdt_build.specs.declared.fault.BuildFault.{BuildFault}
 use Rattle.hdt_build.specs.declared.fault.BuildFault.TheVariants as building
 use Rattle.hdt_build.specs.declared.options.Options.{Options}
-use Rattle.hdt_command.specs.declared.fault.ToolFault.{ToolFault}
-use Rattle.hdt_command.specs.declared.fault.ToolFault.TheVariants.{Read, Write}
+use Rattle.hdt_command.specs.declared.fault.ToolFault.TheVariants.{Read}
 use Rattle.hdt_command.specs.declared.request.Action.{Action}
 use Rattle.hdt_command.specs.declared.request.Action.TheVariants.{Build, Rewrite}
 use Rattle.hdt_command.specs.Whole.{query_action}
 use Rattle.hdt_command.specs.declared.whole.Query.{Query}
 use Rattle.hdt_command.specs.declared.whole.Query.TheVariants as query
-use Rattle.hdt_command.specs.Answer.{IfBuild, IsOfFile, Makes, Performs, Prints, ReadsFile, ReadsWith}
+use Rattle.hdt_command.specs.Answer.{IfBuild, Makes, Performs, Prints, ReadsFile, ReadsWith}
 use Rattle.hdt_command.specs.Faults.{build_fault_of, told_of_reason}
+
+-- a fault that doesn't tell of the reader comes of a fault of the builder that doesn't
+pub not_failed : (fault : BuildFault) → build_fault_of fault ≢ Read → ReadFailed fault → ⊥
+not_failed (building.Line fault) not h = not (ap (told_of_reason fault) h)
+not_failed fault not h = h
 
 -- a command that makes a text of its file reads that alone
 pub reads_file : (q : Query) → ReadsFile (query_action q)

@@ -12,12 +12,10 @@ use Rattle.hdt_command.specs.declared.fault.Word.{Word as TermWord}
 use Rattle.hdt_command.specs.declared.fault.UsageFault.TheVariants.{Usage, Help, Word, OutOfMemory}
 use Rattle.hdt_build.specs.declared.options.Options.{Options}
 use Rattle.hdt_command.specs.declared.request.Action.{Action}
-use Rattle.hdt_command.specs.declared.request.Form.{Form}
 use Rattle.hdt_command.specs.declared.request.Request.{Request}
 use Rattle.hdt_command.specs.declared.request.Action.TheVariants as action
-use Rattle.hdt_command.specs.Words.{AsksAction, AsksFor, AsksOfFile, AsksOfFiles, AsksToMake, ComesWithout, ComesWithoutOr, IsFaultOfWord, IsMisspelt, IsMisspeltPart, IsFinding, IsUsed, Misspells, StatesForm, StatesNumberOrNone, StatesOptions, StatesWords, TellsTerm}
+use Rattle.hdt_command.specs.Words.{AsksAction, AsksFor, AsksOfFile, AsksOfFiles, AsksToMake, ComesWithout, ComesWithoutOr, IsFaultOfWord, IsMisspelt, IsMisspeltPart, IsUsed, Misspells, StatesOptions, TellsTerm}
 use Rattle.hdt_command.specs.Lines.{word_name}
-use Rattle.hdt_command.specs.TriplesText.{Given}
 
 some_is : (a b : Text) → Some a ≡ Some b → a ≡ b
 some_is a b e = cc

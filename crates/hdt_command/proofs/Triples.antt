@@ -5,13 +5,7 @@ use Rattle.std.specs.declared.alloc.Global.{Global}
 use Rattle.std.specs.declared.vec.Vec.{Vec}
 use Rattle.hdt_dict.specs.Strings.{Lent}
 use Rattle.hdt_triples.specs.Counting.{Triple}
-use Rattle.hdt_file.specs.File.{GraphParts}
-use Rattle.hdt_file.specs.TextWriting.{limited}
-use Rattle.hdt_file.specs.declared.fault.DumpFault.{DumpFault}
-use Rattle.hdt_file.specs.declared.fault.DumpFault.TheVariants as dumping
-use Rattle.hdt_command.specs.declared.request.Form.{Form}
-use Rattle.hdt_command.specs.Faults.{dump_fault_of}
-use Rattle.hdt_command.specs.TriplesText.{Given, AreLent, Finds, TellsFound, TellsTriples, numbers_line, numbers_lines}
+use Rattle.hdt_command.specs.TriplesText.{Given, AreLent, numbers_line, numbers_lines}
 
 -- an array of three is its elements
 three : (given : Given) (a b c : Option (Vec ℕ Global)) → length given ≡ 3 → given ≡ get_or given 0 a ∷ get_or given 1 b ∷ get_or given 2 c ∷ []

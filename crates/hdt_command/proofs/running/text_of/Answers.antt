@@ -1,6 +1,6 @@
 use Rattle.std.proofs.Common.{◌↔◌, subst, sym}
 use Rattle.std.specs.Prelude.{IsErrOf}
-use Rattle.std.proofs.lemmas.Result.{IfOk-weaker, IfErr-weaker}
+use Rattle.std.proofs.lemmas.Result.{IfOk-weaker}
 use Rattle.hdt_wire.specs.Counted.{inner}
 use Rattle.hdt_build.specs.Options.{AreRight}
 use Rattle.hdt_build.specs.declared.options.Options.{Options}
