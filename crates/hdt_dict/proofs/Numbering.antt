@@ -10,9 +10,9 @@ use Rattle.std.proofs.lemmas.Option.{slice_get_within}
 use Rattle.hdt_front.specs.StringRows.{precedes}
 use Rattle.hdt_front.specs.Numbering.{place}
 use Rattle.hdt_front.specs.Walking.{Placed, After, PlacedAscend, strings}
-use Rattle.hdt_dict.specs.Inside.Overlap.{is_in}
+use Rattle.hdt_dict.specs.Strings.{has}
 use Rattle.hdt_dict.specs.Dictionary.{AreApart}
-use Rattle.hdt_dict.proofs.Rows.{has-is_in, is_in-append}
+use Rattle.hdt_dict.proofs.Rows.{has-append}
 use Rattle.hdt_dict.specs.Laws.Strings.{has-Contains}
 use Rattle.hdt_dict.specs.Numbered.{numbered}
 use Rattle.hdt_dict.proofs.Overlaps.{not_ahead}
@@ -40,7 +40,7 @@ both_no false h k = cc
 
 abbrev pub Distinct : List (List ℕ) → Type 0
 Distinct [] = Unit {0}
-Distinct (x ∷ xs) = (is_in xs x ≡ false) × Distinct xs
+Distinct (x ∷ xs) = (has xs x ≡ false) × Distinct xs
 
 distinct_after : (s : List ℕ) (ps : List Placed) → After s ps → Distinct (s ∷ strings ps)
 distinct_after s [] a = (refl, tt)
@@ -50,17 +50,14 @@ pub distinct_ascending : (ps : List Placed) → PlacedAscend ps → Distinct (st
 distinct_ascending [] a = tt
 distinct_ascending (p ∷ ps) a = distinct_after p.string ps a
 
-contains : (xs : List (List ℕ)) (x : List ℕ) → is_in xs x ≡ true → Contains xs x
-contains xs x h = has-Contains xs x (has-is_in xs x ∙ h)
-
-is_not : (xs : List (List ℕ)) (x : List ℕ) → (Contains xs x → ⊥) → is_in xs x ≡ false
-is_not xs x none = false_is (is_in xs x) (λ h. none (contains xs x h))
+is_not : (xs : List (List ℕ)) (x : List ℕ) → (Contains xs x → ⊥) → has xs x ≡ false
+is_not xs x none = false_is (has xs x) (λ h. none (has-Contains xs x h))
 
 pub distinct-append : (xs ys : List (List ℕ)) → Distinct xs → Distinct ys → AreApart xs ys → Distinct (xs ++ ys)
 distinct-append [] ys dx dy n = dy
 distinct-append (x ∷ xs) ys dx dy n =
-    let other : is_in ys x ≡ false = is_not ys x (λ there. n x (0, omega arith, refl) there) in (
-      is_in-append xs ys x ∙ ap (λ b. b || is_in ys x) dx.0 ∙ other,
+    let other : has ys x ≡ false = is_not ys x (λ there. n x (0, omega arith, refl) there) in (
+      has-append xs ys x ∙ ap (λ b. b || has ys x) dx.0 ∙ other,
       distinct-append xs ys dx.1 dy (λ z a b. n z (suc a.0, omega (arith, a.1), a.2) b),
     )
 
@@ -112,10 +109,10 @@ unfolding place
 string_of_number [] x n e = absurd (cc)
 string_of_number (y ∷ ys) x n e = string_by (bytes_eq y x) y x ys (place ys x) n refl (λ m h. string_of_number ys x m h) e
 
-member : (xs : List (List ℕ)) (x : List ℕ) (i : ℕ) → slice_get xs i ≡ Some x → is_in xs x ≡ true
+member : (xs : List (List ℕ)) (x : List ℕ) (i : ℕ) → slice_get xs i ≡ Some x → has xs x ≡ true
 member [] x i e = absurd (cc)
-member (y ∷ ys) x zero e = ap (λ b. b || is_in ys x) (ap (λ z. bytes_eq z x) (some_is y x e) ∙ itself x)
-member (y ∷ ys) x (suc i) e = second_true (bytes_eq y x) (is_in ys x) (member ys x i e)
+member (y ∷ ys) x zero e = ap (λ b. b || has ys x) (ap (λ z. bytes_eq z x) (some_is y x e) ∙ itself x)
+member (y ∷ ys) x (suc i) e = second_true (bytes_eq y x) (has ys x) (member ys x i e)
   where
     second_true : (a b : Bool) → b ≡ true → (a || b) ≡ true
     second_true true b h = refl
@@ -127,7 +124,7 @@ number_at [] x i d e = absurd (cc)
 number_at (y ∷ ys) x zero d e =
     ap (λ b. cond b (Some 1) (option_map (λ n. n + 1) (place ys x))) (ap (λ z. bytes_eq z x) (some_is y x e) ∙ itself x)
 number_at (y ∷ ys) x (suc i) d e =
-    let other : bytes_eq y x ≡ false = false_is (bytes_eq y x) (λ h. both_no (is_in ys x) (member ys x i e) (ap (is_in ys) (sym (same y x h)) ∙ d.0)) in
+    let other : bytes_eq y x ≡ false = false_is (bytes_eq y x) (λ h. both_no (has ys x) (member ys x i e) (ap (has ys) (sym (same y x h)) ∙ d.0)) in
     let up : i + 1 + 1 ≡ suc i + 1 = omega arith in
     ap (λ b. cond b (Some 1) (option_map (λ n. n + 1) (place ys x))) other ∙ ap (option_map (λ n. n + 1)) (number_at ys x i d.1 e) ∙ ap Some up
 

@@ -1,9 +1,7 @@
 -- The walks along two sections answer the rows of the strings that stand in both.
 use Rattle.std.proofs.Common.{◌≡◌, ℕ, zero, suc, ◌+◌, ◌<◌, ◌||◌, not, Bool, true, false, cond, List, [], ◌∷◌, ◌++◌, length, get_or, Option, Some, refl, sym, ap, ◌∙◌, arith, add-zero, zero-add}
 use Rattle.std.specs.Str.{bytes_eq}
-use Rattle.std.specs.Cmp.{both_ways}
 use Rattle.std.specs.Prelude.{Result}
-use Rattle.std.proofs.lemmas.Slice.Eq.{bytes_eq-Decides}
 use Rattle.std.proofs.lemmas.List.{length-map}
 use Rattle.hdt_wire.specs.declared.fault.Fault.{Fault}
 use Rattle.hdt_wire.specs.declared.fault.Reason.TheVariants.{SectionsOverlap}
@@ -21,28 +19,16 @@ use Rattle.hdt_front.specs.Walking.{Placed, placed_from}
 use Rattle.hdt_front.specs.Laws.Walk.{strings_placed}
 use Rattle.hdt_front.specs.Walks.{placed_of}
 use Rattle.hdt_dict.specs.Strings.{has}
-use Rattle.hdt_dict.specs.Inside.Overlap.{is_in, is_string_of, first_place, none_met}
+use Rattle.hdt_dict.specs.Inside.Overlap.{is_string_of, first_place, none_met}
 use Rattle.hdt_dict.specs.Dictionary.{apart_row, apart_at}
-
--- ---- a string of a list, tested from either side
-
-turned : (x y : List ℕ) → bytes_eq x y ≡ bytes_eq y x
-turned x y =
-    both_ways _ _
-    (λ t. (bytes_eq-Decides y x).1 (sym ((bytes_eq-Decides x y).0 t)))
-    (λ t. (bytes_eq-Decides x y).1 (sym ((bytes_eq-Decides y x).0 t)))
-
-pub has-is_in : (ys : List (List ℕ)) (x : List ℕ) → has ys x ≡ is_in ys x
-has-is_in [] x = refl
-has-is_in (y ∷ ys) x = ap (λ b. b || has ys x) (turned x y) ∙ ap (λ b. bytes_eq y x || b) (has-is_in ys x)
 
 or_assoc : (a b c : Bool) → (a || (b || c)) ≡ ((a || b) || c)
 or_assoc true b c = refl
 or_assoc false b c = refl
 
-pub is_in-append : (xs ys : List (List ℕ)) (x : List ℕ) → is_in (xs ++ ys) x ≡ (is_in xs x || is_in ys x)
-is_in-append [] ys x = refl
-is_in-append (y ∷ xs) ys x = ap (λ b. bytes_eq y x || b) (is_in-append xs ys x) ∙ or_assoc (bytes_eq y x) (is_in xs x) (is_in ys x)
+pub has-append : (xs ys : List (List ℕ)) (x : List ℕ) → has (xs ++ ys) x ≡ (has xs x || has ys x)
+has-append [] ys x = refl
+has-append (y ∷ xs) ys x = ap (λ b. bytes_eq y x || b) (has-append xs ys x) ∙ or_assoc (bytes_eq y x) (has xs x) (has ys x)
 
 -- ---- the strings of a section with their places, by their numbers
 
@@ -110,14 +96,13 @@ section_rows others s f same =
 -- a subject that is shared
 pub shared_rows : (shared subjects : Section) → none_met (first_place (is_string_of (placed_of shared)) (placed_of subjects)) ≡ apart_at (strings_of shared) (section_of subjects)
 shared_rows shared subjects =
-    section_rows (strings_of shared) subjects (is_string_of (placed_of shared)) (λ x. ap (λ l. is_in l x) (strings_placed shared) ∙ sym (has-is_in (strings_of shared) x))
+    section_rows (strings_of shared) subjects (is_string_of (placed_of shared)) (λ x. ap (λ l. has l x) (strings_placed shared))
 
 -- an object that is shared or a subject
 pub other_rows : (shared subjects objects : Section)
     → none_met (first_place (λ x. is_string_of (placed_of shared) x || is_string_of (placed_of subjects) x) (placed_of objects)) ≡ apart_at (strings_of shared ++ strings_of subjects) (section_of objects)
 other_rows shared subjects objects =
     section_rows (strings_of shared ++ strings_of subjects) objects (λ x. is_string_of (placed_of shared) x || is_string_of (placed_of subjects) x) (λ x.
-    ap (λ l. is_in l x || is_string_of (placed_of subjects) x) (strings_placed shared)
-    ∙ ap (λ l. is_in (strings_of shared) x || is_in l x) (strings_placed subjects)
-    ∙ sym (is_in-append (strings_of shared) (strings_of subjects) x)
-    ∙ sym (has-is_in (strings_of shared ++ strings_of subjects) x))
+    ap (λ l. has l x || is_string_of (placed_of subjects) x) (strings_placed shared)
+    ∙ ap (λ l. has (strings_of shared) x || has l x) (strings_placed subjects)
+    ∙ sym (has-append (strings_of shared) (strings_of subjects) x))

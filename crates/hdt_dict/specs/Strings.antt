@@ -31,7 +31,7 @@ SameMembers {X} xs ys = (x : X) → Contains xs x ↔ Contains ys x
 
 -- the list has the string
 abbrev pub has : List (List ℕ) → List ℕ → Bool
-has ys x = list_any (bytes_eq x) ys
+has ys x = list_any (λ y. bytes_eq y x) ys
 
 -- each of the first n strings is less than x
 abbrev pub FirstBelow : List (List ℕ) → ℕ → List ℕ → Type 0

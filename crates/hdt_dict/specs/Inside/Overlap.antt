@@ -1,20 +1,15 @@
 -- Strings that stand in two sections, as they are looked for along both.
 use Rattle.std.specs.Prelude.{◌≡◌, ◌<◌, ◌≤◌, ℕ, List, [], ◌∷◌, Bool, cond, Option, Some, None, Result, Ok, Err}
-use Rattle.std.specs.List.{list_any}
-use Rattle.std.specs.Str.{bytes_eq}
 use Rattle.std.specs.Ordering.{is_eq}
 use Rattle.std.specs.declared.cmp.Ordering.{Ordering}
 use Rattle.hdt_wire.specs.declared.fault.Fault.{Fault}
 use Rattle.hdt_wire.specs.declared.fault.Reason.TheVariants.{SectionsOverlap}
 use Rattle.hdt_front.specs.StringRows.{precedes}
+use Rattle.hdt_dict.specs.Strings.{has}
 use Rattle.hdt_front.specs.Walking.{Placed, strings, first_order, first_agreed}
 
--- whether a string is one of a list
-abbrev pub is_in : List (List ℕ) → List ℕ → Bool
-is_in xs x = list_any (λ y. bytes_eq y x) xs
-
 abbrev pub is_string_of : List Placed → List ℕ → Bool
-is_string_of items x = is_in (strings items) x
+is_string_of items x = has (strings items) x
 
 -- the place of the first string that passes a test
 abbrev pub first_place : (List ℕ → Bool) → List Placed → Option ℕ

@@ -1,11 +1,8 @@
 -- The rows of a dictionary are exact: what they answer stands there, and what stands there they answer.
 use Rattle.std.proofs.Common.{◌≡◌, ℕ, Bool, true, false, not, List, [], ◌++◌, length, get_or, inl, inr, refl, sym, subst, ◌∙◌}
 use Rattle.std.specs.List.{Contains}
-use Rattle.std.specs.Cmp.Lexicographic.{nat_list_eq_equiv}
 use Rattle.std.proofs.lemmas.List.{get_or_default}
 use Rattle.std.proofs.lemmas.List.Elements.{Contains-append_left, Contains-append_right, Contains-append_cases}
-use Rattle.std.proofs.lemmas.Map.Views.{Contains-from_any, list_any-from_Contains}
-use Rattle.std.proofs.lemmas.Slice.Eq.{bytes_eq-Decides}
 use Rattle.hdt_wire.specs.declared.fault.Reason.TheVariants.{SectionsOverlap}
 use Rattle.hdt_wire.specs.declared.control.Kind.TheVariants as kinds
 use Rattle.hdt_wire.specs.Rows.{IsBytes}
@@ -17,6 +14,7 @@ use Rattle.hdt_wire.specs.Laws.ExactLeaves.{control_exact}
 use Rattle.hdt_front.specs.Section.{SectionParts, string_place, section_at}
 use Rattle.hdt_front.specs.Laws.Section.{section_exact}
 use Rattle.hdt_dict.specs.Strings.{has}
+use Rattle.hdt_dict.specs.Laws.Strings.{has-Contains, Contains-has}
 use Rattle.hdt_dict.specs.Dictionary.{DictionaryParts, AreApart, IsDictionary, apart_row, apart_at, dictionary_at}
 
 -- ---- strings of two sections
@@ -34,9 +32,9 @@ unfolding apart_row
 row_exact others s i =
     let x : List ℕ = get_or s.strings i [] in
     record {
-      found = λ u e there. wrong (has others x) (last_held (not (has others x)) (string_place s i) SectionsOverlap u e) (list_any-from_Contains nat_list_eq_equiv x others there);
+      found = λ u e there. wrong (has others x) (last_held (not (has others x)) (string_place s i) SectionsOverlap u e) (Contains-has others x there);
       only = λ u none. holds_on (not (has others x)) (string_place s i) SectionsOverlap
-          (not-made (has others x) (λ is. none (Contains-from_any (λ a b. (bytes_eq-Decides a b).0) x others is)));
+          (not-made (has others x) (λ is. none (has-Contains others x is)));
     }
 
 pub apart_exact : (others : List (List ℕ)) (s : SectionParts) → Exactly (apart_at others s) (λ _. AreApart others s.strings)

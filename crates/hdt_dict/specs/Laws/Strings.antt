@@ -1,9 +1,9 @@
 -- Laws of lists of strings: a string by its place, a `dedup` and a sort seen through a function of the elements.
-use Rattle.std.proofs.Common.{◌≡◌, ℕ, ◌+◌, ◌<◌, Bool, true, false, cond, List, [], ◌∷◌, length, get_or, map, refl, ap, arith}
+use Rattle.std.proofs.Common.{◌≡◌, ℕ, ◌+◌, ◌<◌, Bool, true, false, cond, List, [], ◌∷◌, length, get_or, map, refl, ap, subst, arith}
 use Rattle.std.proofs.Common.{inl, inr, ◌⊎◌}
 use Rattle.std.specs.List.{Contains}
-use Rattle.std.specs.Cmp.Lexicographic.{nat_list_eq_equiv}
-use Rattle.std.proofs.lemmas.Map.Views.{Contains-from_any, list_any-from_Contains}
+use Rattle.std.proofs.lemmas.List.Folds.{Any-from_list_any, list_any_at}
+use Rattle.std.specs.Str.{bytes_eq}
 use Rattle.std.proofs.lemmas.Slice.Eq.{bytes_eq-Decides}
 use Rattle.std.specs.declared.cmp.Ordering.{Ordering}
 use Rattle.std.specs.List.{dedup, dedup_from}
@@ -39,10 +39,12 @@ string_at vs i v d below = get_or-map (λ (w : Lent). w.now) vs i v d below
 
 -- a list has a string where it is a member
 pub has-Contains : (ys : List (List ℕ)) (x : List ℕ) → has ys x ≡ true → Contains ys x
-has-Contains ys x h = Contains-from_any (λ a b. (bytes_eq-Decides a b).0) x ys h
+has-Contains ys x h =
+    let a = Any-from_list_any (λ y. bytes_eq y x) ys h in
+    (a.0, a.2, subst (λ y. get_or ys a.0 y ≡ y) ((bytes_eq-Decides a.1 x).0 a.4) a.3)
 
 pub Contains-has : (ys : List (List ℕ)) (x : List ℕ) → Contains ys x → has ys x ≡ true
-Contains-has ys x h = list_any-from_Contains nat_list_eq_equiv x ys h
+Contains-has ys x h = list_any_at (λ y. bytes_eq y x) ys h.0 x h.1 ((bytes_eq-Decides (get_or ys h.0 x) x).1 h.2)
 
 -- a string is a member of a list or not
 pub member_cases : (ys : List (List ℕ)) (x : List ℕ) → Contains ys x ⊎ (Contains ys x → ⊥)
