@@ -9,7 +9,7 @@ use Rattle.std.proofs.lemmas.List.Elements.{Contains-get_or}
 use Rattle.hdt_front.specs.Laws.Agreeing.{agree_back, agree_so, all_agree, left_turns}
 use Rattle.hdt_front.specs.Searching.{agreed}
 use Rattle.hdt_front.specs.Section.{before}
-use Rattle.hdt_dict.specs.Strings.{string_cmp}
+use Rattle.hdt_front.specs.Order.{string_cmp}
 use Rattle.hdt_file.specs.File.{GraphParts}
 use Rattle.hdt_build.specs.declared.kept.Part.{Part}
 use Rattle.hdt_build.specs.declared.run.Run.{Run}

@@ -7,7 +7,7 @@ use Rattle.std.proofs.lemmas.Cmp.{tied_itself}
 use Rattle.std.proofs.lemmas.List.{get_or_append_left, get_or-append_right, length-append}
 use Rattle.std.proofs.lemmas.List.Elements.{Contains-get_or}
 use Rattle.std.proofs.lemmas.Map.Keys.{Less-from_sorted}
-use Rattle.hdt_dict.specs.Strings.{IsAscending, string_cmp}
+use Rattle.hdt_front.specs.Order.{IsAscending, string_cmp}
 use Rattle.hdt_dict.specs.Split.{IsSplit}
 use Rattle.hdt_build.specs.Inside.Numbers.{term_numbered}
 use Rattle.hdt_build.proofs.Naming.{term_is}

@@ -7,7 +7,7 @@ use Rattle.hdt_wire.specs.declared.role.Role.{Role}
 use Rattle.hdt_wire.specs.declared.role.Role.TheVariants.{Subject, Predicate, Object}
 use Rattle.hdt_dict.specs.Laws.Members.{Contains-map, Contains-from_map}
 use Rattle.hdt_dict.specs.Split.{IsSplit}
-use Rattle.hdt_dict.specs.Strings.{IsAscending}
+use Rattle.hdt_front.specs.Order.{IsAscending}
 use Rattle.hdt_dict.specs.Texts.{IsDictionaryString}
 use Rattle.hdt_triples.specs.Counting.{Triple}
 use Rattle.hdt_triples.specs.Uses.{part, Uses}

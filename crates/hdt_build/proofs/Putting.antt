@@ -6,7 +6,7 @@ use Rattle.std.specs.Ordering.{ordering_reverse}
 use Rattle.std.specs.Cmp.Lexicographic.{nat_list_cmp_total}
 use Rattle.std.proofs.lemmas.Bool.{cases_eq}
 use Rattle.std.proofs.lemmas.Map.Lookups.{exact_bytes}
-use Rattle.hdt_dict.specs.Strings.{string_cmp}
+use Rattle.hdt_front.specs.Order.{string_cmp}
 use Rattle.hdt_file.specs.Denoted.{string_of}
 use Rattle.hdt_file.specs.File.{GraphParts}
 use Rattle.hdt_file.specs.Graph.{IsGraph}

@@ -27,7 +27,7 @@ use Rattle.hdt_build.proofs.Distinct.{Distinct-ascending}
 use Rattle.hdt_build.proofs.Joining.{number_in_front, number_behind}
 use Rattle.hdt_build.proofs.Keeping.{IsOf, all_of}
 use Rattle.hdt_build.proofs.Naming.{string_triple, same_strings, term_is, term_in}
-use Rattle.hdt_build.proofs.RunOrder.{ascends_of, used_range, kept_used}
+use Rattle.hdt_build.proofs.RunOrder.{used_range, kept_used}
 use Rattle.hdt_triples.specs.Order.{IsInRange, AreAscending}
 
 -- where a string of two lists stands
@@ -73,7 +73,7 @@ module _ (g : GraphParts) (h : IsGraph g) where
       elim (side d.shared d.subjects n a.0 a.1) [
         | inl one ↦ elim (side d.shared d.objects m b.0 b.1) [
           | inl two ↦
-              let e = (Distinct-ascending d.shared (ascends_of d.shared h.shared)).one (n - 1) (m - 1) (omega (arith, a.0, one.0)) (omega (arith, b.0, two.0)) (one.1 ∙ (same ∙ sym two.1)) in
+              let e = (Distinct-ascending d.shared h.shared.ascend).one (n - 1) (m - 1) (omega (arith, a.0, one.0)) (omega (arith, b.0, two.0)) (one.1 ∙ (same ∙ sym two.1)) in
               (omega (arith, e, a.0, b.0), one.0)
           | inr two ↦ absurd (h.shared_objects (string_of g Object m) (subst (Contains d.shared) (one.1 ∙ same) (Contains-get_or d.shared (n - 1) [] (omega (arith, a.0, one.0)))) two)
         ]

@@ -1,15 +1,14 @@
 -- The two runs of a role's strings: each ascends, and no string stands in both.
 use Rattle.std.proofs.Common.{◌≡◌, ◌≢◌, ◌∙◌, ◌⊎◌, inl, inr, ℕ, ◌+◌, ◌-◌, ◌<◌, ◌≤◌, List, [], ◌++◌, length, get_or, refl, ap, sym, subst, arith}
 use Rattle.std.specs.declared.cmp.Ordering.TheVariants.{Less}
-use Rattle.std.specs.Cmp.Lexicographic.{nat_list_cmp_total}
 use Rattle.std.proofs.lemmas.List.{get_or_append_left, get_or-append_right, length-append}
 use Rattle.std.proofs.lemmas.List.Elements.{All-contains}
-use Rattle.std.proofs.lemmas.Map.Keys.{Less-from_sorted, sorted_from_all_adjacent}
+use Rattle.std.proofs.lemmas.Map.Keys.{Less-from_sorted}
 use Rattle.hdt_wire.specs.declared.role.Role.{Role}
 use Rattle.hdt_wire.specs.declared.role.Role.TheVariants.{Subject, Predicate, Object}
 use Rattle.hdt_front.specs.Section.{AreStrings}
 use Rattle.hdt_dict.specs.Laws.Members.{Contains-from_map}
-use Rattle.hdt_dict.specs.Strings.{IsAscending, string_cmp}
+use Rattle.hdt_front.specs.Order.{string_cmp}
 use Rattle.hdt_triples.specs.Uses.{part, Uses}
 use Rattle.hdt_file.specs.Denoted.{string_of}
 use Rattle.hdt_file.specs.File.{GraphParts}
@@ -28,22 +27,19 @@ use Rattle.hdt_build.proofs.Naming.{term_is}
 term_there : (xs : List (List ℕ)) (k : ℕ) → term_numbered xs (k + 1) ≡ get_or xs k []
 term_there xs k = term_is xs (k + 1) (omega arith) ∙ ap (λ (i : ℕ). get_or xs i []) (omega arith)
 
-pub ascends_of : (xs : List (List ℕ)) → AreStrings xs → IsAscending xs
-ascends_of xs h = sorted_from_all_adjacent nat_list_cmp_total xs [] h.ascend
-
 up_alone : (xs : List (List ℕ)) (k m : ℕ) → AreStrings xs → k < m → m < length xs → string_cmp (term_numbered xs (k + 1)) (term_numbered xs (m + 1)) ≡ Less
-up_alone xs k m h lt in' = rw (term_there xs k, term_there xs m) (Less-from_sorted string_cmp xs k m [] (ascends_of xs h) lt in')
+up_alone xs k m h lt in' = rw (term_there xs k, term_there xs m) (Less-from_sorted string_cmp xs k m [] h.ascend lt in')
 
 module _ (xs ys : List (List ℕ)) (k m : ℕ) where
   up_front : AreStrings xs → k < m → m < length xs → string_cmp (term_numbered (xs ++ ys) (k + 1)) (term_numbered (xs ++ ys) (m + 1)) ≡ Less
   up_front h lt in' =
       rw (term_there (xs ++ ys) k, term_there (xs ++ ys) m, get_or_append_left xs ys [] k (omega (arith, lt, in')), get_or_append_left xs ys [] m in')
-      (Less-from_sorted string_cmp xs k m [] (ascends_of xs h) lt in')
+      (Less-from_sorted string_cmp xs k m [] h.ascend lt in')
 
   up_back : AreStrings ys → length xs ≤ k → k < m → m < length (xs ++ ys) → string_cmp (term_numbered (xs ++ ys) (k + 1)) (term_numbered (xs ++ ys) (m + 1)) ≡ Less
   up_back h from lt in' =
       rw (term_there (xs ++ ys) k, term_there (xs ++ ys) m, get_or-append_right xs ys (length xs) k [] refl from, get_or-append_right xs ys (length xs) m [] refl (omega (arith, from, lt)))
-      (Less-from_sorted string_cmp ys (k - length xs) (m - length xs) [] (ascends_of ys h) (omega (arith, from, lt)) (omega (arith, from, lt, in', length-append xs ys)))
+      (Less-from_sorted string_cmp ys (k - length xs) (m - length xs) [] h.ascend (omega (arith, from, lt)) (omega (arith, from, lt, in', length-append xs ys)))
 
   up_two : AreStrings xs → AreStrings ys → k < m → m < length (xs ++ ys) → (m < length xs) ⊎ (length xs ≤ k) → string_cmp (term_numbered (xs ++ ys) (k + 1)) (term_numbered (xs ++ ys) (m + 1)) ≡ Less
   up_two h e lt in' (inl front) = up_front h lt front
@@ -58,9 +54,9 @@ module _ (g : GraphParts) (h : IsGraph g) where
       (subst (λ (m : ℕ). 1 ≤ m) t.2 (of.from role), subst (λ (m : ℕ). m ≤ length (strings_in g.dictionary role)) t.2 (of.to role))
 
   pub distinct : (role : Role) → Distinct (strings_in g.dictionary role)
-  distinct Subject = Distinct-append g.dictionary.shared g.dictionary.subjects h.shared_subjects (Distinct-ascending _ (ascends_of _ h.shared)) (Distinct-ascending _ (ascends_of _ h.subjects))
-  distinct Predicate = Distinct-ascending _ (ascends_of _ h.predicates)
-  distinct Object = Distinct-append g.dictionary.shared g.dictionary.objects h.shared_objects (Distinct-ascending _ (ascends_of _ h.shared)) (Distinct-ascending _ (ascends_of _ h.objects))
+  distinct Subject = Distinct-append g.dictionary.shared g.dictionary.subjects h.shared_subjects (Distinct-ascending _ h.shared.ascend) (Distinct-ascending _ h.subjects.ascend)
+  distinct Predicate = Distinct-ascending _ h.predicates.ascend
+  distinct Object = Distinct-append g.dictionary.shared g.dictionary.objects h.shared_objects (Distinct-ascending _ h.shared.ascend) (Distinct-ascending _ h.objects.ascend)
 
   -- ---- the runs of the strings that a section may keep
 

@@ -3,7 +3,8 @@ use Rattle.std.proofs.Common.{◌≡◌, ◌∙◌, ℕ, List, map, ap, subst}
 use Rattle.std.specs.List.{Contains}
 use Rattle.std.specs.Cmp.Lexicographic.{nat_list_cmp_total}
 use Rattle.std.proofs.lemmas.List.Elements.{All-contains}
-use Rattle.hdt_dict.specs.Strings.{SameMembers, string_cmp}
+use Rattle.hdt_dict.specs.Strings.{SameMembers}
+use Rattle.hdt_front.specs.Order.{string_cmp}
 use Rattle.hdt_dict.specs.Split.{IsSplit}
 use Rattle.hdt_dict.specs.Laws.Members.{SameMembers-map, SameMembers-trans, Contains-map, Contains-from_map, ascending_unique}
 use Rattle.hdt_triples.specs.Counting.{Triple}

@@ -1,7 +1,7 @@
 //! The strings of a list, each once.
 ghost use Rattle.std.specs.Prelude.{◌≡◌, ◌+◌, length, IfOk, OnOk, IsTrue, IsFalse, ◌↔◌};
 ghost use Rattle.hdt_front.specs.Canonical.{lent_texts};
-ghost use Rattle.hdt_dict.specs.Strings.{IsAscending};
+ghost use Rattle.hdt_front.specs.Order.{IsAscending};
 ghost use Rattle.hdt_build.specs.Inside.Placed.{ArePlaced, AreRanks, IsJoined, IsLast};
 
 use crate::looking::{is_tied, looked_at};

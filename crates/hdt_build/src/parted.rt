@@ -2,7 +2,7 @@
 ghost use Rattle.std.specs.Prelude.{◌≡◌, ◌≤◌, ◌<◌, ℕ, [], length, slice_index_or, IsTrue, ◌↔◌, IfOk};
 ghost use Rattle.hdt_front.specs.Canonical.{lent_texts};
 ghost use Rattle.hdt_wire.specs.Control.{HasNoZero};
-ghost use Rattle.hdt_dict.specs.Strings.{IsAscending};
+ghost use Rattle.hdt_front.specs.Order.{IsAscending};
 ghost use Rattle.hdt_build.specs.Inside.Documents.{AreBelow};
 ghost use Rattle.hdt_build.specs.Graph.{string_triples_of};
 ghost use Rattle.hdt_build.specs.Inside.Kept.{AreBlocks, sections_in_work};

@@ -12,7 +12,7 @@ use Rattle.std.proofs.lemmas.Map.Keys.{Less-from_sorted}
 use Rattle.std.proofs.lemmas.Slice.Eq.{bytes_eq-Decides}
 use Rattle.hdt_dict.specs.Laws.Merge.{has_here, has_past}
 use Rattle.hdt_dict.specs.Inside.Merging.{ArePassed, IsFirstAlone, AreEqual}
-use Rattle.hdt_dict.specs.Strings.{IsAscending, string_cmp}
+use Rattle.hdt_front.specs.Order.{IsAscending, string_cmp}
 use Rattle.hdt_dict.specs.Laws.Strings.{Contains-has}
 
 itself : (x : List ℕ) → string_cmp x x ≡ Equal

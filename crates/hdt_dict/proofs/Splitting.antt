@@ -2,7 +2,8 @@
 use Rattle.std.proofs.Common.{◌≡◌, ℕ, List, Bool, not}
 use Rattle.std.specs.List.{Contains, filter}
 use Rattle.std.proofs.lemmas.List.Kept.{IsStrictlySortedBy-filter}
-use Rattle.hdt_dict.specs.Strings.{string_cmp, has, SameMembers, IsAscending}
+use Rattle.hdt_dict.specs.Strings.{has, SameMembers}
+use Rattle.hdt_front.specs.Order.{string_cmp, IsAscending}
 use Rattle.hdt_dict.specs.Laws.Members.{Contains-from_filter, Contains-filter}
 use Rattle.hdt_dict.specs.Laws.Strings.{has-Contains, Contains-has}
 use Rattle.hdt_dict.specs.Laws.Merge.{lacks, lacks-back}

@@ -10,7 +10,8 @@ use Rattle.std.proofs.lemmas.List.Kept.{IsStrictlySortedBy-dedup, Contains-dedup
 use Rattle.std.proofs.lemmas.Slice.Eq.{bytes_eq-Decides}
 use Rattle.hdt_dict.specs.Laws.Strings.{map-dedup, sorted_map}
 use Rattle.hdt_front.specs.Canonical.{lent_texts}
-use Rattle.hdt_dict.specs.Strings.{Lent, IsAscending, SameMembers, string_cmp}
+use Rattle.hdt_dict.specs.Strings.{Lent, SameMembers}
+use Rattle.hdt_front.specs.Order.{IsAscending, string_cmp}
 
 pub ascending_dedup : (vs : List Lent) → IsSorted (λ a b. string_cmp a.now b.now) vs → IsAscending (lent_texts (dedup (λ a b. bytes_eq a.now b.now) vs))
 ascending_dedup vs h =

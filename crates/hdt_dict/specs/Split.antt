@@ -4,7 +4,7 @@ use Rattle.std.specs.Prelude.{ℕ, List, ◌↔◌}
 use Rattle.std.specs.List.{Contains}
 use Rattle.hdt_front.specs.Canonical.{lent_texts, texts}
 use Rattle.hdt_front.specs.InWork.{SectionInWork}
-use Rattle.hdt_dict.specs.Strings.{IsAscending}
+use Rattle.hdt_front.specs.Order.{IsAscending}
 use Rattle.hdt_dict.specs.declared.parts.Parts.{Parts}
 use Rattle.hdt_dict.specs.declared.parts.LentParts.{LentParts}
 use Rattle.hdt_dict.specs.Dictionary.{FourLists}

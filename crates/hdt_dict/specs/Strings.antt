@@ -5,13 +5,9 @@ use Rattle.std.specs.declared.cmp.Ordering.TheVariants.{Less}
 use Rattle.std.specs.Ordering.{nat_cmp}
 use Rattle.std.specs.Cmp.Lexicographic.{slice_cmp}
 use Rattle.std.specs.List.{Contains, list_any}
-use Rattle.std.specs.List.Sorted.{IsStrictlySortedBy}
+use Rattle.hdt_front.specs.Order.{string_cmp}
 use Rattle.std.specs.Str.{bytes_eq}
 use Rattle.std.specs.Borrow.{Bor}
-
--- the order of strings: by unsigned bytes, a string before every longer one that it begins
-abbrev pub string_cmp : List ℕ → List ℕ → Ordering
-string_cmp = slice_cmp nat_cmp
 
 -- a lent string, a `&[u8]`
 abbrev pub Lent : Type 0
@@ -20,10 +16,6 @@ Lent = Bor (List ℕ)
 -- what a place past the end of a list of lent strings holds
 abbrev pub nothing : Lent
 nothing = record { ref_ptr = (0, 0); now = [] }
-
--- each string is less than those after it
-abbrev pub IsAscending : List (List ℕ) → Type 0
-IsAscending = IsStrictlySortedBy string_cmp
 
 -- the same members, in any order and any number of times
 abbrev pub SameMembers : {X : Type 0} → List X → List X → Type 0

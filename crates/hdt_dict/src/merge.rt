@@ -4,7 +4,8 @@ ghost use Rattle.std.specs.declared.cmp.Ordering.TheVariants.{Less, Equal, Great
 ghost use Rattle.std.specs.List.{filter};
 ghost use Rattle.hdt_front.specs.Canonical.{lent_texts};
 ghost use Rattle.hdt_dict.specs.Inside.Merging.{ArePassed, IsFirstAlone, AreEqual};
-ghost use Rattle.hdt_dict.specs.Strings.{IsAscending, has};
+ghost use Rattle.hdt_dict.specs.Strings.{has};
+ghost use Rattle.hdt_front.specs.Order.{IsAscending};
 
 use std::alloc::{AllocError, Global};
 use std::cmp::Ordering;

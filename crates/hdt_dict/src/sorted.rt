@@ -1,7 +1,8 @@
 //! Strings in ascending order, each once.
 ghost use Rattle.std.specs.Prelude.{◌≡◌, IfOk};
 ghost use Rattle.hdt_front.specs.Canonical.{lent_texts};
-ghost use Rattle.hdt_dict.specs.Strings.{IsAscending, SameMembers};
+ghost use Rattle.hdt_dict.specs.Strings.{SameMembers};
+ghost use Rattle.hdt_front.specs.Order.{IsAscending};
 
 use std::alloc::{AllocError, Global};
 

@@ -11,6 +11,8 @@ use Rattle.std.proofs.lemmas.Bool.Decides.{Decides-eqb}
 use Rattle.std.proofs.lemmas.Cmp.{nat_list_cmp_total, tied_itself}
 use Rattle.std.proofs.lemmas.Option.{slice_get_within, slice_get-get_or, get_or_from_slice_get}
 use Rattle.std.proofs.lemmas.Slice.Eq.{bytes_eq-Decides}
+use Rattle.std.proofs.lemmas.Map.Keys.{Less-from_sorted}
+use Rattle.hdt_front.specs.Order.{string_cmp}
 use Rattle.hdt_wire.specs.declared.role.Role.{Role}
 use Rattle.hdt_wire.specs.declared.role.Role.TheVariants.{Subject, Predicate, Object}
 use Rattle.hdt_front.specs.Section.{AreStrings}
@@ -99,7 +101,7 @@ not_under : (x : List ℕ) → Under x x → ⊥
 not_under x h = let e : slice_cmp nat_cmp x x ≡ Equal = tied_itself nat_list_cmp_total x in absurd (cc)
 
 section_once : (xs : List (List ℕ)) → AreStrings xs → StandOnce xs
-section_once xs are = ascending_once Under nat_list_cmp_total.trans not_under xs [] are.ascend
+section_once xs are = ascending_once Under nat_list_cmp_total.trans not_under xs [] (λ i lt. Less-from_sorted string_cmp xs i (i + 1) [] are.ascend (omega arith) lt)
 
 pub role_once : (g : GraphParts) → IsGraph g → (role : Role) → StandOnce (strings_in g.dictionary role)
 role_once g is Subject = once-append g.dictionary.shared g.dictionary.subjects (section_once g.dictionary.shared is.shared) (section_once g.dictionary.subjects is.subjects) is.shared_subjects

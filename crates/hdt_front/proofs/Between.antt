@@ -4,7 +4,8 @@ use Rattle.std.proofs.Math.Nat.{mul-le-mul_left}
 use Rattle.std.proofs.lemmas.Bool.Decides.{nat_tests}
 use Rattle.std.specs.declared.cmp.Ordering.TheVariants.{Less, Equal, Greater}
 use Rattle.std.specs.Ordering.{ordering_then, ord_min, nat_cmp}
-use Rattle.hdt_front.specs.Searching.{order, agreed, IsLess}
+use Rattle.hdt_front.specs.Searching.{agreed, IsLess}
+use Rattle.hdt_front.specs.Order.{string_cmp}
 use Rattle.hdt_front.specs.Strings.{strings_of, blocks_of}
 use Rattle.hdt_front.specs.Packed.{packing_of}
 use Rattle.hdt_front.specs.Laws.StringSteps.{length-unfolded}
@@ -46,14 +47,14 @@ same_same : (p q s : ℕ) → nat_eq p q ≡ true → nat_eq p s ≡ true → na
 same_same p q s a b c = grind (arith, nat_tests)
 
 -- a string between two others agrees with a sought one as far as both of these do
-between : (k : ℕ) (a b c x : List ℕ) → order a b ≡ Less → order b c ≡ Less → k ≤ agreed a x → k ≤ agreed c x → k ≤ agreed b x
+between : (k : ℕ) (a b c x : List ℕ) → string_cmp a b ≡ Less → string_cmp b c ≡ Less → k ≤ agreed a x → k ≤ agreed c x → k ≤ agreed b x
 between zero a b c x l u h i = omega arith
 between (suc k) [] b c x l u h i = absurd (omega (arith, h))
 between (suc k) (p ∷ a) b c [] l u h i = absurd (omega (arith, h))
 between (suc k) (p ∷ a) b [] (q ∷ x) l u h i = absurd (omega (arith, i))
 between (suc k) (p ∷ a) [] (r ∷ c) (q ∷ x) l u h i = absurd (cc)
 between (suc k) (p ∷ a) (s ∷ b) (r ∷ c) (q ∷ x) l u h i =
-    between_step (nat_eq p q) (nat_eq r q) (nat_eq s q) (nat_lt p s) (nat_eq p s) (nat_lt s r) (nat_eq s r) (order a b) (order b c) (agreed a x) (agreed c x) (agreed b x) k
+    between_step (nat_eq p q) (nat_eq r q) (nat_eq s q) (nat_lt p s) (nat_eq p s) (nat_lt s r) (nat_eq s r) (string_cmp a b) (string_cmp b c) (agreed a x) (agreed c x) (agreed b x) k
     (over p q r s) (over_same p q r s) (same_over p q r s) (same_same p q s) (between k a b c x) h i l u
 
 strings_between : (xs : List (List ℕ)) (x : List ℕ) (i j m k : ℕ) → Ascends xs → i < m → m < j → j < length xs

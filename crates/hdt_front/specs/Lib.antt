@@ -1,4 +1,5 @@
 pub mod Unfolding
+pub mod Order
 pub mod StringRows
 pub mod Packed
 pub mod Facts

@@ -4,9 +4,6 @@
 use Rattle.std.specs.Prelude.{◌≡◌, ℕ, zero, suc, ◌+◌, ◌-◌, ◌*◌, ◌/◌, ◌<◌, ◌==◌, ◌||◌, ◌⊎◌, not, Bool, nat_lt, nat_le, List, [], ◌∷◌, ◌++◌, length, slice_index, slice_index_or, slice_range, take, true, Result, Ok}
 use Rattle.std.specs.List.{concat}
 use Rattle.std.specs.Str.{IsUtf8}
-use Rattle.std.specs.Ordering.{nat_cmp}
-use Rattle.std.specs.Cmp.Lexicographic.{slice_cmp}
-use Rattle.std.specs.declared.cmp.Ordering.TheVariants.{Less}
 use Rattle.byteorder.specs.Endian.{little_bytes}
 use Rattle.hdt_wire.specs.declared.fault.Fault.{Fault}
 use Rattle.hdt_wire.specs.declared.fault.Reason.TheVariants.{SectionKind, BlockSize, PackedLength, BlockCount, BlockPlace}
@@ -20,6 +17,7 @@ use Rattle.hdt_wire.specs.VByte.{IsNumber}
 use Rattle.hdt_seq.specs.ExactSequences.{IsNumberSequence}
 use Rattle.hdt_front.specs.Unfolding.{is_head, unfolded}
 use Rattle.hdt_front.specs.Facts.{rest_at}
+use Rattle.hdt_front.specs.Order.{IsAscending}
 use Rattle.hdt_front.specs.Folding.{IsPiece}
 use Rattle.hdt_front.specs.StringRows.{Packing, strings_at}
 
@@ -46,11 +44,11 @@ pub record AreFolded (block_size : ℕ) (strings : List (List ℕ)) (packed star
   pub heads : (i : ℕ) → i < length strings → is_head block_size i ≡ true → slice_index starts (i / block_size) ≡ length (concat (take i pieces))
   pub last : 0 < length strings → slice_index starts ((length strings + (block_size - 1)) / block_size) ≡ length packed
 
--- strings that a section can hold: UTF-8 without a zero byte, each less than the next by unsigned bytes
+-- strings that a section can hold: UTF-8 without a zero byte, ascending by unsigned bytes
 pub record AreStrings (strings : List (List ℕ)) : Type 0 where
   pub utf8 : (i : ℕ) → i < length strings → IsUtf8 (slice_index_or strings i [])
   pub no_zero : (i : ℕ) → i < length strings → HasNoZero (slice_index_or strings i [])
-  pub ascend : (i : ℕ) → i + 1 < length strings → slice_cmp nat_cmp (slice_index_or strings i []) (slice_index_or strings (i + 1) []) ≡ Less
+  pub ascend : IsAscending strings
 
 -- so many starts have n strings in blocks: one a block, and the end; without strings none, or the one start 0
 abbrev pub HasStarts : ℕ → ℕ → List ℕ → Type 0

@@ -1,14 +1,14 @@
 -- The rows of the strings of a section.
 use Rattle.std.specs.Prelude.{ℕ, zero, suc, ◌+◌, ◌-◌, ◌/◌, ◌==◌, ◌||◌, Bool, nat_le, nat_lt, List, ◌++◌, length, take, drop, get_or, Result, Ok, Err, if◌then◌else◌}
 use Rattle.std.specs.Str.{is_utf8}
-use Rattle.std.specs.Ordering.{nat_cmp, is_lt}
-use Rattle.std.specs.Cmp.Lexicographic.{slice_cmp}
+use Rattle.std.specs.Ordering.{is_lt}
 use Rattle.hdt_wire.specs.declared.fault.Fault.{Fault}
 use Rattle.hdt_wire.specs.declared.fault.Reason.{Reason}
 use Rattle.hdt_wire.specs.declared.fault.Reason.TheVariants.{Truncated, BlockPlace, PrefixTooLong, PackedLength, NotUtf8, StringsNotAscending}
 use Rattle.hdt_wire.specs.Rows.{◌>>=◌, demand, zero_in}
 use Rattle.hdt_wire.specs.VByte.{vbyte_at}
 use Rattle.hdt_seq.specs.Sequence.{Places, place_of_entry}
+use Rattle.hdt_front.specs.Order.{string_cmp}
 use Rattle.hdt_front.specs.Unfolding.{is_head}
 
 -- how strings lie: the block size, the place and size of the packed bytes, the stored starts and where these lie
@@ -40,7 +40,7 @@ opened_at p i rest =
     else prefix_of (place_at p rest) rest (vbyte_at rest 0)
 
 abbrev pub precedes : List ℕ → List ℕ → Bool
-precedes x y = is_lt (slice_cmp nat_cmp x y)
+precedes x y = is_lt (string_cmp x y)
 
 -- the last rows of a string at a place: it is UTF-8, and it follows the one before
 abbrev pub unfolded_rows : Bool → Bool → ℕ → Result (Unit {0}) Fault

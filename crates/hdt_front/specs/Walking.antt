@@ -3,8 +3,7 @@ use Rattle.std.specs.Prelude.{◌≡◌, true, ℕ, zero, suc, ◌+◌, List, []
 use Rattle.std.specs.declared.cmp.Ordering.{Ordering}
 use Rattle.std.specs.declared.cmp.Ordering.TheVariants.{Greater}
 use Rattle.std.specs.List.{common_prefix_len}
-use Rattle.std.specs.Ordering.{nat_cmp}
-use Rattle.std.specs.Cmp.Lexicographic.{slice_cmp}
+use Rattle.hdt_front.specs.Order.{string_cmp}
 use Rattle.hdt_front.specs.Unfolding.{is_head, string_of_piece, after_piece}
 use Rattle.hdt_front.specs.StringRows.{Packing, place_at, precedes}
 
@@ -64,7 +63,7 @@ first_string (p ∷ ps) = Some p.string
 -- how the first string lies to another one; the end lies after all
 abbrev pub first_order : List Placed → List ℕ → Ordering
 first_order [] x = Greater
-first_order (p ∷ ps) x = slice_cmp nat_cmp p.string x
+first_order (p ∷ ps) x = string_cmp p.string x
 
 -- how far the first string agrees with another one; the end agrees with none
 abbrev pub first_agreed : List Placed → List ℕ → ℕ

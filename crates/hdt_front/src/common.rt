@@ -3,7 +3,8 @@ ghost use Rattle.std.specs.Prelude.{◌≡◌, ◌≤◌, ◌<◌, ◌+◌, leng
 ghost use Rattle.hdt_wire.specs.Rows.{zero_in};
 ghost use Rattle.std.specs.List.{common_prefix_len};
 ghost use Rattle.hdt_front.specs.Inside.Reaching.{Reaches};
-ghost use Rattle.hdt_front.specs.Searching.{order, agreed};
+ghost use Rattle.hdt_front.specs.Searching.{agreed};
+ghost use Rattle.hdt_front.specs.Order.{string_cmp};
 
 use crate::scan::{LANES, first_set};
 use std::cmp::Ordering;
@@ -137,7 +138,7 @@ fn common_from(a: &[u8], b: &[u8], from: usize) -> usize
 /// How a string lies to another one, and how far they agree: the first bytes that differ decide, else the lengths.
 #[tactic(auto, using(crate::proofs::AgreeLaws::bytes_decide, crate::proofs::AgreeLaws::lengths_decide))]
 pub(crate) fn compared(a: &[u8], b: &[u8]) -> (Ordering, usize)
-    ensures order { result.0 ≡ order a.now b.now }
+    ensures order { result.0 ≡ string_cmp a.now b.now }
     ensures same { result.1 ≡ agreed a.now b.now }
     ensures within { (result.1 ≤ length a.now) × (result.1 ≤ length b.now) }
 {
@@ -152,7 +153,7 @@ pub(crate) fn compared(a: &[u8], b: &[u8]) -> (Ordering, usize)
 /// before is looked at, and time is in proportion to the bytes behind in which they agree.
 pub fn compared_from(a: &[u8], b: &[u8], from: usize) -> (Ordering, usize)
     requires so_far { from ≤ agreed a.now b.now }
-    ensures order { result.0 ≡ order a.now b.now }
+    ensures order { result.0 ≡ string_cmp a.now b.now }
     ensures same { result.1 ≡ agreed a.now b.now }
 {
     let (order, same) = compared(a.split_at(from).1, b.split_at(from).1);
@@ -173,7 +174,7 @@ pub(crate) fn compared_stored(stored: &[u8], x: &[u8], from: usize) -> (Ordering
     requires ends { zero_in stored.now < length stored.now }
     requires sought { zero_in x.now ≡ length x.now }
     requires so_far { from ≤ agreed (take (zero_in stored.now) stored.now) x.now }
-    ensures order { result.0 ≡ order (take (zero_in stored.now) stored.now) x.now }
+    ensures order { result.0 ≡ string_cmp (take (zero_in stored.now) stored.now) x.now }
     ensures same { result.1 ≡ agreed (take (zero_in stored.now) stored.now) x.now }
 {
     let same = common_from(stored, x, from);

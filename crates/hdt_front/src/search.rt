@@ -5,7 +5,8 @@ ghost use Rattle.hdt_wire.specs.VByte.{vbyte_at};
 ghost use Rattle.hdt_front.specs.Unfolding.{read_or, text_from, kept, text_of, after_piece};
 ghost use Rattle.hdt_front.specs.Facts.{rest_at};
 ghost use Rattle.hdt_front.specs.declared.landed.Lie.TheVariants.{Less as LessOf};
-ghost use Rattle.hdt_front.specs.Searching.{order, agreed, IsLess, LiesSo, Lands};
+ghost use Rattle.hdt_front.specs.Searching.{agreed, IsLess, LiesSo, Lands};
+ghost use Rattle.hdt_front.specs.Order.{string_cmp};
 
 use crate::common::{compared, compared_stored};
 use crate::landed::{Landed, Lie};
@@ -60,7 +61,7 @@ impl<'a> Section<'a> {
         requires block { block < blocks_of self.now }
         requires sought { zero_in x.now ≡ length x.now }
         requires so_far { from ≤ agreed (get_or (strings_of self.now) (block * self.now.packed.block) []) x.now }
-        ensures order { result.0 ≡ order (get_or (strings_of self.now) (block * self.now.packed.block) []) x.now }
+        ensures order { result.0 ≡ string_cmp (get_or (strings_of self.now) (block * self.now.packed.block) []) x.now }
         ensures same { result.1 ≡ agreed (get_or (strings_of self.now) (block * self.now.packed.block) []) x.now }
         ensures ends { zero_in result.2.now < length result.2.now }
         ensures rest { drop (zero_in result.2.now + 1) result.2.now ≡ rest_at self.now.packed.block (block * self.now.packed.block + 1) self.now.packed.bytes.now }

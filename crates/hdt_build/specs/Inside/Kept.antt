@@ -6,7 +6,7 @@ use Rattle.hdt_wire.specs.declared.role.Role.{Role}
 use Rattle.hdt_wire.specs.declared.role.Role.TheVariants.{Subject, Predicate, Object}
 use Rattle.hdt_front.specs.Searching.{agreed}
 use Rattle.hdt_dict.specs.Split.{IsSplit, lists_in_work}
-use Rattle.hdt_dict.specs.Strings.{IsAscending, string_cmp}
+use Rattle.hdt_front.specs.Order.{IsAscending, string_cmp}
 use Rattle.hdt_dict.specs.Walking.{Progress}
 use Rattle.hdt_triples.specs.Counting.{Triple}
 use Rattle.hdt_triples.specs.Uses.{Uses}

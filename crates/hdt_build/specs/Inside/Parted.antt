@@ -4,7 +4,7 @@ use Rattle.std.specs.List.{Contains}
 use Rattle.hdt_wire.specs.declared.role.Role.{Role}
 use Rattle.hdt_wire.specs.declared.role.Role.TheVariants.{Subject, Predicate, Object}
 use Rattle.hdt_dict.specs.Split.{IsSplit}
-use Rattle.hdt_dict.specs.Strings.{IsAscending}
+use Rattle.hdt_front.specs.Order.{IsAscending}
 use Rattle.hdt_triples.specs.Counting.{Triple}
 use Rattle.hdt_triples.specs.Uses.{Uses}
 use Rattle.hdt_build.specs.Graph.{subjects_of, predicates_of, objects_of, string_triples_of}

@@ -16,7 +16,8 @@ use Rattle.std.proofs.lemmas.Map.Keys.{Less-from_sorted}
 use Rattle.std.proofs.lemmas.Slice.Eq.{bytes_eq-Decides}
 use Rattle.hdt_dict.specs.Laws.Strings.{has-Contains, Contains-has, string_at}
 use Rattle.hdt_front.specs.Canonical.{lent_texts}
-use Rattle.hdt_dict.specs.Strings.{Lent, IsAscending, string_cmp, has, FirstBelow}
+use Rattle.hdt_dict.specs.Strings.{Lent, has, FirstBelow}
+use Rattle.hdt_front.specs.Order.{IsAscending, string_cmp}
 
 pub Less-from_is_lt : (o : Ordering) → is_lt o ≡ true → o ≡ Less
 Less-from_is_lt Less h = refl

@@ -5,7 +5,7 @@ use Rattle.std.proofs.lemmas.List.Elements.{All-contains}
 use Rattle.std.proofs.lemmas.Map.Keys.{Less-from_sorted}
 use Rattle.hdt_front.specs.Section.{AreStrings}
 use Rattle.hdt_dict.specs.Laws.Members.{All-from_members}
-use Rattle.hdt_dict.specs.Strings.{IsAscending, string_cmp}
+use Rattle.hdt_front.specs.Order.{IsAscending, string_cmp}
 use Rattle.hdt_dict.specs.Split.{IsSplit}
 use Rattle.hdt_dict.specs.Texts.{IsDictionaryString}
 use Rattle.hdt_dict.specs.Writing.{AreSections}
@@ -15,7 +15,7 @@ pub texts_ascend : (xs : List (List ℕ)) → All IsDictionaryString xs → IsAs
 texts_ascend xs are up = record {
   utf8 = λ i lt. (are i [] lt).utf8;
   no_zero = λ i lt. (are i [] lt).no_zero;
-  ascend = λ i lt. Less-from_sorted string_cmp xs i (i + 1) [] up (omega arith) lt;
+  ascend = up;
 }
 
 pub split_sections : (ss ps os : List (List ℕ)) (d : FourLists) → IsSplit ss ps os d → All IsDictionaryString ss → All IsDictionaryString ps → All IsDictionaryString os → AreSections d

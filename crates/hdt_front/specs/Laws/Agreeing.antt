@@ -3,7 +3,8 @@ use Rattle.std.proofs.Common.{◌≡◌, ℕ, zero, suc, ◌+◌, ◌<◌, ◌�
 use Rattle.std.specs.declared.cmp.Ordering.TheVariants.{Less, Equal, Greater}
 use Rattle.std.specs.Ordering.{ordering_then}
 use Rattle.std.proofs.lemmas.Bool.Decides.{nat_tests}
-use Rattle.hdt_front.specs.Searching.{order, agreed}
+use Rattle.hdt_front.specs.Searching.{agreed}
+use Rattle.hdt_front.specs.Order.{string_cmp}
 
 abbrev pub both : Bool → Bool → Ordering → Ordering
 both lt eq o = ordering_then (cond lt Less (cond eq Equal Greater)) o
@@ -55,22 +56,22 @@ turn_step true false o p n m k rest more = (refl, refl)
 turn_step false true o p n m k rest more = let r = rest (omega (arith, more)) in (r.0, ap (λ x. 1 + x) r.1)
 turn_step false false o p n m k rest more = (refl, refl)
 
-pub left_turns : (k : ℕ) (next last x : List ℕ) → agreed last x < k → k ≤ agreed next last → (order next x ≡ order last x) × (agreed next x ≡ agreed last x)
+pub left_turns : (k : ℕ) (next last x : List ℕ) → agreed last x < k → k ≤ agreed next last → (string_cmp next x ≡ string_cmp last x) × (agreed next x ≡ agreed last x)
 left_turns zero next last x more keeps = absurd (omega (arith, more))
 left_turns (suc k) [] last x more keeps = absurd (omega (arith, keeps))
 left_turns (suc k) (a ∷ next) [] x more keeps = absurd (omega (arith, keeps))
 left_turns (suc k) (a ∷ next) (b ∷ last) [] more keeps = (refl, refl)
 left_turns (suc k) (a ∷ next) (b ∷ last) (c ∷ x) more keeps =
     let s = same_byte a b (agreed next last) k keeps in
-    subst (λ (d : ℕ). (order (d ∷ next) (c ∷ x) ≡ order (b ∷ last) (c ∷ x)) × (agreed (d ∷ next) (c ∷ x) ≡ agreed (b ∷ last) (c ∷ x))) (sym s.0)
-    (turn_step (nat_lt b c) (nat_eq b c) (order last x) (order next x) (agreed last x) (agreed next x) k (λ h. left_turns k next last x h s.1) more)
+    subst (λ (d : ℕ). (string_cmp (d ∷ next) (c ∷ x) ≡ string_cmp (b ∷ last) (c ∷ x)) × (agreed (d ∷ next) (c ∷ x) ≡ agreed (b ∷ last) (c ∷ x))) (sym s.0)
+    (turn_step (nat_lt b c) (nat_eq b c) (string_cmp last x) (string_cmp next x) (agreed last x) (agreed next x) k (λ h. left_turns k next last x h s.1) more)
 
-pub right_turns : (k : ℕ) (y next last : List ℕ) → agreed y last < k → k ≤ agreed next last → (order y next ≡ order y last) × (agreed y next ≡ agreed y last)
+pub right_turns : (k : ℕ) (y next last : List ℕ) → agreed y last < k → k ≤ agreed next last → (string_cmp y next ≡ string_cmp y last) × (agreed y next ≡ agreed y last)
 right_turns zero y next last more keeps = absurd (omega (arith, more))
 right_turns (suc k) y [] last more keeps = absurd (omega (arith, keeps))
 right_turns (suc k) y (a ∷ next) [] more keeps = absurd (omega (arith, keeps))
 right_turns (suc k) [] (a ∷ next) (b ∷ last) more keeps = (refl, refl)
 right_turns (suc k) (c ∷ y) (a ∷ next) (b ∷ last) more keeps =
     let s = same_byte a b (agreed next last) k keeps in
-    subst (λ (d : ℕ). (order (c ∷ y) (d ∷ next) ≡ order (c ∷ y) (b ∷ last)) × (agreed (c ∷ y) (d ∷ next) ≡ agreed (c ∷ y) (b ∷ last))) (sym s.0)
-    (turn_step (nat_lt c b) (nat_eq c b) (order y last) (order y next) (agreed y last) (agreed y next) k (λ h. right_turns k y next last h s.1) more)
+    subst (λ (d : ℕ). (string_cmp (c ∷ y) (d ∷ next) ≡ string_cmp (c ∷ y) (b ∷ last)) × (agreed (c ∷ y) (d ∷ next) ≡ agreed (c ∷ y) (b ∷ last))) (sym s.0)
+    (turn_step (nat_lt c b) (nat_eq c b) (string_cmp y last) (string_cmp y next) (agreed y last) (agreed y next) k (λ h. right_turns k y next last h s.1) more)

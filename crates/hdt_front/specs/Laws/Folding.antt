@@ -8,6 +8,9 @@ use Rattle.std.specs.declared.cmp.Ordering.TheVariants.{Less, Equal, Greater}
 use Rattle.std.proofs.lemmas.Bool.{eqb-false}
 use Rattle.std.proofs.lemmas.Bool.Decides.{nat_tests}
 use Rattle.std.proofs.lemmas.Str.{is_utf8-from_IsUtf8, IsUtf8-from_is_utf8}
+use Rattle.std.proofs.lemmas.Map.Keys.{Less-from_sorted, sorted_from_all_adjacent}
+use Rattle.std.specs.Cmp.Lexicographic.{nat_list_cmp_total}
+use Rattle.hdt_front.specs.Order.{string_cmp}
 use Rattle.hdt_wire.specs.Control.{HasNoZero}
 use Rattle.hdt_front.specs.Unfolding.{is_head}
 use Rattle.hdt_front.specs.StringRows.{precedes}
@@ -176,11 +179,11 @@ pub strings_are : (strings : List (List ℕ)) → Ascending 0 [] strings → Are
 strings_are strings h = record {
   utf8 = λ i lt. IsUtf8-from_is_utf8 (get_or strings i []) (each_string 0 [] strings h i lt).utf8;
   no_zero = λ i lt. nonzero_from (get_or strings i []) (each_string 0 [] strings h i lt).no_zero;
-  ascend = λ i lt.
+  ascend = sorted_from_all_adjacent nat_list_cmp_total strings [] (λ i lt.
       let next : 0 + (i + 1) ≡ suc i = omega arith in
       let s = each_string 0 [] strings h (i + 1) lt in
       let same : get_or ([] ∷ strings) (i + 1) [] ≡ get_or strings i [] = ap (λ (n : ℕ). get_or ([] ∷ strings) n []) (add-one i) in
-      less_from _ (ap (λ (x : List ℕ). is_lt (slice_cmp nat_cmp x (get_or strings (i + 1) []))) (sym same) ∙ after_zero (0 + (i + 1)) (omega arith) (get_or ([] ∷ strings) (i + 1) []) (get_or strings (i + 1) []) s.after);
+      less_from _ (ap (λ (x : List ℕ). is_lt (slice_cmp nat_cmp x (get_or strings (i + 1) []))) (sym same) ∙ after_zero (0 + (i + 1)) (omega arith) (get_or ([] ∷ strings) (i + 1) []) (get_or strings (i + 1) []) s.after));
 }
   where
     after_zero : (n : ℕ) → 0 < n → (x y : List ℕ) → (nat_eq n 0 || precedes x y) ≡ true → precedes x y ≡ true
@@ -199,7 +202,7 @@ strings_ascend strings h = all_strings 0 [] strings (λ k lt. record {
     by (suc k) lt =
         let next : k + 1 ≡ suc k = add-one k in
         let below : k + 1 < length strings = omega (arith, lt) in
-        let less = subst (λ (n : ℕ). slice_cmp nat_cmp (get_or strings k []) (get_or strings n []) ≡ Less) next (h.ascend k below) in
+        let less = subst (λ (n : ℕ). slice_cmp nat_cmp (get_or strings k []) (get_or strings n []) ≡ Less) next (Less-from_sorted string_cmp strings k (k + 1) [] h.ascend (omega arith) below) in
         or_right (nat_eq (0 + suc k) 0) (precedes (get_or strings k []) (get_or strings (suc k) [])) (ap is_lt less)
       where
         or_right : (a b : Bool) → b ≡ true → (a || b) ≡ true

@@ -1,5 +1,6 @@
 use Rattle.std.proofs.Common.{◌+◌, ◌++◌, List, ℕ, arith, ap, sym, ◌∙◌, take, subst}
-use Rattle.hdt_front.specs.Searching.{order, agreed, LiesSo}
+use Rattle.hdt_front.specs.Searching.{agreed, LiesSo}
+use Rattle.hdt_front.specs.Order.{string_cmp}
 use Rattle.hdt_front.proofs.AgreeLaws.{kept_less, rest_decides}
 use Rattle.hdt_front.proofs.search.lie.Goals as goal
 
@@ -11,17 +12,17 @@ returns-in-Some c = λ last fits less.
 pub returns-in-Equal : goal.returns-in-Equal
 returns-in-Equal c = λ last fits less.
     let r = rest_decides c.args.kept last c.args.x.now c.args.text.now (omega (arith, less.same)) in
-    r.0 ∙ ap (λ (l : List ℕ). order c.args.text.now l) (sym c.split_at.ensures.back) ∙ sym c.compared-order.ensures.order ∙ c.in-Equal.is
+    r.0 ∙ ap (λ (l : List ℕ). string_cmp c.args.text.now l) (sym c.split_at.ensures.back) ∙ sym c.compared-order.ensures.order ∙ c.in-Equal.is
 
 pub returns-in-Greater : goal.returns-in-Greater
 returns-in-Greater c = λ last fits less.
     let r = rest_decides c.args.kept last c.args.x.now c.args.text.now (omega (arith, less.same)) in
-    r.0 ∙ ap (λ (l : List ℕ). order c.args.text.now l) (sym c.split_at.ensures.back) ∙ sym c.compared-order.ensures.order ∙ c.in-Greater.is
+    r.0 ∙ ap (λ (l : List ℕ). string_cmp c.args.text.now l) (sym c.split_at.ensures.back) ∙ sym c.compared-order.ensures.order ∙ c.in-Greater.is
 
 pub returns-in-Less : goal.returns-in-Less
 returns-in-Less c = λ last fits less.
     let r = rest_decides c.args.kept last c.args.x.now c.args.text.now (omega (arith, less.same)) in
     record {
-      less = r.0 ∙ ap (λ (l : List ℕ). order c.args.text.now l) (sym c.split_at.ensures.back) ∙ sym c.compared-order.ensures.order ∙ c.in-Less.is;
+      less = r.0 ∙ ap (λ (l : List ℕ). string_cmp c.args.text.now l) (sym c.split_at.ensures.back) ∙ sym c.compared-order.ensures.order ∙ c.in-Less.is;
       same = r.1 ∙ ap (λ (l : List ℕ). c.args.kept + agreed c.args.text.now l) (sym c.split_at.ensures.back) ∙ ap (λ (k : ℕ). c.args.kept + k) (sym c.compared-order.ensures.same);
     }

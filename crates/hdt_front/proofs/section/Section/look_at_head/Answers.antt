@@ -1,6 +1,7 @@
 use Rattle.std.proofs.Common.{◌≡◌, ◌<◌, ◌≤◌, ◌+◌, ◌*◌, ℕ, refl, ap, sym, ◌∙◌, List, [], take, drop, length, subst, get_or}
 use Rattle.hdt_wire.specs.Rows.{zero_in}
-use Rattle.hdt_front.specs.Searching.{order, agreed}
+use Rattle.hdt_front.specs.Searching.{agreed}
+use Rattle.hdt_front.specs.Order.{string_cmp}
 use Rattle.hdt_front.specs.Strings.{strings_of, blocks_of}
 use Rattle.hdt_front.specs.Packed.{packing_of}
 use Rattle.hdt_front.proofs.Lies.{some_block, head_lies}
@@ -29,7 +30,7 @@ returns c =
     let head : List ℕ = c.from_head-head.result.now in
     let string : take (zero_in head) head ≡ get_or (strings_of c.args.self.now) (c.args.block * p.block) [] = ap (λ (r : List ℕ). take (zero_in r) r) c.from_head-head.ensures ∙ sym h.string in
     record {
-      order = c.compared_stored-order.ensures.order ∙ ap (λ (s : List ℕ). order s c.args.x.now) string;
+      order = c.compared_stored-order.ensures.order ∙ ap (λ (s : List ℕ). string_cmp s c.args.x.now) string;
       same = c.compared_stored-order.ensures.same ∙ ap (λ (s : List ℕ). agreed s c.args.x.now) string;
       ends = subst (λ (r : List ℕ). zero_in r < length r) (sym c.from_head-head.ensures) h.ends;
       rest = ap (λ (r : List ℕ). drop (zero_in r + 1) r) c.from_head-head.ensures ∙ sym h.after;

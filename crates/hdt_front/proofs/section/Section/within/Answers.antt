@@ -5,7 +5,8 @@ use Rattle.hdt_front.specs.Strings.{strings_of, blocks_of}
 use Rattle.hdt_front.specs.Packed.{packing_of}
 use Rattle.hdt_front.specs.Unfolding.{kept}
 use Rattle.hdt_front.specs.Facts.{rest_at}
-use Rattle.hdt_front.specs.Searching.{IsLess, order}
+use Rattle.hdt_front.specs.Searching.{IsLess}
+use Rattle.hdt_front.specs.Order.{string_cmp}
 use Rattle.hdt_front.specs.Laws.StringSteps.{length-unfolded}
 use Rattle.hdt_front.proofs.Ascent.{place_found, place_absent}
 use Rattle.hdt_front.proofs.Lies.{some_block, head_inside, next_inside, piece_lies, ascends}
@@ -74,7 +75,7 @@ returns-in-Same-clause-place c =
     let fits : c.look_at_piece-kept.result.0 ≤ length last = omega (arith, c.look_at_piece-kept.ensures.kept, here.fits) in
     let is : take c.look_at_piece-kept.result.0 last ++ c.look_at_piece-kept.result.1.now ≡ get_or (strings_of s) (c.args.block * p.block + l.i) [] =
     ap (λ (k : ℕ). take k last ++ c.look_at_piece-kept.result.1.now) c.look_at_piece-kept.ensures.kept ∙ ap (λ (t : List ℕ). take (kept false l.rest.now) last ++ t) c.look_at_piece-kept.ensures.text ∙ sym here.string in
-    let same : order (get_or (strings_of s) (c.args.block * p.block + l.i) []) c.args.x.now ≡ Equal = ap (λ (t : List ℕ). order t c.args.x.now) (sym is) ∙ c.in-Same.ensures last fits l.invariant.less in
+    let same : string_cmp (get_or (strings_of s) (c.args.block * p.block + l.i) []) c.args.x.now ≡ Equal = ap (λ (t : List ℕ). string_cmp t c.args.x.now) (sym is) ∙ c.in-Same.ensures last fits l.invariant.less in
     sym (place_found (strings_of s) c.args.x.now (c.args.block * p.block + l.i) (ascends (packing_of p) p.count p.bytes.now s.read) (omega (arith, many, inside)) same)
 
 pub returns-in-Greater-clause-place : goal.returns-in-Greater-clause-place
@@ -91,7 +92,7 @@ returns-in-Greater-clause-place c =
     let fits : c.look_at_piece-kept.result.0 ≤ length last = omega (arith, c.look_at_piece-kept.ensures.kept, here.fits) in
     let is : take c.look_at_piece-kept.result.0 last ++ c.look_at_piece-kept.result.1.now ≡ get_or (strings_of s) (c.args.block * p.block + l.i) [] =
     ap (λ (k : ℕ). take k last ++ c.look_at_piece-kept.result.1.now) c.look_at_piece-kept.ensures.kept ∙ ap (λ (t : List ℕ). take (kept false l.rest.now) last ++ t) c.look_at_piece-kept.ensures.text ∙ sym here.string in
-    let more : order (get_or (strings_of s) (c.args.block * p.block + l.i) []) c.args.x.now ≡ Greater = ap (λ (t : List ℕ). order t c.args.x.now) (sym is) ∙ c.in-Greater.ensures last fits l.invariant.less in
+    let more : string_cmp (get_or (strings_of s) (c.args.block * p.block + l.i) []) c.args.x.now ≡ Greater = ap (λ (t : List ℕ). string_cmp t c.args.x.now) (sym is) ∙ c.in-Greater.ensures last fits l.invariant.less in
     sym (place_absent (strings_of s) c.args.x.now (c.args.block * p.block + l.i) (ascends (packing_of p) p.count p.bytes.now s.read) (omega (arith, many, inside)) (λ _. l.invariant.less.less) (λ _. more))
 
 pub loop-i-preserved : goal.loop-i-preserved
@@ -132,7 +133,7 @@ returns-clause-place c =
     (λ h.
     let e : l.i ≡ p.block = omega (arith, full, h, many, short) in
     let at : c.args.block * p.block + l.i ≡ (c.args.block + 1) * p.block = omega (arith, e) in
-    ap (λ (k : ℕ). order (get_or (strings_of s) k []) c.args.x.now) at
+    ap (λ (k : ℕ). string_cmp (get_or (strings_of s) k []) c.args.x.now) at
     ∙ c.requires.lands.3 (next_inside p.count p.block c.args.block (some_block p.count p.block c.args.block c.requires.lands.0) (omega (arith, h, many, e)))))
 
 pub returns-clause-cost : goal.returns-clause-cost
