@@ -352,6 +352,26 @@ fn appends_to_what_is_large(rt: HostRuntime) -> Result<(), Fail> {
     Ok(())
 }
 
+/// Appends the numbers below 100,000 in decimal.
+fn append_decimals(out: &mut Vec<u8>) -> Result<(), AllocError> {
+    for v in 0..100_000_u64 {
+        put_decimal(v, out)?;
+    }
+    Ok(())
+}
+
+#[test]
+fn decimals_go_behind_what_is_large(rt: HostRuntime) -> Result<(), Fail> {
+    let mut bytes = vec![in rt.alloc(); b'x'; LARGE]?;
+    put_decimal(u64::MAX, &mut bytes)?;
+    let greatest = bytes.len() == LARGE + 20 && bytes.ends_with(b"18446744073709551615");
+    append_decimals(&mut bytes)?;
+    // 10 numbers of one digit, 90 of two, 900 of three, 9,000 of four, the rest of five.
+    let len = LARGE + 20 + 10 + 2 * 90 + 3 * 900 + 4 * 9_000 + 5 * 90_000;
+    assert!(rt; greatest && bytes.len() == len && bytes.ends_with(b"9999899999"));
+    Ok(())
+}
+
 /// Whether a large property text is written and read again.
 fn is_read_again(alloc: Global, text: &[u8]) -> Result<bool, AllocError> {
     let bytes = written(alloc, 0, Kind::Header, text)?;
