@@ -92,6 +92,25 @@ fn writes_owned_strings(rt: HostRuntime) -> Result<(), Fail> {
     Ok(())
 }
 
+/// A hundred thousand empty strings, which take no memory, and `z`.
+fn many_owned(alloc: Global) -> Result<Vec<Vec<u8>>, AllocError> {
+    let mut owned = Vec::with_capacity(alloc, 100_001)?;
+    for _ in 0..100_000 {
+        owned.push(Vec::new(alloc))?;
+    }
+    owned.push(b"z".to_vec(alloc)?)?;
+    Ok(owned)
+}
+
+#[test]
+fn lends_many_strings(rt: HostRuntime) -> Result<(), Fail> {
+    let owned = many_owned(rt.alloc())?;
+    let lent = lent_strings(rt.alloc(), &owned)?;
+    let empty = lent.iter().filter(|string| string.is_empty()).count();
+    assert!(rt; empty == 100_000 && lent.len() == 100_001 && lent[100_000] == b"z".as_slice());
+    Ok(())
+}
+
 /// Sizes of blocks.
 static SIZES: [u32; 4] = [1, 3, 16, 65_535];
 
