@@ -6,12 +6,9 @@ ghost use Rattle.hdt_front.specs.Inside.Reaching.{Reaches};
 ghost use Rattle.hdt_front.specs.Searching.{agreed};
 ghost use Rattle.hdt_front.specs.Order.{string_cmp};
 
-use crate::scan::{LANES, first_set};
+use crate::scan::{HALF, LANES, first_set};
 use std::cmp::Ordering;
 use std::simd::prelude::*;
-
-/// The bytes of one load where fewer than [`LANES`] are to be compared.
-const HALF: usize = 16;
 
 /// The bytes of one load where fewer than [`HALF`] are to be compared.
 const WORD: usize = 8;

@@ -40,18 +40,30 @@ pub(crate) fn read_or_zero(rest: &[u8]) -> (u64, usize)
     }
 }
 
+/// The piece of a string: how much it keeps, the bytes from its text on, and how many of these the text has.
+#[inline(always)]
+#[tactic(auto, unfolding(crate::specs::Unfolding::kept, crate::specs::Unfolding::text_from))]
+pub(crate) fn opened_piece(head: bool, rest: &[u8]) -> (u64, &[u8], usize)
+    ensures kept { result.0 ≡ kept head rest.now }
+    ensures from { result.1.now ≡ text_from head rest.now }
+    ensures len { result.2 ≡ zero_in (text_from head rest.now) }
+    ensures within { result.2 ≤ length result.1.now }
+{
+    let (kept, end) = if head { (0, 0) } else { read_or_zero(rest) };
+    let from = rest.split_at(end).1;
+    (kept, from, text_len(from))
+}
+
 /// The piece of a string: how much it keeps, its text, and what is left after it.
 #[inline(always)]
-#[tactic(auto, unfolding(crate::specs::Unfolding::kept, crate::specs::Unfolding::text_of, crate::specs::Unfolding::text_from, crate::specs::Unfolding::after_piece))]
+#[tactic(auto, unfolding(crate::specs::Unfolding::text_of, crate::specs::Unfolding::after_piece))]
 pub(crate) fn piece_of(head: bool, rest: &[u8]) -> (u64, &[u8], &[u8])
     requires { zero_in (text_from head rest.now) < length (text_from head rest.now) }
     ensures kept { result.0 ≡ kept head rest.now }
     ensures text { result.1.now ≡ text_of head rest.now }
     ensures rest { result.2.now ≡ after_piece head rest.now }
 {
-    let (kept, end) = if head { (0, 0) } else { read_or_zero(rest) };
-    let from = rest.split_at(end).1;
-    let len = text_len(from);
+    let (kept, from, len) = opened_piece(head, rest);
     (kept, from.split_at(len).0, from.split_at(len + 1).1)
 }
 

@@ -1,4 +1,4 @@
-//! Where the text of a piece ends, 32 bytes at a time.
+//! Where the text of a piece ends, 16 or 32 bytes at a time.
 ghost use Rattle.std.specs.Prelude.{◌≡◌, ◌≤◌, ◌<◌, ◌+◌, true, length, take};
 ghost use Rattle.std.specs.Str.{is_utf8};
 ghost use Rattle.hdt_wire.specs.Rows.{zero_in};
@@ -10,6 +10,9 @@ use std::simd::prelude::*;
 
 /// The bytes of one load.
 pub(crate) const LANES: usize = 32;
+
+/// The bytes of one load where few are expected.
+pub(crate) const HALF: usize = 16;
 
 /// The place of the lowest bit that is set, or the number of lanes.
 #[inline(always)]
@@ -23,15 +26,15 @@ pub(crate) fn first_set(mask: u64, lanes: usize) -> usize
     }
 }
 
-/// How many of the next 32 bytes are no zero byte, up to the first.
+/// How many of the next 16 bytes are no zero byte, up to the first.
 #[inline(always)]
 fn load_text(bytes: &[u8], at: usize) -> usize
-    requires inside { at + LANES ≤ length bytes.now }
+    requires inside { at + HALF ≤ length bytes.now }
     requires so_far { at ≤ zero_in bytes.now }
-    ensures { Reaches (zero_in bytes.now) at LANES result }
+    ensures { Reaches (zero_in bytes.now) at HALF result }
 {
-    let v = u8x32::from_slice(&bytes[at..]);
-    first_set(v.simd_eq(u8x32::splat(0)).to_bitmask(), LANES)
+    let v = u8x16::from_slice(&bytes[at..]);
+    first_set(v.simd_eq(u8x16::splat(0)).to_bitmask(), HALF)
 }
 
 /// How many of the next 32 bytes are ASCII and not zero, up to the first that isn't.
@@ -54,12 +57,12 @@ pub(crate) fn text_len(bytes: &[u8]) -> usize
     ensures within { result ≤ length bytes.now }
 {
     let mut at = 0;
-    while bytes.len() - at >= LANES {
+    while bytes.len() - at >= HALF {
         let run = load_text(bytes, at);
-        if run < LANES {
+        if run < HALF {
             return at + run;
         }
-        at += LANES;
+        at += HALF;
     }
     at + zero_in(bytes.split_at(at).1)
 }

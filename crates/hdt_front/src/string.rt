@@ -1,13 +1,56 @@
 //! One string of a section, unfolded from the head of its block.
-ghost use Rattle.std.specs.Prelude.{◌≡◌, ◌≤◌, ◌<◌, ◌+◌, ◌-◌, ◌++◌, List, [], length, get_or, OnOk, OnErr};
+ghost use Rattle.std.specs.Prelude.{◌≡◌, ◌≤◌, ◌<◌, ◌+◌, ◌-◌, ◌++◌, List, [], length, take, get_or, IfOk, OnOk, OnErr};
 ghost use Rattle.hdt_wire.specs.Control.{Keeps};
+ghost use Rattle.hdt_wire.specs.Rows.{zero_in};
+ghost use Rattle.hdt_front.specs.Unfolding.{after_piece, kept, text_from, text_of};
 ghost use Rattle.hdt_front.specs.Strings.{strings_of, block_size};
 
-use crate::piece::piece_of;
+use crate::piece::{opened_piece, piece_of};
+use crate::scan::LANES;
 use crate::section::Section;
 use hdt_seq::Steps;
 use hdt_wire::cut_on_error;
 use std::alloc::AllocError;
+
+/// Appends the first bytes. Where they are few, so many are appended as one copy of a fixed size takes, which waits for no length,
+/// and the others are cut off again.
+#[inline(always)]
+#[tactic(auto, using(std::proofs::lemmas::List::take_min))]
+fn put_front(bytes: &[u8], len: usize, out: &mut Vec<u8>) -> Result<(), AllocError>
+    requires { len ≤ length bytes.now }
+    ensures ok { OnOk result (out.new.items ≡ out.old.items ++ take len bytes.now) }
+    ensures err { OnErr result (out.new.items ≡ out.old.items) }
+{
+    if len > LANES || bytes.len() < LANES {
+        return out.extend_from_slice(&bytes[..len]);
+    }
+    let end = out.len() + len;
+    out.extend_from_slice(&bytes[..LANES])?;
+    out.truncate(end);
+    Ok(())
+}
+
+/// Unfolds the next string over the one before it, which stands from a place on: what is left after its piece. An `Err` may leave
+/// a beginning of the string before behind.
+#[inline(always)]
+#[tactic(auto, unfolding(crate::specs::Unfolding::text_of, crate::specs::Unfolding::after_piece))]
+fn put_piece<'a>(
+    head: bool,
+    rest: &'a [u8],
+    start: usize,
+    out: &mut Vec<u8>,
+) -> Result<&'a [u8], AllocError>
+    requires ends { zero_in (text_from head rest.now) < length (text_from head rest.now) }
+    requires fits { start + kept head rest.now ≤ length out.old.items }
+    ensures string { OnOk result (out.new.items ≡ take (start + kept head rest.now) out.old.items ++ text_of head rest.now) }
+    ensures rest { IfOk result (λ after. after.now ≡ after_piece head rest.now) }
+    ensures err { OnErr result (out.new.items ≡ take (start + kept head rest.now) out.old.items) }
+{
+    let (kept, from, len) = opened_piece(head, rest);
+    out.truncate(start + kept as usize);
+    put_front(from, len, out)?;
+    Ok(from.split_at(len + 1).1)
+}
 
 /// Appends string i, counted from 0; an `Err` may leave a beginning of it behind.
 #[tactic(auto, unfolding(crate::specs::Strings::strings_of))]
@@ -27,10 +70,7 @@ fn append_string(
     let mut rest = section.from_head(i / section.packed.block);
     for k in 0..i % section.packed.block + 1 {
         steps.tick();
-        let (kept, text, after) = piece_of(k == 0, rest);
-        out.truncate(start + kept as usize);
-        out.extend_from_slice(text)?;
-        rest = after;
+        rest = put_piece(k == 0, rest, start, out)?;
     }
     Ok(())
 }

@@ -15,7 +15,7 @@ use Rattle.hdt_terms.specs.Inside.Filling.{Grew, LineFront, Filled}
 use Rattle.hdt_terms.specs.LineReading.{is_bare}
 use Rattle.hdt_terms.specs.Lines.{NoEnd, Line, BareLines}
 use Rattle.hdt_terms.specs.Taking.{State, left, take_of, take_line, Takes, OneLine, WholeLine, StandsInLine, FaultIsAhead, FaultOfTriple, Looked}
-use Rattle.hdt_terms.specs.TakingText.{IsLineOf, TakesText}
+use Rattle.hdt_terms.specs.TakingText.{IsLineOf, StandsUnread, TakesText}
 use Rattle.hdt_terms.proofs.LineFound.{line_fault}
 
 -- ---- what is left
@@ -160,6 +160,14 @@ stands_unread TooLong held new given given' taken limit le p =
             (left_grew held (grew.0 ++ grew.1) given given' grew.4),
       ),
     )
+
+-- the same of any next line
+pub next_unread : (r : LineReason) (held new : List ℕ) (given given' : Option (List ℕ)) (taken limit : ℕ) → taken ≤ limit → Filled (Err r) held new given given' (limit - taken)
+    → StandsUnread r taken limit (prepend_known held given) given'
+next_unread Read held new given given' taken limit le p = stands_unread Read held new given given' taken limit le p
+next_unread TooLong held new given given' taken limit le p = stands_unread TooLong held new given given' taken limit le p
+next_unread OutOfMemory held new given given' taken limit le p = tt
+next_unread other held new given given' taken limit le p = absurd p
 
 -- the fault of a line that is not bare
 pub stands_in_triple : (r : LineReason) (column taken limit : ℕ) (before given : Option (List ℕ)) (text : List ℕ) → IsUtf8 text → is_bare text ≡ false → NoEnd text → WholeLine taken limit before text

@@ -1,5 +1,5 @@
 -- What a reader of lines takes from what is left of its input, and the faults that stand there.
-use Rattle.std.specs.Prelude.{◌≡◌, ℕ, ◌+◌, ◌<◌, ◌≤◌, Bool, true, false, List, [], ◌∷◌, ◌++◌, length, take, drop, nat_lt, if◌then◌else◌, Option, None, Some, Result, Ok, Err, ◌⊎◌, IsUtf8}
+use Rattle.std.specs.Prelude.{◌≡◌, ℕ, ◌+◌, ◌<◌, ◌≤◌, Bool, true, false, List, [], ◌∷◌, ◌++◌, length, slice_index, take, drop, nat_lt, if◌then◌else◌, Option, None, Some, Result, Ok, Err, ◌⊎◌, IsUtf8}
 use Rattle.std.specs.Io.KnownBytes.{Consumes, IsAtEnd, prepend_known}
 use Rattle.hdt_terms.specs.declared.fault.LineFault.{LineFault}
 use Rattle.hdt_terms.specs.declared.fault.LineReason.{LineReason}
@@ -31,6 +31,10 @@ start limit = record { held = []; taken = 0; ends = 0; after_cr = false; limit =
 -- what is left of the input: what is held, then what the reader still gives
 abbrev pub left : State → Option (List ℕ) → Option (List ℕ)
 left s given = prepend_known s.held given
+
+-- a line is held with its end: the first one has n bytes of text
+abbrev pub HoldsLine : State → Type 0
+HoldsLine s = (n : ℕ) × (n < length s.held) × (is_end (slice_index s.held n) ≡ true) × NoEnd (take n s.held)
 
 -- the first n bytes are taken, and counted
 abbrev pub take_of : State → ℕ → State

@@ -1,5 +1,5 @@
 //! Reading until a line is held.
-ghost use Rattle.std.specs.Prelude.{◌≡◌, ◌≢◌, IfOk, IfErr, ◌+◌, ◌≤◌, true, take, length, Some, OnOk, IsErrOf, IsUtf8};
+ghost use Rattle.std.specs.Prelude.{ℕ, ◌≡◌, ◌≢◌, IfOk, IfErr, ◌+◌, ◌≤◌, true, take, length, Some, OnOk, IsErrOf, IsUtf8};
 ghost use Rattle.hdt_wire.specs.Counted.{inner, failures};
 ghost use Rattle.hdt_terms.specs.Inside.Filling.{FoundEnd, ReadMore, Filled, text_len};
 ghost use Rattle.hdt_terms.specs.Lines.{NoEnd};
@@ -13,7 +13,7 @@ use hdt_wire::{Counted, Failed};
 use std::io::Read;
 
 /// The place of the first line end, where none stands before `from`.
-fn line_end(bytes: &[u8], from: usize) -> Option<usize>
+pub(crate) fn line_end(bytes: &[u8], from: usize) -> Option<usize>
     requires within { from ≤ length bytes.now }
     requires none { NoEnd (take from bytes.now) }
     ensures { FoundEnd bytes.now result }
@@ -101,6 +101,7 @@ pub fn first_line<R: Read>(
     requires room { length held.old ≤ most }
     ensures does { Filled (text_len result) held.old held.new (R.remaining (inner input.old)) (R.remaining (inner input.new)) most }
     ensures utf8 { IfOk result (λ x. x.1 ≡ true → IsUtf8 (take x.0 held.new)) }
+    ensures unread { (n : ℕ) → FoundEnd held.old (Some n) → input.new ≡ input.old }
     ensures count { OnOk result (failures input.new ≡ failures input.old) }
     ensures failed { IsErrOf result Read → failures input.new ≡ failures input.old + 1 }
     ensures still { IfErr result (λ reason. reason ≢ Read → failures input.new ≡ failures input.old) }

@@ -9,7 +9,7 @@ ghost use Rattle.hdt_terms.specs.declared.fault.LineReason.TheVariants.{Read};
 use crate::buffer::Buffer;
 use crate::encoding::check_beyond_ascii;
 use crate::fault::{LineFault, LineReason, TermFault};
-use crate::filling::first_line;
+use crate::filling::{first_line, line_end};
 use crate::line::{is_bare, put_triple, read_triple};
 use crate::triple::Triple;
 use hdt_wire::Counted;
@@ -55,7 +55,7 @@ impl Model for Lines {
 impl Lines {
     ghost use Rattle.hdt_terms.specs.LineReading.{is_bare};
     ghost use Rattle.hdt_terms.specs.TakingText.{TakesText, StandsNext, AnswersText, NoText};
-    ghost use Rattle.hdt_terms.specs.Taking.{State, start, left, line_number, take_of, take_line, Looked, Parsed, ParsedStrings, FindsLine, TakesNext, AnswersStrings, NoStrings};
+    ghost use Rattle.hdt_terms.specs.Taking.{HoldsLine, State, start, left, line_number, take_of, take_line, Looked, Parsed, ParsedStrings, FindsLine, TakesNext, AnswersStrings, NoStrings};
 
     /// A reader of lines that has taken nothing. The input may have so many bytes at most: where it has more,
     /// [`LineReason::TooLong`] stands behind the lines that are whole within the limit. It allocates 64 KiB, whatever the limit.
@@ -84,12 +84,25 @@ impl Lines {
         ensures others { self.new ≡ record self.old { held = self.new.held } }
         ensures within { self.old.taken + length self.new.held ≤ self.old.limit }
         ensures room { self.old.taken ≤ self.old.limit }
+        ensures unread { HoldsLine self.old → input.new ≡ input.old }
         ensures count { OnOk result (failures input.new ≡ failures input.old) }
         ensures failed { IsErrOf result Read → failures input.new ≡ failures input.old + 1 }
         ensures still { IfErr result (λ reason. reason ≢ Read → failures input.new ≡ failures input.old) }
     {
         let most = (self.limit - self.taken) as usize;
         first_line(&mut self.held, most, input)
+    }
+
+    /// Whether a line is held with its end: then the next call of [`Lines::next_text`] reads nothing, so it waits for no one. Time
+    /// is in proportion to that line, or to what is held.
+    pub fn holds_line(&self) -> bool
+        ensures yes { result ≡ true → HoldsLine self.now }
+        ensures no { result ≡ false → NoEnd self.now.held }
+    {
+        match line_end(self.held.as_slice(), 0) {
+            Some(_) => true,
+            None => false,
+        }
     }
 
     /// A fault of the line in work.
@@ -382,6 +395,7 @@ impl Lines {
             (left self.new (R.remaining (inner input.new))) text.new.items) }
         ensures fault { IfErr result (λ f. StandsNext f self.old (left self.old (R.remaining (inner input.old))) (R.remaining (inner input.new))) }
         ensures none { OnErr result (text.new.items ≡ []) }
+        ensures unread { HoldsLine self.old → input.new ≡ input.old }
         ensures count { OnOk result (failures input.new ≡ failures input.old) }
         ensures failed { IfErr result (λ f. f.reason ≡ Read → failures input.new ≡ failures input.old + 1) }
         ensures still { IfErr result (λ f. f.reason ≢ Read → failures input.new ≡ failures input.old) }
@@ -421,6 +435,8 @@ impl Lines {
             AnswersText result text.new.items self.old self.new (left self.old (R.remaining (inner input.old)))
             (left self.new (R.remaining (inner input.new))) (R.remaining (inner input.new)) }
         ensures none { NoText result text.new.items }
+        // Where a line is held with its end, nothing is read.
+        ensures unread { HoldsLine self.old → input.new ≡ input.old }
         ensures fault { IfErr result (λ f. self.new.failed ≡ Some f) }
         // The reader failed in this call at a fault that says so, and at no other answer.
         ensures read { self.old.failed ≡ None → IfErr result (λ f. f.reason ≡ Read → failures input.new ≡ failures input.old + 1) }

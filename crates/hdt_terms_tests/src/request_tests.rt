@@ -276,6 +276,44 @@ fn texts(rt: HostRuntime) -> Result<(), Fail> {
     Ok(())
 }
 
+/// Whether a line is held with its end behind each line that is taken, in a row of y and n.
+fn held_lines(alloc: Global, given: Given<'_>) -> Result<Vec<u8>, Fail> {
+    let mut lines = Lines::new(alloc, 1_000_000)?;
+    let mut input = Counted::new(given);
+    let mut text = Vec::new(alloc);
+    let mut told = Vec::new(alloc);
+    'lines: for _ in 0..10_u32 {
+        told.push(if lines.holds_line() { b'y' } else { b'n' })?;
+        if !lines.next_text(&mut input, &mut text)? {
+            return Ok(told);
+        }
+    }
+    Ok(told)
+}
+
+#[test]
+fn lines_are_held(rt: HostRuntime) -> Result<(), Fail> {
+    let rows: [(&[u8], usize, &[u8]); 4] = [
+        (b"a\nb\nc", 1_000, b"nynn"),
+        // what may follow a carriage return is not waited for
+        (b"a\rb\r\nc\n", 4, b"nynynn"),
+        (b"\n\xFF\n", 2, b"nnnn"),
+        (b"\n\xFF\n", 3, b"nynn"),
+    ];
+    for (bytes, step, told) in &rows {
+        let given = Given {
+            bytes,
+            step: *step,
+            fails: false,
+        };
+        assert!(rt;
+            held_lines(rt.alloc(), given)?.as_slice() == *told,
+            "{bytes:?}"
+        );
+    }
+    Ok(())
+}
+
 /// Whether a line of many bytes is told, and one behind it.
 fn is_long_told(alloc: Global, step: usize) -> Result<bool, Fail> {
     let text = repeated(alloc, b"a\n", b'b', b"\nc")?;

@@ -1,10 +1,10 @@
-use Rattle.std.proofs.Common.{◌≡◌, ◌<◌, ◌+◌, ◌*◌, ◌/◌, ◌%◌, ◌++◌, [], arith, ap, sym, ◌∙◌, take, length, nat_eq, append-nil, add-zero, length-append, refl}
+use Rattle.std.proofs.Common.{◌≡◌, ◌<◌, ◌+◌, ◌*◌, ◌/◌, ◌%◌, ◌++◌, [], arith, ap, sym, ◌∙◌, length, nat_eq, append-nil, add-zero, length-append, refl}
 use Rattle.std.proofs.lemmas.Nat.{div-add-mod'}
 use Rattle.std.proofs.Math.Nat.{mod-lt}
 use Rattle.hdt_front.specs.Strings.{strings_of, blocks_of}
 use Rattle.hdt_front.specs.Packed.{packing_of}
 use Rattle.hdt_front.specs.Facts.{rest_at}
-use Rattle.hdt_front.specs.Unfolding.{kept}
+use Rattle.hdt_front.specs.Unfolding.{kept, text_of}
 use Rattle.hdt_front.specs.Laws.StringSteps.{length-unfolded}
 use Rattle.hdt_front.proofs.Lies.{head_lies}
 use Rattle.hdt_front.proofs.Strings.{so_far, unfolds_here, block_inside, string_whole, unfolded_over}
@@ -28,25 +28,25 @@ loop-k-init c =
       cost = omega arith;
     }
 
-pub piece_of-kept-requires : goal.piece_of-kept-requires
+pub put_piece-requires-clause-ends : goal.put_piece-requires-clause-ends
 unfolding strings_of
-piece_of-kept-requires c =
+put_piece-requires-clause-ends c =
     let p = c.args.section.now.packed in let l = c.loop-k in
     let inside : c.args.i < p.count = omega (arith, c.requires, length-unfolded p.block p.count 0 [] p.bytes.now) in
     let short : l.k < p.block = omega (arith, c.loop-k-test.true, mod-lt c.args.i (p.some (omega (arith, inside)))) in
     let here : c.args.i / p.block * p.block + l.k < p.count = omega (arith, c.loop-k-test.true, div-add-mod' c.args.i p.block, inside) in
     (unfolds_here (packing_of p) p.count (c.args.i / p.block) l.k p.bytes.now l.rest.now short here c.args.section.now.read l.invariant.rest).ends
 
-pub overflow_add-start : goal.overflow_add-start
+pub put_piece-requires-clause-fits : goal.put_piece-requires-clause-fits
 unfolding strings_of
-overflow_add-start c =
+put_piece-requires-clause-fits c =
     let p = c.args.section.now.packed in let l = c.loop-k in
     let inside : c.args.i < p.count = omega (arith, c.requires, length-unfolded p.block p.count 0 [] p.bytes.now) in
     let short : l.k < p.block = omega (arith, c.loop-k-test.true, mod-lt c.args.i (p.some (omega (arith, inside)))) in
     let here : c.args.i / p.block * p.block + l.k < p.count = omega (arith, c.loop-k-test.true, div-add-mod' c.args.i p.block, inside) in
     let u = unfolds_here (packing_of p) p.count (c.args.i / p.block) l.k p.bytes.now l.rest.now short here c.args.section.now.read l.invariant.rest in
     let size = ap length l.invariant.out ∙ length-append c.args.out.now.items (so_far p.block (c.args.i / p.block) l.k p.bytes.now) in
-    omega (arith, u.fits, size, l.out.ok.0, l.out.small, c.args.out.now.ok.0, c.len-start.ensures, c.piece_of-kept.ensures.kept)
+    omega (arith, u.fits, size, l.out.ok.0, c.args.out.now.ok.0, c.len-start.ensures)
 
 pub loop-k-preserved : goal.loop-k-preserved
 unfolding strings_of
@@ -58,11 +58,9 @@ loop-k-preserved c =
     let u = unfolds_here (packing_of p) p.count (c.args.i / p.block) l.k p.bytes.now l.rest.now short here c.args.section.now.read l.invariant.rest in
     let old_size : c.len-start.result ≡ length c.args.out.now.items = omega (arith, c.len-start.ensures, c.args.out.now.ok.0) in
     record {
-      out = unfolded_over c.args.out.now.items (so_far p.block (c.args.i / p.block) l.k p.bytes.now) l.out.items c.truncate.new.self.items c.extend_from_slice.new.self.items c.piece_of-kept.result.1.now _ c.len-start.result c.piece_of-kept.result.0
-          old_size l.invariant.out c.truncate.ensures.items c.in_ok-extend_from_slice.ensures.items
-          (ap (λ k. take k (so_far p.block (c.args.i / p.block) l.k p.bytes.now) ++ c.piece_of-kept.result.1.now) c.piece_of-kept.ensures.kept
-          ∙ ap (λ t. take (kept (nat_eq l.k 0) l.rest.now) (so_far p.block (c.args.i / p.block) l.k p.bytes.now) ++ t) c.piece_of-kept.ensures.text ∙ u.string);
-      rest = c.piece_of-kept.ensures.rest ∙ u.after;
+      out = unfolded_over c.args.out.now.items (so_far p.block (c.args.i / p.block) l.k p.bytes.now) l.out.items _ c.put_piece.new.out.items (text_of (nat_eq l.k 0) l.rest.now) _ c.len-start.result (kept (nat_eq l.k 0) l.rest.now)
+          old_size l.invariant.out refl c.in_ok-rest.ensures.string u.string;
+      rest = c.in_ok-rest.ensures.rest ∙ u.after;
       cost = omega (arith, l.invariant.cost, c.tick.ensures);
     }
 
@@ -93,9 +91,9 @@ overflow_add-k-end c =
     let p = c.args.section.now.packed in
     omega (arith, mod-lt c.args.i (p.some (omega (arith, c.requires, length-unfolded p.block p.count 0 [] p.bytes.now))))
 
-pub returns-in_err-extend_from_slice-clause-cost : goal.returns-in_err-extend_from_slice-clause-cost
+pub returns-in_err-rest-clause-cost : goal.returns-in_err-rest-clause-cost
 unfolding strings_of
-returns-in_err-extend_from_slice-clause-cost c =
+returns-in_err-rest-clause-cost c =
     let p = c.args.section.now.packed in let l = c.loop-k in
     omega (arith, c.loop-k-test.true, l.invariant.cost, c.tick.ensures, mod-lt c.args.i (p.some (omega (arith, c.requires, length-unfolded p.block p.count 0 [] p.bytes.now))))
 
