@@ -1,5 +1,5 @@
 -- Answers one behind the other.
-use Rattle.std.proofs.Common.{◌≡◌, ◌≢◌, ℕ, Bool, true, false, cond, ◌||◌, ◌⊎◌, ◌+◌, List, [], ◌∷◌, ◌++◌, length, Option, None, Some, Result, Ok, Err, refl, sym, ap, subst, ◌∙◌, inl, inr, arith, map, get_or, append_assoc, append-nil, take}
+use Rattle.std.proofs.Common.{◌≡◌, ◌≢◌, ℕ, Bool, true, false, cond, ◌||◌, ◌⊎◌, ◌+◌, ◌-◌, List, [], ◌∷◌, ◌++◌, length, Option, None, Some, Result, Ok, Err, refl, sym, ap, subst, ◌∙◌, inl, inr, arith, map, get_or, append_assoc, append-nil, take}
 use Rattle.std.proofs.Math.Bool.{or-false, or_assoc}
 use Rattle.std.proofs.Math.Seq.{take-append-add}
 use Rattle.std.proofs.lemmas.List.{length-append}
@@ -107,33 +107,75 @@ fails_on a b c text answer n m f g h count one same fails = record {
   written = subst (Appends a c) (sym (ap (λ k. take (k + m) (text ++ answer)) count ∙ take-append-add text answer m)) (Appends-trans a b c text (take m answer) one fails.written);
 }
 
--- an answer that was not written whole
-pub cut_answer : {C : Type 0} (contents : C → Option (List ℕ)) (failed : C → ℕ) (g : GraphParts) (asking : Asking) (input given : Option (List ℕ)) (start out new : C) (lines : List (ℕ × List ℕ)) (line : ℕ × List ℕ) (faulty one : Bool) (text answer : List ℕ) (n : ℕ) (e : ToolFault)
-    → AreSome input lines → AreSome input (lines ++ line ∷ []) → AnswersLines g asking lines faulty text → AnswersLine g asking line one answer → Appends (contents start) (contents out) text → failed out ≡ failed start → n ≡ length text
-    → ((e ≡ OutOfMemory) × (new ≡ out)) ⊎ ((m : ℕ) × (e ≡ Write (n + m)) × FailsAfter m answer (contents out) (contents new) (failed out) (failed new))
-    → AnswersSome g asking input given (contents start) (contents new) (failed start) (failed new) e
-cut_answer contents failed g asking input given start out new lines line faulty one text answer n e before after all this gained same count (inl h) = record {
+-- the writer has gained a text but for its end, which is kept
+abbrev pub GainedButFor : Option (List ℕ) → Option (List ℕ) → List ℕ → List ℕ → Type 0
+GainedButFor a b text kept = (gone : List ℕ) × (text ≡ gone ++ kept) × Appends a b gone
+
+pub gained_on : (a b c : Option (List ℕ)) (text kept answer new : List ℕ) → GainedButFor a b text kept → ((part : List ℕ) × (kept ++ answer ≡ part ++ new) × Appends b c part)
+    → GainedButFor a c (text ++ answer) new
+gained_on a b c text kept answer new h one = (
+  h.0 ++ one.0,
+  ap (λ t. t ++ answer) h.1 ∙ append_assoc h.0 kept answer ∙ ap (λ t. h.0 ++ t) one.1 ∙ sym (append_assoc h.0 one.0 new),
+  Appends-trans a b c h.0 one.0 h.2 one.2,
+)
+
+pub gained_all : (a b c : Option (List ℕ)) (text kept : List ℕ) → GainedButFor a b text kept → Appends b c kept → Appends a c text
+gained_all a b c text kept h one = subst (Appends a c) (sym h.1) (Appends-trans a b c h.0 kept h.2 one)
+
+-- answers of lines that were not written whole: the writer failed in what was kept, and in what came behind it
+pub cut_behind : (g : GraphParts) (asking : Asking) (input given a b c : Option (List ℕ)) (lines : List (ℕ × List ℕ)) (faulty : Bool) (text kept answer : List ℕ) (count f d h : ℕ) (e : ToolFault)
+    → AreSome input lines → AnswersLines g asking lines faulty (text ++ answer) → GainedButFor a b text kept → count ≡ length text → d ≡ f
+    → ((m : ℕ) × (e ≡ Write (count - length kept + m)) × FailsAfter m (kept ++ answer) b c d h) → AnswersSome g asking input given a c f h e
+cut_behind g asking input given a b c lines faulty text kept answer count f d h e some all gained counted same cut =
+    let before : count - length kept ≡ length gained.0 = omega (arith, counted, ap length gained.1, length-append gained.0 kept) in
+    let whole : gained.0 ++ (kept ++ answer) ≡ text ++ answer = sym (append_assoc gained.0 kept answer) ∙ ap (λ t. t ++ answer) (sym gained.1) in
+    record {
+      lines = lines;
+      are = some;
+      behind = subst (λ (t : ToolFault). IsBehind t input given lines) (sym cut.1) tt;
+      faulty = faulty;
+      text = text ++ answer;
+      answers = all;
+      stopped =
+          subst (λ (t : ToolFault). IsStopped t (text ++ answer) a c f h) (sym cut.1)
+          (subst (λ t. FailsAfter (count - length kept + cut.0) t a c f h) whole (fails_on a b c gained.0 (kept ++ answer) (count - length kept) cut.0 f d h before gained.2 same cut.2));
+    }
+
+-- the same where nothing came behind what was kept
+pub cut_kept : (g : GraphParts) (asking : Asking) (input given a b c : Option (List ℕ)) (lines : List (ℕ × List ℕ)) (faulty : Bool) (text kept : List ℕ) (count f d h : ℕ) (e : ToolFault)
+    → AreSome input lines → AnswersLines g asking lines faulty text → GainedButFor a b text kept → count ≡ length text → d ≡ f
+    → ((m : ℕ) × (e ≡ Write (count - length kept + m)) × FailsAfter m kept b c d h) → AnswersSome g asking input given a c f h e
+cut_kept g asking input given a b c lines faulty text kept count f d h e some all gained counted same cut =
+    cut_behind g asking input given a b c lines faulty text kept [] count f d h e some (subst (AnswersLines g asking lines faulty) (sym (append-nil text)) all) gained counted same
+    (cut.0, cut.1, subst (λ t. FailsAfter cut.0 t b c d h) (sym (append-nil kept)) cut.2)
+
+-- memory was refused behind whole answers
+pub refused_behind : (g : GraphParts) (asking : Asking) (input given a c : Option (List ℕ)) (lines : List (ℕ × List ℕ)) (faulty : Bool) (text : List ℕ) (f h : ℕ) (e : ToolFault)
+    → AreSome input lines → AnswersLines g asking lines faulty text → Appends a c text → h ≡ f → e ≡ OutOfMemory → AnswersSome g asking input given a c f h e
+refused_behind g asking input given a c lines faulty text f h e some all gained same is = record {
   lines = lines;
-  are = before;
-  behind = subst (λ (t : ToolFault). IsBehind t input given lines) (sym h.0) tt;
+  are = some;
+  behind = subst (λ (t : ToolFault). IsBehind t input given lines) (sym is) tt;
   faulty = faulty;
   text = text;
   answers = all;
-  stopped =
-      subst (λ (t : ToolFault). IsStopped t text (contents start) (contents new) (failed start) (failed new)) (sym h.0)
-      (ap failed h.1 ∙ same, subst (λ (k : Option (List ℕ)). Appends (contents start) k text) (sym (ap contents h.1)) gained);
+  stopped = subst (λ (t : ToolFault). IsStopped t text a c f h) (sym is) (same, gained);
 }
-cut_answer contents failed g asking input given start out new lines line faulty one text answer n e before after all this gained same count (inr h) = record {
-  lines = lines ++ line ∷ [];
-  are = after;
-  behind = subst (λ (t : ToolFault). IsBehind t input given (lines ++ line ∷ [])) (sym h.1) tt;
-  faulty = faulty || one;
-  text = text ++ answer;
-  answers = lines_on g asking lines line faulty one text answer all this;
-  stopped =
-      subst (λ (t : ToolFault). IsStopped t (text ++ answer) (contents start) (contents new) (failed start) (failed new)) (sym h.1)
-      (fails_on (contents start) (contents out) (contents new) text answer n h.0 (failed start) (failed out) (failed new) count gained same h.2);
-}
+
+-- an answer that was not put behind the others
+pub cut_answer : (g : GraphParts) (asking : Asking) (input given a b c : Option (List ℕ)) (lines : List (ℕ × List ℕ)) (line : ℕ × List ℕ) (faulty one : Bool) (text kept answer : List ℕ) (count f d h : ℕ) (e : ToolFault)
+    → AreSome input lines → AreSome input (lines ++ line ∷ []) → AnswersLines g asking lines faulty text → AnswersLine g asking line one answer → GainedButFor a b text kept → count ≡ length text → d ≡ f
+    → ((e ≡ OutOfMemory) × (h ≡ d) × Appends b c kept) ⊎ ((m : ℕ) × (e ≡ Write (count - length kept + m)) × FailsAfter m (kept ++ answer) b c d h)
+    → AnswersSome g asking input given a c f h e
+cut_answer g asking input given a b c lines line faulty one text kept answer count f d h e before after all this gained counted same (inl refused) =
+    refused_behind g asking input given a c lines faulty text f h e before all (gained_all a b c text kept gained refused.2) (refused.1 ∙ same) refused.0
+cut_answer g asking input given a b c lines line faulty one text kept answer count f d h e before after all this gained counted same (inr cut) =
+    cut_behind g asking input given a b c (lines ++ line ∷ []) (faulty || one) text kept answer count f d h e after (lines_on g asking lines line faulty one text answer all this) gained counted same cut
+
+-- answers are kept only where a line is held
+pub kept_or_held : {P : Type 0} (kept : List ℕ) (held : Bool) → (kept ≡ []) ⊎ (held ≡ true) → (held ≡ true → P) → (kept ≡ []) ⊎ P
+kept_or_held kept held (inl none) is = inl none
+kept_or_held kept held (inr e) is = inr (is e)
 
 -- a line that could not be read, behind answers
 pub unread_line : (g : GraphParts) (asking : Asking) (s : State) (input mid given written_before written_after : Option (List ℕ)) (lines : List (ℕ × List ℕ)) (faulty : Bool) (text : List ℕ) (failed_before failed_after : ℕ)

@@ -1,18 +1,19 @@
 //! Requests that are answered one by one over a graph.
-ghost use Rattle.std.specs.Prelude.{◌≡◌, ◌≢◌, ◌+◌, ◌<◌, ◌∷◌, [], ◌++◌, ◌||◌, ℕ, List, Option, None, Some, Ok, true, false, option_map, if◌then◌else◌, IfOk, IfErr, OnOk, IsErrOf};
+ghost use Rattle.std.specs.Prelude.{◌≡◌, ◌≢◌, ◌+◌, ◌-◌, ◌<◌, ◌≤◌, ◌⊎◌, ◌∷◌, [], ◌++◌, ◌||◌, ℕ, List, Option, None, Some, Ok, true, false, length, option_map, if◌then◌else◌, IfOk, IfErr, OnOk, IsErrOf};
 ghost use Rattle.hdt_wire.specs.Counted.{inner, failures};
 ghost use Rattle.hdt_terms.specs.Documents.{AreLines, FaultBehind};
-ghost use Rattle.hdt_terms.specs.Taking.{left, line_number};
+ghost use Rattle.hdt_terms.specs.Taking.{HoldsLine, left, line_number};
 ghost use Rattle.hdt_terms.specs.declared.fault.LineReason.TheVariants as reasons;
 ghost use Rattle.hdt_file.specs.Kept.{KeepsTerms};
 ghost use Rattle.hdt_file.specs.TextWriting.{chosen, limited};
 ghost use Rattle.hdt_file.specs.Views.{graph_seen};
+ghost use Rattle.std.specs.Io.KnownBytes.{Appends};
+ghost use Rattle.hdt_command.specs.Answer.{FailsAfter};
 ghost use Rattle.hdt_command.specs.Dialogue.{AnswersFound, AnswersInput, AnswersLine, AnswersSome, Gone, ReadsWanted, ended, fault_comment, given_of, lines_left, most_bytes, no_term_comment, wanted_in};
 ghost use Rattle.hdt_command.specs.TriplesText.{FindsStrings};
 
 use crate::fault::{ToolFault, line_fault};
 use crate::lines::role_name;
-use crate::printed_strings::write_piece;
 use crate::printed_triples::graph_triples_text;
 use crate::request::Asking;
 use hdt_dict::Role;
@@ -159,6 +160,7 @@ fn next_line<R: Read>(
     ensures read { IfErr result (λ f. f.reason ≡ reasons.Read → failures input.new ≡ failures input.old + 1) }
     ensures still { IfErr result (λ f. f.reason ≢ reasons.Read → failures input.new ≡ failures input.old) }
     ensures count { OnOk result (failures input.new ≡ failures input.old) }
+    ensures unread { HoldsLine lines.old → input.new ≡ input.old }
 {
     run_of_texts();
     lines.next_text(input, text)
@@ -171,10 +173,82 @@ fn either(one: bool, other: bool) -> bool
     one || other
 }
 
-/// Answers the requests of a reader, line by line up to its end: each answer is written before the next line is read. It tells
-/// whether one of the answers is a fault. Memory is that of the longest request and of the longest answer, which is made whole as
-/// [`graph_text_with`](hdt_file::graph_text_with) makes it, and of what a [`Speller`] keeps; the time of a request is that of
-/// its search and its text.
+/// How many bytes of answers are kept at most before they are written.
+const PIECE: usize = 65_536;
+
+/// Keeps an answer behind others, where more are to come and there is room: whether it is kept.
+fn keep(answer: &[u8], more: bool, kept: &mut Vec<u8>) -> bool
+    ensures yes { result ≡ true → (more ≡ true) × (kept.new.items ≡ kept.old.items ++ answer.now) }
+    ensures no { result ≡ false → kept.new.items ≡ kept.old.items }
+{
+    if !more || answer.len() > PIECE || kept.len() > PIECE - answer.len() {
+        return false;
+    }
+    match kept.extend_from_slice(answer) {
+        Ok(()) => true,
+        Err(AllocError) => false,
+    }
+}
+
+/// Writes the answers that are kept, the last of so many bytes: then none is.
+fn write_kept<W: Write>(
+    kept: &mut Vec<u8>,
+    count: u64,
+    out: &mut Counted<W>,
+) -> Result<(), ToolFault>
+    requires { length kept.old.items ≤ count }
+    ensures none { OnOk result (kept.new.items ≡ []) }
+    ensures ok { OnOk result (Appends (W.contents (inner out.old)) (W.contents (inner out.new)) kept.old.items) }
+    ensures well { OnOk result (failures out.new ≡ failures out.old) }
+    ensures err { IfErr result (λ e. (m : ℕ) × (e ≡ ToolFault.Write (count - length kept.old.items + m))
+        × FailsAfter m kept.old.items (W.contents (inner out.old)) (W.contents (inner out.new)) (failures out.old) (failures out.new)) }
+{
+    match out.write_all(kept) {
+        Ok(()) => {
+            kept.clear();
+            Ok(())
+        }
+        Err(written) => Err(ToolFault::Write(count - kept.len() as u64 + written)),
+    }
+}
+
+/// Keeps an answer behind others, or writes it with these where no more are to come or there is no room: how many bytes the answers
+/// have with it. So many that no number counts them end as want of memory.
+fn put_answer<W: Write>(
+    answer: &[u8],
+    more: bool,
+    kept: &mut Vec<u8>,
+    count: u64,
+    out: &mut Counted<W>,
+) -> Result<u64, ToolFault>
+    requires { length kept.old.items ≤ count }
+    ensures count { IfOk result (λ n. n ≡ count + length answer.now) }
+    ensures ok { OnOk result ((part : List ℕ) × (kept.old.items ++ answer.now ≡ part ++ kept.new.items)
+        × Appends (W.contents (inner out.old)) (W.contents (inner out.new)) part) }
+    ensures none { OnOk result ((kept.new.items ≡ []) ⊎ (more ≡ true)) }
+    ensures well { OnOk result (failures out.new ≡ failures out.old) }
+    ensures err { IfErr result (λ e. ((e ≡ ToolFault.OutOfMemory) × (failures out.new ≡ failures out.old) × Appends (W.contents (inner out.old)) (W.contents (inner out.new)) kept.old.items)
+        ⊎ ((m : ℕ) × (e ≡ ToolFault.Write (count - length kept.old.items + m))
+        × FailsAfter m (kept.old.items ++ answer.now) (W.contents (inner out.old)) (W.contents (inner out.new)) (failures out.old) (failures out.new))) }
+{
+    let Some(end) = count.checked_add(answer.len() as u64) else {
+        write_kept(kept, count, out)?;
+        return Err(ToolFault::OutOfMemory);
+    };
+    if keep(answer, more, kept) {
+        return Ok(end);
+    }
+    write_kept(kept, count, out)?;
+    match out.write_all(answer) {
+        Ok(()) => Ok(end),
+        Err(written) => Err(ToolFault::Write(count + written)),
+    }
+}
+
+/// Answers the requests of a reader, line by line up to its end. An answer is written before more is read: at once, or with those of
+/// other requests that are held already, up to 64 KiB of them. It tells whether one of the answers is a fault. Memory is that of the
+/// longest request and of the longest answer, which is made whole as [`graph_text_with`](hdt_file::graph_text_with) makes it, of what
+/// a [`Speller`] keeps, and of these 64 KiB; the time of a request is that of its search and its text.
 ///
 /// # Errors
 ///
@@ -205,16 +279,23 @@ pub fn answer_requests<R: Read, W: Write>(
     let mut predicate = Vec::new(alloc);
     let mut object = Vec::new(alloc);
     let mut speller = Speller::keeping(alloc)?;
-    let mut written = 0;
+    let mut kept = Vec::new(alloc);
+    let mut count = 0;
     let mut faulty = false;
     'lines: loop {
         match next_line(&mut lines, input, &mut text) {
             Ok(true) => {}
-            Ok(false) => return Ok(faulty),
-            Err(fault) => return Err(line_fault(fault)),
+            Ok(false) => {
+                write_kept(&mut kept, count, out)?;
+                return Ok(faulty);
+            }
+            Err(fault) => {
+                write_kept(&mut kept, count, out)?;
+                return Err(line_fault(fault));
+            }
         }
         let line = lines.line_number();
-        let (is_fault, answer) = line_answer(
+        match line_answer(
             alloc,
             graph,
             asking,
@@ -224,8 +305,15 @@ pub fn answer_requests<R: Read, W: Write>(
             &mut predicate,
             &mut object,
             &mut speller,
-        )?;
-        written = write_piece(&answer, written, out)?;
-        faulty = either(faulty, is_fault);
+        ) {
+            Ok((is_fault, answer)) => {
+                count = put_answer(&answer, lines.holds_line(), &mut kept, count, out)?;
+                faulty = either(faulty, is_fault);
+            }
+            Err(AllocError) => {
+                write_kept(&mut kept, count, out)?;
+                return Err(ToolFault::OutOfMemory);
+            }
+        }
     }
 }
