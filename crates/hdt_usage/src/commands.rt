@@ -79,8 +79,8 @@ const ANSWER_LONG_ABOUT: &str = "Answer requests for triples.
 
 FILE is opened once. Then each line of the standard input is a request: subject, predicate and
 object, each an N-Triples term or ? for any, and a full stop or none. Its answer is what `find`
-prints of these, and an empty line, and is written before the next request is read. Blank lines
-and comments get no answer.
+prints of these, and an empty line, and is written before more is read. Blank lines and comments
+get no answer.
 
 With --raw a request is three dictionary strings with one tab between them, or ? for any; in a
 string \\\\, \\n, \\r and \\t stand for a backslash, a line feed, a carriage return and a tab.
