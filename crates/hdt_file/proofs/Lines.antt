@@ -16,9 +16,9 @@ use Rattle.hdt_triples.specs.Counting.{Triple}
 use Rattle.hdt_file.specs.File.{GraphParts}
 use Rattle.hdt_triples.specs.Uses.{part}
 use Rattle.hdt_file.specs.Denoted.{string_of, strings_for}
-use Rattle.hdt_file.specs.Inside.Pieces.{behind, is_marked, IsLinePiece, AreLinePieces, ArePiecesFor, AreTables, AppendsPiece, GrowsByMarked, GrowsByPiece, HasPieces, piece_in, line_piece}
+use Rattle.hdt_file.specs.Inside.Pieces.{is_marked, IsLinePiece, AreLinePieces, ArePiecesFor, AreTables, GrowsByMarked, GrowsByPiece, HasPieces, piece_in}
 use Rattle.hdt_file.specs.Text.{HasTerm, HasNoTerm, IsBefore, IsFirstOf}
-use Rattle.hdt_file.specs.TextWriting.{AppendsTerm, AppendsLine, TellsString, TellsFirstOf}
+use Rattle.hdt_file.specs.TextWriting.{AppendsTerm, AppendsPiece, AppendsLine, TellsString, TellsFirstOf, behind, line_piece}
 use Rattle.hdt_file.specs.declared.fault.DumpFault.{DumpFault}
 use Rattle.hdt_file.specs.declared.fault.DumpFault.TheVariants.{NotATerm, Write, OutOfMemory}
 use Rattle.hdt_file.specs.declared.tables.Tables.{Tables}

@@ -5,14 +5,14 @@ use Rattle.hdt_wire.specs.declared.role.Role.{Role}
 use Rattle.hdt_wire.specs.declared.role.Role.TheVariants.{Subject, Predicate, Object}
 use Rattle.hdt_file.specs.File.{GraphParts}
 use Rattle.hdt_file.specs.Denoted.{string_of}
-use Rattle.hdt_file.specs.TextWriting.{AppendsTerm}
+use Rattle.hdt_file.specs.TextWriting.{AppendsPiece}
 use Rattle.hdt_file.specs.declared.spelling.Spelled.{Spelled}
 use Rattle.hdt_file.specs.declared.spelling.Speller.{Speller}
 
--- nothing, or the term that the string with a number is in its role
+-- nothing, or the term that the string with a number is in its role, with what follows it in a line
 abbrev pub KeepsTerm : GraphParts → Role → Option ℕ → List ℕ → Type 0
 KeepsTerm g role None text = ⊤
-KeepsTerm g role (Some n) text = AppendsTerm role (string_of g role n) [] text
+KeepsTerm g role (Some n) text = AppendsPiece role (string_of g role n) [] text
 
 -- such a term of a predicate
 abbrev pub KeepsPredicate : GraphParts → Spelled → Type 0

@@ -1,9 +1,10 @@
 -- What the calls that write the text of a graph answer.
-use Rattle.std.specs.Prelude.{◌≡◌, ℕ, ◌<◌, ◌++◌, ⊤, List, [], length, take, Option, None, Some}
+use Rattle.std.specs.Prelude.{◌≡◌, ℕ, ◌<◌, ◌++◌, ⊤, List, [], ◌∷◌, length, take, Option, None, Some}
 use Rattle.std.specs.Io.KnownBytes.{Appends}
 use Rattle.hdt_terms.specs.declared.term.Term.{Term}
 use Rattle.hdt_terms.specs.Writing.{written}
 use Rattle.hdt_wire.specs.declared.role.Role.{Role}
+use Rattle.hdt_wire.specs.declared.role.Role.TheVariants.{Subject, Predicate, Object}
 use Rattle.hdt_triples.specs.Counting.{Triple}
 use Rattle.hdt_triples.specs.Patterns.{matches}
 use Rattle.hdt_triples.specs.declared.pattern.Pattern.{Pattern}
@@ -29,6 +30,21 @@ pub record AppendsTerm (role : Role) (string old new : List ℕ) : Type 0 where
   pub term : Term
   pub is : IsTermOf role string term
   pub grown : new ≡ old ++ written term
+
+-- what follows the term of a role in a line: a space, and behind the object the end of the line
+abbrev pub behind : Role → List ℕ
+behind Subject = 32 ∷ []
+behind Predicate = 32 ∷ []
+behind Object = 32 ∷ 46 ∷ 10 ∷ []
+
+abbrev pub line_piece : Role → Term → List ℕ
+line_piece role term = written term ++ behind role
+
+-- the text has grown by the piece of the term that the string is in its role
+pub record AppendsPiece (role : Role) (string old new : List ℕ) : Type 0 where
+  pub term : Term
+  pub is : IsTermOf role string term
+  pub grown : new ≡ old ++ line_piece role term
 
 -- the string is no term of the role, and its role and number are told
 abbrev pub TellsString : Role → ℕ → List ℕ → DumpFault → Type 0

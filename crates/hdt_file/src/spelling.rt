@@ -7,10 +7,10 @@ ghost use Rattle.hdt_terms.specs.declared.fault.StringFault.TheVariants as Strin
 ghost use Rattle.hdt_file.specs.Denoted.{string_of};
 ghost use Rattle.hdt_file.specs.Text.{FitsRole, HasNoTerm};
 ghost use Rattle.hdt_file.specs.File.{GraphParts};
-ghost use Rattle.hdt_file.specs.Inside.Spelling.{HasTerms, spelled_line};
 ghost use Rattle.hdt_file.specs.Kept.{KeepsPredicate, KeepsTerm, KeepsTerms};
-ghost use Rattle.hdt_wire.specs.declared.role.Role.TheVariants.{Predicate};
-ghost use Rattle.hdt_file.specs.TextWriting.{AppendsLine, AppendsTerm, TellsFirstOf, TellsString};
+ghost use Rattle.hdt_wire.specs.Control.{Keeps};
+ghost use Rattle.hdt_wire.specs.declared.role.Role.TheVariants.{Predicate, Object};
+ghost use Rattle.hdt_file.specs.TextWriting.{AppendsLine, AppendsPiece, AppendsTerm, TellsFirstOf, TellsString, behind};
 ghost use Rattle.hdt_file.specs.LayoutView.{layout_seen};
 
 use crate::fault::DumpFault;
@@ -48,27 +48,41 @@ pub fn put_role_term(role: Role, string: &[u8], out: &mut Vec<u8>) -> Result<(),
     Ok(())
 }
 
-/// Appends the term that string n of a role is. `string` is a buffer for the string.
-fn append_term(
+/// Appends what follows the term of a role in a line.
+pub fn append_behind(role: Role, out: &mut Vec<u8>) -> Result<(), AllocError>
+    ensures ok { OnOk result (out.new.items ≡ out.old.items ++ behind role) }
+    ensures err { OnErr result (out.new.items ≡ out.old.items) }
+{
+    match role {
+        Role::Subject | Role::Predicate => out.extend_from_slice(b" "),
+        Role::Object => out.extend_from_slice(b" .\n"),
+    }
+}
+
+/// Appends the term that string n of a role is, and what follows it in a line. `string` is a buffer for the string. An `Err`
+/// may leave the term behind.
+fn append_spelled(
     layout: &Layout<'_>,
     role: Role,
     n: u64,
     string: &mut Vec<u8>,
     out: &mut Vec<u8>,
 ) -> Result<(), DumpFault>
-    ensures ok { OnOk result (AppendsTerm role (string_of (layout_seen layout.now) role n) out.old.items out.new.items) }
+    ensures ok { OnOk result (AppendsPiece role (string_of (layout_seen layout.now) role n) out.old.items out.new.items) }
     ensures err { IfErr result (TellsString role n (string_of (layout_seen layout.now) role n)) }
+    ensures left { OnErr result (Keeps out.old.items out.new.items) }
 {
     string.clear();
     layout.string_of(role, n, string, &mut Steps::new())?;
     match put_role_term(role, string, out) {
-        Ok(()) => Ok(()),
+        Ok(()) => Ok(append_behind(role, out)?),
         Err(StringFault::NotATerm) => Err(DumpFault::NotATerm(role, n)),
         Err(StringFault::OutOfMemory) => Err(DumpFault::OutOfMemory),
     }
 }
 
-/// The term that a string of a role is, spelled once for the lines after it that have the same string in this role.
+/// What a string of a role is in a line, a term with what follows it there, spelled once for the lines after it that have the
+/// same string in this role.
 #[derive(Drop)]
 struct Spelled {
     number: Option<u64>,
@@ -99,7 +113,6 @@ impl Spelled {
         requires { KeepsTerm (layout_seen layout.now) role self.old.number self.old.text.items }
         ensures kept { KeepsTerm (layout_seen layout.now) role self.new.number self.new.text.items }
         ensures ok { OnOk result (KeepsTerm (layout_seen layout.now) role (Some n) self.new.text.items) }
-        ensures number { OnOk result (self.new.number ≡ Some n) }
         ensures err { IfErr result (TellsString role n (string_of (layout_seen layout.now) role n)) }
     {
         if self.number == Some(n) {
@@ -107,9 +120,29 @@ impl Spelled {
         }
         self.number = None;
         self.text.clear();
-        append_term(layout, role, n, string, &mut self.text)?;
+        append_spelled(layout, role, n, string, &mut self.text)?;
         self.number = Some(n);
         Ok(())
+    }
+
+    /// Appends what string n of a role is in a line, as it was spelled where the last one was the same.
+    fn put(
+        &mut self,
+        layout: &Layout<'_>,
+        role: Role,
+        n: u64,
+        string: &mut Vec<u8>,
+        out: &mut Vec<u8>,
+    ) -> Result<(), DumpFault>
+        requires { KeepsTerm (layout_seen layout.now) role self.old.number self.old.text.items }
+        ensures kept { KeepsTerm (layout_seen layout.now) role self.new.number self.new.text.items }
+        ensures spelled { OnOk result (KeepsTerm (layout_seen layout.now) role (Some n) self.new.text.items) }
+        ensures ok { OnOk result (AppendsPiece role (string_of (layout_seen layout.now) role n) out.old.items out.new.items) }
+        ensures err { IfErr result (TellsString role n (string_of (layout_seen layout.now) role n)) }
+        ensures left { OnErr result (Keeps out.old.items out.new.items) }
+    {
+        self.spell(layout, role, n, string)?;
+        Ok(out.extend_from_slice(&self.text)?)
     }
 
     /// Takes over the term of string n.
@@ -172,13 +205,14 @@ fn places(alloc: Global, count: usize) -> Result<Vec<Spelled>, AllocError>
 }
 
 /// Spells the triples of one graph, one line after another: a string that was unfolded, the last term of each role, and
-/// terms of predicates.
+/// terms of predicates; an object is kept once it comes again, by the number of the last one.
 #[derive(Drop)]
 pub struct Speller {
     string: Vec<u8>,
     subject: Spelled,
     predicate: Spelled,
     object: Spelled,
+    last_object: u64,
     kept: Vec<Spelled>,
 }
 
@@ -192,6 +226,7 @@ impl Speller {
             subject: Spelled::new(alloc, TERM)?,
             predicate: Spelled::new(alloc, TERM)?,
             object: Spelled::new(alloc, TERM)?,
+            last_object: 0,
             kept: places(alloc, count)?,
         })
     }
@@ -217,55 +252,51 @@ impl Speller {
         kept_term(&self.kept, n).is_some()
     }
 
-    /// Spells predicate n, where the last one was another.
-    fn spell_predicate(&mut self, layout: &Layout<'_>, n: u64) -> Result<(), DumpFault>
+    /// Appends what predicate n is in a line: as it is kept, or else as it was spelled where the last one was the same.
+    fn put_predicate(
+        &mut self,
+        layout: &Layout<'_>,
+        n: u64,
+        out: &mut Vec<u8>,
+    ) -> Result<(), DumpFault>
         requires { KeepsTerms (layout_seen layout.now) self.old }
         ensures kept { KeepsTerms (layout_seen layout.now) self.new }
-        ensures number { OnOk result (self.new.predicate.number ≡ Some n) }
-        ensures subject { self.new.subject ≡ self.old.subject }
+        ensures ok { OnOk result (AppendsPiece Predicate (string_of (layout_seen layout.now) Predicate n) out.old.items out.new.items) }
         ensures err { IfErr result (TellsString Predicate n (string_of (layout_seen layout.now) Predicate n)) }
+        ensures left { OnErr result (Keeps out.old.items out.new.items) }
     {
-        if self.predicate.number == Some(n) {
-            return Ok(());
-        }
         if let Some(text) = kept_term(&self.kept, n) {
-            self.predicate.take(n, text)?;
-            return Ok(());
+            return Ok(out.extend_from_slice(text)?);
         }
         self.predicate
-            .spell(layout, Role::Predicate, n, &mut self.string)?;
-        keep(&mut self.kept, n, &self.predicate.text)?;
-        Ok(())
+            .put(layout, Role::Predicate, n, &mut self.string, out)?;
+        Ok(keep(&mut self.kept, n, &self.predicate.text)?)
     }
 
-    /// Spells the terms of a triple, each where the last one was another.
-    fn spell(&mut self, layout: &Layout<'_>, triple: (u64, u64, u64)) -> Result<(), DumpFault>
+    /// Appends what object n is in a line. Most come once: so one that does is not kept.
+    fn put_object(
+        &mut self,
+        layout: &Layout<'_>,
+        n: u64,
+        out: &mut Vec<u8>,
+    ) -> Result<(), DumpFault>
         requires { KeepsTerms (layout_seen layout.now) self.old }
         ensures kept { KeepsTerms (layout_seen layout.now) self.new }
-        ensures ok { OnOk result (HasTerms (layout_seen layout.now) triple self.new) }
-        ensures err { IfErr result (TellsFirstOf (layout_seen layout.now) triple) }
+        ensures ok { OnOk result (AppendsPiece Object (string_of (layout_seen layout.now) Object n) out.old.items out.new.items) }
+        ensures err { IfErr result (TellsString Object n (string_of (layout_seen layout.now) Object n)) }
+        ensures left { OnErr result (Keeps out.old.items out.new.items) }
     {
-        self.subject
-            .spell(layout, Role::Subject, triple.0, &mut self.string)?;
-        self.spell_predicate(layout, triple.1)?;
-        self.object
-            .spell(layout, Role::Object, triple.2, &mut self.string)
-    }
-
-    /// Appends the line of the terms that were spelled.
-    fn put_line(&self, out: &mut Vec<u8>) -> Result<(), AllocError>
-        ensures { OnOk result (out.new.items ≡ out.old.items ++ spelled_line self.now) }
-    {
-        out.extend_from_slice(&self.subject.text)?;
-        out.push(b' ')?;
-        out.extend_from_slice(&self.predicate.text)?;
-        out.push(b' ')?;
-        out.extend_from_slice(&self.object.text)?;
-        out.extend_from_slice(b" .\n")
+        if self.last_object == n {
+            return self
+                .object
+                .put(layout, Role::Object, n, &mut self.string, out);
+        }
+        self.last_object = n;
+        append_spelled(layout, Role::Object, n, &mut self.string, out)
     }
 }
 
-/// Appends the line of a triple.
+/// Appends the line of a triple. An `Err` may leave a beginning of it behind.
 pub fn append_line(
     layout: &Layout<'_>,
     triple: (u64, u64, u64),
@@ -276,7 +307,12 @@ pub fn append_line(
     ensures kept { KeepsTerms (layout_seen layout.now) speller.new }
     ensures ok { OnOk result (AppendsLine (layout_seen layout.now) triple out.old.items out.new.items) }
     ensures err { IfErr result (TellsFirstOf (layout_seen layout.now) triple) }
+    ensures left { OnErr result (Keeps out.old.items out.new.items) }
 {
-    speller.spell(layout, triple)?;
-    Ok(speller.put_line(out)?)
+    let (subject, predicate, object) = triple;
+    speller
+        .subject
+        .put(layout, Role::Subject, subject, &mut speller.string, out)?;
+    speller.put_predicate(layout, predicate, out)?;
+    speller.put_object(layout, object, out)
 }

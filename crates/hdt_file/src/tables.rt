@@ -1,15 +1,16 @@
 //! The strings that triples have as pieces of lines, each made once: what many lines are put together of.
 ghost use Rattle.std.specs.Prelude.{◌≡◌, ◌++◌, ℕ, List, map, IfOk, IfErr, OnOk};
 ghost use Rattle.hdt_file.specs.File.{GraphParts};
+ghost use Rattle.hdt_wire.specs.Control.{Keeps};
 ghost use Rattle.hdt_triples.specs.Uses.{part};
-ghost use Rattle.hdt_file.specs.Inside.Pieces.{AreMarked, AreLinePieces, ArePiecesFor, AreTables, AppendsPiece, GrowsByMarked, GrowsByPiece, HasPieces, IsLinePiece, behind, is_marked, piece_in};
-ghost use Rattle.hdt_file.specs.TextWriting.{AppendsLine, AppendsText, TellsFirstIn, TellsFirstOf, TellsString};
+ghost use Rattle.hdt_file.specs.Inside.Pieces.{AreMarked, AreLinePieces, ArePiecesFor, AreTables, GrowsByMarked, GrowsByPiece, HasPieces, IsLinePiece, is_marked, piece_in};
+ghost use Rattle.hdt_file.specs.TextWriting.{AppendsLine, AppendsPiece, AppendsText, TellsFirstIn, TellsFirstOf, TellsString};
 ghost use Rattle.hdt_file.specs.LayoutView.{layout_seen};
 ghost use Rattle.hdt_dict.specs.Dictionary.{strings_in};
 
 use crate::fault::DumpFault;
 use crate::layout::Layout;
-use crate::spelling::put_role_term;
+use crate::spelling::{append_behind, put_role_term};
 use hdt_dict::{Arena, Role};
 use hdt_terms::StringFault;
 use std::alloc::{AllocError, Global};
@@ -21,16 +22,6 @@ pub struct Tables {
     subjects: Arena,
     predicates: Arena,
     objects: Arena,
-}
-
-/// Appends what follows the term of a role in a line.
-fn append_behind(role: Role, out: &mut Vec<u8>) -> Result<(), AllocError>
-    ensures { OnOk result (out.new.items ≡ out.old.items ++ behind role) }
-{
-    match role {
-        Role::Subject | Role::Predicate => out.extend_from_slice(b" "),
-        Role::Object => out.extend_from_slice(b" .\n"),
-    }
 }
 
 /// Appends the piece of a line that a string is in its role, or nothing where it is no term of it.
@@ -171,10 +162,11 @@ pub fn bytes_of_lines(tables: &Tables, triples: &[(u64, u64, u64)]) -> usize {
     bytes
 }
 
-/// Appends a piece; nothing is that of a string that is no term.
+/// Appends a piece; nothing is that of a string that is no term. What was there stays.
 fn append_piece(role: Role, n: u64, piece: &[u8], out: &mut Vec<u8>) -> Result<(), DumpFault>
     ensures ok { OnOk result ((string : List ℕ) → IsLinePiece role string piece.now → AppendsPiece role string out.old.items out.new.items) }
     ensures err { IfErr result (λ e. (string : List ℕ) → IsLinePiece role string piece.now → TellsString role n string e) }
+    ensures kept { Keeps out.old.items out.new.items }
 {
     if piece.is_empty() {
         return Err(DumpFault::NotATerm(role, n));
@@ -182,7 +174,7 @@ fn append_piece(role: Role, n: u64, piece: &[u8], out: &mut Vec<u8>) -> Result<(
     Ok(out.extend_from_slice(piece)?)
 }
 
-/// Appends the line of a triple, whose object's piece was found.
+/// Appends the line of a triple, whose object's piece was found. What was there stays; an `Err` may leave a beginning of the line.
 fn append_line_of(
     tables: &Tables,
     triple: (u64, u64, u64),
@@ -191,6 +183,7 @@ fn append_line_of(
 ) -> Result<(), DumpFault>
     ensures ok { OnOk result ((g : GraphParts) → HasPieces g tables.now triple → object.now ≡ piece_in tables.now.objects triple.2 → AppendsLine g triple out.old.items out.new.items) }
     ensures err { IfErr result (λ e. (g : GraphParts) → HasPieces g tables.now triple → object.now ≡ piece_in tables.now.objects triple.2 → TellsFirstOf g triple e) }
+    ensures kept { Keeps out.old.items out.new.items }
 {
     let (s, p, o) = triple;
     append_piece(Role::Subject, s, piece_in(&tables.subjects, s), out)?;
@@ -227,7 +220,7 @@ fn looked_at(pieces: &[&[u8]]) -> usize {
 }
 
 /// Appends the lines of triples. Where the objects' pieces begin is found for all of them first, then all are looked at, and then
-/// they are copied.
+/// they are copied. What was there stays; an `Err` may leave some of the lines.
 pub fn append_lines(
     alloc: Global,
     tables: &Tables,
@@ -236,6 +229,7 @@ pub fn append_lines(
 ) -> Result<(), DumpFault>
     ensures ok { OnOk result ((g : GraphParts) → AreTables g triples.now tables.now → AppendsText g triples.now out.old.items out.new.items) }
     ensures err { IfErr result (λ e. (g : GraphParts) → AreTables g triples.now tables.now → TellsFirstIn g triples.now e) }
+    ensures kept { Keeps out.old.items out.new.items }
 {
     let objects = objects_of(alloc, tables, triples)?;
     out.reserve(looked_at(&objects))?;

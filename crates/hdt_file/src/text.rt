@@ -1,5 +1,6 @@
 //! The N-Triples text of a graph.
-ghost use Rattle.std.specs.Prelude.{◌≡◌, ◌≢◌, ◌<◌, ◌+◌, ◌^◌, ◌++◌, ◌⊎◌, ℕ, List, [], Option, OnOk, IfOk, IfErr, Some, IsOk, true, false, length};
+ghost use Rattle.std.specs.Prelude.{◌≡◌, ◌≢◌, ◌<◌, ◌+◌, ◌^◌, ◌++◌, ◌⊎◌, ℕ, List, [], Option, OnOk, OnErr, IfOk, IfErr, Some, IsOk, true, false, length};
+ghost use Rattle.hdt_wire.specs.Control.{Keeps};
 ghost use Rattle.hdt_wire.specs.Counted.{inner, failures};
 ghost use Rattle.hdt_wire.specs.declared.role.Role.{Role};
 ghost use Rattle.hdt_triples.specs.Counting.{Triple};
@@ -10,7 +11,7 @@ ghost use Rattle.hdt_file.specs.File.{GraphParts};
 ghost use Rattle.hdt_file.specs.Kept.{KeepsTerms};
 ghost use Rattle.hdt_file.specs.LayoutView.{layout_seen};
 ghost use Rattle.hdt_file.specs.Text.{IsFirstIn, IsTextOf};
-ghost use Rattle.hdt_file.specs.TextWriting.{TellsFirstIn, WritesPart, WritesText, chosen, limited};
+ghost use Rattle.hdt_file.specs.TextWriting.{AppendsText, TellsFirstIn, WritesPart, WritesText, chosen, limited};
 ghost use Rattle.hdt_file.specs.Views.{graph_seen};
 
 use crate::fault::DumpFault;
@@ -20,7 +21,7 @@ use crate::spelling::{Speller, append_line};
 use crate::tables::{append_lines, bytes_of_lines, tables_of};
 use hdt_dict::{Dictionary, Role};
 use hdt_triples::{Matches, Pattern};
-use hdt_wire::Counted;
+use hdt_wire::{Counted, cut_on_error};
 use std::alloc::{AllocError, Global};
 use std::io::Write;
 
@@ -132,73 +133,117 @@ const LINE: usize = 160;
 /// For how many lines it has room at first, at most.
 const LINES: usize = 64;
 
-/// The text of triples, each string of which is looked up: for few of them.
-fn looked_up_text(
-    alloc: Global,
+/// Appends the text of triples, each string of which is looked up: for few of them. An `Err` may leave some lines behind.
+fn append_looked_up(
     layout: &Layout<'_>,
     triples: &[(u64, u64, u64)],
-    room: usize,
     speller: &mut Speller,
-) -> Result<Vec<u8>, DumpFault>
+    out: &mut Vec<u8>,
+) -> Result<(), DumpFault>
     requires { KeepsTerms (layout_seen layout.now) speller.old }
     ensures kept { KeepsTerms (layout_seen layout.now) speller.new }
-    ensures ok { IfOk result (λ text. IsTextOf (denoted (layout_seen layout.now) triples.now) text.items) }
+    ensures ok { OnOk result (AppendsText (layout_seen layout.now) triples.now out.old.items out.new.items) }
     ensures err { IfErr result (TellsFirstIn (layout_seen layout.now) triples.now) }
+    ensures left { OnErr result (Keeps out.old.items out.new.items) }
 {
-    let mut text = Vec::with_capacity(alloc, room)?;
     'triples: for at in 0..triples.len() {
-        append_line(layout, triples[at], speller, &mut text)?;
+        append_line(layout, triples[at], speller, out)?;
     }
-    Ok(text)
+    Ok(())
 }
 
 /// How many triples' lines are made at a time.
 const BLOCK: usize = 64;
 
 /// The same by tables in which the strings of the triples were spelled once: for many of them.
-fn tabled_text(
+fn append_tabled(
     alloc: Global,
     layout: &Layout<'_>,
     triples: &[(u64, u64, u64)],
-) -> Result<Vec<u8>, DumpFault>
-    ensures ok { IfOk result (λ text. IsTextOf (denoted (layout_seen layout.now) triples.now) text.items) }
+    out: &mut Vec<u8>,
+) -> Result<(), DumpFault>
+    ensures ok { OnOk result (AppendsText (layout_seen layout.now) triples.now out.old.items out.new.items) }
     ensures err { IfErr result (TellsFirstIn (layout_seen layout.now) triples.now) }
+    ensures left { OnErr result (Keeps out.old.items out.new.items) }
 {
     let tables = tables_of(alloc, layout, triples)?;
     let mut rest = triples;
-    let mut text = Vec::with_capacity(alloc, bytes_of_lines(&tables, triples))?;
+    out.reserve(bytes_of_lines(&tables, triples))?;
     'lines: while !rest.is_empty() {
         let (block, after) = rest.split_at(rest.len().min(BLOCK));
-        append_lines(alloc, &tables, block, &mut text)?;
+        append_lines(alloc, &tables, block, out)?;
         rest = after;
     }
-    Ok(text)
+    Ok(())
 }
 
-/// The text of matches, or of at most so many of the first, in time in proportion to the dictionary, these matches and the
-/// text, whatever the blocks are.
-fn found_text(
+/// Appends the text of triples in time in proportion to the dictionary, these triples and the text, whatever the blocks are. An
+/// `Err` may leave some lines behind.
+fn append_triples(
+    alloc: Global,
+    layout: &Layout<'_>,
+    triples: &[(u64, u64, u64)],
+    speller: &mut Speller,
+    out: &mut Vec<u8>,
+) -> Result<(), DumpFault>
+    requires { KeepsTerms (layout_seen layout.now) speller.old }
+    ensures kept { KeepsTerms (layout_seen layout.now) speller.new }
+    ensures ok { OnOk result (AppendsText (layout_seen layout.now) triples.now out.old.items out.new.items) }
+    ensures err { IfErr result (TellsFirstIn (layout_seen layout.now) triples.now) }
+    ensures left { OnErr result (Keeps out.old.items out.new.items) }
+{
+    let Some(blocks) = few_blocks(alloc, layout, triples, speller)? else {
+        return append_tabled(alloc, layout, triples, out);
+    };
+    // (The sum says nothing: that it is used makes the blocks be looked at.)
+    let lines = all_looked_at(&blocks).min(triples.len()).min(LINES);
+    out.reserve(lines * LINE)?;
+    append_looked_up(layout, triples, speller, out)
+}
+
+/// Appends the text of matches, or of at most so many of the first. After an error `out` is as it was.
+fn append_found(
     alloc: Global,
     layout: &Layout<'_>,
     found: Matches<'_>,
     most: Option<u64>,
     speller: &mut Speller,
-) -> Result<Vec<u8>, DumpFault>
+    out: &mut Vec<u8>,
+) -> Result<(), DumpFault>
     requires fits { length (left_of found) < 2 ^ 64 }
     requires kept { KeepsTerms (layout_seen layout.now) speller.old }
     ensures kept { KeepsTerms (layout_seen layout.now) speller.new }
+    ensures ok { OnOk result (AppendsText (layout_seen layout.now) (limited most (left_of found.entry)) out.old.items out.new.items) }
+    ensures err { IfErr result (TellsFirstIn (layout_seen layout.now) (limited most (left_of found.entry))) }
+    ensures left { OnErr result (out.new.items ≡ out.old.items) }
+{
+    let triples = listed(alloc, found, most)?;
+    let start = out.len();
+    let appended = append_triples(alloc, layout, &triples, speller, out);
+    cut_on_error(appended, start, out)
+}
+
+/// The text of matches, or of at most so many of the first.
+fn found_text(
+    alloc: Global,
+    layout: &Layout<'_>,
+    found: Matches<'_>,
+    most: Option<u64>,
+) -> Result<Vec<u8>, DumpFault>
+    requires { length (left_of found) < 2 ^ 64 }
     ensures ok { IfOk result (λ text. IsTextOf (denoted (layout_seen layout.now) (limited most (left_of found.entry))) text.items) }
     ensures err { IfErr result (TellsFirstIn (layout_seen layout.now) (limited most (left_of found.entry))) }
 {
-    let triples = listed(alloc, found, most)?;
-    match few_blocks(alloc, layout, &triples, speller)? {
-        Some(blocks) => {
-            // (The sum says nothing: that it is used makes the blocks be looked at.)
-            let lines = all_looked_at(&blocks).min(triples.len()).min(LINES);
-            looked_up_text(alloc, layout, &triples, lines * LINE, speller)
-        }
-        None => tabled_text(alloc, layout, &triples),
-    }
+    let mut text = Vec::new(alloc);
+    append_found(
+        alloc,
+        layout,
+        found,
+        most,
+        &mut Speller::new(alloc)?,
+        &mut text,
+    )?;
+    Ok(text)
 }
 
 /// The text of the matches of a pattern with a subject: its triples are found by directories of the marks, which are counted
@@ -213,10 +258,9 @@ fn indexed_text(
     ensures ok { IfOk result (λ text. IsTextOf (denoted (layout_seen layout.now) (limited most (matches pattern (layout_seen layout.now).triples))) text.items) }
     ensures err { IfErr result (TellsFirstIn (layout_seen layout.now) (limited most (matches pattern (layout_seen layout.now).triples))) }
 {
-    let mut speller = Speller::new(alloc)?;
     match layout.triples.with_directories(alloc) {
-        Ok(indexed) => found_text(alloc, layout, indexed.find(pattern), most, &mut speller),
-        Err(triples) => found_text(alloc, layout, triples.find(pattern), most, &mut speller),
+        Ok(indexed) => found_text(alloc, layout, indexed.find(pattern), most),
+        Err(triples) => found_text(alloc, layout, triples.find(pattern), most),
     }
 }
 
@@ -254,29 +298,41 @@ pub fn graph_text_up_to(
     ensures ok { IfOk result (λ text. IsTextOf (denoted (graph_seen graph.now) (limited most (chosen (graph_seen graph.now) pattern))) text.items) }
     ensures err { IfErr result (TellsFirstIn (graph_seen graph.now) (limited most (chosen (graph_seen graph.now) pattern))) }
 {
-    graph_text_with(alloc, graph, pattern, most, &mut Speller::new(alloc)?)
+    match pattern {
+        Some(pattern) => found_text(alloc, &graph.layout(), graph.search(pattern), most),
+        None => Ok(Vec::new(alloc)),
+    }
 }
 
-/// The same by a speller that has spelled nothing yet, or texts of this graph alone: who asks for many texts keeps one for
-/// all, and predicates that it keeps are unfolded once. [`Speller::keeping`] says how much it keeps; after an error it is
-/// as good as before.
-pub fn graph_text_with(
+/// Appends the same text by a speller that has spelled nothing yet, or texts of this graph alone: who asks for many texts keeps
+/// one for all, and predicates that it keeps are unfolded once. [`Speller::keeping`] says how much it keeps; after an error it
+/// is as good as before, and `out` is as it was.
+pub fn append_graph_text(
     alloc: Global,
     graph: &Graph<'_>,
     pattern: Option<Pattern>,
     most: Option<u64>,
     speller: &mut Speller,
-) -> Result<Vec<u8>, DumpFault>
+    out: &mut Vec<u8>,
+) -> Result<(), DumpFault>
     // What the speller keeps is of this graph, before and after.
     requires { KeepsTerms (graph_seen graph.now) speller.old }
     ensures kept { KeepsTerms (graph_seen graph.now) speller.new }
-    ensures ok { IfOk result (λ text. IsTextOf (denoted (graph_seen graph.now) (limited most (chosen (graph_seen graph.now) pattern))) text.items) }
+    ensures ok { OnOk result (AppendsText (graph_seen graph.now) (limited most (chosen (graph_seen graph.now) pattern)) out.old.items out.new.items) }
     ensures err { IfErr result (TellsFirstIn (graph_seen graph.now) (limited most (chosen (graph_seen graph.now) pattern))) }
+    ensures left { OnErr result (out.new.items ≡ out.old.items) }
 {
     let Some(pattern) = pattern else {
-        return Ok(Vec::new(alloc));
+        return Ok(());
     };
-    found_text(alloc, &graph.layout(), graph.search(pattern), most, speller)
+    append_found(
+        alloc,
+        &graph.layout(),
+        graph.search(pattern),
+        most,
+        speller,
+        out,
+    )
 }
 
 /// The same of a layout, all of whose triples are walked over: [`graph_text`] says what is answered.
@@ -303,10 +359,7 @@ pub fn layout_text_up_to(
 {
     match pattern {
         Some(pattern) if pattern.s.is_some() => indexed_text(alloc, layout, pattern, most),
-        Some(pattern) => {
-            let mut speller = Speller::new(alloc)?;
-            found_text(alloc, layout, layout.search(pattern), most, &mut speller)
-        }
+        Some(pattern) => found_text(alloc, layout, layout.search(pattern), most),
         None => Ok(Vec::new(alloc)),
     }
 }

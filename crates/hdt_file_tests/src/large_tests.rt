@@ -277,16 +277,40 @@ fn tells_a_part(alloc: Global, graph: &Graph<'_>) -> Result<bool, DumpFault> {
     Ok(are_lines(&of_graph, LINES_LEN, LAST) && are_lines(&of_layout, LINES_LEN, LAST))
 }
 
-/// Whether one speller gives the same texts one after another: twice that of triples with more predicates than it keeps, and then
-/// that of a part.
+/// Whether one speller appends the same texts one after another: twice that of triples with more predicates than it keeps, and
+/// then that of a part.
 fn tells_by_a_speller(alloc: Global, graph: &Graph<'_>) -> Result<bool, DumpFault> {
     let mut speller = Speller::keeping(alloc)?;
     let wanted = graph_text_up_to(alloc, graph, Some(ALL), Some(1_000))?;
-    let first = graph_text_with(alloc, graph, Some(ALL), Some(1_000), &mut speller)?;
-    let again = graph_text_with(alloc, graph, Some(ALL), Some(1_000), &mut speller)?;
-    let part = graph_text_with(alloc, graph, Some(ALL), Some(65_999), &mut speller)?;
-    let same = first.as_slice() == wanted.as_slice() && again.as_slice() == wanted.as_slice();
-    Ok(same && are_lines(&part, LINES_LEN, LAST))
+    let mut text = Vec::new(alloc);
+    append_graph_text(
+        alloc,
+        graph,
+        Some(ALL),
+        Some(1_000),
+        &mut speller,
+        &mut text,
+    )?;
+    append_graph_text(
+        alloc,
+        graph,
+        Some(ALL),
+        Some(1_000),
+        &mut speller,
+        &mut text,
+    )?;
+    let (first, again) = text.split_at(wanted.len().min(text.len()));
+    let same = first == wanted.as_slice() && again == wanted.as_slice();
+    text.clear();
+    append_graph_text(
+        alloc,
+        graph,
+        Some(ALL),
+        Some(65_999),
+        &mut speller,
+        &mut text,
+    )?;
+    Ok(same && are_lines(&text, LINES_LEN, LAST))
 }
 
 /// Both.

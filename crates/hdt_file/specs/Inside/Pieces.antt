@@ -5,22 +5,13 @@ use Rattle.hdt_dict.specs.Numbered.{numbered}
 use Rattle.hdt_wire.specs.declared.role.Role.{Role}
 use Rattle.hdt_wire.specs.declared.role.Role.TheVariants.{Subject, Predicate, Object}
 use Rattle.hdt_terms.specs.declared.term.Term.{Term}
-use Rattle.hdt_terms.specs.Writing.{written}
 use Rattle.hdt_triples.specs.Counting.{Triple}
 use Rattle.hdt_triples.specs.Uses.{part}
 use Rattle.hdt_file.specs.Denoted.{string_of}
 use Rattle.hdt_file.specs.File.{GraphParts}
 use Rattle.hdt_file.specs.Text.{IsTermOf, HasNoTerm}
+use Rattle.hdt_file.specs.TextWriting.{line_piece}
 use Rattle.hdt_file.specs.declared.tables.Tables.{Tables}
-
--- what follows the term of a role in a line: a space, and behind the object the end of the line
-abbrev pub behind : Role → List ℕ
-behind Subject = 32 ∷ []
-behind Predicate = 32 ∷ []
-behind Object = 32 ∷ 46 ∷ 10 ∷ []
-
-abbrev pub line_piece : Role → Term → List ℕ
-line_piece role term = written term ++ behind role
 
 -- the piece of the term that the string is in its role, or nothing where it is none
 abbrev pub IsLinePiece : Role → List ℕ → List ℕ → Type 0
@@ -72,9 +63,3 @@ pub record GrowsByMarked (marked : Bool) (role : Role) (string old new : List �
   pub piece : List ℕ
   pub is : marked ≡ true → IsLinePiece role string piece
   pub grown : new ≡ old ++ piece
-
--- the text has grown by the piece of the term that the string is in its role
-pub record AppendsPiece (role : Role) (string old new : List ℕ) : Type 0 where
-  pub term : Term
-  pub is : IsTermOf role string term
-  pub grown : new ≡ old ++ line_piece role term

@@ -5,7 +5,7 @@ use Rattle.hdt_triples.specs.Counting.{Triple}
 use Rattle.hdt_file.specs.Inside.Pieces.{piece_in}
 use Rattle.hdt_file.specs.TextWriting.{AppendsText, TellsFirstIn}
 use Rattle.hdt_file.proofs.Lines.{found_at, pieces_at}
-use Rattle.hdt_file.proofs.Texts.{line_and_text, no_text, tells_behind, tells_here}
+use Rattle.hdt_file.proofs.Texts.{keeps_kept, line_and_text, no_text, tells_behind, tells_here}
 use Rattle.hdt_file.proofs.tables.append_lines.Goals as goal
 
 pub triples-preserved : goal.triples-preserved
@@ -21,6 +21,7 @@ triples-preserved c =
     record {
       text = λ g more are h. l.invariant.text g more are
           (subst (λ (us : List Triple). AppendsText g us old more) (sym split) (line_and_text g t rest old new more (c.in_ok-append_line_of.ensures.ok g (pieces_at g ts c.args.tables.now l.at are c.triples-test.true) object) h));
+      kept = keeps_kept _ _ _ l.invariant.kept c.in_ok-append_line_of.ensures.kept;
       first = λ g e are h. l.invariant.first g e are
           (subst (λ (us : List Triple). TellsFirstIn g us e) (sym split) (tells_behind g t rest old new e (c.in_ok-append_line_of.ensures.ok g (pieces_at g ts c.args.tables.now l.at are c.triples-test.true) object) h));
     }

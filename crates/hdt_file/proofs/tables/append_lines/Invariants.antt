@@ -1,4 +1,5 @@
 use Rattle.std.proofs.Common.{List, ℕ, drop}
+use Rattle.hdt_wire.specs.Control.{Keeps}
 use Rattle.hdt_file.specs.File.{GraphParts}
 use Rattle.hdt_file.specs.Inside.Pieces.{AreTables}
 use Rattle.hdt_file.specs.TextWriting.{AppendsText, TellsFirstIn}
@@ -9,5 +10,6 @@ abbrev pub invariant-triples : goal.invariant-triples
 invariant-triples l =
     record {
       text : (g : GraphParts) (more : List ℕ) → AreTables g l.triples l.fn.tables → AppendsText g (drop l.at l.triples) l.out.items more → AppendsText g l.triples l.fn.out.items more;
+      kept : Keeps l.fn.out.items l.out.items;
       first : (g : GraphParts) (e : DumpFault) → AreTables g l.triples l.fn.tables → TellsFirstIn g (drop l.at l.triples) e → TellsFirstIn g l.triples e;
     }

@@ -6,32 +6,33 @@ use Rattle.hdt_triples.specs.Counting.{Triple}
 use Rattle.hdt_file.specs.LayoutView.{layout_seen}
 use Rattle.hdt_file.specs.Inside.Pieces.{AreTables}
 use Rattle.hdt_file.proofs.Lines.{pieces_taken, pieces_behind}
-use Rattle.hdt_file.proofs.Texts.{GoesOn, SameFirst, text_goes_on, first_goes_on, text_stops, none_left, ends}
-use Rattle.hdt_file.proofs.text.tabled_text.Goals as goal
+use Rattle.hdt_file.proofs.Texts.{GoesOn, text_goes_on, text_stops, none_left, ends, keeps_more}
+use Rattle.hdt_file.proofs.text.append_tabled.Goals as goal
 
 pub lines-preserved : goal.lines-preserved
 lines-preserved c =
     let g = layout_seen c.args.layout.now in
     let ts = c.args.triples.now in
+    let old = c.args.out.now.items in
     let l = c.lines in
     let n = c.min.result in
     let tables = c.in_ok-tables.tables in
     let block = c.split_at.result.0.now in
     let after = c.split_at.result.1.now in
-    let new = c.append_lines.new.out.items in
     let split : l.rest.now ≡ block ++ after = rw (c.split_at.ensures.front, c.split_at.ensures.back) (sym (take-append-drop n l.rest.now)) in
     let taken : AreTables g block tables = rw c.split_at.ensures.front (pieces_taken g l.rest.now tables n l.invariant.tables) in
     let grown = c.in_ok-append_lines.ensures.ok g taken in
     record {
       tables = rw c.split_at.ensures.back (pieces_behind g l.rest.now tables n l.invariant.tables);
-      goes_on = text_goes_on g ts block after l.text.items new (subst (λ (left : List Triple). GoesOn g ts left l.text.items) split l.invariant.goes_on) grown;
-      first = first_goes_on g ts block after l.text.items new (subst (SameFirst g ts) split l.invariant.first) grown;
+      goes_on = text_goes_on g ts block after old l.out.items c.append_lines.new.out.items (subst (λ (left : List Triple). GoesOn g ts left old l.out.items) split l.invariant.goes_on) grown;
+      left = keeps_more _ _ _ _ l.invariant.left grown.grown;
     }
 
 pub returns-in_err-append_lines-clause-err : goal.returns-in_err-append_lines-clause-err
 returns-in_err-append_lines-clause-err c =
     let g = layout_seen c.args.layout.now in
     let ts = c.args.triples.now in
+    let old = c.args.out.now.items in
     let l = c.lines in
     let n = c.min.result in
     let tables = c.in_ok-tables.tables in
@@ -41,11 +42,12 @@ returns-in_err-append_lines-clause-err c =
     let split : l.rest.now ≡ block ++ after = rw (c.split_at.ensures.front, c.split_at.ensures.back) (sym (take-append-drop n l.rest.now)) in
     let taken : AreTables g block tables = rw c.split_at.ensures.front (pieces_taken g l.rest.now tables n l.invariant.tables) in
     let p = err_from_is_err_and c.from_residual-in_err-append_lines.result c.from_residual-in_err-append_lines.ensures.1 in
-    rw (p.1, p.2) (text_stops g ts block after e (subst (SameFirst g ts) split l.invariant.first) (c.in_err-append_lines.ensures.err g taken))
+    rw (p.1, p.2) (text_stops g ts block after old l.out.items e (subst (λ (left : List Triple). GoesOn g ts left old l.out.items) split l.invariant.goes_on) (c.in_err-append_lines.ensures.err g taken))
 
 pub returns-clause-ok : goal.returns-clause-ok
 returns-clause-ok c =
     let g = layout_seen c.args.layout.now in
     let ts = c.args.triples.now in
+    let old = c.args.out.now.items in
     let l = c.lines in
-    ends g ts l.text.items (subst (λ (left : List Triple). GoesOn g ts left l.text.items) (none_left l.rest.now (eqb-true _ _ (sym c.is_empty.ensures ∙ c.lines-test.false))) l.invariant.goes_on)
+    ends g ts old l.out.items (subst (λ (left : List Triple). GoesOn g ts left old l.out.items) (none_left l.rest.now (eqb-true _ _ (sym c.is_empty.ensures ∙ c.lines-test.false))) l.invariant.goes_on)
