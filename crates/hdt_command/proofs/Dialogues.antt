@@ -1,7 +1,7 @@
 -- Answers one behind the other.
 use Rattle.std.proofs.Common.{◌≡◌, ◌≢◌, ℕ, Bool, true, false, cond, ◌||◌, ◌⊎◌, ◌+◌, ◌-◌, List, [], ◌∷◌, ◌++◌, length, Option, None, Some, Result, Ok, Err, refl, sym, ap, subst, ◌∙◌, inl, inr, arith, map, get_or, append_assoc, append-nil, take}
 use Rattle.std.proofs.Math.Bool.{or-false, or_assoc}
-use Rattle.std.proofs.Math.Seq.{take-append-add}
+use Rattle.std.proofs.Math.Seq.{take-append-add, take-append_seam}
 use Rattle.std.proofs.lemmas.List.{length-append}
 use Rattle.hdt_terms.specs.Documents.{AreLines, RanTexts, FaultBehind}
 use Rattle.hdt_terms.specs.Taking.{State, start, left, line_number}
@@ -111,43 +111,36 @@ fails_on a b c text answer n m f g h count one same fails = record {
 abbrev pub GainedButFor : Option (List ℕ) → Option (List ℕ) → List ℕ → List ℕ → Type 0
 GainedButFor a b text kept = (gone : List ℕ) × (text ≡ gone ++ kept) × Appends a b gone
 
-pub gained_on : (a b c : Option (List ℕ)) (text kept answer new : List ℕ) → GainedButFor a b text kept → ((part : List ℕ) × (kept ++ answer ≡ part ++ new) × Appends b c part)
-    → GainedButFor a c (text ++ answer) new
-gained_on a b c text kept answer new h one = (
-  h.0 ++ one.0,
-  ap (λ t. t ++ answer) h.1 ∙ append_assoc h.0 kept answer ∙ ap (λ t. h.0 ++ t) one.1 ∙ sym (append_assoc h.0 one.0 new),
-  Appends-trans a b c h.0 one.0 h.2 one.2,
-)
+-- one more answer is kept
+pub gained_answer : (a b : Option (List ℕ)) (text kept answer new : List ℕ) → GainedButFor a b text kept → new ≡ kept ++ answer → GainedButFor a b (text ++ answer) new
+gained_answer a b text kept answer new h one =
+    (h.0, ap (λ t. t ++ answer) h.1 ∙ append_assoc h.0 kept answer ∙ ap (λ t. h.0 ++ t) (sym one), h.2)
+
+-- the front of what was kept is written
+pub gained_on : (a b c : Option (List ℕ)) (text kept new : List ℕ) → GainedButFor a b text kept → ((part : List ℕ) × (kept ≡ part ++ new) × Appends b c part) → GainedButFor a c text new
+gained_on a b c text kept new h one =
+    (h.0 ++ one.0, h.1 ∙ ap (λ t. h.0 ++ t) one.1 ∙ sym (append_assoc h.0 one.0 new), Appends-trans a b c h.0 one.0 h.2 one.2)
 
 pub gained_all : (a b c : Option (List ℕ)) (text kept : List ℕ) → GainedButFor a b text kept → Appends b c kept → Appends a c text
 gained_all a b c text kept h one = subst (Appends a c) (sym h.1) (Appends-trans a b c h.0 kept h.2 one)
 
--- answers of lines that were not written whole: the writer failed in what was kept, and in what came behind it
-pub cut_behind : (g : GraphParts) (asking : Asking) (input given a b c : Option (List ℕ)) (lines : List (ℕ × List ℕ)) (faulty : Bool) (text kept answer : List ℕ) (count f d h : ℕ) (e : ToolFault)
-    → AreSome input lines → AnswersLines g asking lines faulty (text ++ answer) → GainedButFor a b text kept → count ≡ length text → d ≡ f
-    → ((m : ℕ) × (e ≡ Write (count - length kept + m)) × FailsAfter m (kept ++ answer) b c d h) → AnswersSome g asking input given a c f h e
-cut_behind g asking input given a b c lines faulty text kept answer count f d h e some all gained counted same cut =
+-- answers of lines that were not written whole: the writer failed in what was kept
+pub cut_kept : (g : GraphParts) (asking : Asking) (input given a b c : Option (List ℕ)) (lines : List (ℕ × List ℕ)) (faulty : Bool) (text kept : List ℕ) (count f d h : ℕ) (e : ToolFault)
+    → AreSome input lines → AnswersLines g asking lines faulty text → GainedButFor a b text kept → count ≡ length text → d ≡ f
+    → ((m : ℕ) × (e ≡ Write (count - length kept + m)) × FailsAfter m kept b c d h) → AnswersSome g asking input given a c f h e
+cut_kept g asking input given a b c lines faulty text kept count f d h e some all gained counted same cut =
     let before : count - length kept ≡ length gained.0 = omega (arith, counted, ap length gained.1, length-append gained.0 kept) in
-    let whole : gained.0 ++ (kept ++ answer) ≡ text ++ answer = sym (append_assoc gained.0 kept answer) ∙ ap (λ t. t ++ answer) (sym gained.1) in
     record {
       lines = lines;
       are = some;
       behind = subst (λ (t : ToolFault). IsBehind t input given lines) (sym cut.1) tt;
       faulty = faulty;
-      text = text ++ answer;
+      text = text;
       answers = all;
       stopped =
-          subst (λ (t : ToolFault). IsStopped t (text ++ answer) a c f h) (sym cut.1)
-          (subst (λ t. FailsAfter (count - length kept + cut.0) t a c f h) whole (fails_on a b c gained.0 (kept ++ answer) (count - length kept) cut.0 f d h before gained.2 same cut.2));
+          subst (λ (t : ToolFault). IsStopped t text a c f h) (sym cut.1)
+          (subst (λ t. FailsAfter (count - length kept + cut.0) t a c f h) (sym gained.1) (fails_on a b c gained.0 kept (count - length kept) cut.0 f d h before gained.2 same cut.2));
     }
-
--- the same where nothing came behind what was kept
-pub cut_kept : (g : GraphParts) (asking : Asking) (input given a b c : Option (List ℕ)) (lines : List (ℕ × List ℕ)) (faulty : Bool) (text kept : List ℕ) (count f d h : ℕ) (e : ToolFault)
-    → AreSome input lines → AnswersLines g asking lines faulty text → GainedButFor a b text kept → count ≡ length text → d ≡ f
-    → ((m : ℕ) × (e ≡ Write (count - length kept + m)) × FailsAfter m kept b c d h) → AnswersSome g asking input given a c f h e
-cut_kept g asking input given a b c lines faulty text kept count f d h e some all gained counted same cut =
-    cut_behind g asking input given a b c lines faulty text kept [] count f d h e some (subst (AnswersLines g asking lines faulty) (sym (append-nil text)) all) gained counted same
-    (cut.0, cut.1, subst (λ t. FailsAfter cut.0 t b c d h) (sym (append-nil kept)) cut.2)
 
 -- memory was refused behind whole answers
 pub refused_behind : (g : GraphParts) (asking : Asking) (input given a c : Option (List ℕ)) (lines : List (ℕ × List ℕ)) (faulty : Bool) (text : List ℕ) (f h : ℕ) (e : ToolFault)
@@ -162,15 +155,18 @@ refused_behind g asking input given a c lines faulty text f h e some all gained 
   stopped = subst (λ (t : ToolFault). IsStopped t text a c f h) (sym is) (same, gained);
 }
 
--- an answer that was not put behind the others
-pub cut_answer : (g : GraphParts) (asking : Asking) (input given a b c : Option (List ℕ)) (lines : List (ℕ × List ℕ)) (line : ℕ × List ℕ) (faulty one : Bool) (text kept answer : List ℕ) (count f d h : ℕ) (e : ToolFault)
-    → AreSome input lines → AreSome input (lines ++ line ∷ []) → AnswersLines g asking lines faulty text → AnswersLine g asking line one answer → GainedButFor a b text kept → count ≡ length text → d ≡ f
-    → ((e ≡ OutOfMemory) × (h ≡ d) × Appends b c kept) ⊎ ((m : ℕ) × (e ≡ Write (count - length kept + m)) × FailsAfter m (kept ++ answer) b c d h)
+-- an answer behind those that were kept: it could not be counted, or the writer failed
+pub cut_answer : (g : GraphParts) (asking : Asking) (input given a b c : Option (List ℕ)) (lines : List (ℕ × List ℕ)) (line : ℕ × List ℕ) (faulty one : Bool) (text kept answer new : List ℕ) (place count f d h : ℕ) (e : ToolFault)
+    → AreSome input lines → AreSome input (lines ++ line ∷ []) → AnswersLines g asking lines faulty text → AnswersLine g asking line one answer → GainedButFor a b text kept → new ≡ kept ++ answer → place ≡ length kept → count ≡ length text → d ≡ f
+    → ((e ≡ OutOfMemory) × (h ≡ d) × Appends b c (take place new)) ⊎ ((m : ℕ) × (e ≡ Write (count - place + m)) × FailsAfter m new b c d h)
     → AnswersSome g asking input given a c f h e
-cut_answer g asking input given a b c lines line faulty one text kept answer count f d h e before after all this gained counted same (inl refused) =
-    refused_behind g asking input given a c lines faulty text f h e before all (gained_all a b c text kept gained refused.2) (refused.1 ∙ same) refused.0
-cut_answer g asking input given a b c lines line faulty one text kept answer count f d h e before after all this gained counted same (inr cut) =
-    cut_behind g asking input given a b c (lines ++ line ∷ []) (faulty || one) text kept answer count f d h e after (lines_on g asking lines line faulty one text answer all this) gained counted same cut
+cut_answer g asking input given a b c lines line faulty one text kept answer new place count f d h e before after all this gained grown behind counted same (inl refused) =
+    let front : take place new ≡ kept = ap (λ n. take n new) behind ∙ ap (take (length kept)) grown ∙ take-append_seam kept answer in
+    refused_behind g asking input given a c lines faulty text f h e before all (gained_all a b c text kept gained (subst (Appends b c) front refused.2)) (refused.1 ∙ same) refused.0
+cut_answer g asking input given a b c lines line faulty one text kept answer new place count f d h e before after all this gained grown behind counted same (inr cut) =
+    let ended : count - place ≡ count + length answer - length new = omega (arith, behind, ap length grown, length-append kept answer) in
+    cut_kept g asking input given a b c (lines ++ line ∷ []) (faulty || one) (text ++ answer) new (count + length answer) f d h e after (lines_on g asking lines line faulty one text answer all this)
+    (gained_answer a b text kept answer new gained grown) (omega (arith, counted, length-append text answer)) same (cut.0, cut.1 ∙ ap (λ n. Write (n + cut.0)) ended, cut.2)
 
 -- answers are kept only where a line is held
 pub kept_or_held : {P : Type 0} (kept : List ℕ) (held : Bool) → (kept ≡ []) ⊎ (held ≡ true) → (held ≡ true → P) → (kept ≡ []) ⊎ P

@@ -1,8 +1,10 @@
 -- The strings that find triples, and the lines of the triples' numbers.
-use Rattle.std.proofs.Common.{◌≡◌, ℕ, List, [], ◌∷◌, ◌++◌, Option, None, Some, length, map, refl, sym, ap, ◌∙◌, append_assoc, arith, get_or}
+use Rattle.std.proofs.Common.{◌≡◌, ◌≤◌, ℕ, List, [], ◌∷◌, ◌++◌, Option, None, Some, length, map, refl, sym, ap, ◌∙◌, append_assoc, arith, get_or, take}
 use Rattle.std.specs.Prelude.{IsSomeAnd, MatchOption, option_map, vec_len}
 use Rattle.std.specs.declared.alloc.Global.{Global}
 use Rattle.std.specs.declared.vec.Vec.{Vec}
+use Rattle.std.proofs.lemmas.List.{length-take, take-append-le}
+use Rattle.hdt_wire.specs.Control.{Keeps}
 use Rattle.hdt_dict.specs.Strings.{Lent}
 use Rattle.hdt_triples.specs.Counting.{Triple}
 use Rattle.hdt_command.specs.TriplesText.{Given, AreLent, numbers_line, numbers_lines}
@@ -34,3 +36,9 @@ pub one_line : (text new all : List ℕ) (t : Triple) (left rest : List Triple) 
 one_line text new all t left rest first is h =
     ap (λ (x : List ℕ). x ++ numbers_lines rest) is ∙ append_assoc text (numbers_line t) (numbers_lines rest)
     ∙ sym (ap (λ (ts : List Triple). text ++ numbers_lines ts) first) ∙ h
+
+-- what began with a text still does with a line behind it
+pub keeps_on : (old mid new line : List ℕ) → Keeps old mid → new ≡ mid ++ line → Keeps old new
+keeps_on old mid new line keeps grown =
+    let within : length old ≤ length mid = omega (arith, ap length keeps, length-take (length old) mid) in
+    ap (take (length old)) grown ∙ take-append-le (length old) mid line within ∙ keeps

@@ -69,6 +69,12 @@ PrintsTriples Lines g found text = IsTextOf (denoted g found) text
 PrintsTriples Numbers g found text = text ≡ numbers_lines found
 PrintsTriples Count g found text = text ≡ how_many_line found
 
+-- the text has grown by what triples print as
+pub record AppendsTriples (form : Form) (g : GraphParts) (found : List Triple) (old new : List ℕ) : Type 0 where
+  pub text : List ℕ
+  pub prints : PrintsTriples form g found text
+  pub grown : new ≡ old ++ text
+
 -- why triples do not print
 abbrev pub TellsTriples : Form → GraphParts → List Triple → DumpFault → Type 0
 TellsTriples form g found (dumping.NotATerm role n) = (form ≡ Lines) × IsFirstIn g found role n

@@ -1,5 +1,5 @@
 //! Requests that are answered one by one over a graph.
-ghost use Rattle.std.specs.Prelude.{◌≡◌, ◌≢◌, ◌+◌, ◌-◌, ◌<◌, ◌≤◌, ◌⊎◌, ◌∷◌, [], ◌++◌, ◌||◌, ℕ, List, Option, None, Some, Ok, true, false, length, option_map, if◌then◌else◌, IfOk, IfErr, OnOk, IsErrOf};
+ghost use Rattle.std.specs.Prelude.{◌≡◌, ◌≢◌, ◌+◌, ◌-◌, ◌<◌, ◌≤◌, ◌⊎◌, ◌∷◌, [], ◌++◌, ◌||◌, ℕ, List, Option, None, Some, Ok, true, false, length, option_map, if◌then◌else◌, IfOk, IfErr, OnOk, OnErr, IsErrOf, take};
 ghost use Rattle.hdt_wire.specs.Counted.{inner, failures};
 ghost use Rattle.hdt_terms.specs.Documents.{AreLines, FaultBehind};
 ghost use Rattle.hdt_terms.specs.Taking.{HoldsLine, left, line_number};
@@ -14,7 +14,7 @@ ghost use Rattle.hdt_command.specs.TriplesText.{FindsStrings};
 
 use crate::fault::{ToolFault, line_fault};
 use crate::lines::role_name;
-use crate::printed_triples::graph_triples_text;
+use crate::printed_triples::append_graph_triples;
 use crate::request::Asking;
 use hdt_dict::Role;
 use hdt_file::{DumpFault, Graph, Speller};
@@ -23,7 +23,7 @@ use hdt_terms::{
     LineFault, LineReason, Lines, TermFault, read_raw_request, read_request, run_of_texts,
 };
 use hdt_triples::Pattern;
-use hdt_wire::Counted;
+use hdt_wire::{Counted, cut_on_error};
 use std::alloc::{AllocError, Global};
 use std::io::{Read, Write};
 
@@ -88,29 +88,45 @@ fn no_term_answer(alloc: Global, role: Role, number: u64) -> Result<Vec<u8>, All
     Ok(text.into_bytes())
 }
 
-/// The answer of a pattern, or of nothing, and whether it tells a string that is no term.
+/// Appends the answer of a pattern, or of nothing: whether it tells a string that is no term. At an error `out` is as it was.
 fn found_answer(
     alloc: Global,
     graph: &Graph<'_>,
     asking: Asking,
     pattern: Option<Pattern>,
     speller: &mut Speller,
-) -> Result<(bool, Vec<u8>), AllocError>
+    out: &mut Vec<u8>,
+) -> Result<bool, AllocError>
     requires { KeepsTerms (graph_seen graph.now) speller.old }
     ensures kept { KeepsTerms (graph_seen graph.now) speller.new }
-    ensures ok { IfOk result (λ x. AnswersFound asking.form (graph_seen graph.now) (limited asking.most (chosen (graph_seen graph.now) pattern)) x.0 x.1.items) }
+    ensures ok { IfOk result (λ fault. (answer : List ℕ) × AnswersFound asking.form (graph_seen graph.now) (limited asking.most (chosen (graph_seen graph.now) pattern)) fault answer
+        × (out.new.items ≡ out.old.items ++ answer)) }
+    ensures left { OnErr result (out.new.items ≡ out.old.items) }
 {
-    match graph_triples_text(alloc, graph, pattern, asking.form, asking.most, speller) {
-        Ok(mut text) => {
-            text.push(b'\n')?;
-            Ok((false, text))
+    let start = out.len();
+    match append_graph_triples(
+        alloc,
+        graph,
+        pattern,
+        asking.form,
+        asking.most,
+        speller,
+        out,
+    ) {
+        Ok(()) => {
+            let ended = out.push(b'\n');
+            cut_on_error(ended, start, out)?;
+            Ok(false)
         }
-        Err(DumpFault::NotATerm(role, number)) => Ok((true, no_term_answer(alloc, role, number)?)),
+        Err(DumpFault::NotATerm(role, number)) => {
+            out.extend_from_slice(&no_term_answer(alloc, role, number)?)?;
+            Ok(true)
+        }
         Err(_) => Err(AllocError),
     }
 }
 
-/// The answer of a line, which has this number, and whether it is a fault.
+/// Appends the answer of a line, which has this number: whether it is a fault. At an error `out` is as it was.
 fn line_answer(
     alloc: Global,
     graph: &Graph<'_>,
@@ -121,20 +137,25 @@ fn line_answer(
     predicate: &mut Vec<u8>,
     object: &mut Vec<u8>,
     speller: &mut Speller,
-) -> Result<(bool, Vec<u8>), AllocError>
+    out: &mut Vec<u8>,
+) -> Result<bool, AllocError>
     requires { KeepsTerms (graph_seen graph.now) speller.old }
     ensures kept { KeepsTerms (graph_seen graph.now) speller.new }
-    ensures ok { IfOk result (λ x. AnswersLine (graph_seen graph.now) asking (line, text.now) x.0 x.1.items) }
+    ensures ok { IfOk result (λ fault. (answer : List ℕ) × AnswersLine (graph_seen graph.now) asking (line, text.now) fault answer × (out.new.items ≡ out.old.items ++ answer)) }
+    ensures left { OnErr result (out.new.items ≡ out.old.items) }
 {
     match read_line(asking.raw, text, subject, predicate, object) {
-        Ok(None) => Ok((false, Vec::new(alloc))),
+        Ok(None) => Ok(false),
         Ok(Some(given)) => {
             let pattern = asked_pattern(graph, given, subject, predicate, object);
-            found_answer(alloc, graph, asking, pattern, speller)
+            found_answer(alloc, graph, asking, pattern, speller, out)
         }
         Err(fault) => match fault.reason {
             LineReason::OutOfMemory => Err(AllocError),
-            _ => Ok((true, fault_answer(alloc, line, fault)?)),
+            _ => {
+                out.extend_from_slice(&fault_answer(alloc, line, fault)?)?;
+                Ok(true)
+            }
         },
     }
 }
@@ -176,20 +197,6 @@ fn either(one: bool, other: bool) -> bool
 /// How many bytes of answers are kept at most before they are written.
 const PIECE: usize = 65_536;
 
-/// Keeps an answer behind others, where more are to come and there is room: whether it is kept.
-fn keep(answer: &[u8], more: bool, kept: &mut Vec<u8>) -> bool
-    ensures yes { result ≡ true → (more ≡ true) × (kept.new.items ≡ kept.old.items ++ answer.now) }
-    ensures no { result ≡ false → kept.new.items ≡ kept.old.items }
-{
-    if !more || answer.len() > PIECE || kept.len() > PIECE - answer.len() {
-        return false;
-    }
-    match kept.extend_from_slice(answer) {
-        Ok(()) => true,
-        Err(AllocError) => false,
-    }
-}
-
 /// Writes the answers that are kept, the last of so many bytes: then none is.
 fn write_kept<W: Write>(
     kept: &mut Vec<u8>,
@@ -212,43 +219,42 @@ fn write_kept<W: Write>(
     }
 }
 
-/// Keeps an answer behind others, or writes it with these where no more are to come or there is no room: how many bytes the answers
-/// have with it. So many that no number counts them end as want of memory.
-fn put_answer<W: Write>(
-    answer: &[u8],
+/// Counts the answer that stands behind a place, the last of those that are kept, and writes all of them where no more are to come or
+/// they are many: how many bytes the answers have with it. So many that no number counts them end as want of memory, without the last.
+fn settle<W: Write>(
+    start: usize,
     more: bool,
     kept: &mut Vec<u8>,
     count: u64,
     out: &mut Counted<W>,
 ) -> Result<u64, ToolFault>
-    requires { length kept.old.items ≤ count }
-    ensures count { IfOk result (λ n. n ≡ count + length answer.now) }
-    ensures ok { OnOk result ((part : List ℕ) × (kept.old.items ++ answer.now ≡ part ++ kept.new.items)
-        × Appends (W.contents (inner out.old)) (W.contents (inner out.new)) part) }
+    requires within { start ≤ length kept.old.items }
+    requires counted { start ≤ count }
+    ensures count { IfOk result (λ n. n ≡ count + (length kept.old.items - start)) }
+    ensures ok { OnOk result ((part : List ℕ) × (kept.old.items ≡ part ++ kept.new.items) × Appends (W.contents (inner out.old)) (W.contents (inner out.new)) part) }
     ensures none { OnOk result ((kept.new.items ≡ []) ⊎ (more ≡ true)) }
     ensures well { OnOk result (failures out.new ≡ failures out.old) }
-    ensures err { IfErr result (λ e. ((e ≡ ToolFault.OutOfMemory) × (failures out.new ≡ failures out.old) × Appends (W.contents (inner out.old)) (W.contents (inner out.new)) kept.old.items)
-        ⊎ ((m : ℕ) × (e ≡ ToolFault.Write (count - length kept.old.items + m))
-        × FailsAfter m (kept.old.items ++ answer.now) (W.contents (inner out.old)) (W.contents (inner out.new)) (failures out.old) (failures out.new))) }
+    ensures err { IfErr result (λ e. ((e ≡ ToolFault.OutOfMemory) × (failures out.new ≡ failures out.old) × Appends (W.contents (inner out.old)) (W.contents (inner out.new)) (take start kept.old.items))
+        ⊎ ((m : ℕ) × (e ≡ ToolFault.Write (count - start + m))
+        × FailsAfter m kept.old.items (W.contents (inner out.old)) (W.contents (inner out.new)) (failures out.old) (failures out.new))) }
 {
-    let Some(end) = count.checked_add(answer.len() as u64) else {
+    let Some(end) = count.checked_add((kept.len() - start) as u64) else {
+        kept.truncate(start);
         write_kept(kept, count, out)?;
         return Err(ToolFault::OutOfMemory);
     };
-    if keep(answer, more, kept) {
+    if more && kept.len() <= PIECE {
         return Ok(end);
     }
-    write_kept(kept, count, out)?;
-    match out.write_all(answer) {
-        Ok(()) => Ok(end),
-        Err(written) => Err(ToolFault::Write(count + written)),
-    }
+    write_kept(kept, end, out)?;
+    Ok(end)
 }
 
 /// Answers the requests of a reader, line by line up to its end. An answer is written before more is read: at once, or with those of
-/// other requests that are held already, up to 64 KiB of them. It tells whether one of the answers is a fault. Memory is that of the
-/// longest request and of the longest answer, which is made whole as [`graph_text_with`](hdt_file::graph_text_with) makes it, of what
-/// a [`Speller`] keeps, and of these 64 KiB; the time of a request is that of its search and its text.
+/// other requests that are held already, up to 64 KiB of them, behind which it is made. It tells whether one of the answers is a fault.
+/// Memory is that of the longest request and of the longest answer, which is made whole as
+/// [`append_graph_text`](hdt_file::append_graph_text) makes it, of what a [`Speller`] keeps, and of these 64 KiB; the time of a request
+/// is that of its search and its text.
 ///
 /// # Errors
 ///
@@ -295,6 +301,7 @@ pub fn answer_requests<R: Read, W: Write>(
             }
         }
         let line = lines.line_number();
+        let start = kept.len();
         match line_answer(
             alloc,
             graph,
@@ -305,9 +312,10 @@ pub fn answer_requests<R: Read, W: Write>(
             &mut predicate,
             &mut object,
             &mut speller,
+            &mut kept,
         ) {
-            Ok((is_fault, answer)) => {
-                count = put_answer(&answer, lines.holds_line(), &mut kept, count, out)?;
+            Ok(is_fault) => {
+                count = settle(start, lines.holds_line(), &mut kept, count, out)?;
                 faulty = either(faulty, is_fault);
             }
             Err(AllocError) => {

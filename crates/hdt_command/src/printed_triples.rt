@@ -1,25 +1,27 @@
 //! What `find` and `dump` print.
-ghost use Rattle.std.specs.Prelude.{◌≡◌, ◌<◌, ◌^◌, ◌++◌, ◌∷◌, [], OnOk, IfOk, IfErr, length};
+ghost use Rattle.std.specs.Prelude.{◌≡◌, ◌<◌, ◌^◌, ◌++◌, ◌∷◌, [], OnOk, OnErr, IfOk, IfErr, length};
+ghost use Rattle.hdt_wire.specs.Control.{Keeps};
 ghost use Rattle.hdt_file.specs.TextWriting.{chosen, limited};
 ghost use Rattle.hdt_file.specs.Kept.{KeepsTerms};
 ghost use Rattle.hdt_file.specs.LayoutView.{layout_seen};
 ghost use Rattle.hdt_file.specs.Views.{graph_seen};
 ghost use Rattle.hdt_triples.specs.Left.{left_of};
-ghost use Rattle.hdt_command.specs.TriplesText.{Finds, PrintsFound, TellsFound, PrintsTriples, TellsTriples, numbers_line, numbers_lines};
+ghost use Rattle.hdt_command.specs.TriplesText.{AppendsTriples, Finds, PrintsFound, TellsFound, PrintsTriples, TellsTriples, numbers_line, numbers_lines};
 
 use crate::fault::ToolFault;
 use crate::printed_strings::number_line;
 use crate::request::Form;
-use hdt_file::{DumpFault, Graph, Layout, Speller, graph_text_with, layout_text_up_to};
+use hdt_file::{DumpFault, Graph, Layout, Speller, append_graph_text, layout_text_up_to};
 use hdt_seq::Steps;
 use hdt_triples::{Matches, Pattern};
-use hdt_wire::put_decimal;
+use hdt_wire::{cut_on_error, put_decimal};
 use std::alloc::{AllocError, Global};
 
-/// Appends the line of a triple's numbers.
+/// Appends the line of a triple's numbers; an `Err` may leave a beginning of it behind.
 #[tactic(auto, using(std::proofs::Common::append_assoc))]
 fn put_numbers(triple: (u64, u64, u64), out: &mut Vec<u8>) -> Result<(), AllocError>
-    ensures { OnOk result (out.new.items ≡ out.old.items ++ numbers_line triple) }
+    ensures ok { OnOk result (out.new.items ≡ out.old.items ++ numbers_line triple) }
+    ensures err { OnErr result (Keeps out.old.items out.new.items) }
 {
     let (subject, predicate, object) = triple;
     put_decimal(subject, out)?;
@@ -30,26 +32,26 @@ fn put_numbers(triple: (u64, u64, u64), out: &mut Vec<u8>) -> Result<(), AllocEr
     Ok(out.push(b'\n')?)
 }
 
-/// The lines of the numbers of matches, or of at most so many of the first.
-fn matches_numbers(
-    alloc: Global,
+/// Appends the lines of the numbers of matches, or of at most so many of the first; an `Err` may leave a beginning of them behind.
+fn append_numbers(
     found: Matches<'_>,
     most: Option<u64>,
-) -> Result<Vec<u8>, AllocError>
+    out: &mut Vec<u8>,
+) -> Result<(), AllocError>
     requires fits { length (left_of found) < 2 ^ 64 }
-    ensures { IfOk result (λ text. text.items ≡ numbers_lines (limited most (left_of found.entry))) }
+    ensures ok { OnOk result (out.new.items ≡ out.old.items ++ numbers_lines (limited most (left_of found.entry))) }
+    ensures err { OnErr result (Keeps out.old.items out.new.items) }
 {
     let mut matches = found;
     let mut room = most.unwrap_or(u64::MAX);
-    let mut text = Vec::new(alloc);
     'triples: while room > 0 {
         let Some(triple) = matches.next() else {
-            return Ok(text);
+            return Ok(());
         };
-        put_numbers(triple, &mut text)?;
+        put_numbers(triple, out)?;
         room -= 1;
     }
-    Ok(text)
+    Ok(())
 }
 
 /// The lines of the numbers of the matches of a pattern, or of nothing.
@@ -61,10 +63,11 @@ fn numbers_text(
 ) -> Result<Vec<u8>, AllocError>
     ensures { IfOk result (λ text. text.items ≡ numbers_lines (limited most (chosen (layout_seen layout.now) pattern))) }
 {
-    match pattern {
-        Some(pattern) => matches_numbers(alloc, layout.search(pattern), most),
-        None => Ok(Vec::new(alloc)),
+    let mut text = Vec::new(alloc);
+    if let Some(pattern) = pattern {
+        append_numbers(layout.search(pattern), most, &mut text)?;
     }
+    Ok(text)
 }
 
 /// How many matches a pattern has, or nothing, but at most so many.
@@ -133,40 +136,48 @@ fn graph_count(graph: &Graph<'_>, pattern: Option<Pattern>, most: Option<u64>) -
     found.min(most.unwrap_or(u64::MAX))
 }
 
-/// The lines of the numbers of the matches of a pattern in a graph, or of nothing.
-fn graph_numbers_text(
-    alloc: Global,
+/// Appends the lines of the numbers of the matches of a pattern in a graph, or of nothing; at an error `out` is as it was.
+fn append_graph_numbers(
     graph: &Graph<'_>,
     pattern: Option<Pattern>,
     most: Option<u64>,
-) -> Result<Vec<u8>, AllocError>
-    ensures { IfOk result (λ text. text.items ≡ numbers_lines (limited most (chosen (graph_seen graph.now) pattern))) }
+    out: &mut Vec<u8>,
+) -> Result<(), AllocError>
+    ensures ok { OnOk result (out.new.items ≡ out.old.items ++ numbers_lines (limited most (chosen (graph_seen graph.now) pattern))) }
+    ensures left { OnErr result (out.new.items ≡ out.old.items) }
 {
-    match pattern {
-        Some(pattern) => matches_numbers(alloc, graph.search(pattern), most),
-        None => Ok(Vec::new(alloc)),
-    }
+    let Some(pattern) = pattern else {
+        return Ok(());
+    };
+    let start = out.len();
+    let appended = append_numbers(graph.search(pattern), most, out);
+    cut_on_error(appended, start, out)
 }
 
-/// The text of the matches of a pattern in a graph, or of nothing, or of at most so many of the first: in N-Triples, their
-/// numbers, or how many they are. The directories and lists of the graph bound the search; the speller keeps terms of this
-/// graph for the texts behind this one.
-pub fn graph_triples_text(
+/// Appends the text of the matches of a pattern in a graph, or of nothing, or of at most so many of the first: in N-Triples,
+/// their numbers, or how many they are. The directories and lists of the graph bound the search; the speller keeps terms of
+/// this graph for the texts behind this one. At an error `out` is as it was.
+pub fn append_graph_triples(
     alloc: Global,
     graph: &Graph<'_>,
     pattern: Option<Pattern>,
     form: Form,
     most: Option<u64>,
     speller: &mut Speller,
-) -> Result<Vec<u8>, DumpFault>
+    out: &mut Vec<u8>,
+) -> Result<(), DumpFault>
     requires { KeepsTerms (graph_seen graph.now) speller.old }
     ensures kept { KeepsTerms (graph_seen graph.now) speller.new }
-    ensures ok { IfOk result (λ text. PrintsTriples form (graph_seen graph.now) (limited most (chosen (graph_seen graph.now) pattern)) text.items) }
+    ensures ok { OnOk result (AppendsTriples form (graph_seen graph.now) (limited most (chosen (graph_seen graph.now) pattern)) out.old.items out.new.items) }
     ensures err { IfErr result (TellsTriples form (graph_seen graph.now) (limited most (chosen (graph_seen graph.now) pattern))) }
+    ensures left { OnErr result (out.new.items ≡ out.old.items) }
 {
     match form {
-        Form::Lines => graph_text_with(alloc, graph, pattern, most, speller),
-        Form::Numbers => Ok(graph_numbers_text(alloc, graph, pattern, most)?),
-        Form::Count => Ok(number_line(alloc, graph_count(graph, pattern, most))?),
+        Form::Lines => append_graph_text(alloc, graph, pattern, most, speller, out),
+        Form::Numbers => Ok(append_graph_numbers(graph, pattern, most, out)?),
+        Form::Count => {
+            let line = number_line(alloc, graph_count(graph, pattern, most))?;
+            Ok(out.extend_from_slice(&line)?)
+        }
     }
 }
