@@ -142,3 +142,30 @@ numbered_within xs x (suc i) e = omega (arith, slice_get_within xs i x e)
 -- a number is at most the length
 pub place_within : (xs : List (List ℕ)) (x : List ℕ) (n : ℕ) → place xs x ≡ Some n → n ≤ length xs
 place_within xs x n e = numbered_within xs x n (string_of_number xs x n e)
+
+there : (xs : List (List ℕ)) (x : List ℕ) (n : ℕ) → numbered xs n ≡ Some x → Contains xs x
+there xs x zero e = absurd (cc)
+there xs x (suc i) e = has-Contains xs x (member xs x i e)
+
+-- a string of the one list has no number in another that has none of its strings
+pub place_apart : (xs ys : List (List ℕ)) (x : List ℕ) (n : ℕ) → AreApart xs ys → place ys x ≡ Some n → place xs x ≡ None
+place_apart xs ys x n apart is = by (place xs x) refl
+  where
+    by : (r : Option ℕ) → place xs x ≡ r → place xs x ≡ None
+    by None e = e
+    by (Some m) e = absurd (apart x (there xs x m (string_of_number xs x m e)) (there ys x n (string_of_number ys x n is)))
+
+-- where the second list is searched first: the number in it, moved on, is that in both, and without one it is that in the first
+pub found_behind : (xs ys : List (List ℕ)) (x : List ℕ) (n : ℕ) → AreApart xs ys → option_map (λ m. length xs + m) (place ys x) ≡ Some n → place (xs ++ ys) x ≡ Some n
+found_behind xs ys x n apart is = place-append xs ys x ∙ by (place ys x) refl is
+  where
+    by : (r : Option ℕ) → place ys x ≡ r → option_map (λ m. length xs + m) r ≡ Some n → in_two (place xs x) (length xs) (place ys x) ≡ Some n
+    by None e h = absurd (cc)
+    by (Some m) e h = ap (λ p. in_two p (length xs) (place ys x)) (place_apart xs ys x m apart e) ∙ ap (λ r. in_two None (length xs) r) e ∙ h
+
+none_behind : (p : Option ℕ) (k : ℕ) (r : Option ℕ) → option_map (λ m. k + m) r ≡ None → in_two p k r ≡ p
+none_behind (Some n) k r h = refl
+none_behind None k r h = h
+
+pub missed_behind : (xs ys : List (List ℕ)) (x : List ℕ) → option_map (λ m. length xs + m) (place ys x) ≡ None → place (xs ++ ys) x ≡ place xs x
+missed_behind xs ys x h = place-append xs ys x ∙ none_behind (place xs x) (length xs) (place ys x) h

@@ -1,9 +1,6 @@
 -- Lists of strings as lists of byte lists, and their order.
 use Rattle.std.specs.Prelude.{◌≡◌, ℕ, ◌<◌, Bool, List, [], slice_index_or, ◌↔◌}
-use Rattle.std.specs.declared.cmp.Ordering.{Ordering}
 use Rattle.std.specs.declared.cmp.Ordering.TheVariants.{Less}
-use Rattle.std.specs.Ordering.{nat_cmp}
-use Rattle.std.specs.Cmp.Lexicographic.{slice_cmp}
 use Rattle.std.specs.List.{Contains, list_any}
 use Rattle.hdt_front.specs.Order.{string_cmp}
 use Rattle.std.specs.Str.{bytes_eq}

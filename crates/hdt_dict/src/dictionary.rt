@@ -152,6 +152,7 @@ impl<'a> Dictionary<'a> {
         ensures cost { steps.new ≤ steps.old + role_looks (dictionary_of self.now) role }
         ensures more { steps.old ≤ steps.new }
     {
+        self.are_sections();
         match role {
             Role::Subject => number_in_two(&self.shared, &self.subjects, x, steps),
             Role::Predicate => self.predicates.place_of(x, steps),

@@ -1,8 +1,9 @@
 //! The strings of two sections, one after the other.
-ghost use Rattle.std.specs.Prelude.{◌≡◌, ◌<◌, ◌≤◌, ◌+◌, ◌^◌, ◌++◌, length, max, None, IsOk, OnErr, IfOk};
+ghost use Rattle.std.specs.Prelude.{◌≡◌, ◌<◌, ◌≤◌, ◌+◌, ◌^◌, ◌++◌, length, max, None, IsOk, OnErr, IfOk, option_map};
 ghost use Rattle.hdt_front.specs.Looks.{section_looks};
 ghost use Rattle.hdt_front.specs.Strings.{strings_of, section_of, block_size};
 ghost use Rattle.hdt_front.specs.Numbering.{place};
+ghost use Rattle.hdt_dict.specs.Dictionary.{AreApart};
 ghost use Rattle.hdt_dict.specs.Numbered.{numbered, AppendsString};
 ghost use Rattle.hdt_dict.specs.Views.{string_block, string_block_of_two, string_bytes, string_bytes_of_two};
 
@@ -10,24 +11,47 @@ use hdt_front::Section;
 use hdt_seq::Steps;
 use std::alloc::AllocError;
 
-/// The number of a string in two sections, one after the other.
-pub(crate) fn number_in_two(
+/// The number that a string of the second of two sections has in both, one after the other.
+fn number_in_second(
     first: &Section<'_>,
     second: &Section<'_>,
     x: &[u8],
     steps: &mut Steps,
 ) -> Option<u64>
     requires { length (strings_of first.now) + length (strings_of second.now) < 2 ^ 64 }
+    ensures place { result ≡ option_map (λ n. length (strings_of first.now) + n) (place (strings_of second.now) x.now) }
+    ensures cost { steps.new ≤ steps.old + section_looks (section_of second.now) }
+    ensures more { steps.old ≤ steps.new }
+{
+    match second.place_of(x, steps) {
+        Some(n) => Some(first.len() + n),
+        None => None,
+    }
+}
+
+/// The number of a string in two sections, one after the other, that have no string in common. The longer one is searched first: there
+/// most strings are.
+pub(crate) fn number_in_two(
+    first: &Section<'_>,
+    second: &Section<'_>,
+    x: &[u8],
+    steps: &mut Steps,
+) -> Option<u64>
+    requires few { length (strings_of first.now) + length (strings_of second.now) < 2 ^ 64 }
+    requires apart { AreApart (strings_of first.now) (strings_of second.now) }
     ensures place { result ≡ place (strings_of first.now ++ strings_of second.now) x.now }
     ensures cost { steps.new ≤ steps.old + (section_looks (section_of first.now) + section_looks (section_of second.now)) }
     ensures more { steps.old ≤ steps.new }
 {
+    if first.len() < second.len() {
+        return match number_in_second(first, second, x, steps) {
+            Some(n) => Some(n),
+            None => first.place_of(x, steps),
+        };
+    }
     match first.place_of(x, steps) {
         Some(n) => Some(n),
-        None => match second.place_of(x, steps) {
-            Some(n) => Some(first.len() + n),
-            None => None,
-        },
+        None => number_in_second(first, second, x, steps),
     }
 }
 

@@ -96,6 +96,7 @@ impl<'a> Section<'a> {
 
     /// How many packed bytes the block of string n has, counted from 1: unfolding the string reads so many at most. The
     /// caller shows that there is such a string. It takes two looks, and no memory.
+    #[inline(always)]
     #[tactic(auto, unfolding(crate::specs::Strings::block_bytes))]
     pub fn block_len(&self, n: u64) -> u64
         requires from_one { 1 ≤ n }
@@ -109,6 +110,7 @@ impl<'a> Section<'a> {
 
     /// The packed bytes of the block of string n, counted from 1, lent from the input: unfolding the string reads no others. The
     /// caller shows that there is such a string. It takes three looks, and no memory; the bytes themselves are not looked at.
+    #[inline(always)]
     #[tactic(auto, using(std::proofs::lemmas::List::take_min), unfolding(crate::specs::Strings::packed_block))]
     pub fn block(&self, n: u64) -> &'a [u8]
         requires from_one { 1 ≤ n }

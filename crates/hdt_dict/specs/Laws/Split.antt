@@ -1,11 +1,10 @@
 -- The sections of strings that are UTF-8 without a zero byte are what a dictionary can hold.
-use Rattle.std.proofs.Common.{ℕ, ◌+◌, List, [], arith}
+use Rattle.std.proofs.Common.{ℕ, List, []}
 use Rattle.std.specs.List.{All}
 use Rattle.std.proofs.lemmas.List.Elements.{All-contains}
-use Rattle.std.proofs.lemmas.Map.Keys.{Less-from_sorted}
 use Rattle.hdt_front.specs.Section.{AreStrings}
 use Rattle.hdt_dict.specs.Laws.Members.{All-from_members}
-use Rattle.hdt_front.specs.Order.{IsAscending, string_cmp}
+use Rattle.hdt_front.specs.Order.{IsAscending}
 use Rattle.hdt_dict.specs.Split.{IsSplit}
 use Rattle.hdt_dict.specs.Texts.{IsDictionaryString}
 use Rattle.hdt_dict.specs.Writing.{AreSections}
