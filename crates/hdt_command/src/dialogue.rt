@@ -197,6 +197,9 @@ fn either(one: bool, other: bool) -> bool
 /// How many bytes of answers are kept at most before they are written.
 const PIECE: usize = 65_536;
 
+/// How many bytes what is kept has room for at most from answer to answer: what a long one took is given back.
+const ROOM: usize = 262_144;
+
 /// Writes the answers that are kept, the last of so many bytes: then none is.
 fn write_kept<W: Write>(
     kept: &mut Vec<u8>,
@@ -213,6 +216,9 @@ fn write_kept<W: Write>(
     match out.write_all(kept) {
         Ok(()) => {
             kept.clear();
+            if kept.capacity() > ROOM {
+                *kept = Vec::new(*kept.allocator());
+            }
             Ok(())
         }
         Err(written) => Err(ToolFault::Write(count - kept.len() as u64 + written)),
