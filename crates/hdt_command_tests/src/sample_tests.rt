@@ -44,7 +44,7 @@ impl<'a> Read for Source<'a> {
 }
 
 /// A source that gives so many bytes a call, and then ends.
-pub fn source_of(bytes: &[u8], step: usize) -> Source<'_> {
+pub(crate) fn source_of(bytes: &[u8], step: usize) -> Source<'_> {
     Source {
         bytes,
         step,
@@ -55,7 +55,7 @@ pub fn source_of(bytes: &[u8], step: usize) -> Source<'_> {
 }
 
 /// A source that gives the first bytes, so many of them, and then fails.
-pub fn failing(bytes: &[u8], len: usize, step: usize) -> Source<'_> {
+pub(crate) fn failing(bytes: &[u8], len: usize, step: usize) -> Source<'_> {
     Source {
         bytes: bytes.get(..len).unwrap_or(bytes),
         step,
@@ -75,7 +75,7 @@ pub struct Sink {
 }
 
 impl Sink {
-    pub fn new(step: usize, calls: usize) -> Sink {
+    pub(crate) fn new(step: usize, calls: usize) -> Sink {
         Sink {
             taken: [0; 512],
             len: 0,
@@ -84,7 +84,7 @@ impl Sink {
         }
     }
 
-    pub fn text(&self) -> &[u8] {
+    pub(crate) fn text(&self) -> &[u8] {
         self.taken.get(..self.len).unwrap_or(&[])
     }
 }

@@ -49,7 +49,7 @@ fn input_of(bytes: &[u8], first: usize, step: usize, fails: usize) -> Counted<Pi
 }
 
 /// A text and the byte behind it.
-pub fn tell_part(out: &mut Vec<u8>, text: &[u8], end: u8) -> Result<(), AllocError> {
+pub(crate) fn tell_part(out: &mut Vec<u8>, text: &[u8], end: u8) -> Result<(), AllocError> {
     out.extend_from_slice(text)?;
     out.push(end)?;
     Ok(())
@@ -238,7 +238,7 @@ fn terms_tell(
 }
 
 /// Whether both calls tell this of the bytes, in pieces of these sizes.
-pub fn tells(
+pub(crate) fn tells(
     alloc: Global,
     limit: u64,
     bytes: &[u8],
@@ -652,7 +652,7 @@ fn is_syntax(alloc: Global, bytes: &[u8], line: u64, column: u64) -> Result<bool
 }
 
 /// A byte so many times between two texts.
-pub fn repeated(
+pub(crate) fn repeated(
     alloc: Global,
     front: &[u8],
     byte: u8,
