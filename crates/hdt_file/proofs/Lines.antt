@@ -16,9 +16,9 @@ use Rattle.hdt_triples.specs.Counting.{Triple}
 use Rattle.hdt_file.specs.File.{GraphParts}
 use Rattle.hdt_triples.specs.Uses.{part}
 use Rattle.hdt_file.specs.Denoted.{string_of, strings_for}
-use Rattle.hdt_file.specs.Inside.Pieces.{is_marked, IsLinePiece, AreLinePieces, ArePiecesFor, AreTables, GrowsByMarked, GrowsByPiece, HasPieces, piece_in}
+use Rattle.hdt_file.specs.Inside.Pieces.{is_marked, IsLinePiece, AreLinePieces, ArePiecesFor, AreTables, GrowsByMarked, HasPieces, piece_in}
 use Rattle.hdt_file.specs.Text.{HasTerm, HasNoTerm, IsBefore, IsFirstOf}
-use Rattle.hdt_file.specs.TextWriting.{AppendsTerm, AppendsPiece, AppendsLine, TellsString, TellsFirstOf, behind, line_piece}
+use Rattle.hdt_file.specs.TextWriting.{AppendsPiece, AppendsLine, TellsString, TellsFirstOf, behind}
 use Rattle.hdt_file.specs.declared.fault.DumpFault.{DumpFault}
 use Rattle.hdt_file.specs.declared.fault.DumpFault.TheVariants.{NotATerm, Write, OutOfMemory}
 use Rattle.hdt_file.specs.declared.tables.Tables.{Tables}
@@ -42,21 +42,6 @@ some_behind Object e = absurd (omega (arith, e))
 pub no_term : (role : Role) (string piece : List ℕ) → length piece ≡ 0 → IsLinePiece role string piece → HasNoTerm role string
 no_term role string piece e (inl h) = absurd (some_behind role (omega (arith, e, ap length h.2, length-append (written h.0) (behind role))))
 no_term role string piece e (inr h) = h.1
-
--- what is written of a term, and what follows it, is its piece
-pub term_grown : (role : Role) (string old with_term new : List ℕ) → AppendsTerm role string old with_term → new ≡ with_term ++ behind role → GrowsByPiece role string old new
-term_grown role string old with_term new h e = record {
-  piece = line_piece role h.term;
-  is = inl (h.term, h.is, refl);
-  grown = e ∙ ap (λ (x : List ℕ). x ++ behind role) h.grown ∙ append_assoc old (written h.term) (behind role);
-}
-
-pub none_grown : (role : Role) (string old new : List ℕ) → HasNoTerm role string → new ≡ old → GrowsByPiece role string old new
-none_grown role string old new h e = record {
-  piece = [];
-  is = inr (refl, h);
-  grown = e ∙ sym (append-nil old);
-}
 
 -- a piece of some bytes is that of a term
 pub piece_appended : (role : Role) (string piece old new : List ℕ) → (length piece ≡ 0 → ⊥) → IsLinePiece role string piece → new ≡ old ++ piece → AppendsPiece role string old new

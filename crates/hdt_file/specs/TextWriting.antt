@@ -25,12 +25,6 @@ abbrev pub limited : Option ℕ → List Triple → List Triple
 limited None ts = ts
 limited (Some most) ts = take most ts
 
--- the text has grown by the term that the string is in its role
-pub record AppendsTerm (role : Role) (string old new : List ℕ) : Type 0 where
-  pub term : Term
-  pub is : IsTermOf role string term
-  pub grown : new ≡ old ++ written term
-
 -- what follows the term of a role in a line: a space, and behind the object the end of the line
 abbrev pub behind : Role → List ℕ
 behind Subject = 32 ∷ []

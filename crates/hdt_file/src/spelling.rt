@@ -10,7 +10,7 @@ ghost use Rattle.hdt_file.specs.File.{GraphParts};
 ghost use Rattle.hdt_file.specs.Kept.{KeepsPredicate, KeepsTerm, KeepsTerms};
 ghost use Rattle.hdt_wire.specs.Control.{Keeps};
 ghost use Rattle.hdt_wire.specs.declared.role.Role.TheVariants.{Predicate, Object};
-ghost use Rattle.hdt_file.specs.TextWriting.{AppendsLine, AppendsPiece, AppendsTerm, TellsFirstOf, TellsString, behind};
+ghost use Rattle.hdt_file.specs.TextWriting.{AppendsLine, AppendsPiece, TellsFirstOf, TellsString, behind};
 ghost use Rattle.hdt_file.specs.LayoutView.{layout_seen};
 
 use crate::fault::DumpFault;
@@ -18,6 +18,7 @@ use crate::layout::Layout;
 use hdt_dict::Role;
 use hdt_seq::Steps;
 use hdt_terms::{Kind, StringFault, put_string};
+use hdt_wire::cut_on_error;
 use std::alloc::{AllocError, Global};
 
 /// Whether a term of this kind can have the role: an IRI or a blank node as subject, an IRI as predicate, any as object.
@@ -33,23 +34,8 @@ fn fits(role: Role, kind: Kind) -> bool
     }
 }
 
-/// Appends the term that the string is in the role, straight from its bytes. After an error `out` is as it was.
-pub fn put_role_term(role: Role, string: &[u8], out: &mut Vec<u8>) -> Result<(), StringFault>
-    ensures ok { OnOk result (AppendsTerm role string.now out.old.items out.new.items) }
-    ensures none { IsErrOf result StringFaultOf.NotATerm → HasNoTerm role string.now }
-    ensures err { OnErr result (out.new.items ≡ out.old.items) }
-{
-    let len = out.len();
-    let kind = put_string(string, out)?;
-    if !fits(role, kind) {
-        out.truncate(len);
-        return Err(StringFault::NotATerm);
-    }
-    Ok(())
-}
-
 /// Appends what follows the term of a role in a line.
-pub fn append_behind(role: Role, out: &mut Vec<u8>) -> Result<(), AllocError>
+fn append_behind(role: Role, out: &mut Vec<u8>) -> Result<(), AllocError>
     ensures ok { OnOk result (out.new.items ≡ out.old.items ++ behind role) }
     ensures err { OnErr result (out.new.items ≡ out.old.items) }
 {
@@ -59,8 +45,24 @@ pub fn append_behind(role: Role, out: &mut Vec<u8>) -> Result<(), AllocError>
     }
 }
 
-/// Appends the term that string n of a role is, and what follows it in a line. `string` is a buffer for the string. An `Err`
-/// may leave the term behind.
+/// Appends the piece of a line that the string is in the role, its term and what follows it, straight from its bytes. After an
+/// error `out` is as it was.
+pub fn put_role_piece(role: Role, string: &[u8], out: &mut Vec<u8>) -> Result<(), StringFault>
+    ensures ok { OnOk result (AppendsPiece role string.now out.old.items out.new.items) }
+    ensures none { IsErrOf result StringFaultOf.NotATerm → HasNoTerm role string.now }
+    ensures err { OnErr result (out.new.items ≡ out.old.items) }
+{
+    let len = out.len();
+    let kind = put_string(string, out)?;
+    if !fits(role, kind) {
+        out.truncate(len);
+        return Err(StringFault::NotATerm);
+    }
+    let appended = append_behind(role, out);
+    Ok(cut_on_error(appended, len, out)?)
+}
+
+/// Appends the piece of a line that string n of a role is. `string` is a buffer for the string. After an error `out` is as it was.
 fn append_spelled(
     layout: &Layout<'_>,
     role: Role,
@@ -70,12 +72,12 @@ fn append_spelled(
 ) -> Result<(), DumpFault>
     ensures ok { OnOk result (AppendsPiece role (string_of (layout_seen layout.now) role n) out.old.items out.new.items) }
     ensures err { IfErr result (TellsString role n (string_of (layout_seen layout.now) role n)) }
-    ensures left { OnErr result (Keeps out.old.items out.new.items) }
+    ensures left { OnErr result (out.new.items ≡ out.old.items) }
 {
     string.clear();
     layout.string_of(role, n, string, &mut Steps::new())?;
-    match put_role_term(role, string, out) {
-        Ok(()) => Ok(append_behind(role, out)?),
+    match put_role_piece(role, string, out) {
+        Ok(()) => Ok(()),
         Err(StringFault::NotATerm) => Err(DumpFault::NotATerm(role, n)),
         Err(StringFault::OutOfMemory) => Err(DumpFault::OutOfMemory),
     }
@@ -238,7 +240,7 @@ impl Speller {
         Speller::with_places(alloc, 0)
     }
 
-    /// A speller for many answers of one graph, by [`graph_text_with`](crate::graph_text_with). From answer to answer it
+    /// A speller for many answers of one graph, by [`append_graph_text`](crate::append_graph_text). From answer to answer it
     /// keeps the longest string and the longest term of each role that it has met, and the terms of 256 predicates of at most
     /// 256 bytes each, the first ones that it met.
     pub fn keeping(alloc: Global) -> Result<Speller, AllocError>

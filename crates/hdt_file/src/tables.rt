@@ -10,7 +10,7 @@ ghost use Rattle.hdt_dict.specs.Dictionary.{strings_in};
 
 use crate::fault::DumpFault;
 use crate::layout::Layout;
-use crate::spelling::{append_behind, put_role_term};
+use crate::spelling::put_role_piece;
 use hdt_dict::{Arena, Role};
 use hdt_terms::StringFault;
 use std::alloc::{AllocError, Global};
@@ -28,8 +28,8 @@ pub struct Tables {
 fn put_piece(role: Role, string: &[u8], out: &mut Vec<u8>) -> Result<(), AllocError>
     ensures { OnOk result (GrowsByPiece role string.now out.old.items out.new.items) }
 {
-    match put_role_term(role, string, out) {
-        Ok(()) => append_behind(role, out),
+    match put_role_piece(role, string, out) {
+        Ok(()) => Ok(()),
         Err(StringFault::NotATerm) => Ok(()),
         Err(StringFault::OutOfMemory) => Err(AllocError),
     }

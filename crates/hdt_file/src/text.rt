@@ -107,10 +107,10 @@ const APART: usize = 64;
 /// itself; one that lies before them would wait for more than it needs.
 const FRONT: usize = 4_096;
 
-/// The sum of the bytes of a block that are looked at.
+/// The sum of the bytes of a block that are looked at: one of each line of memory, wherever the lines begin.
 fn looked_at(block: &[u8]) -> usize {
-    let mut sum: usize = 0;
     let front = block.split_at(block.len().min(FRONT)).0;
+    let mut sum = front.last().map_or(0, |last| usize::from(*last));
     for piece in front.chunks(APART) {
         sum = sum.wrapping_add(usize::from(piece[0]));
     }
