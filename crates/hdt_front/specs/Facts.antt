@@ -1,5 +1,5 @@
 -- What stands where the rows of strings hold, string by string.
-use Rattle.std.specs.Prelude.{◌≡◌, ℕ, zero, suc, ◌-◌, ◌/◌, ◌<◌, ◌≤◌, ◌==◌, ◌||◌, true, false, List, [], length, get_or, Ok}
+use Rattle.std.specs.Prelude.{◌≡◌, ℕ, zero, suc, ◌+◌, ◌-◌, ◌*◌, ◌/◌, ◌<◌, ◌≤◌, ◌==◌, ◌||◌, true, false, List, [], length, get_or, Ok}
 use Rattle.std.specs.Str.{is_utf8}
 use Rattle.hdt_wire.specs.Rows.{zero_in}
 use Rattle.hdt_wire.specs.VByte.{vbyte_at}
@@ -15,6 +15,11 @@ rest_at b (suc i) bytes = after_piece (is_head b i) (rest_at b i bytes)
 unfoldable pub before_at : ℕ → ℕ → List ℕ → List ℕ
 before_at b zero bytes = []
 before_at b (suc i) bytes = string_of_piece (is_head b i) (before_at b i bytes) (rest_at b i bytes)
+
+-- the string before piece k of block q; before the head none
+abbrev pub so_far : ℕ → ℕ → ℕ → List ℕ → List ℕ
+so_far b q zero bytes = []
+so_far b q (suc k) bytes = before_at b (q * b + suc k) bytes
 
 pub record RowHolds (p : Packing) (i : ℕ) (before rest : List ℕ) : Type 0 where
   pub start : is_head p.block i ≡ true → get_or p.starts (i / p.block) 0 ≡ p.size - length rest

@@ -1,5 +1,5 @@
 //! The piece of a string: a number where it isn't the head of a block, a text, and a zero byte.
-ghost use Rattle.std.specs.Prelude.{◌≡◌, ◌≤◌, ◌<◌, ◌+◌, length, drop, IfOk};
+ghost use Rattle.std.specs.Prelude.{◌≡◌, ◌≤◌, ◌<◌, ◌+◌, length, drop, IfOk, IfSome, Ok};
 ghost use Rattle.hdt_wire.specs.Rows.{zero_in};
 ghost use Rattle.hdt_wire.specs.VByte.{vbyte_at};
 ghost use Rattle.hdt_front.specs.Unfolding.{read_or, text_from, kept, text_of, after_piece};
@@ -16,42 +16,63 @@ fn read_long(rest: &[u8]) -> Result<(u64, usize), Fault>
     read_vbyte(rest, 0)
 }
 
-/// The number at the front, and where it ends, as `read_vbyte`; that of one byte at once.
+/// The number at the front, where it has one byte.
 #[inline(always)]
 #[tactic(auto, using(crate::proofs::Inside::one_byte))]
+fn short_front(rest: &[u8]) -> Option<u64>
+    ensures { IfSome result (λ n. (vbyte_at rest.now 0 ≡ Ok (n, 1)) × (1 ≤ length rest.now)) }
+{
+    if !rest.is_empty() && rest[0] >= 128 {
+        return Some(u64::from(rest[0] - 128));
+    }
+    None
+}
+
+/// The number at the front, and where it ends, as `read_vbyte`; that of one byte at once.
+#[inline(always)]
 pub(crate) fn read_front(rest: &[u8]) -> Result<(u64, usize), Fault>
     ensures exact { result ≡ vbyte_at rest.now 0 }
     ensures end { IfOk result (λ x. x.1 ≤ length rest.now) }
 {
-    if !rest.is_empty() && rest[0] >= 128 {
-        return Ok((u64::from(rest[0] - 128), 1));
+    match short_front(rest) {
+        Some(number) => Ok((number, 1)),
+        None => read_long(rest),
     }
-    read_long(rest)
 }
 
-/// The number at the front, and where it ends; zeros where none is there.
-pub(crate) fn read_or_zero(rest: &[u8]) -> (u64, usize)
+/// The number at the front, and where it ends; zeros where none is there: apart, as [`read_long`].
+#[inline(never)]
+fn read_long_or_zero(rest: &[u8]) -> (u64, usize)
     ensures is { result ≡ read_or (0, 0) (vbyte_at rest.now 0) }
     ensures within { result.1 ≤ length rest.now }
 {
-    match read_front(rest) {
+    match read_vbyte(rest, 0) {
         Ok(read) => read,
         Err(_) => (0, 0),
     }
 }
 
-/// The piece of a string: how much it keeps, the bytes from its text on, and how many of these the text has.
+/// The number at the front, and where it ends; zeros where none is there.
+#[inline(always)]
+pub(crate) fn read_or_zero(rest: &[u8]) -> (u64, usize)
+    ensures is { result ≡ read_or (0, 0) (vbyte_at rest.now 0) }
+    ensures within { result.1 ≤ length rest.now }
+{
+    match short_front(rest) {
+        Some(number) => (number, 1),
+        None => read_long_or_zero(rest),
+    }
+}
+
+/// The piece of a string: how much it keeps, and the bytes from its text on.
 #[inline(always)]
 #[tactic(auto, unfolding(crate::specs::Unfolding::kept, crate::specs::Unfolding::text_from))]
-pub(crate) fn opened_piece(head: bool, rest: &[u8]) -> (u64, &[u8], usize)
+pub(crate) fn opened_text(head: bool, rest: &[u8]) -> (u64, &[u8])
     ensures kept { result.0 ≡ kept head rest.now }
     ensures from { result.1.now ≡ text_from head rest.now }
-    ensures len { result.2 ≡ zero_in (text_from head rest.now) }
-    ensures within { result.2 ≤ length result.1.now }
 {
     let (kept, end) = if head { (0, 0) } else { read_or_zero(rest) };
-    let from = rest.split_at(end).1;
-    (kept, from, text_len(from))
+    (kept, rest.split_at(end).1)
 }
 
 /// The piece of a string: how much it keeps, its text, and what is left after it.
@@ -63,7 +84,8 @@ pub(crate) fn piece_of(head: bool, rest: &[u8]) -> (u64, &[u8], &[u8])
     ensures text { result.1.now ≡ text_of head rest.now }
     ensures rest { result.2.now ≡ after_piece head rest.now }
 {
-    let (kept, from, len) = opened_piece(head, rest);
+    let (kept, from) = opened_text(head, rest);
+    let len = text_len(from);
     (kept, from.split_at(len).0, from.split_at(len + 1).1)
 }
 

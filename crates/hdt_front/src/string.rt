@@ -1,38 +1,94 @@
 //! One string of a section, unfolded from the head of its block.
-ghost use Rattle.std.specs.Prelude.{◌≡◌, ◌≤◌, ◌<◌, ◌+◌, ◌-◌, ◌++◌, List, [], length, take, get_or, IfOk, OnOk, OnErr};
+ghost use Rattle.std.specs.Prelude.{◌≡◌, ◌≤◌, ◌<◌, ◌+◌, ◌-◌, ◌++◌, ◌*◌, List, [], length, take, get_or, IfOk, OnOk, OnErr, true};
 ghost use Rattle.hdt_wire.specs.Control.{Keeps};
 ghost use Rattle.hdt_wire.specs.Rows.{zero_in};
 ghost use Rattle.hdt_front.specs.Unfolding.{after_piece, kept, text_from, text_of};
+ghost use Rattle.hdt_front.specs.Facts.{rest_at, so_far};
 ghost use Rattle.hdt_front.specs.Strings.{strings_of, block_size};
 
-use crate::piece::{opened_piece, piece_of};
-use crate::scan::LANES;
+use crate::piece::{opened_text, piece_of};
+use crate::scan::{HALF, load_text};
 use crate::section::Section;
 use hdt_seq::Steps;
 use hdt_wire::cut_on_error;
 use std::alloc::AllocError;
+use std::simd::prelude::*;
 
-/// Appends the first bytes. Where they are few, so many are appended as one copy of a fixed size takes, which waits for no length,
-/// and the others are cut off again.
+/// The bytes of a room in which a string is unfolded while it is no longer.
+const ROOM: usize = 128;
+
+/// Copies the text at the front to a place in a room, with the loads that seek its end, and bytes behind it in the last of these:
+/// how many of its bytes, and whether these are all. It stops before a load that the bytes or the room don't have whole.
 #[inline(always)]
-#[tactic(auto, using(std::proofs::lemmas::List::take_min))]
-fn put_front(bytes: &[u8], len: usize, out: &mut Vec<u8>) -> Result<(), AllocError>
-    requires { len ≤ length bytes.now }
-    ensures ok { OnOk result (out.new.items ≡ out.old.items ++ take len bytes.now) }
+fn copy_text(bytes: &[u8], room: &mut [u8], at: usize) -> (usize, bool)
+    requires within { at ≤ length room.old }
+    ensures text { take (at + result.0) room.new ≡ take at room.old ++ take result.0 bytes.now }
+    ensures so_far { result.0 ≤ zero_in bytes.now }
+    ensures whole { result.1 ≡ true → result.0 ≡ zero_in bytes.now }
+    ensures within { at + result.0 ≤ length room.new }
+    ensures size { length room.new ≡ length room.old }
+{
+    let mut len = 0;
+    while bytes.len() - len >= HALF && room.len() - at - len >= HALF {
+        let run = load_text(bytes, len);
+        u8x16::from_slice(&bytes[len..]).copy_to_slice(&mut room[at + len..]);
+        if run < HALF {
+            return (len + run, true);
+        }
+        len += HALF;
+    }
+    (len, false)
+}
+
+/// Unfolds the first strings of a block in a room, each over the one before, so many of them or fewer, up to one that the room hasn't
+/// whole: how many, how much of the last one stands in the room, and the bytes from the rest of its text on.
+fn unfold_in<'a>(
+    section: &Section<'a>,
+    block: u64,
+    many: u64,
+    room: &mut [u8],
+    steps: &mut Steps,
+) -> (u64, usize, &'a [u8])
+    requires some { 0 < many }
+    requires short { many ≤ section.now.packed.block }
+    requires within { block * section.now.packed.block + many ≤ section.now.packed.count }
+    ensures done { (0 < result.0) × (result.0 ≤ many) }
+    ensures room { result.1 ≤ length room.new }
+    ensures string { take result.1 room.new ++ text_of true result.2.now ≡ so_far section.now.packed.block block result.0 section.now.packed.bytes.now }
+    ensures ends { zero_in result.2.now < length result.2.now }
+    ensures rest { after_piece true result.2.now ≡ rest_at section.now.packed.block (block * section.now.packed.block + result.0) section.now.packed.bytes.now }
+    ensures cost { steps.new ≡ steps.old + result.0 }
+{
+    let mut from = section.from_head(block);
+    let mut at = 0;
+    let mut done = 0;
+    loop {
+        steps.tick();
+        let (len, whole) = copy_text(from, room, at);
+        done += 1;
+        if done == many || !whole {
+            return (done, at + len, from.split_at(len).1);
+        }
+        let (kept, next) = opened_text(false, from.split_at(len + 1).1);
+        at = kept as usize;
+        from = next;
+    }
+}
+
+/// Appends a text, which is mostly empty.
+#[inline(always)]
+fn extend_by(text: &[u8], out: &mut Vec<u8>) -> Result<(), AllocError>
+    ensures ok { OnOk result (out.new.items ≡ out.old.items ++ text.now) }
     ensures err { OnErr result (out.new.items ≡ out.old.items) }
 {
-    if len > LANES || bytes.len() < LANES {
-        return out.extend_from_slice(&bytes[..len]);
+    if text.is_empty() {
+        return Ok(());
     }
-    let end = out.len() + len;
-    out.extend_from_slice(&bytes[..LANES])?;
-    out.truncate(end);
-    Ok(())
+    out.extend_from_slice(text)
 }
 
 /// Unfolds the next string over the one before it, which stands from a place on: what is left after its piece. An `Err` may leave
 /// a beginning of the string before behind.
-#[inline(always)]
 #[tactic(auto, unfolding(crate::specs::Unfolding::text_of, crate::specs::Unfolding::after_piece))]
 fn put_piece<'a>(
     head: bool,
@@ -46,13 +102,14 @@ fn put_piece<'a>(
     ensures rest { IfOk result (λ after. after.now ≡ after_piece head rest.now) }
     ensures err { OnErr result (out.new.items ≡ take (start + kept head rest.now) out.old.items) }
 {
-    let (kept, from, len) = opened_piece(head, rest);
+    let (kept, text, after) = piece_of(head, rest);
     out.truncate(start + kept as usize);
-    put_front(from, len, out)?;
-    Ok(from.split_at(len + 1).1)
+    out.extend_from_slice(text)?;
+    Ok(after)
 }
 
-/// Appends string i, counted from 0; an `Err` may leave a beginning of it behind.
+/// Appends string i, counted from 0; an `Err` may leave a beginning of it behind. It is unfolded in a room, and where that is too
+/// small goes on behind `out`.
 #[tactic(auto, unfolding(crate::specs::Strings::strings_of))]
 fn append_string(
     section: &Section<'_>,
@@ -67,8 +124,13 @@ fn append_string(
     ensures more { steps.old ≤ steps.new }
 {
     let start = out.len();
-    let mut rest = section.from_head(i / section.packed.block);
-    for k in 0..i % section.packed.block + 1 {
+    let many = i % section.packed.block + 1;
+    let mut room = [0; ROOM];
+    let (done, len, left) = unfold_in(section, i / section.packed.block, many, &mut room, steps);
+    out.extend_from_slice(&room[..len])?;
+    let (_, text, mut rest) = piece_of(true, left);
+    extend_by(text, out)?;
+    for k in done..many {
         steps.tick();
         rest = put_piece(k == 0, rest, start, out)?;
     }

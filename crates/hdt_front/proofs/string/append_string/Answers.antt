@@ -1,31 +1,62 @@
-use Rattle.std.proofs.Common.{◌≡◌, ◌<◌, ◌+◌, ◌*◌, ◌/◌, ◌%◌, ◌++◌, [], arith, ap, sym, ◌∙◌, length, nat_eq, append-nil, add-zero, length-append, refl}
+use Rattle.std.proofs.Common.{◌≡◌, ◌<◌, ◌+◌, ◌*◌, ◌/◌, ◌%◌, ◌++◌, [], arith, ap, ◌∙◌, length, nat_eq, append_assoc, take, length-append, refl}
 use Rattle.std.proofs.lemmas.Nat.{div-add-mod'}
 use Rattle.std.proofs.Math.Nat.{mod-lt}
-use Rattle.hdt_front.specs.Strings.{strings_of, blocks_of}
+use Rattle.hdt_front.specs.Strings.{strings_of}
 use Rattle.hdt_front.specs.Packed.{packing_of}
-use Rattle.hdt_front.specs.Facts.{rest_at}
-use Rattle.hdt_front.specs.Unfolding.{kept, text_of}
+use Rattle.hdt_front.specs.Facts.{so_far}
+use Rattle.hdt_front.specs.Unfolding.{kept, text_from, text_of}
 use Rattle.hdt_front.specs.Laws.StringSteps.{length-unfolded}
-use Rattle.hdt_front.proofs.Lies.{head_lies}
-use Rattle.hdt_front.proofs.Strings.{so_far, unfolds_here, block_inside, string_whole, unfolded_over}
+use Rattle.hdt_front.proofs.Strings.{unfolds_here, string_whole, unfolded_over}
 use Rattle.hdt_front.proofs.string.append_string.Goals as goal
 
-pub from_head-rest-requires : goal.from_head-rest-requires
-unfolding strings_of blocks_of
-from_head-rest-requires c =
+pub nonzero_rem-many : goal.nonzero_rem-many
+unfolding strings_of
+nonzero_rem-many c =
     let p = c.args.section.now.packed in
-    block_inside p.count p.block c.args.i (p.some (omega (arith, c.requires, length-unfolded p.block p.count 0 [] p.bytes.now))) (omega (arith, c.requires, length-unfolded p.block p.count 0 [] p.bytes.now))
+    omega (arith, p.some (omega (arith, c.requires, length-unfolded p.block p.count 0 [] p.bytes.now)))
+
+pub overflow_add-many : goal.overflow_add-many
+unfolding strings_of
+overflow_add-many c =
+    let p = c.args.section.now.packed in
+    omega (arith, mod-lt c.args.i (p.some (omega (arith, c.requires, length-unfolded p.block p.count 0 [] p.bytes.now))))
+
+pub unfold_in-done-requires-clause-short : goal.unfold_in-done-requires-clause-short
+unfolding strings_of
+unfold_in-done-requires-clause-short c =
+    let p = c.args.section.now.packed in
+    omega (arith, mod-lt c.args.i (p.some (omega (arith, c.requires, length-unfolded p.block p.count 0 [] p.bytes.now))))
+
+pub unfold_in-done-requires-clause-within : goal.unfold_in-done-requires-clause-within
+unfolding strings_of
+unfold_in-done-requires-clause-within c =
+    let p = c.args.section.now.packed in
+    omega (arith, c.requires, length-unfolded p.block p.count 0 [] p.bytes.now, div-add-mod' c.args.i p.block)
+
+pub returns-in_err-extend_from_slice-clause-cost : goal.returns-in_err-extend_from_slice-clause-cost
+unfolding strings_of
+returns-in_err-extend_from_slice-clause-cost c =
+    let p = c.args.section.now.packed in
+    omega (arith, c.unfold_in-done.ensures.cost, c.unfold_in-done.ensures.done.1, mod-lt c.args.i (p.some (omega (arith, c.requires, length-unfolded p.block p.count 0 [] p.bytes.now))))
+
+pub piece_of-requires : goal.piece_of-requires
+unfolding text_from
+piece_of-requires c = c.unfold_in-done.ensures.ends
+
+pub returns-in_err-extend_by-clause-cost : goal.returns-in_err-extend_by-clause-cost
+unfolding strings_of
+returns-in_err-extend_by-clause-cost c =
+    let p = c.args.section.now.packed in
+    omega (arith, c.unfold_in-done.ensures.cost, c.unfold_in-done.ensures.done.1, mod-lt c.args.i (p.some (omega (arith, c.requires, length-unfolded p.block p.count 0 [] p.bytes.now))))
 
 pub loop-k-init : goal.loop-k-init
-unfolding strings_of
 loop-k-init c =
-    let p = c.args.section.now.packed in
-    let h = block_inside p.count p.block c.args.i (p.some (omega (arith, c.requires, length-unfolded p.block p.count 0 [] p.bytes.now))) (omega (arith, c.requires, length-unfolded p.block p.count 0 [] p.bytes.now)) in
-    let lies = head_lies (packing_of p) p.count (c.args.i / p.block) p.bytes.now refl (p.some (omega (arith, c.requires, length-unfolded p.block p.count 0 [] p.bytes.now))) h c.args.section.now.read in
+    let u = c.unfold_in-done.ensures in let old = c.args.out.now.items in
     record {
-      out = sym (append-nil c.args.out.now.items);
-      rest = c.from_head-rest.ensures ∙ sym lies.here ∙ ap (λ k. rest_at p.block k p.bytes.now) (sym (add-zero (c.args.i / p.block * p.block)));
-      cost = omega arith;
+      out = c.in_ok-extend_by.ensures.ok ∙ ap (λ l. l ++ c.piece_of.result.1.now) c.in_ok-extend_from_slice.ensures.items ∙ append_assoc old _ c.piece_of.result.1.now
+          ∙ ap (λ t. old ++ (take c.unfold_in-done.result.1 c.unfold_in-done.new.room ++ t)) c.piece_of.ensures.text ∙ ap (λ l. old ++ l) u.string;
+      rest = c.piece_of.ensures.rest ∙ u.rest;
+      cost = u.cost;
     }
 
 pub put_piece-requires-clause-ends : goal.put_piece-requires-clause-ends
@@ -78,18 +109,6 @@ unfolding strings_of
 nonzero_div-i c =
     let p = c.args.section.now.packed in
     omega (arith, p.some (omega (arith, c.requires, length-unfolded p.block p.count 0 [] p.bytes.now)))
-
-pub nonzero_rem-k-end : goal.nonzero_rem-k-end
-unfolding strings_of
-nonzero_rem-k-end c =
-    let p = c.args.section.now.packed in
-    omega (arith, p.some (omega (arith, c.requires, length-unfolded p.block p.count 0 [] p.bytes.now)))
-
-pub overflow_add-k-end : goal.overflow_add-k-end
-unfolding strings_of
-overflow_add-k-end c =
-    let p = c.args.section.now.packed in
-    omega (arith, mod-lt c.args.i (p.some (omega (arith, c.requires, length-unfolded p.block p.count 0 [] p.bytes.now))))
 
 pub returns-in_err-rest-clause-cost : goal.returns-in_err-rest-clause-cost
 unfolding strings_of

@@ -1,6 +1,5 @@
 use Rattle.std.proofs.Common.{◌≡◌, ◌+◌, ◌*◌, ◌/◌, ◌++◌}
-use Rattle.hdt_front.specs.Facts.{rest_at}
-use Rattle.hdt_front.proofs.Strings.{so_far}
+use Rattle.hdt_front.specs.Facts.{rest_at, so_far}
 use Rattle.hdt_front.proofs.string.append_string.Given as goal
 
 abbrev pub invariant-loop-k : goal.invariant-loop-k
