@@ -198,7 +198,7 @@ impl<'a> Dictionary<'a> {
         }
     }
 
-    /// How many packed bytes the block of string n of a role has, numbers from 1: looking the string up reads so many at
+    /// How many packed bytes the block of string n of a role has, numbers from 1: looking the string up needs so many at
     /// most. Where there is no such string it is 0. It takes two looks, and no memory.
     #[tactic(auto, unfolding(crate::specs::Views::role_string_block))]
     pub fn block_len(&self, role: Role, n: u64) -> u64
@@ -211,7 +211,7 @@ impl<'a> Dictionary<'a> {
         }
     }
 
-    /// The packed bytes of the block of string n of a role, numbers from 1, lent from the input: looking the string up reads
+    /// The packed bytes of the block of string n of a role, numbers from 1, lent from the input: looking the string up needs
     /// no others of it. Where there is no such string there are none. It takes three looks, and no memory.
     #[tactic(auto, unfolding(crate::specs::Views::role_string_bytes))]
     pub fn block(&self, role: Role, n: u64) -> &'a [u8]

@@ -156,7 +156,7 @@ impl<'a> Section<'a> {
         cut_on_error(appended, start, out)
     }
 
-    /// How many packed bytes the block of string n has, counted from 1: unfolding the string reads so many at most. The
+    /// How many packed bytes the block of string n has, counted from 1: unfolding the string needs so many at most. The
     /// caller shows that there is such a string. It takes two looks, and no memory.
     #[inline(always)]
     #[tactic(auto, unfolding(crate::specs::Strings::block_bytes))]
@@ -170,7 +170,7 @@ impl<'a> Section<'a> {
         self.packed.starts.get(block + 1).saturating_sub(start)
     }
 
-    /// The packed bytes of the block of string n, counted from 1, lent from the input: unfolding the string reads no others. The
+    /// The packed bytes of the block of string n, counted from 1, lent from the input: unfolding the string needs no others. The
     /// caller shows that there is such a string. It takes three looks, and no memory; the bytes themselves are not looked at.
     #[inline(always)]
     #[tactic(auto, using(std::proofs::lemmas::List::take_min), unfolding(crate::specs::Strings::packed_block))]
