@@ -1,5 +1,5 @@
 //! Triples that wait until their strings are looked up.
-ghost use Rattle.std.specs.Prelude.{◌≡◌, ◌<◌, ◌++◌, ◌∷◌, [], length, slice_index_or, IfOk, OnOk};
+ghost use Rattle.std.specs.Prelude.{◌≡◌, ◌<◌, ◌++◌, ◌∷◌, [], length, slice_index_or, IfOk, OnOk, IsTrue, IsFalse, ◌≤◌, ◌⊎◌};
 ghost use Rattle.std.specs.List.{All};
 ghost use Rattle.hdt_build.specs.Inside.Documents.{waiting_in, IsQueue};
 ghost use Rattle.hdt_build.specs.Inside.Texts.{GoesOn};
@@ -87,7 +87,10 @@ impl Queue {
     }
 
     /// Whether no more triples shall wait.
-    pub fn is_full(&self) -> bool {
+    pub fn is_full(&self) -> bool
+        ensures more { IsFalse result → (length self.now.ids.items < 256) × (self.now.bytes < 65536) }
+        ensures full { IsTrue result → (256 ≤ length self.now.ids.items) ⊎ (65536 ≤ self.now.bytes) }
+    {
         self.ids.len() >= MOST || self.bytes >= MOST_BYTES
     }
 }
