@@ -1,6 +1,6 @@
 -- What a `Dictionary` stands for.
 use Rattle.std.specs.Prelude.{ℕ, ◌-◌, ◌&&◌, nat_le, cond, length, List, []}
-use Rattle.hdt_front.specs.Strings.{strings_of, section_of, block_bytes, packed_block}
+use Rattle.hdt_front.specs.Strings.{strings_of, section_of, packed_block}
 use Rattle.hdt_front.specs.declared.section.Section.{Section}
 use Rattle.hdt_wire.specs.declared.role.Role.{Role}
 use Rattle.hdt_wire.specs.declared.role.Role.TheVariants.{Subject, Predicate, Object}
@@ -12,19 +12,6 @@ unfoldable pub dictionary_of : Dictionary → DictionaryParts
 dictionary_of d = record { shared = section_of d.shared; subjects = section_of d.subjects; predicates = section_of d.predicates; objects = section_of d.objects }
 
 -- ---- what looking a string up reads
-
--- how many packed bytes the block of string n has, from 1; where there is no such string, none
-abbrev pub string_block : Section → ℕ → ℕ
-string_block s n = cond (nat_le 1 n && nat_le n (length (strings_of s))) (block_bytes s (n - 1)) 0
-
--- the same of two sections, one after the other
-abbrev pub string_block_of_two : Section → Section → ℕ → ℕ
-string_block_of_two a b n = cond (nat_le n (length (strings_of a))) (string_block a n) (string_block b (n - length (strings_of a)))
-
-unfoldable pub role_string_block : Dictionary → Role → ℕ → ℕ
-role_string_block d Subject n = string_block_of_two d.shared d.subjects n
-role_string_block d Predicate n = string_block d.predicates n
-role_string_block d Object n = string_block_of_two d.shared d.objects n
 
 -- the packed bytes of the block of string n, from 1; where there is no such string, none
 abbrev pub string_bytes : Section → ℕ → List ℕ

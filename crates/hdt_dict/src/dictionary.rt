@@ -13,7 +13,7 @@ ghost use Rattle.hdt_wire.specs.declared.role.Role.{Role};
 
 use crate::apart::{check_objects, check_subjects};
 use crate::two::{
-    block_in_one, block_in_two, bytes_in_one, bytes_in_two, number_in_two, string_in_one,
+    bytes_in_one, bytes_in_two, number_in_two, string_in_one,
     string_in_two,
 };
 use hdt_front::{ReadFault, Section};
@@ -42,7 +42,7 @@ pub struct Dictionary<'a> {
 
 impl<'a> Dictionary<'a> {
     ghost use Rattle.hdt_dict.specs.Looks.{role_looks, role_block};
-    ghost use Rattle.hdt_dict.specs.Views.{dictionary_of, role_string_block, role_string_bytes};
+    ghost use Rattle.hdt_dict.specs.Views.{dictionary_of, role_string_bytes};
 
     /// Reads by rows.
     #[tactic(auto, unfolding(crate::specs::Dictionary::dictionary_at, crate::specs::Dictionary::rows_above_strings, crate::specs::Views::dictionary_of, hdt_front::specs::Strings::section_of, hdt_wire::specs::Control::block_of))]
@@ -198,21 +198,8 @@ impl<'a> Dictionary<'a> {
         }
     }
 
-    /// How many packed bytes the block of string n of a role has, numbers from 1: looking the string up needs so many at
-    /// most. Where there is no such string it is 0. It takes two looks, and no memory.
-    #[tactic(auto, unfolding(crate::specs::Views::role_string_block))]
-    pub fn block_len(&self, role: Role, n: u64) -> u64
-        ensures { result ≡ role_string_block self.now role n }
-    {
-        match role {
-            Role::Subject => block_in_two(&self.shared, &self.subjects, n),
-            Role::Predicate => block_in_one(&self.predicates, n),
-            Role::Object => block_in_two(&self.shared, &self.objects, n),
-        }
-    }
-
     /// The packed bytes of the block of string n of a role, numbers from 1, lent from the input: looking the string up needs
-    /// no others of it. Where there is no such string there are none. It takes three looks, and no memory.
+    /// no others of it. Where there is no such string there are none. It takes two looks, and no memory.
     #[tactic(auto, unfolding(crate::specs::Views::role_string_bytes))]
     pub fn block(&self, role: Role, n: u64) -> &'a [u8]
         ensures { result.now ≡ role_string_bytes self.now role n }

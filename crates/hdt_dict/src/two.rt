@@ -5,7 +5,7 @@ ghost use Rattle.hdt_front.specs.Strings.{strings_of, section_of, block_size};
 ghost use Rattle.hdt_front.specs.Numbering.{place};
 ghost use Rattle.hdt_dict.specs.Dictionary.{AreApart};
 ghost use Rattle.hdt_dict.specs.Numbered.{numbered, AppendsString};
-ghost use Rattle.hdt_dict.specs.Views.{string_block, string_block_of_two, string_bytes, string_bytes_of_two};
+ghost use Rattle.hdt_dict.specs.Views.{string_bytes, string_bytes_of_two};
 
 use hdt_front::Section;
 use hdt_seq::Steps;
@@ -93,27 +93,6 @@ pub(crate) fn string_in_two(
         return string_in_one(first, n, out, steps);
     }
     string_in_one(second, n - first.len(), out, steps)
-}
-
-/// How many packed bytes the block of string n of a section has; none where there is no such string.
-pub(crate) fn block_in_one(section: &Section<'_>, n: u64) -> u64
-    ensures { result ≡ string_block section.now n }
-{
-    if 1 <= n && n <= section.len() {
-        section.block_len(n)
-    } else {
-        0
-    }
-}
-
-/// The same of two sections, one after the other.
-pub(crate) fn block_in_two(first: &Section<'_>, second: &Section<'_>, n: u64) -> u64
-    ensures { result ≡ string_block_of_two first.now second.now n }
-{
-    if n <= first.len() {
-        return block_in_one(first, n);
-    }
-    block_in_one(second, n - first.len())
 }
 
 /// The packed bytes of the block of string n of a section; none where there is no such string.

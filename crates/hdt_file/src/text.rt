@@ -58,7 +58,7 @@ fn with_len(dictionary: &Dictionary<'_>, role: Role, number: u64, last: (u64, u6
     if number == last.0 {
         return last;
     }
-    (number, dictionary.block_len(role, number))
+    (number, dictionary.block(role, number).len() as u64)
 }
 
 /// The blocks of the objects of triples, where looking up all strings one by one reads fewer bytes than a walk along the
@@ -107,11 +107,28 @@ const APART: usize = 64;
 /// itself; one that lies before them would wait for more than it needs.
 const FRONT: usize = 4_096;
 
-/// The sum of the bytes of a block that are looked at: one of each line of memory, wherever the lines begin.
+/// The byte of a block at a place, or its last one.
+#[inline(always)]
+fn byte_near(block: &[u8], place: usize) -> usize
+    requires { 0 < length block.now }
+    ensures { result < 256 }
+{
+    usize::from(block[place.min(block.len() - 1)])
+}
+
+/// The sum of the bytes of a block that are looked at: one of each line of memory, wherever the lines begin. A block of the usual size
+/// has no more lines than are looked at with no question how many it has, which is not to be foreseen.
 fn looked_at(block: &[u8]) -> usize {
     let front = block.split_at(block.len().min(FRONT)).0;
-    let mut sum = front.last().map_or(0, |last| usize::from(*last));
-    for piece in front.chunks(APART) {
+    if front.is_empty() {
+        return 0;
+    }
+    let mut sum = byte_near(front, 0)
+        + byte_near(front, APART)
+        + byte_near(front, 2 * APART)
+        + byte_near(front, 3 * APART)
+        + byte_near(front, FRONT);
+    for piece in front.split_at(front.len().min(4 * APART)).1.chunks(APART) {
         sum = sum.wrapping_add(usize::from(piece[0]));
     }
     sum

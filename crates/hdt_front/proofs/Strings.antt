@@ -1,17 +1,18 @@
 -- A string unfolded from the head of its block.
-use Rattle.std.proofs.Common.{◌≡◌, ℕ, zero, suc, ◌+◌, ◌-◌, ◌*◌, ◌/◌, ◌%◌, ◌<◌, ◌≤◌, ◌++◌, Bool, true, false, nat_eq, eqb, List, [], length, take, get_or, drop, Ok, sym, ap, ◌∙◌, arith, subst, eq-eqb, add-zero, append_assoc, length-drop, length-take-le}
+use Rattle.std.proofs.Common.{◌≡◌, ℕ, zero, suc, ◌+◌, ◌-◌, ◌*◌, ◌/◌, ◌%◌, ◌<◌, ◌≤◌, ◌++◌, Bool, true, false, nat_eq, eqb, List, [], length, take, get_or, drop, Ok, Result, sym, ap, ◌∙◌, arith, subst, eq-eqb, add-zero, append_assoc, length-drop, length-take-le}
 use Rattle.std.proofs.Math.Nat.{mul-mod_left}
 use Rattle.std.proofs.lemmas.Nat.{mod-mul-add, div-add-mod', le-div}
 use Rattle.std.proofs.Math.Seq.{take-append-add, take-add}
-use Rattle.std.proofs.lemmas.List.{take-take}
+use Rattle.std.proofs.lemmas.List.{append-nil, take-take, drop-drop}
 use Rattle.std.proofs.lemmas.Simd.{take_more_put_chunk, length-chunk}
 use lib.Lanes.{chunk, put_chunk}
 use Rattle.std.proofs.lemmas.Bool.Decides.{nat_tests}
 use Rattle.hdt_wire.specs.Rows.{zero_in}
-use Rattle.hdt_front.specs.Unfolding.{is_head, kept, text_from, text_of, string_of_piece, after_piece, unfolded}
+use Rattle.hdt_front.specs.Unfolding.{is_head, kept, read_or, text_from, text_of, string_of_piece, after_piece, unfolded}
 use Rattle.hdt_front.specs.StringRows.{Packing, strings_at}
-use Rattle.hdt_front.specs.Facts.{rest_at, before_at, so_far}
-use Rattle.hdt_front.specs.Unfolding.{unfolded}
+use Rattle.hdt_front.specs.Facts.{rest_at, before_at, so_far, StandsSoFar}
+use Rattle.hdt_wire.specs.VByte.{vbyte_at}
+use Rattle.hdt_wire.specs.declared.fault.Fault.{Fault}
 use Rattle.hdt_front.specs.Laws.StringSteps.{row_at, string_is, rest_is}
 use Rattle.hdt_front.proofs.Loads.{zero_behind}
 
@@ -60,19 +61,6 @@ pub unfolds_here : (p : Packing) (n q k : ℕ) (bytes rest : List ℕ) → k < p
     → Unfolds p.block q k bytes rest
 unfolds_here p n q k bytes rest short h e is = subst (Unfolds p.block q k bytes) (sym is) (unfolds p n q k bytes short h e)
 
--- the same of a piece that was opened: so much is kept, and the bytes from its text on are these
-pub record Opens (b q k : ℕ) (bytes : List ℕ) (n : ℕ) (from : List ℕ) : Type 0 where
-  pub ends : zero_in from < length from
-  pub fits : n ≤ length (so_far b q k bytes)
-  pub string : take n (so_far b q k bytes) ++ take (zero_in from) from ≡ so_far b q (k + 1) bytes
-  pub after : drop (zero_in from + 1) from ≡ rest_at b (q * b + (k + 1)) bytes
-
-pub opens : (b q k : ℕ) (bytes rest : List ℕ) (head : Bool) (n : ℕ) (from : List ℕ) → Unfolds b q k bytes rest → head ≡ nat_eq k 0 → n ≡ kept head rest → from ≡ text_from head rest → Opens b q k bytes n from
-unfolding text_of after_piece
-opens b q k bytes rest head n from u first keeps is =
-    subst (λ m. Opens b q k bytes m from) (sym (keeps ∙ ap (λ g. kept g rest) first))
-    (subst (Opens b q k bytes (kept (nat_eq k 0) rest)) (sym (is ∙ ap (λ g. text_from g rest) first)) record { ends = u.ends; fits = u.fits; string = u.string; after = u.after })
-
 pub block_inside : (n b i : ℕ) → 1 ≤ b → i < n → i / b < (n + (b - 1)) / b
 block_inside n b i some h =
     let d = div-add-mod' i b in
@@ -100,35 +88,58 @@ pub rest_within : (b i : ℕ) (bytes : List ℕ) → length (rest_at b i bytes) 
 rest_within b i bytes = omega (arith, ap length (rest_is b i bytes), length-drop (length bytes - length (rest_at b i bytes)) bytes)
 
 -- the first bytes of a load were copied behind what stands in a room
-pub copied : (at len n run : ℕ) (first room bytes : List ℕ) → run ≤ n → at + len + n ≤ length room → len + n ≤ length bytes
-    → take (at + len) room ≡ first ++ take len bytes → take (at + (len + run)) (put_chunk (at + len) room (chunk len n bytes)) ≡ first ++ take (len + run) bytes
-copied at len n run first room bytes few in_room in_bytes e =
-    let part : List ℕ = chunk len n bytes in
-    let long : length (chunk len n bytes) ≡ n = length-chunk len n bytes in_bytes in
-    let here : length (take (at + len) room) ≡ at + len = length-take-le (at + len) room (omega (arith, in_room)) in
-    let whole : take (at + len + n) (put_chunk (at + len) room part) ≡ take (at + len) room ++ part = take_more_put_chunk (at + len) room part (at + len + n) (omega (arith, long)) in_room in
-    let size : at + (len + run) ≡ length (take (at + len) room) + run = omega (arith, here) in
-    sym (take-take (at + (len + run)) (at + len + n) (put_chunk (at + len) room part) (omega (arith, few)))
-    ∙ ap (take (at + (len + run))) whole ∙ ap (λ m. take m (take (at + len) room ++ part)) size ∙ take-append-add (take (at + len) room) part run
-    ∙ ap (λ l. take (at + len) room ++ l) (take-take run n (drop len bytes) few)
-    ∙ ap (λ l. l ++ take run (drop len bytes)) e ∙ append_assoc first (take len bytes) (take run (drop len bytes)) ∙ ap (λ l. first ++ l) (sym (take-add len run bytes))
+pub copied : (at n run : ℕ) (room bytes : List ℕ) → run ≤ n → at + n ≤ length room → n ≤ length bytes → take (at + run) (put_chunk at room (chunk 0 n bytes)) ≡ take at room ++ take run bytes
+copied at n run room bytes few in_room in_bytes =
+    let part : List ℕ = chunk 0 n bytes in
+    let long : length (chunk 0 n bytes) ≡ n = length-chunk 0 n bytes (omega (arith, in_bytes)) in
+    let here : length (take at room) ≡ at = length-take-le at room (omega (arith, in_room)) in
+    let whole : take (at + n) (put_chunk at room part) ≡ take at room ++ part = take_more_put_chunk at room part (at + n) (omega (arith, long)) in_room in
+    let size : at + run ≡ length (take at room) + run = omega (arith, here) in
+    sym (take-take (at + run) (at + n) (put_chunk at room part) (omega (arith, few)))
+    ∙ ap (take (at + run)) whole ∙ ap (λ m. take m (take at room ++ part)) size ∙ take-append-add (take at room) part run
+    ∙ ap (λ l. take at room ++ l) (take-take run n bytes few)
 
-kept_in : (k : ℕ) (so room : List ℕ) → take (length so) room ≡ so → k ≤ length so → take k room ≡ take k so
-kept_in k so room stands h = sym (take-take k (length so) room h) ∙ ap (take k) stands
+-- the head of a block is the rest of its first string
+pub head_stands : (p : Packing) (n q : ℕ) (bytes room left : List ℕ) → 0 < p.block → q * p.block < n → strings_at p n 0 [] bytes ≡ Ok tt → left ≡ rest_at p.block (q * p.block) bytes
+    → StandsSoFar p.block q 1 bytes room 0 left
+unfolding kept text_from text_of after_piece
+head_stands p n q bytes room left some h e is =
+    let here = is ∙ ap (λ k. rest_at p.block k bytes) (sym (add-zero (q * p.block))) in
+    let u = unfolds_here p n q 0 bytes left some (omega (arith, h)) e here in
+    record { within = omega arith; string = u.string; ends = u.ends; after = u.after }
 
--- a string of which some of the text has been put over the one before it, and the others follow
-pub unfolded_partly : (k len : ℕ) (so room grown from next : List ℕ) → take (length so) room ≡ so → k ≤ length so → take (k + len) grown ≡ take k room ++ take len from → len ≤ zero_in from
-    → take k so ++ take (zero_in from) from ≡ next → take (k + len) grown ++ take (zero_in (drop len from)) (drop len from) ≡ next
-unfolded_partly k len so room grown from next stands h made part string =
-    let left : ℕ = zero_in (drop len from) in
-    ap (λ l. l ++ take left (drop len from)) (made ∙ ap (λ l. l ++ take len from) (kept_in k so room stands h))
-    ∙ append_assoc (take k so) (take len from) (take left (drop len from)) ∙ ap (λ l. take k so ++ l) (sym (take-add len left from))
-    ∙ ap (λ n. take k so ++ take n from) (zero_behind len from part) ∙ string
+-- more of a string stands in a room
+pub stands_on : (b q k : ℕ) (bytes room grown left : List ℕ) (at run : ℕ) → StandsSoFar b q k bytes room at left → run ≤ zero_in left → at + run ≤ length grown
+    → take (at + run) grown ≡ take at room ++ take run left → StandsSoFar b q k bytes grown (at + run) (drop run left)
+stands_on b q k bytes room grown left at run s part within made =
+    let rest : ℕ = zero_in (drop run left) in
+    let all : run + rest ≡ zero_in left = zero_behind run left part in
+    let behind : run + (rest + 1) ≡ zero_in left + 1 = omega (arith, all) in
+    record {
+      within = within;
+      string = ap (λ l. l ++ take rest (drop run left)) made ∙ append_assoc (take at room) (take run left) (take rest (drop run left))
+          ∙ ap (λ l. take at room ++ l) (sym (take-add run rest left)) ∙ ap (λ n. take at room ++ take n left) all ∙ s.string;
+      ends = omega (arith, s.ends, all, length-drop run left);
+      after = drop-drop (rest + 1) run left ∙ ap (λ n. drop n left) behind ∙ s.after;
+    }
 
--- a string whose text has been put over the one before it
-pub unfolded_whole : (k len : ℕ) (so room grown from next : List ℕ) → take (length so) room ≡ so → k ≤ length so → take (k + len) grown ≡ take k room ++ take len from → len ≡ zero_in from
-    → take k so ++ take (zero_in from) from ≡ next → k + len ≤ length grown → (take (length next) grown ≡ next) × (length next ≤ length grown)
-unfolded_whole k len so room grown from next stands h made whole string within =
-    let is : take (k + len) grown ≡ next = made ∙ ap (λ l. l ++ take len from) (kept_in k so room stands h) ∙ ap (λ n. take k so ++ take n from) whole ∙ string in
-    let long : length next ≡ k + len = ap length (sym is) ∙ length-take-le (k + len) grown within in
-    (ap (λ n. take n grown) long ∙ is, omega (arith, long, within))
+-- a string that stands whole, and the number of one byte at the front of the next one's piece: so much of it stands
+pub next_stands : (p : Packing) (n q k : ℕ) (bytes room left : List ℕ) (at m : ℕ) → StandsSoFar p.block q k bytes room at left → zero_in left ≡ 0 → 0 < k → k < p.block → q * p.block + k < n
+    → strings_at p n 0 [] bytes ≡ Ok tt → vbyte_at (drop 1 left) 0 ≡ Ok (m, 1) → StandsSoFar p.block q (k + 1) bytes room m (drop 2 left)
+unfolding kept text_from text_of after_piece
+next_stands p n q k bytes room left at m s done some short h e number =
+    let whole : take at room ≡ so_far p.block q k bytes = sym (append-nil (take at room)) ∙ ap (λ z. take at room ++ take z left) (sym done) ∙ s.string in
+    let size : length (so_far p.block q k bytes) ≡ at = ap length (sym whole) ∙ length-take-le at room s.within in
+    let u = unfolds_here p n q k bytes (drop 1 left) short h e (ap (λ z. drop (z + 1) left) (sym done) ∙ s.after) in
+    let first = not_zero k some in
+    let keeps : kept (nat_eq k 0) (drop 1 left) ≡ m = ap (λ g. kept g (drop 1 left)) first ∙ ap (λ (r : Result (ℕ × ℕ) Fault). (read_or (0, 0) r).0) number in
+    let from : text_from (nat_eq k 0) (drop 1 left) ≡ drop 2 left = ap (λ g. text_from g (drop 1 left)) first ∙ ap (λ (r : Result (ℕ × ℕ) Fault). drop (read_or (0, 0) r).1 (drop 1 left)) number ∙ drop-drop 1 1 left in
+    let few : m ≤ at = omega (arith, u.fits, keeps, size) in
+    record {
+      within = omega (arith, few, s.within);
+      string = ap (λ l. l ++ take (zero_in (drop 2 left)) (drop 2 left)) (sym (take-take m at room few) ∙ ap (take m) whole)
+          ∙ ap (λ z. take z (so_far p.block q k bytes) ++ take (zero_in (drop 2 left)) (drop 2 left)) (sym keeps)
+          ∙ ap (λ l. take (kept (nat_eq k 0) (drop 1 left)) (so_far p.block q k bytes) ++ take (zero_in l) l) (sym from) ∙ u.string;
+      ends = subst (λ l. zero_in l < length l) from u.ends;
+      after = ap (λ l. drop (zero_in l + 1) l) (sym from) ∙ u.after;
+    }

@@ -1,5 +1,5 @@
 -- What stands where the rows of strings hold, string by string.
-use Rattle.std.specs.Prelude.{◌≡◌, ℕ, zero, suc, ◌+◌, ◌-◌, ◌*◌, ◌/◌, ◌<◌, ◌≤◌, ◌==◌, ◌||◌, true, false, List, [], length, get_or, Ok}
+use Rattle.std.specs.Prelude.{◌≡◌, ℕ, zero, suc, ◌+◌, ◌-◌, ◌*◌, ◌/◌, ◌<◌, ◌≤◌, ◌==◌, ◌||◌, ◌++◌, true, false, List, [], length, take, drop, get_or, Ok}
 use Rattle.std.specs.Str.{is_utf8}
 use Rattle.hdt_wire.specs.Rows.{zero_in}
 use Rattle.hdt_wire.specs.VByte.{vbyte_at}
@@ -20,6 +20,13 @@ before_at b (suc i) bytes = string_of_piece (is_head b i) (before_at b i bytes) 
 abbrev pub so_far : ℕ → ℕ → ℕ → List ℕ → List ℕ
 so_far b q zero bytes = []
 so_far b q (suc k) bytes = before_at b (q * b + suc k) bytes
+
+-- so many bytes of a room are the front of string k of block q, counted from 1, and the text at the front of what is left is the rest of it
+pub record StandsSoFar (b q k : ℕ) (bytes room : List ℕ) (at : ℕ) (left : List ℕ) : Type 0 where
+  pub within : at ≤ length room
+  pub string : take at room ++ take (zero_in left) left ≡ so_far b q k bytes
+  pub ends : zero_in left < length left
+  pub after : drop (zero_in left + 1) left ≡ rest_at b (q * b + k) bytes
 
 pub record RowHolds (p : Packing) (i : ℕ) (before rest : List ℕ) : Type 0 where
   pub start : is_head p.block i ≡ true → get_or p.starts (i / p.block) 0 ≡ p.size - length rest

@@ -28,10 +28,10 @@ block_size s = s.packed.block
 unfoldable pub blocks_of : Section → ℕ
 blocks_of s = (s.packed.count + (s.packed.block - 1)) / s.packed.block
 
--- how many packed bytes the block of string i has, counted from 0: from its head to the next one, or to the end
-unfoldable pub block_bytes : Section → ℕ → ℕ
-block_bytes s i = get_or (numbers_of s.packed.starts) (i / s.packed.block + 1) 0 - get_or (numbers_of s.packed.starts) (i / s.packed.block) 0
+-- where block q begins among the packed bytes
+abbrev pub block_start : Section → ℕ → ℕ
+block_start s q = get_or (numbers_of s.packed.starts) q 0
 
--- the packed bytes of that block
+-- the packed bytes of the block of string i, counted from 0: from its head to the next one, or to the end
 unfoldable pub packed_block : Section → ℕ → List ℕ
-packed_block s i = take (block_bytes s i) (drop (get_or (numbers_of s.packed.starts) (i / s.packed.block) 0) s.packed.bytes.now)
+packed_block s i = take (block_start s (i / s.packed.block + 1) - block_start s (i / s.packed.block)) (drop (block_start s (i / s.packed.block)) s.packed.bytes.now)

@@ -19,7 +19,7 @@ fn read_long(rest: &[u8]) -> Result<(u64, usize), Fault>
 /// The number at the front, where it has one byte.
 #[inline(always)]
 #[tactic(auto, using(crate::proofs::Inside::one_byte))]
-fn short_front(rest: &[u8]) -> Option<u64>
+pub(crate) fn short_front(rest: &[u8]) -> Option<u64>
     ensures { IfSome result (λ n. (vbyte_at rest.now 0 ≡ Ok (n, 1)) × (1 ≤ length rest.now)) }
 {
     if !rest.is_empty() && rest[0] >= 128 {

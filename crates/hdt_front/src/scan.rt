@@ -28,7 +28,7 @@ pub(crate) fn first_set(mask: u64, lanes: usize) -> usize
 
 /// How many of the next 16 bytes are no zero byte, up to the first.
 #[inline(always)]
-pub(crate) fn load_text(bytes: &[u8], at: usize) -> usize
+fn load_text(bytes: &[u8], at: usize) -> usize
     requires inside { at + HALF ≤ length bytes.now }
     requires so_far { at ≤ zero_in bytes.now }
     ensures { Reaches (zero_in bytes.now) at HALF result }

@@ -31,7 +31,7 @@ fn are_bytes(bytes: &[u8])
 {}
 
 impl<'a> Section<'a> {
-    ghost use Rattle.hdt_front.specs.Strings.{strings_of, blocks_of, block_size};
+    ghost use Rattle.hdt_front.specs.Strings.{strings_of, blocks_of, block_size, block_start};
     ghost use Rattle.hdt_front.specs.Facts.{rest_at};
     ghost use Rattle.hdt_front.specs.Section.{AreStrings};
 
@@ -63,13 +63,22 @@ impl<'a> Section<'a> {
         packed.count.div_ceil(packed.block)
     }
 
+    /// Where a block begins among the packed bytes.
+    #[inline(always)]
+    pub(crate) fn start_of(&self, block: u64) -> usize
+        requires { block < blocks_of self.now }
+        ensures is { result ≡ block_start self.now block }
+        ensures within { result ≤ length self.now.packed.bytes.now }
+    {
+        self.packed.starts.get(block) as usize
+    }
+
     /// The bytes from the head of a block on.
     pub(crate) fn from_head(&self, block: u64) -> &'a [u8]
         requires { block < blocks_of self.now }
-        ensures { result.now ≡ drop (get_or (numbers_of self.now.packed.starts) block 0) self.now.packed.bytes.now }
+        ensures { result.now ≡ drop (block_start self.now block) self.now.packed.bytes.now }
     {
-        let start = self.packed.starts.get(block) as usize;
-        self.packed.bytes.split_at(start).1
+        self.packed.bytes.split_at(self.start_of(block)).1
     }
 
     /// The first string of a block, and what is left after its piece.

@@ -3,11 +3,12 @@ ghost use Rattle.std.specs.Prelude.{◌≡◌, ◌≤◌, ◌<◌, ◌+◌, ◌-
 ghost use Rattle.hdt_wire.specs.Control.{Keeps};
 ghost use Rattle.hdt_wire.specs.Rows.{zero_in};
 ghost use Rattle.hdt_front.specs.Unfolding.{after_piece, kept, text_from, text_of};
-ghost use Rattle.hdt_front.specs.Facts.{rest_at, so_far};
+ghost use Rattle.hdt_front.specs.Facts.{StandsSoFar};
+ghost use Rattle.hdt_front.specs.Inside.Reaching.{Reaches};
 ghost use Rattle.hdt_front.specs.Strings.{strings_of, block_size};
 
-use crate::piece::{opened_text, piece_of};
-use crate::scan::{HALF, load_text};
+use crate::piece::{piece_of, short_front};
+use crate::scan::{LANES, first_set};
 use crate::section::Section;
 use hdt_seq::Steps;
 use hdt_wire::cut_on_error;
@@ -15,33 +16,26 @@ use std::alloc::AllocError;
 use std::simd::prelude::*;
 
 /// The bytes of a room in which a string is unfolded while it is no longer.
-const ROOM: usize = 128;
+const ROOM: usize = 160;
 
-/// Copies the text at the front to a place in a room, with the loads that seek its end, and bytes behind it in the last of these:
-/// how many of its bytes, and whether these are all. It stops before a load that the bytes or the room don't have whole.
+/// Copies the next 32 bytes to a place in a room: how many of them are of the text at the front, up to its end. Most texts that are
+/// pieces end in the first load, so which one ends a text is mostly foreseen.
 #[inline(always)]
-fn copy_text(bytes: &[u8], room: &mut [u8], at: usize) -> (usize, bool)
-    requires within { at ≤ length room.old }
-    ensures text { take (at + result.0) room.new ≡ take at room.old ++ take result.0 bytes.now }
-    ensures so_far { result.0 ≤ zero_in bytes.now }
-    ensures whole { result.1 ≡ true → result.0 ≡ zero_in bytes.now }
-    ensures within { at + result.0 ≤ length room.new }
+fn copy_load(bytes: &[u8], room: &mut [u8], at: usize) -> usize
+    requires load { LANES ≤ length bytes.now }
+    requires within { at + LANES ≤ length room.old }
+    ensures reaches { Reaches (zero_in bytes.now) 0 LANES result }
+    ensures text { take (at + result) room.new ≡ take at room.old ++ take result bytes.now }
     ensures size { length room.new ≡ length room.old }
 {
-    let mut len = 0;
-    while bytes.len() - len >= HALF && room.len() - at - len >= HALF {
-        let run = load_text(bytes, len);
-        u8x16::from_slice(&bytes[len..]).copy_to_slice(&mut room[at + len..]);
-        if run < HALF {
-            return (len + run, true);
-        }
-        len += HALF;
-    }
-    (len, false)
+    let v = u8x32::from_slice(bytes);
+    v.copy_to_slice(&mut room[at..]);
+    first_set(v.simd_eq(u8x32::splat(0)).to_bitmask(), LANES)
 }
 
-/// Unfolds the first strings of a block in a room, each over the one before, so many of them or fewer, up to one that the room hasn't
-/// whole: how many, how much of the last one stands in the room, and the bytes from the rest of its text on.
+/// Unfolds the first strings of a block in a room, each over the one before, so many of them or fewer: how many, how much of the last
+/// one stands in the room, and the bytes from the rest of its text on. It stops before a load that the bytes or the room don't have
+/// whole, and before a number of more than one byte.
 fn unfold_in<'a>(
     section: &Section<'a>,
     block: u64,
@@ -53,26 +47,31 @@ fn unfold_in<'a>(
     requires short { many ≤ section.now.packed.block }
     requires within { block * section.now.packed.block + many ≤ section.now.packed.count }
     ensures done { (0 < result.0) × (result.0 ≤ many) }
-    ensures room { result.1 ≤ length room.new }
-    ensures string { take result.1 room.new ++ text_of true result.2.now ≡ so_far section.now.packed.block block result.0 section.now.packed.bytes.now }
-    ensures ends { zero_in result.2.now < length result.2.now }
-    ensures rest { after_piece true result.2.now ≡ rest_at section.now.packed.block (block * section.now.packed.block + result.0) section.now.packed.bytes.now }
+    ensures stands { StandsSoFar section.now.packed.block block result.0 section.now.packed.bytes.now room.new result.1 result.2.now }
     ensures cost { steps.new ≡ steps.old + result.0 }
 {
-    let mut from = section.from_head(block);
+    let mut rest = section.from_head(block);
     let mut at = 0;
-    let mut done = 0;
-    loop {
-        steps.tick();
-        let (len, whole) = copy_text(from, room, at);
-        done += 1;
-        if done == many || !whole {
-            return (done, at + len, from.split_at(len).1);
+    let mut done = 1;
+    steps.tick();
+    while rest.len() >= LANES && room.len() - at >= LANES {
+        let run = copy_load(rest, room, at);
+        at += run;
+        rest = rest.split_at(run).1;
+        if run < LANES {
+            if done == many {
+                break;
+            }
+            let Some(kept) = short_front(rest.split_at(1).1) else {
+                break;
+            };
+            at = kept as usize;
+            rest = rest.split_at(2).1;
+            done += 1;
+            steps.tick();
         }
-        let (kept, next) = opened_text(false, from.split_at(len + 1).1);
-        at = kept as usize;
-        from = next;
     }
+    (done, at, rest)
 }
 
 /// Appends a text, which is mostly empty.
@@ -138,7 +137,7 @@ fn append_string(
 }
 
 impl<'a> Section<'a> {
-    ghost use Rattle.hdt_front.specs.Strings.{block_bytes, packed_block, section_of};
+    ghost use Rattle.hdt_front.specs.Strings.{packed_block, section_of};
     ghost use Rattle.hdt_front.specs.Section.{string_place};
 
     /// Appends string n, counted from 1; the caller shows that there is one. It unfolds one block at most, in as many
@@ -156,22 +155,8 @@ impl<'a> Section<'a> {
         cut_on_error(appended, start, out)
     }
 
-    /// How many packed bytes the block of string n has, counted from 1: unfolding the string needs so many at most. The
-    /// caller shows that there is such a string. It takes two looks, and no memory.
-    #[inline(always)]
-    #[tactic(auto, unfolding(crate::specs::Strings::block_bytes))]
-    pub fn block_len(&self, n: u64) -> u64
-        requires from_one { 1 ≤ n }
-        requires within { n ≤ length (strings_of self.now) }
-        ensures { result ≡ block_bytes self.now (n - 1) }
-    {
-        let block = (n - 1) / self.packed.block;
-        let start = self.packed.starts.get(block);
-        self.packed.starts.get(block + 1).saturating_sub(start)
-    }
-
     /// The packed bytes of the block of string n, counted from 1, lent from the input: unfolding the string needs no others. The
-    /// caller shows that there is such a string. It takes three looks, and no memory; the bytes themselves are not looked at.
+    /// caller shows that there is such a string. It takes two looks, and no memory; the bytes themselves are not looked at.
     #[inline(always)]
     #[tactic(auto, using(std::proofs::lemmas::List::take_min), unfolding(crate::specs::Strings::packed_block))]
     pub fn block(&self, n: u64) -> &'a [u8]
@@ -179,8 +164,10 @@ impl<'a> Section<'a> {
         requires within { n ≤ length (strings_of self.now) }
         ensures { result.now ≡ packed_block self.now (n - 1) }
     {
-        let len = self.block_len(n) as usize;
-        let bytes = self.from_head((n - 1) / self.packed.block);
+        let block = (n - 1) / self.packed.block;
+        let start = self.start_of(block);
+        let len = (self.packed.starts.get(block + 1) as usize).saturating_sub(start);
+        let bytes = self.packed.bytes.split_at(start).1;
         bytes.split_at(len.min(bytes.len())).0
     }
 

@@ -1,5 +1,5 @@
 -- Marks counted as the ones of words.
-use Rattle.std.proofs.Common.{◌≡◌, ℕ, ◌+◌, ◌-◌, ◌*◌, ◌/◌, ◌%◌, ◌^◌, ◌<◌, ◌≤◌, zero, suc, List, Bool, true, false, cond, nat_eq, bit_and, map, refl, ap, sym, ◌∙◌, arith, add-zero}
+use Rattle.std.proofs.Common.{◌≡◌, ℕ, ◌+◌, ◌-◌, ◌*◌, ◌/◌, ◌%◌, ◌^◌, ◌<◌, ◌≤◌, zero, suc, List, Bool, true, false, cond, nat_eq, nat_lt, bit_and, map, refl, ap, subst, sym, ◌∙◌, arith, add-zero, ltb-true, ltb-false}
 use Rattle.std.proofs.lemmas.Nat.{shr-shr, mod-pow-add, ones_cat, mod_below, pow_pos, one_shl, and_mask}
 use Rattle.std.proofs.Math.Nat.{mod-one}
 use Rattle.std.proofs.lemmas.List.FromFn.{take-map-range_with_len, sum_by-map-range_with_len_more}
@@ -36,6 +36,22 @@ digit_small false = omega arith
 -- so one more bit has at most one more
 pub ones_step : (n k : ℕ) → ones (n % 2 ^ (k + 1)) ≤ ones (n % 2 ^ k) + 1
 ones_step n k = omega (arith, ones_more n k, digit_small (nat_eq (n / 2 ^ k % 2) 1))
+
+-- more bits have no fewer
+pub ones_up : (n j d : ℕ) → ones (n % 2 ^ j) ≤ ones (n % 2 ^ (j + d))
+ones_up n j zero = omega (arith, ap (λ m. ones (n % 2 ^ m)) (add-zero j))
+ones_up n j (suc d) = let e : j + suc d ≡ j + d + 1 = omega arith in omega (arith, ones_up n j d, ones_more n (j + d), ap (λ m. ones (n % 2 ^ m)) e)
+
+-- of two halves of the places that are left, the one that holds one number k
+pub halved : (b : Bool) (w k low half bit : ℕ) → nat_lt (ones (w % 2 ^ (low + half))) k ≡ b → bit ≡ cond b 1 0 → ones (w % 2 ^ low) < k → k ≤ ones (w % 2 ^ (low + (half + half)))
+    → (ones (w % 2 ^ (low + bit * half)) < k) × (k ≤ ones (w % 2 ^ (low + bit * half + half))) × (low + bit * half + half ≤ low + (half + half))
+halved true w k low half bit fewer is before through =
+    let up : low + half ≡ low + bit * half = (omega arith) ∙ ap (λ b. low + b * half) (sym is) in
+    let end : low + (half + half) ≡ low + bit * half + half = (omega arith) ∙ ap (λ n. n + half) up in
+    (subst (λ n. ones (w % 2 ^ n) < k) up (ltb-true _ _ fewer), subst (λ n. k ≤ ones (w % 2 ^ n)) end through, omega (arith, end))
+halved false w k low half bit fewer is before through =
+    let up : low ≡ low + bit * half = (omega arith) ∙ ap (λ b. low + b * half) (sym is) in
+    (subst (λ n. ones (w % 2 ^ n) < k) up before, subst (λ n. k ≤ ones (w % 2 ^ (n + half))) up (ltb-false _ _ fewer), omega (arith, up))
 
 pub ones_none : (n : ℕ) → ones (n % 2 ^ 0) ≡ 0
 ones_none n = ap ones (mod-one n) ∙ ones_bit 0 (omega arith)

@@ -1,5 +1,5 @@
 //! Directories: the marks of a bit sequence, which are its bits that are 1, counted by groups.
-ghost use Rattle.std.specs.Prelude.{◌≡◌, ◌≤◌, ◌<◌, ◌+◌, ◌-◌, ◌*◌, ◌/◌, ◌%◌, ◌^◌, ℕ, List, Bool, length, slice_index, slice_get, Some, true, IfOk, SomeIndex};
+ghost use Rattle.std.specs.Prelude.{◌≡◌, ◌≤◌, ◌<◌, nat_lt, if◌then◌else◌, ◌+◌, ◌-◌, ◌*◌, ◌/◌, ◌%◌, ◌^◌, ℕ, List, Bool, length, slice_index, slice_get, Some, true, IfOk, SomeIndex};
 ghost use Rattle.std.specs.Int.Count.{ones};
 ghost use Rattle.hdt_seq.specs.Width.{digits};
 ghost use Rattle.hdt_seq.specs.Marks.{marks_before, IsPlaceOfMark};
@@ -194,7 +194,19 @@ fn place_from(bits: &Bits<'_>, from: u64, left: u64, steps: &mut Steps) -> u64
     }
 }
 
-/// The place of one number k, counted from 1, among the lowest bits of a word, by halving.
+/// 1 where fewer than k ones stand in a word before a place, else 0.
+#[inline(always)]
+#[tactic(auto, using(crate::proofs::Words::lowest_bits))]
+fn has_fewer(word: u64, place: u64, k: u64) -> u64
+    requires { place < 64 }
+    ensures { result ≡ (if nat_lt (ones (word % 2 ^ place)) k then 1 else 0) }
+{
+    let lowest = word & ((1 << place) - 1);
+    u64::from(u64::from(lowest.count_ones()) < k)
+}
+
+/// The place of one number k, counted from 1, among the lowest bits of a word: the six bits of the place from the highest on, by sums and
+/// no branch, since which half holds the one is not to be foreseen.
 fn place_of_one(word: u64, width: u64, k: u64) -> u64
     requires narrow { width ≤ 64 }
     requires some { 0 < k }
@@ -203,16 +215,12 @@ fn place_of_one(word: u64, width: u64, k: u64) -> u64
     ensures before { ones (word % 2 ^ result) + 1 ≡ k }
     ensures through { ones (word % 2 ^ (result + 1)) ≡ k }
 {
-    let mut low = 0;
-    let mut high = width;
-    while high - low > 1 {
-        let middle = low + (high - low) / 2;
-        let lowest = word & ((1 << middle) - 1);
-        if u64::from(lowest.count_ones()) < k {
-            low = middle;
-        } else {
-            high = middle;
-        }
+    let mut low: u64 = 0;
+    let mut left: u64 = 6;
+    while left > 0 {
+        left -= 1;
+        let half = 1 << left;
+        low += has_fewer(word, low + half, k) * half;
     }
     low
 }

@@ -4,7 +4,7 @@ use Rattle.std.proofs.Math.Nat.{mod-lt}
 use Rattle.hdt_front.specs.Strings.{strings_of}
 use Rattle.hdt_front.specs.Packed.{packing_of}
 use Rattle.hdt_front.specs.Facts.{so_far}
-use Rattle.hdt_front.specs.Unfolding.{kept, text_from, text_of}
+use Rattle.hdt_front.specs.Unfolding.{after_piece, kept, text_from, text_of}
 use Rattle.hdt_front.specs.Laws.StringSteps.{length-unfolded}
 use Rattle.hdt_front.proofs.Strings.{unfolds_here, string_whole, unfolded_over}
 use Rattle.hdt_front.proofs.string.append_string.Goals as goal
@@ -41,7 +41,7 @@ returns-in_err-extend_from_slice-clause-cost c =
 
 pub piece_of-requires : goal.piece_of-requires
 unfolding text_from
-piece_of-requires c = c.unfold_in-done.ensures.ends
+piece_of-requires c = c.unfold_in-done.ensures.stands.ends
 
 pub returns-in_err-extend_by-clause-cost : goal.returns-in_err-extend_by-clause-cost
 unfolding strings_of
@@ -50,12 +50,13 @@ returns-in_err-extend_by-clause-cost c =
     omega (arith, c.unfold_in-done.ensures.cost, c.unfold_in-done.ensures.done.1, mod-lt c.args.i (p.some (omega (arith, c.requires, length-unfolded p.block p.count 0 [] p.bytes.now))))
 
 pub loop-k-init : goal.loop-k-init
+unfolding text_of text_from after_piece
 loop-k-init c =
     let u = c.unfold_in-done.ensures in let old = c.args.out.now.items in
     record {
       out = c.in_ok-extend_by.ensures.ok ∙ ap (λ l. l ++ c.piece_of.result.1.now) c.in_ok-extend_from_slice.ensures.items ∙ append_assoc old _ c.piece_of.result.1.now
-          ∙ ap (λ t. old ++ (take c.unfold_in-done.result.1 c.unfold_in-done.new.room ++ t)) c.piece_of.ensures.text ∙ ap (λ l. old ++ l) u.string;
-      rest = c.piece_of.ensures.rest ∙ u.rest;
+          ∙ ap (λ t. old ++ (take c.unfold_in-done.result.1 c.unfold_in-done.new.room ++ t)) c.piece_of.ensures.text ∙ ap (λ l. old ++ l) u.stands.string;
+      rest = c.piece_of.ensures.rest ∙ u.stands.after;
       cost = u.cost;
     }
 

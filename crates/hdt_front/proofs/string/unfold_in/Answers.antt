@@ -1,75 +1,73 @@
-use Rattle.std.proofs.Common.{true, false, ◌<◌, ◌≡◌, ◌+◌, ◌*◌, arith, ap, sym, ◌∙◌, add-zero, refl, length, drop, take, ◌++◌, length-drop}
-use Rattle.std.proofs.lemmas.List.{drop-drop}
+use Rattle.std.proofs.Common.{◌<◌, ◌≡◌, ◌+◌, arith, ap, sym, ◌∙◌, refl, List, ℕ, subst}
 use Rattle.hdt_wire.specs.Rows.{zero_in}
+use Rattle.hdt_wire.specs.VByte.{vbyte_at}
+use Rattle.hdt_front.specs.Facts.{StandsSoFar}
 use Rattle.hdt_front.specs.Packed.{packing_of}
-use Rattle.hdt_front.specs.Facts.{rest_at}
-use Rattle.hdt_front.specs.Unfolding.{kept, text_from, text_of, after_piece}
 use Rattle.hdt_front.specs.Strings.{blocks_of}
 use Rattle.hdt_front.proofs.Lies.{head_lies}
 use Rattle.hdt_front.proofs.Loads.{zero_behind}
-use Rattle.hdt_front.proofs.Strings.{block_within, not_zero, opens, unfolds_here, unfolded_partly, unfolded_whole}
+use Rattle.hdt_front.proofs.Strings.{block_within, head_stands, next_stands, stands_on}
+use Rattle.hdt_front.proofs.string.unfold_in.Goals.{then-loop-rest-test+else-room-at-ge-LANES, else-loop-rest-test, then-loop-rest-test+then-room-at-ge-LANES+then-run-lt-LANES+then-done-many, then-loop-rest-test+then-room-at-ge-LANES+then-run-lt-LANES+else-done-many+in_default}
 use Rattle.hdt_front.proofs.string.unfold_in.Goals as goal
 
-pub from_head-from-requires : goal.from_head-from-requires
+pub from_head-rest-requires : goal.from_head-rest-requires
 unfolding blocks_of
-from_head-from-requires c =
+from_head-rest-requires c =
     let p = c.args.section.now.packed in
     block_within p.count p.block c.args.block c.args.many (p.some (omega (arith, c.requires.some, c.requires.within))) c.requires.some c.requires.within
 
-pub loop-done-init : goal.loop-done-init
-unfolding blocks_of kept text_from
-loop-done-init c =
+pub loop-rest-init : goal.loop-rest-init
+unfolding blocks_of
+loop-rest-init c =
     let p = c.args.section.now.packed in
     let some = p.some (omega (arith, c.requires.some, c.requires.within)) in
     let lies = head_lies (packing_of p) p.count c.args.block p.bytes.now refl some (block_within p.count p.block c.args.block c.args.many some c.requires.some c.requires.within) c.args.section.now.read in
-    let here = c.from_head-from.ensures ∙ sym lies.here ∙ ap (λ k. rest_at p.block k p.bytes.now) (sym (add-zero (c.args.block * p.block))) in
-    let u = unfolds_here (packing_of p) p.count c.args.block 0 p.bytes.now _ (omega (arith, c.requires.short, c.requires.some)) (omega (arith, c.requires.within, c.requires.some)) c.args.section.now.read here in
     record {
-      few = c.requires.some;
-      string = refl;
-      room = omega arith;
-      opens = opens p.block c.args.block 0 p.bytes.now c.from_head-from.result.now true 0 c.from_head-from.result.now u refl refl refl;
-      cost = omega arith;
+      done = (omega arith, omega (arith, c.requires.some));
+      stands = head_stands (packing_of p) p.count c.args.block p.bytes.now c.args.room.now _ some (omega (arith, c.requires.within, c.requires.some)) c.args.section.now.read (c.from_head-rest.ensures ∙ sym lies.here);
+      cost = omega (arith, c.tick.ensures);
     }
 
-pub copy_text-len-requires : goal.copy_text-len-requires
-copy_text-len-requires c = record { within = omega (arith, c.loop-done.invariant.opens.fits, c.loop-done.invariant.room) }
-
-pub returns-then-done-many-clause-string : goal.returns-then-done-many-clause-string
-unfolding text_of text_from
-returns-then-done-many-clause-string c =
-    let l = c.loop-done in let t = c.copy_text-len in
-    ap (λ f. take (l.at + t.result.0) t.new.room ++ take (zero_in f) f) c.split_at.ensures.back
-    ∙ unfolded_partly l.at t.result.0 _ l.room t.new.room l.from.now _ l.invariant.string l.invariant.opens.fits t.ensures.text t.ensures.so_far l.invariant.opens.string
-
-pub returns-then-done-many-clause-ends : goal.returns-then-done-many-clause-ends
-returns-then-done-many-clause-ends c =
-    let l = c.loop-done in let t = c.copy_text-len in
-    omega (arith, l.invariant.opens.ends, ap zero_in c.split_at.ensures.back, ap length c.split_at.ensures.back, zero_behind t.result.0 l.from.now t.ensures.so_far, length-drop t.result.0 l.from.now, t.ensures.so_far)
-
-pub returns-then-done-many-clause-rest : goal.returns-then-done-many-clause-rest
-unfolding text_from after_piece
-returns-then-done-many-clause-rest c =
-    let l = c.loop-done in let t = c.copy_text-len in
-    let behind : t.result.0 + (zero_in (drop t.result.0 l.from.now) + 1) ≡ zero_in l.from.now + 1 = omega (arith, zero_behind t.result.0 l.from.now t.ensures.so_far) in
-    ap (λ f. drop (zero_in f + 1) f) c.split_at.ensures.back ∙ drop-drop (zero_in (drop t.result.0 l.from.now) + 1) t.result.0 l.from.now
-    ∙ ap (λ n. drop n l.from.now) behind ∙ l.invariant.opens.after
-
-pub split_at-requires-in-loop-done : goal.split_at-requires-in-loop-done
-split_at-requires-in-loop-done c = omega (arith, c.loop-done.invariant.opens.ends, c.copy_text-len.ensures.so_far)
-
-pub loop-done-preserved : goal.loop-done-preserved
-loop-done-preserved c =
-    let p = c.args.section.now.packed in let l = c.loop-done in let t = c.copy_text-len in let o = c.opened_text-kept in
-    let more : l.done + 1 < c.args.many = omega (arith, l.invariant.few, c.if-done-many.false) in
-    let all = t.ensures.whole c.if-not-whole.false in
-    let w = unfolded_whole l.at t.result.0 _ l.room t.new.room l.from.now _ l.invariant.string l.invariant.opens.fits t.ensures.text all l.invariant.opens.string t.ensures.within in
-    let here = c.split_at-in-loop-done.ensures.back ∙ ap (λ n. drop (n + 1) l.from.now) all ∙ l.invariant.opens.after in
-    let u = unfolds_here (packing_of p) p.count c.args.block (l.done + 1) p.bytes.now _ (omega (arith, more, c.requires.short)) (omega (arith, more, c.requires.within)) c.args.section.now.read here in
+pub loop-rest-preserved : goal.loop-rest-preserved
+loop-rest-preserved c =
+    let p = c.args.section.now.packed in let l = c.loop-rest in let t = c.copy_load-run in
     record {
-      few = more;
-      string = w.0;
-      room = w.1;
-      opens = opens p.block c.args.block (l.done + 1) p.bytes.now _ false o.result.0 o.result.1.now u (sym (not_zero (l.done + 1) (omega arith))) o.ensures.kept o.ensures.from;
-      cost = omega (arith, l.invariant.cost, c.tick.ensures);
+      done = l.invariant.done;
+      stands = subst (StandsSoFar p.block c.args.block l.done p.bytes.now t.new.room (l.at + t.result)) (sym c.split_at.ensures.back)
+          (stands_on p.block c.args.block l.done p.bytes.now l.room t.new.room l.rest.now l.at t.result l.invariant.stands (omega (arith, t.ensures.reaches.so_far))
+          (omega (arith, t.ensures.size, t.ensures.reaches.within, c.if-room-at-ge-LANES.true, l.invariant.stands.within)) t.ensures.text);
+      cost = l.invariant.cost;
     }
+
+pub loop-rest-preserved-then-run-lt-LANES : goal.loop-rest-preserved-then-run-lt-LANES
+loop-rest-preserved-then-run-lt-LANES c =
+    let p = c.args.section.now.packed in let l = c.loop-rest in let t = c.copy_load-run in
+    let left : List ℕ = c.split_at.result.1.now in
+    let stands = subst (StandsSoFar p.block c.args.block l.done p.bytes.now t.new.room (l.at + t.result)) (sym c.split_at.ensures.back)
+        (stands_on p.block c.args.block l.done p.bytes.now l.room t.new.room l.rest.now l.at t.result l.invariant.stands (omega (arith, t.ensures.reaches.so_far))
+        (omega (arith, t.ensures.size, t.ensures.reaches.within, c.if-room-at-ge-LANES.true, l.invariant.stands.within)) t.ensures.text) in
+    let ended : zero_in left ≡ 0 = omega (arith, ap zero_in c.split_at.ensures.back, zero_behind t.result l.rest.now (omega (arith, t.ensures.reaches.so_far)), t.ensures.reaches.stop c.if-run-lt-LANES.true) in
+    let more : l.done < c.args.many = omega (arith, l.invariant.done.1, c.if-done-many.false) in
+    record {
+      done = (omega arith, omega (arith, more));
+      stands = subst (StandsSoFar p.block c.args.block (l.done + 1) p.bytes.now t.new.room c.in-Some.kept) (sym c.split_at-then-run-lt-LANES-2.ensures.back)
+          (next_stands (packing_of p) p.count c.args.block l.done p.bytes.now t.new.room left (l.at + t.result) c.in-Some.kept stands ended l.invariant.done.0 (omega (arith, more, c.requires.short))
+          (omega (arith, more, c.requires.within)) c.args.section.now.read (ap (λ r. vbyte_at r 0) (sym c.split_at-then-run-lt-LANES.ensures.back) ∙ c.in-Some.ensures.0));
+      cost = omega (arith, l.invariant.cost, c.tick-then-run-lt-LANES.ensures);
+    }
+
+pub returns-clause-stands : goal.returns-clause-stands
+returns-clause-stands c =
+    let p = c.args.section.now.packed in let l = c.loop-rest in
+    elim c.loop-rest-test.branch [
+      | then-loop-rest-test+else-room-at-ge-LANES w ↦ rw (w.room-is, w.rest-is, w.at-is) l.invariant.stands
+      | else-loop-rest-test w ↦ rw (w.room-is, w.rest-is, w.at-is) l.invariant.stands
+      | then-loop-rest-test+then-room-at-ge-LANES+then-run-lt-LANES+then-done-many w ↦
+          let t = w.copy_load-run in
+          rw (w.room-is, w.rest-is, w.at-is, w.split_at.ensures.back) (stands_on p.block c.args.block l.done p.bytes.now l.room t.new.room l.rest.now l.at t.result l.invariant.stands (omega (arith, t.ensures.reaches.so_far))
+          (omega (arith, t.ensures.size, t.ensures.reaches.within, w.if-room-at-ge-LANES.true, l.invariant.stands.within)) t.ensures.text)
+      | then-loop-rest-test+then-room-at-ge-LANES+then-run-lt-LANES+else-done-many+in_default w ↦
+          let t = w.copy_load-run in
+          rw (w.room-is, w.rest-is, w.at-is, w.split_at.ensures.back) (stands_on p.block c.args.block l.done p.bytes.now l.room t.new.room l.rest.now l.at t.result l.invariant.stands (omega (arith, t.ensures.reaches.so_far))
+          (omega (arith, t.ensures.size, t.ensures.reaches.within, w.if-room-at-ge-LANES.true, l.invariant.stands.within)) t.ensures.text)
+    ]
