@@ -12,10 +12,7 @@ ghost use Rattle.hdt_dict.specs.Numbered.{numbered, AppendsString};
 ghost use Rattle.hdt_wire.specs.declared.role.Role.{Role};
 
 use crate::apart::{check_objects, check_subjects};
-use crate::two::{
-    bytes_in_one, bytes_in_two, number_in_two, string_in_one,
-    string_in_two,
-};
+use crate::two::{bytes_in_one, bytes_in_two, number_in_two, string_in_one, string_in_two};
 use hdt_front::{ReadFault, Section};
 use hdt_seq::Steps;
 use hdt_wire::{Kind, Role, read_control};

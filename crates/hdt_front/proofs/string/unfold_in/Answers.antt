@@ -44,8 +44,8 @@ loop-rest-preserved-then-run-lt-LANES c =
     let p = c.args.section.now.packed in let l = c.loop-rest in let t = c.copy_load-run in
     let left : List ℕ = c.split_at.result.1.now in
     let stands = subst (StandsSoFar p.block c.args.block l.done p.bytes.now t.new.room (l.at + t.result)) (sym c.split_at.ensures.back)
-        (stands_on p.block c.args.block l.done p.bytes.now l.room t.new.room l.rest.now l.at t.result l.invariant.stands (omega (arith, t.ensures.reaches.so_far))
-        (omega (arith, t.ensures.size, t.ensures.reaches.within, c.if-room-at-ge-LANES.true, l.invariant.stands.within)) t.ensures.text) in
+    (stands_on p.block c.args.block l.done p.bytes.now l.room t.new.room l.rest.now l.at t.result l.invariant.stands (omega (arith, t.ensures.reaches.so_far))
+    (omega (arith, t.ensures.size, t.ensures.reaches.within, c.if-room-at-ge-LANES.true, l.invariant.stands.within)) t.ensures.text) in
     let ended : zero_in left ≡ 0 = omega (arith, ap zero_in c.split_at.ensures.back, zero_behind t.result l.rest.now (omega (arith, t.ensures.reaches.so_far)), t.ensures.reaches.stop c.if-run-lt-LANES.true) in
     let more : l.done < c.args.many = omega (arith, l.invariant.done.1, c.if-done-many.false) in
     record {

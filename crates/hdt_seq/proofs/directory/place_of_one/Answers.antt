@@ -24,7 +24,7 @@ loop-left-preserved c =
     let up : l.left ≡ suc (l.left - 1) = omega (arith, c.loop-left-test.true) in
     let two : 2 ^ l.left ≡ 2 ^ (l.left - 1) + 2 ^ (l.left - 1) = ap (λ m. 2 ^ m) up ∙ pow-suc 2 (l.left - 1) ∙ (omega arith) in
     let here = halved (nat_lt (ones (c.args.word % 2 ^ (l.low + size))) c.args.k) c.args.word c.args.k l.low size c.has_fewer.result refl (c.has_fewer.ensures ∙ ap (λ h. cond (nat_lt (ones (c.args.word % 2 ^ (l.low + h))) c.args.k) 1 0) half)
-        l.invariant.before (subst (λ n. c.args.k ≤ ones (c.args.word % 2 ^ (l.low + n))) two l.invariant.through) in
+    l.invariant.before (subst (λ n. c.args.k ≤ ones (c.args.word % 2 ^ (l.low + n))) two l.invariant.through) in
     rw (half) (record { left = omega (arith, l.invariant.left); room = omega (arith, here.2, two, l.invariant.room); before = here.0; through = here.1 })
 
 pub returns-clause-within : goal.returns-clause-within
