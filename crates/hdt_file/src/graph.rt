@@ -92,7 +92,16 @@ impl<'a> Graph<'a> {
     pub fn held(&self) -> u128
         ensures { result ≡ held_by (graph_parts self.now) }
     {
-        self.triples.held()
+        // (the pattern names every field, so a new one doesn't compile until it is counted here)
+        let Graph {
+            head,
+            dictionary,
+            triples,
+        } = self;
+        let _head: &Head<'a> = head;
+        let _dictionary: &Dictionary<'a> = dictionary;
+        let triples: &ListedTriples<'a> = triples;
+        triples.held()
     }
 
     /// How many strings a role has.

@@ -106,7 +106,10 @@ impl Directory {
         ensures is { result ≡ length (counts_kept self.now) }
         ensures groups { (bits : List Bool) → IsDirectoryOf self.now bits → result ≡ groups bits + 1 }
     {
-        self.counts.len() as u128
+        // (the pattern names every field, so a new one doesn't compile until it is counted here)
+        let Directory { counts } = self;
+        let counts: &Vec<u64> = counts;
+        counts.len() as u128
     }
 
     /// The count kept for a group: one step.

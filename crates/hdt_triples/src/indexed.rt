@@ -55,7 +55,11 @@ impl<'a> IndexedTriples<'a> {
     pub fn held(&self) -> u128
         ensures { result ≡ directories_held (bitmap_read (triples_indexed self.now)) }
     {
-        self.y.held() + self.z.held()
+        // (the pattern names every field, so a new one doesn't compile until it is counted here)
+        let IndexedTriples { triples, y, z } = self;
+        let _borrowed: &Triples<'a> = triples;
+        let (y, z): (&Directory, &Directory) = (y, z);
+        y.held() + z.held()
     }
 
     /// How many subjects the triples have, by one look.

@@ -101,11 +101,22 @@ impl<'a> ListedTriples<'a> {
     pub fn held(&self) -> u128
         ensures { result ≡ directories_held (bitmap_read (triples_listed self.now)) + lists_held (roles_of (triples_listed self.now)) (bitmap_read (triples_listed self.now)) }
     {
-        self.indexed.held()
-            + self.pair_starts.len() as u128
-            + self.pairs.len() as u128
-            + self.triple_starts.len() as u128
-            + self.places.len() as u128
+        // (the pattern names every field, so a new one doesn't compile until it is counted here)
+        let ListedTriples {
+            indexed,
+            pair_starts,
+            pairs,
+            triple_starts,
+            places,
+        } = self;
+        let indexed: &IndexedTriples<'a> = indexed;
+        let (pair_starts, pairs): (&Vec<u64>, &Vec<u64>) = (pair_starts, pairs);
+        let (triple_starts, places): (&Vec<u64>, &Vec<u64>) = (triple_starts, places);
+        indexed.held()
+            + pair_starts.len() as u128
+            + pairs.len() as u128
+            + triple_starts.len() as u128
+            + places.len() as u128
     }
 
     /// The pairs of a predicate, ascending, by two looks.

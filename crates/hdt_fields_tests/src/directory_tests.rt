@@ -1,0 +1,11 @@
+use crate::sample::{FILE, Stop};
+use hdt_seq::{Bits, Directory};
+
+/// A bitmap of one bit: the count before its one group, and the total.
+#[test]
+fn fields(rt: HostRuntime) -> Result<(), Stop> {
+    let (bits, _end) = Bits::read(FILE, 425)?;
+    let directory = Directory::new(rt.alloc(), &bits)?;
+    assert_eq!(rt; directory.held(), 2);
+    Ok(())
+}

@@ -1,0 +1,10 @@
+use crate::sample::{FILE, Stop};
+use hdt_file::open;
+
+/// A graph keeps what its triples keep.
+#[test]
+fn fields(rt: HostRuntime) -> Result<(), Stop> {
+    let graph = open(rt.alloc(), FILE)?;
+    assert_eq!(rt; graph.held(), 10);
+    Ok(())
+}

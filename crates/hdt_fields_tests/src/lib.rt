@@ -1,0 +1,14 @@
+//! How many numbers a graph and its parts keep in memory, on the sample file v1.hdt.
+//!
+//! Each `held` takes its value apart by a pattern that names every field, so that a new field doesn't compile until it is
+//! counted. These tests call each `held` once, in a crate of their own, so that the libraries are proved only once.
+#![tactic(auto)]
+
+#[cfg(test)]
+mod directory_tests;
+#[cfg(test)]
+mod graph_tests;
+#[cfg(test)]
+mod sample;
+#[cfg(test)]
+mod triples_tests;

@@ -1,0 +1,29 @@
+use crate::sample::{FILE, Stop};
+use hdt_triples::{Counts, IndexedTriples, Triples};
+use std::alloc::Global;
+
+/// The triples with the rank/select indexes of their two bitmaps.
+fn indexed(alloc: Global) -> Result<IndexedTriples<'static>, Stop> {
+    let counts = Counts {
+        subjects: 1,
+        predicates: 1,
+        objects: 1,
+    };
+    let (triples, _end) = Triples::read(FILE, 369, counts)?;
+    match triples.with_directories(alloc) {
+        Ok(indexed) => Ok(indexed),
+        Err(_) => Err(Stop::OutOfMemory),
+    }
+}
+
+/// One triple: two numbers for each index, and three for each inverted index (of one predicate, of one object).
+#[test]
+fn fields(rt: HostRuntime) -> Result<(), Stop> {
+    let indexed = indexed(rt.alloc())?;
+    assert_eq!(rt; indexed.held(), 4);
+    match indexed.with_lists(rt.alloc()) {
+        Ok(listed) => assert_eq!(rt; listed.held(), 10),
+        Err(_) => return Err(Stop::OutOfMemory),
+    }
+    Ok(())
+}

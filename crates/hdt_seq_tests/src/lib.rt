@@ -1,8 +1,0 @@
-//! Tests of hdt_seq, which see what it exports. They stand in a crate of their own, so that their proofs rest on its
-//! contracts, and it is not proved once more beside them.
-#![tactic(auto)]
-
-#[cfg(test)]
-mod directory_tests;
-#[cfg(test)]
-mod tests;
