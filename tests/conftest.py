@@ -1,0 +1,26 @@
+"""Fixtures and settings of all tests."""
+
+from __future__ import annotations
+
+from pathlib import Path
+
+import pytest
+from hypothesis import settings
+
+from support import built
+
+settings.register_profile("gate", max_examples=200, deadline=None, print_blob=True)
+settings.register_profile("long", max_examples=20_000, deadline=None, print_blob=True)
+settings.load_profile("gate")
+
+
+@pytest.fixture(scope="session")
+def program() -> Path:
+    """The command `hdt`."""
+    return built.PROGRAM
+
+
+@pytest.fixture(scope="session")
+def samples() -> Path:
+    """The folder of sample files."""
+    return built.SAMPLES
