@@ -5,6 +5,7 @@ from __future__ import annotations
 import ctypes
 import ctypes.util
 import os
+import subprocess
 from pathlib import Path
 from typing import Any
 
@@ -55,21 +56,38 @@ class Made(ctypes.Structure):
         library.hdt_free(self)
 
 
+def _of_checkout() -> list[str]:
+    """The library of the checkout that this package is part of, if it is part of one and the library belongs to it."""
+    current = Path(__file__).resolve().parents[2] / "tools/current"
+    if not current.is_file():
+        return []
+    found = subprocess.run([current], stdout=subprocess.PIPE, stderr=subprocess.PIPE, text=True)
+    if found.returncode:
+        raise ImportError(found.stderr.strip())
+    return [str(current.parents[1] / found.stdout.strip() / "libhdt.so")]
+
+
 def _candidates() -> list[str]:
     """Where the library may be, the first one first."""
     if named := os.environ.get("HDT_LIBRARY"):
         return [os.path.join(named, "libhdt.so") if os.path.isdir(named) else named]
-    here = Path(__file__).resolve().parent
-    files = [str(path) for path in (here / "libhdt.so", here.parents[1] / "c/out/libhdt.so") if path.exists()]
-    found = ctypes.util.find_library("hdt")
-    return files + ([found] if found else [])
+    beside = Path(__file__).resolve().parent / "libhdt.so"
+    if beside.exists():
+        return [str(beside)]
+    if found := _of_checkout():
+        return found
+    system = ctypes.util.find_library("hdt")
+    return [system] if system else []
 
 
 def _load() -> Any:
     """The library with the types of its calls. Other threads run during a call (ctypes lets go of Python's lock)."""
     candidates = _candidates()
     if not candidates:
-        raise ImportError("no libhdt.so: HDT_LIBRARY may name the file; else it lies beside the package, in c/out (c/make makes it there), or where the system finds it")
+        raise ImportError(
+            "no libhdt.so: it is looked for in the file that HDT_LIBRARY names, beside this package, in the checkout that "
+            "the package is part of, and where the system finds it"
+        )
     loaded = ctypes.CDLL(candidates[0])
     bytes_of, graph, role, number, size = [ctypes.c_void_p, ctypes.c_size_t], ctypes.POINTER(Handle), ctypes.c_uint32, ctypes.c_uint64, ctypes.c_size_t
     pattern = [role, *bytes_of] * 3

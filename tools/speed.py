@@ -77,7 +77,9 @@ def without_repeats(count):
     """So many lines, all different: each subject has eight, with objects of their own, in the order of the subjects."""
     address = "http://example.org/resource/%09d"
     return [
-        f'<{address % (line // 8)}> <{PREDICATES[line % 8]}> "object {line} of the subject" .\n' if line % 2 else f"<{address % (line // 8)}> <{PREDICATES[line % 8]}> <{address % (line + count)}> .\n"
+        f'<{address % (line // 8)}> <{PREDICATES[line % 8]}> "object {line} of the subject" .\n'
+        if line % 2
+        else f"<{address % (line // 8)}> <{PREDICATES[line % 8]}> <{address % (line + count)}> .\n"
         for line in range(count)
     ]
 
@@ -103,7 +105,9 @@ def run_once(command, out, source=os.devnull):
     """Processor seconds, seconds of a clock and peak memory in bytes of a command between two files."""
     with open(out, "wb") as file, open(source, "rb") as given:
         begin = time.perf_counter()
-        process = subprocess.Popen(command, stdin=given, stdout=file, stderr=subprocess.DEVNULL, env={**os.environ, "LC_ALL": "C"})
+        process = subprocess.Popen(
+            command, stdin=given, stdout=file, stderr=subprocess.DEVNULL, env={**os.environ, "LC_ALL": "C"}
+        )
         _, status, usage = os.wait4(process.pid, 0)
         seconds = time.perf_counter() - begin
         process.returncode = status
@@ -166,35 +170,71 @@ def print_document(folder, name, lines, count):
     line = write_document(source, lines, count)
     size = source.stat().st_size
     print(f"{count:,} lines, {name}: {size:,} bytes ({size / count:.0f} a line)\n")
-    print("| command | processor, s | clock, s | peak memory, MB | of `sort -u` | ns a line |\n|---|---|---|---|---|---|")
+    print(
+        "| command | processor, s | clock, s | peak memory, MB | of `sort -u` | ns a line |\n|---|---|---|---|---|---|"
+    )
     sorting = None
     for what, words in commands(source, file, line):
         processor, clock, peak = measured(words, folder / "out")
         sorting = sorting or processor
-        print(f"| {what} | {processor:.3f} | {clock:.3f} | {peak / 1e6:.0f} | {processor / sorting:.2f} | {processor / count * 1e9:.0f} |", flush=True)
+        print(
+            f"| {what} | {processor:.3f} | {clock:.3f} | {peak / 1e6:.0f} | {processor / sorting:.2f} | {processor / count * 1e9:.0f} |",
+            flush=True,
+        )
     requests = folder / "requests"
     # (what is answered of more lines would fill the memory)
     for what, (times, form) in REQUESTS.items() if count <= 1_000_000 else ():
         write_requests(requests, source, times, form)
         processor, clock, peak = measured([PROGRAM, "answer", file], folder / "out", requests)
-        print(f"| {what} | {processor:.3f} | {clock:.3f} | {peak / 1e6:.0f} | {processor / sorting:.2f} | {processor / count * 1e9:.0f} |", flush=True)
+        print(
+            f"| {what} | {processor:.3f} | {clock:.3f} | {peak / 1e6:.0f} | {processor / sorting:.2f} | {processor / count * 1e9:.0f} |",
+            flush=True,
+        )
     print(f"\nThe file has {file.stat().st_size:,} bytes.\n")
 
 
 # Families of files that cost time where a program compares or unfolds whole strings: how one is made of a size, and the
 # commands.
 HOSTILE = {
-    "two sections of long fronts": (lambda scale: hdtfile.long_fronts(2, 40_000 * scale, 1_000 * scale)[0], (1, 2, 4, 8, 16), [["verify"], ["verify", "--tight"], ["rewrite", "--block-size", "65535"]]),
-    "three sections of long fronts": (lambda scale: hdtfile.long_fronts(3, 40_000 * scale, 1_000 * scale)[0], (1, 2, 4, 8, 16), [["rewrite", "--block-size", "65535"]]),
-    "loose strings of long fronts": (lambda scale: hdtfile.loose_fronts(40_000 * scale, 1_000 * scale)[0], (1, 2, 4, 8, 16), [["rewrite", "--block-size", "65535"]]),
-    "one huge block": (lambda scale: hdtfile.long_fronts(2, 0, 6_250 * scale)[0], (1, 2, 4, 8, 16), [["verify"], ["dump"], ["find", "?", "<u:p>", "?"], ["strings", "object"], ["rewrite", "--block-size", "65535"]]),
-    "long fronts, written anew in each block": (lambda scale: hdtfile.long_fronts(2, 5_000 * scale, 125 * scale)[0], (1, 2, 4, 8), [["rewrite"], ["rewrite", "--block-size", "65535"]]),
+    "two sections of long fronts": (
+        lambda scale: hdtfile.long_fronts(2, 40_000 * scale, 1_000 * scale)[0],
+        (1, 2, 4, 8, 16),
+        [["verify"], ["verify", "--tight"], ["rewrite", "--block-size", "65535"]],
+    ),
+    "three sections of long fronts": (
+        lambda scale: hdtfile.long_fronts(3, 40_000 * scale, 1_000 * scale)[0],
+        (1, 2, 4, 8, 16),
+        [["rewrite", "--block-size", "65535"]],
+    ),
+    "loose strings of long fronts": (
+        lambda scale: hdtfile.loose_fronts(40_000 * scale, 1_000 * scale)[0],
+        (1, 2, 4, 8, 16),
+        [["rewrite", "--block-size", "65535"]],
+    ),
+    "one huge block": (
+        lambda scale: hdtfile.long_fronts(2, 0, 6_250 * scale)[0],
+        (1, 2, 4, 8, 16),
+        [
+            ["verify"],
+            ["dump"],
+            ["find", "?", "<u:p>", "?"],
+            ["strings", "object"],
+            ["rewrite", "--block-size", "65535"],
+        ],
+    ),
+    "long fronts, written anew in each block": (
+        lambda scale: hdtfile.long_fronts(2, 5_000 * scale, 125 * scale)[0],
+        (1, 2, 4, 8),
+        [["rewrite"], ["rewrite", "--block-size", "65535"]],
+    ),
 }
 
 
 def print_hostile(folder):
     """Each command at four doublings of each family, and how many times the last one is the one before."""
-    print("| files | command | bytes, and processor seconds | the last to the one before | peak memory, MB |\n|---|---|---|---|---|")
+    print(
+        "| files | command | bytes, and processor seconds | the last to the one before | peak memory, MB |\n|---|---|---|---|---|"
+    )
     path = folder / "hostile.hdt"
     for name, (make, scales, asked) in HOSTILE.items():
         for command, *words in asked:
@@ -205,17 +245,27 @@ def print_hostile(folder):
                 processor, _, peak = measured([PROGRAM, command, path, *words, *out], folder / "out")
                 seconds.append(processor)
                 cells.append(f"{path.stat().st_size:,}: {processor:.3f}")
-            print(f"| {name} | {' '.join([command, *words])} | {'; '.join(cells)} | {seconds[-1] / max(seconds[-2], 0.001):.1f} | {peak / 1e6:.0f} |", flush=True)
+            print(
+                f"| {name} | {' '.join([command, *words])} | {'; '.join(cells)} | {seconds[-1] / max(seconds[-2], 0.001):.1f} | {peak / 1e6:.0f} |",
+                flush=True,
+            )
 
 
 def main():
     words = argparse.ArgumentParser(prog="tests/speed", description=__doc__.split("\n")[0])
     words.add_argument("--hostile", action="store_true", help="measure files that strangers made to cost time")
-    words.add_argument("lines", nargs="*", metavar="LINES", help="how many lines a document has; none: 100,000, 1,000,000 and 5,000,000")
+    words.add_argument(
+        "lines",
+        nargs="*",
+        metavar="LINES",
+        help="how many lines a document has; none: 100,000, 1,000,000 and 5,000,000",
+    )
     given = words.parse_args()
     if not PROGRAM.exists():
         sys.exit(f"no {PROGRAM.relative_to(TOP)}: run `rt ci` first")
-    counts = [int(word.replace(",", "")) for word in given.lines] or ([] if given.hostile else [100_000, 1_000_000, 5_000_000])
+    counts = [int(word.replace(",", "")) for word in given.lines] or (
+        [] if given.hostile else [100_000, 1_000_000, 5_000_000]
+    )
     memory = "/dev/shm" if os.access("/dev/shm", os.W_OK) else None
     print(f"{datetime.date.today()}, {len(os.sched_getaffinity(0))} cores, load {os.getloadavg()[0]:.1f}\n")
     with tempfile.TemporaryDirectory(dir=memory) as name:

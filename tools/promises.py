@@ -25,7 +25,9 @@ OF_TRAITS = {"output", "from_gives"}
 # Methods whose clauses are those of a derive.
 DERIVED = {"is_clone"}
 # The line of specs/ that tells a definition's type.
-DEFINITION = re.compile(r"^(?:(?:abbrev|unfoldable|pub|record|data) )*([A-Za-z_][\w'-]*)(?= *:| +[({][^=]* : Type)", re.M)
+DEFINITION = re.compile(
+    r"^(?:(?:abbrev|unfoldable|pub|record|data) )*([A-Za-z_][\w'-]*)(?= *:| +[({][^=]* : Type)", re.M
+)
 HEAD = ["promise", "function", "clause", "wrong bodies refused (edits)"]
 
 
@@ -67,7 +69,11 @@ def exported(texts):
     """The functions that a library exports: those that its root file names, the public methods of the types that it names, and
     those that are exported to C."""
     root = texts.get("src/lib.rt", "")
-    names = {it for group in re.findall(r"^pub use [\w:]+::(?:\{([^}]*)\}|\w+);", root, re.M) for it in re.findall(r"\w+", group)}
+    names = {
+        it
+        for group in re.findall(r"^pub use [\w:]+::(?:\{([^}]*)\}|\w+);", root, re.M)
+        for it in re.findall(r"\w+", group)
+    }
     names |= set(re.findall(r"^pub use [\w:]+::(\w+);", root, re.M))
     found = set()
     for text in texts.values():
@@ -120,7 +126,9 @@ class Check:
         for line, cells in rows_of((self.crate / "PROMISES.md").read_text()):
             self.row(line, cells)
         for name in self.edits:
-            self.expect(self.named.count(name) == 1, f"the edit {name} is named {self.named.count(name)} times, and not once")
+            self.expect(
+                self.named.count(name) == 1, f"the edit {name} is named {self.named.count(name)} times, and not once"
+            )
         for name in sorted(exported(self.texts)):
             self.expect(name in self.told, f"the exported function {name} stands in no row")
 
@@ -177,7 +185,11 @@ def main():
     words = argparse.ArgumentParser(prog="tests/promises", description=__doc__.split("\n")[0])
     words.add_argument("--counts", action="store_true", help="print the table of lines, edits and tests instead")
     given = words.parse_args()
-    crates = [TOP / "crates" / it.partition(":")[0].split()[0] for it in (TOP / "crates.txt").read_text().split("\n") if ":" in it.partition("#")[0]]
+    crates = [
+        TOP / "crates" / it.partition(":")[0].split()[0]
+        for it in (TOP / "crates.txt").read_text().split("\n")
+        if ":" in it.partition("#")[0]
+    ]
     if given.counts:
         return print_counts(crates)
     # (a crate of tests promises nothing)

@@ -1,10 +1,16 @@
-"""Finds the functions of a Rattle file, so that the bodies of several edits can be put together, and the names that a check has for them."""
+"""The functions of a Rattle source file: their bodies, and the names that a check has for them."""
+
+from __future__ import annotations
 
 import re
+from collections.abc import Iterable
+
+Items = list[tuple[int, str]]
 
 # A comment, a string, a character, a lifetime, a word, blanks, or one other sign.
 TOKEN = re.compile(
-    r"""//[^\n]*|/\*|[bc]?r(\#*)".*?"\1|[bc]?"(?:[^"\\]|\\.)*"|'(?=\\)(?:[^'\\\n]|\\[^\n])*'|'[^\n\\']'|'[A-Za-z_]\w*|r\#[A-Za-z_]\w*|\w+|\s+|.""",
+    r"""//[^\n]*|/\*|[bc]?r(\#*)".*?"\1|"""
+    r"""[bc]?"(?:[^"\\]|\\.)*"|'(?=\\)(?:[^'\\\n]|\\[^\n])*'|'[^\n\\']'|'[A-Za-z_]\w*|r\#[A-Za-z_]\w*|\w+|\s+|.""",
     re.S | re.A,
 )
 # The words before a brace that opens a clause or another text of the logic.
@@ -12,8 +18,8 @@ CLAUSE = re.compile(r"(?:(?:requires|ensures)(?: \*)?(?: \w+)?|ghost \w+ : .*)$"
 WORD = re.compile(r"[A-Za-z_]\w*$")
 
 
-def end_of_comment(text, at):
-    """The place behind the comment, with those inside it, that begins at `at`."""
+def end_of_comment(text: str, at: int) -> int:
+    """Return where the comment that begins at `at`, and those nested in it, end."""
     depth, end = 1, at + 2
     while depth and end < len(text):
         opens, closes = text.startswith("/*", end), text.startswith("*/", end)
@@ -22,11 +28,12 @@ def end_of_comment(text, at):
     return end
 
 
-def tokens(text):
-    """The places and tokens of all but blanks and comments."""
-    found, at = [], 0
+def tokens(text: str) -> Items:
+    """Return the offsets and tokens of all but whitespace and comments."""
+    found: Items = []
+    at = 0
     while at < len(text):
-        token = TOKEN.match(text, at)[0]
+        token = TOKEN.match(text, at)[0]  # type: ignore[index]
         if token == "/*":
             at = end_of_comment(text, at)
             continue
@@ -36,7 +43,7 @@ def tokens(text):
     return found
 
 
-def after_block(items, i):
+def after_block(items: Items, i: int) -> int:
     """The index behind the bracket that matches the one at i."""
     depth = 0
     while i < len(items):
@@ -47,9 +54,9 @@ def after_block(items, i):
     raise ValueError("a bracket is not closed")
 
 
-def body_of(items, i):
-    """The index of the brace that opens the body of the function whose name stands before i, or that of its `;`, where it has none."""
-    words = []
+def body_of(items: Items, i: int) -> int:
+    """Return the index of the brace that opens a function's body, or of its `;`; its name is the item before i."""
+    words: list[str] = []
     while items[i][1] != ";":
         token = items[i][1]
         if token == "{" and not CLAUSE.search(" ".join(words)):
@@ -62,13 +69,15 @@ def body_of(items, i):
     return i
 
 
-def functions(text):
-    """The functions that have a body, outermost ones: name with its impl's type, start of the body, its end.
+def functions(text: str) -> list[tuple[str, int, int]]:
+    """Return the outermost functions with a body: the name with its impl's type, and where the body begins and ends.
 
-    A `const fn` is left out: what it gives can stand in a type or a constant, which other functions read."""
-    items, found = tokens(text), []
+    A `const fn` is left out: its value can be part of a type or a constant, which other functions read.
+    """
+    items = tokens(text)
+    found: list[tuple[str, int, int]] = []
 
-    def function(i, owner):
+    def function(i: int, owner: str) -> int:
         start = body_of(items, i + 2)
         if items[start][1] == ";":
             return start + 1
@@ -77,7 +86,7 @@ def functions(text):
             found.append((f"{owner}{items[i + 1][1]}", items[start][0], items[end - 1][0] + 1))
         return end
 
-    def block(i, owner):
+    def block(i: int, owner: str) -> int:
         head = next(j for j in range(i + 1, len(items)) if items[j][1] in ("{", ";"))
         if items[head][1] == ";":
             return head + 1
@@ -85,7 +94,7 @@ def functions(text):
         walk(head + 1, end - 1, f"{owner}{' '.join(it for _, it in items[i:head])}/")
         return end
 
-    def walk(i, end, owner):
+    def walk(i: int, end: int, owner: str) -> None:
         while i < end:
             token = items[i][1]
             if token == "fn" and i + 1 < end and WORD.match(items[i + 1][1]):
@@ -101,9 +110,11 @@ def functions(text):
     return found
 
 
-def split(text):
-    """The text with each body taken out, and the bodies by the number and name of their function."""
-    rest, bodies, at = [], {}, 0
+def split(text: str) -> tuple[str, dict[tuple[int, str], str]]:
+    """Return the text without bodies, and the bodies by the number and name of their function."""
+    rest: list[str] = []
+    bodies: dict[tuple[int, str], str] = {}
+    at = 0
     for number, (name, start, end) in enumerate(functions(text)):
         rest.append(text[at:start])
         bodies[number, name] = text[start:end]
@@ -111,14 +122,15 @@ def split(text):
     return "\0".join([*rest, text[at:]]), bodies
 
 
-def joined(rest, bodies):
-    """The text that `split` took apart, with these bodies."""
+def joined(rest: str, bodies: dict[tuple[int, str], str]) -> str:
+    """Return the text that `split` took apart, with these bodies."""
     return "".join(a + b for a, b in zip(rest.split("\0"), [*bodies.values(), ""]))
 
 
-def without_parameters(words):
-    """The words of a type or a trait without what stands in its angle brackets."""
-    depth, plain = 0, []
+def without_parameters(words: list[str]) -> list[str]:
+    """Return the words of a type or a trait without its type arguments."""
+    depth = 0
+    plain: list[str] = []
     for word in words:
         depth += (word == "<") - (word == ">")
         if depth == 0 and word != ">":
@@ -126,9 +138,10 @@ def without_parameters(words):
     return plain
 
 
-def inside(words, name):
-    """The words in the angle brackets right behind the last part of a trait's name, as `hdt_wire`, `Fault` of `From<hdt_wire::Fault>`."""
-    found, depth = [], 0
+def inside(words: list[str], name: str) -> list[str]:
+    """Return the type arguments of a trait's name, as `hdt_wire`, `Fault` of `From<hdt_wire::Fault>`."""
+    found: list[str] = []
+    depth = 0
     for word in words[words.index(name) + 1 :]:
         depth += (word == "<") - (word == ">")
         if depth == 0:
@@ -138,8 +151,8 @@ def inside(words, name):
     return found
 
 
-def owner_of(words):
-    """How a check names the type or impl of these words of a head (`impl` and `trait` left out): the usual name, and that with the trait's parameters."""
+def owner_of(words: list[str]) -> tuple[str, str]:
+    """Return how a check names the type or impl with this head: the usual name, and that with the trait's arguments."""
     words = words[: words.index("where")] if "where" in words else words
     plain = without_parameters(words)
     if "for" not in plain:
@@ -151,8 +164,8 @@ def owner_of(words):
     return f"{own}{trait}", own + trait + "".join(it[0].upper() + it[1:] for it in inside(words, trait))
 
 
-def names_of(crate, path, name, told):
-    """The names, of those that a check told, that this function of a file, named as `functions` names it, can have."""
+def names_of(crate: str, path: str, name: str, checked: Iterable[str]) -> list[str]:
+    """Return those of a check's names that a function of a file, named as `functions` names it, can have."""
     *owners, last = name.split("/")
     module = [it for it in path.removeprefix("src/").removesuffix(".rt").split("/") if it not in ("lib", "main", "mod")]
     of = exact = ""
@@ -164,9 +177,11 @@ def names_of(crate, path, name, told):
             of, exact = owner_of(words)
     for owner in (exact, of):
         whole = "::".join([crate, *module, *([owner] if owner else []), last])
-        if whole in told:
+        if whole in checked:
             return [whole]
     # An impl may stand in another file than its type, by whose module the check calls it.
-    found = [it for it in told if of and it.endswith(f"::{of}::{last}") and "::fn::" not in it]
+    found = [it for it in checked if of and it.endswith(f"::{of}::{last}") and "::fn::" not in it]
     start = "::".join([crate, *module, of])
-    return found or [it for it in told if of and it.startswith(start) and it.endswith(f"::{last}") and "::fn::" not in it]
+    return found or [
+        it for it in checked if of and it.startswith(start) and it.endswith(f"::{last}") and "::fn::" not in it
+    ]

@@ -17,7 +17,9 @@ from pathlib import Path
 TOP = Path(__file__).resolve().parent.parent
 WORD = re.compile(r"[A-Za-z_][\w'-]*")
 IMPORT = re.compile(r"^\s*(?:ghost |pub )*use Rattle\.(\w+)\.specs\.([\w.]+?)\.\{([^}]*)\}", re.M)
-BEGIN = re.compile(r"^(?:(?:abbrev|unfoldable|pub|mutual|ruleset|record|data) +)*([A-Za-z_][\w'-]*)(?= *[:({]| +\w+ *[:({])")
+BEGIN = re.compile(
+    r"^(?:(?:abbrev|unfoldable|pub|mutual|ruleset|record|data) +)*([A-Za-z_][\w'-]*)(?= *[:({]| +\w+ *[:({])"
+)
 IMPL = re.compile(r"impl(?:<[^>]*>)?\s+([\w:<>', ]+ for )?(\w+)")
 TYPE = re.compile(r"(pub )?(?:struct|enum) (\w+)")
 FUNCTION = re.compile(r'(\s*)(pub )?(?:\(crate\) )?(?:const )?(extern "C" )?fn (\w+)')
@@ -25,7 +27,11 @@ CLAUSE = re.compile(r"^\s*(?:requires|ensures|ghost \w+ =)|^\s*[×∧→(]")
 
 
 def crates():
-    return [it.split(":")[0].split()[0] for it in (TOP / "crates.txt").read_text().split("\n") if ":" in it.partition("#")[0]]
+    return [
+        it.split(":")[0].split()[0]
+        for it in (TOP / "crates.txt").read_text().split("\n")
+        if ":" in it.partition("#")[0]
+    ]
 
 
 def imports(text):
@@ -65,7 +71,10 @@ def definitions():
     found = {}
     for crate in crates():
         for file in (TOP / "crates" / crate / "specs").rglob("*.antt"):
-            module, text = ".".join(file.relative_to(TOP / "crates" / crate / "specs").with_suffix("").parts), file.read_text()
+            module, text = (
+                ".".join(file.relative_to(TOP / "crates" / crate / "specs").with_suffix("").parts),
+                file.read_text(),
+            )
             names, brought = blocks(text), imports(text)
             for name, lines in names.items():
                 found[crate, module, name] = lines, brought, names
@@ -138,7 +147,9 @@ def main():
             print(".".join(at), len(found[at][0]))
     if given.list or given.others:
         return
-    print("| crate | definitions reached | their lines | comments | inside | their lines | laws | their lines |\n|---|---|---|---|---|---|---|---|")
+    print(
+        "| crate | definitions reached | their lines | comments | inside | their lines | laws | their lines |\n|---|---|---|---|---|---|---|---|"
+    )
     inside = {at for at in found if at not in seen and not at[1].startswith("Laws.")}
     total = [0] * 7
     for crate in crates():

@@ -1,0 +1,46 @@
+# Everything that is made of this repository.
+#
+#   make            prove all crates and build the program and the libraries into out/ (needs the Rattle kit)
+#   make test       run the tests, over what belongs to the sources: dist/ or out/ (as ./test)
+#   make prove      the gate: proofs, mutants, dist/, tests (needs the Rattle kit)
+#   make dist       make what is shipped, dist/, of what `make` has built
+#   make install    install dist/ below PREFIX (/usr/local), inside DESTDIR if that is given
+#   make uninstall  remove what `make install` has installed there
+#   make wheel      make a Python wheel with the library inside, in out/
+#   make deb        make a Debian package, in out/
+PREFIX = /usr/local
+DESTDIR =
+PYTHON = /usr/bin/python3
+PLATFORM = x86_64-linux-gnu
+SONAME = libhdt.so.1
+
+export PREFIX DESTDIR PLATFORM SONAME
+
+.PHONY: build test prove dist install uninstall wheel deb clean
+
+build:
+	@$(PYTHON) -B -m tools.build
+
+test:
+	@./test
+
+prove:
+	@$(PYTHON) -B -m tools.gate
+
+dist: build
+	@$(PYTHON) -B -m tools.dist
+
+install:
+	@tools/install
+
+uninstall:
+	@tools/install --remove
+
+wheel:
+	@tools/package wheel
+
+deb:
+	@tools/package deb
+
+clean:
+	rm -rf out crates/*/out

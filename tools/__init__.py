@@ -1,0 +1,1 @@
+"""What makes and checks this repository: each module is a command with --help."""

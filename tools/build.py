@@ -1,0 +1,217 @@
+"""Prove every crate and build the program, the probes and the C library into out/x86_64-linux-gnu.
+
+    python3 -m tools.build            prove what is not proved yet (`rt ci`), then link
+    python3 -m tools.build --link     link what a run of `rt ci` in this tree has proved
+
+It needs the Rattle kit. `rt ci` proves crates side by side, as processors and memory allow, and keeps what it has
+proved, also if it is interrupted. All linking is done by the kit's own tools, so the files depend on no other compiler.
+"""
+
+from __future__ import annotations
+
+import argparse
+import os
+import re
+import shutil
+import subprocess
+import sys
+import tempfile
+import time
+from pathlib import Path
+
+from tools import manifest
+from tools.repository import TOP, Crate, NoKit, crates, kit, kit_line
+
+# The crate whose program is the command `hdt`, and the crate of the C library.
+COMMAND = "hdt_tool"
+LIBRARY = "hdt_c"
+# The soname of libhdt.so: its number goes up when a call of c/hdt.h changes or goes.
+SONAME = "libhdt.so.1"
+
+
+class Failed(Exception):
+    """A step of the build failed; the message says which and where to read on."""
+
+
+def toolchain(name: str, *words: str | Path) -> None:
+    """Run one of the kit's LLVM tools by its name. Raises Failed."""
+    ran = subprocess.run(
+        [name, *map(str, words)],
+        executable=kit() / "toolchain/bin/clang",
+        stdout=subprocess.PIPE,
+        stderr=subprocess.STDOUT,
+        text=True,
+    )
+    if ran.returncode:
+        raise Failed(f"{name} failed: {ran.stdout.strip()}")
+
+
+def lanes() -> int:
+    """Return how many checks may run side by side: one a processor, four at most, as a check takes up to 2.5 GB."""
+    return min(4, len(os.sched_getaffinity(0)))
+
+
+def prove() -> None:
+    """Run `rt ci`, print a line for each crate that is proved, and keep its output in out/prove.log. Raises Failed."""
+    log = TOP / "out/prove.log"
+    log.parent.mkdir(exist_ok=True)
+    began, done, whole = time.monotonic(), 0, len(crates())
+    print(
+        f"hdt: proving {whole} crates on {lanes()} processors; CONTRIBUTING.md says how long that takes",
+        file=sys.stderr,
+    )
+    environment = {**os.environ, "RT_JOBS": os.environ.get("RT_JOBS", str(lanes()))}
+    with open(log, "w") as kept:
+        ran = subprocess.Popen(
+            ["rt", "ci"],
+            cwd=TOP,
+            stdout=subprocess.PIPE,
+            stderr=subprocess.STDOUT,
+            text=True,
+            errors="replace",
+            env=environment,
+        )
+        assert ran.stdout
+        for line in ran.stdout:
+            kept.write(line)
+            kept.flush()
+            if found := re.match(r"rt: (\w+) (proved|is kept|NOT PROVED)", line):
+                done += found[2] != "NOT PROVED"
+                clock = int(time.monotonic() - began)
+                said = {"is kept": "was proved before"}.get(found[2], f"is {found[2]}")
+                print(f"hdt: {clock // 60}:{clock % 60:02} {found[1]} {said}, {done} of {whole}", file=sys.stderr)
+    if ran.wait():
+        raise Failed(f"rt ci did not pass; see {log.relative_to(TOP)}")
+
+
+def program(crate: str, to: Path) -> None:
+    """Copy the program that `rt ci` linked, without its symbol table. Raises Failed."""
+    made = TOP / "crates" / crate / "out" / crate
+    if not made.is_file():
+        raise Failed(f"{crate} is not built: run rt ci first")
+    toolchain("llvm-strip", "-o", to, made)
+    to.chmod(0o755)
+
+
+def archive(folder: Path) -> Path:
+    """Compile the proved C library into a static archive in the folder, and return its path. Raises Failed.
+
+    `rt ci` checks a static library without writing it, so its own crate (none of those below) is proved once more here.
+    """
+    crate = Crate(LIBRARY)
+    if missing := crate.missing():
+        raise Failed(f"{missing[0]} is not built: run rt ci first")
+    made = folder / f"lib{LIBRARY}.a"
+    # (a library with a stamp is one that the session's own `rt check` or `rt lib` has built, maybe of older sources)
+    is_own = any((crate.library(it).parent / "stamp").exists() for it in crate.below())
+    words = (
+        ["rt", "lib"]
+        if is_own
+        else [
+            *crate.rattle("build"),
+            "--crate-type",
+            "staticlib",
+            "--toolchain",
+            f"{kit()}/toolchain",
+            "--backend",
+            "llvm",
+            "--jobs",
+            str(lanes()),
+            "-o",
+            str(made),
+        ]
+    )
+    log = TOP / "out/library.log"
+    with open(log, "w") as kept:
+        if subprocess.run(words, cwd=crate.folder, stdout=kept, stderr=subprocess.STDOUT).returncode:
+            raise Failed(f"{LIBRARY} is not proved or not built; see {log.relative_to(TOP)}")
+    return crate.folder / "out" / made.name if is_own else made
+
+
+def libraries(to: Path) -> None:
+    """Link libhdt.a and libhdt.so, which export the calls of c/hdt.h alone. Raises Failed."""
+    exported = TOP / "c/hdt.map"
+    names = re.findall(r"hdt_[a-z_*]*", exported.read_text())
+    with tempfile.TemporaryDirectory() as name:
+        folder = Path(name)
+        whole = folder / "hdt.o"
+        # (of the kit's archive comes what asks the C library for memory: malloc, realloc and free)
+        toolchain(
+            "ld.lld",
+            "-r",
+            "-o",
+            whole,
+            "--whole-archive",
+            archive(folder),
+            "--no-whole-archive",
+            kit() / "c/liblibc_c.a",
+        )
+        toolchain("llvm-objcopy", "--wildcard", "--strip-debug", *[f"--keep-global-symbol={it}" for it in names], whole)
+        toolchain("llvm-ar", "rcD", to / "libhdt.a", whole)
+        from_kit = kit() / "toolchain/lib"
+        toolchain(
+            "ld.lld",
+            "-shared",
+            "-o",
+            to / "libhdt.so",
+            "-soname",
+            SONAME,
+            "--version-script",
+            exported,
+            "-z",
+            "text",
+            "-z",
+            "defs",
+            "-z",
+            "noexecstack",
+            "-z",
+            "relro",
+            "--eh-frame-hdr",
+            "--hash-style=gnu",
+            "--build-id=sha1",
+            whole,
+            from_kit / "libgcc.a",
+            from_kit / "libc.so.6",
+        )
+        toolchain("llvm-strip", "--strip-unneeded", to / "libhdt.so")
+        (to / "libhdt.so").chmod(0o644)
+
+
+def link() -> None:
+    """Make out/x86_64-linux-gnu and its manifest of what is proved in this tree. Raises Failed."""
+    began = manifest.sources()
+    to = manifest.BUILT / manifest.PLATFORM
+    shutil.rmtree(to, ignore_errors=True)
+    (manifest.BUILT / "MANIFEST").unlink(missing_ok=True)
+    to.mkdir(parents=True)
+    program(COMMAND, to / "hdt")
+    for name in crates():
+        if name.startswith("hdt_probe_") and Crate(name).is_program:
+            program(name, to / name)
+    libraries(to)
+    made = manifest.describe(manifest.BUILT, kit_line())
+    if made.sources != began:
+        raise Failed("sources changed during the build: run it again")
+    (manifest.BUILT / "MANIFEST").write_text(made.text())
+
+
+def main() -> int:
+    """Run the command line."""
+    words = argparse.ArgumentParser(
+        prog="python3 -m tools.build", description=__doc__, formatter_class=argparse.RawDescriptionHelpFormatter
+    )
+    words.add_argument("--link", action="store_true", help="only link what is proved")
+    given = words.parse_args()
+    try:
+        if not given.link:
+            prove()
+        link()
+    except (Failed, NoKit) as why:
+        print(f"hdt: {why}", file=sys.stderr)
+        return 2
+    print(f"hdt: built in {(manifest.BUILT / manifest.PLATFORM).relative_to(TOP)}", file=sys.stderr)
+    return 0
+
+
+if __name__ == "__main__":
+    sys.exit(main())

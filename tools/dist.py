@@ -1,0 +1,40 @@
+"""Make dist/ of what `make` has built in out/: what is shipped with the sources.
+
+    python3 -m tools.dist
+
+It copies out/x86_64-linux-gnu and its manifest, if they belong to the tree's sources. Commit dist/ once for a release.
+"""
+
+from __future__ import annotations
+
+import argparse
+import shutil
+import sys
+
+from tools import manifest
+from tools.repository import TOP
+
+
+def main() -> int:
+    """Run the command line."""
+    argparse.ArgumentParser(
+        prog="python3 -m tools.dist", description=__doc__, formatter_class=argparse.RawDescriptionHelpFormatter
+    ).parse_args()
+    try:
+        made = manifest.read(manifest.BUILT)
+    except (OSError, ValueError) as why:
+        print(f"hdt: nothing is built: {why}", file=sys.stderr)
+        return 2
+    if made.sources != manifest.sources() or manifest.altered(manifest.BUILT):
+        print("hdt: out/ is not built from the sources as they are: make", file=sys.stderr)
+        return 2
+    to = manifest.SHIPPED / manifest.PLATFORM
+    shutil.rmtree(to, ignore_errors=True)
+    shutil.copytree(manifest.BUILT / manifest.PLATFORM, to)
+    shutil.copy(manifest.BUILT / "MANIFEST", manifest.SHIPPED)
+    print(f"hdt: made {to.relative_to(TOP)}, with {made.kit}", file=sys.stderr)
+    return 0
+
+
+if __name__ == "__main__":
+    sys.exit(main())

@@ -1,0 +1,156 @@
+"""The gate, `make prove`: every proof, the mutants, the shipped files and all tests.
+
+It runs its parts one after another, stops at the first that fails, prints a table of what each took, and ends with the
+line 'N passed, M failed'. The parts:
+
+- `rt ci` proves every crate, tries the mutants of must-fail/, and runs the programs and tests in Rattle;
+- `link` makes out/x86_64-linux-gnu of what was proved;
+- `mutants` judges the mutants (tools/mutants.py);
+- `promises` checks the tables crates/NAME/PROMISES.md against the sources (tools/promises.py);
+- `dist` compares dist/ with the tree's sources and with the files just made;
+- `tests` runs ./test over dist/, and the tests that need the kit. If this kit is not the one that made dist/, the tests
+  run over the files just made, too.
+"""
+
+from __future__ import annotations
+
+import argparse
+import os
+import re
+import resource
+import subprocess
+import sys
+import time
+from collections.abc import Callable, Mapping
+
+from tools import build, manifest
+from tools.repository import TOP, NoKit, kit_line
+
+Counts = tuple[int, int]
+
+
+def run(*words: str, env: Mapping[str, str] | None = None) -> Counts:
+    """Run a command, show what it prints, and return the counts of its last line; one failure if it ends otherwise."""
+    ran = subprocess.Popen(
+        words,
+        cwd=TOP,
+        stdout=subprocess.PIPE,
+        stderr=subprocess.STDOUT,
+        text=True,
+        errors="replace",
+        env={**os.environ, **(env or {})},
+    )
+    assert ran.stdout
+    last = ""
+    for line in ran.stdout:
+        print(line, end="", flush=True)
+        last = line.strip() or last
+    found = re.match(r"(\d+) (?:passed|refused), (\d+) failed", last)
+    passed, failed = (int(found[1]), int(found[2])) if found else (0, 1)
+    return passed, max(failed, int(ran.wait() != 0))
+
+
+def module(name: str, *words: str) -> Counts:
+    """Run a module of this package as a command."""
+    return run(sys.executable, "-m", f"tools.{name}", *words)
+
+
+def proofs() -> Counts:
+    """Prove every crate and run its tests and programs."""
+    return run("rt", "ci", env={"RT_JOBS": os.environ.get("RT_JOBS", str(build.lanes()))})
+
+
+def link() -> Counts:
+    """Link what was proved."""
+    try:
+        build.link()
+    except build.Failed as why:
+        print(f"link: {why}")
+        return 0, 1
+    return 1, 0
+
+
+def dist() -> Counts:
+    """Compare dist/ with the tree's sources, and with the files just made if the kit is the same."""
+    remedy = "make dist, and commit dist/"
+    try:
+        shipped = manifest.read(manifest.SHIPPED)
+    except (OSError, ValueError) as why:
+        print(f"dist: {why}; to mend it: {remedy}")
+        return 0, 1
+    made = manifest.read(manifest.BUILT)
+    wrong = [f"{name} is missing or altered" for name in manifest.altered(manifest.SHIPPED)]
+    if shipped.sources != made.sources:
+        wrong.append("dist/ is not made of the tree's sources")
+    if shipped.kit == made.kit:
+        names = sorted({*shipped.files, *made.files})
+        wrong += [
+            f"{it} is not what was just proved and built" for it in names if shipped.files.get(it) != made.files.get(it)
+        ]
+    else:
+        print(f"dist: made with {shipped.kit}, and this kit is {made.kit}: not compared byte for byte; both are tested")
+    for found in wrong:
+        print(f"dist: {found}; to mend it: {remedy}")
+    return len(shipped.files) + 1 - min(len(wrong), len(shipped.files) + 1), len(wrong)
+
+
+def tests() -> Counts:
+    """Run the tests over dist/, and over the files just made if another kit made dist/."""
+    folders = [manifest.SHIPPED]
+    if manifest.read(manifest.SHIPPED).kit != kit_line():
+        folders.append(manifest.BUILT)
+    passed = failed = 0
+    for folder in folders:
+        good, bad = run("./test", env={"HDT_BUILT": str(folder / manifest.PLATFORM)})
+        passed, failed = passed + good, failed + bad
+    good, bad = run("./test", "-m", "kit", env={"HDT_BUILT": str(manifest.BUILT / manifest.PLATFORM)})
+    return passed + good, failed + bad
+
+
+def processor_seconds() -> float:
+    """Return the CPU seconds of all commands that have ended."""
+    used = resource.getrusage(resource.RUSAGE_CHILDREN)
+    return used.ru_utime + used.ru_stime
+
+
+PARTS: dict[str, Callable[[], Counts]] = {
+    "rt ci": proofs,
+    "link": link,
+    "mutants": lambda: module("mutants", "--costs"),
+    "promises": lambda: module("promises"),
+    "dist": dist,
+    "tests": tests,
+}
+
+
+def main() -> int:
+    """Run the command line."""
+    words = argparse.ArgumentParser(
+        prog="python3 -m tools.gate", description=__doc__, formatter_class=argparse.RawDescriptionHelpFormatter
+    )
+    words.add_argument("parts", nargs="*", metavar="PART", help=f"only these parts, of {', '.join(PARTS)} (all)")
+    given = words.parse_args()
+    if unknown := [it for it in given.parts if it not in PARTS]:
+        words.error(f"there is no part {unknown[0]}")
+    passed = failed = 0
+    table = ["| part | minutes by the clock | CPU minutes | passed | failed |", "|---|---|---|---|---|"]
+    for name in given.parts or PARTS:
+        clock, processor = time.monotonic(), processor_seconds()
+        print(f"== {name}", flush=True)
+        try:
+            good, bad = PARTS[name]()
+        except NoKit as why:
+            print(f"{name}: {why}")
+            good, bad = 0, 1
+        minutes, cpu = (time.monotonic() - clock) / 60, (processor_seconds() - processor) / 60
+        table.append(f"| {name} | {minutes:.1f} | {cpu:.1f} | {good:,} | {bad:,} |")
+        passed, failed = passed + good, failed + bad
+        if bad:
+            break
+    print("\n".join(table))
+    print(f"{passed} passed, {failed} failed")
+    return 1 if failed else 0
+
+
+if __name__ == "__main__":
+    sys.exit(main())

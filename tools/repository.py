@@ -1,0 +1,84 @@
+"""The repository's crates, as crates.txt lists them, and the Rattle kit that proves and compiles them."""
+
+from __future__ import annotations
+
+import shutil
+import subprocess
+from functools import lru_cache
+from pathlib import Path
+
+TOP = Path(__file__).resolve().parent.parent
+
+
+class NoKit(Exception):
+    """There is no Rattle kit on this machine: no command `rt` on the path."""
+
+
+@lru_cache(maxsize=None)
+def kit() -> Path:
+    """Return the kit's folder. Raises NoKit."""
+    found = shutil.which("rt")
+    if not found:
+        raise NoKit("there is no Rattle kit on this machine (no command rt on the path)")
+    return Path(found).resolve().parent.parent
+
+
+@lru_cache(maxsize=None)
+def kit_line() -> str:
+    """Return the kit's one-line identity, as `rt version` prints it. Raises NoKit."""
+    kit()
+    return subprocess.run(["rt", "version"], check=True, stdout=subprocess.PIPE, text=True).stdout.strip()
+
+
+def crates(top: Path = TOP) -> dict[str, list[str]]:
+    """Return the crates of crates.txt in its order, each with the libraries that it uses."""
+    rows = [row.partition("#")[0].strip() for row in (top / "crates.txt").read_text().splitlines()]
+    return {row.partition(":")[0].split()[0]: row.partition(":")[2].split() for row in rows if row}
+
+
+def below(name: str, uses: dict[str, list[str]]) -> list[str]:
+    """Return the crates of the repository that a crate stands on, each after those that it uses itself."""
+    found: list[str] = []
+    for crate in uses[name]:
+        if crate in uses:
+            found += [it for it in [*below(crate, uses), crate] if it not in found]
+    return found
+
+
+class Crate:
+    """A crate of the repository, and how the kit's prover is called on it."""
+
+    def __init__(self, name: str, top: Path = TOP) -> None:
+        self.name, self.top, self.uses = name, top, crates(top)
+        self.folder = top / "crates" / name
+        self.is_program = (self.folder / "src/main.rt").is_file()
+        self.root = "src/main.rt" if self.is_program else "src/lib.rt"
+
+    def below(self) -> list[str]:
+        """Return the crates of the repository that this one stands on, lowest first."""
+        return below(self.name, self.uses)
+
+    def library(self, name: str) -> Path:
+        """Return where `rt ci` leaves the built library of a crate."""
+        return self.top / "crates" / name / "out/rlib" / f"{name}.rlib"
+
+    def missing(self) -> list[str]:
+        """Return the crates below whose library is not built."""
+        return [it for it in self.below() if not self.library(it).is_dir()]
+
+    def rattle(self, command: str) -> list[str]:
+        """Return the words that run a command of the prover, `check` or `build`, in the crate's folder.
+
+        The libraries below are those that `rt ci` has built.
+        """
+        words = ["rattle", command, "--crate-name", self.name, self.root]
+        for name in ["std", *self.uses[self.name]]:
+            words += [
+                "--extern",
+                f"{name}={self.library(name) if name in self.uses else kit() / 'rlibs' / f'{name}.rlib'}",
+            ]
+        words += ["-L", f"dependency={kit()}/rlibs"]
+        for name in self.below():
+            words += ["-L", f"dependency={self.library(name).parent}"]
+        words += ["--antt-project", f"{kit()}/rattle/logic/antt-project.json", "--logic-built", f"{kit()}/logic_built"]
+        return [*words, "--links", f"{self.name}="]
