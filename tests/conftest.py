@@ -14,6 +14,16 @@ settings.register_profile("long", max_examples=20_000, deadline=None, print_blob
 settings.load_profile("gate")
 
 
+def pytest_unconfigure(config: pytest.Config) -> None:
+    """Print the counts as the very last line, as the gate reads them."""
+    reporter = config.pluginmanager.get_plugin("terminalreporter")
+    if hasattr(config, "workerinput") or reporter is None or config.option.collectonly:
+        return
+    counts = {kind: len(reporter.stats.get(kind, [])) for kind in ("passed", "failed", "error", "skipped")}
+    skipped = f", {counts['skipped']} skipped" if counts["skipped"] else ""
+    print(f"{counts['passed']} passed, {counts['failed'] + counts['error']} failed{skipped}")
+
+
 @pytest.fixture(scope="session")
 def program() -> Path:
     """The command `hdt`."""

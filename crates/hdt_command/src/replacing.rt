@@ -25,7 +25,7 @@ fn linked_path<R: Files>(files: &R, alloc: Global, path: &str) -> io::Result<Opt
 
 /// The path at which a new file can take the place of what is there: a regular file, also behind a link, or nothing. None where
 /// something else is there, as a device, a pipe or a folder, or a link that leads to nothing. (What is at a path is no value that a
-/// clause could speak of: `tests/run` looks.)
+/// clause could speak of: tests/test_filesystem.py checks it.)
 pub fn replaced_path<R: Files>(
     files: &R,
     alloc: Global,
@@ -99,7 +99,7 @@ fn fill_and_rename<R: Files>(
 }
 
 /// Puts a file with what was made at a path, in place of a regular file that is there, with its permissions: at a fault that
-/// file is what it was, and the new one is removed. (No clause can say what the file system then has: `tests/run` looks.)
+/// file is what it was, and the new one is removed. (No clause can say what the file system then has: tests check it.)
 pub fn replace<R: Files>(
     files: &R,
     alloc: Global,
