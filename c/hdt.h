@@ -1,7 +1,7 @@
 /* hdt.h: a proved engine for RDF HDT files, over files that lie in memory.
  *
- * Link with libhdt, as `pkg-config --cflags --libs hdt` says where ./install put it (c/make makes it): memory comes from
- * malloc, realloc and free of your program. No call prints, aborts, exits, waits, starts a thread or keeps anything outside
+ * Link with libhdt, with the flags that `pkg-config --cflags --libs hdt` prints after `make install`. Memory comes from malloc,
+ * realloc and free of your program. No call prints, aborts, exits, waits, starts a thread or keeps anything outside
  * what you give it.
  *
  * Who owns what.

@@ -1,6 +1,6 @@
 /* test [--small|--each] FILE..: tests the C library over these files, HDT files or none, and over what it builds itself, or
  * with --small nothing large; with --each over files that each hold many. The last line is 'N passed, M failed'; the status
- * is 1 where one failed. tests/c builds it, with malloc, realloc and free wrapped.
+ * is 1 where one failed. tests/test_c.py builds it, with malloc, realloc and free wrapped.
  *
  * Bytes that the library reads, and room that it writes, end where a page begins that nobody may touch: a look past the end
  * is a crash.
