@@ -158,6 +158,8 @@ def test_kit(tmp_path: Path, trial: dict[str, tuple[str, str]]) -> None:
     changes = {name: change for name, (change, _) in trial.items()}
     top = repository(tmp_path, changes)
     (top / "crates.txt").write_text("toy:\n")
+    for part in ("specs", "proofs"):
+        shutil.rmtree(top / "crates/toy" / part)
     answer = judge(top, "--all")
     begins = [begin for _, begin in trial.values()]
     refused = sum(": refused, by " in it for it in begins)

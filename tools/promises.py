@@ -89,11 +89,13 @@ def exported(texts: dict[str, str]) -> set[str]:
     names |= set(re.findall(r"^pub use [\w:]+::(\w+);", root, re.M))
     found: set[str] = set()
     for text in texts.values():
+        # (the functions below are without constant ones)
+        found |= names & set(re.findall(r"^pub const fn (\w+)", text, re.M))
         for function, start, _ in rattle_text.functions(text):
             *owners, name = function.split("/")
             head = text[:start].rpartition(f"fn {name}")[0].rpartition("\n")[2]
             own = rattle_text.owner_of(owners[-1].split(" ")[1:])[0] if owners else ""
-            if re.search(r"\bpub (const )?$", head) and (own in names if owners else name in names):
+            if re.search(r"\bpub $", head) and (own in names if owners else name in names):
                 found.add(name)
             if head.endswith('pub extern "C" '):
                 found.add(name)
@@ -108,7 +110,7 @@ class Check:
         self.cases = 0
         self.wrong: list[str] = []
         code = "\n".join(self.texts.values())
-        self.items = set(re.findall(r"\b(?:fn|struct|enum|trait|const) (\w+)", code))
+        self.items = set(re.findall(r"\b(?:fn|struct|enum|trait|const(?! fn\b)) (\w+)", code))
         self.traits = set(re.findall(r"\bimpl(?:<[^>]*>)? (?:\w+::)*(\w+)(?:<[^>]*>)? for ", code)) | DERIVED
         self.clauses = set(re.findall(r"\b(?:ensures|requires)\*? (\w+) \{", code)) | OF_TRAITS
         self.mutants = mutants_of(crate)
