@@ -360,21 +360,41 @@ def test_judgement(tmp_path: Path, kit: Kit, case: Case) -> None:
     assert (answer.status, kit.checks()) == (1 if failed or not refused else 0, case.checks)
 
 
-def test_unproved_crate(tmp_path: Path, kit: Kit) -> None:
-    """Over a crate that is not proved nothing is judged."""
-    top = repository(tmp_path / "top", {"a": WRONG}, SOURCE.replace("number.wrapping_add(1)", "wrong"))
-    answer = judge(top, "--all", commands=kit.commands)
-    assert answer.told()[0].startswith("toy: it is not proved without a mutant: ")
-    assert (answer.lines[-1], answer.status) == ("0 refused, 1 failed", 1)
-
-
-def test_library_below_is_not_built(tmp_path: Path, kit: Kit) -> None:
-    """Without the libraries that `rt ci` leaves nothing is judged."""
-    top = repository(tmp_path / "top", {"a": WRONG})
+def without_library(top: Path) -> None:
+    """Remove the library of the crate below."""
     shutil.rmtree(top / "crates/base/out")
+
+
+def unproved(top: Path) -> None:
+    """Break a function of the crate, so that it is not proved without a mutant."""
+    (top / "crates/toy/src/lib.rt").write_text(SOURCE.replace("number.wrapping_add(1)", "wrong"))
+
+
+GROUNDS: dict[str, tuple[Callable[[Path], object], str]] = {
+    "a library that is not built": (without_library, "toy: its library base is not built: run rt ci first"),
+    "a crate that is not proved": (unproved, "toy: it is not proved without a mutant: "),
+}
+
+
+@pytest.mark.parametrize("change, begin", GROUNDS.values(), ids=list(GROUNDS))
+def test_nothing_can_be_judged(tmp_path: Path, kit: Kit, change: Callable[[Path], object], begin: str) -> None:
+    """Without its ground nothing is judged, and the record stays as it was."""
+    top = repository(tmp_path / "top", {"a": WRONG})
+    assert judge(top, "--all", commands=kit.commands).lines[-1] == "1 refused, 0 failed"
+    before = record(top)
+    change(top)
     answer = judge(top, "--all", commands=kit.commands)
-    wanted = ["toy: its library base is not built: run rt ci first", "FAILED: toy", "0 refused, 1 failed"]
-    assert (answer.told(), answer.status) == (wanted, 1)
+    assert answer.told()[0].startswith(begin)
+    assert (answer.told()[1:], answer.status) == (["FAILED: toy", "0 refused, 1 failed"], 1)
+    assert record(top) == before
+
+
+def test_no_kit(tmp_path: Path) -> None:
+    """Without a kit one line says so."""
+    top = repository(tmp_path / "top", {"a": WRONG})
+    answer = judge(top, "--all", commands=tmp_path)
+    assert answer.status and "there is no Rattle kit on this machine" in answer.lines[-1]
+    assert not any("Traceback" in it for it in answer.lines)
 
 
 @pytest.mark.parametrize(

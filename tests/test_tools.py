@@ -113,6 +113,36 @@ def test_black() -> None:
     assert [it for it in found("black", "-q", "-l", "120", "--check", "--diff", *files)] == []
 
 
+# ---- without the kit
+
+WITHOUT_KIT = {
+    "build": (["build"], 2),
+    "link": (["build", "--link"], 2),
+    "gate": (["gate"], 1),
+    "gate: link": (["gate", "link"], 1),
+    "gate: dist": (["gate", "dist"], 1),
+    "gate: tests": (["gate", "tests"], 1),
+    "dist": (["dist"], 2),
+}
+
+
+@pytest.mark.parametrize("words, wanted", WITHOUT_KIT.values(), ids=list(WITHOUT_KIT))
+def test_without_kit(tmp_path: Path, words: list[str], wanted: int) -> None:
+    """Where the kit, or what is built with it, is missing, a line says so, and nothing is built or shipped."""
+    for name in ("tools", "c"):
+        shutil.copytree(TOP / name, tmp_path / name, ignore=shutil.ignore_patterns("__pycache__"))
+    (tmp_path / "crates.txt").write_text("hdt_tool:\n")
+    module, *rest = words
+    path = {"PATH": "/usr/bin:/bin"}
+    status, out, err = run([sys.executable, "-B", "-m", f"tools.{module}", *rest], cwd=tmp_path, env=path)
+    text = (out + err).decode()
+    assert "Traceback" not in text, text
+    assert status == wanted
+    assert re.search("no Rattle kit|is not built|nothing is built|No such file or directory: '.*/MANIFEST'", text), text
+    assert list(tmp_path.rglob("MANIFEST")) == []
+    assert module != "gate" or text.splitlines()[-1] == "0 passed, 1 failed"
+
+
 # ---- promises
 
 LIB = """\
@@ -457,13 +487,10 @@ def test_definitions_table(defined: Path) -> None:
 
 # ---- speed
 
-# A program that does nothing but make the file that is asked for.
+# A program that only makes the file that is asked for.
 FAKE = """\
 #!/bin/sh
-case $1 in
-build) cp "$2" "$3" ;;
-rewrite) for to; do :; done; case $to in -*|[0-9]*) ;; esac ;;
-esac
+[ "$1" != build ] || cp "$2" "$3"
 """
 
 
@@ -517,3 +544,17 @@ def test_speed_documents() -> None:
     exported, shuffled, different = eval(runs[0].stdout)
     assert [len(exported), len(shuffled), len(different), len(set(different))] == [300] * 4
     assert sorted(exported) == sorted(shuffled) and exported != shuffled and len(set(exported)) < 300
+
+
+def test_speed_hostile_files() -> None:
+    """Each family is of HDT files, twice as long at each doubling."""
+    if not (TOP / "tests/reference/hdt.py").exists():
+        pytest.skip("there is no tests/reference/hdt.py")
+    code = """
+from tools import speed
+print([[len(it) for it in map(family.make, (1, 2)) if it.startswith(b"$HDT")] for family in speed.families().values()])
+"""
+    ran = subprocess.run([sys.executable, "-B", "-c", code], cwd=TOP, check=True, stdout=subprocess.PIPE)
+    sizes = eval(ran.stdout)
+    assert len(sizes) == 5
+    assert all(1.9 * one < two < 2.1 * one for one, two in sizes), sizes
