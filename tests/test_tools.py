@@ -143,6 +143,160 @@ def test_without_kit(tmp_path: Path, words: list[str], wanted: int) -> None:
     assert module != "gate" or text.splitlines()[-1] == "0 passed, 1 failed"
 
 
+# ---- with a kit that only makes files
+
+KIT = {
+    # Proves all, and links the program; a file `edit` beside the kit is run as a script meanwhile.
+    "bin/rt": """\
+#!/bin/sh
+case $1 in
+version) echo kit of files 1 ;;
+ci)
+    echo "rt: hdt_tool proved" && echo "rt: hdt_c is kept: of an earlier run"
+    mkdir -p crates/hdt_tool/out && cp crates/hdt_tool/src/main.rt crates/hdt_tool/out/hdt_tool
+    [ ! -f "${0%/*}/../edit" ] || . "${0%/*}/../edit"
+    echo "2 passed, 0 failed"
+    ;;
+esac
+""",
+    # `-o FILE` makes a file, of the last word if that is one; `rcD FILE` does, too.
+    "toolchain/bin/clang": """\
+#!/bin/sh
+for last; do :; done
+before=
+for it; do
+    case $before in
+    -o | rcD) if [ -f "$last" ]; then cat "$last" >"$it"; else echo "made by the kit" >"$it"; fi ;;
+    esac
+    before=$it
+done
+""",
+    "bin/rattle": """\
+#!/bin/sh
+while [ "$1" != -o ]; do shift; done
+echo library >"$2"
+""",
+}
+TREE = {
+    "crates.txt": "hdt_tool:\nhdt_c staticlib:\n",
+    "crates/hdt_tool/src/main.rt": "#!/bin/sh\necho the program: $1\n",
+    "crates/hdt_c/src/lib.rt": "",
+    "c/hdt.map": "{ global: hdt_*; local: *; };\n",
+}
+
+
+class Tree:
+    """A small tree with all scripts, and a kit that makes files."""
+
+    def __init__(self, folder: Path) -> None:
+        self.top, self.kit = folder / "tree", folder / "kit"
+        shutil.copytree(TOP / "tools", self.top / "tools", ignore=shutil.ignore_patterns("__pycache__"))
+        shutil.copy(TOP / "hdt", self.top)
+        for root, files in ((self.top, TREE), (self.kit, KIT)):
+            for name, text in files.items():
+                (root / name).parent.mkdir(parents=True, exist_ok=True)
+                (root / name).write_text(text)
+        for name in KIT:
+            (self.kit / name).chmod(0o755)
+
+    def tool(self, name: str, *words: str) -> Result:
+        """Run a module of the tree's `tools`."""
+        path = {"PATH": f"{self.kit}/bin:/usr/bin:/bin"}
+        return run([sys.executable, "-B", "-m", f"tools.{name}", *words], cwd=self.top, env=path)
+
+    def hdt(self) -> Result:
+        """Run the launcher."""
+        return run([self.top / "hdt", "word"], cwd=self.top)
+
+
+@pytest.fixture
+def tree(tmp_path: Path) -> Tree:
+    """A small tree and a kit that makes files."""
+    return Tree(tmp_path)
+
+
+PROGRAM = Result(0, b"the program: word\n", b"")
+
+
+def test_build(tree: Tree) -> None:
+    """What is built belongs to the sources, and is run; when they change, it is not."""
+    status, out, err = tree.tool("build")
+    assert (status, out) == (0, b""), err
+    assert b"hdt_tool is proved, 1 of 2\n" in err and b"hdt_c was proved before, 2 of 2\n" in err
+    assert err.endswith(b"hdt: built in out/x86_64-linux-gnu\n")
+    files = {it.name for it in (tree.top / "out/x86_64-linux-gnu").iterdir()}
+    assert files == {"hdt", "libhdt.a", "libhdt.so"}
+    manifest = (tree.top / "out/MANIFEST").read_text().splitlines()
+    assert [it.split()[0] for it in manifest] == ["kit", "glibc", "sources", "file", "file", "file"]
+    assert manifest[0] == "kit kit of files 1"
+    assert tree.hdt() == PROGRAM
+    (tree.top / "crates/hdt_c/src/lib.rt").write_text("// more\n")
+    assert tree.hdt().status == 2
+    assert tree.tool("build").status == 0 and tree.hdt() == PROGRAM
+
+
+def test_sources_that_change_during_the_proofs(tree: Tree) -> None:
+    """Files do not belong to sources that are newer than the proofs that they come from."""
+    (tree.kit / "edit").write_text("echo '// changed' >>crates/hdt_tool/src/main.rt\n")
+    assert tree.tool("build").status == 2
+    assert tree.hdt().status == 2
+
+
+def test_link_of_older_proofs(tree: Tree) -> None:
+    """`--link` does not take what was proved of other sources."""
+    assert tree.tool("build").status == 0
+    (tree.top / "crates/hdt_tool/src/main.rt").write_text("#!/bin/sh\necho another program\n")
+    assert tree.tool("build", "--link").status == 2
+    assert tree.hdt().status == 2
+
+
+def test_dist(tree: Tree) -> None:
+    """dist/ is a copy of what is built, if that is of the sources."""
+    assert tree.tool("build").status == 0
+    assert tree.tool("dist") == Result(0, b"", b"hdt: made dist/x86_64-linux-gnu, with kit of files 1\n")
+    shutil.rmtree(tree.top / "out")
+    assert tree.hdt() == PROGRAM
+    assert tree.tool("build").status == 0
+    (tree.top / "crates/hdt_c/src/lib.rt").write_text("// more\n")
+    wanted = b"hdt: out/ is not built from the sources as they are: make\n"
+    assert tree.tool("dist") == Result(2, b"", wanted)
+
+
+DISTS: dict[str, tuple[str, list[str]]] = {
+    "as it was made": (":", []),
+    "altered": ("echo more >>dist/x86_64-linux-gnu/hdt", ["hdt is missing or altered"]),
+    "missing": ("rm dist/x86_64-linux-gnu/libhdt.a", ["libhdt.a is missing or altered"]),
+    "another file": (
+        "echo other >dist/x86_64-linux-gnu/hdt; sum=$(sha256sum <dist/x86_64-linux-gnu/hdt | cut -c1-64); "
+        'sed -i "s|^file .*/hdt$|file $sum 6 x86_64-linux-gnu/hdt|" dist/MANIFEST',
+        ["hdt is not what was just proved and built"],
+    ),
+    "one too many": (
+        "echo more >dist/x86_64-linux-gnu/more; sum=$(sha256sum <dist/x86_64-linux-gnu/more | cut -c1-64); "
+        'echo "file $sum 5 x86_64-linux-gnu/more" >>dist/MANIFEST',
+        ["more is not what was just proved and built"],
+    ),
+    "of other sources": ('sed -i "s/^sources ./sources x/" dist/MANIFEST', ["dist/ is not made of the tree's sources"]),
+    "of another kit": ('sed -i "s/^kit .*/kit another/" dist/MANIFEST', []),
+    "no manifest": ("rm dist/MANIFEST", ["dist/MANIFEST"]),
+    "no kit in the manifest": ("sed -i /^kit/d dist/MANIFEST", ["has no line 'kit'"]),
+    "a file that no manifest has": ("echo more >dist/x86_64-linux-gnu/more", ["more is in no manifest"]),
+}
+
+
+@pytest.mark.parametrize("command, wanted", DISTS.values(), ids=list(DISTS))
+def test_gate_of_dist(tree: Tree, command: str, wanted: list[str]) -> None:
+    """The gate compares dist/ with the sources, and with what was just built if the kit is the same."""
+    for name in ("build", "dist"):
+        assert tree.tool(name).status == 0
+    assert run(["sh", "-c", command], cwd=tree.top).status == 0
+    status, out, err = tree.tool("gate", "dist")
+    lines = [it for it in out.decode().splitlines() if it.startswith("dist: ") and "not compared" not in it]
+    assert (status, err, len(lines)) == (1 if wanted else 0, b"", len(wanted)), out.decode()
+    assert all(text in line for text, line in zip(wanted, lines)), lines
+    assert re.search(rf"\d+ passed, {len(wanted)} failed\n$", out.decode())
+
+
 # ---- promises
 
 LIB = """\
