@@ -15,7 +15,7 @@ from pathlib import Path
 
 import pytest
 
-from support.built import TOP
+from support.built import SAMPLES, SHARED_LIBRARY, TOP
 from support.program import Result, run
 
 MODULES = sorted(it.stem for it in (TOP / "tools").glob("*.py") if "argparse" in it.read_text())
@@ -712,3 +712,23 @@ print([[len(it) for it in map(family.make, (1, 2)) if it.startswith(b"$HDT")] fo
     sizes = eval(ran.stdout)
     assert len(sizes) == 5
     assert all(1.9 * one < two < 2.1 * one for one, two in sizes), sizes
+
+
+def test_speed_python() -> None:
+    """A row for each call; and what is no HDT file is told."""
+    if not SHARED_LIBRARY.exists():
+        pytest.skip(f"there is no {SHARED_LIBRARY}")
+    library = {"HDT_LIBRARY": str(SHARED_LIBRARY)}
+    command = [sys.executable, "-B", "-m", "tools.speed_python", "--times", "10"]
+    status, out, err = run([*command, SAMPLES / "three.hdt"], cwd=TOP, env=library)
+    assert (status, err) == (0, b"")
+    assert len(re.findall(r"^\| [a-z_, ]+ \| \d+ \| [\d.]+ \|$", out.decode(), re.M)) == 10
+    status, _, err = run([*command, TOP / "README.md"], cwd=TOP, env=library)
+    assert (status, err) == (2, b"speed_python: fault 4 NotHdt at 0\n")
+
+
+def test_speed_python_without_its_library(tmp_path: Path) -> None:
+    """One line says that the library is missing."""
+    command = [sys.executable, "-B", "-m", "tools.speed_python", SAMPLES / "three.hdt"]
+    status, out, err = run(command, cwd=TOP, env={"HDT_LIBRARY": str(tmp_path / "none.so")})
+    assert (status, out, err.count(b"\n")) == (2, b"", 1) and err.startswith(b"speed_python: "), err
