@@ -729,6 +729,6 @@ def test_speed_python() -> None:
 
 def test_speed_python_without_its_library(tmp_path: Path) -> None:
     """One line says that the library is missing."""
-    command = [sys.executable, "-B", "-m", "tools.speed_python", SAMPLES / "three.hdt"]
+    command = [sys.executable, "-B", "-m", "tools.speed_python", str(SAMPLES / "three.hdt")]
     status, out, err = run(command, cwd=TOP, env={"HDT_LIBRARY": str(tmp_path / "none.so")})
     assert (status, out, err.count(b"\n")) == (2, b"", 1) and err.startswith(b"speed_python: "), err
