@@ -504,6 +504,25 @@ def test_read_only_tree(is_kept: bool) -> None:
         assert after == paths
 
 
+@pytest.mark.skipif(os.geteuid() != 0, reason="only root can give files away")
+def test_root_in_the_tree_of_another_user(tree: Tree) -> None:
+    """Root, who installs from the tree of another user, leaves nothing there that this user could not change."""
+    for path in (tree.top, *tree.top.rglob("*")):
+        os.chown(path, 65534, 65534)
+    assert tree.hdt() == runs("dist")
+    assert [it for it in tree.top.rglob("*") if it.stat().st_uid == 0] == []
+
+
+def test_moved_tree(tree: Tree) -> None:
+    """A tree can be moved, with the answer that is kept in it."""
+    assert tree.hdt() == runs("dist")
+    tree.age()
+    tree.top = tree.top.rename(tree.top.with_name("moved"))
+    assert tree.hdt() == runs("dist")
+    rewrite("crates.txt")(tree)
+    assert tree.hdt() == Result(2, b"", CHANGED)
+
+
 def counted(tree: Tree) -> Callable[[], int]:
     """Put a `sha256sum` on the path that counts its runs, and return what gives the count and begins anew."""
     log = tree.top.parent / "sums"

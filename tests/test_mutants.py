@@ -424,6 +424,15 @@ def record(top: Path) -> dict[str, list[str]]:
     return {name: rest for name, *rest in rows}
 
 
+def keep(top: Path, names: str) -> None:
+    """Write a record that says that these mutants of `toy` were refused for the sources as they are."""
+    crate = mutants.Crate("toy", top)
+    kept = mutants.Record(crate)
+    for it in crate.mutants("wrong", ""):
+        kept.entries[it.name] = [it.inputs(crate.inputs()), "toy::half", OPEN, "2026-01-01", "kit of words 1"]
+    kept.write(names)
+
+
 def test_record(tmp_path: Path, kit: Kit) -> None:
     """It has those that were refused alone: inputs, function, goal, date and kit, sorted by their names."""
     top = repository(tmp_path / "top", {"b": NEXT + "wrong", "a": WRONG, "c": QUARTER + "right"})
@@ -518,19 +527,24 @@ CHANGES: dict[str, tuple[Callable[[Path], object], str]] = {
 
 
 @pytest.mark.parametrize("change, stale", CHANGES.values(), ids=list(CHANGES))
-def test_what_a_record_depends_on(tmp_path: Path, kit: Kit, change: Callable[[Path], object], stale: str) -> None:
+def test_what_a_record_depends_on(tmp_path: Path, change: Callable[[Path], object], stale: str) -> None:
     """An entry counts as long as its mutant, its crate and the interfaces below are as they were."""
-    top = repository(tmp_path / "top", {"a": WRONG, "b": NEXT + "wrong"})
+    top = repository(tmp_path, {"a": WRONG, "b": NEXT + "wrong"})
+    keep(top, "ab")
+    change(top)
     crate = mutants.Crate("toy", top)
     kept = mutants.Record(crate)
-    for it in crate.mutants("wrong", ""):
-        kept.entries[it.name] = [it.inputs(crate.inputs()), "toy::half", OPEN, "2026-01-01", "kit of words 1"]
-    kept.write("ab")
-    change(top)
-    answer = judge(top, "toy", "--list", commands=kit.commands)
-    count = len(list(top.glob("crates/toy/wrong/*.edit")))
-    counts = f"{len(stale)} to judge, {count - len(stale)} judged for these inputs"
-    assert answer == Answer([*(f"toy/{it}" for it in stale), counts], 0)
+    current = {it.name: kept.has(it, crate.inputs()) for it in crate.mutants("wrong", "")}
+    assert "".join(name for name, is_current in current.items() if not is_current) == stale
+
+
+def test_list(tmp_path: Path, kit: Kit) -> None:
+    """`--list` names the mutants that are not judged for the sources as they are, and judges none."""
+    top = repository(tmp_path / "top", {"a": WRONG, "b": NEXT + "wrong", "c": QUARTER + "wrong"})
+    keep(top, "ac")
+    (top / "crates/toy/wrong/c.edit").write_text(f"file: src/lib.rt\n{QUARTER}wrong still\n")
+    wanted = ["toy/b", "toy/c", "2 to judge, 1 judged for these inputs"]
+    assert judge(top, "--list", commands=kit.commands) == Answer(wanted, 0)
     assert kit.checks() == 0
 
 
@@ -552,11 +566,7 @@ def test_only_what_changed_is_judged(tmp_path: Path, kit: Kit) -> None:
 def test_false_entry(tmp_path: Path, kit: Kit) -> None:
     """An entry of a mutant that is not refused shows as soon as the sample draws it."""
     top = repository(tmp_path / "top", {"a": QUARTER + "right"})
-    crate = mutants.Crate("toy", top)
-    kept = mutants.Record(crate)
-    (mutant,) = crate.mutants("wrong", "")
-    kept.entries["a"] = [mutant.inputs(crate.inputs()), "toy::quarter", OPEN, "2026-01-01", "kit of words 1"]
-    kept.write(["a"])
+    keep(top, "a")
     answer = judge(top, commands=kit.commands)
     assert answer.told()[0] == "toy/a: NOT REFUSED: the crate is still proved with this mutant"
     assert (answer.lines[-1], answer.status, record(top)) == ("0 refused, 1 failed", 1, {})
@@ -600,7 +610,7 @@ def test_sample_is_drawn_by_the_seed() -> None:
 
 def test_each_mutant_is_as_likely() -> None:
     """Of crates with more mutants than a sample has, each is drawn as often as others, in the long run."""
-    sizes, seeds = [40, 60, 100], 4_000
+    sizes, seeds = [30, 30, 60], 4_000
     whole = some_mutants(sizes)
     count = collections.Counter(it for seed in range(seeds) for it in labels(mutants.drawn(whole, str(seed))))
     # (the mean is 200, and five standard deviations are 70)
@@ -609,7 +619,7 @@ def test_each_mutant_is_as_likely() -> None:
 
 def test_mutants_of_small_crates_are_drawn() -> None:
     """In the long run each mutant is drawn, those of crates with fewer mutants than a sample has, too."""
-    sizes = [1, 5, 32, 111, 475]
+    sizes = [1, 3, 40, 156]
     whole = some_mutants(sizes)
-    found = {it for seed in range(3_000) for it in labels(mutants.drawn(whole, str(seed)))}
+    found = {it for seed in range(2_000) for it in labels(mutants.drawn(whole, str(seed)))}
     assert found == set(labels(whole))

@@ -15,7 +15,7 @@ from pathlib import Path
 
 import pytest
 
-from support.built import TOP
+from support.built import SAMPLES, SHARED_LIBRARY, TOP
 from support.program import Result, run
 
 MODULES = sorted(it.stem for it in (TOP / "tools").glob("*.py") if "argparse" in it.read_text())
@@ -188,8 +188,10 @@ TREE = {
 class Tree:
     """A small tree with all scripts, and a kit that makes files."""
 
-    def __init__(self, folder: Path) -> None:
+    def __init__(self, folder: Path, is_made: bool = False) -> None:
         self.top, self.kit = folder / "tree", folder / "kit"
+        if is_made:
+            return
         shutil.copytree(TOP / "tools", self.top / "tools", ignore=shutil.ignore_patterns("__pycache__"))
         shutil.copy(TOP / "hdt", self.top)
         for root, files in ((self.top, TREE), (self.kit, KIT)):
@@ -262,6 +264,21 @@ def test_dist(tree: Tree) -> None:
     assert tree.tool("dist") == Result(2, b"", wanted)
 
 
+@pytest.fixture(scope="module")
+def built(tmp_path_factory: pytest.TempPathFactory) -> Path:
+    """A folder with a tree whose files are built and shipped, and the kit that made them."""
+    tree = Tree(tmp_path_factory.mktemp("built"))
+    assert [tree.tool(it).status for it in ("build", "dist")] == [0, 0]
+    return tree.top.parent
+
+
+@pytest.fixture
+def shipped(built: Path, tmp_path: Path) -> Tree:
+    """A copy of it."""
+    shutil.copytree(built, tmp_path, dirs_exist_ok=True)
+    return Tree(tmp_path, is_made=True)
+
+
 DISTS: dict[str, tuple[str, list[str]]] = {
     "as it was made": (":", []),
     "altered": ("echo more >>dist/x86_64-linux-gnu/hdt", ["hdt is missing or altered"]),
@@ -285,12 +302,10 @@ DISTS: dict[str, tuple[str, list[str]]] = {
 
 
 @pytest.mark.parametrize("command, wanted", DISTS.values(), ids=list(DISTS))
-def test_gate_of_dist(tree: Tree, command: str, wanted: list[str]) -> None:
+def test_gate_of_dist(shipped: Tree, command: str, wanted: list[str]) -> None:
     """The gate compares dist/ with the sources, and with what was just built if the kit is the same."""
-    for name in ("build", "dist"):
-        assert tree.tool(name).status == 0
-    assert run(["sh", "-c", command], cwd=tree.top).status == 0
-    status, out, err = tree.tool("gate", "dist")
+    assert run(["sh", "-c", command], cwd=shipped.top).status == 0
+    status, out, err = shipped.tool("gate", "dist")
     lines = [it for it in out.decode().splitlines() if it.startswith("dist: ") and "not compared" not in it]
     assert (status, err, len(lines)) == (1 if wanted else 0, b"", len(wanted)), out.decode()
     assert all(text in line for text, line in zip(wanted, lines)), lines
@@ -712,3 +727,23 @@ print([[len(it) for it in map(family.make, (1, 2)) if it.startswith(b"$HDT")] fo
     sizes = eval(ran.stdout)
     assert len(sizes) == 5
     assert all(1.9 * one < two < 2.1 * one for one, two in sizes), sizes
+
+
+def test_speed_python() -> None:
+    """A row for each call; and what is no HDT file is told."""
+    if not SHARED_LIBRARY.exists():
+        pytest.skip(f"there is no {SHARED_LIBRARY}")
+    library = {"HDT_LIBRARY": str(SHARED_LIBRARY)}
+    command = [sys.executable, "-B", "-m", "tools.speed_python", "--times", "10"]
+    status, out, err = run([*command, SAMPLES / "three.hdt"], cwd=TOP, env=library)
+    assert (status, err) == (0, b"")
+    assert len(re.findall(r"^\| [a-z_, ]+ \| \d+ \| [\d.]+ \|$", out.decode(), re.M)) == 10
+    status, _, err = run([*command, TOP / "README.md"], cwd=TOP, env=library)
+    assert (status, err) == (2, b"speed_python: fault 4 NotHdt at 0\n")
+
+
+def test_speed_python_without_its_library(tmp_path: Path) -> None:
+    """One line says that the library is missing."""
+    command = [sys.executable, "-B", "-m", "tools.speed_python", str(SAMPLES / "three.hdt")]
+    status, out, err = run(command, cwd=TOP, env={"HDT_LIBRARY": str(tmp_path / "none.so")})
+    assert (status, out, err.count(b"\n")) == (2, b"", 1) and err.startswith(b"speed_python: "), err
