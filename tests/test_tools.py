@@ -24,7 +24,7 @@ SCRIPTS = ["hdt", "test", "tools/current", "tools/install", "tools/package", ".c
 
 def tool(name: str, *words: str | Path) -> Result:
     """Run a module of `tools` as a command."""
-    return run([sys.executable, "-B", "-m", f"tools.{name}", *words], cwd=TOP)
+    return run([sys.executable, "-B", "-m", f"tools.{name}", *words], cwd=TOP, env={"COLUMNS": "100"})
 
 
 def test_modules() -> None:
