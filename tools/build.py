@@ -1,7 +1,7 @@
 """Prove every crate and build the program, the probes and the C library into out/x86_64-linux-gnu.
 
     python3 -m tools.build            prove what is not proved yet (`rt ci`), then link
-    python3 -m tools.build --link     link what a run of `rt ci` in this tree has proved
+    python3 -m tools.build --link     only link, if the sources are those that such a run has proved
 
 It needs the Rattle kit. `rt ci` proves crates side by side, as processors and memory allow, and keeps what it has
 proved, also if it is interrupted. All linking is done by the kit's own tools, so the files depend on no other compiler.
@@ -25,6 +25,8 @@ from tools.repository import TOP, Crate, NoKit, crates, kit, kit_line
 # The crate whose program is the command `hdt`, and the crate of the C library.
 COMMAND = "hdt_tool"
 LIBRARY = "hdt_c"
+# The checksum of the sources that the last run of `rt ci` in this tree has proved.
+PROVED = TOP / "out/PROVED"
 # The soname of libhdt.so: its number goes up when a call of c/hdt.h changes or goes.
 SONAME = "libhdt.so.1"
 
@@ -51,10 +53,23 @@ def lanes() -> int:
     return min(4, len(os.sched_getaffinity(0)))
 
 
+def keep_proved(began: str) -> None:
+    """Keep the checksum that the sources had when a run of `rt ci` began that has passed. Raises Failed."""
+    if manifest.sources() != began:
+        raise Failed("sources changed during the proofs: run it again")
+    PROVED.parent.mkdir(exist_ok=True)
+    PROVED.write_text(began + "\n")
+
+
 def prove() -> None:
-    """Run `rt ci`, print a line for each crate that is proved, and keep its output in out/prove.log. Raises Failed."""
+    """Run `rt ci`, print a line for each crate that is proved, and keep its output in out/prove.log.
+
+    Raises NoKit and Failed.
+    """
+    kit()
     log = TOP / "out/prove.log"
     log.parent.mkdir(exist_ok=True)
+    sources = manifest.sources()
     began, done, whole = time.monotonic(), 0, len(crates())
     print(
         f"hdt: proving {whole} crates on {lanes()} processors; CONTRIBUTING.md says how long that takes",
@@ -82,6 +97,7 @@ def prove() -> None:
                 print(f"hdt: {clock // 60}:{clock % 60:02} {found[1]} {said}, {done} of {whole}", file=sys.stderr)
     if ran.wait():
         raise Failed(f"rt ci did not pass; see {log.relative_to(TOP)}")
+    keep_proved(sources)
 
 
 def program(crate: str, to: Path) -> None:
@@ -178,8 +194,11 @@ def libraries(to: Path) -> None:
 
 
 def link() -> None:
-    """Make out/x86_64-linux-gnu and its manifest of what is proved in this tree. Raises Failed."""
+    """Make out/x86_64-linux-gnu and its manifest of what is proved in this tree. Raises NoKit and Failed."""
+    kit()
     began = manifest.sources()
+    if not PROVED.is_file() or PROVED.read_text().strip() != began:
+        raise Failed("the sources as they are have not been proved: make")
     to = manifest.BUILT / manifest.PLATFORM
     shutil.rmtree(to, ignore_errors=True)
     (manifest.BUILT / "MANIFEST").unlink(missing_ok=True)

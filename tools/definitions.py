@@ -1,20 +1,32 @@
-#!/usr/bin/env python3
-"""Lists the definitions that the contracts of exported functions reach, and how many lines of specs/ they are.
+"""List the definitions that the contracts of exported functions reach, and how many lines of specs/ they are.
 
-    tests/definitions [--list] [--others]
+    python3 -m tools.definitions             print a table, crate by crate
+    python3 -m tools.definitions --list      name each definition that is reached
+    python3 -m tools.definitions --others    name each definition that is not
 
-A contract reaches a definition that one of its clauses names, and all that this definition names, in any crate; so does the
-view of a type. Of a program the functions that its modules lend to each other count. It prints a table, crate by crate: lines
-of specs/ that are reached, with how many of these are comments, those that only contracts inside the crate reach (in specs/Inside, and
-beside their kin), and those of laws (in specs/Laws). With --list it names each definition that is reached, with --others each that isn't. It is no part of the
-gate.
+A contract reaches the definitions that its clauses name, and all that those name, in any crate; so does the view of a
+type. A program exports the public functions of all its modules.
+
+The table has, for each crate: the definitions that are reached, their lines and how many of these are comments; the
+definitions that only contracts inside the crate reach, in specs/Inside and beside the others, and their lines; the
+laws, in specs/Laws, and their lines. It is no part of the gate.
 """
+
+from __future__ import annotations
 
 import argparse
 import re
+import sys
+from collections.abc import Iterator
 from pathlib import Path
+from typing import NamedTuple, Optional
 
-TOP = Path(__file__).resolve().parent.parent
+from tools import repository
+from tools.repository import TOP
+
+# A definition: its crate, its module in specs/, and its name.
+Name = tuple[str, str, str]
+
 WORD = re.compile(r"[A-Za-z_][\w'-]*")
 IMPORT = re.compile(r"^\s*(?:ghost |pub )*use Rattle\.(\w+)\.specs\.([\w.]+?)\.\{([^}]*)\}", re.M)
 BEGIN = re.compile(
@@ -26,17 +38,29 @@ FUNCTION = re.compile(r'(\s*)(pub )?(?:\(crate\) )?(?:const )?(extern "C" )?fn (
 CLAUSE = re.compile(r"^\s*(?:requires|ensures|ghost \w+ =)|^\s*[×∧→(]")
 
 
-def crates():
-    return [
-        it.split(":")[0].split()[0]
-        for it in (TOP / "crates.txt").read_text().split("\n")
-        if ":" in it.partition("#")[0]
-    ]
+class Definition(NamedTuple):
+    """A definition: its lines with its comment, what its file imports, and the names that its file defines."""
+
+    lines: list[str]
+    imports: dict[str, Name]
+    beside: set[str]
+
+    def comments(self) -> int:
+        """Return how many of its lines are comments."""
+        return sum(line.startswith("--") for line in self.lines)
+
+    def reaches(self, crate: str, module: str) -> Iterator[Name]:
+        """Give the definitions that it names, as one of a module of a crate."""
+        for word in WORD.findall(re.sub(r"--.*", "", "\n".join(self.lines))):
+            if word in self.beside:
+                yield crate, module, word
+            elif word in self.imports:
+                yield self.imports[word]
 
 
-def imports(text):
-    """The names that a file brings from the definitions of the crates here: name to (crate, module, name)."""
-    found = {}
+def imports(text: str) -> dict[str, Name]:
+    """Return the definitions that a file imports, by the names that they have in it."""
+    found: dict[str, Name] = {}
     for crate, module, names in IMPORT.findall(text):
         for name in names.split(","):
             one, _, other = name.strip().partition(" as ")
@@ -44,9 +68,11 @@ def imports(text):
     return found
 
 
-def blocks(text):
-    """The declarations of a file: name to its lines, its comment among them."""
-    found, comment, name = {}, [], None
+def blocks(text: str) -> dict[str, list[str]]:
+    """Return the lines of each declaration of a file, with the comment above it, by its name."""
+    found: dict[str, list[str]] = {}
+    comment: list[str] = []
+    name: Optional[str] = None
     for line in text.split("\n"):
         if not line.strip() or line.startswith(("use ", "pub use ", "pub mod ", "mod ")):
             comment, name = [], None if not line.strip() else name
@@ -54,116 +80,121 @@ def blocks(text):
             comment.append(line)
             name = None
         else:
-            begin = BEGIN.match(line)
-            if begin and not line.startswith(" ") and begin[1] not in ("unfolding", "where"):
+            begin, word = BEGIN.match(line), WORD.match(line)
+            if begin and begin[1] not in ("unfolding", "where"):
                 name = begin[1]
                 found.setdefault(name, []).extend(comment)
                 comment = []
-            elif not line.startswith(" ") and WORD.match(line) and WORD.match(line)[0] in found:
-                name = WORD.match(line)[0]
+            elif word and word[0] in found:
+                name = word[0]
             if name:
                 found[name].append(line)
     return found
 
 
-def definitions():
-    """Each declaration below specs/ of each crate: (crate, module, name) to its lines and to what its file brings."""
-    found = {}
-    for crate in crates():
-        for file in (TOP / "crates" / crate / "specs").rglob("*.antt"):
-            module, text = (
-                ".".join(file.relative_to(TOP / "crates" / crate / "specs").with_suffix("").parts),
-                file.read_text(),
-            )
-            names, brought = blocks(text), imports(text)
+def definitions(top: Path) -> dict[Name, Definition]:
+    """Return each definition in specs/ of each crate."""
+    found: dict[Name, Definition] = {}
+    for crate in repository.crates(top):
+        specs = top / "crates" / crate / "specs"
+        for file in specs.rglob("*.antt"):
+            module, text = ".".join(file.relative_to(specs).with_suffix("").parts), file.read_text()
+            names, imported = blocks(text), imports(text)
             for name, lines in names.items():
-                found[crate, module, name] = lines, brought, names
+                found[crate, module, name] = Definition(lines, imported, set(names))
     return found
 
 
-def exported(crate):
-    """The names that a crate's lib.rt exports."""
-    lib = TOP / "crates" / crate / "src/lib.rt"
+def exported(crate: Path) -> Optional[set[str]]:
+    """Return the names that a library's lib.rt exports, or nothing for a program, which exports all."""
+    if (crate / "src/main.rt").exists():
+        return None
+    lib = crate / "src/lib.rt"
     text = lib.read_text() if lib.exists() else ""
     return set(WORD.findall(" ".join(re.findall(r"^pub use [\w:]*?(\{[^}]*\}|\w+);", text, re.M | re.S))))
 
 
-def contracts(crate):
-    """What the clauses of a crate's exported functions, and the views of its types, name."""
+def is_exported(name: str, names: Optional[set[str]]) -> bool:
+    """Return whether a name is one of those that `exported` returns."""
+    return names is None or name in names
+
+
+def contracts(crate: Path) -> Iterator[Name]:
+    """Give what the clauses of a crate's exported functions, and the views of its types, name."""
     names = exported(crate)
-    is_program = (TOP / "crates" / crate / "src/main.rt").exists()
-    if is_program:
-        names = None
-    for file in (TOP / "crates" / crate / "src").rglob("*.rt"):
+    for file in (crate / "src").rglob("*.rt"):
         if file.stem.endswith("tests"):
             continue
         text = file.read_text()
-        brought, is_public, is_inside, owner = imports(text), False, False, None
+        imported, is_public, is_inside, owner = imports(text), False, False, ""
         for line in text.split("\n"):
             block, kind, function = IMPL.match(line), TYPE.match(line), FUNCTION.match(line)
             if block:
                 owner = block[2]
-                is_public = block[1] == "Model for " and is_lent(owner, names)
+                is_public = block[1] == "Model for " and is_exported(owner, names)
             elif kind:
-                is_public = bool(kind[1]) and is_lent(kind[2], names)
+                is_public = bool(kind[1]) and is_exported(kind[2], names)
             elif function:
                 indent, public, foreign, name = function.groups()
-                lent = bool(foreign) or bool(public) and is_lent(owner if indent else name, names)
-                is_public = lent or is_program and file.stem == "main"
+                is_public = bool(foreign) or bool(public) and is_exported(owner if indent else name, names)
+                is_public = is_public or names is None and file.stem == "main"
             if line.strip() == "{":
                 is_inside = False
             if is_public and (CLAUSE.match(line) or is_inside):
                 is_inside = True
-                yield from (brought[word] for word in WORD.findall(line) if word in brought)
+                yield from (imported[word] for word in WORD.findall(line) if word in imported)
 
 
-def is_lent(name, names):
-    """Whether a name is exported; a program's modules lend each other all."""
-    return names is None or name in names
-
-
-def reached(found):
-    left, seen = [it for crate in crates() for it in contracts(crate)], set()
+def reached(found: dict[Name, Definition], top: Path) -> set[Name]:
+    """Return the definitions that contracts of exported functions reach."""
+    left = [it for crate in repository.crates(top) for it in contracts(top / "crates" / crate)]
+    seen: set[Name] = set()
     while left:
         at = left.pop()
-        if at in seen or at not in found:
-            continue
-        seen.add(at)
-        lines, brought, beside = found[at]
-        for word in WORD.findall(re.sub(r"--.*", "", "\n".join(lines))):
-            left.append((at[0], at[1], word) if word in beside else brought.get(word))
+        if at not in seen and at in found:
+            seen.add(at)
+            left += found[at].reaches(at[0], at[1])
     return seen
 
 
-def main():
-    words = argparse.ArgumentParser(prog="tests/definitions", description=__doc__.split("\n")[0])
-    words.add_argument("--list", action="store_true", help="name the definitions that are reached")
-    words.add_argument("--others", action="store_true", help="name those that are not")
-    given = words.parse_args()
-    found = definitions()
-    seen = reached(found)
-    for at in sorted(found):
-        if given.list and at in seen or given.others and at not in seen:
-            print(".".join(at), len(found[at][0]))
-    if given.list or given.others:
-        return
-    print(
-        "| crate | definitions reached | their lines | comments | inside | their lines | laws | their lines |\n|---|---|---|---|---|---|---|---|"
-    )
-    inside = {at for at in found if at not in seen and not at[1].startswith("Laws.")}
+def print_table(found: dict[Name, Definition], seen: set[Name], top: Path) -> None:
+    """Print a table in Markdown with a row for each crate, and their sums."""
+    laws = {at for at in found if at not in seen and at[1].startswith("Laws.")}
     total = [0] * 7
-    for crate in crates():
-        row = []
-        for part in (seen, inside, set(found) - seen - inside):
-            mine = [at for at in part if at[0] == crate]
-            row += [len(mine), sum(len(found[at][0]) for at in mine)]
+    print("| crate | definitions reached | their lines | comments | inside | their lines | laws | their lines |")
+    print("|---|---|---|---|---|---|---|---|")
+    for crate in repository.crates(top):
+        row: list[int] = []
+        for part in (seen, set(found) - seen - laws, laws):
+            own = [found[at] for at in part if at[0] == crate]
+            row += [len(own), sum(len(it.lines) for it in own)]
             if part is seen:
-                row.append(sum(line.startswith("--") for at in mine for line in found[at][0]))
+                row.append(sum(it.comments() for it in own))
         total = [a + b for a, b in zip(total, row)]
         if any(row):
             print(f"| {crate} | {' | '.join(f'{it:,}' for it in row)} |")
     print(f"| together | {' | '.join(f'{it:,}' for it in total)} |")
 
 
+def main() -> int:
+    """Run the command line."""
+    words = argparse.ArgumentParser(
+        prog="python3 -m tools.definitions", description=__doc__, formatter_class=argparse.RawDescriptionHelpFormatter
+    )
+    words.add_argument("--list", action="store_true", help="name the definitions that are reached, with their lines")
+    words.add_argument("--others", action="store_true", help="name those that are not, with their lines")
+    words.add_argument("--top", type=Path, default=TOP, metavar="DIR", help="the repository (this one)")
+    given = words.parse_args()
+    found = definitions(given.top)
+    seen = reached(found, given.top)
+    if given.list or given.others:
+        for at in sorted(found):
+            if given.list and at in seen or given.others and at not in seen:
+                print(".".join(at), len(found[at].lines))
+    else:
+        print_table(found, seen, given.top)
+    return 0
+
+
 if __name__ == "__main__":
-    main()
+    sys.exit(main())

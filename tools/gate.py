@@ -24,7 +24,7 @@ import time
 from collections.abc import Callable, Mapping
 
 from tools import build, manifest
-from tools.repository import TOP, NoKit, kit_line
+from tools.repository import TOP, NoKit, kit, kit_line
 
 Counts = tuple[int, int]
 
@@ -57,16 +57,17 @@ def module(name: str, *words: str) -> Counts:
 
 def proofs() -> Counts:
     """Prove every crate and run its tests and programs."""
-    return run("rt", "ci", env={"RT_JOBS": os.environ.get("RT_JOBS", str(build.lanes()))})
+    kit()
+    sources = manifest.sources()
+    passed, failed = run("rt", "ci", env={"RT_JOBS": os.environ.get("RT_JOBS", str(build.lanes()))})
+    if not failed:
+        build.keep_proved(sources)
+    return passed, failed
 
 
 def link() -> Counts:
     """Link what was proved."""
-    try:
-        build.link()
-    except build.Failed as why:
-        print(f"link: {why}")
-        return 0, 1
+    build.link()
     return 1, 0
 
 
@@ -80,6 +81,8 @@ def dist() -> Counts:
         return 0, 1
     made = manifest.read(manifest.BUILT)
     wrong = [f"{name} is missing or altered" for name in manifest.altered(manifest.SHIPPED)]
+    present = {str(it.relative_to(manifest.SHIPPED)) for it in manifest.SHIPPED.rglob("*") if it.is_file()}
+    wrong += [f"{name} is in no manifest" for name in sorted(present - {*shipped.files, "MANIFEST"})]
     if shipped.sources != made.sources:
         wrong.append("dist/ is not made of the tree's sources")
     if shipped.kit == made.kit:
@@ -139,7 +142,7 @@ def main() -> int:
         print(f"== {name}", flush=True)
         try:
             good, bad = PARTS[name]()
-        except NoKit as why:
+        except (NoKit, build.Failed, OSError, ValueError) as why:
             print(f"{name}: {why}")
             good, bad = 0, 1
         minutes, cpu = (time.monotonic() - clock) / 60, (processor_seconds() - processor) / 60

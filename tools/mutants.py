@@ -51,7 +51,7 @@ from functools import lru_cache
 from pathlib import Path
 
 from tools import rattle_text, repository
-from tools.repository import TOP, kit_line
+from tools.repository import TOP, NoKit, kit_line
 
 # The memory that one check may take, in bytes.
 CHECK_BYTES = 2_500_000_000
@@ -486,7 +486,7 @@ class Trial:
                 name, why = self.refused[mutant.label]
                 said = why.replace("\t", " ")
                 record.entries[mutant.name] = [mutant.inputs(of_crate), name, said, today, kit_line()]
-            else:
+            elif mutant.label in self.failed:
                 record.entries.pop(mutant.name, None)
         record.write(it.name for it in crate.mutants("wrong", ""))
 
@@ -589,7 +589,11 @@ def main() -> int:
         trial.say(f"{sum(map(len, work.values()))} to judge, {others} judged for these inputs")
         return 0
     trial.say(f"-- {sum(map(len, work.values()))} to judge; {others} were judged for the same inputs")
-    trial.all(work)
+    try:
+        trial.all(work)
+    except NoKit as why:
+        print(f"mutants: {why}", file=sys.stderr)
+        return 2
     if given.costs:
         trial.say_costs()
     trial.say(f"-- {sum(trial.seconds.values()) / 60:.1f} CPU minutes, {(time.time() - began) / 60:.1f} by the clock")

@@ -1,16 +1,19 @@
-#!/usr/bin/env python3
-"""Measures the built program on documents that it makes, and prints tables in Markdown.
+"""Measure the program `hdt` on documents that it makes, and print tables in Markdown.
 
-    tests/speed [LINES ..]        100,000, 1,000,000 and 5,000,000 lines where none are given
-    tests/speed --hostile         files that strangers made to cost time: each command at four doublings
+    python3 -m tools.speed                 documents of 100,000, 1,000,000 and 5,000,000 lines
+    python3 -m tools.speed 20,000          a document of 20,000 lines
+    python3 -m tools.speed --hostile       files made to cost time: each command at doublings of their size
 
-Of each document there are three: as an exporter writes it, its lines shuffled, and one whose lines are all different, of
-subjects that follow each other. A row has seconds of a processor (user and system) and of a clock, the peak memory, how many
-times the processor seconds are those of `sort -u` in one thread, and nanoseconds of a processor a line.
+Each document is measured in three forms: as an exporter writes it; its lines shuffled; and one whose lines are all
+different, in the order of their subjects. A row has the CPU seconds (user and system), the seconds by the clock, the
+peak memory, the CPU seconds as a multiple of those of `sort -u` in one thread, and the CPU nanoseconds a line.
 
-It is no part of the gate: what it prints is measured on one machine, and nothing of it is proved. Run it after `rt ci`, on a
-quiet machine. Of each command the least of three runs counts; its output goes to a file in memory where there is one.
+It measures the program that belongs to this tree (tools/current). The least of three runs counts, and the files are in
+memory if /dev/shm can be written to. It is no part of the gate: what it prints is measured on one machine, and nothing
+of it is proved. Run it on a quiet machine.
 """
+
+from __future__ import annotations
 
 import argparse
 import datetime
@@ -21,16 +24,15 @@ import subprocess
 import sys
 import tempfile
 import time
+from collections.abc import Callable, Iterator, Sequence
 from pathlib import Path
+from typing import NamedTuple, Union
 
-sys.dont_write_bytecode = True
-TOP = Path(__file__).resolve().parent.parent
-sys.path.insert(0, str(TOP / "tests"))
-import hdtfile
+from tools.repository import TOP
 
-PROGRAM = TOP / "crates/hdt_tool/out/hdt_tool"
+Word = Union[str, Path]
+
 RUNS = 3
-
 PREDICATES = [
     f"http://example.org/vocabulary/{name}"
     for name in "knows name label comment type size partOf seeAlso created creator subject source".split()
@@ -38,26 +40,33 @@ PREDICATES = [
 WORDS = "graph triple subject predicate object dictionary section header string number file term block node".split()
 
 
-def literal(source):
-    """A literal: with a language tag, with a datatype, or plain."""
+class Failed(Exception):
+    """Why nothing can be measured."""
+
+
+# ---- documents
+
+
+def literal(source: random.Random) -> str:
+    """Return a literal: with a language tag, with a datatype, or plain."""
     kind = source.random()
     if 0.4 <= kind < 0.7:
-        return '"%d"^^<http://www.w3.org/2001/XMLSchema#integer>' % source.randrange(100_000)
+        return f'"{source.randrange(100_000)}"^^<http://www.w3.org/2001/XMLSchema#integer>'
     text = " ".join(source.choices(WORDS, k=4)) + " of the collection"
     return f'"{text}"@{source.choice(("en", "de", "en-GB"))}' if kind < 0.4 else f'"{text}"'
 
 
-def document(count):
-    """So many lines, about 150 bytes each: a subject has some eight triples, one line of fifty repeats an earlier one."""
+def as_exported(count: int) -> list[str]:
+    """Return lines of about 150 bytes: a subject has some eight triples; one line of fifty repeats an earlier one."""
     source = random.Random(count)
     address = "http://example.org/resource/%s/item/%07d"
-    lines = []
+    lines: list[str] = []
     while len(lines) < count:
         subject = address % (source.choice(WORDS), source.randrange(count // 8 + 1))
         for _ in range(source.randrange(4, 13)):
             predicate = source.choice(PREDICATES)
             if source.random() < 0.5:
-                other = "<%s>" % (address % (source.choice(WORDS), source.randrange(count // 8 + 1)))
+                other = f"<{address % (source.choice(WORDS), source.randrange(count // 8 + 1))}>"
             else:
                 other = literal(source)
             lines.append(f"<{subject}> <{predicate}> {other} .\n")
@@ -66,15 +75,15 @@ def document(count):
     return lines[:count]
 
 
-def shuffled(count):
-    """The same lines in another order."""
-    lines = document(count)
+def shuffled(count: int) -> list[str]:
+    """Return the same lines in another order."""
+    lines = as_exported(count)
     random.Random(count).shuffle(lines)
     return lines
 
 
-def without_repeats(count):
-    """So many lines, all different: each subject has eight, with objects of their own, in the order of the subjects."""
+def without_repeats(count: int) -> list[str]:
+    """Return lines that all differ: a subject has eight, with objects of its own, in the order of the subjects."""
     address = "http://example.org/resource/%09d"
     return [
         f'<{address % (line // 8)}> <{PREDICATES[line % 8]}> "object {line} of the subject" .\n'
@@ -84,57 +93,82 @@ def without_repeats(count):
     ]
 
 
-DOCUMENTS = {"as exported": document, "shuffled": shuffled, "without repeats": without_repeats}
+DOCUMENTS: dict[str, Callable[[int], list[str]]] = {
+    "as exported": as_exported,
+    "shuffled": shuffled,
+    "without repeats": without_repeats,
+}
 
 
-def write_document(path, lines, count):
-    """Writes the document and gives its middle line. In a process of its own: the memory of this one would count below."""
-    if pid := os.fork():
-        os.waitpid(pid, 0)
-    else:
-        with open(path, "w") as file:
-            file.writelines(lines(count))
-        os._exit(0)
-    with open(path) as file:
-        for _ in range(count // 2):
-            next(file)
-        return next(file)
+def parts_of(line: str) -> list[str]:
+    """Return the subject, the predicate and the object of a line that one of the above makes."""
+    return line[: -len(" .\n")].split(" ", 2)
 
 
-def run_once(command, out, source=os.devnull):
-    """Processor seconds, seconds of a clock and peak memory in bytes of a command between two files."""
-    with open(out, "wb") as file, open(source, "rb") as given:
-        begin = time.perf_counter()
+# ---- measuring
+
+
+class Cost(NamedTuple):
+    """What a command took: seconds of a processor and by the clock, and its peak memory in bytes."""
+
+    cpu: float
+    clock: float
+    memory: int
+
+
+def elsewhere(work: Callable[[], None]) -> None:
+    """Do some work in a process of its own.
+
+    What it leaves in memory would count as a command's, whose peak is at least that of the process that starts it.
+    """
+    child = os.fork()
+    if not child:
+        status = 1
+        try:
+            work()
+            status = 0
+        finally:
+            os._exit(status)
+    if os.waitpid(child, 0)[1]:
+        raise Failed("the input could not be written")
+
+
+def run_once(command: Sequence[Word], out: Path, given: Word = os.devnull) -> Cost:
+    """Run a command between two files. Raises Failed."""
+    with open(out, "wb") as output, open(given, "rb") as source:
+        began = time.perf_counter()
         process = subprocess.Popen(
-            command, stdin=given, stdout=file, stderr=subprocess.DEVNULL, env={**os.environ, "LC_ALL": "C"}
+            command, stdin=source, stdout=output, stderr=subprocess.DEVNULL, env={**os.environ, "LC_ALL": "C"}
         )
         _, status, usage = os.wait4(process.pid, 0)
-        seconds = time.perf_counter() - begin
-        process.returncode = status
-    if status:
-        sys.exit(f"{command[0]} ended with {os.waitstatus_to_exitcode(status)}")
-    return usage.ru_utime + usage.ru_stime, seconds, usage.ru_maxrss * 1024
+        clock = time.perf_counter() - began
+    process.returncode = os.waitstatus_to_exitcode(status)
+    if process.returncode:
+        raise Failed(f"{' '.join(map(str, command))} ended with status {process.returncode}")
+    return Cost(usage.ru_utime + usage.ru_stime, clock, usage.ru_maxrss * 1024)
 
 
-def measured(command, out, source=os.devnull):
-    """The run that takes least of the processor."""
-    return min(run_once(command, out, source) for _ in range(RUNS))
+def least(command: Sequence[Word], out: Path, given: Word = os.devnull) -> Cost:
+    """Return what the fastest of RUNS runs took. Raises Failed."""
+    return min(run_once(command, out, given) for _ in range(RUNS))
 
 
-def commands(source, file, line):
-    """Name and words of each command."""
-    subject, predicate, other = line.split(" ", 2)
-    other = other[: -len(" .\n")]
+# ---- the table of a document
+
+
+def commands(program: Path, source: Path, file: Path, line: str) -> Iterator[tuple[str, list[Word]]]:
+    """Give the name and the words of each command. `line` is one of the document."""
+    subject, predicate, other = parts_of(line)
     yield "sort -u", ["sort", "--parallel=1", "-u", source]
-    yield "hdt build", [PROGRAM, "build", source, file]
-    yield "hdt verify", [PROGRAM, "verify", file]
-    yield "hdt verify --tight", [PROGRAM, "verify", "--tight", file]
-    yield "hdt rewrite", [PROGRAM, "rewrite", file, file.with_suffix(".again"), "--block-size", "8"]
-    yield "hdt dump", [PROGRAM, "dump", file]
-    yield "hdt find S ? ?", [PROGRAM, "find", file, subject, "?", "?"]
-    yield "hdt find ? P ?", [PROGRAM, "find", file, "?", predicate, "?"]
-    yield "hdt find ? ? O", [PROGRAM, "find", file, "?", "?", other]
-    yield "hdt find --count ? P ?", [PROGRAM, "find", "--count", file, "?", predicate, "?"]
+    yield "hdt build", [program, "build", source, file]
+    yield "hdt verify", [program, "verify", file]
+    yield "hdt verify --tight", [program, "verify", "--tight", file]
+    yield "hdt rewrite", [program, "rewrite", file, file.with_suffix(".again"), "--block-size", "8"]
+    yield "hdt dump", [program, "dump", file]
+    yield "hdt find S ? ?", [program, "find", file, subject, "?", "?"]
+    yield "hdt find ? P ?", [program, "find", file, "?", predicate, "?"]
+    yield "hdt find ? ? O", [program, "find", file, "?", "?", other]
+    yield "hdt find --count ? P ?", [program, "find", "--count", file, "?", predicate, "?"]
     yield "cat", ["cat", source]
     if shutil.which("rapper"):
         yield "rapper -c", ["rapper", "-q", "-c", "-i", "ntriples", source]
@@ -142,140 +176,186 @@ def commands(source, file, line):
         yield "serdi", ["serdi", "-i", "ntriples", source]
 
 
-# Requests of `answer`: how many, and what each is of the words of a line.
+# Requests to `hdt answer`: how many, and the form of each, of the parts of a line.
 REQUESTS = {
     "hdt answer, no requests": (0, "? ? ?"),
     "hdt answer, 100,000 times S ? ?": (100_000, "{0} ? ?"),
     "hdt answer, 10,000 times ? ? O": (10_000, "? ? {2}"),
     "hdt answer, 100 times ? P ?": (100, "? {1} ?"),
 }
+# The answers of documents with more lines would fill the memory.
+MOST_LINES_TO_ANSWER = 1_000_000
 
 
-def write_requests(path, source, times, form):
-    """Writes so many requests of lines of the document, in another order, in a process of its own."""
-    if pid := os.fork():
-        os.waitpid(pid, 0)
-    else:
+def write_document(path: Path, lines: Callable[[int], list[str]], count: int) -> str:
+    """Write a document, and return its middle line."""
+
+    def work() -> None:
+        with open(path, "w") as file:
+            file.writelines(lines(count))
+
+    elsewhere(work)
+    with open(path) as file:
+        for _ in range(count // 2):
+            next(file)
+        return next(file)
+
+
+def write_requests(path: Path, source: Path, times: int, form: str) -> None:
+    """Write requests, each of a line of the document drawn by chance."""
+
+    def work() -> None:
         with open(source) as file:
             lines = file.readlines()
         with open(path, "w") as file:
             for line in random.Random(times).choices(lines, k=times):
-                file.write(form.format(*line[: -len(" .\n")].split(" ", 2)) + "\n")
-        os._exit(0)
+                file.write(form.format(*parts_of(line)) + "\n")
+
+    elsewhere(work)
 
 
-def print_document(folder, name, lines, count):
-    """The table of a document."""
-    source, file = folder / "document.nt", folder / "file.hdt"
-    line = write_document(source, lines, count)
+def print_document(program: Path, folder: Path, name: str, count: int) -> None:
+    """Print the table of a document with so many lines. Raises Failed."""
+    source, file, requests, out = (folder / it for it in ("document.nt", "file.hdt", "requests", "out"))
+    line = write_document(source, DOCUMENTS[name], count)
     size = source.stat().st_size
     print(f"{count:,} lines, {name}: {size:,} bytes ({size / count:.0f} a line)\n")
-    print(
-        "| command | processor, s | clock, s | peak memory, MB | of `sort -u` | ns a line |\n|---|---|---|---|---|---|"
-    )
-    sorting = None
-    for what, words in commands(source, file, line):
-        processor, clock, peak = measured(words, folder / "out")
-        sorting = sorting or processor
-        print(
-            f"| {what} | {processor:.3f} | {clock:.3f} | {peak / 1e6:.0f} | {processor / sorting:.2f} | {processor / count * 1e9:.0f} |",
-            flush=True,
-        )
-    requests = folder / "requests"
-    # (what is answered of more lines would fill the memory)
-    for what, (times, form) in REQUESTS.items() if count <= 1_000_000 else ():
+    print("| command | CPU, s | clock, s | peak memory, MB | of `sort -u` | ns a line |\n|---|---|---|---|---|---|")
+    sorting = 0.0
+
+    def row(what: str, cost: Cost) -> None:
+        cells = [
+            what,
+            f"{cost.cpu:.3f}",
+            f"{cost.clock:.3f}",
+            f"{cost.memory / 1e6:.0f}",
+            f"{cost.cpu / sorting:.2f}",
+            f"{cost.cpu / count * 1e9:.0f}",
+        ]
+        print(f"| {' | '.join(cells)} |", flush=True)
+
+    for what, words in commands(program, source, file, line):
+        cost = least(words, out)
+        sorting = sorting or max(cost.cpu, 1e-6)
+        row(what, cost)
+    for what, (times, form) in REQUESTS.items() if count <= MOST_LINES_TO_ANSWER else ():
         write_requests(requests, source, times, form)
-        processor, clock, peak = measured([PROGRAM, "answer", file], folder / "out", requests)
-        print(
-            f"| {what} | {processor:.3f} | {clock:.3f} | {peak / 1e6:.0f} | {processor / sorting:.2f} | {processor / count * 1e9:.0f} |",
-            flush=True,
-        )
+        row(what, least([program, "answer", file], out, requests))
     print(f"\nThe file has {file.stat().st_size:,} bytes.\n")
 
 
-# Families of files that cost time where a program compares or unfolds whole strings: how one is made of a size, and the
-# commands.
-HOSTILE = {
-    "two sections of long fronts": (
-        lambda scale: hdtfile.long_fronts(2, 40_000 * scale, 1_000 * scale)[0],
-        (1, 2, 4, 8, 16),
-        [["verify"], ["verify", "--tight"], ["rewrite", "--block-size", "65535"]],
-    ),
-    "three sections of long fronts": (
-        lambda scale: hdtfile.long_fronts(3, 40_000 * scale, 1_000 * scale)[0],
-        (1, 2, 4, 8, 16),
-        [["rewrite", "--block-size", "65535"]],
-    ),
-    "loose strings of long fronts": (
-        lambda scale: hdtfile.loose_fronts(40_000 * scale, 1_000 * scale)[0],
-        (1, 2, 4, 8, 16),
-        [["rewrite", "--block-size", "65535"]],
-    ),
-    "one huge block": (
-        lambda scale: hdtfile.long_fronts(2, 0, 6_250 * scale)[0],
-        (1, 2, 4, 8, 16),
-        [
-            ["verify"],
-            ["dump"],
-            ["find", "?", "<u:p>", "?"],
-            ["strings", "object"],
-            ["rewrite", "--block-size", "65535"],
-        ],
-    ),
-    "long fronts, written anew in each block": (
-        lambda scale: hdtfile.long_fronts(2, 5_000 * scale, 125 * scale)[0],
-        (1, 2, 4, 8),
-        [["rewrite"], ["rewrite", "--block-size", "65535"]],
-    ),
-}
+# ---- files made to cost time
 
 
-def print_hostile(folder):
-    """Each command at four doublings of each family, and how many times the last one is the one before."""
-    print(
-        "| files | command | bytes, and processor seconds | the last to the one before | peak memory, MB |\n|---|---|---|---|---|"
-    )
+class Family(NamedTuple):
+    """Files that cost time if whole strings are compared or unfolded.
+
+    `make` writes one in a size; the sizes to try; and the commands, each with its options.
+    """
+
+    make: Callable[[int], bytes]
+    sizes: Sequence[int]
+    commands: Sequence[Sequence[str]]
+
+
+REWRITE = ("rewrite", "--block-size", "65535")
+
+
+def families() -> dict[str, Family]:
+    """Return the families by their names. Their files are written by the tests' own implementation of the format."""
+    sys.path.append(str(TOP / "tests"))
+    from reference.hdt import long_prefixes, loose_prefixes
+
+    doublings = (1, 2, 4, 8, 16)
+    return {
+        "two sections with long prefixes": Family(
+            lambda size: long_prefixes(2, 40_000 * size, 1_000 * size)[0],
+            doublings,
+            [("verify",), ("verify", "--tight"), REWRITE],
+        ),
+        "three sections with long prefixes": Family(
+            lambda size: long_prefixes(3, 40_000 * size, 1_000 * size)[0], doublings, [REWRITE]
+        ),
+        "unused strings with long prefixes": Family(
+            lambda size: loose_prefixes(40_000 * size, 1_000 * size)[0], doublings, [REWRITE]
+        ),
+        "one huge block": Family(
+            lambda size: long_prefixes(2, 0, 6_250 * size)[0],
+            doublings,
+            [("verify",), ("dump",), ("find", "?", "<u:p>", "?"), ("strings", "object"), REWRITE],
+        ),
+        "long prefixes, written anew in each block": Family(
+            lambda size: long_prefixes(2, 5_000 * size, 125 * size)[0], doublings[:-1], [("rewrite",), REWRITE]
+        ),
+    }
+
+
+def print_hostile(program: Path, folder: Path) -> None:
+    """Print a table of each command at doublings of each family, and how the last two compare. Raises Failed."""
+    print("| files | command | bytes, and CPU seconds | the last to the one before | peak memory, MB |")
+    print("|---|---|---|---|---|")
     path = folder / "hostile.hdt"
-    for name, (make, scales, asked) in HOSTILE.items():
-        for command, *words in asked:
-            seconds, cells, peak = [], [], 0
-            for scale in scales:
-                path.write_bytes(make(scale))
-                out = [folder / "again.hdt"] if command == "rewrite" else []
-                processor, _, peak = measured([PROGRAM, command, path, *words, *out], folder / "out")
-                seconds.append(processor)
-                cells.append(f"{path.stat().st_size:,}: {processor:.3f}")
+    for name, family in families().items():
+        for command, *words in family.commands:
+            seconds: list[float] = []
+            cells: list[str] = []
+            memory = 0
+            for size in family.sizes:
+                path.write_bytes(family.make(size))
+                to = [folder / "again.hdt"] if command == "rewrite" else []
+                cost = least([program, command, path, *words, *to], folder / "out")
+                seconds.append(cost.cpu)
+                cells.append(f"{path.stat().st_size:,}: {cost.cpu:.3f}")
+                memory = max(memory, cost.memory)
+            ratio = seconds[-1] / max(seconds[-2], 0.001)
             print(
-                f"| {name} | {' '.join([command, *words])} | {'; '.join(cells)} | {seconds[-1] / max(seconds[-2], 0.001):.1f} | {peak / 1e6:.0f} |",
+                f"| {name} | {' '.join([command, *words])} | {'; '.join(cells)} | {ratio:.1f} | {memory / 1e6:.0f} |",
                 flush=True,
             )
 
 
-def main():
-    words = argparse.ArgumentParser(prog="tests/speed", description=__doc__.split("\n")[0])
-    words.add_argument("--hostile", action="store_true", help="measure files that strangers made to cost time")
-    words.add_argument(
-        "lines",
-        nargs="*",
-        metavar="LINES",
-        help="how many lines a document has; none: 100,000, 1,000,000 and 5,000,000",
+def current() -> Path:
+    """Return the program that belongs to this tree. Raises Failed."""
+    ran = subprocess.run(TOP / "tools/current", stdout=subprocess.PIPE, stderr=subprocess.PIPE, text=True)
+    if ran.returncode:
+        raise Failed(ran.stderr.strip().removeprefix("hdt: "))
+    return TOP / ran.stdout.strip() / "hdt"
+
+
+def lines(word: str) -> int:
+    """Read a number of lines, which may have commas."""
+    count = int(word.replace(",", ""))
+    if count < 1:
+        raise ValueError(word)
+    return count
+
+
+def main() -> int:
+    """Run the command line."""
+    words = argparse.ArgumentParser(
+        prog="python3 -m tools.speed", description=__doc__, formatter_class=argparse.RawDescriptionHelpFormatter
     )
+    words.add_argument("lines", nargs="*", type=lines, metavar="LINES", help="how many lines a document has")
+    words.add_argument("--hostile", action="store_true", help="measure files made to cost time")
+    words.add_argument("--program", type=Path, metavar="PATH", help="the program to measure (that of this tree)")
     given = words.parse_args()
-    if not PROGRAM.exists():
-        sys.exit(f"no {PROGRAM.relative_to(TOP)}: run `rt ci` first")
-    counts = [int(word.replace(",", "")) for word in given.lines] or (
-        [] if given.hostile else [100_000, 1_000_000, 5_000_000]
-    )
     memory = "/dev/shm" if os.access("/dev/shm", os.W_OK) else None
-    print(f"{datetime.date.today()}, {len(os.sched_getaffinity(0))} cores, load {os.getloadavg()[0]:.1f}\n")
-    with tempfile.TemporaryDirectory(dir=memory) as name:
-        folder = Path(name)
-        for count in counts:
-            for name, lines in DOCUMENTS.items():
-                print_document(folder, name, lines, count)
-        if given.hostile:
-            print_hostile(folder)
+    try:
+        program = given.program.resolve() if given.program else current()
+        if not os.access(program, os.X_OK):
+            raise Failed(f"{program} is no program")
+        print(f"{datetime.date.today()}, {len(os.sched_getaffinity(0))} cores, load {os.getloadavg()[0]:.1f}\n")
+        with tempfile.TemporaryDirectory(prefix="hdt-speed-", dir=memory) as folder:
+            for count in given.lines or ([] if given.hostile else [100_000, 1_000_000, 5_000_000]):
+                for name in DOCUMENTS:
+                    print_document(program, Path(folder), name, count)
+            if given.hostile:
+                print_hostile(program, Path(folder))
+    except Failed as why:
+        print(f"speed: {why}", file=sys.stderr)
+        return 2
+    return 0
 
 
 if __name__ == "__main__":
-    main()
+    sys.exit(main())

@@ -1,0 +1,749 @@
+"""The commands in `tools/`, and what checks the scripts: mypy, flake8, shellcheck.
+
+What `tools.promises` and `tools.definitions` find is tested over a small repository.
+"""
+
+from __future__ import annotations
+
+import os
+import re
+import shutil
+import subprocess
+import sys
+from collections.abc import Mapping
+from pathlib import Path
+
+import pytest
+
+from support.built import SAMPLES, SHARED_LIBRARY, TOP
+from support.program import Result, run
+
+MODULES = sorted(it.stem for it in (TOP / "tools").glob("*.py") if "argparse" in it.read_text())
+SCRIPTS = ["hdt", "test", "tools/current", "tools/install", "tools/package", ".ci/run"]
+
+
+def tool(name: str, *words: str | Path) -> Result:
+    """Run a module of `tools` as a command."""
+    return run([sys.executable, "-B", "-m", f"tools.{name}", *words], cwd=TOP, env={"COLUMNS": "100"})
+
+
+def test_modules() -> None:
+    """All commands are found, and are tested below."""
+    assert {"build", "definitions", "dist", "gate", "mutants", "promises", "speed", "speed_python"} <= set(MODULES)
+
+
+@pytest.mark.parametrize("name", MODULES)
+def test_help(name: str) -> None:
+    """`--help` says how the command is called, what it is for, and what each option does, in lines of 120 columns."""
+    status, out, err = tool(name, "--help")
+    lines = out.decode().splitlines()
+    assert (status, err) == (0, b"")
+    assert lines[0].startswith(f"usage: python3 -m tools.{name} [-h]")
+    assert re.match(r"[A-Z][^\n]+[.:]$", lines[lines.index("") + 1])
+    assert "options:" in lines
+    assert [it for it in lines if len(it) > 120 or it != it.rstrip()] == []
+
+
+@pytest.mark.parametrize("name", MODULES)
+def test_unknown_option(name: str) -> None:
+    """An unknown option is refused with the usage."""
+    file = ["file.hdt"] if name == "speed_python" else []
+    status, out, err = tool(name, *file, "--no-such-option")
+    assert (status, out) == (2, b"")
+    assert err.startswith(f"usage: python3 -m tools.{name} ".encode()) and b"unrecognized arguments" in err
+
+
+# ---- the tree
+
+
+def test_promises_of_the_tree() -> None:
+    """The tables of promises are right."""
+    status, out, err = tool("promises")
+    assert re.fullmatch(rb"\d+ passed, 0 failed\n", out), out.decode()
+    assert (status, err) == (0, b"")
+
+
+@pytest.mark.parametrize("script", SCRIPTS)
+@pytest.mark.skipif(not shutil.which("shellcheck"), reason="there is no shellcheck")
+def test_shellcheck(script: str) -> None:
+    """Shell scripts are clean."""
+    assert run(["shellcheck", TOP / script]) == Result(0, b"", b"")
+
+
+@pytest.mark.parametrize("script", SCRIPTS)
+def test_scripts_run_by_sh(script: str) -> None:
+    """Scripts can be executed, and are for any POSIX shell."""
+    assert os.access(TOP / script, os.X_OK)
+    assert (TOP / script).read_text().startswith("#!/bin/sh\n")
+    assert run(["sh", "-n", TOP / script]) == Result(0, b"", b"")
+
+
+def python_files() -> list[Path]:
+    """Return the Python files of the tree, without those that are made or that git ignores."""
+    folders = ("tools", "python", "tests")
+    files = (it for folder in folders for it in (TOP / folder).rglob("*.py"))
+    return sorted(it for it in (file.relative_to(TOP) for file in files) if "build" not in it.parts)
+
+
+def found(*words: str | Path, **more: str) -> list[str]:
+    """Return what a check of Python files says, without what it says of all together."""
+    ran = run([*words], cwd=TOP, env=more, seconds=600)
+    lines = (ran.out + ran.err).decode().splitlines()
+    return [it for it in lines if not it.startswith(("Found ", "Success: "))]
+
+
+@pytest.mark.skipif(not shutil.which("flake8"), reason="there is no flake8")
+@pytest.mark.parametrize("folder", ["tools", "python", "tests"])
+def test_flake8(folder: str) -> None:
+    """Python files are clean."""
+    assert found("flake8", *[it for it in python_files() if it.parts[0] == folder]) == []
+
+
+@pytest.mark.slow
+@pytest.mark.skipif(not shutil.which("mypy"), reason="there is no mypy")
+def test_mypy(tmp_path: Path) -> None:
+    """Python files have the types that they say."""
+    assert found("mypy", "--strict", "--cache-dir", tmp_path, *python_files(), MYPYPATH="python") == []
+
+
+@pytest.mark.skipif(not shutil.which("black"), reason="there is no black")
+def test_black() -> None:
+    """The modules of `tools` are formatted."""
+    files = sorted((TOP / "tools").glob("*.py"))
+    assert [it for it in found("black", "-q", "-l", "120", "--check", "--diff", *files)] == []
+
+
+# ---- without the kit
+
+WITHOUT_KIT = {
+    "build": (["build"], 2),
+    "link": (["build", "--link"], 2),
+    "gate": (["gate"], 1),
+    "gate: link": (["gate", "link"], 1),
+    "gate: dist": (["gate", "dist"], 1),
+    "gate: tests": (["gate", "tests"], 1),
+    "dist": (["dist"], 2),
+}
+
+
+@pytest.mark.parametrize("words, wanted", WITHOUT_KIT.values(), ids=list(WITHOUT_KIT))
+def test_without_kit(tmp_path: Path, words: list[str], wanted: int) -> None:
+    """Where the kit, or what is built with it, is missing, a line says so, and nothing is built or shipped."""
+    for name in ("tools", "c"):
+        shutil.copytree(TOP / name, tmp_path / name, ignore=shutil.ignore_patterns("__pycache__"))
+    (tmp_path / "crates.txt").write_text("hdt_tool:\n")
+    module, *rest = words
+    path = {"PATH": "/usr/bin:/bin"}
+    status, out, err = run([sys.executable, "-B", "-m", f"tools.{module}", *rest], cwd=tmp_path, env=path)
+    text = (out + err).decode()
+    assert "Traceback" not in text, text
+    assert status == wanted
+    assert re.search("no Rattle kit|is not built|nothing is built|No such file or directory: '.*/MANIFEST'", text), text
+    assert list(tmp_path.rglob("MANIFEST")) == []
+    assert module != "gate" or text.splitlines()[-1] == "0 passed, 1 failed"
+
+
+# ---- with a kit that only makes files
+
+KIT = {
+    # Proves all, and links the program; a file `edit` beside the kit is run as a script meanwhile.
+    "bin/rt": """\
+#!/bin/sh
+case $1 in
+version) echo kit of files 1 ;;
+ci)
+    echo "rt: hdt_tool proved" && echo "rt: hdt_c is kept: of an earlier run"
+    mkdir -p crates/hdt_tool/out && cp crates/hdt_tool/src/main.rt crates/hdt_tool/out/hdt_tool
+    [ ! -f "${0%/*}/../edit" ] || . "${0%/*}/../edit"
+    echo "2 passed, 0 failed"
+    ;;
+esac
+""",
+    # `-o FILE` makes a file, of the last word if that is one; `rcD FILE` does, too.
+    "toolchain/bin/clang": """\
+#!/bin/sh
+for last; do :; done
+before=
+for it; do
+    case $before in
+    -o | rcD) if [ -f "$last" ]; then cat "$last" >"$it"; else echo "made by the kit" >"$it"; fi ;;
+    esac
+    before=$it
+done
+""",
+    "bin/rattle": """\
+#!/bin/sh
+while [ "$1" != -o ]; do shift; done
+echo library >"$2"
+""",
+}
+TREE = {
+    "crates.txt": "hdt_tool:\nhdt_c staticlib:\n",
+    "crates/hdt_tool/src/main.rt": "#!/bin/sh\necho the program: $1\n",
+    "crates/hdt_c/src/lib.rt": "",
+    "c/hdt.map": "{ global: hdt_*; local: *; };\n",
+}
+
+
+class Tree:
+    """A small tree with all scripts, and a kit that makes files."""
+
+    def __init__(self, folder: Path, is_made: bool = False) -> None:
+        self.top, self.kit = folder / "tree", folder / "kit"
+        if is_made:
+            return
+        shutil.copytree(TOP / "tools", self.top / "tools", ignore=shutil.ignore_patterns("__pycache__"))
+        shutil.copy(TOP / "hdt", self.top)
+        for root, files in ((self.top, TREE), (self.kit, KIT)):
+            for name, text in files.items():
+                (root / name).parent.mkdir(parents=True, exist_ok=True)
+                (root / name).write_text(text)
+        for name in KIT:
+            (self.kit / name).chmod(0o755)
+
+    def tool(self, name: str, *words: str) -> Result:
+        """Run a module of the tree's `tools`."""
+        path = {"PATH": f"{self.kit}/bin:/usr/bin:/bin"}
+        return run([sys.executable, "-B", "-m", f"tools.{name}", *words], cwd=self.top, env=path)
+
+    def hdt(self) -> Result:
+        """Run the launcher."""
+        return run([self.top / "hdt", "word"], cwd=self.top)
+
+
+@pytest.fixture
+def tree(tmp_path: Path) -> Tree:
+    """A small tree and a kit that makes files."""
+    return Tree(tmp_path)
+
+
+PROGRAM = Result(0, b"the program: word\n", b"")
+
+
+def test_build(tree: Tree) -> None:
+    """What is built belongs to the sources, and is run; when they change, it is not."""
+    status, out, err = tree.tool("build")
+    assert (status, out) == (0, b""), err
+    assert b"hdt_tool is proved, 1 of 2\n" in err and b"hdt_c was proved before, 2 of 2\n" in err
+    assert err.endswith(b"hdt: built in out/x86_64-linux-gnu\n")
+    files = {it.name for it in (tree.top / "out/x86_64-linux-gnu").iterdir()}
+    assert files == {"hdt", "libhdt.a", "libhdt.so"}
+    manifest = (tree.top / "out/MANIFEST").read_text().splitlines()
+    assert [it.split()[0] for it in manifest] == ["kit", "glibc", "sources", "file", "file", "file"]
+    assert manifest[0] == "kit kit of files 1"
+    assert tree.hdt() == PROGRAM
+    (tree.top / "crates/hdt_c/src/lib.rt").write_text("// more\n")
+    assert tree.hdt().status == 2
+    assert tree.tool("build").status == 0 and tree.hdt() == PROGRAM
+
+
+def test_sources_that_change_during_the_proofs(tree: Tree) -> None:
+    """Files do not belong to sources that are newer than the proofs that they come from."""
+    (tree.kit / "edit").write_text("echo '// changed' >>crates/hdt_tool/src/main.rt\n")
+    assert tree.tool("build").status == 2
+    assert tree.hdt().status == 2
+
+
+def test_link_of_older_proofs(tree: Tree) -> None:
+    """`--link` does not take what was proved of other sources."""
+    assert tree.tool("build").status == 0
+    (tree.top / "crates/hdt_tool/src/main.rt").write_text("#!/bin/sh\necho another program\n")
+    assert tree.tool("build", "--link").status == 2
+    assert tree.hdt().status == 2
+
+
+def test_dist(tree: Tree) -> None:
+    """dist/ is a copy of what is built, if that is of the sources."""
+    assert tree.tool("build").status == 0
+    assert tree.tool("dist") == Result(0, b"", b"hdt: made dist/x86_64-linux-gnu, with kit of files 1\n")
+    shutil.rmtree(tree.top / "out")
+    assert tree.hdt() == PROGRAM
+    assert tree.tool("build").status == 0
+    (tree.top / "crates/hdt_c/src/lib.rt").write_text("// more\n")
+    wanted = b"hdt: out/ is not built from the sources as they are: make\n"
+    assert tree.tool("dist") == Result(2, b"", wanted)
+
+
+@pytest.fixture(scope="module")
+def built(tmp_path_factory: pytest.TempPathFactory) -> Path:
+    """A folder with a tree whose files are built and shipped, and the kit that made them."""
+    tree = Tree(tmp_path_factory.mktemp("built"))
+    assert [tree.tool(it).status for it in ("build", "dist")] == [0, 0]
+    return tree.top.parent
+
+
+@pytest.fixture
+def shipped(built: Path, tmp_path: Path) -> Tree:
+    """A copy of it."""
+    shutil.copytree(built, tmp_path, dirs_exist_ok=True)
+    return Tree(tmp_path, is_made=True)
+
+
+DISTS: dict[str, tuple[str, list[str]]] = {
+    "as it was made": (":", []),
+    "altered": ("echo more >>dist/x86_64-linux-gnu/hdt", ["hdt is missing or altered"]),
+    "missing": ("rm dist/x86_64-linux-gnu/libhdt.a", ["libhdt.a is missing or altered"]),
+    "another file": (
+        "echo other >dist/x86_64-linux-gnu/hdt; sum=$(sha256sum <dist/x86_64-linux-gnu/hdt | cut -c1-64); "
+        'sed -i "s|^file .*/hdt$|file $sum 6 x86_64-linux-gnu/hdt|" dist/MANIFEST',
+        ["hdt is not what was just proved and built"],
+    ),
+    "one too many": (
+        "echo more >dist/x86_64-linux-gnu/more; sum=$(sha256sum <dist/x86_64-linux-gnu/more | cut -c1-64); "
+        'echo "file $sum 5 x86_64-linux-gnu/more" >>dist/MANIFEST',
+        ["more is not what was just proved and built"],
+    ),
+    "of other sources": ('sed -i "s/^sources ./sources x/" dist/MANIFEST', ["dist/ is not made of the tree's sources"]),
+    "of another kit": ('sed -i "s/^kit .*/kit another/" dist/MANIFEST', []),
+    "no manifest": ("rm dist/MANIFEST", ["dist/MANIFEST"]),
+    "no kit in the manifest": ("sed -i /^kit/d dist/MANIFEST", ["has no line 'kit'"]),
+    "a file that no manifest has": ("echo more >dist/x86_64-linux-gnu/more", ["more is in no manifest"]),
+}
+
+
+@pytest.mark.parametrize("command, wanted", DISTS.values(), ids=list(DISTS))
+def test_gate_of_dist(shipped: Tree, command: str, wanted: list[str]) -> None:
+    """The gate compares dist/ with the sources, and with what was just built if the kit is the same."""
+    assert run(["sh", "-c", command], cwd=shipped.top).status == 0
+    status, out, err = shipped.tool("gate", "dist")
+    lines = [it for it in out.decode().splitlines() if it.startswith("dist: ") and "not compared" not in it]
+    assert (status, err, len(lines)) == (1 if wanted else 0, b"", len(wanted)), out.decode()
+    assert all(text in line for text, line in zip(wanted, lines)), lines
+    assert re.search(rf"\d+ passed, {len(wanted)} failed\n$", out.decode())
+
+
+# ---- promises
+
+LIB = """\
+pub mod more;
+pub use crate::more::{Thing, one};
+pub use crate::more::two;
+"""
+MORE = """\
+/// A thing.
+pub struct Thing { number: u8 }
+
+impl Thing {
+    /// A new one.
+    pub fn new() -> Thing
+        ensures is { result.number ≡ 0 }
+    {
+        Thing { number: 0 }
+    }
+
+    fn inner(&self) -> u8 {
+        self.number
+    }
+}
+
+/// One.
+pub fn one() -> u8
+    ensures is { result ≡ 1 }
+{
+    1
+}
+
+/// Two.
+pub const fn two() -> u8
+    ensures is { result ≡ 2 }
+    ensures more { result ≡ 1 + 1 }
+{
+    2
+}
+
+/// Not exported.
+pub fn three() -> u8 {
+    3
+}
+"""
+TABLE = """\
+# toy: promises
+
+What follows is a table.
+
+| promise | function | clause | wrong bodies refused (edits) |
+|---|---|---|---|
+| It starts at zero. | `Thing::new` | `is` | `starts_at_one` |
+| The numbers. | `one`, `more::{one, two}` | `is`, `more` | `one_is_two`, `two_is_one` (by its clause `more`) |
+| What is inside. | `Thing::inner` of `more.rs` | the one clause | `other_mutant` in low |
+"""
+EXAMPLE = """\
+fn main() {
+    let first = 1;
+    let second = 2;
+    print(first + second);
+}
+"""
+README = "# Toy\n\n" + "".join(f"```rust\n    let {it}\n```\n\n" for it in ("first = 1;", "second = 2;", "first = 1;"))
+DOCUMENT = README.replace("first", "second").replace("second = 1", "second = 2").replace("# Toy", "# More")
+FILES = {
+    "crates.txt": "# the crates\nlow:\ntoy: low\ntoy_tests: toy\nhdt_probe: toy\nexample: toy\n",
+    "README.md": README,
+    "docs/MORE.md": DOCUMENT,
+    "crates/low/PROMISES.md": TABLE.split("| It")[0] + "| Nothing. | (none) | (none) | `other_mutant` |\n",
+    "crates/low/src/lib.rt": "",
+    "crates/low/wrong/010_other_mutant.edit": "",
+    "crates/low/specs/Lib.antt": "-- What is low.\nlow : Nat\nlow = 0\n",
+    "crates/toy/PROMISES.md": TABLE,
+    "crates/toy/src/lib.rt": LIB,
+    "crates/toy/src/more.rt": MORE,
+    "crates/toy/src/more.rs": "",
+    "crates/toy/specs/Lib.antt": "high : Nat\nhigh = 1\n\nhigher (n : Nat) : Type\nhigher n = low\n",
+    "crates/toy/specs/Laws/Lib.antt": "high : Nat\n",
+    "crates/toy/proofs/one/Answers.antt": "-- one\n-- two\n",
+    "crates/toy/must-fail/one_is_two.edit": "",
+    "crates/toy/wrong/010_starts_at_one.edit": "",
+    "crates/toy/wrong/020_two_is_one.edit": "",
+    "crates/toy_tests/src/lib.rt": "#[test]\nfn all() {}\n",
+    "crates/hdt_probe/src/main.rt": "fn main() {}\n",
+    "crates/example/PROMISES.md": "# example\n",
+    "crates/example/src/main.rt": EXAMPLE,
+}
+
+
+def repository(top: Path, changes: Mapping[str, tuple[str, str]]) -> Path:
+    """Make a repository whose promises are right but for these changes: in a file an old text and a new one."""
+    for name, text in FILES.items():
+        path = top / name
+        path.parent.mkdir(parents=True, exist_ok=True)
+        path.write_text(text)
+    for name, (old, new) in changes.items():
+        text = (top / name).read_text()
+        assert old in text
+        if old == text == "":
+            (top / name).unlink()
+        else:
+            (top / name).write_text(text.replace(old, new))
+    return top
+
+
+# What is changed of a repository whose promises are right, and what is said of it.
+PROMISES: dict[str, tuple[str, str, str, list[str]]] = {
+    "a function": (
+        "toy/PROMISES.md",
+        "`Thing::new`",
+        "`Thing::old`",
+        ["toy: there is no function, type or trait old", "toy: the exported function new is in no row"],
+    ),
+    "a clause": (
+        "toy/PROMISES.md",
+        "`is`, `more`",
+        "`is`, `less`",
+        ["toy: there is no clause less, of `one`, `more::{one, two}`"],
+    ),
+    "a clause of the code": (
+        "toy/src/more.rt",
+        "ensures more",
+        "ensures much",
+        ["toy: there is no clause more, of `one`, `more::{one, two}`"],
+    ),
+    "a mutant": (
+        "toy/PROMISES.md",
+        "`starts_at_one`",
+        "`starts_at_two`",
+        ["toy: there is no mutant starts_at_two", "toy: the mutant starts_at_one is named 0 times, and not once"],
+    ),
+    "a mutant named twice": (
+        "toy/PROMISES.md",
+        "`starts_at_one`",
+        "`starts_at_one`, `two_is_one`",
+        ["toy: the mutant two_is_one is named 2 times, and not once"],
+    ),
+    "a mutant of another crate": (
+        "toy/PROMISES.md",
+        "`other_mutant` in low",
+        "`some_mutant` in low",
+        ["toy: there is no mutant some_mutant in low"],
+    ),
+    "a mutant in a remark": (
+        "toy/PROMISES.md",
+        "`two_is_one` (by",
+        "(`two_is_one`, by",
+        ["toy: the mutant two_is_one is named 0 times, and not once"],
+    ),
+    "a row of three cells": (
+        "toy/PROMISES.md",
+        "| What is inside. |",
+        "| Three. | `one` | `is` |\n| What is inside. |",
+        ["toy: a row without its four cells: | Three. | `one` | `is` |"],
+    ),
+    "an exported function": ("toy/src/lib.rt", "two;", "three;", ["toy: the exported function three is in no row"]),
+    "a public method": (
+        "toy/src/more.rt",
+        "    fn inner",
+        "    pub fn outer() {}\n\n    fn inner",
+        ["toy: the exported function outer is in no row"],
+    ),
+    "a function exported to C": (
+        "toy/src/more.rt",
+        "/// One.",
+        'pub extern "C" fn c_one() {\n}\n\n/// One.',
+        ["toy: the exported function c_one is in no row"],
+    ),
+    "no table": (
+        "toy/PROMISES.md",
+        TABLE,
+        "",
+        [
+            *(
+                f"toy: the mutant {it} is named 0 times, and not once"
+                for it in ("one_is_two", "starts_at_one", "two_is_one")
+            ),
+            *(f"toy: the exported function {it} is in no row" for it in ("new", "one", "two")),
+        ],
+    ),
+    "a name defined twice": (
+        "low/specs/Lib.antt",
+        "low",
+        "high",
+        ["high: defined in low/specs/Lib.antt and toy/specs/Lib.antt"],
+    ),
+    "a definition with parameters": (
+        "low/specs/Lib.antt",
+        "low :",
+        "higher (n : Nat) : Type\nlow :",
+        ["higher: defined in low/specs/Lib.antt and toy/specs/Lib.antt"],
+    ),
+    "the example": (
+        "example/src/main.rt",
+        "first = 1",
+        "first  = 1",
+        ["README.md: this is not in crates/example/src/main.rt:", "    let first = 1;", ""] * 2,
+    ),
+}
+
+
+def promises(top: Path) -> tuple[list[str], int]:
+    """Return the lines that `tools.promises` prints of a repository, and its status."""
+    status, out, err = tool("promises", "--top", top)
+    assert err == b""
+    return out.decode().splitlines(), status
+
+
+def test_right_promises(tmp_path: Path) -> None:
+    """A repository whose promises are right."""
+    lines, status = promises(repository(tmp_path, {}))
+    assert (status, len(lines)) == (0, 1), lines
+    assert re.fullmatch(r"[1-9]\d+ passed, 0 failed", lines[0])
+
+
+@pytest.mark.parametrize("file, old, new, wanted", PROMISES.values(), ids=list(PROMISES))
+def test_wrong_promises(tmp_path: Path, file: str, old: str, new: str, wanted: list[str]) -> None:
+    """Each error is told, and nothing else is."""
+    lines, status = promises(repository(tmp_path, {f"crates/{file}": (old, new)}))
+    count = sum(": " in it or it.startswith("README") for it in wanted)
+    assert (lines[:-1], status) == (wanted, 1)
+    assert re.fullmatch(rf"\d+ passed, {count} failed", lines[-1])
+
+
+@pytest.mark.parametrize("name", ["low", "toy", "example"])
+def test_no_promises(tmp_path: Path, name: str) -> None:
+    """Each crate has its PROMISES.md, but for tests and probes."""
+    top = repository(tmp_path, {})
+    (top / "crates" / name / "PROMISES.md").unlink()
+    lines, status = promises(top)
+    assert (lines[:-1], status) == ([f"{name}: there is no PROMISES.md"], 1)
+
+
+@pytest.mark.parametrize("file", ["README.md", "docs/MORE.md"])
+def test_too_few_rust_blocks(tmp_path: Path, file: str) -> None:
+    """The documentation has at least as many Rust blocks as it had, wherever they are."""
+    top = repository(tmp_path, {file: ("```rust", "```text")})
+    lines, status = promises(top)
+    assert (lines[:-1], status) == (["README.md and docs/*.md have 3 Rust blocks, and not at least 5"], 1)
+    (top / "docs/ALL.md").write_text(README)
+    lines, status = promises(top)
+    assert (len(lines), status) == (1, 0)
+
+
+def test_counts(tmp_path: Path) -> None:
+    """Lines of each kind, mutants and tests."""
+    status, out, err = tool("promises", "--counts", "--top", repository(tmp_path, {}))
+    assert (status, err) == (0, b"")
+    assert out.decode().splitlines() == [
+        "| crate | code | definitions | laws | proofs | must-fail mutants | mutants | tests |",
+        "|---|---|---|---|---|---|---|---|",
+        "| low | 0 | 3 | 0 | 0 | 0 | 1 | 0 |",
+        f"| toy | {LIB.count(chr(10)) + MORE.count(chr(10))} | 5 | 1 | 2 | 1 | 2 | 0 |",
+        "| toy_tests | 0 | 0 | 0 | 0 | 0 | 0 | 1 |",
+        "| hdt_probe | 1 | 0 | 0 | 0 | 0 | 0 | 0 |",
+        "| example | 5 | 0 | 0 | 0 | 0 | 0 | 0 |",
+        f"| together | {LIB.count(chr(10)) + MORE.count(chr(10)) + 6} | 8 | 1 | 2 | 1 | 3 | 1 |",
+    ]
+
+
+# ---- definitions
+
+LOW = """\
+-- What contracts reach through `outer`.
+-- (two lines)
+low : Nat
+low = 0
+
+aside : Nat
+aside = low
+"""
+HIGH = """\
+use Rattle.low.specs.Lib.{low as lowest}
+
+-- Reached by a clause.
+pub outer : Nat
+outer = inner + lowest
+
+inner : Nat
+inner = 1 -- and not hidden
+
+hidden : Nat
+hidden = outer
+"""
+CODE = """\
+ghost use Rattle.toy.specs.Lib.{outer, hidden};
+
+pub fn shown() -> u8
+    ensures { result ≡ outer }
+{
+    hidden
+}
+
+fn kept() -> u8
+    ensures { result ≡ hidden }
+{
+    0
+}
+"""
+
+
+@pytest.fixture
+def defined(tmp_path: Path) -> Path:
+    """A repository of a few definitions."""
+    files = {
+        "crates.txt": "low:\ntoy: low\n",
+        "crates/low/specs/Lib.antt": LOW,
+        "crates/low/specs/Laws/More.antt": "law : Nat\nlaw = 1\n",
+        "crates/toy/specs/Lib.antt": HIGH,
+        "crates/toy/src/lib.rt": "pub use crate::more::shown;\n",
+        "crates/toy/src/more.rt": CODE,
+    }
+    for name, text in files.items():
+        (tmp_path / name).parent.mkdir(parents=True, exist_ok=True)
+        (tmp_path / name).write_text(text)
+    return tmp_path
+
+
+def definitions(top: Path, *words: str) -> list[str]:
+    """Return the lines that `tools.definitions` prints of a repository."""
+    status, out, err = tool("definitions", "--top", top, *words)
+    assert (status, err) == (0, b"")
+    return out.decode().splitlines()
+
+
+def test_definitions_reached(defined: Path) -> None:
+    """Those that clauses of exported functions name, and all that these name, with their lines and comments."""
+    assert definitions(defined, "--list") == ["low.Lib.low 4", "toy.Lib.inner 2", "toy.Lib.outer 3"]
+    assert definitions(defined, "--others") == ["low.Laws.More.law 2", "low.Lib.aside 2", "toy.Lib.hidden 2"]
+
+
+def test_definitions_table(defined: Path) -> None:
+    """A row for each crate, and their sums."""
+    assert definitions(defined) == [
+        "| crate | definitions reached | their lines | comments | inside | their lines | laws | their lines |",
+        "|---|---|---|---|---|---|---|---|",
+        "| low | 1 | 4 | 2 | 1 | 2 | 1 | 2 |",
+        "| toy | 2 | 5 | 1 | 1 | 2 | 0 | 0 |",
+        "| together | 3 | 9 | 3 | 2 | 4 | 1 | 2 |",
+    ]
+
+
+# ---- speed
+
+# A program that only makes the file that is asked for.
+FAKE = """\
+#!/bin/sh
+[ "$1" != build ] || cp "$2" "$3"
+"""
+
+
+@pytest.fixture
+def fake(tmp_path: Path) -> Path:
+    """A program that takes the words of `hdt`."""
+    path = tmp_path / "hdt"
+    path.write_text(FAKE)
+    path.chmod(0o755)
+    return path
+
+
+def test_speed(fake: Path) -> None:
+    """A table for each of the three forms of a document, with a row for each command."""
+    status, out, err = tool("speed", "200", "--program", fake)
+    assert (status, err) == (0, b"")
+    text = out.decode()
+    assert re.findall(r"^200 lines, (.*): [\d,]+ bytes \(\d+ a line\)$", text, re.M) == [
+        "as exported",
+        "shuffled",
+        "without repeats",
+    ]
+    rows = re.findall(r"^\| (.*?) \| [\d.]+ \| [\d.]+ \| \d+ \| [\d.]+ \| \d+ \|$", text, re.M)
+    own = [it for it in rows if it not in ("rapper -c", "serdi")]
+    assert len(own) == 3 * 15 and {"sort -u", "hdt build", "hdt find ? P ?", "hdt answer, no requests"} <= set(own)
+
+
+@pytest.mark.parametrize(
+    "words, said",
+    [
+        (["1", "--program", "/nowhere/hdt"], b"speed: /nowhere/hdt is no program\n"),
+        (["1", "--program", "/usr/bin/false"], b"speed: /usr/bin/false build "),
+        (["none"], b"usage: python3 -m tools.speed "),
+        (["0"], b"usage: python3 -m tools.speed "),
+    ],
+    ids=lambda it: " ".join(it) if isinstance(it, list) else None,
+)
+def test_speed_fails(words: list[str], said: bytes) -> None:
+    """What cannot be measured is told, with status 2."""
+    status, _, err = tool("speed", *words)
+    assert status == 2 and err.startswith(said), err
+
+
+def test_speed_documents() -> None:
+    """Documents have so many lines, are the same in each run, and one form has the lines of another."""
+    code = "from tools import speed; print([speed.DOCUMENTS[it](300) for it in speed.DOCUMENTS])"
+    runs = [
+        subprocess.run([sys.executable, "-B", "-c", code], cwd=TOP, check=True, stdout=subprocess.PIPE) for _ in "ab"
+    ]
+    assert runs[0].stdout == runs[1].stdout
+    exported, shuffled, different = eval(runs[0].stdout)
+    assert [len(exported), len(shuffled), len(different), len(set(different))] == [300] * 4
+    assert sorted(exported) == sorted(shuffled) and exported != shuffled and len(set(exported)) < 300
+
+
+def test_speed_hostile_files() -> None:
+    """Each family is of HDT files, twice as long at each doubling."""
+    if not (TOP / "tests/reference/hdt.py").exists():
+        pytest.skip("there is no tests/reference/hdt.py")
+    code = """
+from tools import speed
+print([[len(it) for it in map(family.make, (1, 2)) if it.startswith(b"$HDT")] for family in speed.families().values()])
+"""
+    ran = subprocess.run([sys.executable, "-B", "-c", code], cwd=TOP, check=True, stdout=subprocess.PIPE)
+    sizes = eval(ran.stdout)
+    assert len(sizes) == 5
+    assert all(1.9 * one < two < 2.1 * one for one, two in sizes), sizes
+
+
+def test_speed_python() -> None:
+    """A row for each call; and what is no HDT file is told."""
+    if not SHARED_LIBRARY.exists():
+        pytest.skip(f"there is no {SHARED_LIBRARY}")
+    library = {"HDT_LIBRARY": str(SHARED_LIBRARY)}
+    command = [sys.executable, "-B", "-m", "tools.speed_python", "--times", "10"]
+    status, out, err = run([*command, SAMPLES / "three.hdt"], cwd=TOP, env=library)
+    assert (status, err) == (0, b"")
+    assert len(re.findall(r"^\| [a-z_, ]+ \| \d+ \| [\d.]+ \|$", out.decode(), re.M)) == 10
+    status, _, err = run([*command, TOP / "README.md"], cwd=TOP, env=library)
+    assert (status, err) == (2, b"speed_python: fault 4 NotHdt at 0\n")
+
+
+def test_speed_python_without_its_library(tmp_path: Path) -> None:
+    """One line says that the library is missing."""
+    command = [sys.executable, "-B", "-m", "tools.speed_python", str(SAMPLES / "three.hdt")]
+    status, out, err = run(command, cwd=TOP, env={"HDT_LIBRARY": str(tmp_path / "none.so")})
+    assert (status, out, err.count(b"\n")) == (2, b"", 1) and err.startswith(b"speed_python: "), err
