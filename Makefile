@@ -11,10 +11,8 @@
 PREFIX = /usr/local
 DESTDIR =
 PYTHON = /usr/bin/python3
-PLATFORM = x86_64-linux-gnu
-SONAME = libhdt.so.1
 
-export PREFIX DESTDIR PLATFORM SONAME
+export PREFIX DESTDIR
 
 .PHONY: build test prove dist install uninstall wheel deb clean
 

@@ -502,7 +502,7 @@ def drawn(mutants: list[Mutant], seed: str) -> list[Mutant]:
     """Return a sample of at least SAMPLE of the mutants, from as few crates as that takes.
 
     Each judged crate has to be proved once more, so the crate of the mutant that the seed draws first gives as many as
-    it has; every mutant is as likely as any other.
+    it has. A mutant of a crate that is larger than the sample is as likely as any other of these.
     """
 
     def order(it: Mutant) -> bytes:
