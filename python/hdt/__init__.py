@@ -207,7 +207,7 @@ class Graph:
     def __init__(self, data: Any) -> None:
         """Opens the bytes of a file, `bytes` or a file that is mapped, which mustn't change as long as it is open."""
         self._lock, self._handle, verdict = threading.Lock(), Handle(), Verdict()
-        self._room = ctypes.create_string_buffer(_FIRST_BYTES)
+        self._room: Any = ctypes.create_string_buffer(_FIRST_BYTES)
         self._lent = Lent(data)
         try:
             library.hdt_open(self._lent.address, self._lent.size, self._handle, verdict)
@@ -251,7 +251,8 @@ class Graph:
             with self._lock:
                 size: int = call(self._handle, *parameters, self._room, len(self._room))
                 if size <= len(self._room):
-                    return self._room[:size]
+                    put: bytes = self._room[:size]
+                    return put
                 if size < _library.CLOSED:
                     self._room = ctypes.create_string_buffer(size)
                     continue
@@ -311,7 +312,8 @@ class Graph:
         while True:
             out = (ctypes.c_uint64 * (3 * room))()
             got = self._asked(library.hdt_find, *pattern, skip, out, room) or 0
-            yield from struct.iter_unpack("=3Q", memoryview(out).cast("B")[: 24 * got])
+            found: Any = struct.iter_unpack("=3Q", memoryview(out).cast("B")[: 24 * got])
+            yield from found
             if got < room:
                 return
             # (those that are skipped are walked over again: so all of that takes thrice the walk at most)

@@ -92,7 +92,7 @@ def _load() -> Any:
     bytes_of, graph, role, number, size = [ctypes.c_void_p, ctypes.c_size_t], ctypes.POINTER(Handle), ctypes.c_uint32, ctypes.c_uint64, ctypes.c_size_t
     pattern = [role, *bytes_of] * 3
     made, room = ctypes.POINTER(Made), ctypes.c_void_p
-    verdict, report, telling = map(ctypes.POINTER, (Verdict, Report, Telling))
+    verdict, report, telling = ctypes.POINTER(Verdict), ctypes.POINTER(Report), ctypes.POINTER(Telling)
     for name, parameters, answer in (
         ("hdt_verify", [*bytes_of, verdict], None),
         ("hdt_open", [*bytes_of, graph, verdict], None),
