@@ -58,7 +58,7 @@ class Line(NamedTuple):
 
 
 def held_lines(data: bytes, limit: Optional[int], step: int, fails: Optional[int]) -> Iterator[Line]:
-    """The lines of a document. A reader in pieces is asked until the line in work ends, and no more.
+    """The lines of a document. A reader in pieces is asked until the current line ends, and no more.
 
     So the next line is held (it is in the buffer with its end) if the pieces that were read hold its end.
     """

@@ -382,11 +382,10 @@ def lines_in_turn(third: int) -> list[Strings]:
     return triples
 
 
-def lines_over(subjects: int, objects: int) -> list[Strings]:
-    """Triples with so many subjects and other objects."""
+def ids_over(subjects: int, objects: int) -> list[reference.Triple]:
+    """Triples of IDs with so many subjects and objects, and up to four predicates."""
     most = max(subjects, objects)
-    return [(b"u:s%06d" % (at * subjects // most), b"u:p%06d" % (at % 4), b"u:o%06d" % (at * objects // most))
-            for at in range(most)]
+    return sorted({(at * subjects // most + 1, at % 4 + 1, at * objects // most + 1) for at in range(most)})
 
 
 SHARED = [(4, 7, 2), (4, 2, 7), (3, 3, 3), (2, 4, 4), (65_536, 114_688, 32_768), (65_536, 32_768, 114_688)]
@@ -396,7 +395,7 @@ SHARED = [(4, 7, 2), (4, 2, 7), (3, 3, 3), (2, 4, 4), (65_536, 114_688, 32_768),
 def test_shared_in_one_role(probe: Probe, third: int, subjects: int, objects: int) -> None:
     """A dictionary whose shared strings are subjects, objects, both or neither: what is rewritten is what is built."""
     parts = reference.split(*zip(*lines_in_turn(third)))
-    _, ids, _ = reference.graph(lines_over(subjects, objects))
+    ids = ids_over(subjects, objects)
     front = reference.write_head(reference.header_body(b"http://a/", len(ids)))
     data = front + reference.write_dictionary(*parts, Style(7)) + reference.write_triples(ids)
     roles = parts.shared + parts.subjects, parts.predicates, parts.shared + parts.objects
