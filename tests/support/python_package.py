@@ -1,0 +1,22 @@
+"""The Python package `hdt` of this repository, over the shared library under test.
+
+`faults` is its module with the names of errors.
+"""
+
+from __future__ import annotations
+
+import sys
+from unittest import mock
+
+from support.built import SHARED_LIBRARY, TOP
+
+PACKAGE = TOP / "python"
+# What a Python program finds the package and the library by.
+ENVIRONMENT = {"HDT_LIBRARY": str(SHARED_LIBRARY), "PYTHONPATH": str(PACKAGE), "PYTHONDONTWRITEBYTECODE": "1"}
+
+with mock.patch.dict("os.environ", ENVIRONMENT), mock.patch.object(sys, "dont_write_bytecode", True), \
+        mock.patch.object(sys, "path", [str(PACKAGE), *sys.path]):
+    import hdt
+    from hdt import _faults as faults
+
+__all__ = ["ENVIRONMENT", "PACKAGE", "faults", "hdt"]

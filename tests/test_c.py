@@ -1,0 +1,233 @@
+"""The C library: its header, its symbols, and c/test.c over many files and over libraries with one wrong call."""
+
+from __future__ import annotations
+
+import re
+import shutil
+from pathlib import Path
+from typing import NamedTuple
+
+import pytest
+
+from support import c_files
+from support.built import SAMPLES, SHARED_LIBRARY, STATIC_LIBRARY
+from support.c_library import (CC, CXX, HEADER, TEST, WARNINGS, compile_test, declared, failures_of, passed_cases,
+                               succeeds, symbols)
+from support.program import Result, run
+
+SECONDS = 300
+# What the library may ask of others: memory, and what a compiler calls.
+NEEDED = {
+    *("malloc", "realloc", "free", "memcpy", "memmove", "memset", "memcmp", "bcmp", "strlen"),
+    *("__udivti3", "__umodti3", "_GLOBAL_OFFSET_TABLE_"),
+}
+needs_readelf = pytest.mark.skipif(not shutil.which("readelf"), reason="there is no readelf")
+needs_objcopy = pytest.mark.skipif(not shutil.which("objcopy"), reason="there is no objcopy")
+
+
+# ---- the header
+
+
+@pytest.mark.parametrize("standard", ["c99", "c11", "c17"])
+def test_header_is_c(standard: str) -> None:
+    """The header compiles without a warning as C of each standard."""
+    succeeds(CC, f"-std={standard}", *WARNINGS, "-Wstrict-prototypes", "-fsyntax-only", "-x", "c", HEADER)
+
+
+@pytest.mark.parametrize("standard", ["c++11", "c++17"])
+def test_header_is_cpp(standard: str) -> None:
+    """The header compiles without a warning as C++ of each standard."""
+    succeeds(CXX, f"-std={standard}", *WARNINGS, "-fsyntax-only", "-x", "c++", HEADER)
+
+
+def test_cpp_links_each_call(tmp_path: Path) -> None:
+    """A C++ program that takes the address of each call links and runs: the names are those of C."""
+    calls = tmp_path / "calls.cpp"
+    addresses = ", ".join(f"(void *){name}" for name in sorted(declared()))
+    calls.write_text(f'#include "{HEADER}"\nvoid *calls[] = {{{addresses}}};\n'
+                     "int main() { return calls[0] == nullptr; }\n")
+    succeeds(CXX, "-std=c++11", "-Wall", "-o", tmp_path / "calls", calls, STATIC_LIBRARY)
+    succeeds(tmp_path / "calls")
+
+
+# ---- the libraries' symbols
+
+
+def test_header_declares_calls() -> None:
+    """The header declares at least the calls that the library began with."""
+    assert declared() >= set(WRONG)
+
+
+def test_shared_library_exports_the_calls() -> None:
+    """The shared library exports the declared calls and nothing else."""
+    assert symbols(SHARED_LIBRARY, "-D", "--defined-only") == declared()
+
+
+def test_static_library_exports_the_calls() -> None:
+    """The static library defines the declared calls and no other global symbol."""
+    assert symbols(STATIC_LIBRARY, "-g", "--defined-only") == declared()
+
+
+def test_static_library_needs_memory_only() -> None:
+    """The static library calls nothing but what allocates, copies and compares memory."""
+    assert symbols(STATIC_LIBRARY, "-u") - NEEDED == set()
+
+
+@needs_readelf
+def test_shared_library_needs_libc_only() -> None:
+    """The shared library is loaded with the C library and no other."""
+    assert re.findall(r"NEEDED.*\[(.*)\]", succeeds("readelf", "-dW", SHARED_LIBRARY)) == ["libc.so.6"]
+
+
+@needs_readelf
+def test_soname() -> None:
+    """The shared library has a versioned SONAME."""
+    assert re.findall(r"SONAME.*\[(.*)\]", succeeds("readelf", "-dW", SHARED_LIBRARY)) == ["libhdt.so.1"]
+
+
+@needs_readelf
+def test_shared_library_is_hardened() -> None:
+    """The shared library has no text relocations and no executable stack."""
+    assert "TEXTREL" not in succeeds("readelf", "-dW", SHARED_LIBRARY)
+    assert not re.search(r"GNU_STACK.* RWE ", succeeds("readelf", "-lW", SHARED_LIBRARY))
+
+
+# ---- c/test.c over files
+
+
+@pytest.fixture(scope="module")
+def sanitized(tmp_path_factory: pytest.TempPathFactory) -> Path:
+    """c/test.c with the address sanitizer and that of undefined behaviour."""
+    options = ("-O1", "-fsanitize=address,undefined", "-fno-sanitize-recover=undefined")
+    return compile_test(tmp_path_factory.mktemp("sanitized") / "test", TEST, *options)
+
+
+@pytest.fixture(scope="module")
+def plain(tmp_path_factory: pytest.TempPathFactory) -> Path:
+    """c/test.c without a sanitizer."""
+    return compile_test(tmp_path_factory.mktemp("plain") / "test", TEST, "-O1")
+
+
+FILES = {
+    "samples": c_files.samples,
+    "unused strings": c_files.loose_files,
+    "small files": c_files.small_files,
+    "graphs": c_files.graphs,
+}
+
+
+@pytest.mark.parametrize("group", FILES)
+def test_every_call_on_files(group: str, sanitized: Path, tmp_path: Path) -> None:
+    """Every call on each file, with each allocation refused in turn, over all its prefixes and over changed bytes."""
+    files = FILES[group]()
+    paths = [tmp_path / f"{name}.hdt" for name in files]
+    for path, data in zip(paths, files.values()):
+        path.write_bytes(data)
+    done = run([sanitized, "--small", *paths], seconds=SECONDS)
+    assert failures_of(done) == []
+    assert passed_cases(done) == len(files) + 1  # and the N-Triples texts that it has itself
+
+
+def test_large_input(sanitized: Path) -> None:
+    """Texts of 70,000 subjects, of 66,000 predicates and with terms of 100,000 bytes, through every call."""
+    done = run([sanitized], seconds=SECONDS)
+    assert failures_of(done) == []
+    assert passed_cases(done) == 4
+
+
+@pytest.mark.parametrize("name", c_files.damageable())
+def test_damaged_files_with_right_crcs(name: str, plain: Path, tmp_path: Path) -> None:
+    """verify, open and rewrite agree on files with a changed byte and right CRCs; valid ones go through every call."""
+    files = c_files.damaged(c_files.damageable()[name])
+    path = tmp_path / "damaged"
+    path.write_bytes(b"".join(len(data).to_bytes(4, "little") + data for data in files))
+    done = run([plain, "--each", path], seconds=SECONDS)
+    assert failures_of(done) == []
+    assert passed_cases(done) == len(files) > 1000
+
+
+# ---- c/test.c over libraries with one wrong call
+
+
+class Wrong(NamedTuple):
+    """A wrong call: its result type, its parameters, and its body, in which RIGHT is the right call."""
+
+    result: str
+    parameters: str
+    body: str
+
+
+PATTERN = ("uint32_t hs, const uint8_t *s, size_t sn, uint32_t hp, const uint8_t *p, size_t pn, "
+           "uint32_t ho, const uint8_t *o, size_t on")
+GIVEN = "hs, s, sn, hp, p, pn, ho, o, on"
+WRONG = {
+    "hdt_verify": Wrong("void", "const uint8_t *b, size_t n, hdt_verdict *v",
+                        "RIGHT(b, n, v); if (v->reason == 33) v->reason = 0;"),
+    "hdt_open": Wrong("void", "const uint8_t *b, size_t n, hdt_graph *g, hdt_verdict *v",
+                      "RIGHT(b, n, g, v); if (v->reason == 11) v->place++;"),
+    "hdt_close": Wrong("void", "hdt_graph *g", "g->state = 0; g->at = NULL;"),
+    "hdt_len": Wrong("uint64_t", "hdt_graph *g", "return g->state ? RIGHT(g) : 0;"),
+    "hdt_count": Wrong("uint64_t", "hdt_graph *g, uint32_t r", "return RIGHT(g, r > 2 ? 2 : r);"),
+    "hdt_number": Wrong("uint64_t", "hdt_graph *g, uint32_t r, const uint8_t *s, size_t n",
+                        "uint64_t k = RIGHT(g, r, s, n); return k == HDT_ABSENT ? 0 : k;"),
+    "hdt_string": Wrong("uint64_t", "hdt_graph *g, uint32_t r, uint64_t k, uint8_t *out, size_t room",
+                        "uint64_t n = RIGHT(g, r, k, out, room); if (n < room) out[n] = 0; return n;"),
+    "hdt_header": Wrong("uint64_t", "hdt_graph *g, uint8_t *out, size_t room",
+                        "uint64_t n = RIGHT(g, out, room); return n < HDT_CLOSED && n > room ? room : n;"),
+    "hdt_find": Wrong("uint64_t", f"hdt_graph *g, {PATTERN}, uint64_t skip, uint64_t (*out)[3], size_t room",
+                      f"return RIGHT(g, {GIVEN.replace('hs', 'hs == 1')}, skip, out, room);"),
+    "hdt_matching": Wrong("uint64_t", f"hdt_graph *g, {PATTERN}",
+                          f"uint64_t n = RIGHT(g, {GIVEN}); return n == 2 ? 1 : n;"),
+    "hdt_text": Wrong("void", f"hdt_graph *g, {PATTERN}, hdt_bytes *out, hdt_telling *t",
+                      f"RIGHT(g, {GIVEN}, out, t); if (out->len) out->len--;"),
+    "hdt_build": Wrong("void", "const uint8_t *x, size_t n, const uint8_t *b, size_t bn, uint32_t k, hdt_bytes *out, "
+                               "hdt_report *r",
+                       "RIGHT(x, n, b, bn, k, out, r); if (r->column > 20) r->column = 20;"),
+    "hdt_rewrite": Wrong("void", "const uint8_t *b, size_t n, uint32_t k, hdt_bytes *out, hdt_verdict *v",
+                         "if (k > 65535) k = 65535; RIGHT(b, n, k, out, v);"),
+    "hdt_free": Wrong("void", "hdt_bytes *b", "memset(b, 0, sizeof *b);"),
+}
+
+
+@pytest.fixture(scope="module")
+def object_file(tmp_path_factory: pytest.TempPathFactory) -> Path:
+    """c/test.c as an object file, to be linked with several libraries."""
+    compiled = tmp_path_factory.mktemp("object") / "test.o"
+    succeeds(CC, "-std=gnu99", *WARNINGS, "-O1", f"-I{HEADER.parent}", "-c", "-o", compiled, TEST)
+    return compiled
+
+
+def wrong_library(folder: Path, name: str) -> Path:
+    """A static library whose call of this name is wrong."""
+    result, parameters, body = WRONG[name]
+    right, source, archive = f"right_{name}", folder / "wrong.c", folder / "wrong.a"
+    source.write_text(f'#include "{HEADER}"\n#include <string.h>\n{result} {right}({parameters});\n'
+                      f"{result} {name}({parameters}) {{ {body.replace('RIGHT', right)} }}\n")
+    succeeds("objcopy", f"--redefine-sym={name}={right}", STATIC_LIBRARY, folder / "renamed.a")
+    succeeds(CC, "-O1", "-r", "-nostdlib", "-o", folder / "wrong.o", "-x", "c", source, "-x", "none",
+             "-Wl,--whole-archive", folder / "renamed.a")
+    succeeds("ar", "rcD", archive, folder / "wrong.o")
+    return archive
+
+
+def small_run(program: Path) -> Result:
+    """How c/test.c ends over two samples and nothing large."""
+    return run([program, "--small", SAMPLES / "v1.hdt", SAMPLES / "three.hdt"], seconds=SECONDS)
+
+
+def test_right_library_is_accepted(object_file: Path, tmp_path: Path) -> None:
+    """What refuses the wrong libraries accepts the right one."""
+    assert failures_of(small_run(compile_test(tmp_path / "test", object_file))) == []
+
+
+def test_each_call_has_a_wrong_one() -> None:
+    """The table has each call that the header declares."""
+    assert set(WRONG) == declared()
+
+
+@needs_objcopy
+@pytest.mark.parametrize("name", WRONG)
+def test_wrong_library_is_refused(name: str, object_file: Path, tmp_path: Path) -> None:
+    """c/test.c fails over a library with one wrong call, or is ended by a signal for a read past an end."""
+    done = small_run(compile_test(tmp_path / "test", object_file, archive=wrong_library(tmp_path, name)))
+    assert done.status < 0 or (done.status != 0 and b"FAILED" in done.out), done

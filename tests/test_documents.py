@@ -1,0 +1,210 @@
+"""The documents: programs and commands run as they are written, and the tables of errors are the engine's."""
+
+from __future__ import annotations
+
+import gzip
+import re
+import sys
+from pathlib import Path
+from typing import NamedTuple
+
+import pytest
+
+from support.built import PROGRAM, STATIC_LIBRARY, TOP
+from support.c_library import CC, HEADER, WARNINGS, file_reasons, succeeds, text_reasons
+from support.clone import copied
+from support.probe import Probe
+from support.program import run
+from support.python_package import ENVIRONMENT, faults
+
+# The blocks that each document has, by language: a document with fewer fails, so that none is silently left untested.
+BLOCKS = {"README.md": {"c": 1, "python": 2, "rust": 5, "sh": 5, "text": 4}}
+# Shell commands that end with a status other than 0, by how they begin.
+STATUSES = {"printf '<u:a> ? ?\\n? x ?\\n": 1}
+# What commands print, as the comments after them say.
+PRINTED = {
+    "./hdt build samples/three.nt graph.hdt": "built 3 2 0 2 1 491",
+    "./hdt verify graph.hdt": "ok 3 2 0 2 1",
+    "./hdt string graph.hdt object 3": '"x"',
+    "./hdt number graph.hdt object '\"x\"'": "3",
+}
+# A name that a reader gives to a program of a document, and a graph of the reader's.
+PROGRAM_NAMES = {"c": "first.c", "python": "first.py"}
+GRAPH = b'<http://example.org/a> <http://example.org/p> "x" .\n<http://example.org/b> <http://example.org/p> "y" .\n'
+
+
+class Block(NamedTuple):
+    """A fenced block of a document: its language, its text, and the text between it and the next block."""
+
+    language: str
+    text: str
+    after: str
+
+
+def documents() -> list[str]:
+    """The documents' names."""
+    return [str(path.relative_to(TOP)) for path in (*sorted(TOP.glob("*.md")), *sorted(TOP.glob("docs/*.md")))]
+
+
+def blocks(document: str, *languages: str) -> list[Block]:
+    """The blocks of a document in these languages, or all."""
+    found = re.findall(r"^```(\w*)\n(.*?)^```$(.*?)(?=^```|\Z)", (TOP / document).read_text(), re.M | re.S)
+    return [Block(*block) for block in found if not languages or block[0] in languages]
+
+
+def named(*languages: str) -> list[tuple[str, int]]:
+    """The documents that have blocks in these languages, and the number of each block, from 0."""
+    return [(name, n) for name in documents() for n in range(len(blocks(name, *languages)))]
+
+
+@pytest.fixture
+def clone(tmp_path: Path) -> Path:
+    """What a reader has: a clone with the program under test as ./hdt, a graph, and a home without files.
+
+    `./test` does nothing there.
+    """
+    folder = copied(tmp_path)
+    for name in ("hdt", "test"):
+        (folder / name).unlink(missing_ok=True)
+    (folder / "hdt").symlink_to(PROGRAM)
+    (folder / "test").write_text("#!/bin/sh\necho 'these tests are running'\n")
+    (folder / "test").chmod(0o755)
+    (folder / "graph.nt.gz").write_bytes(gzip.compress(GRAPH))
+    (tmp_path / "home").mkdir()
+    return folder
+
+
+def environment(folder: Path) -> dict[str, str]:
+    """The environment of a reader who works in a folder."""
+    return {**ENVIRONMENT, "HOME": str(folder.parent / "home"), "CC": CC, "MAKEFLAGS": "", "MAKELEVEL": ""}
+
+
+# ---- blocks
+
+
+@pytest.mark.parametrize("document", BLOCKS)
+def test_documents_have_their_blocks(document: str) -> None:
+    """A document has at least the blocks of each language that it had."""
+    languages = [block.language for block in blocks(document)]
+    counts = {language: languages.count(language) for language in BLOCKS[document]}
+    assert {language: min(counts[language], n) for language, n in BLOCKS[document].items()} == BLOCKS[document]
+
+
+def test_blocks_of_each_kind_are_run() -> None:
+    """There are programs and commands that the tests below run."""
+    assert named("c") and named("python") and named("sh")
+
+
+def commented(text: str, call: str, comment: str) -> str:
+    """What a program prints, by the comments after the calls that print; ", and " separates lines."""
+    found = re.findall(rf"{call}\(.*\);?\s+{comment}", text)
+    return "".join(f"{line}\n" for lines in found for line in lines.split(", and "))
+
+
+@pytest.mark.parametrize("document, number", named("c"))
+def test_c_programs(document: str, number: int, clone: Path) -> None:
+    """A program in C compiles without a warning, and prints what its comments say."""
+    block = blocks(document, "c")[number]
+    if "int main(" not in block.text:
+        pytest.skip("this block is no program")
+    (clone / "block.c").write_text(block.text)
+    succeeds(CC, "-std=c99", *WARNINGS, f"-I{HEADER.parent}", "-o", "block", "block.c", STATIC_LIBRARY, cwd=clone)
+    done = run(["./block", "samples/three.hdt"], cwd=clone, env=environment(clone))
+    assert (done.status, done.out.decode()) == (0, commented(block.text, "printf", r"/\* (.*) \*/"))
+
+
+@pytest.mark.parametrize("document, number", named("python"))
+def test_python_programs(document: str, number: int, clone: Path) -> None:
+    """A program in Python prints what its comments say, and no warning."""
+    block = blocks(document, "python")[number]
+    (clone / "block.py").write_text(block.text)
+    done = run([sys.executable, "-W", "error", "block.py"], cwd=clone, env=environment(clone))
+    wanted = commented(block.text, "print", "# (.*)")
+    assert (done.status, done.out.decode(), done.err) == (0, wanted, b"")
+    assert wanted != ""
+
+
+def shell(text: str, folder: Path) -> tuple[int, str]:
+    """The status and the output of shell commands in a folder. A failing test shows what they print as an error."""
+    done = run(["bash", "-euo", "pipefail", "-c", text], cwd=folder, env=environment(folder))
+    print(done.err.decode())
+    return done.status, done.out.decode()
+
+
+def wanted_status(text: str) -> int:
+    """The status that a block of shell commands ends with."""
+    return next((status for begin, status in STATUSES.items() if text.startswith(begin)), 0)
+
+
+def check_block(block: Block, following: Block | None, folder: Path) -> None:
+    """Run a block of shell commands. An output block that follows it, and `PRINTED`, say what is printed."""
+    status, out = shell(block.text, folder)
+    assert (status, block.text) == (wanted_status(block.text), block.text)
+    if following and following.language == "text" and not block.after.strip():
+        assert out == following.text
+    for line in block.text.splitlines():
+        command, _, comment = line.partition(" #")
+        if comment and command.strip() in PRINTED:
+            printed = PRINTED[command.strip()]
+            assert printed in comment
+            assert shell(command, folder) == (0, f"{printed}\n")
+
+
+@pytest.mark.parametrize("document", sorted({name for name, _ in named("sh")}))
+def test_shell_commands(document: str, clone: Path) -> None:
+    """The commands of a document run one after another in one folder, with the `make install` of its text."""
+    for language, name in PROGRAM_NAMES.items():
+        programs = [block.text for block in blocks(document, language) if re.search("hdt.h|import hdt", block.text)]
+        (clone / name).write_text("".join(programs[:1]))
+    for block, following in zip(blocks(document), [*blocks(document)[1:], None]):
+        if block.language == "sh":
+            check_block(block, following, clone)
+        for command in re.findall(r"`(make install [^`]*)`", block.after):
+            assert shell(command, clone)[0] == 0
+
+
+def test_printed_commands_are_documented() -> None:
+    """Each command of `PRINTED` is in a document, with a comment."""
+    lines = [line.partition(" #")[0].strip() for name in documents() for block in blocks(name, "sh")
+             for line in block.text.splitlines() if " #" in line]
+    assert [command for command in PRINTED if command not in lines] == []
+
+
+# ---- the tables of errors
+
+
+def spoken(name: str) -> str:
+    """A name in capitals, with a line between its words."""
+    return re.sub(r"(?<=[a-z0-9])(?=[A-Z])", "_", name).upper()
+
+
+def test_how_many_errors_there_are() -> None:
+    """34 errors of files and 9 of N-Triples are documented, each in the list and in a row of its own table."""
+    rows = re.findall(r"^\| (\d) `(\w+)`", (TOP / "docs/NTRIPLES.md").read_text(), re.M)
+    assert (len(file_reasons()), len(text_reasons())) == (34, 9)
+    assert sorted({(int(number), name) for number, name in rows}) == list(enumerate(text_reasons(), 1))
+
+
+@pytest.mark.parametrize("prefix", ["FILE", "TEXT"])
+def test_errors_of_the_header(prefix: str) -> None:
+    """c/hdt.h has the documented names; the last error of files is that of tight reading, which C does not have."""
+    names = file_reasons()[:33] if prefix == "FILE" else text_reasons()
+    wanted = [(f"HDT_{prefix}_{spoken(name)}", str(number)) for number, name in enumerate(names, 1)]
+    assert re.findall(rf"(HDT_{prefix}_\w+) = (\d+)", HEADER.read_text()) == wanted
+
+
+def test_errors_of_the_python_package() -> None:
+    """The Python package has the documented names."""
+    assert (faults.REASONS, faults.LINE_REASONS) == (file_reasons(), text_reasons())
+
+
+def test_errors_of_files(probe: Probe) -> None:
+    """The engine's numbers and names of errors of files are the documented ones."""
+    answers = probe.send(*(("demand", 0, number, number) for number in range(1, 35)))
+    assert answers == [("fault", str(number), name, str(number)) for number, name in enumerate(file_reasons(), 1)]
+
+
+def test_errors_of_texts(probe: Probe) -> None:
+    """The engine's numbers and names of errors of N-Triples are the documented ones."""
+    answers = probe.send(*(("line_reason", number) for number in range(1, 10)))
+    assert answers == [("ok", str(number), name) for number, name in enumerate(text_reasons(), 1)]
