@@ -557,6 +557,6 @@ def test_a_full_file_system(command: str, filling: Path, tmp_path: Path) -> None
     if run([*namespace, "sh", "-c", mount, "sh", tmp_path]).status != 0:
         pytest.skip("no file system may be mounted here")
     source = filling / ("in.nt" if command == "build" else "in.hdt")
-    script = f'{mount}; printf before > "$1/out.hdt"; "$0" "$2" "$3" "$1/out.hdt"; echo $?; ls "$1"; cat "$1/out.hdt"'
+    script = f'{mount}; out="$1/out.hdt"; printf before > "$out"; "$0" "$2" "$3" "$out"; echo $?; ls "$1"; cat "$out"'
     answer = run([*namespace, "sh", "-c", script, PROGRAM, tmp_path, command, source])
     assert answer == Result(0, b"3\nout.hdt\nbefore", b"hdt: writing failed\n")

@@ -10,7 +10,7 @@ import os
 import resource
 import subprocess
 import tempfile
-from collections.abc import Sequence
+from collections.abc import Callable, Sequence
 from typing import NamedTuple
 
 from support.program import Result, Word
@@ -45,3 +45,28 @@ def timed(command: Sequence[Word], *, stdin: bytes = b"") -> Timed:
         out.seek(0)
         err.seek(0)
         return Timed(Result(child.returncode, out.read(), err.read()), usage.ru_utime + usage.ru_stime)
+
+
+class Measured(NamedTuple):
+    """The CPU seconds of a small and of a large input, the least of several runs."""
+
+    small: float
+    large: float
+
+
+def measure(small: Callable[[], float], large: Callable[[], float], ratio: float, floor: float) -> Measured:
+    """Measure both, again and again while the large one seems to take more than `ratio` times as long.
+
+    What takes less than `floor` seconds counts as if it took so long.
+    """
+    least = Measured(small(), large())
+    for _ in range(ROUNDS):
+        if least.large <= ratio * max(least.small, floor):
+            break
+        least = Measured(min(least.small, small()), min(least.large, large()))
+    return least
+
+
+def is_linear(measured: Measured, ratio: float, floor: float) -> bool:
+    """Whether the large input took at most `ratio` times as long as the small one."""
+    return measured.large <= ratio * max(measured.small, floor)
