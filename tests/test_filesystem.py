@@ -489,7 +489,7 @@ def test_a_read_only_folder(public_folder: Path) -> None:
 
 
 def test_builds_at_once(tmp_path: Path) -> None:
-    """Eight builds of one OUT at once all succeed; in the end OUT is the whole file of one, and nothing else is left."""
+    """Eight builds of one OUT at once all succeed; in the end OUT is the whole file of one. Nothing else is left."""
     files = []
     for n in range(8):
         lines = b"".join(b"<u:s%d> <u:p%d> <u:o> .\n" % (m, n) for m in range(2_000))
