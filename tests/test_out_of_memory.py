@@ -1,0 +1,178 @@
+"""Each allocation refused in turn: of the program, with every command, and of the probes, with every library call.
+
+A program that an allocation was refused reports that memory ran out. A library call answers `out of memory`, or what it
+answers in ample memory where it does without the allocation; and the next calls answer as in ample memory.
+"""
+
+from __future__ import annotations
+
+from collections.abc import Callable, Iterator, Sequence
+from pathlib import Path
+from typing import NamedTuple, Union
+
+import pytest
+
+from reference import hdt as reference
+from support.built import BUILT, PROGRAM, SAMPLES
+from support.program import Result, Word, hdt, run
+from support.refusing import Refuser, wrong
+
+OUT_OF_MEMORY = Result(4, b"", b"hdt: out of memory\n")
+THREE = SAMPLES / "three.hdt"
+LINES = SAMPLES / "three.nt"
+
+
+@pytest.fixture(scope="module")
+def refuser(tmp_path_factory: pytest.TempPathFactory) -> Refuser:
+    """Runs programs with each allocation refused."""
+    return Refuser(tmp_path_factory.mktemp("refuser"))
+
+
+# ---- the program
+
+# The rows of commands are: a command line, and how many refused allocations at most may change nothing.
+
+# Commands of which some allocations aren't needed: clap looks for a similar word to suggest, and does without; the
+# three sequences of triples each ignore that a reservation was refused, and allocate as they grow; a search with a
+# subject walks where the directories have no memory.
+COMMANDS: dict[str, tuple[list[Word], int]] = {
+    "head": (["head", SAMPLES / "v1.hdt"], 0),
+    "head, cut": (["head", "cut.hdt"], 0),
+    "head, missing": (["head", "missing.hdt"], 0),
+    "no command": (["summon"], 40),
+    "not UTF-8": (["head", b"\xff"], 0),
+    "verify": (["verify", THREE], 0),
+    "verify, cut": (["verify", "cut.hdt"], 0),
+    "verify tight": (["verify", "--tight", THREE], 0),
+    "verify tight, unused": (["verify", "--tight", "unused.hdt"], 0),
+    "verify tight, cut": (["verify", "--tight", "cut.hdt"], 0),
+    "strings": (["strings", THREE, "object"], 0),
+    "string": (["string", THREE, "object", "3"], 0),
+    "string, none": (["string", THREE, "object", "4"], 0),
+    "number": (["number", THREE, "object", '"x"'], 0),
+    "number, raw": (["number", "--raw", THREE, "predicate", "u:z"], 0),
+    "number, not a term": (["number", THREE, "object", "x"], 0),
+    "strings, no role": (["strings", SAMPLES / "v1.hdt", "thing"], 40),
+    "find a predicate": (["find", THREE, "?", "<u:p>", "?"], 0),
+    "find numbers": (["find", "--numbers", THREE, "?", "?", '"x"'], 0),
+    "find count": (["find", "--count", THREE, "?", "<u:p>", "?"], 0),
+    "find most": (["find", "--most", "2", THREE, "?", "?", "?"], 0),
+    "find most numbers": (["find", "--numbers", "--most", "1", THREE, "<u:a>", "?", "?"], 0),
+    "find raw": (["find", "--raw", THREE, "u:a", "?", "?"], 2),
+    "find, none": (["find", THREE, "?", "?", "<u:z>"], 0),
+    "find, not a term": (["find", THREE, "?", "y", "z"], 0),
+    "find, not an IRI": (["find", "rel.hdt", "?", "?", "?"], 0),
+    "answer": (["answer", THREE], 0),
+    "answer, cut": (["answer", "cut.hdt"], 0),
+    "dump": (["dump", THREE], 0),
+    "dump, cut": (["dump", "cut.hdt"], 0),
+    "build": (["build", LINES, "1.hdt"], 3),
+    "build with options": (["build", "--base", "u:x", "--block-size", "1", SAMPLES / "v1.nt", "2.hdt"], 3),
+    "build, bad options": (["build", "--base", "rel", SAMPLES / "v1.nt", "3.hdt"], 3),
+    "build, bad line": (["build", "bad.nt", "4.hdt"], 3),
+    "build, a folder": (["build", LINES, "."], 3),
+    "rewrite": (["rewrite", THREE, "5.hdt"], 3),
+    "rewrite with options": (["rewrite", "--block-size", "1", "unused.hdt", "6.hdt"], 3),
+    "rewrite, bad options": (["rewrite", "--block-size", "0", "unused.hdt", "7.hdt"], 3),
+    "rewrite, cut": (["rewrite", "cut.hdt", "8.hdt"], 3),
+    "rewrite, a folder": (["rewrite", "unused.hdt", "."], 3),
+    "build to standard output": (["build", LINES, "/dev/stdout"], 3),
+    "rewrite to standard output": (["rewrite", THREE, "/dev/stdout"], 3),
+}
+# Command lines that ask for help.
+HELP: list[list[Word]] = [
+    ["--help"], ["--version"], ["-V"], ["help"], ["head", "--help"], ["head", "-h"], ["help", "head"],
+    ["find", "--help"], ["build", "--help"], ["verify", "--help"], ["rewrite", "--help"], ["help", "dump"],
+]
+# Command lines that are refused, and words that aren't terms.
+REFUSED: list[tuple[list[Word], int]] = [
+    (["build", "a.nt"], 3),
+    (["build", "--block-size", "4294967296", "a.nt", "b.hdt"], 3),
+    (["strings", "a.hdt", "thing"], 40),
+    (["string", "a.hdt", "object", "18446744073709551616"], 0),
+    (["string", "a.hdt", "object", "x"], 0),
+    (["strings", "a.hdt"], 0),
+    (["head"], 0),
+    (["verify", "--tight"], 0),
+    (["head", "--tight", "a.hdt"], 10),
+    (["rewrite", "a.hdt"], 3),
+    (["rewrite", "a.hdt", "b.hdt", "--base", "x"], 10),
+    (["rewrite", "a.hdt", "b.hdt", "--block-size", "x"], 3),
+    (["find", "a.hdt", "?", "?", "?", "--most", "x"], 0),
+    (["find", "a.hdt", "x", "y"], 0),
+    (["dump", "a.hdt", "x"], 0),
+    (["dump", "--numbers", "a.hdt"], 10),
+    (["vierge", "a.hdt"], 40),
+    (["head", "a.hdt", "b.hdt"], 0),
+    ([], 0),
+    (["number", "a.hdt", "subject", "rel"], 0),
+    (["number", "a.hdt", "subject", "<rel>"], 0),
+    (["number", "a.hdt", "object", '"x"@en-'], 0),
+    (["number", "a.hdt", "object", '"xy"^^<rel>'], 0),
+    (["find", "a.hdt", "x", "<y>", "z"], 0),
+    (["find", "a.hdt", "?", "<y>", "z"], 0),
+    (["find", "a.hdt", "<u:a>", "?", '"z'], 0),
+    (["find", "a.hdt", "<u:a>", "<u:p>", "??"], 0),
+    (["find", "a.hdt", "<u:a>", "x", "z"], 0),
+    (["find", "a.hdt", "?", "?", "<u:aaaaaaaaaaaaaaaa\\u0020>"], 0),
+]
+REQUESTS = b'<u:a> ? ?\n? <u:p> ?\n? ? "x"\nno request\n? ? <u:z>\n? ? ?\n'
+# Command lines that read requests: what they print before memory runs out stays.
+DIALOGUES: dict[str, list[Word]] = {
+    "lines": ["answer", THREE],
+    "numbers": ["answer", "--numbers", THREE],
+    "count": ["answer", "--count", THREE],
+    "raw": ["answer", "--raw", THREE],
+    "most": ["answer", "--most", "1", THREE],
+}
+
+
+@pytest.fixture
+def folder(tmp_path: Path) -> Path:
+    """A folder with a file that is cut off, one of an IRI that is relative, one of an unused string, and bad lines."""
+    (tmp_path / "cut.hdt").write_bytes((SAMPLES / "v1.hdt").read_bytes()[:100])
+    (tmp_path / "rel.hdt").write_bytes(reference.graph([(b"u:s", b"rel", b"u:o")]).data)
+    same = b"http://a/"
+    (tmp_path / "unused.hdt").write_bytes(reference.loose([(same,) * 3], [same, b"u:x"], [same], [same]).data)
+    (tmp_path / "bad.nt").write_bytes(b"<u:a> <u:p> <u:b> .\n<u:a>")
+    return tmp_path
+
+
+def check_refused(refuser: Refuser, words: Sequence[Word], unchanged: int, folder: Path) -> None:
+    """Check that the program reports each refused allocation, but for some that change nothing."""
+    command: list[Word] = [PROGRAM, *words]
+    ample = run(command, cwd=folder)
+    refusals = refuser.run(command, cwd=folder)
+    assert refusals.ample == ample
+    assert len(refusals.refused) > 0
+    assert wrong(refusals, lambda result: result == OUT_OF_MEMORY, unchanged) == []
+
+
+@pytest.mark.parametrize("name", COMMANDS)
+def test_commands(name: str, refuser: Refuser, folder: Path) -> None:
+    """Each command reports each refused allocation."""
+    words, unchanged = COMMANDS[name]
+    check_refused(refuser, words, unchanged, folder)
+
+
+@pytest.mark.parametrize("words", HELP, ids=lambda words: " ".join(map(str, words)))
+def test_help(words: list[Word], refuser: Refuser, folder: Path) -> None:
+    """So does a command line that asks for help."""
+    check_refused(refuser, words, 0, folder)
+
+
+@pytest.mark.parametrize("words, unchanged", REFUSED, ids=[" ".join(map(str, words)) for words, _ in REFUSED])
+def test_refused_command_lines(words: list[Word], unchanged: int, refuser: Refuser, folder: Path) -> None:
+    """So does a command line that is refused."""
+    check_refused(refuser, words, unchanged, folder)
+
+
+@pytest.mark.parametrize("name", DIALOGUES)
+def test_dialogues(name: str, refuser: Refuser) -> None:
+    """A program that answers requests prints whole answers only, and then reports the refused allocation."""
+    command: list[Word] = [PROGRAM, *DIALOGUES[name]]
+    refusals = refuser.run(command, stdin=REQUESTS)
+    ample = hdt(*DIALOGUES[name], stdin=REQUESTS)
+    assert refusals.ample == ample
+    answers = [ample.out[:at] for at in range(len(ample.out) + 1)]
+    assert wrong(refusals, lambda result: result._replace(out=b"") == OUT_OF_MEMORY and result.out in answers, 8) == []
