@@ -8,13 +8,13 @@ from __future__ import annotations
 
 from collections.abc import Callable, Iterator, Sequence
 from pathlib import Path
-from typing import NamedTuple, Union
 
 import pytest
 
 from reference import hdt as reference
-from support.built import BUILT, PROGRAM, SAMPLES
+from support.built import PROGRAM, SAMPLES
 from support.program import Result, Word, hdt, run
+from support.refused_requests import DIALOGUE, GROUPS, Request, spelled
 from support.refusing import Refuser, wrong
 
 OUT_OF_MEMORY = Result(4, b"", b"hdt: out of memory\n")
@@ -116,7 +116,6 @@ REFUSED: list[tuple[list[Word], int]] = [
     (["find", "a.hdt", "<u:a>", "x", "z"], 0),
     (["find", "a.hdt", "?", "?", "<u:aaaaaaaaaaaaaaaa\\u0020>"], 0),
 ]
-REQUESTS = b'<u:a> ? ?\n? <u:p> ?\n? ? "x"\nno request\n? ? <u:z>\n? ? ?\n'
 # Command lines that read requests: what they print before memory runs out stays.
 DIALOGUES: dict[str, list[Word]] = {
     "lines": ["answer", THREE],
@@ -171,8 +170,121 @@ def test_refused_command_lines(words: list[Word], unchanged: int, refuser: Refus
 def test_dialogues(name: str, refuser: Refuser) -> None:
     """A program that answers requests prints whole answers only, and then reports the refused allocation."""
     command: list[Word] = [PROGRAM, *DIALOGUES[name]]
-    refusals = refuser.run(command, stdin=REQUESTS)
-    ample = hdt(*DIALOGUES[name], stdin=REQUESTS)
+    refusals = refuser.run(command, stdin=DIALOGUE)
+    ample = hdt(*DIALOGUES[name], stdin=DIALOGUE)
     assert refusals.ample == ample
     answers = [ample.out[:at] for at in range(len(ample.out) + 1)]
     assert wrong(refusals, lambda result: result._replace(out=b"") == OUT_OF_MEMORY and result.out in answers, 8) == []
+
+
+# ---- the libraries
+
+# A list of requests ends when it has more than so many bytes, or requests.
+CHUNK_BYTES, CHUNK_REQUESTS = 20_000, 30
+PROBES = [(probe, group) for probe, groups in GROUPS.items() for group in groups]
+ERROR_LINE = b"hdt: out of memory\n".hex()
+# Words whose answer `out of memory` is followed by all bytes of the output, and the argument that it had before.
+WITH_OUTPUT = {"parse_string": 2, "put_string": 2, "append_graph_text": 1, "cut_on_error": 3}
+# Words whose answer is followed by what a writer took, and the value that tells it in ample memory.
+WITH_WRITER = {"build": 7, "rewrite": 7, "write_graph": 2}
+# Words that answer with the exit status and the line of an error: the values that follow.
+WITH_STATUS = {"run": 0, "run_in": 0, "answer_requests": 1, "answer_file": 1}
+
+
+def is_out_of_memory(request: Request, answer: Sequence[str], ample: Sequence[str]) -> bool:
+    """Whether an answer reports that memory ran out, and that the output is as it was or a beginning."""
+    word = str(request[0])
+    if answer[:3] == ["out", "of", "memory"]:
+        rest = answer[3:]
+        if rest and word in WITH_OUTPUT:
+            before = spelled((request[WITH_OUTPUT[word]],)).decode().strip()
+            return len(rest) == 1 and rest[0].startswith(before)
+        if rest and word in WITH_WRITER:
+            taken = ample[WITH_WRITER[word]] if ample[0] == "ok" else ample[-1]
+            return len(rest) == 1 and taken.startswith(rest[0])
+        return rest == []
+    if word == "handed_back":
+        return answer[:2] in (["ok", "triples"], ["ok", "indexed"]) and answer[2:] == ample[2:-1]
+    if word in WITH_STATUS:
+        at = 1 + WITH_STATUS[word]
+        return answer[at:at + 2] == ["4", ERROR_LINE] or answer[:3] == ["usage", "4", ERROR_LINE]
+    return answer[:3] == ["usage", "4", ERROR_LINE]
+
+
+def answers_of(probe: Path, requests: Sequence[Request]) -> list[str]:
+    """The answers to requests in ample memory."""
+    result = run([probe], stdin=b"".join(map(spelled, requests)))
+    assert (result.status, result.err) == (0, b"")
+    return result.out.decode().splitlines()
+
+
+class Calls:
+    """Requests to a probe, the first of which gives the input, and their answers in ample memory."""
+
+    def __init__(self, probe: Path, requests: list[Request]) -> None:
+        self.probe, self.requests = probe, requests
+        self.answers = answers_of(probe, requests)
+        # The same without an input, as where the request `file` was refused.
+        self.without = answers_of(probe, [("file", b""), *requests[1:]])
+
+    def is_right(self, result: Result) -> bool:
+        """Whether the answers are those of ample memory, but for one request that was out of memory."""
+        answers = result.out.decode().splitlines()
+        if (result.status, result.err, len(answers)) != (0, b"", len(self.answers)):
+            return False
+        for number, (answer, ample) in enumerate(zip(answers, self.answers)):
+            if answer != ample:
+                following = (self.without if number == 0 else self.answers)[number + 1:]
+                return (is_out_of_memory(self.requests[number], answer.split(" "), ample.split(" "))
+                        and answers[number + 1:] == following)
+        return True
+
+
+def chunks(requests: Sequence[Request]) -> Iterator[list[Request]]:
+    """The requests in lists that are short, since a copy of the process answers what follows a refused allocation.
+
+    Each list begins with the input of its requests.
+    """
+    given: Request = ("file", b"")
+    chunk, size = [given], 0
+    for request in requests:
+        line = len(spelled(request))
+        if request[0] == "file" or size > CHUNK_BYTES and len(chunk) > 2 or len(chunk) > CHUNK_REQUESTS:
+            if len(chunk) > 1:
+                yield chunk
+            given = request if request[0] == "file" else given
+            chunk, size = [given], 0
+        if request[0] != "file":
+            chunk.append(request)
+            size += line
+    yield chunk
+
+
+@pytest.mark.parametrize("probe, group", PROBES, ids=[group.__name__ for _, group in PROBES])
+def test_library_calls(probe: Path, group: Callable[[], Iterator[Request]], refuser: Refuser) -> None:
+    """Each allocation of a library call is reported or done without, and the next calls are not changed by it."""
+    for requests in chunks(list(group())):
+        calls = Calls(probe, requests)
+        refusals = refuser.run([probe], stdin=b"".join(map(spelled, requests)))
+        assert refusals.ample == Result(0, "".join(f"{answer}\n" for answer in calls.answers).encode(), b"")
+        assert len(refusals.refused) > len(requests)
+        failures = [(number, abridged(calls, result)) for number, (result, _) in enumerate(refusals.refused, 1)
+                    if result != refusals.ample and not calls.is_right(result)]
+        assert failures[:3] == []
+
+
+def abridged(calls: Calls, result: Result) -> tuple[int, bytes, list[tuple[str, str, str]]]:
+    """How a process ended, and the first requests that it answered otherwise than in ample memory."""
+    answers = result.out.decode().splitlines()
+    pairs = zip(calls.requests, answers, calls.answers)
+    others = [(spelled(request).decode()[:200], answer[:200], ample[:200])
+              for request, answer, ample in pairs if answer != ample]
+    return result.status, result.err, others[:4]
+
+
+@pytest.mark.parametrize("probe", GROUPS, ids=[probe.name for probe in GROUPS])
+def test_each_word_is_requested(probe: Path) -> None:
+    """The requests use each word of each probe."""
+    words = set(answers_of(probe, [("help",)])[0].split(" ")[1::2])
+    used = {str(request[0]) for group in GROUPS[probe] for request in group()}
+    assert words - used - {"help", "reads", "writes"} == set()

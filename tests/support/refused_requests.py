@@ -20,7 +20,7 @@ READER, WRITER = (7, "-"), (5, "-")
 BEFORE = b"before"
 LARGE = b"x" * 100_000
 DIALOGUE = b'<u:a> ? ?\n? <u:p> ?\n? ? "x"\nno request\n? ? <u:z>\n? ? ?\n'
-STRINGS = sorted({b"http://a/%d" % (n * n % 977) for n in range(40)} | {b"", b"\xff" * 40})
+STRINGS = sorted({b"http://a/%d" % (n * n % 977) for n in range(40)} | {b"", "\u00e9".encode() * 40})
 TERMS_OF_EACH_KIND = (b"<http://a/>", b"_:b.1", b'"x\\n\\u00e9"', b'"x"@en-GB', b'"x"^^<u:t>')
 STRINGS_OF_EACH_KIND = (b"http://a/", b"_:b.1", b'"x\n"', b'"x"@en-GB', b'"x"^^<u:t>')
 DOCUMENT = (b"# comment\n<u:a> <u:p> <u:b> .\n<u:a> <u:q> \"x\\u00e9\"@en .\r\n\n_:b <u:p> \"y\"^^<u:t> . # end\n"
@@ -236,8 +236,8 @@ IDS = [(s, p, o) for s in range(1, 8) for p in range(1, 4) for o in range(1, 12,
 def triples() -> Iterator[Request]:
     """Triples: the types that find them, with and without directories and lists, and writing them."""
     flat = [number for triple in IDS for number in triple]
-    patterns: list[Token] = [part for pattern in (ANY, (3, "-", "-"), ("-", 2, "-"), ("-", "-", 5), (3, 2, "-"),
-                                                  (3, "-", 1), ("-", 2, 1), (3, 2, 1), (9, 9, 9)) for part in pattern]
+    patterns: list[Token] = [*ANY, 3, "-", "-", "-", 2, "-", "-", "-", 5, 3, 2, "-", 3, "-", 1, "-", 2, 1, 3, 2, 1,
+                             9, 9, 9]
     counts = (0, 7, 3, 11)
     yield "file", reference.write_triples(IDS)
     yield "triples", *counts
@@ -559,3 +559,9 @@ GROUPS: dict[Path, tuple[Callable[[], Iterator[Request]], ...]] = {
     GRAPH: (opening, searching, errors_of_files, large_graph, long_strings, building, large_building, rewriting,
             large_rewriting, command_lines, dialogues, large_command),
 }
+
+
+def spelled(request: Request) -> bytes:
+    """A request as a line."""
+    return b" ".join(token.hex().encode() if isinstance(token, bytes) else b"%d" % token if isinstance(token, int)
+                     else token.encode() for token in request) + b"\n"
