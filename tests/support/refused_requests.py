@@ -310,7 +310,7 @@ def large_terms() -> Iterator[Request]:
     yield "raw_request", b"u:" + LARGE + b"\t?\t?"
 
 
-LIMIT = 1 << 20
+LIMIT, LARGE_CUT = 1 << 20, 90_000
 
 
 def lines() -> Iterator[Request]:
@@ -332,20 +332,22 @@ def lines() -> Iterator[Request]:
 
 
 def large_lines() -> Iterator[Request]:
-    """A document of 1,000 triples whose last literal has 100,000 bytes, and one cut off in it."""
-    document = numbered(1_000) + b'<u:a> <u:p> "' + LARGE + b'" .\n'
-    yield "file", document
+    """A document whose last literal has 100,000 bytes."""
+    yield "file", numbered(100) + b'<u:a> <u:p> "' + LARGE + b'" .\n'
     yield "line_strings", LIMIT, 4_096, "-"
     yield "line_texts", LIMIT, 1_000, "-"
     yield "line_strings", 1_000, 4_096, "-"
-    yield "document", LIMIT, 4_096, len(document) - 50
 
 
 def whole_document() -> Iterator[Request]:
-    """A document of 100 triples as terms, each of which is an allocation."""
-    yield "file", numbered(100)
+    """A document of 100 triples as terms, each of which is an allocation; and one cut off in a literal."""
+    document = numbered(100)
+    yield "file", document
     yield "document", LIMIT, 4_096, "-"
     yield "line_triples", LIMIT, 4_096, "-"
+    yield "file", document[-300:] + b'<u:a> <u:p> "' + LARGE + b'" .\n'
+    yield "document", LIMIT, 4_096, LARGE_CUT
+    yield "document", LIMIT, 4_096, "-"
 
 
 OF_THREE = (SAMPLES / "three.hdt").read_bytes()
