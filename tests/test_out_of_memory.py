@@ -216,7 +216,7 @@ def is_out_of_memory(request: Request, answer: list[str], ample: list[str]) -> b
     if word == "line_calls":
         return ends_with_fault(request, answer, ample)
     if word == "handed_back":
-        return answer[:2] in (["ok", "triples"], ["ok", "indexed"]) and answer[2:] == ample[2:-1]
+        return answer[:2] in (["ok", "triples"], ["ok", "indexed"]) and answer[2:] == ample[3:]
     if word in WITH_STATUS:
         at = 1 + WITH_STATUS[word]
         return answer[at:at + 2] == ["4", ERROR_LINE] or answer[:3] == ["usage", "4", ERROR_LINE]

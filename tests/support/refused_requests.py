@@ -65,6 +65,8 @@ def wire() -> Iterator[Request]:
     yield "demand", 0, 5, 1
     yield "demand", 1, 5, 1
     yield "fault_text", 2 ** 64 - 1, 34
+    yield "failed_text",
+    yield "sizes",
     yield "cut_on_error", 1, 2, b"abcd"
     yield "counted_read", 3, "-", 2, 5, 0, 100
     yield "counted_read", 3, 10, 2, 5, 20, 20
@@ -244,9 +246,10 @@ def triples() -> Iterator[Request]:
     yield "triples", 1, 7, 3, 11
     yield "triples", 0, 6, 3, 11
     yield "triple", *counts, 0, 17, len(IDS) - 1
-    for word in ("find", "indexed_find", "listed_find", "matching", "indexed_matching", "listed_matching",
-                 "handed_back"):
+    for word in ("find", "indexed_find", "listed_find", "matching", "indexed_matching", "listed_matching"):
         yield word, *counts, *patterns
+    for at in range(0, len(patterns), 3):
+        yield "handed_back", *counts, *patterns[at:at + 3]
     yield "uses", *counts, 0, 1, 1, 3, 2, 11
     yield "indexed_held", *counts
     yield "listed_held", *counts
@@ -263,8 +266,9 @@ def large_triples() -> Iterator[Request]:
     counts = (0, 500, 2, 100)
     yield "file", reference.write_triples(ids)
     yield "triples", *counts
-    for word in ("matching", "indexed_matching", "listed_matching", "indexed_find", "listed_find", "handed_back"):
+    for word in ("matching", "indexed_matching", "listed_matching", "indexed_find", "listed_find"):
         yield word, *counts, "-", "-", 50, 250, "-", "-"
+    yield "handed_back", *counts, "-", "-", 50
     yield "uses", *counts, 2, 50
     yield "listed_held", *counts
     yield "put_triples", BEFORE, *(number for triple in ids for number in triple)
