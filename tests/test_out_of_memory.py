@@ -284,7 +284,9 @@ def answers_of(probe: Path, requests: Sequence[Request]) -> list[str]:
     """The answers to requests in ample memory."""
     result = run([probe], stdin=b"".join(map(spelled, requests)))
     assert (result.status, result.err) == (0, b"")
-    return result.out.decode().splitlines()
+    answers = result.out.decode().splitlines()
+    assert [request for request, answer in zip(requests, answers) if answer.startswith("?")] == []
+    return answers
 
 
 class Calls:
