@@ -4,9 +4,9 @@ A request is a word and its arguments; an answer is a line, split at its spaces:
 
     probe.on(b"\x80", "read_vbyte", 0) == ("ok", "0", "1")
 
-Arguments are spelled by `spelled`: bytes in hexadecimal, numbers in decimal, `None` as `-`, text as it is. The bytes of the
-last `on` (or of a request `file`) are the input of later requests. Each program lists its words by the request `help`, and
-a request goes to the program that has its word.
+Arguments are spelled by `spelled`: bytes in hexadecimal, numbers in decimal, `None` as `-`, text as it is. The bytes
+of the last `on` (or of a request `file`) are the input of later requests. Each program lists its words by the request
+`help`, and a request goes to the program that has its word.
 """
 
 from __future__ import annotations
@@ -74,17 +74,17 @@ class Program:
         self.input: bytes | None = None
         self.child = subprocess.Popen([os.fspath(path)], stdin=subprocess.PIPE, stdout=subprocess.PIPE,
                                       env={**os.environ, **(env or {})})
+        assert self.child.stdin is not None and self.child.stdout is not None
+        self.requests, self.answers = self.child.stdin, self.child.stdout
 
     def send(self, lines: Sequence[str]) -> list[str]:
         """Send requests in one write and return their answers."""
-        stdin = self.child.stdin
-        assert stdin is not None
         data = "".join(line + "\n" for line in lines).encode()
 
         def write() -> None:
             try:
-                stdin.write(data)
-                stdin.flush()
+                self.requests.write(data)
+                self.requests.flush()
             except BrokenPipeError:
                 pass  # The reader below says which request was open.
 
@@ -100,8 +100,7 @@ class Program:
 
     def answer(self, line: str) -> str:
         """Read the answer of a request."""
-        assert self.child.stdout is not None
-        answer = self.child.stdout.readline()
+        answer = self.answers.readline()
         if not answer.endswith(b"\n"):
             shown = line if len(line) <= SHOWN else f"{line[:SHOWN]}.. ({len(line)} characters)"
             raise ProbeError(f"{self.path.name} ended with status {self.child.wait()} at the request: {shown}")
@@ -109,13 +108,12 @@ class Program:
 
     def close(self) -> int:
         """End the program and return its exit status."""
-        assert self.child.stdin is not None and self.child.stdout is not None
         try:
-            self.child.stdin.close()
+            self.requests.close()
         except BrokenPipeError:
             pass
         status = self.child.wait()
-        self.child.stdout.close()
+        self.answers.close()
         return status
 
 
@@ -173,7 +171,8 @@ class Probe:
     def send_to(self, name: str, routed: Sequence[tuple[str, bytes | None, str]]) -> list[Answer]:
         """Send requests to a program, each behind its input where the program keeps another one."""
         program = self.program(name)
-        lines, wanted = [], []
+        lines: list[str] = []
+        wanted: list[int] = []
         for _, data, line in routed:
             if data is not None and data != program.input and not (program.input is None and data == b""):
                 lines.append(line_of(("file", data)))
@@ -185,6 +184,10 @@ class Probe:
         except ProbeError:
             self.running.pop(name).close()
             raise
+        kept = set(wanted)
+        for at, answer in enumerate(answers):
+            if at not in kept and answer != "ok":
+                raise ProbeError(f"{name} does not keep its input: {answer}")
         return [tuple(answers[at].split(" ")) for at in wanted]
 
     def ask(self, *request: Argument) -> Answer:
