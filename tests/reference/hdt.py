@@ -416,13 +416,14 @@ def read_bits(data: bytes, at: int) -> tuple[Bits, int]:
 
 @dataclass(frozen=True)
 class Section:
-    """A front-coded section: its strings, the byte offset of each, and its block size."""
+    """A front-coded section: its strings, the byte offset of each, and the length of the prefix that it keeps."""
 
     strings: list[bytes]
     offsets: list[int]
+    prefixes: list[int]
     block_size: int
     starts: Numbers
-    packed_at: int
+    packed: bytes
 
     def __len__(self) -> int:
         return len(self.strings)
@@ -431,6 +432,11 @@ class Section:
     def blocks(self) -> int:
         """The count of blocks."""
         return -(-len(self.strings) // self.block_size) if self.strings else 0
+
+    def block_of(self, i: int) -> bytes:
+        """The packed bytes of the block of string i, from 0."""
+        block = i // self.block_size
+        return self.packed[self.starts[block]:self.starts[block + 1]]
 
 
 def common_prefix(a: bytes, b: bytes) -> int:
@@ -444,8 +450,8 @@ def common_prefix(a: bytes, b: bytes) -> int:
 def fold(strings: Sequence[bytes], block_size: int, prefixes: Sequence[int] | None = None) -> tuple[bytes, list[int]]:
     """The packed bytes of strings, and where each block starts in them, followed by the length of them all.
 
-    `prefixes` are the lengths of the prefixes, one for each string. None is longer than the longest common prefix, which
-    is taken where `prefixes` is None.
+    `prefixes` are the lengths of the prefixes, one for each string, as far as they are common ones. Else each is the
+    longest common prefix.
     """
     packed, starts, before = bytearray(), [], b""
     for i, string in enumerate(strings):
@@ -470,8 +476,14 @@ def write_section(strings: Sequence[bytes], block_size: int = 16, prefixes: Sequ
 def write_packed(count: int, packed: bytes, starts: Sequence[int], block_size: int = 16,
                  width: int = 0, padding: int = 0) -> bytes:
     """A section from its packed bytes and block starts, which may be wrong ones."""
-    preamble = b"\x02" + write_vbyte(count) + write_vbyte(len(packed)) + write_vbyte(block_size)
-    return preamble + write_crc8(preamble) + write_numbers(starts, width, padding) + packed + write_crc32(packed)
+    preamble = write_section_preamble(count, len(packed), block_size)
+    return preamble + write_numbers(starts, width, padding) + packed + write_crc32(packed)
+
+
+def write_section_preamble(count: int, length: int, block_size: int) -> bytes:
+    """The first bytes of a section: its type, three numbers and their CRC."""
+    preamble = b"\x02" + write_vbyte(count) + write_vbyte(length) + write_vbyte(block_size)
+    return preamble + write_crc8(preamble)
 
 
 def read_section(data: bytes, at: int) -> tuple[Section, int]:
@@ -492,37 +504,43 @@ def read_section(data: bytes, at: int) -> tuple[Section, int]:
     packed_end = packed_at + length
     demand(packed_end <= len(data), Reason.Truncated, packed_at)
     end = read_crc32(data, packed_at, packed_end)
-    section = Section([], [], block_size, starts, packed_at)
+    section = Section([], [], [], block_size, starts, data[packed_at:packed_end])
     at, before = packed_at, b""
     for i in range(count):
         section.offsets.append(at)
-        before, at = read_string(data, at, packed_end, section, i, before)
-        section.strings.append(before)
+        prefix, own_at = 0, at
+        if i % block_size == 0:
+            block = i // block_size
+            demand(starts[block] == at - packed_at, Reason.BlockPlace, starts.offset_of(block))
+        else:
+            prefix, own_at = read_prefix(data, at, packed_end, before)
+        string, end_of_string = read_string(data, at, own_at, packed_end, before[:prefix])
+        demand(i == 0 or string > before, Reason.StringsNotAscending, at)
+        section.strings.append(string)
+        section.prefixes.append(prefix)
+        before, at = string, end_of_string
     demand(at == packed_end, Reason.PackedLength, at)
     if count:
         demand(starts[starts.length - 1] == length, Reason.BlockPlace, starts.offset_of(starts.length - 1))
     return section, end
 
 
-def read_string(data: bytes, at: int, packed_end: int, section: Section, i: int,
-                before: bytes) -> tuple[bytes, int]:
-    """String i of a section, from 0, and the offset behind it; `before` is the string before it."""
-    prefix, own_at = b"", at
-    if i % section.block_size == 0:
-        block = i // section.block_size
-        demand(section.starts[block] == at - section.packed_at, Reason.BlockPlace, section.starts.offset_of(block))
-    else:
-        try:
-            kept, own_at = read_vbyte(data, at, packed_end)
-        except Error as error:
-            raise Error(Reason.PackedLength, at) if error.reason == Reason.Truncated else error
-        demand(kept <= len(before), Reason.PrefixTooLong, at)
-        prefix = before[:kept]
+def read_prefix(data: bytes, at: int, packed_end: int, before: bytes) -> tuple[int, int]:
+    """The length of the prefix that a string keeps of the one before, and the offset behind it."""
+    try:
+        prefix, own_at = read_vbyte(data, at, packed_end)
+    except Error as error:
+        raise Error(Reason.PackedLength, at) if error.reason == Reason.Truncated else error
+    demand(prefix <= len(before), Reason.PrefixTooLong, at)
+    return prefix, own_at
+
+
+def read_string(data: bytes, at: int, own_at: int, packed_end: int, prefix: bytes) -> tuple[bytes, int]:
+    """The string at `at` with this prefix, whose own bytes begin at `own_at`, and the offset behind it."""
     zero = data.find(b"\0", own_at, packed_end)
     demand(zero >= 0, Reason.PackedLength, own_at)
     string = prefix + data[own_at:zero]
     demand(is_utf8(string), Reason.NotUtf8, at)
-    demand(i == 0 or string > before, Reason.StringsNotAscending, at)
     return string, zero + 1
 
 
