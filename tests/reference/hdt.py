@@ -91,12 +91,18 @@ def demand(condition: bool, reason: Reason, offset: int) -> None:
         raise Error(reason, offset)
 
 
-def outcome(read: Callable[..., T], *args: object) -> T | tuple[int, str, int]:
-    """What a reader returns, or the number, name and offset of its error."""
+def error_of(read: Callable[..., object], *args: object) -> tuple[int, str, int] | None:
+    """The number, name and byte offset of a reader's error, or None where it reads."""
     try:
-        return read(*args)
+        read(*args)
     except Error as error:
         return error.reason, error.name, error.offset
+    return None
+
+
+def outcome(read: Callable[..., T], *args: object) -> T | tuple[int, str, int]:
+    """What a reader returns, or its error as by `error_of`."""
+    return error_of(read, *args) or read(*args)
 
 
 def with_right_crcs(data: bytes, read: Callable[[bytes], object]) -> bytes:
