@@ -136,7 +136,7 @@ def test_reasons(probe: Probe) -> None:
 
 def test_texts_of_errors(probe: Probe) -> None:
     """The text of an error of a file, and that of a failed read or write."""
-    assert probe.ask("fault_text", 1, 68) == ok(b"Truncated at 68")
+    assert probe.ask("fault_text", 68, 1) == ok(b"Truncated at 68")
     assert probe.ask("failed_text") == ok(b"a read or a write failed")
 
 
@@ -165,10 +165,11 @@ def test_takes_texts(probe: Probe, data: bytes, at: int) -> None:
     assert probe.on(data, "zero_in") == ok(len(data.split(b"\0")[0]))
 
 
-@pytest.mark.parametrize("appended, answer", [(1, ok(b"abc")), (0, ("out", "of", "memory", b"ab".hex()))])
-def test_cuts_on_error(probe: Probe, appended: int, answer: Answer) -> None:
+@pytest.mark.parametrize("appended, length, answer", [
+    (1, 2, ok(True, b"abc")), (0, 2, ok(False, b"ab")), (0, 0, ok(False, b"")), (0, 3, ok(False, b"abc"))])
+def test_cuts_on_error(probe: Probe, appended: int, length: int, answer: Answer) -> None:
     """What was appended is cut off where appending failed."""
-    assert probe.ask("cut_on_error", appended, 2, b"abc") == answer
+    assert probe.ask("cut_on_error", appended, length, b"abc") == answer
 
 
 # Readers and writers that count their failures: each request is one call.
@@ -189,7 +190,7 @@ def test_counted_reads(probe: Probe, data: bytes, step: int, fails: str, sizes: 
                        answers: list[Value]) -> None:
     """Each read is one call of the reader, whose answer is handed on."""
     assert probe.on(data, "counted_read", step, fails, *sizes) == ok(*answers)
-    calls, _, _, _, smallest, largest = map(int, probe.ask("reads")[1:])
+    calls, _, _, _, _, smallest, largest = map(int, probe.ask("reads")[1:])
     assert (calls, smallest, largest) == (len(sizes), min(sizes), max(sizes))
 
 
@@ -207,7 +208,7 @@ WRITES = [
 def test_counted_writes(probe: Probe, step: int, calls: str, texts: list[bytes], answers: list[Value]) -> None:
     """Each write is one call of the writer, without a flush; one that takes nothing of something is a failure."""
     assert probe.ask("counted_write", step, calls, *texts) == ok(*answers)
-    made, _, _, flushes, smallest, largest = map(int, probe.ask("writes")[1:])
+    made, _, _, _, flushes, smallest, largest = map(int, probe.ask("writes")[1:])
     sizes = [len(text) for text in texts]
     assert (made, flushes, smallest, largest) == (len(texts), 0, min(sizes), max(sizes))
 
@@ -219,5 +220,5 @@ def test_writes_all(probe: Probe, text: bytes, step: int, calls: int, way: str) 
     taken = text[:step * calls]
     answer = ok(text) if calls >= needed else ("written", str(len(taken)), taken.hex())
     assert probe.ask("counted_write_all", step, f"{calls}{way}", text) == answer
-    made, _, after_failure, flushes = map(int, probe.ask("writes")[1:5])
+    made, _, _, after_failure, flushes = map(int, probe.ask("writes")[1:6])
     assert (made, after_failure, flushes) == (min(needed, calls + 1), 0, 0)

@@ -60,7 +60,7 @@ def requests_and_answers(dictionary: Dictionary, at: int, end: int,
             kept += [n, prefix, string]
         pairs += [
             (("dictionary_strings", at, role), ok(*walked)),
-            (("dictionary_strings_kept", at, role), ok(*kept)),
+            (("dictionary_strings_kept", at, role), ok(*kept, None, 0)),
             (("dictionary_number_of", at, role, *strings, *absent), ok(*range(1, count + 1), *[None] * len(absent))),
             *((("dictionary_string_of", at, role, n, b"before"), ok(True, b"before" + string))
               for n, string in enumerate(strings, 1)),

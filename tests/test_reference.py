@@ -2,6 +2,7 @@
 
 from __future__ import annotations
 
+import re
 from pathlib import Path
 
 import pytest
@@ -29,6 +30,13 @@ def v1(samples: Path) -> bytes:
 def three(samples: Path) -> bytes:
     """The sample file of three triples."""
     return (samples / "three.hdt").read_bytes()
+
+
+def test_reasons_of_the_description(samples: Path) -> None:
+    """The numbers and names of the reasons are those of docs/FORMAT.md."""
+    text = (samples.parent / "docs/FORMAT.md").read_text()
+    rows = re.findall(r"(?<=\| )(\d+) ([A-Z]\w+)(?= \|)", text.split("## Reasons")[1].split("##")[0])
+    assert [(int(number), name) for number, name in rows] == [(int(reason), reason.name) for reason in Reason]
 
 
 # CRCs and numbers

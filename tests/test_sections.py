@@ -381,6 +381,11 @@ def test_an_error_behind_many_strings(probe: Probe, large: list[bytes], byte: by
     assert probe.on(spoiled, "section_read", 0) == fault(reason, offset)
 
 
+def test_many_empty_strings(probe: Probe) -> None:
+    """100,000 empty strings, which take no memory, and another: no strings of a section."""
+    assert probe.ask("are_strings", *[b""] * 100_000, b"z") == ok(False)
+
+
 def test_many_blocks(probe: Probe) -> None:
     """3,000 strings in 188 blocks of 16, one of them of 100,000 bytes: each looked up in each way."""
     strings = numerals(3000)
