@@ -7,17 +7,17 @@ from hypothesis import example, given
 from hypothesis import strategies as st
 
 from reference import hdt
-from reference.answers import REFUSED, Answer, Value, answered, fault, ok
+from reference.answers import REFUSED, answered, fault
 from reference.hdt import DICTIONARY, GLOBAL, HEADER, TRIPLES, Control, Reason
 from reference.strategies import AROUND, changed
-from support.probe import Probe
+from support.probe import Answer, Argument, Probe, ok
 
 KINDS = st.sampled_from([GLOBAL, HEADER, DICTIONARY, TRIPLES])
 TEXT = st.binary(max_size=40).map(lambda text: text.replace(b"\0", b"="))
 LARGE = b"x" * (1 << 20)
 
 
-def values_of(read: tuple[Control, int]) -> tuple[Value, ...]:
+def values_of(read: tuple[Control, int]) -> tuple[Argument, ...]:
     """Control information as the probe answers it."""
     control, end = read
     return control.format, control.properties, control.properties_at, end
@@ -155,7 +155,7 @@ def test_takes_bytes(probe: Probe, data: bytes, at: int, count: int) -> None:
     assert probe.on(data, "bytes_at", at, count) == answer
 
 
-@given(st.text("\0ab", max_size=100).map(str.encode) | st.integers(0, 100).map(lambda n: b"x" * n + b"\0y"),
+@given(st.text("\0ab", max_size=20).map(str.encode) | st.integers(0, 100).map(lambda n: b"x" * n + b"\0y"),
        st.integers(0, 102))
 def test_takes_texts(probe: Probe, data: bytes, at: int) -> None:
     """The text from an offset up to its zero byte, and the first zero byte of all."""
@@ -187,7 +187,7 @@ READS = [
 
 @pytest.mark.parametrize("data, step, fails, sizes, answers", [row[1:] for row in READS], ids=[row[0] for row in READS])
 def test_counted_reads(probe: Probe, data: bytes, step: int, fails: str, sizes: list[int],
-                       answers: list[Value]) -> None:
+                       answers: list[Argument]) -> None:
     """Each read is one call of the reader, whose answer is handed on."""
     assert probe.on(data, "counted_read", step, fails, *sizes) == ok(*answers)
     calls, _, _, _, _, smallest, largest = map(int, probe.ask("reads")[1:])
@@ -205,7 +205,7 @@ WRITES = [
 
 
 @pytest.mark.parametrize("step, calls, texts, answers", [row[1:] for row in WRITES], ids=[row[0] for row in WRITES])
-def test_counted_writes(probe: Probe, step: int, calls: str, texts: list[bytes], answers: list[Value]) -> None:
+def test_counted_writes(probe: Probe, step: int, calls: str, texts: list[bytes], answers: list[Argument]) -> None:
     """Each write is one call of the writer, without a flush; one that takes nothing of something is a failure."""
     assert probe.ask("counted_write", step, calls, *texts) == ok(*answers)
     made, _, _, _, flushes, smallest, largest = map(int, probe.ask("writes")[1:])

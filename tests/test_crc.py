@@ -7,18 +7,17 @@ from hypothesis import given
 from hypothesis import strategies as st
 
 from reference import hdt
-from reference.answers import ok
-from support.probe import Probe
+from support.probe import Answer, Probe, ok
 
 WORDS = "check8", "check16", "check32"
 
 
-def crcs(data: bytes) -> list[tuple[str, ...]]:
+def crcs(data: bytes) -> list[Answer]:
     """The answers of the three words, by the reference."""
     return [ok(hdt.crc8(data)), ok(hdt.crc16(data)), ok(hdt.crc32(data))]
 
 
-def asked(probe: Probe, data: bytes) -> list[tuple[str, ...]]:
+def asked(probe: Probe, data: bytes) -> list[Answer]:
     """The answers of the three words."""
     return probe.send(("file", data), *((word,) for word in WORDS))[1:]
 

@@ -7,13 +7,12 @@ from hypothesis import example, given
 from hypothesis import strategies as st
 
 from reference import hdt
-from reference.answers import REFUSED, Answer, Value, answered, fault, ok
+from reference.answers import REFUSED, answered, fault
 from reference.hdt import MAX, Dictionary, Reason, Style, write_dictionary, write_section
 from reference.strategies import AROUND, BLOCK_SIZES, PADDING, STRING, changed
-from support.probe import Probe
+from support.probe import Answer, Argument, Probe, Request, ok
 
 Lists = tuple[list[bytes], list[bytes], list[bytes], list[bytes]]
-Request = tuple[Value, ...]
 
 # Where the dictionary of the sample file v1.hdt begins.
 AT = 218
@@ -21,7 +20,17 @@ AT = 218
 WRITERS = "put_dictionary", "put_lent_dictionary", "put_written_dictionary"
 
 
-def read_of(read: tuple[Dictionary, int]) -> tuple[Value, ...]:
+def counted(lists: list[list[bytes]]) -> list[Argument]:
+    """The arguments for three lists of strings: their counts, and all strings."""
+    return [*map(len, lists), *(string for strings in lists for string in strings)]
+
+
+def by_each_writer(before: bytes, block_size: int, lists: list[list[bytes]]) -> list[Request]:
+    """The requests that write the dictionary of the strings of three roles behind other bytes."""
+    return [(word, before, block_size, *counted(lists)) for word in WRITERS]
+
+
+def read_of(read: tuple[Dictionary, int]) -> tuple[Argument, ...]:
     """A dictionary as the word `dictionary` answers it."""
     dictionary, end = read
     return end, *dictionary.section_lens, *dictionary.counts
@@ -53,8 +62,8 @@ def requests_and_answers(dictionary: Dictionary, at: int, end: int,
     for role, name in enumerate(hdt.ROLES):
         strings = dictionary.strings(name)
         count, absent = len(strings), [other for other in others if other not in set(strings)]
-        walked: list[Value] = []
-        kept: list[Value] = []
+        walked: list[Argument] = []
+        kept: list[Argument] = []
         for n, (string, prefix) in enumerate(zip(strings, prefixes_of(dictionary, role)), 1):
             walked += [n, string]
             kept += [n, prefix, string]
@@ -157,14 +166,9 @@ SPLITS: list[tuple[list[list[bytes]], Lists]] = [
 ]
 
 
-def counted(lists: list[list[bytes]]) -> Request:
-    """The arguments for three lists of strings: their counts, and all strings."""
-    return *map(len, lists), *(string for strings in lists for string in strings)
-
-
 def split_answer(lists: Lists | hdt.Parts) -> Answer:
     """Four lists, each behind its count."""
-    values: list[Value] = []
+    values: list[Argument] = []
     for strings in lists:
         values += [len(strings), *strings]
     return ok(*values)
@@ -209,9 +213,8 @@ def test_any_strings(probe: Probe, subjects: list[bytes], predicates: list[bytes
     lists = [subjects + both, predicates, both + objects]
     parts = hdt.split(*lists)
     written = before + write_dictionary(*parts, Style(block_size))
-    arguments = counted(lists)
-    answers = probe.send(*((word, *arguments) for word in ("split", "split_lent")),
-                         *((word, before, block_size, *arguments) for word in WRITERS))
+    answers = probe.send(("split", *counted(lists)), ("split_lent", *counted(lists)),
+                         *by_each_writer(before, block_size, lists))
     assert answers == [split_answer(parts)] * 2 + [ok(written)] * 3
     check(probe, written + behind, len(before), subjects)
 
@@ -271,7 +274,7 @@ def test_what_dictionaries_hold(probe: Probe, strings: list[bytes], block_size: 
     fit = block_size > 0 and all(hdt.is_utf8(string) and b"\0" not in string for string in strings)
     none: list[bytes] = []
     for lists in [strings, none, none], [none, strings, none], [none, none, strings]:
-        answers = probe.send(*((word, b"", block_size, *counted(lists)) for word in WRITERS))
+        answers = probe.send(*by_each_writer(b"", block_size, lists))
         written = ok(write_dictionary(*hdt.split(*lists), Style(block_size))) if fit else REFUSED
         assert answers == [written] * 3
 
@@ -287,12 +290,8 @@ def test_arena_of_many_strings(probe: Probe) -> None:
 
 @given(st.lists(st.binary(max_size=20), max_size=20), st.integers(0, 30), st.integers(0, 300))
 def test_arena(probe: Probe, strings: list[bytes], room: int, room_of_bytes: int) -> None:
-    """Any strings, with any room at first; and an arena of bytes with the start of each string and the last end."""
-    starts = [0]
-    for string in strings:
-        starts.append(starts[-1] + len(string))
-    assert probe.send(("arena", room, room_of_bytes, *strings), ("arena_of", b"".join(strings), *starts)) == [
-        ok(len(strings), *strings, *strings), ok(*strings)]
+    """Any strings, with any room at first."""
+    assert probe.ask("arena", room, room_of_bytes, *strings) == ok(len(strings), *strings, *strings)
 
 
 # Large dictionaries
@@ -356,8 +355,8 @@ def test_many_strings_by_each_writer(probe: Probe, block_size: int) -> None:
     objects, others = [*all_of, b"x" * 100_000], all_of[100_000:]
     parts = hdt.split(others, others, objects)
     written = ok(b"before " + write_dictionary(*parts, Style(block_size)))
-    for word in WRITERS:
-        assert probe.ask(word, b"before ", block_size, *counted([others, others, objects])) == written, word
+    for request in by_each_writer(b"before ", block_size, [others, others, objects]):
+        assert probe.ask(*request) == written, request[0]
 
 
 def test_every_fourth(probe: Probe) -> None:

@@ -7,15 +7,15 @@ from hypothesis import example, given
 from hypothesis import strategies as st
 
 from reference import hdt
-from reference.answers import REFUSED, Answer, Value, answered, fault, ok
+from reference.answers import REFUSED, answered, fault
 from reference.hdt import MAX, Reason, Section, common_prefix, fold, write_packed, write_section
 from reference.strategies import AROUND, BLOCK_SIZES, PADDING, STRING, ascending, changed, loose_sections
-from support.probe import Probe
+from support.probe import Answer, Argument, Probe, Request, ok
 
 BEFORE = b"\xff\x02\x80"
 
 
-def read_of(read: tuple[Section, int]) -> tuple[Value, ...]:
+def read_of(read: tuple[Section, int]) -> tuple[Argument, ...]:
     """A section as the word `section_read` answers it."""
     section, end = read
     return len(section), section.blocks, end
@@ -31,17 +31,14 @@ def order(a: bytes, b: bytes) -> str:
     return "less" if a < b else "equal" if a == b else "more"
 
 
-Request = tuple[Value, ...]
-
-
 def requests_and_answers(section: Section, at: int, end: int, others: list[bytes]) -> list[tuple[Request, Answer]]:
     """Requests about a section with the answers of the reference: each string and number in each way, and others."""
     strings, offsets, prefixes, count = section.strings, section.offsets, section.prefixes, len(section)
     absent = [other for other in others if other not in set(strings)]
-    walked: list[Value] = []
+    walked: list[Argument] = []
     for offset, string in zip(offsets, strings):
         walked += [offset, string]
-    kept: list[Value] = []
+    kept: list[Argument] = []
     for offset, prefix, string in zip(offsets, prefixes, strings):
         kept += [offset, prefix, string]
     pairs: list[tuple[Request, Answer]] = [
@@ -61,7 +58,7 @@ def requests_and_answers(section: Section, at: int, end: int, others: list[bytes
                   (("section_strings", at, *range(count, 0, -1)), ok(*reversed(strings))),
                   (("section_string", at, count, b"before"), ok(b"before" + strings[-1]))]
     for other in [*absent[:2], *strings[:1]]:
-        ordered: list[Value] = []
+        ordered: list[Argument] = []
         for string in strings:
             ordered += [string, order(string, other)]
         pairs.append((("section_cursor", at, other), ok(*ordered)))
@@ -72,7 +69,7 @@ def requests_and_answers(section: Section, at: int, end: int, others: list[bytes
 def compared_of(section: Section, other: bytes) -> Answer:
     """The answer of `section_cursor_compared`: each string, how it lies to another and agrees with it, and how much the
     next one keeps."""
-    values: list[Value] = []
+    values: list[Argument] = []
     for offset, string, after in zip(section.offsets, section.strings, [*section.prefixes[1:], 0]):
         values += [offset, string, order(string, other), common_prefix(string, other), after]
     return ok(*values, "end", "more", 0)
@@ -117,11 +114,16 @@ OTHERS = [b"", b"a", b"aa", b"aad", b"ab", b"b", b"abcd", b"s", b"s17", b"http:/
 WRITERS = "put_section", "put_lent_section", "write_section", "write_section_agreeing"
 
 
+def by_each_writer(before: bytes, block_size: int, strings: list[bytes]) -> list[Request]:
+    """The requests that write a section behind other bytes."""
+    return [(word, before, block_size, *strings) for word in WRITERS]
+
+
 @pytest.mark.parametrize("block_size, strings, spelling", [row[1:] for row in CANONICAL],
                          ids=[row[0] for row in CANONICAL])
 def test_canonical(probe: Probe, block_size: int, strings: list[bytes], spelling: bytes) -> None:
     """The canonical form behind other bytes, by each of the four writers; it is read again with a byte behind it."""
-    answers = probe.send(*((word, BEFORE, block_size, *strings) for word in WRITERS))
+    answers = probe.send(*by_each_writer(BEFORE, block_size, strings))
     assert list(zip(WRITERS, answers)) == [(word, ok(BEFORE + spelling)) for word in WRITERS]
     assert hdt.read_section(spelling, 0)[0].strings == strings
     check(probe, BEFORE + spelling + b"\x55", len(BEFORE), OTHERS)
@@ -239,14 +241,14 @@ def test_refuses(probe: Probe, data: bytes, offset: int, reason: Reason) -> None
 def test_writes(probe: Probe, strings: list[bytes], block_size: int, before: bytes) -> None:
     """Any strings in blocks of any size are written as the reference writes them, by each of the four writers."""
     written = ok(before + write_section(strings, block_size))
-    answers = probe.send(("are_strings", *strings), *((word, before, block_size, *strings) for word in WRITERS))
+    answers = probe.send(("are_strings", *strings), *by_each_writer(before, block_size, strings))
     assert answers == [ok(True), written, written, written, written]
 
 
 @given(st.lists(STRING, max_size=8), st.integers(0, 3))
 def test_writers_keep_count(probe: Probe, strings: list[bytes], block_size: int) -> None:
     """A writer knows how many strings it was given, in any order, and the last of them; a block has some."""
-    values: list[Value] = []
+    values: list[Argument] = []
     for i, string in enumerate(strings, 1):
         values += [i, string]
     answer = probe.ask("section_writer", block_size, *strings)
@@ -260,13 +262,13 @@ def test_what_sections_hold(probe: Probe, strings: list[bytes]) -> None:
     """Ascending UTF-8 strings without zero bytes are written, others not."""
     fit = sorted(set(strings)) == strings and all(hdt.is_utf8(s) and b"\0" not in s for s in strings)
     written = ok(write_section(strings, 2)) if fit else REFUSED
-    answers = probe.send(("are_strings", *strings), *((word, b"", 2, *strings) for word in WRITERS))
+    answers = probe.send(("are_strings", *strings), *by_each_writer(b"", 2, strings))
     assert answers == [ok(fit), written, written, written, written]
 
 
 def test_blocks_of_none_are_not_written(probe: Probe) -> None:
     """A block has at least one string."""
-    assert probe.send(*((word, b"", 0, b"a") for word in WRITERS)) == [REFUSED] * 4
+    assert probe.send(*by_each_writer(b"", 0, [b"a"])) == [REFUSED] * 4
 
 
 @given(loose_sections(), AROUND, AROUND, st.lists(STRING, max_size=3))
@@ -355,12 +357,12 @@ def large() -> list[bytes]:
 def test_large(probe: Probe, large: list[bytes], block_size: int) -> None:
     """Many strings and a long one: written by each writer, read again, looked up, walked and passed."""
     written = write_section(large, block_size)
-    for word in WRITERS:
-        assert probe.ask(word, b"before", block_size, *large) == ok(b"before" + written), word
+    for request in by_each_writer(b"before", block_size, large):
+        assert probe.ask(*request) == ok(b"before" + written), request[0]
     numbers = 1, 5_001, 140_000, 140_001
-    requests = [("file", written), ("section_read", 0), ("section_strings", 0, *numbers), ("section_walk", 0),
-                ("section_place_of", 0, *(large[n - 1] for n in numbers), b"139999x"),
-                ("section_cursor", 0, b"139999x")]
+    requests: list[Request] = [
+        ("file", written), ("section_read", 0), ("section_strings", 0, *numbers), ("section_walk", 0),
+        ("section_place_of", 0, *(large[n - 1] for n in numbers), b"139999x"), ("section_cursor", 0, b"139999x")]
     _, read, strings, walked, places, passed = probe.send(*requests)
     assert read == ok(140_001, -(-140_001 // block_size), len(written))
     assert strings == ok(*(large[n - 1] for n in numbers))

@@ -7,23 +7,23 @@ from hypothesis import example, given
 from hypothesis import strategies as st
 
 from reference import hdt
-from reference.answers import REFUSED, Answer, Value, answered, fault, ok
+from reference.answers import REFUSED, answered, fault
 from reference.hdt import MAX, Bits, Numbers, Reason, write_bits, write_numbers, write_numbers_data
 from reference.strategies import AROUND, PADDING, VALUES, changed, entries_of
-from support.probe import Probe
+from support.probe import Answer, Argument, Probe, ok
 
 BEFORE = b"\xff\x01\x80"
 
 WIDTHS = st.integers(0, 64)
 
 
-def numbers_of(read: tuple[Numbers, int]) -> tuple[Value, ...]:
+def numbers_of(read: tuple[Numbers, int]) -> tuple[Argument, ...]:
     """A log sequence as the word `numbers` answers it, with at most 50 entries."""
     numbers, end = read
     return numbers.length, numbers.count_at, end, *(numbers[i] for i in range(min(numbers.length, 50)))
 
 
-def bits_of(read: tuple[Bits, int]) -> tuple[Value, ...]:
+def bits_of(read: tuple[Bits, int]) -> tuple[Argument, ...]:
     """A bitmap as the word `bits` answers it, with at most 500 bits."""
     bits, end = read
     return len(bits), bits.count_at, end, *bits.bits[:500]

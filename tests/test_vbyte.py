@@ -7,10 +7,10 @@ from hypothesis import example, given
 from hypothesis import strategies as st
 
 from reference import hdt
-from reference.answers import fault, ok
+from reference.answers import fault
 from reference.hdt import Reason
 from reference.strategies import AROUND, DIGITS, VALUES
-from support.probe import Probe
+from support.probe import Probe, ok
 
 LARGE = b"x" * (1 << 20)
 

@@ -1,31 +1,16 @@
-"""Answers in the spelling of the probe programs, to compare theirs with."""
+"""Answers of the probe programs, by the reference."""
 
 from __future__ import annotations
 
 from collections.abc import Callable
-from typing import TypeVar, Union
+from typing import TypeVar
 
 from reference.hdt import Error, Reason
+from support.probe import Answer, Argument, ok
 
-Value = Union[int, bool, bytes, str, None]
-Answer = tuple[str, ...]
 T = TypeVar("T")
 
 REFUSED: Answer = ("refused",)
-
-
-def spelled(value: Value) -> str:
-    """A value as a probe prints it."""
-    if value is None:
-        return "none"
-    if isinstance(value, bool):
-        return str(value).lower()
-    return value.hex() if isinstance(value, bytes) else str(value)
-
-
-def ok(*values: Value) -> Answer:
-    """An answer with these values."""
-    return "ok", *map(spelled, values)
 
 
 def fault(reason: Reason, offset: int) -> Answer:
@@ -33,7 +18,7 @@ def fault(reason: Reason, offset: int) -> Answer:
     return Error(reason, offset).answer
 
 
-def answered(read: Callable[..., T], args: tuple[object, ...], values: Callable[[T], tuple[Value, ...]]) -> Answer:
+def answered(read: Callable[..., T], args: tuple[object, ...], values: Callable[[T], tuple[Argument, ...]]) -> Answer:
     """The answer that follows from the reference: `values` of what it reads, or its error."""
     try:
         found = read(*args)
