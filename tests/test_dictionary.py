@@ -263,7 +263,7 @@ def test_any_overlaps(probe: Probe, made: tuple[Lists, bytes], before: bytes) ->
 @given(st.data(), dictionaries())
 def test_damaged(probe: Probe, data: st.DataObject, made: tuple[Lists, bytes]) -> None:
     """A dictionary with a byte changed is refused as by the reference; also with its CRCs made right."""
-    damaged = data.draw(changed(made[1]))
+    damaged = data.draw(changed(made[1], start=54))
     for file in damaged, hdt.with_right_crcs(damaged, lambda file: hdt.read_dictionary(file, 0)):
         assert probe.on(file, "dictionary", 0) == wanted(file)
 

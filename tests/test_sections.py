@@ -9,7 +9,7 @@ from hypothesis import strategies as st
 from reference import hdt
 from reference.answers import REFUSED, answered, fault
 from reference.hdt import MAX, Reason, Section, common_prefix, fold, write_packed, write_section
-from reference.strategies import AROUND, BLOCK_SIZES, PADDING, STRING, ascending, changed, loose_sections
+from reference.strategies import AROUND, BLOCK_SIZES, STRING, ascending, changed, loose_sections, packed_sections
 from support.probe import Answer, Argument, Probe, Request, ok
 
 BEFORE = b"\xff\x02\x80"
@@ -288,22 +288,15 @@ def test_damaged(probe: Probe, data: st.DataObject, made: tuple[list[bytes], byt
         assert probe.on(file, "section_read", 0) == wanted(file)
 
 
-PIECES = st.sampled_from([b"\0", b"\0", b"\x80", b"\x81", b"\x82", b"\x83", b"a", b"b", b"\xc3", b"\xa9", b"\x01"])
-
-
-@given(st.data(), st.integers(0, 5), st.integers(0, 4), st.integers(0, 16), PADDING)
-def test_any_packed_bytes(probe: Probe, data: st.DataObject, count: int, block_size: int, width: int,
-                          padding: int) -> None:
-    """Any packed bytes and starts under right CRCs are judged as by the reference."""
-    packed = b"".join(data.draw(st.lists(PIECES, max_size=14)))
-    entries = [0, *data.draw(st.lists(st.integers(0, len(packed)), max_size=count)), len(packed)]
-    file = write_packed(count, packed, entries, block_size, max(width, hdt.width_of(entries)), padding)
-    assert probe.on(file, "section_read", 0) == wanted(file)
+@given(packed_sections(), AROUND)
+def test_any_packed_bytes(probe: Probe, file: bytes, before: bytes) -> None:
+    """Any packed bytes and block starts under right CRCs are read or refused as by the reference."""
+    assert probe.on(before + file, "section_read", len(before)) == wanted(before + file, len(before))
 
 
 @given(st.lists(st.text("ab", max_size=3).map(str.encode), min_size=1, max_size=5), st.integers(1, 3), st.data())
 def test_any_strings_and_prefixes(probe: Probe, strings: list[bytes], block_size: int, data: st.DataObject) -> None:
-    """Strings in any order, with prefixes that may be too long, are judged as by the reference."""
+    """Strings in any order, with prefixes that may be too long, are read or refused as by the reference."""
     packed, entries = bytearray(), []
     for i, string in enumerate(strings):
         if i % block_size == 0:

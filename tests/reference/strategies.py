@@ -52,9 +52,26 @@ def loose_sections(draw: st.DrawFn, max_size: int = 20) -> tuple[list[bytes], by
 
 
 @st.composite
-def changed(draw: st.DrawFn, data: bytes) -> bytes:
-    """The data with a byte changed, taken out or put in, or without its end."""
-    at = draw(st.integers(0, len(data) - 1))
+def packed_sections(draw: st.DrawFn) -> bytes:
+    """A section under right CRCs whose packed bytes and block starts may be anything that looks like them."""
+    pieces = st.sampled_from([b"\0", b"\x80", b"\x81", b"\x82", b"\x83", b"\x01", b"a", b"b", b"\xc3", b"\xa9",
+                              b"a\0", b"b\0", b"\x80b\0", b"\x81a\0", b"\x81b\0"])
+    packed = b"".join(draw(st.lists(pieces, max_size=10)))
+    count, block_size = draw(st.integers(0, 5)), draw(st.integers(0, 4))
+    blocks = -(-count // block_size) if count and block_size else draw(st.integers(0, 2))
+    likely = [i + 1 for i, byte in enumerate(packed) if byte == 0] or [0]
+    inner = [draw(st.sampled_from(likely)) for _ in range(blocks - 1)]
+    starts = [0] * (blocks > 0) + sorted(inner) + [len(packed)]
+    if draw(st.integers(0, 5)) == 0:
+        starts[draw(st.integers(0, len(starts) - 1))] = draw(st.integers(0, len(packed) + 1))
+    width = draw(st.integers(hdt.width_of(starts), 64))
+    return hdt.write_packed(count, packed, starts, block_size, width, draw(PADDING))
+
+
+@st.composite
+def changed(draw: st.DrawFn, data: bytes, start: int = 0) -> bytes:
+    """The data with a byte from an offset on changed, taken out or put in, or without its end."""
+    at = draw(st.integers(start, len(data) - 1))
     byte = bytes([draw(st.integers(0, 255) | st.sampled_from([0, 1, 2, 127, 128, 129, 130]))])
     way = draw(st.sampled_from(["changed", "changed", "taken out", "put in", "cut"]))
     if way == "changed":
