@@ -242,6 +242,14 @@ def test_accepted_forms_of_v1(v1: bytes) -> None:
     assert hdt.error_of(hdt.read_file, unused, True) == (34, "Unused", 319)
 
 
+@pytest.mark.parametrize("text, value", [
+    (b"0", 0), (b"150", 150), (b"0" * 5000 + b"7", 7), (b"%d" % (2**64 - 1), 2**64 - 1), (b"%d" % 2**64, None),
+    (b"9" * 5000, None), (b"", None), (b"+1", None), (b"1 ", None), (b"-0", None)])
+def test_lengths(text: bytes, value: int | None) -> None:
+    """The length of a header body is a decimal number below 2^64, maybe with leading zeros."""
+    assert hdt.decimal(text) == value
+
+
 def test_triples_out_of_range_or_order() -> None:
     """Subjects, predicates and objects beyond their counts, or that do not ascend."""
     front = hdt.write_head() + hdt.write_dictionary([], [b"a"], [b"p", b"q"], [b"x", b"y"])

@@ -69,15 +69,15 @@ class Reason(enum.IntEnum):
 class Error(Exception):
     """The first check that fails: the number and name of its reason, and a byte offset.
 
-    `stored` is the right CRC where a CRC is wrong, else empty.
+    Where a CRC is wrong, `right_crc` is what should be there, else it is empty.
     """
 
-    def __init__(self, reason: Reason, offset: int, stored: bytes = b"") -> None:
+    def __init__(self, reason: Reason, offset: int, right_crc: bytes = b"") -> None:
         super().__init__(int(reason), reason.name, offset)
         self.reason = int(reason)
         self.name = reason.name
         self.offset = offset
-        self.stored = stored
+        self.right_crc = right_crc
 
     @property
     def answer(self) -> tuple[str, ...]:
@@ -112,9 +112,10 @@ def with_right_crcs(data: bytes, read: Callable[[bytes], object]) -> bytes:
             read(data)
             return data
         except Error as error:
-            if not error.stored:
+            crc = error.right_crc
+            if not crc:
                 return data
-            data = data[:error.offset] + error.stored + data[error.offset + len(error.stored):]
+            data = data[:error.offset] + crc + data[error.offset + len(crc):]
 
 
 # CRCs
@@ -183,8 +184,8 @@ def write_crc32(data: bytes) -> bytes:
     return crc32(data).to_bytes(4, "little")
 
 
-def read_crc(data: bytes, start: int, at: int, right: bytes, reason: Reason) -> int:
-    """Check the CRC stored at `at`; return the offset behind it."""
+def read_crc(data: bytes, at: int, right: bytes, reason: Reason) -> int:
+    """Check that the right CRC is at `at`; return the offset behind it."""
     stored = data[at:at + len(right)]
     demand(len(stored) == len(right), Reason.Truncated, at)
     if stored != right:
@@ -194,17 +195,17 @@ def read_crc(data: bytes, start: int, at: int, right: bytes, reason: Reason) -> 
 
 def read_crc8(data: bytes, start: int, at: int) -> int:
     """Check the 8-bit CRC at `at` of the bytes from `start`; return the offset behind it."""
-    return read_crc(data, start, at, write_crc8(data[start:at]), Reason.Check8)
+    return read_crc(data, at, write_crc8(data[start:at]), Reason.Check8)
 
 
 def read_crc16(data: bytes, start: int, at: int) -> int:
     """Check the 16-bit CRC at `at` of the bytes from `start`; return the offset behind it."""
-    return read_crc(data, start, at, write_crc16(data[start:at]), Reason.Check16)
+    return read_crc(data, at, write_crc16(data[start:at]), Reason.Check16)
 
 
 def read_crc32(data: bytes, start: int, at: int) -> int:
     """Check the 32-bit CRC at `at` of the bytes from `start`; return the offset behind it."""
-    return read_crc(data, start, at, write_crc32(data[start:at]), Reason.Check32)
+    return read_crc(data, at, write_crc32(data[start:at]), Reason.Check32)
 
 
 # Numbers (VByte)
@@ -795,12 +796,20 @@ def read_head(data: bytes) -> tuple[Head, int]:
     """The head of a file, and the offset behind it."""
     of_file, at = read_control(data, 0, GLOBAL)
     header, at = read_control(data, at, HEADER)
-    length = property_of(header.properties, b"length") or b""
-    is_number = length.isdigit() and int(length) <= MAX
-    demand(is_number, Reason.HeaderLength, header.properties_at)
-    end = at + int(length)
-    demand(end <= len(data), Reason.Truncated, at)
-    return Head(of_file, header, data[at:end]), end
+    length = decimal(property_of(header.properties, b"length") or b"")
+    if length is None:
+        raise Error(Reason.HeaderLength, header.properties_at)
+    demand(at + length <= len(data), Reason.Truncated, at)
+    return Head(of_file, header, data[at:at + length]), at + length
+
+
+def decimal(text: bytes) -> int | None:
+    """The number below 2^64 that is spelled so, maybe with leading zeros."""
+    digits = text.lstrip(b"0")
+    if not text.isdigit() or len(digits) > 20:
+        return None
+    value = int(digits or b"0")
+    return value if value <= MAX else None
 
 
 def read_file(data: bytes, tight: bool = False) -> File:
