@@ -213,7 +213,40 @@ def test_counted_writes(probe: Probe, step: int, calls: str, texts: list[bytes],
     assert (made, flushes, smallest, largest) == (len(texts), 0, min(sizes), max(sizes))
 
 
-@given(st.binary(max_size=12), st.integers(1, 5), st.integers(0, 12), st.sampled_from(["", ":interrupted", ":zero"]))
+WAYS = st.sampled_from(["", ":interrupted", ":zero"])
+
+
+@given(st.binary(max_size=10), st.integers(1, 4), st.integers(0, 10), WAYS, st.lists(st.integers(0, 5), max_size=8))
+def test_any_counted_reads(probe: Probe, data: bytes, step: int, most: int, way: str, sizes: list[int]) -> None:
+    """A reader that fails after so many bytes: for ever, or once, or by a call that gives nothing."""
+    at, fails, answers = 0, True, list[Argument]()
+    for size in sizes:
+        if fails and at == most:
+            answers.append(b"" if way == ":zero" else "failed")
+            fails = way == ""
+            continue
+        given_bytes = data[at:min(at + size, at + step, most if fails else len(data))]
+        at += len(given_bytes)
+        answers.append(given_bytes)
+    assert probe.on(data, "counted_read", step, f"{most}{way}", *sizes) == ok(*answers)
+    assert probe.ask("reads")[1:3] == (str(len(sizes)), str(at))
+
+
+@given(st.integers(1, 4), st.integers(0, 6), WAYS, st.lists(st.binary(max_size=5), max_size=8))
+def test_any_counted_writes(probe: Probe, step: int, calls: int, way: str, texts: list[bytes]) -> None:
+    """A writer that fails after so many calls: for ever, or once, or by taking nothing of something."""
+    taken, answers = b"", list[Argument]()
+    for i, text in enumerate(texts):
+        if i == calls or (i > calls and way == ""):
+            answers.append(0 if way == ":zero" and not text else "failed")
+        else:
+            answers.append(min(step, len(text)))
+            taken += text[:step]
+    assert probe.ask("counted_write", step, f"{calls}{way}", *texts) == ok(*answers, taken)
+    assert probe.ask("writes")[1:3] == (str(len(texts)), str(len(taken)))
+
+
+@given(st.binary(max_size=12), st.integers(1, 5), st.integers(0, 12), WAYS)
 def test_writes_all(probe: Probe, text: bytes, step: int, calls: int, way: str) -> None:
     """All is written in as many calls as it takes, up to the first failure, which is not tried again."""
     needed = -(-len(text) // step)
