@@ -1,0 +1,225 @@
+"""Hypothesis strategies for N-Triples: terms, their spellings, lines, documents, and texts with errors.
+
+Also the answers that a probe gives for what the reference reads.
+"""
+
+from __future__ import annotations
+
+from collections.abc import Sequence
+from typing import Optional, Union
+
+from hypothesis import strategies as st
+
+from reference import ntriples
+from reference.ntriples import Blank, Iri, LineError, Literal, Reason, Term, TermError, Triple
+
+# ---- requests and answers of a probe
+
+Value = Union[bytes, int, str]
+Request = tuple[Value, ...]
+Answer = tuple[str, ...]
+Case = tuple[Request, Answer]
+
+
+def token(value: Value) -> str:
+    """A value as a probe prints it."""
+    return value.hex() if isinstance(value, bytes) else str(value)
+
+
+def ok(*values: Value) -> Answer:
+    """The answer with these values."""
+    return ("ok", *map(token, values))
+
+
+def fault(reason: Reason, *place: int) -> Answer:
+    """The answer for an error of a term (with its column) or of a document (with its line and column)."""
+    return ("fault", str(int(reason)), reason.name, *map(str, place))
+
+
+def error_answer(error: Union[TermError, LineError]) -> Answer:
+    """The answer for an error of the reference."""
+    if isinstance(error, TermError):
+        return fault(error.reason, error.column)
+    return fault(error.reason, error.line, error.column)
+
+
+def term_values(term: Term) -> tuple[Value, ...]:
+    """A term as the probe prints it: its kind and its texts."""
+    if isinstance(term, Iri):
+        return "iri", term.text.encode()
+    if isinstance(term, Blank):
+        return "blank", term.label.encode()
+    if term.tag is not None:
+        return "literal", term.text.encode(), "tag", term.tag.encode()
+    if term.datatype is not None:
+        return "literal", term.text.encode(), "datatype", term.datatype.encode()
+    return "literal", term.text.encode(), "plain"
+
+
+# ---- characters
+
+# The first and last characters of the ranges that a label may have, and their neighbours.
+LABEL_EDGES = "".join(map(chr, [
+    *(0x2C, 0x2D, 0x2F, 0x30, 0x39, 0x3A, 0x3B, 0x40, 0x41, 0x5A, 0x5B, 0x5F, 0x60, 0x61, 0x7A, 0x7B, 0xB6, 0xB7, 0xB8),
+    *(0xBF, 0xC0, 0xD6, 0xD7, 0xD8, 0xF6, 0xF7, 0xF8, 0x2FF, 0x300, 0x36F, 0x370, 0x37D, 0x37E, 0x37F, 0x1FFF, 0x2000),
+    *(0x200B, 0x200C, 0x200D, 0x200E, 0x203E, 0x203F, 0x2040, 0x2041, 0x206F, 0x2070, 0x218F, 0x2190, 0x2BFF, 0x2C00),
+    *(0x2FEF, 0x2FF0, 0x3000, 0x3001, 0xD7FF, 0xE000, 0xF8FF, 0xF900, 0xFDCF, 0xFDD0, 0xFDEF, 0xFDF0, 0xFFFD, 0xFFFE),
+    *(0xFFFF, 0x10000, 0xEFFFF, 0xF0000),
+]))
+# Characters that the grammar treats in a way of their own, and others of every length in UTF-8.
+SPECIAL = "\t\n\r\f\b\v \x1f!\"'#.<>@\\^_`{|}~\x7f\x80a0-:?\u00e9\u20ac\uffff\U0001f600\U0010ffff"
+ANY = st.sampled_from(SPECIAL) | st.characters(min_codepoint=1, blacklist_categories=["Cs"])
+
+LETTERS = "ABYZabyz"
+SCHEMES = st.from_regex(r"[A-Za-z][A-Za-z0-9+.-]{0,5}", fullmatch=True)
+TAGS = st.from_regex(r"[A-Za-z]{1,3}(-[A-Za-z0-9]{1,3}){0,2}", fullmatch=True)
+
+
+def is_iri_character(char: str) -> bool:
+    return char not in ntriples.IRI_EXCLUDES
+
+
+# ---- terms
+
+IRIS = st.builds("{}:{}".format, SCHEMES, st.text(ANY.filter(is_iri_character), max_size=8))
+# Some IRIs come often, so that a string is used in several roles.
+FEW_IRIS = st.sampled_from([f"u:{c}" for c in "abcd"]) | st.sampled_from(["http://a/", "http://a/b", "u:\u00e9"])
+LABELS = st.text(st.sampled_from("ab_:0.-" + LABEL_EDGES), min_size=1, max_size=6).filter(ntriples.LABEL.fullmatch)
+FEW_LABELS = st.sampled_from(["a", "b", "a.b", "0"])
+TEXTS = st.text(ANY, max_size=8)
+DATATYPES = (IRIS | FEW_IRIS).filter(lambda iri: iri != ntriples.XSD_STRING)
+
+iri_terms = st.builds(Iri, FEW_IRIS | IRIS)
+blank_terms = st.builds(Blank, FEW_LABELS | LABELS)
+literals = (st.builds(Literal, TEXTS) | st.builds(lambda text, tag: Literal(text, tag=tag), TEXTS, TAGS)
+            | st.builds(lambda text, iri: Literal(text, datatype=iri), TEXTS, DATATYPES))
+terms: st.SearchStrategy[Term] = st.one_of(iri_terms, blank_terms, literals)
+subjects: st.SearchStrategy[Term] = st.one_of(iri_terms, blank_terms)
+triples = st.builds(Triple, subjects, iri_terms, terms)
+
+# ---- spellings
+
+BLANKS = st.text(st.sampled_from(" \t"), max_size=2)
+SHORT = {char: f"\\{letter}" for letter, char in ntriples.ECHAR.items()}
+
+
+@st.composite
+def spelled_text(draw: st.DrawFn, text: str, excluded: str, short: bool) -> str:
+    """A text with some characters as escapes: those that are excluded, and any others."""
+    escaped = draw(st.sets(st.integers(0, len(text)), max_size=3))
+    parts = []
+    for at, char in enumerate(text):
+        if char not in excluded and at not in escaped:
+            parts.append(char)
+            continue
+        ways = [f"\\U{ord(char):08X}", f"\\U{ord(char):08x}"]
+        ways += [f"\\u{ord(char):04x}", f"\\u{ord(char):04X}"] * (ord(char) <= 0xFFFF)
+        ways += [SHORT[char]] * (short and char in SHORT)
+        parts.append(draw(st.sampled_from(ways)))
+    return "".join(parts)
+
+
+@st.composite
+def spelled(draw: st.DrawFn, term: Term) -> str:
+    """One of the N-Triples texts that spell a term."""
+    if isinstance(term, Blank):
+        return f"_:{term.label}"
+    if isinstance(term, Iri):
+        return f"<{draw(spelled_text(term.text, ntriples.IRI_EXCLUDES, False))}>"
+    string = f'"{draw(spelled_text(term.text, ntriples.STRING_EXCLUDES, True))}"'
+    if term.tag is not None:
+        return f"{string}{draw(BLANKS)}@{term.tag}"
+    if term.datatype is None and draw(st.booleans()):
+        return string
+    iri = draw(spelled(Iri(term.datatype or ntriples.XSD_STRING)))
+    return f"{string}{draw(BLANKS)}^^{draw(BLANKS)}{iri}"
+
+
+COMMENTS = st.text(ANY.filter(lambda char: char not in "\r\n"), max_size=6).map("#{}".format)
+
+
+@st.composite
+def line_of(draw: st.DrawFn, triple: Triple) -> str:
+    """One of the lines that spell a triple, without its end."""
+    tokens = [draw(spelled(term)) for term in triple]
+    line = "".join(draw(BLANKS) + token for token in [*tokens, ".", ""])
+    return line + draw(st.just("") | COMMENTS)
+
+
+bare_lines = st.builds("{}{}".format, BLANKS, st.just("") | COMMENTS)
+LINE_ENDS = st.sampled_from(["\n", "\r", "\r\n", "\n\n"])
+
+
+@st.composite
+def document_of(draw: st.DrawFn, found: Sequence[Triple]) -> bytes:
+    """A document with these triples in this order: bare lines between them, any spellings and any line ends."""
+    parts = []
+    for triple in found:
+        if draw(st.integers(0, 3)) == 0:
+            parts += [draw(bare_lines), draw(LINE_ENDS)]
+        parts += [draw(line_of(triple)), draw(LINE_ENDS)]
+    if draw(st.booleans()):
+        parts = parts[:-1]
+    return "".join(parts).encode()
+
+
+@st.composite
+def documents(draw: st.DrawFn, most: int = 6) -> tuple[bytes, list[Triple]]:
+    """A document and its triples."""
+    found = draw(st.lists(triples, max_size=most))
+    return draw(document_of(found)), found
+
+
+# ---- texts with errors
+
+# Bytes that begin, continue or end a token, that may stand nowhere, and that are no UTF-8; and whole tokens.
+FRAGMENTS = [
+    *(b"<", b">", b"u:", b"a", b"0", b"1:a", b"_:", b"_", b".", b".", b'"', b'"', b"@", b"@en", b"-", b"^", b"^^"),
+    *(b"\\", b"\\u", b"\\u00", b"41", b"\\u0041", b"\\u0020", b"\\u0000", b"\\uD800", b"\\U0011", b"\\t"),
+    *(b" ", b" ", b"\t", b"\n", b"\r", b"\r\n", b"#", b"?", b"\0", b"\x0b", b"{", b"\xef\xbb\xbf"),
+    *(b"\xff", b"\xc3", b"\xa9", b"\xed\xa0\x80", b"\xf0\x9f", b"\xc3\xa9", b"\xcc\x80", b"\xf0\x9f\x98\x80"),
+    *(b"<u:a>", b"<u:b>", b"_:b", b'"x"', b'"x"@en', b'"x"^^<u:t>', b"<rel>"),
+    *(b"<u:a> <u:p> ", b"<u:a> <u:p> <u:b> .", b"<u:a> <u:p> <u:b> .\n"),
+]
+soups = st.lists(st.sampled_from(FRAGMENTS), max_size=12).map(b"".join)
+
+
+@st.composite
+def damaged(draw: st.DrawFn, text: bytes) -> bytes:
+    """A text with one to three changes: bytes inserted, left out or replaced, or the text cut off."""
+    data = bytearray(text)
+    for _ in range(draw(st.integers(1, 3))):
+        at = draw(st.integers(0, len(data)))
+        size = draw(st.integers(0, 3))
+        data[at:at + size] = draw(st.sampled_from(FRAGMENTS) | st.just(b""))
+    return bytes(data[:draw(st.integers(0, len(data)))] if draw(st.integers(0, 5)) == 0 else data)
+
+
+def term_texts() -> st.SearchStrategy[bytes]:
+    """Texts that spell a term, texts with a few errors, and texts of fragments."""
+    valid = terms.flatmap(spelled).map(str.encode)
+    return st.one_of(valid, valid.flatmap(damaged), soups)
+
+
+def document_texts() -> st.SearchStrategy[bytes]:
+    """Documents, documents with a few errors, and texts of fragments."""
+    valid = documents().map(lambda pair: pair[0])
+    return st.one_of(valid, valid.flatmap(damaged), soups)
+
+
+def strings() -> st.SearchStrategy[bytes]:
+    """Dictionary strings of terms, foreign ones, and byte strings that belong to no term."""
+    foreign = st.builds("{}:{}".format, SCHEMES, TEXTS).map(str.encode)
+    valid = terms.map(ntriples.term_string)
+    return st.one_of(valid, foreign, valid.flatmap(damaged), soups)
+
+
+# ---- readers in pieces
+
+STEPS = st.sampled_from([1, 2, 3, 7, 64, 1_000_000])
+NEVER = "-"
+
+
+def failing(fails: Optional[int]) -> Value:
+    """The argument of a reader that fails after so many bytes, or never."""
+    return NEVER if fails is None else fails
