@@ -5,13 +5,15 @@ Also the answers that a probe gives for what the reference reads.
 
 from __future__ import annotations
 
+import zlib
 from collections.abc import Sequence
-from typing import Optional, Union
+from typing import Union
 
 from hypothesis import strategies as st
 
 from reference import ntriples
 from reference.ntriples import Blank, Iri, LineError, Literal, Reason, Term, TermError, Triple
+from support.probe import Probe
 
 # ---- requests and answers of a probe
 
@@ -217,9 +219,23 @@ def strings() -> st.SearchStrategy[bytes]:
 # ---- readers in pieces
 
 STEPS = st.sampled_from([1, 2, 3, 7, 64, 1_000_000])
-NEVER = "-"
 
 
-def failing(fails: Optional[int]) -> Value:
-    """The argument of a reader that fails after so many bytes, or never."""
-    return NEVER if fails is None else fails
+# ---- comparing
+
+
+def answered(probe: Probe, cases: Sequence[Case]) -> list[Case]:
+    """These requests with the answers of a probe: equal to the cases if it answers as they say."""
+    requests = [request for request, _ in cases]
+    return list(zip(requests, map(tuple, probe.send(*requests))))
+
+
+def short(value: Value) -> str:
+    """A value as the probe prints it, but a long one by its beginning, its length and its CRC."""
+    printed = token(value)
+    return printed if len(printed) <= 100 else f"{printed[:60]}..[{len(printed)} {zlib.crc32(printed.encode()):08x}]"
+
+
+def shortened(cases: Sequence[Case]) -> list[tuple[tuple[str, ...], tuple[str, ...]]]:
+    """Cases with long values shortened, so that a difference can be read."""
+    return [(tuple(map(short, request)), tuple(map(short, answer))) for request, answer in cases]
