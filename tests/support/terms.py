@@ -227,7 +227,7 @@ STEPS = st.sampled_from([1, 2, 3, 7, 64, 1_000_000])
 def answered(probe: Probe, cases: Sequence[Case]) -> list[Case]:
     """These requests with the answers of a probe: equal to the cases if it answers as they say."""
     requests = [request for request, _ in cases]
-    return list(zip(requests, map(tuple, probe.send(*requests))))
+    return [(request, tuple(answer)) for request, answer in zip(requests, probe.send(*requests))]
 
 
 def short(value: Value) -> str:
