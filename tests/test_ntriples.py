@@ -2,14 +2,16 @@
 
 from __future__ import annotations
 
-from typing import Optional
+from collections.abc import Iterator
+from typing import Optional, Union
 
 import pytest
 from hypothesis import example, given
 from hypothesis import strategies as st
 
 from reference.ntriples import (
-    Asked, LineError, TermError, lines, parse_line, parse_raw_request, parse_request, read_document, triple_strings,
+    Asked, LineError, Reason, TermError, lines, parse_line, parse_raw_request, parse_request, read_document,
+    triple_strings,
 )
 from support.probe import Probe
 from support.terms import (
@@ -20,6 +22,8 @@ from support.terms import (
 ALL = 10_000_000
 GREATEST = 2**63 - 1
 WORDS = "line_triples", "line_strings"
+# The size of a reader's pieces, or `F/N` for F bytes first and then pieces of N bytes.
+Step = Union[int, str]
 
 
 # ---- what the reference says, as a probe answers it
@@ -45,38 +49,47 @@ def document_answer(data: bytes, limit: Optional[int] = None, fails: Optional[in
     return ok(*(string for triple in found for string in triple_strings(triple)))
 
 
+def held_lines(data: bytes, limit: Optional[int], step: int, fails: Optional[int]) -> Iterator[tuple[int, bytes, str]]:
+    """The lines of a document, each with its number and whether the next one is held with its end behind it.
+
+    A reader in pieces is asked until the line in work ends, and no more.
+    """
+    given = min(len(data), GREATEST if limit is None else limit, GREATEST if fails is None else fails)
+    start = held = 0
+    for number, text in lines(data, limit, fails):
+        start += len(text) + 1
+        while held < min(start, given):
+            held = min(held + step, given)
+        rest = data[start:held]
+        yield number, text, "true" if b"\n" in rest or b"\r" in rest else "false"
+
+
 def texts_answer(data: bytes, limit: Optional[int], step: int, fails: Optional[int]) -> Answer:
     """Each line by its number, its text, and whether the next line is held with its end; then the end or the error."""
-    given = min(len(data), GREATEST if limit is None else limit, GREATEST if fails is None else fails)
     values: list[Value] = []
-    start = held = 0
     try:
-        for number, text in lines(data, limit, fails):
-            start += len(text) + 1
-            while held < min(start, given):
-                held = min(held + step, given)
-            rest = data[start:held]
-            values += [number, text, "true" if b"\n" in rest or b"\r" in rest else "false"]
+        for line in held_lines(data, limit, step, fails):
+            values += line
     except LineError as error:
         return ok(*values, *ending(error))
     return ok(*values, "end")
 
 
-def calls_answer(data: bytes, limit: Optional[int], fails: Optional[int], calls: list[int]) -> Answer:
+def calls_answer(data: bytes, limit: Optional[int], step: int, fails: Optional[int], calls: list[int]) -> Answer:
     """What each call answers: 0 for the next triple, 1 for its strings, 2 for the next line.
 
     After the end each call answers the end, and after an error the same error.
     """
-    texts = lines(data, limit, fails)
+    texts = held_lines(data, limit, step, fails)
     values: list[Value] = []
     last: Optional[tuple[Value, ...]] = None
     for call in calls:
         buffers: tuple[Value, ...] = ((), (b"", b"", b""), (b"",))[call]
         while last is None:
             try:
-                number, text = next(texts)
+                number, text, held = next(texts)
                 if call == 2:
-                    values += ["text", number, text]
+                    values += ["text", number, text, held]
                     break
                 triple = parse_line(text)
             except StopIteration:
@@ -94,7 +107,7 @@ def calls_answer(data: bytes, limit: Optional[int], fails: Optional[int], calls:
     return ok(*values)
 
 
-def reader(limit: Optional[int], step: int, fails: Optional[int]) -> tuple[Value, ...]:
+def reader(limit: Optional[int], step: Step, fails: Optional[int]) -> tuple[Value, ...]:
     """The arguments of a reader."""
     return GREATEST if limit is None else limit, step, "-" if fails is None else fails
 
@@ -120,10 +133,10 @@ def told(answer: Answer) -> str:
     return "\n".join([" ".join(strings[i:i + 3]) for i in range(0, len(strings), 3)] + end)
 
 
-Told = tuple[str, int, str]
+Told = tuple[str, Step, str]
 
 
-def read_in(probe: Probe, data: bytes, limit: int, steps: list[int], fails: Optional[int] = None) -> list[Told]:
+def read_in(probe: Probe, data: bytes, limit: int, steps: list[Step], fails: Optional[int] = None) -> list[Told]:
     """What each call tells of a document in pieces of each of these sizes: the call, the size and the text."""
     calls = [(word, step) for step in steps for word in WORDS]
     requests: list[Request] = [(word, *reader(limit, step, fails)) for word, step in calls]
@@ -131,7 +144,7 @@ def read_in(probe: Probe, data: bytes, limit: int, steps: list[int], fails: Opti
     return [(word, step, told(answer)) for (word, step), answer in zip(calls, answers)]
 
 
-def as_told(text: str, steps: list[int]) -> list[Told]:
+def as_told(text: str, steps: list[Step]) -> list[Told]:
     """The same if each call tells this text."""
     return [(word, step, text) for step in steps for word in WORDS]
 
@@ -219,7 +232,7 @@ def test_calls_after_the_end(probe: Probe, data: bytes, limit: int, text: str) -
     count = text.count("\n")
     cases: list[Case] = [(("file", data), ok())]
     for calls in [[0] * (count + 3), [1] * (count + 3), [0] * count + [1, 2, 0], [1] * count + [2, 2, 2, 2, 2, 1, 0]]:
-        cases.append((("line_calls", *reader(limit, 7, None), *calls), calls_answer(data, limit, None, calls)))
+        cases.append((("line_calls", *reader(limit, 7, None), *calls), calls_answer(data, limit, 7, None, calls)))
     assert answered(probe, cases) == cases
     for request, _ in cases[1:]:
         _, reads = probe.send(request, ("reads",))
@@ -240,8 +253,8 @@ CUT = [
 
 @pytest.mark.parametrize("data, limit, text", CUT)
 def test_pieces(probe: Probe, data: bytes, limit: int, text: str) -> None:
-    """Pieces of every size make no difference."""
-    steps = [*range(1, len(data)), ALL]
+    """Pieces of every size make no difference, nor does a cut at any one byte."""
+    steps: list[Step] = [*range(1, len(data)), *(f"{first}/{ALL}" for first in range(1, len(data))), ALL]
     assert read_in(probe, data, limit, steps) == as_told(text, steps)
     assert told(triples_answer(data, limit)) == text
 
@@ -261,7 +274,7 @@ FAILING = [
 @pytest.mark.parametrize("fails, text", FAILING)
 def test_failing_readers(probe: Probe, fails: int, text: str) -> None:
     """The lines before the one that can't be read are answered first."""
-    steps = [1, 2, 7, ALL]
+    steps: list[Step] = [1, 2, 7, ALL]
     assert read_in(probe, THREE, 100, steps, fails) == as_told(text, steps)
 
 
@@ -295,6 +308,22 @@ def test_whole_documents(probe: Probe, step: int) -> None:
         cases.append((("line_triples", limit, step, "-"), triples_answer(THREE, limit)))
     assert answered(probe, cases) == cases
     assert told(triples_answer(THREE, 58)) == THREE_TOLD
+
+
+REASONS = [
+    "Syntax", "NotUtf8", "BadEscape", "RelativeIri", "IriCharacter", "ZeroCharacter", "Read", "OutOfMemory", "TooLong",
+]
+
+
+def test_reasons(probe: Probe) -> None:
+    """The reasons by number and name, and an error as text."""
+    cases: list[Case] = []
+    for number, name in enumerate(REASONS, 1):
+        text = f"{name} at line 7 column 18446744073709551615"
+        cases.append((("line_reason", number), ok(number, name)))
+        cases.append((("line_fault_text", 7, 2**64 - 1, number), ok(text.encode())))
+    assert answered(probe, cases) == cases
+    assert [reason.name for reason in Reason] == REASONS
 
 
 # ---- many lines and long lines
@@ -426,7 +455,7 @@ def test_texts(probe: Probe, data: bytes, fails: bool, wanted: list[tuple[int, b
     cases: list[Case] = [(request, texts_answer(data, 11, step, after)) for request, step in zip(requests, steps)]
     assert answered(probe, cases) == cases
     calls = [2] * (len(wanted) + 2)
-    assert probe.ask("line_calls", *reader(11, 2, after), *calls) == calls_answer(data, 11, after, calls)
+    assert probe.ask("line_calls", *reader(11, 2, after), *calls) == calls_answer(data, 11, 2, after, calls)
 
 
 # An input, the size of its pieces, and whether the next line is held with its end behind each line.
@@ -595,7 +624,7 @@ def test_any_calls(probe: Probe, data: bytes, step: int, limit: Optional[int], f
     """Triples, strings and texts are asked for in turn, also after the end and after an error, which reads nothing."""
     cases: list[Case] = [
         (("file", data), ok()),
-        (("line_calls", *reader(limit, step, fails), *calls), calls_answer(data, limit, fails, calls)),
+        (("line_calls", *reader(limit, step, fails), *calls), calls_answer(data, limit, step, fails, calls)),
     ]
     *answers, reads = probe.send(*(request for request, _ in cases), ("reads",))
     assert [(request, answer) for (request, _), answer in zip(cases, answers)] == cases

@@ -11,7 +11,7 @@ from reference.ntriples import (
 )
 from support.probe import Probe
 from support.terms import (
-    Answer, Case, answered, error_answer, fault, is_iri_character, ok, shortened, spelled, strings, term_texts,
+    Answer, Case, Request, answered, error_answer, fault, is_iri_character, ok, shortened, spelled, strings, term_texts,
     term_values, terms,
 )
 
@@ -220,6 +220,21 @@ def test_reference_errors(text: bytes, column: int, reason: Reason) -> None:
     with pytest.raises(TermError) as raised:
         parse_term(text)
     assert (raised.value.reason, raised.value.column) == (reason, column)
+
+
+# An error as text.
+PRINTED = [
+    (("term_fault_text", 5, 5), b"IriCharacter at column 5"),
+    (("term_fault_text", 2**64 - 1, 1), b"Syntax at column 18446744073709551615"),
+    (("string_fault_text", "not_a_term"), b"not a term"),
+    (("string_fault_text", "out_of_memory"), b"out of memory"),
+]
+
+
+@pytest.mark.parametrize("request_, text", PRINTED)
+def test_printed_errors(probe: Probe, request_: Request, text: bytes) -> None:
+    """Errors as text."""
+    assert probe.ask(*request_) == ok(text)
 
 
 # ---- characters
