@@ -225,7 +225,7 @@ COLLIDING = b"u:one-hash166742jByz7XnI/"
 
 
 def test_strings_of_one_hash(tmp_path: Path) -> None:
-    """Strings of one hash, each twice, are built in linear time: sixteen times as many take at most 32 times as long."""
+    """Strings of one hash, each twice, are built in linear time: 16 times as many take at most 32 times as long."""
     commands: list[list[Word]] = []
     for count in 2_000, 32_000:
         folder = tmp_path / str(count)
