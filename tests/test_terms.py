@@ -11,7 +11,7 @@ from reference.ntriples import (
 )
 from support.probe import Probe
 from support.terms import (
-    Answer, Case, Request, answered, error_answer, fault, is_iri_character, ok, shortened, spelled, strings, term_texts,
+    Answer, Case, Request, answered, error_answer, fault, ok, shortened, spelled, strings, term_texts,
     term_values, terms,
 )
 
@@ -301,7 +301,7 @@ def test_ascii_in_iris(probe: Probe) -> None:
         escaped = b"<u:\\u%04X>" % byte
         reason = ZeroCharacter if byte == 0 else IriCharacter
         cases.append((("term_string", escaped), ok(iri) if allowed else fault(reason, 4)))
-        assert is_iri(iri) == is_iri_character(chr(byte)) == allowed
+        assert is_iri(iri) == allowed
     assert answered(probe, cases) == cases
 
 

@@ -71,24 +71,22 @@ LABEL_EDGES = "".join(map(chr, [
 # Characters that the grammar treats in a way of their own, and others of every length in UTF-8.
 SPECIAL = "\t\n\r\f\b\v \x1f!\"'#.<>@\\^_`{|}~\x7f\x80a0-:?\u00e9\u20ac\uffff\U0001f600\U0010ffff"
 ANY = st.sampled_from(SPECIAL) | st.characters(min_codepoint=1, blacklist_categories=["Cs"])
+IRI_CHARACTERS = st.sampled_from([char for char in SPECIAL if char not in ntriples.IRI_EXCLUDES]) | st.characters(
+    min_codepoint=1, blacklist_categories=["Cs"], blacklist_characters=ntriples.IRI_EXCLUDES)
+COMMENT_CHARACTERS = st.sampled_from([char for char in SPECIAL if char not in "\r\n"])
 
-LETTERS = "ABYZabyz"
-SCHEMES = st.from_regex(r"[A-Za-z][A-Za-z0-9+.-]{0,5}", fullmatch=True)
-TAGS = st.from_regex(r"[A-Za-z]{1,3}(-[A-Za-z0-9]{1,3}){0,2}", fullmatch=True)
-
-
-def is_iri_character(char: str) -> bool:
-    return char not in ntriples.IRI_EXCLUDES
+SCHEMES = st.sampled_from(["u", "http", "Z", "z", "a1", "A+-.9", "urn", "x.y"])
+TAGS = st.sampled_from(["en", "en-GB", "A", "z", "Z", "de-0", "zz-A9-z", "a-9"])
 
 
 # ---- terms
 
-IRIS = st.builds("{}:{}".format, SCHEMES, st.text(ANY.filter(is_iri_character), max_size=8))
+IRIS = st.builds("{}:{}".format, SCHEMES, st.text(IRI_CHARACTERS, max_size=6))
 # Some IRIs come often, so that a string is used in several roles.
 FEW_IRIS = st.sampled_from([f"u:{c}" for c in "abcd"]) | st.sampled_from(["http://a/", "http://a/b", "u:\u00e9"])
 LABELS = st.text(st.sampled_from("ab_:0.-" + LABEL_EDGES), min_size=1, max_size=6).filter(ntriples.LABEL.fullmatch)
 FEW_LABELS = st.sampled_from(["a", "b", "a.b", "0"])
-TEXTS = st.text(ANY, max_size=8)
+TEXTS = st.text(ANY, max_size=6)
 DATATYPES = (IRIS | FEW_IRIS).filter(lambda iri: iri != ntriples.XSD_STRING)
 
 iri_terms = st.builds(Iri, FEW_IRIS | IRIS)
@@ -101,7 +99,7 @@ triples = st.builds(Triple, subjects, iri_terms, terms)
 
 # ---- spellings
 
-BLANKS = st.text(st.sampled_from(" \t"), max_size=2)
+BLANKS = st.sampled_from(["", " ", "\t", " \t", "  "])
 SHORT = {char: f"\\{letter}" for letter, char in ntriples.ECHAR.items()}
 
 
@@ -115,8 +113,10 @@ def spelled_text(draw: st.DrawFn, text: str, excluded: str, short: bool) -> str:
             parts.append(char)
             continue
         ways = [f"\\U{ord(char):08X}", f"\\U{ord(char):08x}"]
-        ways += [f"\\u{ord(char):04x}", f"\\u{ord(char):04X}"] * (ord(char) <= 0xFFFF)
-        ways += [SHORT[char]] * (short and char in SHORT)
+        if ord(char) <= 0xFFFF:
+            ways += [f"\\u{ord(char):04x}", f"\\u{ord(char):04X}"]
+        if short and char in SHORT:
+            ways.append(SHORT[char])
         parts.append(draw(st.sampled_from(ways)))
     return "".join(parts)
 
@@ -137,7 +137,7 @@ def spelled(draw: st.DrawFn, term: Term) -> str:
     return f"{string}{draw(BLANKS)}^^{draw(BLANKS)}{iri}"
 
 
-COMMENTS = st.text(ANY.filter(lambda char: char not in "\r\n"), max_size=6).map("#{}".format)
+COMMENTS = st.text(COMMENT_CHARACTERS, max_size=4).map("#{}".format)
 
 
 @st.composite
@@ -166,7 +166,7 @@ def document_of(draw: st.DrawFn, found: Sequence[Triple]) -> bytes:
 
 
 @st.composite
-def documents(draw: st.DrawFn, most: int = 6) -> tuple[bytes, list[Triple]]:
+def documents(draw: st.DrawFn, most: int = 4) -> tuple[bytes, list[Triple]]:
     """A document and its triples."""
     found = draw(st.lists(triples, max_size=most))
     return draw(document_of(found)), found
@@ -174,39 +174,55 @@ def documents(draw: st.DrawFn, most: int = 6) -> tuple[bytes, list[Triple]]:
 
 # ---- texts with errors
 
-# Bytes that begin, continue or end a token, that may stand nowhere, and that are no UTF-8; and whole tokens.
-FRAGMENTS = [
+# Bytes that begin, continue or end a token, or that may stand nowhere; and whole tokens.
+PARTS = [
     *(b"<", b">", b"u:", b"a", b"0", b"1:a", b"_:", b"_", b".", b".", b'"', b'"', b"@", b"@en", b"-", b"^", b"^^"),
-    *(b"\\", b"\\u", b"\\u00", b"41", b"\\u0041", b"\\u0020", b"\\u0000", b"\\uD800", b"\\U0011", b"\\t"),
-    *(b" ", b" ", b"\t", b"\n", b"\r", b"\r\n", b"#", b"?", b"\0", b"\x0b", b"{", b"\xef\xbb\xbf"),
-    *(b"\xff", b"\xc3", b"\xa9", b"\xed\xa0\x80", b"\xf0\x9f", b"\xc3\xa9", b"\xcc\x80", b"\xf0\x9f\x98\x80"),
-    *(b"<u:a>", b"<u:b>", b"_:b", b'"x"', b'"x"@en', b'"x"^^<u:t>', b"<rel>"),
-    *(b"<u:a> <u:p> ", b"<u:a> <u:p> <u:b> .", b"<u:a> <u:p> <u:b> .\n"),
+    *(b"\\", b"\\u", b"\\u00", b"41", b"\\u0041", b"\\U0011", b"\\t", b" ", b" ", b"\t", b"\n", b"\r", b"\r\n", b"#"),
+    *(b"?", b"\0", b"\x0b", b"{", b"\xef\xbb\xbf", b"\xc3\xa9", b"\xcc\x80", b"\xf0\x9f\x98\x80"),
+    *(b"<u:a>", b"<u:b>", b"_:b", b'"x"', b'"x"@en', b'"x"^^<u:t>', b"<rel>", b"<u:a> <u:p> ", b"<u:a> <u:p> <u:b> ."),
 ]
-soups = st.lists(st.sampled_from(FRAGMENTS), max_size=12).map(b"".join)
+ESCAPES = [
+    *(b"\\u0020", b"\\U0000003C", b"\\u007d", b"\\u0000", b"\\U00000000", b"\\uD800", b"\\uDFFF", b"\\U00110000"),
+    *(b"\\n", b"\\\\", b"\\'", b"\\x", b"\\u00e9", b"\\U0010FFFF", b"\\u12"),
+]
+NO_UTF8 = [b"\xff", b"\xc3", b"\xa9", b"\xed\xa0\x80", b"\xf0\x9f"]
+fragments = st.sampled_from(PARTS * 4 + ESCAPES * 8 + NO_UTF8 * 2)
+soups = st.lists(fragments, max_size=8).map(b"".join)
+escape_soups = st.lists(st.sampled_from([b"u:", b"a", *ESCAPES]), max_size=5).map(b"".join)
+term_soups = st.builds(b"<%s>".__mod__, escape_soups) | st.builds(b'"%s"'.__mod__, escape_soups)
 
 
 @st.composite
 def damaged(draw: st.DrawFn, text: bytes) -> bytes:
-    """A text with one to three changes: bytes inserted, left out or replaced, or the text cut off."""
+    """A text with one or two changes: bytes inserted, left out or replaced; or the text cut off."""
     data = bytearray(text)
-    for _ in range(draw(st.integers(1, 3))):
+    for _ in range(draw(st.integers(1, 2))):
         at = draw(st.integers(0, len(data)))
-        size = draw(st.integers(0, 3))
-        data[at:at + size] = draw(st.sampled_from(FRAGMENTS) | st.just(b""))
-    return bytes(data[:draw(st.integers(0, len(data)))] if draw(st.integers(0, 5)) == 0 else data)
+        size = draw(st.integers(0, 2))
+        data[at:at + size] = draw(fragments)
+    return bytes(data[:draw(st.integers(0, len(data)))] if draw(st.integers(0, 7)) == 0 else data)
 
 
 def term_texts() -> st.SearchStrategy[bytes]:
-    """Texts that spell a term, texts with a few errors, and texts of fragments."""
+    """Texts that spell a term, texts with an error or two, and texts of fragments."""
     valid = terms.flatmap(spelled).map(str.encode)
-    return st.one_of(valid, valid.flatmap(damaged), soups)
+    return st.one_of(valid, valid.flatmap(damaged), soups, term_soups)
 
 
-def document_texts() -> st.SearchStrategy[bytes]:
-    """Documents, documents with a few errors, and texts of fragments."""
-    valid = documents().map(lambda pair: pair[0])
-    return st.one_of(valid, valid.flatmap(damaged), soups)
+@st.composite
+def document_texts(draw: st.DrawFn) -> bytes:
+    """A few lines: triples, some of them with an error or two, comments, and texts of fragments."""
+    parts = []
+    for kind in draw(st.lists(st.sampled_from("ttttbed"), max_size=4)):
+        if kind == "b":
+            parts.append(draw(bare_lines).encode())
+        elif kind == "e":
+            parts.append(draw(soups))
+        else:
+            valid = draw(triples.flatmap(line_of)).encode()
+            parts.append(valid if kind == "t" else draw(damaged(valid)))
+        parts.append(draw(LINE_ENDS).encode())
+    return b"".join(parts[:-1] if draw(st.booleans()) else parts)
 
 
 def strings() -> st.SearchStrategy[bytes]:
