@@ -19,11 +19,10 @@ from support.documents import (
     GRAPHS, THREE, Strings, canonical_file, check_build, counts, difference, document, line, printed,
     same_lines, shuffled,
 )
-from support.probe import Probe
+from support.probe import Answer, Argument, Probe, ok
 from support.program import Result, Word, hdt, run
 from support.terms import (
-    IRIS, STEPS, TEXTS, Answer, Case, Request, Value, answered, documents, document_texts, error_answer, fault, ok,
-    shortened,
+    IRIS, STEPS, TEXTS, Case, Request, answered, documents, document_texts, error_answer, fault, shortened,
 )
 from support.timing import is_linear, measure, timed
 
@@ -491,7 +490,7 @@ def test_many_strings(probe: Probe, prefix: bytes, count: int) -> None:
     for role, letter in enumerate([b"s", b"p", b"o"]):
         strings = [prefix + letter + b"%06d" % n for n in chosen]
         cases.append((("number_of", role, *strings), ok(*(n + 1 for n in chosen))))
-        cases += [(("string_of", role, n + 1, b""), ok("true", string, "true")) for n, string in zip(chosen, strings)]
+        cases += [(("string_of", role, n + 1, b""), ok(True, string, True)) for n, string in zip(chosen, strings)]
     assert answered(probe, cases) == cases
 
 
@@ -513,7 +512,7 @@ def test_long_strings_and_bases(probe: Probe, length: int) -> None:
     for number, triple in enumerate(triples, 1):
         for role, string in enumerate(triple):
             cases.append((("number_of", role, string), ok(number)))
-            cases.append((("string_of", role, number, b""), ok("true", string, "true")))
+            cases.append((("string_of", role, number, b""), ok(True, string, True)))
     assert shortened(answered(probe, cases)) == shortened(cases)
 
 
@@ -557,7 +556,7 @@ def test_any_document(probe: Probe, text: bytes, block_size: int, base: bytes, s
                       room: Optional[int], piece: int) -> None:
     """Documents, damaged ones and random texts, any options, any pieces, readers and writers that fail."""
     answer = built_of(text, block_size, base, fails)
-    reading: tuple[Value, ...] = step, "-" if fails is None else fails
+    reading: tuple[Argument, ...] = step, "-" if fails is None else fails
     cases: list[Case] = [
         (("file", text), ok()),
         (("build_bytes", block_size, base, *reading), answer),

@@ -13,10 +13,9 @@ from reference.ntriples import (
     Asked, LineError, Reason, TermError, lines, parse_line, parse_raw_request, parse_request, read_document,
     triple_strings,
 )
-from support.probe import Probe
+from support.probe import Answer, Argument, Probe, ok
 from support.terms import (
-    STEPS, Answer, Case, Request, Value, answered, damaged, document_texts, documents, error_answer, ok, shortened,
-    soups,
+    STEPS, Case, Request, answered, damaged, document_texts, documents, error_answer, shortened, soups,
 )
 
 ALL = 10_000_000
@@ -28,7 +27,7 @@ Step = Union[int, str]
 
 # ---- what the reference says, as a probe answers it
 
-def ending(error: Optional[LineError]) -> tuple[Value, ...]:
+def ending(error: Optional[LineError]) -> tuple[Argument, ...]:
     """What follows the last line: the end or an error."""
     if error is None:
         return ("end",)
@@ -66,7 +65,7 @@ def held_lines(data: bytes, limit: Optional[int], step: int, fails: Optional[int
 
 def texts_answer(data: bytes, limit: Optional[int], step: int, fails: Optional[int]) -> Answer:
     """Each line by its number, its text, and whether the next line is held with its end; then the end or the error."""
-    values: list[Value] = []
+    values: list[Argument] = []
     try:
         for line in held_lines(data, limit, step, fails):
             values += line
@@ -81,10 +80,10 @@ def calls_answer(data: bytes, limit: Optional[int], step: int, fails: Optional[i
     After the end each call answers the end, and after an error the same error.
     """
     texts = held_lines(data, limit, step, fails)
-    values: list[Value] = []
-    last: Optional[tuple[Value, ...]] = None
+    values: list[Argument] = []
+    last: Optional[tuple[Argument, ...]] = None
     for call in calls:
-        buffers: tuple[Value, ...] = ((), (b"", b"", b""), (b"",))[call]
+        buffers: tuple[Argument, ...] = ((), (b"", b"", b""), (b"",))[call]
         while last is None:
             try:
                 number, text, held = next(texts)
@@ -107,7 +106,7 @@ def calls_answer(data: bytes, limit: Optional[int], step: int, fails: Optional[i
     return ok(*values)
 
 
-def reader(limit: Optional[int], step: Step, fails: Optional[int]) -> tuple[Value, ...]:
+def reader(limit: Optional[int], step: Step, fails: Optional[int]) -> tuple[Argument, ...]:
     """The arguments of a reader."""
     return GREATEST if limit is None else limit, step, "-" if fails is None else fails
 
@@ -502,7 +501,7 @@ def asked_answer(parse: str, text: bytes) -> Answer:
         return error_answer(error)
     if asked is None:
         return ok("none")
-    values: list[Value] = ["-" if string is None else string for string in asked]
+    values: list[Argument] = ["-" if string is None else string for string in asked]
     return ok(*values)
 
 

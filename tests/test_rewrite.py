@@ -18,9 +18,9 @@ from support.documents import (
     DEFAULT_BASE, GRAPHS, THREE, Strings, canonical_file, check_build, check_rewrite, counts, difference, document,
     printed, same_lines,
 )
-from support.probe import Probe
+from support.probe import Answer, Probe, ok
 from support.program import Result, hdt, run
-from support.terms import STEPS, Answer, Case, Request, answered, damaged, ok, shortened
+from support.terms import STEPS, Case, Request, answered, damaged, shortened
 
 GRAPH_NAMES = pytest.mark.parametrize("name", GRAPHS)
 V1 = (SAMPLES / "v1.hdt").read_bytes()

@@ -9,10 +9,9 @@ from hypothesis import strategies as st
 from reference.ntriples import (
     Literal, NotATerm, Reason, Term, TermError, is_iri, parse_term, put_term, string_term, term_string,
 )
-from support.probe import Probe
+from support.probe import Answer, Probe, ok
 from support.terms import (
-    Answer, Case, Request, answered, error_answer, fault, ok, shortened, spelled, strings, term_texts,
-    term_values, terms,
+    Case, Request, answered, error_answer, fault, shortened, spelled, strings, term_texts, term_values, terms,
 )
 
 # ---- what the reference says, as a probe answers it
@@ -36,7 +35,7 @@ def text_cases(text: bytes) -> list[Case]:
                 (("parse_string", text, b"^^"), (*answer, b"^^".hex()))]
     string = term_string(term)
     return [(("parse_term", text), ok(*term_values(term))), (("term_string", text), ok(string)),
-            (("parse_string", text, b"^^"), ok(b"^^" + string)), (("same_term", text, put_term(term)), ok("true"))]
+            (("parse_string", text, b"^^"), ok(b"^^" + string)), (("same_term", text, put_term(term)), ok(True))]
 
 
 def string_cases(string: bytes) -> list[Case]:
@@ -100,7 +99,7 @@ def test_terms(probe: Probe, text: str, string: str, written: str) -> None:
         (("parse_string", text_, b"^^"), ok(b"^^" + string_)),
         (("put_term", string_, b"before "), ok(b"before " + written_)),
         (("put_string", string_, b"before "), ok(kind_of(written_), b"before " + written_)),
-        (("same_term", text_, written_), ok("true")),
+        (("same_term", text_, written_), ok(True)),
     ]
     assert answered(probe, cases) == cases
 
@@ -297,7 +296,7 @@ def test_ascii_in_iris(probe: Probe) -> None:
     for byte in range(0x81):
         iri = f"u:{chr(byte)}".encode()
         allowed = byte not in excluded
-        cases.append((("is_iri", iri), ok("true" if allowed else "false")))
+        cases.append((("is_iri", iri), ok(allowed)))
         escaped = b"<u:\\u%04X>" % byte
         reason = ZeroCharacter if byte == 0 else IriCharacter
         cases.append((("term_string", escaped), ok(iri) if allowed else fault(reason, 4)))
@@ -344,7 +343,7 @@ IRIS = [
 @pytest.mark.parametrize("data, answer", IRIS)
 def test_is_iri(probe: Probe, data: bytes, answer: bool) -> None:
     """Bytes that are an absolute IRI without excluded characters, and others."""
-    assert (probe.ask("is_iri", data), is_iri(data)) == (ok("true" if answer else "false"), answer)
+    assert (probe.ask("is_iri", data), is_iri(data)) == (ok(answer), answer)
 
 
 # ---- dictionary strings
@@ -454,7 +453,7 @@ def test_large_terms(probe: Probe, before: bytes, after: bytes, string_before: b
     cases: list[Case] = [
         (("term_string", text), ok(string)), (("string_term", string), ok(*term_values(term))),
         (("parse_term", text), ok(*term_values(term))), (("put_term", string, b""), ok(written)),
-        (("parse_string", written, b""), ok(string)), (("same_term", text, written), ok("true")),
+        (("parse_string", written, b""), ok(string)), (("same_term", text, written), ok(True)),
         (("parse_string", text, b""), ok(string)), (("put_string", string, b""), ok(kind_of(written), written)),
     ]
     assert shortened(answered(probe, cases)) == shortened(cases)
@@ -547,7 +546,7 @@ def test_any_spelling(probe: Probe, data: st.DataObject) -> None:
     cases: list[Case] = [
         (("parse_term", text), ok(*term_values(term))), (("parse_term", written), ok(*term_values(term))),
         (("string_term", string), ok(*term_values(term))), (("put_string", string, b""), ok(kind_of(written), written)),
-        (("parse_string", text, b""), ok(string)), (("same_term", text, written), ok("true")),
+        (("parse_string", text, b""), ok(string)), (("same_term", text, written), ok(True)),
     ]
     assert answered(probe, cases) == cases
 

@@ -13,24 +13,13 @@ from hypothesis import strategies as st
 
 from reference import ntriples
 from reference.ntriples import Blank, Iri, LineError, Literal, Reason, Term, TermError, Triple
-from support.probe import Probe
+from support.probe import Answer, Argument, Probe
+from support.probe import spelled as token
 
 # ---- requests and answers of a probe
 
-Value = Union[bytes, int, str]
-Request = tuple[Value, ...]
-Answer = tuple[str, ...]
+Request = tuple[Argument, ...]
 Case = tuple[Request, Answer]
-
-
-def token(value: Value) -> str:
-    """A value as a probe prints it."""
-    return value.hex() if isinstance(value, bytes) else str(value)
-
-
-def ok(*values: Value) -> Answer:
-    """The answer with these values."""
-    return ("ok", *map(token, values))
 
 
 def fault(reason: Reason, *place: int) -> Answer:
@@ -45,7 +34,7 @@ def error_answer(error: Union[TermError, LineError]) -> Answer:
     return fault(error.reason, error.line, error.column)
 
 
-def term_values(term: Term) -> tuple[Value, ...]:
+def term_values(term: Term) -> tuple[Argument, ...]:
     """A term as the probe prints it: its kind and its texts."""
     if isinstance(term, Iri):
         return "iri", term.text.encode()
@@ -246,7 +235,7 @@ def answered(probe: Probe, cases: Sequence[Case]) -> list[Case]:
     return [(request, tuple(answer)) for request, answer in zip(requests, probe.send(*requests))]
 
 
-def short(value: Value) -> str:
+def short(value: Argument) -> str:
     """A value as the probe prints it, but a long one by its beginning, its length and its CRC."""
     printed = token(value)
     return printed if len(printed) <= 100 else f"{printed[:60]}..[{len(printed)} {zlib.crc32(printed.encode()):08x}]"
