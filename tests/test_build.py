@@ -89,7 +89,7 @@ def test_line_orders(tmp_path: Path, seed: int) -> None:
 
 @pytest.mark.parametrize("seeds", [range(0, 50), range(50, 100)], ids=str)
 def test_roles(tmp_path: Path, seeds: range) -> None:
-    """Few strings in many triples: each stands in the sections of just the roles in which it is used."""
+    """Few strings in many triples: each is in the sections of just the roles in which it is used."""
     names = [b"u:%d" % i for i in range(4)]
     every = [(s, p, o) for s in names for p in names for o in names]
     for seed in seeds:
@@ -128,7 +128,7 @@ def test_found_again(tmp_path: Path, block_size: int) -> None:
 
 
 def test_many_objects(tmp_path: Path) -> None:
-    """A subject with 513 objects, and one behind it."""
+    """A subject with 513 objects, and one after it."""
     triples = [(b"u:s1", b"u:p", b"u:o%04d" % i) for i in range(1, 514)] + [(b"u:s2", b"u:p", b"u:o0001")]
     out = check_build(tmp_path, document(triples), triples)
     assert hdt("find", "--numbers", out, "<u:s2>", "?", "?") == Result(0, b"2 1 1\n", b"")
@@ -205,7 +205,7 @@ def test_strings_found_again(tmp_path: Path, k: int, length: int, room: int) -> 
     """Strings that come again are found, and not kept once more, but for one of sixteen that the cache may have lost.
 
     The list of strings has room for 2^k. Sixteen seventeenths of these, each twice, are built where there is no memory
-    for twice the list, as 2^k + 1 strings show. The cache has grown twice (k = 11) and ten times (k = 19).
+    for twice the list, as 2^k + 1 strings show. The cache has doubled twice (k = 11) and ten times (k = 19).
     """
     source, out = tmp_path / "again.nt", tmp_path / "again.hdt"
     prefix = b"u:" + b"x" * (length - 9)
@@ -264,7 +264,7 @@ REFUSED_DOCUMENTS = [
 
 
 @pytest.fixture
-def place(tmp_path: Path) -> Path:
+def folder(tmp_path: Path) -> Path:
     """A folder with a good and a bad document, and a file `out.hdt` that is to stay as it is."""
     shutil.copy(SAMPLES / "three.nt", tmp_path / "good.nt")
     (tmp_path / "bad.nt").write_bytes(b"<u:a> <u:p> <u:b> .\n<u:a> <u:p> <b> .\n")
@@ -273,14 +273,14 @@ def place(tmp_path: Path) -> Path:
 
 
 @pytest.mark.parametrize("text, message", REFUSED_DOCUMENTS)
-def test_refused_documents(place: Path, text: bytes, message: str) -> None:
+def test_refused_documents(folder: Path, text: bytes, message: str) -> None:
     """A document of which nothing is built: OUT stays as it was, or is not created."""
-    source = place / "refused.nt"
+    source = folder / "refused.nt"
     source.write_bytes(text)
-    assert hdt("build", source, "out.hdt", cwd=place) == failed(1, message)
-    assert (place / "out.hdt").read_bytes() == b"before"
-    assert hdt("build", source, "new.hdt", cwd=place) == failed(1, message)
-    assert not (place / "new.hdt").exists()
+    assert hdt("build", source, "out.hdt", cwd=folder) == failed(1, message)
+    assert (folder / "out.hdt").read_bytes() == b"before"
+    assert hdt("build", source, "new.hdt", cwd=folder) == failed(1, message)
+    assert not (folder / "new.hdt").exists()
 
 
 REFUSED = [
@@ -301,40 +301,40 @@ REFUSED = [
 
 
 @pytest.mark.parametrize("words, result", REFUSED)
-def test_refused(place: Path, words: list[str], result: Result) -> None:
+def test_refused(folder: Path, words: list[str], result: Result) -> None:
     """Options, inputs and outputs with which nothing is built: OUT stays as it was."""
-    assert hdt("build", *words, cwd=place) == result
-    assert (place / "out.hdt").read_bytes() == b"before"
+    assert hdt("build", *words, cwd=folder) == result
+    assert (folder / "out.hdt").read_bytes() == b"before"
 
 
 @pytest.mark.parametrize("words", [
     ["--block-size", "4294967296"], ["--block-size", "-1"], ["--block-size", "x"], ["--base"],
 ], ids=" ".join)
-def test_usage(place: Path, words: list[str]) -> None:
+def test_usage(folder: Path, words: list[str]) -> None:
     """Words that are no command line."""
-    status, out, error = hdt("build", *words, "good.nt", "out.hdt", cwd=place)
+    status, out, error = hdt("build", *words, "good.nt", "out.hdt", cwd=folder)
     assert (status, out, error[:7]) == (2, b"", b"error: ")
-    assert (place / "out.hdt").read_bytes() == b"before"
+    assert (folder / "out.hdt").read_bytes() == b"before"
 
 
-def test_line_that_cannot_be_printed(place: Path) -> None:
+def test_line_that_cannot_be_printed(folder: Path) -> None:
     """The file is written before the line that reports it."""
     shell = 'exec "$1" build good.nt out.hdt >/dev/full'
-    assert run(["sh", "-c", shell, "sh", PROGRAM], cwd=place) == UNWRITTEN
-    assert difference((place / "out.hdt").read_bytes(), canonical_file(THREE)) == ""
+    assert run(["sh", "-c", shell, "sh", PROGRAM], cwd=folder) == UNWRITTEN
+    assert difference((folder / "out.hdt").read_bytes(), canonical_file(THREE)) == ""
 
 
-def test_pipe(place: Path) -> None:
+def test_pipe(folder: Path) -> None:
     """A document that is read from a pipe."""
-    result = hdt("build", "/dev/stdin", "out.hdt", cwd=place, stdin=document(THREE))
+    result = hdt("build", "/dev/stdin", "out.hdt", cwd=folder, stdin=document(THREE))
     assert result == printed("built", THREE, len(canonical_file(THREE)))
-    assert difference((place / "out.hdt").read_bytes(), canonical_file(THREE)) == ""
+    assert difference((folder / "out.hdt").read_bytes(), canonical_file(THREE)) == ""
 
 
-def test_over_its_input(place: Path) -> None:
+def test_over_its_input(folder: Path) -> None:
     """A file that replaces its own document."""
-    assert hdt("build", "good.nt", "good.nt", cwd=place) == printed("built", THREE, len(canonical_file(THREE)))
-    assert difference((place / "good.nt").read_bytes(), canonical_file(THREE)) == ""
+    assert hdt("build", "good.nt", "good.nt", cwd=folder) == printed("built", THREE, len(canonical_file(THREE)))
+    assert difference((folder / "good.nt").read_bytes(), canonical_file(THREE)) == ""
 
 
 # ---- the calls: worked rows

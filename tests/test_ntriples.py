@@ -3,7 +3,7 @@
 from __future__ import annotations
 
 from collections.abc import Iterator
-from typing import Optional, Union
+from typing import NamedTuple, Optional, Union
 
 import pytest
 from hypothesis import example, given
@@ -48,27 +48,36 @@ def document_answer(data: bytes, limit: Optional[int] = None, fails: Optional[in
     return ok(*(string for triple in found for string in triple_strings(triple)))
 
 
-def held_lines(data: bytes, limit: Optional[int], step: int, fails: Optional[int]) -> Iterator[tuple[int, bytes, str]]:
-    """The lines of a document, each with its number and whether the next one is held with its end behind it.
+class Line(NamedTuple):
+    """A line of a document: its number, its text, whether it has an end, and whether the next one is then held."""
 
-    A reader in pieces is asked until the line in work ends, and no more.
+    number: int
+    text: bytes
+    is_ended: bool
+    holds_next: bool
+
+
+def held_lines(data: bytes, limit: Optional[int], step: int, fails: Optional[int]) -> Iterator[Line]:
+    """The lines of a document. A reader in pieces is asked until the line in work ends, and no more.
+
+    So the next line is held (it is in the buffer with its end) if the pieces that were read hold its end.
     """
     given = min(len(data), GREATEST if limit is None else limit, GREATEST if fails is None else fails)
-    start = held = 0
+    start = read = 0
     for number, text in lines(data, limit, fails):
         start += len(text) + 1
-        while held < min(start, given):
-            held = min(held + step, given)
-        rest = data[start:held]
-        yield number, text, "true" if b"\n" in rest or b"\r" in rest else "false"
+        while read < min(start, given):
+            read = min(read + step, given)
+        rest = data[start:read]
+        yield Line(number, text, start <= given, b"\n" in rest or b"\r" in rest)
 
 
 def texts_answer(data: bytes, limit: Optional[int], step: int, fails: Optional[int]) -> Answer:
-    """Each line by its number, its text, and whether the next line is held with its end; then the end or the error."""
+    """Each line by its number, its text, and whether the next line is held; then the end or the error."""
     values: list[Argument] = []
     try:
         for line in held_lines(data, limit, step, fails):
-            values += line
+            values += [line.number, line.text, line.holds_next]
     except LineError as error:
         return ok(*values, *ending(error))
     return ok(*values, "end")
@@ -77,32 +86,34 @@ def texts_answer(data: bytes, limit: Optional[int], step: int, fails: Optional[i
 def calls_answer(data: bytes, limit: Optional[int], step: int, fails: Optional[int], calls: list[int]) -> Answer:
     """What each call answers: 0 for the next triple, 1 for its strings, 2 for the next line.
 
-    After the end each call answers the end, and after an error the same error.
+    After the end each call answers the end, and after an error the same error. Buffers are empty then; the number is
+    that of the last line that was taken, and a line with an error is still held.
     """
-    texts = held_lines(data, limit, step, fails)
+    rest = held_lines(data, limit, step, fails)
     values: list[Argument] = []
     last: Optional[tuple[Argument, ...]] = None
+    line = Line(0, b"", True, False)
     for call in calls:
-        buffers: tuple[Argument, ...] = ((), (b"", b"", b""), (b"",))[call]
         while last is None:
             try:
-                number, text, held = next(texts)
+                line = next(rest)
                 if call == 2:
-                    values += ["text", number, text, held]
+                    values += ["text", line.number, line.text, line.holds_next]
                     break
-                triple = parse_line(text)
+                triple = parse_line(line.text)
             except StopIteration:
-                last = ("end",)
+                last, after = ("end",), (line.number, b"", False)
             except LineError as error:
-                last = "fault", int(error.reason), error.reason.name, error.line, error.column
-            except TermError as term_error:
-                last = "fault", int(term_error.reason), term_error.reason.name, number, term_error.column
+                last, after = ("fault", *ending(error)), (error.line - 1, b"", False)
+            except TermError as error:
+                last = "fault", error.reason.name, line.number, error.column
+                after = line.number - 1, b"", line.is_ended
             else:
                 if triple is not None:
                     values += [("triple", "strings")[call], *triple_strings(triple)]
                     break
         else:
-            values += [*last, *buffers]
+            values += [*last, *((), (b"", b"", b""), after)[call]]
     return ok(*values)
 
 
@@ -124,7 +135,7 @@ def document_cases(data: bytes, limit: Optional[int], step: int, fails: Optional
     ]
 
 
-def told(answer: Answer) -> str:
+def text_of(answer: Answer) -> str:
     """An answer as text: a line for each triple, and then the end or the error."""
     values = list(answer[1:])
     end = ["end"] if values[-1] == "end" else [f"{values[-3]} at line {values[-2]} column {values[-1]}"]
@@ -132,19 +143,19 @@ def told(answer: Answer) -> str:
     return "\n".join([" ".join(strings[i:i + 3]) for i in range(0, len(strings), 3)] + end)
 
 
-Told = tuple[str, Step, str]
+Read = tuple[str, Step, str]
 
 
-def read_in(probe: Probe, data: bytes, limit: int, steps: list[Step], fails: Optional[int] = None) -> list[Told]:
-    """What each call tells of a document in pieces of each of these sizes: the call, the size and the text."""
+def read_in(probe: Probe, data: bytes, limit: int, steps: list[Step], fails: Optional[int] = None) -> list[Read]:
+    """What each call reads of a document in pieces of each of these sizes: the call, the size and the text."""
     calls = [(word, step) for step in steps for word in WORDS]
     requests: list[Request] = [(word, *reader(limit, step, fails)) for word, step in calls]
     answers = probe.send(("file", data), *requests)[1:]
-    return [(word, step, told(answer)) for (word, step), answer in zip(calls, answers)]
+    return [(word, step, text_of(answer)) for (word, step), answer in zip(calls, answers)]
 
 
-def as_told(text: str, steps: list[Step]) -> list[Told]:
-    """The same if each call tells this text."""
+def all_read(text: str, steps: list[Step]) -> list[Read]:
+    """The same if each call reads this."""
     return [(word, step, text) for step in steps for word in WORDS]
 
 
@@ -152,7 +163,7 @@ def as_told(text: str, steps: list[Step]) -> list[Told]:
 
 # Three triples in 58 bytes.
 THREE = b'<u:a> <u:p> <u:b> .\n<u:a> <u:q> "x" .\n<u:b> <u:p> <u:a> .\n'
-THREE_TOLD = 'u:a u:p u:b\nu:a u:q "x"\nu:b u:p u:a\nend'
+THREE_READ = 'u:a u:p u:b\nu:a u:q "x"\nu:b u:p u:a\nend'
 
 # Documents, how many bytes they may have, and what is read of them.
 DOCUMENTS = [
@@ -216,13 +227,13 @@ DOCUMENTS = [
 @pytest.mark.parametrize("data, limit, text", DOCUMENTS)
 def test_documents(probe: Probe, data: bytes, limit: int, text: str) -> None:
     """Documents with triples, comments, line ends and errors, byte by byte and at once."""
-    assert read_in(probe, data, limit, [1, ALL]) == as_told(text, [1, ALL])
+    assert read_in(probe, data, limit, [1, ALL]) == all_read(text, [1, ALL])
 
 
 @pytest.mark.parametrize("data, limit, text", DOCUMENTS)
 def test_reference_documents(data: bytes, limit: int, text: str) -> None:
     """The reference reads the same rows."""
-    assert told(triples_answer(data, limit)) == text
+    assert text_of(triples_answer(data, limit)) == text
 
 
 @pytest.mark.parametrize("data, limit, text", DOCUMENTS)
@@ -254,8 +265,8 @@ CUT = [
 def test_pieces(probe: Probe, data: bytes, limit: int, text: str) -> None:
     """Pieces of every size make no difference, nor does a cut at any one byte."""
     steps: list[Step] = [*range(1, len(data)), *(f"{first}/{ALL}" for first in range(1, len(data))), ALL]
-    assert read_in(probe, data, limit, steps) == as_told(text, steps)
-    assert told(triples_answer(data, limit)) == text
+    assert read_in(probe, data, limit, steps) == all_read(text, steps)
+    assert text_of(triples_answer(data, limit)) == text
 
 
 # How many bytes of the three triples a reader gives before it fails, and what is read.
@@ -274,7 +285,7 @@ FAILING = [
 def test_failing_readers(probe: Probe, fails: int, text: str) -> None:
     """The lines before the one that can't be read are answered first."""
     steps: list[Step] = [1, 2, 7, ALL]
-    assert read_in(probe, THREE, 100, steps, fails) == as_told(text, steps)
+    assert read_in(probe, THREE, 100, steps, fails) == all_read(text, steps)
 
 
 @pytest.mark.parametrize("limit", [100, 58, 57, 40, 38, 20, 0])
@@ -306,7 +317,7 @@ def test_whole_documents(probe: Probe, step: int) -> None:
         cases.append((("document", limit, step, "-"), document_answer(THREE, limit)))
         cases.append((("line_triples", limit, step, "-"), triples_answer(THREE, limit)))
     assert answered(probe, cases) == cases
-    assert told(triples_answer(THREE, 58)) == THREE_TOLD
+    assert text_of(triples_answer(THREE, 58)) == THREE_READ
 
 
 REASONS = [
@@ -345,15 +356,15 @@ def test_many_triples(probe: Probe) -> None:
 SPACES = b" " * 100_000
 LONG_LINE = b"<u:s> <u:p>" + SPACES + b"<u:o> .\n"
 LATE = [
-    pytest.param(THREE * 700 + b"<u:s> x", 2_101, 7, id="behind 2,100 triples"),
-    pytest.param(b"# \n" * 100_000 + b"<u:s> x", 100_001, 7, id="behind 100,000 bare lines"),
+    pytest.param(THREE * 700 + b"<u:s> x", 2_101, 7, id="after 2,100 triples"),
+    pytest.param(b"# \n" * 100_000 + b"<u:s> x", 100_001, 7, id="after 100,000 bare lines"),
     pytest.param(LONG_LINE * 2 + b"<u:s> <u:p>" + SPACES + b"x", 3, 100_012, id="in a long line"),
 ]
 
 
 @pytest.mark.parametrize("data, line, column", LATE)
 def test_late_errors(probe: Probe, data: bytes, line: int, column: int) -> None:
-    """An error far behind the beginning of a document or of a line."""
+    """An error far after the beginning of a document or of a line."""
     cases = large_cases(data, GREATEST, [ALL, 4_096])
     assert shortened(answered(probe, cases)) == shortened(cases)
     assert cases[-1][1] == ("fault", "1", "Syntax", str(line), str(column))
@@ -376,7 +387,7 @@ LARGE_OBJECTS = [
 
 @pytest.mark.parametrize("before, after, string_before, string_after", LARGE_OBJECTS)
 def test_large_objects(probe: Probe, before: bytes, after: bytes, string_before: bytes, string_after: bytes) -> None:
-    """A line of more than 240,000 bytes and one behind it, in pieces and at once."""
+    """A line of more than 240,000 bytes and one after it, in pieces and at once."""
     data = b"<u:s>\t<u:p>" + SPACES + before + LARGE + after + b" .\n<u:s> <u:p> <u:o> ."
     cases = large_cases(data, 1_000_000, [1_000, ALL])
     assert shortened(answered(probe, cases)) == shortened(cases)
@@ -421,15 +432,15 @@ LARGE_ERRORS = [
 
 @pytest.mark.parametrize("before, after, limit, fails, text", LARGE_ERRORS)
 def test_large_errors(probe: Probe, before: bytes, after: bytes, limit: int, fails: Optional[int], text: str) -> None:
-    """Each error of a line behind 140,000 bytes of it."""
+    """Each error of a line after 140,000 bytes of it."""
     data = before + LARGE + after
-    assert read_in(probe, data, limit, [1_000, ALL], fails) == as_told(text, [1_000, ALL])
-    assert told(triples_answer(data, limit, fails)) == text
+    assert read_in(probe, data, limit, [1_000, ALL], fails) == all_read(text, [1_000, ALL])
+    assert text_of(triples_answer(data, limit, fails)) == text
 
 
 # ---- the texts of lines
 
-# Inputs of at most 11 bytes, whether the reader fails behind them, and their lines with their numbers.
+# Inputs of at most 11 bytes, whether the reader fails after them, and their lines with their numbers.
 TEXTS = [
     (b"", False, [(1, b"")], "end"),
     (b"a\r\nb\n\n\xffc", False, [(1, b"a"), (1, b""), (2, b"b"), (3, b""), (4, b"\xffc")], "end"),
@@ -457,7 +468,7 @@ def test_texts(probe: Probe, data: bytes, fails: bool, wanted: list[tuple[int, b
     assert probe.ask("line_calls", *reader(11, 2, after), *calls) == calls_answer(data, 11, 2, after, calls)
 
 
-# An input, the size of its pieces, and whether the next line is held with its end behind each line.
+# An input, the size of its pieces, and whether the next line is in the buffer with its end after each line.
 HELD = [
     pytest.param(b"a\nb\nc", 1_000, "true false false", id="at once"),
     pytest.param(b"a\rb\r\nc\n", 4, "true false true false false", id="a carriage return waits for nothing"),
@@ -468,7 +479,7 @@ HELD = [
 
 @pytest.mark.parametrize("data, step, held", HELD)
 def test_held_lines(probe: Probe, data: bytes, step: int, held: str) -> None:
-    """Whether a line is held with its end: then the next call reads nothing."""
+    """Whether the next line is in the buffer with its end: then the next call reads nothing."""
     answer = probe.on(data, "line_texts", 1_000_000, step, "-")
     assert answer[3:-1:3] == tuple(held.split())
     assert answer == texts_answer(data, 1_000_000, step, None)
@@ -505,7 +516,7 @@ def asked_answer(parse: str, text: bytes) -> Answer:
     return ok(*values)
 
 
-def asked_told(answer: Answer) -> bytes:
+def asked_text(answer: Answer) -> bytes:
     """An answer as text: each string and a bar, `?` for any; or the error."""
     if answer[0] == "fault":
         return f"{answer[2]} at column {answer[3]}".encode()
@@ -569,15 +580,15 @@ RAW_REQUESTS = [
 @pytest.mark.parametrize("text, wanted", REQUESTS)
 def test_requests(probe: Probe, text: bytes, wanted: bytes) -> None:
     """What a line asks for by terms."""
-    assert asked_told(probe.ask("request", text)) == wanted
-    assert asked_told(asked_answer("request", text)) == wanted
+    assert asked_text(probe.ask("request", text)) == wanted
+    assert asked_text(asked_answer("request", text)) == wanted
 
 
 @pytest.mark.parametrize("text, wanted", RAW_REQUESTS)
 def test_raw_requests(probe: Probe, text: bytes, wanted: bytes) -> None:
     """What a line asks for by dictionary strings."""
-    assert asked_told(probe.ask("raw_request", text)) == wanted
-    assert asked_told(asked_answer("raw_request", text)) == wanted
+    assert asked_text(probe.ask("raw_request", text)) == wanted
+    assert asked_text(asked_answer("raw_request", text)) == wanted
 
 
 @pytest.mark.parametrize("word, text", [

@@ -253,7 +253,7 @@ CUT = failed(1, "fault 1 Truncated at 291")
 
 
 @pytest.fixture
-def place(tmp_path: Path) -> Path:
+def folder(tmp_path: Path) -> Path:
     """A folder with good and bad files, and a file `out.hdt` that is to stay as it is."""
     shutil.copy(SAMPLES / "v1.hdt", tmp_path / "v1.hdt")
     (tmp_path / "short.hdt").write_bytes(V1[:300])
@@ -276,13 +276,13 @@ FAULTY = [
 
 @pytest.mark.parametrize("source, result", FAULTY)
 @pytest.mark.parametrize("block_size", [None, "0", "1", "16", "4294967295"])
-def test_faulty_files(place: Path, source: str, result: Result, block_size: Optional[str]) -> None:
+def test_faulty_files(folder: Path, source: str, result: Result, block_size: Optional[str]) -> None:
     """The error of a file comes before that of the options: OUT stays as it was, or is not created."""
     options = [] if block_size is None else ["--block-size", block_size]
-    assert hdt("rewrite", *options, source, "out.hdt", cwd=place) == result
-    assert (place / "out.hdt").read_bytes() == b"before"
-    assert hdt("rewrite", *options, source, "new.hdt", cwd=place) == result
-    assert not (place / "new.hdt").exists()
+    assert hdt("rewrite", *options, source, "out.hdt", cwd=folder) == result
+    assert (folder / "out.hdt").read_bytes() == b"before"
+    assert hdt("rewrite", *options, source, "new.hdt", cwd=folder) == result
+    assert not (folder / "new.hdt").exists()
 
 
 REFUSED = [
@@ -299,28 +299,28 @@ REFUSED = [
 
 
 @pytest.mark.parametrize("words, result", REFUSED)
-def test_refused(place: Path, words: list[str], result: Result) -> None:
+def test_refused(folder: Path, words: list[str], result: Result) -> None:
     """Options, inputs and outputs with which nothing is rewritten: OUT stays as it was."""
-    assert hdt("rewrite", *words, cwd=place) == result
-    assert (place / "out.hdt").read_bytes() == b"before"
+    assert hdt("rewrite", *words, cwd=folder) == result
+    assert (folder / "out.hdt").read_bytes() == b"before"
 
 
 @pytest.mark.parametrize("words", [
     ["v1.hdt"], ["v1.hdt", "out.hdt", "--base", "x"], ["v1.hdt", "out.hdt", "out.hdt"],
     ["--block-size", "x", "v1.hdt", "out.hdt"], ["--block-size", "4294967296", "v1.hdt", "out.hdt"],
 ], ids=" ".join)
-def test_usage(place: Path, words: list[str]) -> None:
+def test_usage(folder: Path, words: list[str]) -> None:
     """Words that are no command line."""
-    status, out, error = hdt("rewrite", *words, cwd=place)
+    status, out, error = hdt("rewrite", *words, cwd=folder)
     assert (status, out, error[:7]) == (2, b"", b"error: ")
-    assert (place / "out.hdt").read_bytes() == b"before"
+    assert (folder / "out.hdt").read_bytes() == b"before"
 
 
-def test_line_that_cannot_be_printed(place: Path) -> None:
+def test_line_that_cannot_be_printed(folder: Path) -> None:
     """The file is written before the line that reports it."""
     shell = 'exec "$1" rewrite v1.hdt out.hdt >/dev/full'
-    assert run(["sh", "-c", shell, "sh", PROGRAM], cwd=place) == UNWRITTEN
-    assert difference((place / "out.hdt").read_bytes(), V1) == ""
+    assert run(["sh", "-c", shell, "sh", PROGRAM], cwd=folder) == UNWRITTEN
+    assert difference((folder / "out.hdt").read_bytes(), V1) == ""
 
 
 # ---- the calls: worked rows
@@ -418,9 +418,9 @@ def test_shared_in_one_role(probe: Probe, third: int, subjects: int, objects: in
 
 STRINGS = st.text(st.sampled_from("ab:\u00e9\u20ac\U0001f600\n\" "), max_size=5).map(str.encode)
 TERM_STRINGS = st.sampled_from([b"u:a", b"u:ab", b"u:b", b"_:a", b'"x"', b'"x"@en', b'"x"^^<u:t>', b"u:\xc3\xa9"])
-# Further properties before and behind those that are needed. The last property with a key counts.
+# Further properties before and after those that are needed. The last property with a key counts.
 BEFORE = st.sampled_from([b"", b"a=b;", b";", b"x;", b"length=1;", b"order=2;", b"mapping=2;", b"numTriples=12;"])
-BEHIND = st.sampled_from([b"", b"a=b", b";", b"x", b"a=b=c;", b"order;", b"length", b"=1;"])
+AFTER = st.sampled_from([b"", b"a=b", b";", b"x", b"a=b=c;", b"order;", b"length", b"=1;"])
 
 
 class Written(NamedTuple):
@@ -442,8 +442,8 @@ def canonical_form(body: bytes, triples: Sequence[Strings], block_size: int) -> 
 def loose_files(draw: st.DrawFn) -> Written:
     """A file with any widths, padding bits, prefixes, block sizes and properties, and with unused strings."""
     some = draw(st.lists(STRINGS | TERM_STRINGS, min_size=1, max_size=12, unique=True))
-    places = draw(st.lists(st.sampled_from(["both", "subject", "object"]), min_size=len(some), max_size=len(some)))
-    shared, subjects, objects = (sorted(string for string, place in zip(some, places) if place == name)
+    kinds = draw(st.lists(st.sampled_from(["both", "subject", "object"]), min_size=len(some), max_size=len(some)))
+    shared, subjects, objects = (sorted(string for string, kind in zip(some, kinds) if kind == name)
                                  for name in ("both", "subject", "object"))
     if not shared and not (subjects and objects):
         shared, subjects, objects = sorted(some), [], []
@@ -454,7 +454,7 @@ def loose_files(draw: st.DrawFn) -> Written:
     used = draw(st.integers(1, len(roles[0])))
     ids = [(s, p, o) for s in range(1, used + 1) for p, o in sorted(draw(st.sets(pairs, min_size=1, max_size=4)))]
     body = draw(st.binary(max_size=6))
-    style = Style(padding=draw(st.sampled_from([0, -1, 0b101])), before=draw(BEFORE), behind=draw(BEHIND))
+    style = Style(padding=draw(st.sampled_from([0, -1, 0b101])), before=draw(BEFORE), behind=draw(AFTER))
     style_of_triples = Style(width=draw(st.integers(4, 64)), padding=style.padding, before=style.before)
     data = b"".join([
         reference.write_head(body, style),

@@ -258,7 +258,7 @@ STARTS = [
     ('\ufdef', '\ufdf0', '\ufffd', '\ufffe'),
     ('\uffff', '\U00010000', '\U000effff', '\U000f0000'),
 ]
-# Ranges of those that may stand in a label, but not first.
+# Ranges of those that a label may have, but not first.
 OTHERS = [
     (',', '-', '-', '/'),
     ('\xb6', '\xb7', '\xb7', '\xb8'),
@@ -472,7 +472,7 @@ LARGE_ERRORS = [
 
 @pytest.mark.parametrize("before, after, column, counted, reason", LARGE_ERRORS)
 def test_large_errors(probe: Probe, before: bytes, after: bytes, column: int, counted: bool, reason: Reason) -> None:
-    """An error before or behind 140,000 bytes."""
+    """An error before or after 140,000 bytes."""
     text = before + LARGE + after
     answer = fault(reason, column + len(LARGE) * counted)
     cases: list[Case] = [(("parse_term", text), answer), (("parse_string", text, b""), (*answer, ""))]

@@ -228,7 +228,7 @@ class Reader:
     def literal(self) -> Literal:
         """A literal, which begins here. Blanks after its text belong to it only where `@` or `^` follows."""
         text = self.string()
-        behind_text = self.at
+        text_end = self.at
         self.skip_blanks()
         start = self.at
         if self.skip("@"):
@@ -244,7 +244,7 @@ class Reader:
                 raise self.error(Reason.Syntax)
             datatype = self.iri()
             return Literal(text, datatype=None if datatype == XSD_STRING else datatype)
-        self.at = behind_text
+        self.at = text_end
         return Literal(text)
 
     # -- terms and lines
@@ -435,13 +435,13 @@ def string_term(string: bytes) -> Term:
 def literal_of(text: str) -> Literal:
     """The literal of a string that begins with a quote: its last quote ends the text."""
     end = text.rindex('"')
-    inside, behind = text[1:end], text[end + 1:]
-    if end > 0 and behind == "":
+    inside, after = text[1:end], text[end + 1:]
+    if end > 0 and after == "":
         return Literal(inside)
-    if end > 0 and behind.startswith("@") and TAG.fullmatch(behind, 1):
-        return Literal(inside, tag=behind[1:])
-    if end > 0 and behind.startswith("^^<") and behind.endswith(">") and is_iri(behind[3:-1].encode()):
-        return Literal(inside, datatype=behind[3:-1])
+    if end > 0 and after.startswith("@") and TAG.fullmatch(after, 1):
+        return Literal(inside, tag=after[1:])
+    if end > 0 and after.startswith("^^<") and after.endswith(">") and is_iri(after[3:-1].encode()):
+        return Literal(inside, datatype=after[3:-1])
     raise NotATerm(text.encode())
 
 

@@ -22,9 +22,9 @@ Request = tuple[Argument, ...]
 Case = tuple[Request, Answer]
 
 
-def fault(reason: Reason, *place: int) -> Answer:
+def fault(reason: Reason, *position: int) -> Answer:
     """The answer for an error of a term (with its column) or of a document (with its line and column)."""
-    return ("fault", str(int(reason)), reason.name, *map(str, place))
+    return ("fault", str(int(reason)), reason.name, *map(str, position))
 
 
 def error_answer(error: Union[TermError, LineError]) -> Answer:
@@ -163,7 +163,7 @@ def documents(draw: st.DrawFn, most: int = 4) -> tuple[bytes, list[Triple]]:
 
 # ---- texts with errors
 
-# Bytes that begin, continue or end a token, or that may stand nowhere; and whole tokens.
+# Bytes that begin, continue or end a token, or that are allowed nowhere; and whole tokens.
 PARTS = [
     *(b"<", b">", b"u:", b"a", b"0", b"1:a", b"_:", b"_", b".", b".", b'"', b'"', b"@", b"@en", b"-", b"^", b"^^"),
     *(b"\\", b"\\u", b"\\u00", b"41", b"\\u0041", b"\\U0011", b"\\t", b" ", b" ", b"\t", b"\n", b"\r", b"\r\n", b"#"),
