@@ -15,7 +15,7 @@ from reference.ntriples import (
 )
 from support.probe import Answer, Argument, Probe, ok
 from support.terms import (
-    STEPS, Case, Request, answered, damaged, document_texts, documents, error_answer, shortened, soups,
+    STEPS, Case, Request, answered, damaged, document_texts, documents, error_answer, line_texts, shortened, soups,
 )
 
 ALL = 10_000_000
@@ -648,14 +648,14 @@ def one_line(text: bytes) -> bytes:
 
 request_texts = st.one_of(
     soups,
-    document_texts().map(one_line),
+    line_texts().map(one_line),
     st.lists(st.sampled_from([b"?", b"<u:a>", b"_:b", b'"x"@en', b".", b" ", b"\t", b"#"]), max_size=9).map(b"".join),
 )
 raw_pieces = st.sampled_from([b"?", b"u:a", b'"x"', b"\\\\", b"\\n", b"\\t", b"\\r", b"\t", b" ", b"\xc3\xa9"])
 raw_strings = st.sampled_from([b"?", b"", b"u:a", b"\\n", b'"\\t"', b"\xe2\x82\xac"])
 three_raw_strings = st.tuples(raw_strings, raw_strings, raw_strings).map(b"\t".join)
 raw_texts = st.one_of(
-    soups, st.lists(raw_pieces, max_size=9).map(b"".join), three_raw_strings, three_raw_strings.flatmap(damaged),
+    soups, st.lists(raw_pieces, max_size=9).map(b"".join), three_raw_strings, damaged(three_raw_strings),
 )
 
 

@@ -506,7 +506,7 @@ def test_any_file(probe: Probe, file: Written, block_size: int, step: int, room:
     assert is_tight == file.is_tight
 
 
-@given(file=loose_files().map(lambda file: file.data).flatmap(damaged), block_size=block_sizes | st.just(0))
+@given(file=damaged(loose_files().map(lambda file: file.data)), block_size=block_sizes | st.just(0))
 @example(file=V1[:300], block_size=0)
 @example(file=V1 + b"x", block_size=16)
 def test_any_damaged_file(probe: Probe, file: bytes, block_size: int) -> None:

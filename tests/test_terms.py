@@ -4,14 +4,13 @@ from __future__ import annotations
 
 import pytest
 from hypothesis import example, given
-from hypothesis import strategies as st
 
 from reference.ntriples import (
     Literal, NotATerm, Reason, Term, TermError, is_iri, parse_term, put_term, string_term, term_string,
 )
 from support.probe import Answer, Probe, ok
 from support.terms import (
-    Case, Request, answered, error_answer, fault, shortened, spelled, strings, term_texts, term_values, terms,
+    Case, Request, answered, error_answer, fault, shortened, spellings, strings, term_texts, term_values, terms,
 )
 
 # ---- what the reference says, as a probe answers it
@@ -536,11 +535,10 @@ def test_any_string(probe: Probe, string: bytes) -> None:
     assert answered(probe, cases) == cases
 
 
-@given(data=st.data())
-def test_any_spelling(probe: Probe, data: st.DataObject) -> None:
+@given(pair=spellings())
+def test_any_spelling(probe: Probe, pair: tuple[bytes, Term]) -> None:
     """A term is read from each of its spellings, and from what is written of it; its string gives it back."""
-    term = data.draw(terms)
-    text = data.draw(spelled(term)).encode()
+    text, term = pair
     string, written = term_string(term), put_term(term)
     assert parse_term(text) == parse_term(written) == string_term(string) == term
     cases: list[Case] = [

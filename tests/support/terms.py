@@ -90,12 +90,13 @@ triples = st.builds(Triple, subjects, iri_terms, terms)
 
 BLANKS = st.sampled_from(["", " ", "\t", " \t", "  "])
 SHORT = {char: f"\\{letter}" for letter, char in ntriples.ECHAR.items()}
+ESCAPED = st.sampled_from([frozenset(), frozenset({0}), frozenset({1, 2}), frozenset({0, 3, 4}), frozenset(range(9))])
+WAYS = st.integers(0, 19)
 
 
-@st.composite
-def spelled_text(draw: st.DrawFn, text: str, excluded: str, short: bool) -> str:
-    """A text with some characters as escapes: those that are excluded, and any others."""
-    escaped = draw(st.sets(st.integers(0, len(text)), max_size=3))
+def spell_text(draw: st.DrawFn, text: str, excluded: str, short: bool) -> str:
+    """Draw a spelling of a text: escapes for the characters that are excluded, and for some others."""
+    escaped = draw(ESCAPED)
     parts = []
     for at, char in enumerate(text):
         if char not in excluded and at not in escaped:
@@ -106,59 +107,57 @@ def spelled_text(draw: st.DrawFn, text: str, excluded: str, short: bool) -> str:
             ways += [f"\\u{ord(char):04x}", f"\\u{ord(char):04X}"]
         if short and char in SHORT:
             ways.append(SHORT[char])
-        parts.append(draw(st.sampled_from(ways)))
+        parts.append(ways[draw(WAYS) % len(ways)])
     return "".join(parts)
 
 
-@st.composite
-def spelled(draw: st.DrawFn, term: Term) -> str:
-    """One of the N-Triples texts that spell a term."""
+def spell(draw: st.DrawFn, term: Term) -> str:
+    """Draw one of the N-Triples texts that spell a term."""
     if isinstance(term, Blank):
         return f"_:{term.label}"
     if isinstance(term, Iri):
-        return f"<{draw(spelled_text(term.text, ntriples.IRI_EXCLUDES, False))}>"
-    string = f'"{draw(spelled_text(term.text, ntriples.STRING_EXCLUDES, True))}"'
+        return f"<{spell_text(draw, term.text, ntriples.IRI_EXCLUDES, False)}>"
+    string = f'"{spell_text(draw, term.text, ntriples.STRING_EXCLUDES, True)}"'
     if term.tag is not None:
         return f"{string}{draw(BLANKS)}@{term.tag}"
     if term.datatype is None and draw(st.booleans()):
         return string
-    iri = draw(spelled(Iri(term.datatype or ntriples.XSD_STRING)))
+    iri = spell(draw, Iri(term.datatype or ntriples.XSD_STRING))
     return f"{string}{draw(BLANKS)}^^{draw(BLANKS)}{iri}"
 
 
+def spell_line(draw: st.DrawFn, triple: Triple) -> str:
+    """Draw one of the lines that spell a triple, without its end."""
+    parts = [draw(BLANKS)]
+    for term in triple:
+        parts += [spell(draw, term), draw(BLANKS)]
+    return "".join([*parts, ".", draw(BARE)])
+
+
 COMMENTS = st.text(COMMENT_CHARACTERS, max_size=4).map("#{}".format)
-
-
-@st.composite
-def line_of(draw: st.DrawFn, triple: Triple) -> str:
-    """One of the lines that spell a triple, without its end."""
-    tokens = [draw(spelled(term)) for term in triple]
-    line = "".join(draw(BLANKS) + token for token in [*tokens, ".", ""])
-    return line + draw(st.just("") | COMMENTS)
-
-
-bare_lines = st.builds("{}{}".format, BLANKS, st.just("") | COMMENTS)
+BARE = st.builds("{}{}".format, BLANKS, st.just("") | COMMENTS)
 LINE_ENDS = st.sampled_from(["\n", "\r", "\r\n", "\n\n"])
 
 
 @st.composite
-def document_of(draw: st.DrawFn, found: Sequence[Triple]) -> bytes:
-    """A document with these triples in this order: bare lines between them, any spellings and any line ends."""
-    parts = []
-    for triple in found:
-        if draw(st.integers(0, 3)) == 0:
-            parts += [draw(bare_lines), draw(LINE_ENDS)]
-        parts += [draw(line_of(triple)), draw(LINE_ENDS)]
-    if draw(st.booleans()):
-        parts = parts[:-1]
-    return "".join(parts).encode()
+def spellings(draw: st.DrawFn) -> tuple[bytes, Term]:
+    """A text that spells a term, and this term."""
+    term = draw(terms)
+    return spell(draw, term).encode(), term
 
 
 @st.composite
 def documents(draw: st.DrawFn, most: int = 4) -> tuple[bytes, list[Triple]]:
-    """A document and its triples."""
+    """A document and its triples: bare lines between them, any spellings and any line ends."""
     found = draw(st.lists(triples, max_size=most))
-    return draw(document_of(found)), found
+    parts = []
+    for triple in found:
+        if draw(st.integers(0, 3)) == 0:
+            parts += [draw(BARE), draw(LINE_ENDS)]
+        parts += [spell_line(draw, triple), draw(LINE_ENDS)]
+    if draw(st.booleans()):
+        parts = parts[:-1]
+    return "".join(parts).encode(), found
 
 
 # ---- texts with errors
@@ -181,9 +180,8 @@ escape_soups = st.lists(st.sampled_from([b"u:", b"a", *ESCAPES]), max_size=5).ma
 term_soups = st.builds(b"<%s>".__mod__, escape_soups) | st.builds(b'"%s"'.__mod__, escape_soups)
 
 
-@st.composite
-def damaged(draw: st.DrawFn, text: bytes) -> bytes:
-    """A text with one or two changes: bytes inserted, left out or replaced; or the text cut off."""
+def damage(draw: st.DrawFn, text: bytes) -> bytes:
+    """Draw a text with one or two changes: bytes inserted, left out or replaced; or the text cut off."""
     data = bytearray(text)
     for _ in range(draw(st.integers(1, 2))):
         at = draw(st.integers(0, len(data)))
@@ -192,25 +190,36 @@ def damaged(draw: st.DrawFn, text: bytes) -> bytes:
     return bytes(data[:draw(st.integers(0, len(data)))] if draw(st.integers(0, 7)) == 0 else data)
 
 
+@st.composite
+def damaged(draw: st.DrawFn, texts: st.SearchStrategy[bytes]) -> bytes:
+    """One of these texts with one or two changes."""
+    return damage(draw, draw(texts))
+
+
 def term_texts() -> st.SearchStrategy[bytes]:
     """Texts that spell a term, texts with an error or two, and texts of fragments."""
-    valid = terms.flatmap(spelled).map(str.encode)
-    return st.one_of(valid, valid.flatmap(damaged), soups, term_soups)
+    valid = spellings().map(lambda pair: pair[0])
+    return st.one_of(valid, damaged(valid), soups, term_soups)
+
+
+@st.composite
+def line_texts(draw: st.DrawFn) -> bytes:
+    """A line: a triple, maybe with an error or two, a comment, or a text of fragments, which may be more lines."""
+    kind = draw(st.sampled_from("ttttbed"))
+    if kind == "b":
+        return draw(BARE).encode()
+    if kind == "e":
+        return draw(soups)
+    valid = spell_line(draw, draw(triples)).encode()
+    return valid if kind == "t" else damage(draw, valid)
 
 
 @st.composite
 def document_texts(draw: st.DrawFn) -> bytes:
-    """A few lines: triples, some of them with an error or two, comments, and texts of fragments."""
+    """A few lines with any ends."""
     parts = []
-    for kind in draw(st.lists(st.sampled_from("ttttbed"), max_size=4)):
-        if kind == "b":
-            parts.append(draw(bare_lines).encode())
-        elif kind == "e":
-            parts.append(draw(soups))
-        else:
-            valid = draw(triples.flatmap(line_of)).encode()
-            parts.append(valid if kind == "t" else draw(damaged(valid)))
-        parts.append(draw(LINE_ENDS).encode())
+    for line in draw(st.lists(line_texts(), max_size=4)):
+        parts += [line, draw(LINE_ENDS).encode()]
     return b"".join(parts[:-1] if draw(st.booleans()) else parts)
 
 
@@ -218,7 +227,7 @@ def strings() -> st.SearchStrategy[bytes]:
     """Dictionary strings of terms, foreign ones, and byte strings that belong to no term."""
     foreign = st.builds("{}:{}".format, SCHEMES, TEXTS).map(str.encode)
     valid = terms.map(ntriples.term_string)
-    return st.one_of(valid, foreign, valid.flatmap(damaged), soups)
+    return st.one_of(valid, foreign, damaged(valid), soups)
 
 
 # ---- readers in pieces
