@@ -1,4 +1,4 @@
-"""Hostile files and documents are read in linear time and memory: long common prefixes, huge blocks, equal hashes.
+"""Hostile files are read in linear time and memory: strings with long common prefixes, and huge blocks.
 
 A file that is small may have strings that are large together. Each test of time compares the CPU seconds of two files
 of one family, the second one of sixteen times the size: linear time takes sixteen times as long, quadratic time 256
@@ -12,7 +12,7 @@ from pathlib import Path
 
 import pytest
 
-from reference.hdt import graph, long_prefixes, loose_prefixes
+from reference.hdt import long_prefixes, loose_prefixes
 from support.built import PROGRAM
 from support.program import Result, hdt, run
 from support.timing import is_linear, measure, timed
@@ -144,27 +144,3 @@ def test_answers_at_the_start_of_a_huge_block(tmp_path: Path) -> None:
         return taken[1] - taken[0]
 
     check_linear(seconds, 4, 0.02)
-
-
-# Strings of 32 bytes that begin so have the same hash: their third eight bytes undo what the hash made of those before,
-# and nothing that follows changes it.
-COLLIDING = b"u:one-hash166742jByz7XnI/"
-
-
-def test_build_strings_of_one_hash(tmp_path: Path) -> None:
-    """Strings of one hash, each twice, are built in linear time."""
-    written = {}
-    for scale in SCALES:
-        strings = [tuple(COLLIDING + b"%c%06d" % (letter, n) for letter in b"spo") for n in range(2_000 * scale)]
-        lines = b"".join(b"<%s> <%s> <%s> .\n" % triple for triple in strings)
-        (tmp_path / f"{scale}.nt").write_bytes(lines * 2)
-        written[scale] = graph([(s, p, o) for s, p, o in strings], b"http://example.org/dataset").data
-
-    def seconds(scale: int) -> float:
-        count, out = 2_000 * scale, tmp_path / f"{scale}.hdt"
-        result, taken = timed([PROGRAM, "build", tmp_path / f"{scale}.nt", out])
-        assert result == Result(0, b"built %d 0 %d %d %d %d\n" % (count, count, count, count, len(written[scale])), b"")
-        assert out.read_bytes() == written[scale]
-        return taken
-
-    check_linear(seconds)

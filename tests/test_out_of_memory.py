@@ -13,8 +13,9 @@ import pytest
 
 from reference import hdt as reference
 from support.built import PROGRAM, SAMPLES
+from support.probe import line_of, spelled
 from support.program import Result, Word, hdt, run
-from support.refused_requests import DIALOGUE, GROUPS, Request, Token, spelled
+from support.refused_requests import DIALOGUE, GROUPS, Request
 from support.refusing import Refuser, wrong
 
 OUT_OF_MEMORY = Result(4, b"", b"hdt: out of memory\n")
@@ -238,7 +239,7 @@ def ends_with_fault(request: Request, answer: list[str], ample: list[str]) -> bo
 def are_right(word: str, request: Request, values: list[str], ample: list[str]) -> bool:
     """Whether the values of an answer that reports that memory ran out are right, by those in ample memory."""
     if word in APPENDING:
-        return values == [hexadecimal(request[APPENDING[word]])]
+        return values == [spelled(request[APPENDING[word]])]
     if word in EMPTY:
         return len(values) == len(ample) and all(value in ("", right) for value, right in zip(values, ample))
     if word in MISSING:
@@ -248,14 +249,9 @@ def are_right(word: str, request: Request, values: list[str], ample: list[str]) 
         return True
     if word in WITHOUT_ONE:
         skipped, model = WITHOUT_ONE[word]
-        strings = [hexadecimal(token) for token in request[skipped:]]
+        strings = [spelled(token) for token in request[skipped:]]
         return any(values == model(strings, number) for number in range(len(strings)))
     return False
-
-
-def hexadecimal(token: Token) -> str:
-    """An argument as it is spelled."""
-    return spelled((token,)).decode().rstrip("\n")
 
 
 def arena_without(strings: list[str], refused: int) -> list[str]:
@@ -280,9 +276,14 @@ WITHOUT_ONE: dict[str, tuple[int, Callable[[list[str], int], list[str]]]] = {
 }
 
 
+def lines_of(requests: Sequence[Request]) -> bytes:
+    """Requests as lines."""
+    return "".join(line_of(request) + "\n" for request in requests).encode()
+
+
 def answers_of(probe: Path, requests: Sequence[Request]) -> list[str]:
     """The answers to requests in ample memory."""
-    result = run([probe], stdin=b"".join(map(spelled, requests)))
+    result = run([probe], stdin=lines_of(requests))
     assert (result.status, result.err) == (0, b"")
     answers = result.out.decode().splitlines()
     assert [request for request, answer in zip(requests, answers) if answer.startswith("?")] == []
@@ -319,7 +320,7 @@ def chunks(requests: Sequence[Request]) -> Iterator[list[Request]]:
     given: Request = ("file", b"")
     chunk, size = [given], 0
     for request in requests:
-        line = len(spelled(request))
+        line = len(line_of(request))
         if request[0] == "file" or size > CHUNK_BYTES and len(chunk) > 2 or len(chunk) > CHUNK_REQUESTS:
             if len(chunk) > 1:
                 yield chunk
@@ -341,7 +342,7 @@ def test_library_calls(probe: Path, group: Callable[[], Iterator[Request]], refu
     """Each allocation of a library call is reported or done without, and the next calls are not changed by it."""
     for requests in chunks(list(group())):
         calls = Calls(probe, requests)
-        refusals = refuser.run([probe], stdin=b"".join(map(spelled, requests)))
+        refusals = refuser.run([probe], stdin=lines_of(requests))
         assert refusals.ample == Result(0, "".join(f"{answer}\n" for answer in calls.answers).encode(), b"")
         assert len(refusals.refused) > len(requests)
         failures = [(number, abridged(calls, result))
@@ -354,7 +355,7 @@ def abridged(calls: Calls, result: Result) -> tuple[int, bytes, list[tuple[str, 
     """How a process ended, and the first requests that it answered otherwise than in ample memory."""
     answers = result.out.decode().splitlines()
     pairs = zip(calls.requests, answers, calls.answers)
-    others = [(spelled(request).decode()[:200], answer[:200], ample[:200])
+    others = [(line_of(request)[:200], answer[:200], ample[:200])
               for request, answer, ample in pairs if answer != ample]
     return result.status, result.err, others[:4]
 

@@ -7,13 +7,12 @@ from __future__ import annotations
 
 from collections.abc import Callable, Iterator, Sequence
 from pathlib import Path
-from typing import Union
 
 from reference import hdt as reference
 from support.built import BUILT, SAMPLES
+from support.probe import Argument
 
-Token = Union[int, str, bytes]
-Request = tuple[Token, ...]
+Request = tuple[Argument, ...]
 PARTS, TERMS, GRAPH = (BUILT / name for name in ("hdt_probe_parts", "hdt_probe_terms", "hdt_probe_graph"))
 ANY = ("-", "-", "-")
 READER, WRITER = (7, "-"), (5, "-")
@@ -237,8 +236,8 @@ IDS = [(s, p, o) for s in range(1, 8) for p in range(1, 4) for o in range(1, 12,
 def triples() -> Iterator[Request]:
     """Triples: the types that find them, with and without directories and lists, and writing them."""
     flat = [number for triple in IDS for number in triple]
-    patterns: list[Token] = [*ANY, 3, "-", "-", "-", 2, "-", "-", "-", 5, 3, 2, "-", 3, "-", 1, "-", 2, 1, 3, 2, 1,
-                             9, 9, 9]
+    patterns: list[Argument] = [*ANY, 3, "-", "-", "-", 2, "-", "-", "-", 5, 3, 2, "-", 3, "-", 1, "-", 2, 1,
+                                3, 2, 1, 9, 9, 9]
     counts = (0, 7, 3, 11)
     yield "file", reference.write_triples(IDS)
     yield "triples", *counts
@@ -564,9 +563,3 @@ GROUPS: dict[Path, tuple[Callable[[], Iterator[Request]], ...]] = {
     GRAPH: (opening, searching, errors_of_files, large_graph, long_strings, building, large_building, rewriting,
             large_rewriting, command_lines, dialogues, large_command),
 }
-
-
-def spelled(request: Request) -> bytes:
-    """A request as a line."""
-    return b" ".join(token.hex().encode() if isinstance(token, bytes) else b"%d" % token if isinstance(token, int)
-                     else token.encode() for token in request) + b"\n"
