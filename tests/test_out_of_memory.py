@@ -189,7 +189,7 @@ APPENDING = {
     "put_vbyte": 1, "put_decimal": 1, "put_control": 3, "put_numbers": 1, "put_bits": 1, "put_section": 1,
     "put_lent_section": 1, "write_section": 1, "write_section_agreeing": 1, "section_string": 3,
     "dictionary_string_of": 4, "put_dictionary": 1, "put_lent_dictionary": 1, "put_written_dictionary": 1,
-    "put_triples": 1, "parse_string": 2, "put_string": 2, "put_term": 2, "string_of": 3, "layout_string_of": 3,
+    "put_triples": 1, "parse_string": 2, "put_string": 2, "put_term": 2, "layout_string_of": 3,
 }
 # Words that answer values one by one until memory runs out.
 WALKING = {
@@ -201,8 +201,8 @@ EMPTY = {"section_strings"}
 MISSING = {"line_triples", "line_calls", "document"}
 # Words that end with the name, the line and the column of an error.
 ENDING = {"line_triples", "line_strings", "line_texts"}
-# Words whose answer is followed by what a writer took, and the value that tells it in ample memory.
-WITH_WRITER = {"build": 7, "rewrite": 7, "write_graph": 2}
+# Words whose last value is what a writer took.
+WRITING = {"build", "rewrite", "write_graph"}
 # Words that answer with the exit status and the line of an error: the values that follow.
 WITH_STATUS = {"run": 0, "run_in": 0, "answer_requests": 1, "answer_file": 1}
 
@@ -240,6 +240,10 @@ def are_right(word: str, request: Request, values: list[str], ample: list[str]) 
     """Whether the values of an answer that reports that memory ran out are right, by those in ample memory."""
     if word in APPENDING:
         return values == [spelled(request[APPENDING[word]])]
+    if word == "string_of":
+        return values == [spelled(request[3]), ample[-1]]
+    if word in WRITING:
+        return len(values) == 1 and ample[-1].startswith(values[0])
     if word in EMPTY:
         return len(values) == len(ample) and all(value in ("", right) for value, right in zip(values, ample))
     if word in MISSING:
@@ -281,6 +285,16 @@ def lines_of(requests: Sequence[Request]) -> bytes:
     return "".join(line_of(request) + "\n" for request in requests).encode()
 
 
+def without_a_text(request: Request) -> list[Request]:
+    """A request `append_graph_text` without one of its texts, for each of them, and without any."""
+    texts, at = [], 2
+    while at < len(request):
+        end = at + (2 if request[at + 1] == "none" else 4)
+        texts.append((at, end))
+        at = end
+    return [request[:2], *(request[:at] + request[end:] for at, end in texts)]
+
+
 def answers_of(probe: Path, requests: Sequence[Request]) -> list[str]:
     """The answers to requests in ample memory."""
     result = run([probe], stdin=lines_of(requests))
@@ -298,6 +312,9 @@ class Calls:
         self.answers = answers_of(probe, requests)
         # The same without an input, as where the request `file` was refused.
         self.without = answers_of(probe, [("file", b""), *requests[1:]])
+        # By the number of a request to append texts, the answers where one text was left out.
+        self.texts = {number: answers_of(probe, [requests[0], *without_a_text(request)])[1:]
+                      for number, request in enumerate(requests) if request[0] == "append_graph_text"}
 
     def is_right(self, result: Result) -> bool:
         """Whether the answers are those of ample memory, but for one request that was out of memory."""
@@ -307,9 +324,14 @@ class Calls:
         for number, (answer, ample) in enumerate(zip(answers, self.answers)):
             if answer != ample:
                 following = (self.without if number == 0 else self.answers)[number + 1:]
-                return (is_out_of_memory(self.requests[number], answer.split(" "), ample.split(" "))
-                        and answers[number + 1:] == following)
+                return self.is_out_of_memory(number, answer) and answers[number + 1:] == following
         return True
+
+    def is_out_of_memory(self, number: int, answer: str) -> bool:
+        """Whether a request's answer reports that memory ran out."""
+        if number in self.texts and answer.replace("out of memory", "ok") in self.texts[number]:
+            return True
+        return is_out_of_memory(self.requests[number], answer.split(" "), self.answers[number].split(" "))
 
 
 def chunks(requests: Sequence[Request]) -> Iterator[list[Request]]:
@@ -325,7 +347,7 @@ def chunks(requests: Sequence[Request]) -> Iterator[list[Request]]:
             if len(chunk) > 1:
                 yield chunk
             given = request if request[0] == "file" else given
-            chunk, size = [given], 0
+            chunk, size = [given], len(line_of(given))
         if request[0] != "file":
             chunk.append(request)
             size += line

@@ -366,6 +366,7 @@ def opening() -> Iterator[Request]:
         yield word, 2, 3, b""
         yield word, 0, 1, BEFORE
         yield word, 1, 9, BEFORE
+    yield "uses_of", 0, 1, 2, 1, 3
     for word in ("strings", "layout_strings"):
         yield from [(word, role) for role in range(3)]
 
@@ -373,9 +374,9 @@ def opening() -> Iterator[Request]:
 def searching() -> Iterator[Request]:
     """Searches of the same file by IDs and by strings, and their texts."""
     yield "file", OF_THREE
-    for word in ("search", "layout_search"):
+    for word in ("search", "layout_search", "graph_layout_search"):
         yield word, *ANY, 1, "-", "-", "-", 1, "-", "-", "-", 1, 1, 1, "-", 1, "-", 2, "-", 1, 2, 1, 1, 2
-    for word in ("pattern", "layout_pattern", "find_strings"):
+    for word in ("pattern", "layout_pattern", "graph_layout_pattern", "find_strings"):
         yield word, b"u:a", "-", "-"
         yield word, "-", b"u:p", b"u:z"
         yield word, *ANY
@@ -385,6 +386,7 @@ def searching() -> Iterator[Request]:
         yield word, 1, "-", "-"
     for word in ("graph_text_up_to", "layout_text_up_to"):
         yield word, 2, *ANY
+        yield word, "-", *ANY
         yield word, "-", "none"
     yield "append_graph_text", BEFORE, 1, *ANY, "-", "-", 1, "-", 2, "none"
     yield "write_graph", *WRITER, "none"
@@ -406,9 +408,10 @@ def errors_of_files() -> Iterator[Request]:
         yield "rewrite_bytes", 16, b"http://a/"
     yield "file", reference.graph([(b"u:a", b"rel", b"u:b"), (b"u:a", b"u:p", b'"x')]).data
     yield "graph_text", "none"
+    yield "graph_text", *ANY
     yield "layout_text", *ANY
-    yield "append_graph_text", BEFORE, 1, *ANY, "-", "none"
-    yield "write_graph", *WRITER, "none"
+    yield "append_graph_text", BEFORE, 1, *ANY, "-", *ANY
+    yield "write_graph", *WRITER, *ANY
 
 
 def large_graph() -> Iterator[Request]:
@@ -417,7 +420,7 @@ def large_graph() -> Iterator[Request]:
     yield from [(word,) for word in ("open", "open_tight", "verify", "verify_tight", "layout")]
     yield "search", 1, "-", "-", "-", "-", 1
     yield "find_strings", "-", "-", b"http://a/7"
-    yield "graph_text_up_to", 1_000, "none"
+    yield "graph_text_up_to", 1_000, *ANY
     yield "write_graph", 1_000, "-", "-", 1, "-"
 
 
@@ -427,9 +430,9 @@ def long_strings() -> Iterator[Request]:
     yield from [(word,) for word in ("open", "open_tight", "verify", "verify_tight", "layout")]
     yield "strings", 0
     yield "string_of", 0, 3, BEFORE
-    yield "graph_text", "none"
-    yield "layout_text", "none"
-    yield "write_graph", 1_000, "-", "none"
+    yield "graph_text", *ANY
+    yield "layout_text", *ANY
+    yield "write_graph", 1_000, "-", *ANY
     yield "rewrite_bytes", 2, b"http://a/"
     yield "rewrite", 65_535, b"http://a/", 1_000, "-"
 
@@ -459,8 +462,8 @@ def building() -> Iterator[Request]:
 
 
 def large_building() -> Iterator[Request]:
-    """A document of 2,000 triples, each twice, with a literal of 100,000 bytes."""
-    yield "file", numbered(2_000) * 2 + b'<u:a> <u:p> "' + LARGE + b'" .\n'
+    """A document of 1,000 triples, each twice, with a literal of 100,000 bytes."""
+    yield "file", numbered(1_000) * 2 + b'<u:a> <u:p> "' + LARGE + b'" .\n'
     yield "build_bytes", 16, b"http://a/", 4_096, "-"
     yield "build", 65_535, b"http://a/", 4_096, "-", 1_000, "-"
     yield "build_bytes", 16, b"u:" + LARGE, 4_096, "-"
