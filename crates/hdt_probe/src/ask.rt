@@ -110,13 +110,28 @@ impl<'a> Ask<'a> {
         self.number() != 0
     }
 
+    /// A number, or `-` for none.
+    fn maybe_in(&mut self, text: &str) -> Option<u64> {
+        if text == "-" {
+            return None;
+        }
+        Some(self.number_in(text))
+    }
+
     /// The next argument, a number, or `-` for none.
     pub fn maybe(&mut self) -> Option<u64> {
         let word = self.word();
-        if word == "-" {
+        self.maybe_in(word)
+    }
+
+    /// The next three arguments, numbers, each of which may be none; or none in place of all three.
+    pub fn maybe_three(&mut self) -> Option<(Option<u64>, Option<u64>, Option<u64>)> {
+        let word = self.word();
+        if word == "none" {
             return None;
         }
-        Some(self.number_in(word))
+        let first = self.maybe_in(word);
+        Some((first, self.maybe(), self.maybe()))
     }
 
     /// Bytes in hexadecimal.

@@ -19,7 +19,7 @@ mod source;
 pub use ask::Ask;
 pub use kept::{Kept, word_of};
 pub use reason::reason_of;
-pub use say::Say;
+pub use say::{Say, role_number};
 pub use seen::Seen;
 pub use sink::Sink;
 pub use source::Source;
