@@ -22,4 +22,4 @@ pub use reason::reason_of;
 pub use say::{Say, role_number};
 pub use seen::Seen;
 pub use sink::Sink;
-pub use source::Source;
+pub use source::{Pieces, Source};

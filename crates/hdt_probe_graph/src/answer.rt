@@ -1,6 +1,6 @@
 //! One request and its answer.
 
-use crate::{build, faults, graph, layout, open, texts};
+use crate::{build, command, faults, graph, layout, open, run, texts};
 use hdt_probe::{Ask, Kept, Say, word_of};
 use std::alloc::{AllocError, Global};
 
@@ -12,7 +12,9 @@ fn say_help(say: &mut Say) {
     say.word(layout::WORDS);
     say.word(texts::WORDS);
     say.word(build::WORDS);
-    say.word(faults::WORDS)
+    say.word(faults::WORDS);
+    say.word(command::WORDS);
+    say.word(run::WORDS)
 }
 
 /// Answers a request of a word that calls a library.
@@ -23,6 +25,8 @@ fn answer_call(word: &str, ask: &mut Ask<'_>, say: &mut Say) -> bool {
         || texts::answer(word, ask, say)
         || build::answer(word, ask, say)
         || faults::answer(word, ask, say)
+        || command::answer(word, ask, say)
+        || run::answer(word, ask, say)
 }
 
 /// Puts the line that answers a request.

@@ -67,7 +67,7 @@ pub fn say_rewrite_fault(fault: RewriteFault, say: &mut Say) {
 }
 
 /// The fault of a file that the next arguments are.
-pub fn file_fault_of(ask: &mut Ask<'_>) -> Fault {
+fn file_fault_of(ask: &mut Ask<'_>) -> Fault {
     Fault {
         place: ask.number(),
         reason: ask.reason(),
@@ -94,7 +94,7 @@ pub fn line_reason_of(ask: &mut Ask<'_>) -> LineReason {
 }
 
 /// The fault of a line that the next arguments are.
-pub fn line_fault_of(ask: &mut Ask<'_>) -> LineFault {
+fn line_fault_of(ask: &mut Ask<'_>) -> LineFault {
     LineFault {
         line: ask.number(),
         column: ask.number(),

@@ -7,7 +7,8 @@ use hdt_probe::{Ask, Say};
 use hdt_seq::Steps;
 
 /// The words, each with the count of its arguments.
-pub const WORDS: &str = "layout_search 3+ graph_layout_search 3+ layout_pattern 3 graph_layout_pattern 3 layout_number_of 1+ layout_string_of 3 layout_strings 1";
+pub const WORDS: &str =
+    "layout_search 3+ graph_layout_search 3+ layout_pattern 3 graph_layout_pattern 3 layout_number_of 1+ layout_string_of 3 layout_strings 1";
 
 /// Answers a request of one of these words.
 pub fn answer(word: &str, ask: &mut Ask<'_>, say: &mut Say) -> bool {

@@ -4,10 +4,12 @@
 
 mod answer;
 mod build;
+mod command;
 mod faults;
 mod graph;
 mod layout;
 mod open;
+mod run;
 mod texts;
 
 use crate::answer::answer_line;

@@ -2,9 +2,7 @@
 
 use crate::faults::say_open_fault;
 use hdt_dict::Role;
-use hdt_file::{
-    Graph, Layout, open, open_tight, read_dictionary, read_head, verify, verify_tight,
-};
+use hdt_file::{Graph, Layout, open, open_tight, read_dictionary, read_head, verify, verify_tight};
 use hdt_probe::{Ask, Say};
 use hdt_wire::Control;
 

@@ -11,7 +11,8 @@ use hdt_triples::Pattern;
 use std::alloc::AllocError;
 
 /// The words, each with the count of its arguments.
-pub const WORDS: &str = "graph_text 1+ layout_text 1+ graph_text_up_to 2+ layout_text_up_to 2+ append_graph_text 1+ write_graph 3+";
+pub const WORDS: &str =
+    "graph_text 1+ layout_text 1+ graph_text_up_to 2+ layout_text_up_to 2+ append_graph_text 1+ write_graph 3+";
 
 /// Answers a request of one of these words.
 pub fn answer(word: &str, ask: &mut Ask<'_>, say: &mut Say) -> bool {
