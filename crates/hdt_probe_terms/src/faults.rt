@@ -4,8 +4,7 @@ use hdt_probe::{Ask, Say};
 use hdt_terms::{LineFault, LineReason, StringFault, TermFault};
 
 /// The words, each with the count of its arguments.
-pub const WORDS: &str =
-    "line_reason 1 term_fault_text 2 line_fault_text 3 string_fault_text 1";
+pub const WORDS: &str = "line_reason 1 term_fault_text 2 line_fault_text 3 string_fault_text 1";
 
 /// Answers a request of one of these words.
 pub fn answer(word: &str, ask: &mut Ask<'_>, say: &mut Say) -> bool {

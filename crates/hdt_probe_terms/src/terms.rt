@@ -8,7 +8,8 @@ use hdt_terms::{
 };
 
 /// The words, each with the count of its arguments.
-pub const WORDS: &str = "parse_term 1 parse_string 2 term_string 1 string_term 1 put_term 2 put_string 2 is_iri 1 same_term 2";
+pub const WORDS: &str =
+    "parse_term 1 parse_string 2 term_string 1 string_term 1 put_term 2 put_string 2 is_iri 1 same_term 2";
 
 /// Answers a request of one of these words.
 pub fn answer(word: &str, ask: &mut Ask<'_>, say: &mut Say) -> bool {
