@@ -13,7 +13,7 @@ import pytest
 
 from reference import hdt as reference
 from support.built import PROGRAM, SAMPLES
-from support.probe import line_of, spelled
+from support.probe import Probe, line_of, spelled
 from support.program import Result, Word, hdt, run
 from support.refused_requests import DIALOGUE, GROUPS, Request
 from support.refusing import Refuser, wrong
@@ -182,7 +182,6 @@ def test_dialogues(name: str, refuser: Refuser) -> None:
 
 # A list of requests ends when it has more than so many bytes, or requests.
 CHUNK_BYTES, CHUNK_REQUESTS = 20_000, 30
-PROBES = [(probe, group) for probe, groups in GROUPS.items() for group in groups]
 ERROR_LINE = b"hdt: out of memory\n".hex()
 # Words that append to an output: the argument that is the output before. A call that fails leaves it as it was.
 APPENDING = {
@@ -359,12 +358,13 @@ def unread(ample: Result, printed: int) -> Result:
     return Result(1, ample.out[:printed], b"Error: Kind(OutOfMemory)\n")
 
 
-@pytest.mark.parametrize("probe, group", PROBES, ids=[group.__name__ for _, group in PROBES])
-def test_library_calls(probe: Path, group: Callable[[], Iterator[Request]], refuser: Refuser) -> None:
+@pytest.mark.parametrize("group", GROUPS, ids=[group.__name__ for group in GROUPS])
+def test_library_calls(group: Callable[[], Iterator[Request]], probe: Probe, refuser: Refuser) -> None:
     """Each allocation of a library call is reported or done without, and the next calls are not changed by it."""
     for requests in chunks(list(group())):
-        calls = Calls(probe, requests)
-        refusals = refuser.run([probe], stdin=lines_of(requests))
+        path = probe.paths[probe.name_of(str(requests[-1][0]))]
+        calls = Calls(path, requests)
+        refusals = refuser.run([path], stdin=lines_of(requests))
         assert refusals.ample == Result(0, "".join(f"{answer}\n" for answer in calls.answers).encode(), b"")
         assert len(refusals.refused) > len(requests)
         failures = [(number, abridged(calls, result))
@@ -382,9 +382,8 @@ def abridged(calls: Calls, result: Result) -> tuple[int, bytes, list[tuple[str, 
     return result.status, result.err, others[:4]
 
 
-@pytest.mark.parametrize("probe", GROUPS, ids=[probe.name for probe in GROUPS])
-def test_each_word_is_requested(probe: Path) -> None:
+def test_each_word_is_requested(probe: Probe) -> None:
     """The requests use each word of each probe."""
-    words = set(answers_of(probe, [("help",)])[0].split(" ")[1::2])
-    used = {str(request[0]) for group in GROUPS[probe] for request in group()}
+    words = {word for name in probe.paths for word in probe.words(name)}
+    used = {str(request[0]) for group in GROUPS for request in group()}
     assert words - used - {"help", "reads", "writes"} == set()

@@ -6,14 +6,12 @@ They are made to be run with each allocation refused: a group is short, and what
 from __future__ import annotations
 
 from collections.abc import Callable, Iterator, Sequence
-from pathlib import Path
 
 from reference import hdt as reference
-from support.built import BUILT, SAMPLES
+from support.built import SAMPLES
 from support.probe import Argument
 
 Request = tuple[Argument, ...]
-PARTS, TERMS, GRAPH = (BUILT / name for name in ("hdt_probe_parts", "hdt_probe_terms", "hdt_probe_graph"))
 ANY = ("-", "-", "-")
 READER, WRITER = (7, "-"), (5, "-")
 BEFORE = b"before"
@@ -210,6 +208,7 @@ def dictionary() -> Iterator[Request]:
         yield word, BEFORE, 3, *counts, *together
     yield "arena", 0, 0, *together
     yield "arena", 40, 400, *together
+    yield "arena_of", b"onetwothree", 0, 3, 6, 11
 
 
 def large_dictionary() -> Iterator[Request]:
@@ -342,8 +341,8 @@ def large_lines() -> Iterator[Request]:
 
 
 def whole_document() -> Iterator[Request]:
-    """A document of 100 triples as terms, each of which is an allocation; and one cut off in a literal."""
-    document = numbered(100)
+    """A document of 40 triples as terms, each of which is an allocation; and one cut off in a literal."""
+    document = numbered(40)
     yield "file", document
     yield "document", LIMIT, 4_096, "-"
     yield "line_triples", LIMIT, 4_096, "-"
@@ -559,10 +558,11 @@ def large_command() -> Iterator[Request]:
     yield "run", 4_096, "-", 1_000, "-", BEFORE, *words_of(["build", "f", "g"])
 
 
-GROUPS: dict[Path, tuple[Callable[[], Iterator[Request]], ...]] = {
-    PARTS: (wire, large_wire, numbers, bits, large_bits, section, section_of_long_strings, section_of_many_strings,
-            dictionary, large_dictionary, triples, large_triples),
-    TERMS: (terms, large_terms, lines, large_lines, whole_document),
-    GRAPH: (opening, searching, errors_of_files, large_graph, long_strings, building, large_building, rewriting,
-            large_rewriting, command_lines, dialogues, large_command),
-}
+GROUPS: tuple[Callable[[], Iterator[Request]], ...] = (
+    wire, large_wire, numbers, bits, large_bits, section, section_of_long_strings, section_of_many_strings,
+    dictionary, large_dictionary, triples, large_triples,
+    terms, large_terms, lines, large_lines, whole_document,
+    opening, searching, errors_of_files, large_graph, long_strings,
+    building, large_building, rewriting, large_rewriting,
+    command_lines, dialogues, large_command,
+)
