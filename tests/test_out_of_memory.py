@@ -193,7 +193,7 @@ APPENDING = {
 # Words that answer values one by one until memory runs out.
 WALKING = {
     "counted_read", "section_walk", "section_walk_kept", "section_cursor", "section_cursor_compared", "arena",
-    "dictionary_strings", "dictionary_strings_kept", "strings", "layout_strings",
+    "arena_of", "dictionary_strings", "dictionary_strings_kept", "strings", "layout_strings",
 }
 # Words that answer several values, each of which alone may be empty, or be missing.
 EMPTY = {"section_strings"}

@@ -208,7 +208,7 @@ def dictionary() -> Iterator[Request]:
         yield word, BEFORE, 3, *counts, *together
     yield "arena", 0, 0, *together
     yield "arena", 40, 400, *together
-    yield "arena_of", b"onetwothree", 0, 3, 6, 11
+    yield "arena_of", *together
 
 
 def large_dictionary() -> Iterator[Request]:
