@@ -53,7 +53,7 @@ COMMANDS: dict[str, tuple[list[Word], int]] = {
     "number": (["number", THREE, "object", '"x"'], 0),
     "number, raw": (["number", "--raw", THREE, "predicate", "u:z"], 0),
     "number, not a term": (["number", THREE, "object", "x"], 0),
-    "strings, no role": (["strings", SAMPLES / "v1.hdt", "thing"], 40),
+    "strings, no role": (["strings", SAMPLES / "v1.hdt", "thing"], 13),
     "find a predicate": (["find", THREE, "?", "<u:p>", "?"], 0),
     "find numbers": (["find", "--numbers", THREE, "?", "?", '"x"'], 0),
     "find count": (["find", "--count", THREE, "?", "<u:p>", "?"], 0),
@@ -69,13 +69,13 @@ COMMANDS: dict[str, tuple[list[Word], int]] = {
     "dump, cut": (["dump", "cut.hdt"], 0),
     "build": (["build", LINES, "1.hdt"], 3),
     "build with options": (["build", "--base", "u:x", "--block-size", "1", SAMPLES / "v1.nt", "2.hdt"], 3),
-    "build, bad options": (["build", "--base", "rel", SAMPLES / "v1.nt", "3.hdt"], 3),
-    "build, bad line": (["build", "bad.nt", "4.hdt"], 3),
+    "build, bad options": (["build", "--base", "rel", SAMPLES / "v1.nt", "3.hdt"], 0),
+    "build, bad line": (["build", "bad.nt", "4.hdt"], 0),
     "build, a folder": (["build", LINES, "."], 3),
     "rewrite": (["rewrite", THREE, "5.hdt"], 3),
     "rewrite with options": (["rewrite", "--block-size", "1", "unused.hdt", "6.hdt"], 3),
-    "rewrite, bad options": (["rewrite", "--block-size", "0", "unused.hdt", "7.hdt"], 3),
-    "rewrite, cut": (["rewrite", "cut.hdt", "8.hdt"], 3),
+    "rewrite, bad options": (["rewrite", "--block-size", "0", "unused.hdt", "7.hdt"], 0),
+    "rewrite, cut": (["rewrite", "cut.hdt", "8.hdt"], 0),
     "rewrite, a folder": (["rewrite", "unused.hdt", "."], 3),
     "build to standard output": (["build", LINES, "/dev/stdout"], 3),
     "rewrite to standard output": (["rewrite", THREE, "/dev/stdout"], 3),
@@ -87,22 +87,22 @@ HELP: list[list[Word]] = [
 ]
 # Command lines that are refused, and words that aren't terms.
 REFUSED: list[tuple[list[Word], int]] = [
-    (["build", "a.nt"], 3),
-    (["build", "--block-size", "4294967296", "a.nt", "b.hdt"], 3),
-    (["strings", "a.hdt", "thing"], 40),
+    (["build", "a.nt"], 0),
+    (["build", "--block-size", "4294967296", "a.nt", "b.hdt"], 0),
+    (["strings", "a.hdt", "thing"], 13),
     (["string", "a.hdt", "object", "18446744073709551616"], 0),
     (["string", "a.hdt", "object", "x"], 0),
     (["strings", "a.hdt"], 0),
     (["head"], 0),
     (["verify", "--tight"], 0),
-    (["head", "--tight", "a.hdt"], 10),
-    (["rewrite", "a.hdt"], 3),
-    (["rewrite", "a.hdt", "b.hdt", "--base", "x"], 10),
-    (["rewrite", "a.hdt", "b.hdt", "--block-size", "x"], 3),
+    (["head", "--tight", "a.hdt"], 3),
+    (["rewrite", "a.hdt"], 0),
+    (["rewrite", "a.hdt", "b.hdt", "--base", "x"], 9),
+    (["rewrite", "a.hdt", "b.hdt", "--block-size", "x"], 0),
     (["find", "a.hdt", "?", "?", "?", "--most", "x"], 0),
     (["find", "a.hdt", "x", "y"], 0),
     (["dump", "a.hdt", "x"], 0),
-    (["dump", "--numbers", "a.hdt"], 10),
+    (["dump", "--numbers", "a.hdt"], 3),
     (["vierge", "a.hdt"], 40),
     (["head", "a.hdt", "b.hdt"], 0),
     ([], 0),
@@ -169,13 +169,14 @@ def test_refused_command_lines(words: list[Word], unchanged: int, refuser: Refus
 
 @pytest.mark.parametrize("name", DIALOGUES)
 def test_dialogues(name: str, refuser: Refuser) -> None:
-    """A program that answers requests prints whole answers only, and then reports the refused allocation."""
-    command: list[Word] = [PROGRAM, *DIALOGUES[name]]
-    refusals = refuser.run(command, stdin=DIALOGUE)
-    ample = hdt(*DIALOGUES[name], stdin=DIALOGUE)
-    assert refusals.ample == ample
-    answers = [ample.out[:at] for at in range(len(ample.out) + 1)]
-    assert wrong(refusals, lambda result: result._replace(out=b"") == OUT_OF_MEMORY and result.out in answers, 8) == []
+    """A program that answers requests prints whole answers, and then reports the refused allocation."""
+    refusals = refuser.run([PROGRAM, *DIALOGUES[name]], stdin=DIALOGUE)
+    requests = DIALOGUE.splitlines(keepends=True)
+    answers = [hdt(*DIALOGUES[name], stdin=b"".join(requests[:count])) for count in range(len(requests) + 1)]
+    assert refusals.ample == answers[-1]
+    expected = [OUT_OF_MEMORY._replace(out=answer.out) for answer in answers]
+    assert wrong(refusals, lambda result: result in expected) == []
+    assert {result.out for result, _ in refusals.refused} > {b"", answers[1].out}
 
 
 # ---- the libraries
