@@ -182,8 +182,7 @@ def test_dialogues(name: str, refuser: Refuser) -> None:
 # ---- the libraries
 
 # A list of requests ends when it has more than so many bytes, or requests.
-CHUNK_BYTES, CHUNK_REQUESTS = 20_000, 30
-ERROR_LINE = b"hdt: out of memory\n".hex()
+CHUNK_BYTES, CHUNK_REQUESTS = 20_000, 12
 # Words that append to an output: the argument that is the output before. A call that fails leaves it as it was.
 APPENDING = {
     "put_vbyte": 1, "put_decimal": 1, "put_control": 3, "put_numbers": 1, "put_bits": 1, "put_section": 1,
@@ -202,9 +201,13 @@ MISSING = {"line_triples", "line_calls", "document"}
 # Words that end with the name, the line and the column of an error.
 ENDING = {"line_triples", "line_strings", "line_texts"}
 # Words whose last value is what a writer took.
-WRITING = {"build", "rewrite", "write_graph"}
-# Words that answer with the exit status and the line of an error: the values that follow.
-WITH_STATUS = {"run": 0, "run_in": 0, "answer_requests": 1, "answer_file": 1}
+WRITING = {"build", "rewrite", "write_graph", "answer_requests", "answer_file"}
+# Words whose last two values are what a writer took, and what was made; and the argument that it was before.
+RUNNING: dict[str, int | None] = {"run": None, "run_in": None, "run_made": 1}
+# The answer where there is no memory to read a command line; and those of words that read one, or tell an error.
+NO_REQUEST = ["usage", "4", b"hdt: out of memory".hex()]
+NO_TABLE = ["ok", "error", b"error: out of memory\n".hex()]
+NO_USAGE = ["ok", "4", b"hdt: out of memory".hex()]
 
 
 def is_out_of_memory(request: Request, answer: list[str], ample: list[str]) -> bool:
@@ -218,10 +221,9 @@ def is_out_of_memory(request: Request, answer: list[str], ample: list[str]) -> b
         return ends_with_fault(request, answer, ample)
     if word == "handed_back":
         return answer[:2] in (["ok", "triples"], ["ok", "indexed"]) and answer[2:] == ample[3:]
-    if word in WITH_STATUS:
-        at = 1 + WITH_STATUS[word]
-        return answer[at:at + 2] == ["4", ERROR_LINE] or answer[:3] == ["usage", "4", ERROR_LINE]
-    return answer[:3] == ["usage", "4", ERROR_LINE]
+    if word in ("table", "usage_line"):
+        return answer == (NO_TABLE if word == "table" else NO_USAGE)
+    return answer == NO_REQUEST
 
 
 def ends_with_fault(request: Request, answer: list[str], ample: list[str]) -> bool:
@@ -242,6 +244,10 @@ def are_right(word: str, request: Request, values: list[str], ample: list[str]) 
         return values == [spelled(request[APPENDING[word]])]
     if word == "string_of":
         return values == [spelled(request[3]), ample[-1]]
+    if word in RUNNING:
+        argument = RUNNING[word]
+        made = "" if argument is None else spelled(request[argument])
+        return len(values) == 2 and ample[-2].startswith(values[0]) and values[1] == made
     if word in WRITING:
         return len(values) == 1 and ample[-1].startswith(values[0])
     if word in EMPTY:

@@ -492,13 +492,14 @@ def large_rewriting() -> Iterator[Request]:
     yield "rewrite_bytes", 16, b"http://a/"
 
 
+# The last ones are read by a word of their own too.
 COMMAND_LINES = (
     ("head", "f"), ("verify", "f"), ("verify", "--tight", "f"), ("strings", "f", "object"),
     ("string", "f", "object", "3"), ("string", "f", "object", "4"), ("number", "f", "object", '"x"'),
-    ("number", "f", "object", "rel"), ("find", "f", "?", "<u:p>", "?"), ("find", "--numbers", "f", "?", "?", "?"),
-    ("find", "--count", "f", "?", "?", "?"), ("find", "--raw", "--most", "1", "f", "u:a", "?", "?"),
-    ("answer", "--numbers", "f"), ("dump", "f"), ("rewrite", "--block-size", "1", "f", "g"), ("find", "f", "x"),
-    ("--help",), ("build", "--base", "u:x", "f", "g"),
+    ("find", "f", "?", "<u:p>", "?"), ("find", "--numbers", "f", "?", "?", "?"),
+    ("find", "--count", "f", "?", "?", "?"), ("answer", "--numbers", "f"), ("dump", "f"),
+    ("number", "f", "object", "rel"), ("find", "f", "x"), ("find", "--raw", "--most", "1", "f", "u:a", "?", "?"),
+    ("--help",), ("build", "--base", "u:x", "f", "g"), ("rewrite", "--block-size", "1", "f", "g"),
 )
 
 
@@ -510,14 +511,19 @@ def words_of(line: Sequence[str]) -> list[bytes]:
 def command_lines() -> Iterator[Request]:
     """Command lines, and the commands that they ask for."""
     yield "file", OF_THREE
-    for line in COMMAND_LINES:
+    for line in COMMAND_LINES[-6:]:
         yield "parse_words", *words_of(line)
-        yield "run", *READER, *WRITER, BEFORE, *words_of(line)
-    yield "parse_all_words", *words_of(["--progress", "verify", "f"])
+    for line in COMMAND_LINES:
+        yield "run", *READER, *WRITER, *words_of(line)
+    yield "parse_all_words", *words_of(["build", "--progress", "f", "g"])
+    yield "parse_all_words", *words_of(["dump", "f"])
     yield "table", b"subject", b"predicate", b"object", *words_of(["dump", "f"])
-    yield "run", *READER, 5, 2, BEFORE, *words_of(["dump", "f"])
-    yield "run", 7, 50, *WRITER, BEFORE, *words_of(["dump", "f"])
-    yield "run_in", 100, *READER, *WRITER, BEFORE, *words_of(["dump", "f"])
+    yield "table", b"subject", b"predicate", b"object", *words_of(["summon"])
+    yield "run", *READER, 5, 2, *words_of(["dump", "f"])
+    yield "run", 7, 50, *WRITER, *words_of(["dump", "f"])
+    yield "run_in", 100, *READER, *WRITER, *words_of(["dump", "f"])
+    yield "run_made", BEFORE, *READER, *WRITER, *words_of(["rewrite", "f", "g"])
+    yield "run_made", BEFORE, *READER, 5, 2, *words_of(["rewrite", "f", "g"])
 
 
 def dialogues() -> Iterator[Request]:
@@ -529,33 +535,27 @@ def dialogues() -> Iterator[Request]:
     yield "answer_requests", 0, "-", 0, *READER, 5, 2, DIALOGUE
     yield "answer_requests", 0, "-", 0, 7, 20, *WRITER, DIALOGUE
     yield "answer_file", 0, "-", 0, 100, *READER, *READER, *WRITER, DIALOGUE
-    yield "fault_line", "file", 2 ** 64 - 1, 34
-    yield "fault_line", "input", 2, 13, 4
-    yield "fault_line", "no_triples"
-    yield "fault_line", "no_such_term"
-    yield "fault_line", "no_such_number"
+    yield "fault_line", "file", 34, 2 ** 64 - 1
+    yield "fault_line", "input", 4, 2, 13
+    for fault in ("no_triples", "no_such_term", "no_such_number", "bad_options", "read", "memory"):
+        yield "fault_line", fault
     yield "fault_line", "not_a_term", 1, 2 ** 64 - 1
-    yield "fault_line", "bad_options"
-    yield "fault_line", "read"
     yield "fault_line", "write", 5
-    yield "fault_line", "out_of_memory"
     yield "usage_line", "usage", b"text"
     yield "usage_line", "help", b"text"
-    yield "usage_line", "word", "term", 1, 4
-    yield "usage_line", "word", "subject", 2 ** 64 - 1, 1
-    yield "usage_line", "word", "predicate", 1, 1
-    yield "usage_line", "word", "object", 1, 1
-    yield "usage_line", "out_of_memory"
+    for word in range(4):
+        yield "usage_line", "word", word, 1, 2 ** 64 - 1
+    yield "usage_line", "memory"
 
 
 def large_command() -> Iterator[Request]:
     """The commands on a file of 1,000 triples, and on a document with a literal of 100,000 bytes."""
     yield "file", of_document(numbered(1_000))
     for line in (("verify", "f"), ("strings", "f", "object"), ("dump", "f"), ("rewrite", "f", "g")):
-        yield "run", 4_096, "-", 1_000, "-", b"", *words_of(line)
+        yield "run", 4_096, "-", 1_000, "-", *words_of(line)
     yield "answer_requests", 0, "-", 0, 4_096, "-", 1_000, "-", b"<http://a/1> ? ?\n" * 100
     yield "file", b'<u:a> <u:p> "' + LARGE + b'" .\n'
-    yield "run", 4_096, "-", 1_000, "-", BEFORE, *words_of(["build", "f", "g"])
+    yield "run_made", BEFORE, 4_096, "-", 1_000, "-", *words_of(["build", "f", "g"])
 
 
 GROUPS: tuple[Callable[[], Iterator[Request]], ...] = (
