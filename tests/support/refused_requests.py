@@ -152,6 +152,22 @@ def section() -> Iterator[Request]:
     yield "compared_from", b"http://a/1", b"http://a/2", 3
 
 
+def errors_of_sections() -> Iterator[Request]:
+    """Sections and dictionaries with errors behind strings that are right: order, prefix, encoding, equal strings."""
+    strings = STRINGS[:9]
+    packed, starts = reference.fold(strings, 4)
+    # The last string of a block keeps no byte, and is too low; is not UTF-8; or keeps more than the string before has.
+    for last in (b"\x80a\0", b"\x80\xffx\0", b"\xffx\0"):
+        data = packed + last
+        yield "file", reference.write_packed(10, data, [*starts[:-1], len(data)], 4)
+        yield "section_read", 0
+        yield "section_walk", 0
+    yield "file", reference.write_dictionary(strings, [b"u:a", *strings[3:5]], [b"u:p"], [], reference.Style())
+    yield "dictionary", 0
+    yield "file", reference.write_dictionary([], strings, [b"u:p"], strings[4:5], reference.Style())
+    yield "dictionary", 0
+
+
 def section_of_long_strings() -> Iterator[Request]:
     """Strings of 100,000 bytes with a common prefix."""
     strings = [LARGE, LARGE + b"a", LARGE + b"b" * 1_000, b"y"]
@@ -326,6 +342,10 @@ def lines() -> Iterator[Request]:
         yield "request", request
     for request in (b"u:a\t?\t?", b"\t\t", b"? ? ?", b"u:a"):
         yield "raw_request", request
+    for fails in ("0", "20:interrupted", "45:zero"):
+        yield "line_triples", LIMIT, 7, fails
+        yield "line_strings", LIMIT, 7, fails
+        yield "document", LIMIT, "1/7", fails
     yield "line_calls", LIMIT, 7, "-", 0, 1, 2, 2, 1, 1, 0
     yield "file", b"<u:a> <u:p> <u:b> .\n<u:a> <u:p> <b> .\n"
     for word in ("line_triples", "line_strings", "document"):
@@ -390,7 +410,10 @@ def searching() -> Iterator[Request]:
     yield "append_graph_text", BEFORE, 1, *ANY, "-", "-", 1, "-", 2, "none"
     yield "write_graph", *WRITER, "none"
     yield "write_graph", *WRITER, 1, "-", "-"
-    yield "write_graph", 5, 3, *ANY
+    for count in range(0, 9):
+        yield "write_graph", 9, count, *ANY
+    yield "write_graph", 9, "4:interrupted", *ANY
+    yield "write_graph", 9, "@13:zero", *ANY
     yield "open_fault_text", "fault", 5, 1
     yield "open_fault_text", "out_of_memory"
     yield "dump_fault_text", "not_a_term", 1, 7
@@ -405,6 +428,10 @@ def errors_of_files() -> Iterator[Request]:
         yield "file", data
         yield from [(word,) for word in ("open", "open_tight", "layout", "verify", "verify_tight")]
         yield "rewrite_bytes", 16, b"http://a/"
+    for length in range(0, len(OF_THREE), 41):
+        yield "file", OF_THREE[:length]
+        yield "open",
+        yield "verify_tight",
     yield "file", reference.graph([(b"u:a", b"rel", b"u:b"), (b"u:a", b"u:p", b'"x')]).data
     yield "graph_text", "none"
     yield "graph_text", *ANY
@@ -436,6 +463,10 @@ def long_strings() -> Iterator[Request]:
     yield "rewrite", 65_535, b"http://a/", 1_000, "-"
 
 
+# Strings of 32 bytes that begin so have the same hash.
+COLLIDING = b"u:one-hash166742jByz7XnI/"
+
+
 def building() -> Iterator[Request]:
     """Files that are built: of documents in pieces, with errors and failing readers, for writers that fail."""
     yield "file", DOCUMENT
@@ -446,13 +477,19 @@ def building() -> Iterator[Request]:
     yield "build_bytes", 16, b"u:b", 7, 50
     yield "build", 16, b"http://a/", *READER, *WRITER
     yield "build", 2, b"http://a/", *READER, 20, 4
-    yield "build", 16, b"http://a/", 7, 50, *WRITER
+    for fails in ("0", "20:interrupted", "45:zero", "50"):
+        yield "build", 16, b"http://a/", 7, fails, *WRITER
+    for fails in ("0", "1", "2:interrupted", "3:zero", "@170"):
+        yield "build", 16, b"http://a/", *READER, 50, fails
     yield "build_fault_text", "line", 2, 13, 4
     yield "build_fault_text", "no_triples"
     yield "build_fault_text", "bad_options"
     yield "build_fault_text", "write", 5
     yield "build_fault_text", "out_of_memory"
     yield "fold_hash", b"", b"u:a", LARGE
+    line = b"<%ss%%d> <%sp> <%ss%%d> .\n" % (COLLIDING, COLLIDING, COLLIDING)
+    yield "file", b"".join(line % (n, n * 7 % 30) for n in range(30))
+    yield "build_bytes", 16, b"http://a/", *READER
     yield "file", b"<u:a> <u:p> <u:b> .\n<u:a>"
     yield "build_bytes", 16, b"http://a/", *READER
     yield "build", 16, b"http://a/", *READER, *WRITER
@@ -477,7 +514,8 @@ def rewriting() -> Iterator[Request]:
         yield "rewrite_bytes", 1, b""
         yield "rewrite_bytes", 0, b""
         yield "rewrite", 16, b"http://a/", *WRITER
-        yield "rewrite", 1, b"http://a/", 20, 4
+        for fails in ("0", "1", "2:interrupted", "3:zero", "@170"):
+            yield "rewrite", 1, b"http://a/", 50, fails
     yield "rewrite_fault_text", "bad_options"
     yield "rewrite_fault_text", "write", 5
     yield "rewrite_fault_text", "out_of_memory"
@@ -521,6 +559,8 @@ def command_lines() -> Iterator[Request]:
     yield "table", b"subject", b"predicate", b"object", *words_of(["summon"])
     yield "run", *READER, 5, 2, *words_of(["dump", "f"])
     yield "run", 7, 50, *WRITER, *words_of(["dump", "f"])
+    yield "run", 1, "9:interrupted", 1, "9:interrupted", *words_of(["dump", "f"])
+    yield "run", 7, "-", 5, "@30:zero", *words_of(["strings", "f", "object"])
     yield "run_in", 100, *READER, *WRITER, *words_of(["dump", "f"])
     yield "run_made", BEFORE, *READER, *WRITER, *words_of(["rewrite", "f", "g"])
     yield "run_made", BEFORE, *READER, 5, 2, *words_of(["rewrite", "f", "g"])
@@ -532,8 +572,10 @@ def dialogues() -> Iterator[Request]:
     for form in range(3):
         yield "answer_requests", form, "-", 0, *READER, *WRITER, DIALOGUE
         yield "answer_requests", form, 1, 1, *READER, *WRITER, b"u:a\t?\t?\n?\t?\tu:z\n"
-    yield "answer_requests", 0, "-", 0, *READER, 5, 2, DIALOGUE
-    yield "answer_requests", 0, "-", 0, 7, 20, *WRITER, DIALOGUE
+    for fails in ("0", "2", "9", "3:interrupted", "@40:zero"):
+        yield "answer_requests", 0, "-", 0, *READER, 5, fails, DIALOGUE
+    for fails in ("0", "20", "30", "20:interrupted", "20:zero"):
+        yield "answer_requests", 0, "-", 0, 7, fails, *WRITER, DIALOGUE
     yield "answer_file", 0, "-", 0, 100, *READER, *READER, *WRITER, DIALOGUE
     yield "fault_line", "file", 34, 2 ** 64 - 1
     yield "fault_line", "input", 4, 2, 13
@@ -559,7 +601,8 @@ def large_command() -> Iterator[Request]:
 
 
 GROUPS: tuple[Callable[[], Iterator[Request]], ...] = (
-    wire, large_wire, numbers, bits, large_bits, section, section_of_long_strings, section_of_many_strings,
+    wire, large_wire, numbers, bits, large_bits,
+    section, errors_of_sections, section_of_long_strings, section_of_many_strings,
     dictionary, large_dictionary, triples, large_triples,
     terms, large_terms, lines, large_lines, whole_document,
     opening, searching, errors_of_files, large_graph, long_strings,
