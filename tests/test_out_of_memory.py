@@ -204,7 +204,7 @@ ENDING = {"line_triples", "line_strings", "line_texts"}
 WRITING = {"build", "rewrite", "write_graph", "answer_requests", "answer_file"}
 # Words whose last two values are what a writer took, and what was made; and the argument that it was before.
 RUNNING: dict[str, int | None] = {"run": None, "run_in": None, "run_made": 1}
-# The answer where there is no memory to read a command line; and those of words that read one, or tell an error.
+# The answers where there is no memory to read a command line, and of words that read one or print an error.
 NO_REQUEST = ["usage", "4", b"hdt: out of memory".hex()]
 NO_TABLE = ["ok", "error", b"error: out of memory\n".hex()]
 NO_USAGE = ["ok", "4", b"hdt: out of memory".hex()]

@@ -1,6 +1,6 @@
 """Requests to the probes that reach every library call, each group in a function with the inputs that it needs.
 
-They are made to be run with each allocation refused: a group is short, and what is large stands at its end.
+They are made to be run with each allocation refused. What is large has a group of its own.
 """
 
 from __future__ import annotations
