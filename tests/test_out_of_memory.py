@@ -216,7 +216,7 @@ def is_out_of_memory(request: Request, answer: list[str], ample: list[str]) -> b
     if answer[:3] == ["out", "of", "memory"]:
         return answer[3:] == [] or are_right(word, request, answer[3:], ample[1:])
     if word in ENDING:
-        return answer[-3] == "OutOfMemory" and answer[:-3] == ample[:len(answer) - 3]
+        return answer[-3:-2] == ["OutOfMemory"] and answer[:-3] == ample[:len(answer) - 3]
     if word == "line_calls":
         return ends_with_fault(request, answer, ample)
     if word == "handed_back":
