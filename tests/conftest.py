@@ -2,12 +2,14 @@
 
 from __future__ import annotations
 
+from collections.abc import Iterator
 from pathlib import Path
 
 import pytest
 from hypothesis import settings
 
 from support import built
+from support.probe import Probe
 
 settings.register_profile("gate", max_examples=200, deadline=None, print_blob=True)
 settings.register_profile("long", max_examples=20_000, deadline=None, print_blob=True)
@@ -34,3 +36,11 @@ def program() -> Path:
 def samples() -> Path:
     """The folder of sample files."""
     return built.SAMPLES
+
+
+@pytest.fixture(scope="session")
+def probe() -> Iterator[Probe]:
+    """The probe programs, over which tests call the libraries' functions."""
+    it = Probe()
+    yield it
+    assert all(status == 0 for status in it.close().values())

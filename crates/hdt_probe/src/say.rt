@@ -1,0 +1,270 @@
+//! What is answered: values, each behind a space, or why there are none.
+
+use crate::ask::Ask;
+use crate::seen::Seen;
+use crate::sink::Sink;
+use crate::source::Source;
+use hdt_wire::{Counted, Fault, Role, put_decimal};
+use std::alloc::{AllocError, Global};
+use std::cmp::Ordering;
+
+/// A word.
+fn put_word(text: &str, out: &mut Vec<u8>) -> Result<(), AllocError> {
+    out.extend_from_slice(b" ")?;
+    out.extend_from_slice(text.as_bytes())
+}
+
+/// A number in decimal.
+fn put_number(number: u64, out: &mut Vec<u8>) -> Result<(), AllocError> {
+    out.extend_from_slice(b" ")?;
+    put_decimal(number, out)
+}
+
+/// Bytes in hexadecimal.
+fn put_bytes(bytes: &[u8], out: &mut Vec<u8>) -> Result<(), AllocError> {
+    let text = hex::encode(*out.allocator(), bytes)?;
+    put_word(text.as_str(), out)
+}
+
+/// An answer that is being made: values, and the reason why there are none or no more.
+#[derive(Drop)]
+pub struct Say {
+    alloc: Global,
+    stop: Vec<u8>,
+    values: Vec<u8>,
+    has_no_memory: bool,
+    is_unknown: bool,
+    reads: Option<Seen>,
+    writes: Option<Seen>,
+}
+
+impl Say {
+    /// An answer without values.
+    pub fn new(alloc: Global) -> Say {
+        Say {
+            alloc,
+            stop: Vec::new(alloc),
+            values: Vec::new(alloc),
+            has_no_memory: false,
+            is_unknown: false,
+            reads: None,
+            writes: None,
+        }
+    }
+
+    /// Memory was refused for the answer itself.
+    pub fn lost(&mut self) {
+        self.has_no_memory = true;
+    }
+
+    /// Notes the outcome of making a part of the answer.
+    fn done(&mut self, done: Result<(), AllocError>) {
+        if done.is_err() {
+            self.has_no_memory = true;
+        }
+    }
+
+    /// A reason why there are no values, or no more.
+    pub fn stop(&mut self, reason: &str) {
+        let done = self.stop.extend_from_slice(reason.as_bytes());
+        self.done(done)
+    }
+
+    /// A number of the reason.
+    pub fn stop_number(&mut self, number: u64) {
+        let done = put_number(number, &mut self.stop);
+        self.done(done)
+    }
+
+    /// There is no such word.
+    pub fn unknown(&mut self) {
+        self.is_unknown = true;
+    }
+
+    /// Memory was refused.
+    pub fn no_memory(&mut self) {
+        self.stop("out of memory")
+    }
+
+    /// The condition of the call does not hold.
+    pub fn refused(&mut self) {
+        self.stop("refused")
+    }
+
+    /// A fault, up to its name.
+    pub fn fault_of(&mut self, number: u8, name: &str) {
+        self.stop("fault");
+        self.stop_number(u64::from(number));
+        let done = put_word(name, &mut self.stop);
+        self.done(done)
+    }
+
+    /// A fault of a file.
+    pub fn fault(&mut self, fault: Fault) {
+        self.fault_of(fault.reason.number(), fault.reason.name());
+        self.stop_number(fault.place)
+    }
+
+    /// A string of a role that is no term.
+    pub fn not_a_term(&mut self, role: Role, number: u64) {
+        self.stop("not a term");
+        self.stop_number(role_number(role));
+        self.stop_number(number)
+    }
+
+    /// A writer failed after so many bytes.
+    pub fn written(&mut self, count: u64) {
+        self.stop("written");
+        self.stop_number(count)
+    }
+
+    /// A word.
+    pub fn word(&mut self, text: &str) {
+        let done = put_word(text, &mut self.values);
+        self.done(done)
+    }
+
+    /// A number.
+    pub fn number(&mut self, number: u64) {
+        let done = put_number(number, &mut self.values);
+        self.done(done)
+    }
+
+    /// An offset or a length.
+    pub fn size(&mut self, size: usize) {
+        self.number(size as u64)
+    }
+
+    /// Bytes.
+    pub fn bytes(&mut self, bytes: &[u8]) {
+        let done = put_bytes(bytes, &mut self.values);
+        self.done(done)
+    }
+
+    /// Whether something holds.
+    pub fn truth(&mut self, holds: bool) {
+        self.word(if holds { "true" } else { "false" })
+    }
+
+    /// A number, or none.
+    pub fn maybe(&mut self, found: Option<u64>) {
+        match found {
+            Some(number) => self.number(number),
+            None => self.word("none"),
+        }
+    }
+
+    /// Three numbers.
+    pub fn triple(&mut self, triple: (u64, u64, u64)) {
+        self.number(triple.0);
+        self.number(triple.1);
+        self.number(triple.2)
+    }
+
+    /// How one string lies to another one.
+    pub fn order(&mut self, order: Ordering) {
+        self.word(match order {
+            Ordering::Less => "less",
+            Ordering::Equal => "equal",
+            Ordering::Greater => "more",
+        })
+    }
+
+    /// The bytes that a call appended to, or that memory was refused.
+    pub fn appended(&mut self, done: Result<(), AllocError>, bytes: &[u8]) {
+        if done.is_err() {
+            self.no_memory();
+        }
+        self.bytes(bytes)
+    }
+
+    /// A text that was made, or that memory was refused.
+    pub fn made(&mut self, made: Result<String, AllocError>) {
+        match made {
+            Ok(text) => self.bytes(text.as_bytes()),
+            Err(_) => self.lost(),
+        }
+    }
+
+    /// Lent strings.
+    pub fn strings(&mut self, strings: &[&[u8]]) {
+        for string in strings {
+            self.bytes(string);
+        }
+    }
+
+    /// Takes what a reader was asked for, and answers how many bytes it still has.
+    pub fn read(&mut self, input: Counted<Source<'_>>) -> u64 {
+        let source = input.into_inner();
+        self.reads = Some(source.seen());
+        source.left()
+    }
+
+    /// Calls of the reader behind its end or its failure.
+    pub fn late(&self) -> u64 {
+        match self.reads {
+            Some(seen) => seen.after_end.saturating_add(seen.after_failure),
+            None => 0,
+        }
+    }
+
+    /// Takes what a writer was asked for, and says what it took.
+    pub fn wrote(&mut self, out: Counted<Sink>) {
+        let sink = out.into_inner();
+        self.writes = Some(sink.seen());
+        if sink.is_lost() {
+            self.has_no_memory = true;
+        }
+        self.bytes(sink.taken())
+    }
+
+    /// What a reader was asked for in this request.
+    pub fn reads(&self) -> Option<Seen> {
+        self.reads
+    }
+
+    /// What a writer was asked for in this request.
+    pub fn writes(&self) -> Option<Seen> {
+        self.writes
+    }
+
+    /// What a reader or a writer was asked for.
+    pub fn seen(&mut self, seen: Seen) {
+        self.number(seen.calls);
+        self.number(seen.bytes);
+        self.number(seen.after_end);
+        self.number(seen.after_failure);
+        self.number(seen.flushes);
+        self.number(seen.smallest);
+        self.number(seen.largest)
+    }
+
+    /// Appends the line.
+    pub fn put_line(&self, ask: &Ask<'_>, out: &mut Vec<u8>) -> Result<(), AllocError> {
+        if self.is_unknown {
+            return out.extend_from_slice(b"? unknown\n");
+        }
+        if ask.has_no_memory() || self.has_no_memory {
+            return out.extend_from_slice(b"out of memory\n");
+        }
+        if ask.is_wrong() || (self.stop.is_empty() && ask.more()) {
+            return out.extend_from_slice(b"? usage\n");
+        }
+        if self.stop.is_empty() {
+            out.extend_from_slice(b"ok")?;
+        } else {
+            out.extend_from_slice(&self.stop)?;
+        }
+        out.extend_from_slice(&self.values)?;
+        out.extend_from_slice(b"\n")
+    }
+}
+
+/// The number of a role.
+pub fn role_number(role: Role) -> u64 {
+    match role {
+        Role::Subject => 0,
+        Role::Predicate => 1,
+        Role::Object => 2,
+    }
+}

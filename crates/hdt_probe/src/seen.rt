@@ -1,0 +1,59 @@
+//! What a reader or a writer was asked for.
+
+/// What a reader or a writer was asked for.
+#[derive(Clone, Copy)]
+pub struct Seen {
+    /// Calls of it.
+    pub calls: u64,
+    /// Bytes that it gave or took.
+    pub bytes: u64,
+    /// Calls after it had said that it is at its end.
+    pub after_end: u64,
+    /// Calls after it had failed.
+    pub after_failure: u64,
+    /// Flushes.
+    pub flushes: u64,
+    /// The length of the shortest buffer; the greatest number where there was no call.
+    pub smallest: u64,
+    /// The length of the longest buffer.
+    pub largest: u64,
+    /// Whether it has said that it is at its end.
+    pub has_ended: bool,
+    /// Whether it has failed.
+    pub has_failed: bool,
+}
+
+impl Seen {
+    /// Nothing yet.
+    pub fn new() -> Seen {
+        Seen {
+            calls: 0,
+            bytes: 0,
+            after_end: 0,
+            after_failure: 0,
+            flushes: 0,
+            smallest: u64::MAX,
+            largest: 0,
+            has_ended: false,
+            has_failed: false,
+        }
+    }
+
+    /// Counts a call with a buffer of this length.
+    pub fn count(&mut self, len: usize) {
+        self.calls = self.calls.saturating_add(1);
+        if self.has_ended {
+            self.after_end = self.after_end.saturating_add(1);
+        }
+        if self.has_failed {
+            self.after_failure = self.after_failure.saturating_add(1);
+        }
+        self.smallest = self.smallest.min(len as u64);
+        self.largest = self.largest.max(len as u64);
+    }
+
+    /// Counts bytes that were given or taken.
+    pub fn moved(&mut self, count: usize) {
+        self.bytes = self.bytes.saturating_add(count as u64);
+    }
+}

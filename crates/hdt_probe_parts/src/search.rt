@@ -1,0 +1,161 @@
+//! Calls of hdt_triples: searches.
+
+use crate::triples::{indexed_at, listed_at, pattern_of, triples_at};
+use hdt_probe::{Ask, Say};
+use hdt_seq::Steps;
+use hdt_triples::Matches;
+
+/// The words, each with the count of its arguments.
+pub const WORDS: &str =
+    "find 7+ indexed_find 7+ listed_find 7+ matching 7+ indexed_matching 7+ listed_matching 7+ handed_back 7+ empty_matches 0";
+
+/// Answers a request of one of these words.
+pub fn answer(word: &str, ask: &mut Ask<'_>, say: &mut Say) -> bool {
+    match word {
+        "find" => say_find(ask, say),
+        "indexed_find" => say_indexed_find(ask, say),
+        "listed_find" => say_listed_find(ask, say),
+        "matching" => say_matching(ask, say),
+        "indexed_matching" => say_indexed_matching(ask, say),
+        "listed_matching" => say_listed_matching(ask, say),
+        "handed_back" => say_handed_back(ask, say),
+        "empty_matches" => say_empty_matches(say),
+        _ => return false,
+    }
+    true
+}
+
+/// How many items there are.
+fn count(mut matches: Matches<'_>) -> u64 {
+    let mut count = 0_u64;
+    for _ in 0..u64::MAX {
+        if matches.next().is_none() {
+            break;
+        }
+        count = count.saturating_add(1);
+    }
+    count
+}
+
+/// All items, and whether there are any behind the end.
+fn say_items(mut matches: Matches<'_>, say: &mut Say) {
+    for _ in 0..u64::MAX {
+        match matches.next() {
+            Some(triple) => say.triple(triple),
+            None => break,
+        }
+    }
+    if matches.next().is_some() || matches.next().is_some() {
+        say.word("again");
+    }
+}
+
+fn say_find(ask: &mut Ask<'_>, say: &mut Say) {
+    let Some((triples, _)) = triples_at(ask, say) else {
+        return;
+    };
+    for _ in 0..u64::MAX {
+        let pattern = pattern_of(ask);
+        say.number(count(triples.find(pattern)));
+        say_items(triples.find(pattern), say);
+        if !ask.more() {
+            break;
+        }
+    }
+}
+
+fn say_indexed_find(ask: &mut Ask<'_>, say: &mut Say) {
+    let Some(triples) = indexed_at(ask, say) else {
+        return;
+    };
+    for _ in 0..u64::MAX {
+        let pattern = pattern_of(ask);
+        say.number(count(triples.find(pattern)));
+        say_items(triples.find(pattern), say);
+        if !ask.more() {
+            break;
+        }
+    }
+}
+
+fn say_listed_find(ask: &mut Ask<'_>, say: &mut Say) {
+    let Some(triples) = listed_at(ask, say) else {
+        return;
+    };
+    for _ in 0..u64::MAX {
+        let pattern = pattern_of(ask);
+        say.number(count(triples.find(pattern)));
+        say_items(triples.find(pattern), say);
+        if !ask.more() {
+            break;
+        }
+    }
+}
+
+fn say_matching(ask: &mut Ask<'_>, say: &mut Say) {
+    let Some((triples, _)) = triples_at(ask, say) else {
+        return;
+    };
+    for _ in 0..u64::MAX {
+        say.number(triples.matching(pattern_of(ask), &mut Steps::new()));
+        if !ask.more() {
+            break;
+        }
+    }
+}
+
+fn say_indexed_matching(ask: &mut Ask<'_>, say: &mut Say) {
+    let Some(triples) = indexed_at(ask, say) else {
+        return;
+    };
+    for _ in 0..u64::MAX {
+        say.number(triples.matching(pattern_of(ask), &mut Steps::new()));
+        if !ask.more() {
+            break;
+        }
+    }
+}
+
+fn say_listed_matching(ask: &mut Ask<'_>, say: &mut Say) {
+    let Some(triples) = listed_at(ask, say) else {
+        return;
+    };
+    for _ in 0..u64::MAX {
+        say.number(triples.matching(pattern_of(ask), &mut Steps::new()));
+        if !ask.more() {
+            break;
+        }
+    }
+}
+
+/// Searches by the directories alone, also where memory was refused for the lists, and by the triples alone where it was
+/// refused for the directories.
+fn say_handed_back(ask: &mut Ask<'_>, say: &mut Say) {
+    let Some((triples, _)) = triples_at(ask, say) else {
+        return;
+    };
+    let pattern = pattern_of(ask);
+    match triples.with_directories(ask.alloc) {
+        Err(triples) => {
+            say.word("triples");
+            say_items(triples.find(pattern), say)
+        }
+        Ok(indexed) => match indexed.with_lists(ask.alloc) {
+            Err(indexed) => {
+                say.word("indexed");
+                say_items(indexed.find(pattern), say)
+            }
+            Ok(listed) => {
+                say.word("listed");
+                say.number(listed.triples().len());
+                say_items(listed.indexed().find(pattern), say)
+            }
+        },
+    }
+}
+
+/// What no matches give.
+fn say_empty_matches(say: &mut Say) {
+    say_items(Matches::Empty, say);
+    say.number(count(Matches::Empty))
+}

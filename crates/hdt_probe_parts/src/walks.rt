@@ -1,0 +1,119 @@
+//! Calls of hdt_front: walks and cursors over the strings of a section.
+
+use crate::front::section_at;
+use hdt_front::{Cursor, Walk};
+use hdt_probe::{Ask, Say};
+
+/// The words, each with the count of its arguments.
+pub const WORDS: &str =
+    "section_walk 1 section_walk_kept 1 section_cursor 2 section_cursor_compared 3";
+
+/// Answers a request of one of these words.
+pub fn answer(word: &str, ask: &mut Ask<'_>, say: &mut Say) -> bool {
+    match word {
+        "section_walk" => say_section_walk(ask, say),
+        "section_walk_kept" => say_section_walk_kept(ask, say),
+        "section_cursor" => say_section_cursor(ask, say),
+        "section_cursor_compared" => say_section_cursor_compared(ask, say),
+        _ => return false,
+    }
+    true
+}
+
+/// All strings in order, each behind its offset.
+fn say_section_walk(ask: &mut Ask<'_>, say: &mut Say) {
+    let Some((section, _)) = section_at(ask, say) else {
+        return;
+    };
+    let mut walk = Walk::new(ask.alloc, &section);
+    for _ in 0..u64::MAX {
+        match walk.next() {
+            Ok(Some(place)) => {
+                say.size(place);
+                say.bytes(walk.last());
+            }
+            Ok(None) => return,
+            Err(_) => return say.no_memory(),
+        }
+    }
+}
+
+/// All strings in order, each behind its offset and how many bytes it keeps; then what is kept at the end.
+fn say_section_walk_kept(ask: &mut Ask<'_>, say: &mut Say) {
+    let Some((section, _)) = section_at(ask, say) else {
+        return;
+    };
+    let mut walk = Walk::new(ask.alloc, &section);
+    for _ in 0..u64::MAX {
+        match walk.next_kept() {
+            Ok((Some(place), kept)) => {
+                say.size(place);
+                say.size(kept);
+                say.bytes(walk.last());
+            }
+            Ok((None, kept)) => {
+                say.word("none");
+                return say.size(kept);
+            }
+            Err(_) => return say.no_memory(),
+        }
+    }
+}
+
+/// All strings in order, each with how it lies to a string.
+fn say_section_cursor(ask: &mut Ask<'_>, say: &mut Say) {
+    let Some((section, _)) = section_at(ask, say) else {
+        return;
+    };
+    let sought = ask.bytes();
+    let Ok(mut cursor) = Cursor::new(ask.alloc, &section) else {
+        return say.no_memory();
+    };
+    for _ in 0..u64::MAX {
+        let Some(string) = cursor.string() else {
+            return;
+        };
+        say.bytes(string);
+        say.order(cursor.order(&sought));
+        if cursor.pass().is_err() {
+            return say.no_memory();
+        }
+    }
+}
+
+/// How the string under a cursor lies to another one, and how far they agree, compared from where they may differ.
+fn say_compared(cursor: &Cursor<'_>, from: usize, sought: &[u8], say: &mut Say) {
+    let (_, agreed) = cursor.compared(sought, 0);
+    let (order, same) = cursor.compared(sought, from.min(agreed));
+    say.order(order);
+    say.size(same)
+}
+
+/// All strings in order: the offset, the string, how it lies to a string and how far they agree, and what the next keeps.
+fn say_section_cursor_compared(ask: &mut Ask<'_>, say: &mut Say) {
+    let Some((section, _)) = section_at(ask, say) else {
+        return;
+    };
+    let from = ask.size();
+    let sought = ask.bytes();
+    let Ok(mut cursor) = Cursor::new(ask.alloc, &section) else {
+        return say.no_memory();
+    };
+    for _ in 0..u64::MAX {
+        match (cursor.place(), cursor.string()) {
+            (Some(place), Some(string)) => {
+                say.size(place);
+                say.bytes(string);
+            }
+            _ => {
+                say.word("end");
+                return say_compared(&cursor, from, &sought, say);
+            }
+        }
+        say_compared(&cursor, from, &sought, say);
+        match cursor.pass_kept() {
+            Ok(kept) => say.size(kept),
+            Err(_) => return say.no_memory(),
+        }
+    }
+}

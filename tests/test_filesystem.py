@@ -1,0 +1,562 @@
+"""Where the program reads and writes: paths, kinds of files, closed descriptors, limits, full disks, ends midway."""
+
+from __future__ import annotations
+
+import os
+import shutil
+import signal
+import socket
+import subprocess
+import tempfile
+import time
+from collections.abc import Iterator
+from pathlib import Path
+from typing import NamedTuple
+
+import pytest
+
+from support.built import PROGRAM, SAMPLES
+from support.program import Result, Word, hdt, run
+from support.refusing import preloaded
+
+THREE = SAMPLES / "three.nt"
+READING_FAILED = Result(3, b"", b"hdt: reading failed\n")
+WRITING_FAILED = Result(3, b"", b"hdt: writing failed\n")
+# The commands that make a file.
+MAKERS = ("build", "rewrite")
+# Paths of the standard output.
+OUTPUTS = ("/dev/stdout", "/dev/fd/1", "/proc/self/fd/1")
+# A file that is being written, beside OUT.
+UNFINISHED = "hdt-unfinished-0"
+
+
+class Made(NamedTuple):
+    """What a command makes of the three triples: its input, the file, and the line that it prints."""
+
+    source: Path
+    file: bytes
+    line: bytes
+
+
+@pytest.fixture(scope="module")
+def made(tmp_path_factory: pytest.TempPathFactory) -> dict[str, Made]:
+    """What each maker makes."""
+    folder = tmp_path_factory.mktemp("made")
+    built, rewritten = folder / "built.hdt", folder / "rewritten.hdt"
+    lines = [hdt("build", THREE, built), hdt("rewrite", built, rewritten)]
+    assert [(it.status, it.err) for it in lines] == [(0, b""), (0, b"")]
+    assert built.read_bytes() == rewritten.read_bytes()
+    return {"build": Made(THREE, built.read_bytes(), lines[0].out),
+            "rewrite": Made(built, rewritten.read_bytes(), lines[1].out)}
+
+
+def shell(script: str, *words: Word, cwd: Path | None = None) -> Result:
+    """Run a script of the shell, whose `$0` is the program and whose `$1`, `$2`, .. are the words."""
+    return run(["sh", "-c", script, PROGRAM, *words], cwd=cwd)
+
+
+def names(folder: Path) -> list[str]:
+    """The names in a folder."""
+    return sorted(it.name for it in folder.iterdir())
+
+
+# ---- closed descriptors
+
+CLOSED = {0: "<&-", 1: ">&-", 2: "2>&-"}
+READERS = {
+    "head": ["head", "FILE"],
+    "verify": ["verify", "FILE"],
+    "strings": ["strings", "FILE", "object"],
+    "string": ["string", "FILE", "object", "1"],
+    "number": ["number", "FILE", "object", "<u:a>"],
+    "find": ["find", "FILE", "?", "?", "?"],
+    "dump": ["dump", "FILE"],
+}
+
+
+def closed(descriptor: int, *words: Word) -> Result:
+    """Run the program with one of its standard descriptors closed."""
+    return shell(f'exec "$0" "$@" {CLOSED[descriptor]}', *words)
+
+
+@pytest.mark.parametrize("descriptor", CLOSED)
+@pytest.mark.parametrize("command", MAKERS)
+def test_making_with_a_closed_descriptor(command: str, descriptor: int, made: dict[str, Made], tmp_path: Path) -> None:
+    """The file is whole and has nothing else in it; a line that cannot be printed is an error."""
+    source, file, line = made[command]
+    out = tmp_path / "out.hdt"
+    out.write_bytes(b"what was there before")
+    answer = closed(descriptor, command, source, out)
+    assert (answer, out.read_bytes()) == (WRITING_FAILED if descriptor == 1 else Result(0, line, b""), file)
+
+
+@pytest.mark.parametrize("descriptor", CLOSED)
+def test_rewriting_in_place_with_a_closed_descriptor(descriptor: int, made: dict[str, Made], tmp_path: Path) -> None:
+    """A file that is rewritten over itself is whole too."""
+    own = tmp_path / "own.hdt"
+    own.write_bytes((SAMPLES / "three.hdt").read_bytes())
+    hdt("rewrite", SAMPLES / "three.hdt", tmp_path / "apart.hdt")
+    answer = closed(descriptor, "rewrite", own, own)
+    assert (answer.status, own.read_bytes()) == (3 if descriptor == 1 else 0, (tmp_path / "apart.hdt").read_bytes())
+
+
+@pytest.mark.parametrize("descriptor", CLOSED)
+@pytest.mark.parametrize("command", READERS)
+def test_reading_with_a_closed_descriptor(command: str, descriptor: int, tmp_path: Path) -> None:
+    """The file is read as usual and not changed; without standard output the answer is an error."""
+    own = tmp_path / "own.hdt"
+    own.write_bytes((SAMPLES / "three.hdt").read_bytes())
+    words: list[Word] = [own if word == "FILE" else word for word in READERS[command]]
+    usual = hdt(*words)
+    assert usual.status == 0
+    assert closed(descriptor, *words) == (WRITING_FAILED if descriptor == 1 else usual)
+    assert own.read_bytes() == (SAMPLES / "three.hdt").read_bytes()
+
+
+def test_reading_a_closed_standard_input() -> None:
+    """A closed standard input is no file."""
+    assert closed(0, "verify", "/dev/stdin") == READING_FAILED
+
+
+# ---- paths
+
+STRANGE_NAMES = (" blanks at its ends ", "-", "file:", "a\nb", "--", "c.hdt ", "--base")
+LIKE_ADDRESSES = ("http://three.hdt", "http://./three.hdt", "file://three.hdt")
+# Each is the path of an output that can't be written.
+NO_OUTPUTS = ("", ".", "missing/out.hdt")
+
+
+@pytest.mark.parametrize("as_output", [True, False], ids=["out", "in"])
+@pytest.mark.parametrize("name", STRANGE_NAMES)
+def test_a_path_is_taken_as_it_is(name: str, as_output: bool, made: dict[str, Made], tmp_path: Path) -> None:
+    """No path is trimmed, and none means a standard stream or an address."""
+    source, out = (f"in{name}", name) if as_output else (name, f"out{name}")
+    (tmp_path / source).write_bytes(THREE.read_bytes())
+    built = run([PROGRAM, "build", "--", source, out], cwd=tmp_path)
+    assert (built.status, built.err, (tmp_path / out).read_bytes()) == (0, b"", made["build"].file)
+    assert run([PROGRAM, "verify", "--", out], cwd=tmp_path) == Result(0, b"ok 3 2 0 2 1\n", b"")
+    rewritten = run([PROGRAM, "rewrite", "--", out, source], cwd=tmp_path)
+    assert (rewritten.status, rewritten.err, (tmp_path / source).read_bytes()) == (0, b"", made["build"].file)
+    assert names(tmp_path) == sorted([source, out])
+
+
+@pytest.fixture
+def addressed(tmp_path: Path, made: dict[str, Made]) -> Path:
+    """A folder with a file, a document, and an empty folder whose name ends in a colon."""
+    (tmp_path / "three.hdt").write_bytes(made["build"].file)
+    (tmp_path / "three.nt").write_bytes(THREE.read_bytes())
+    (tmp_path / "http:").mkdir()
+    return tmp_path
+
+
+@pytest.mark.parametrize("path", LIKE_ADDRESSES)
+def test_a_path_like_an_address(path: str, addressed: Path) -> None:
+    """What reads like an address is the path of a file in a folder whose name ends in a colon."""
+    assert run([PROGRAM, "verify", "--", path], cwd=addressed) == READING_FAILED
+
+
+def test_a_document_with_a_path_like_an_address(addressed: Path) -> None:
+    """The same for an input of `build`."""
+    before = names(addressed)
+    assert run([PROGRAM, "build", "http://three.nt", "other.hdt"], cwd=addressed) == READING_FAILED
+    assert names(addressed) == before
+
+
+def test_a_file_in_a_folder_with_a_colon(addressed: Path) -> None:
+    """There such a path is read."""
+    (addressed / "http:/three.hdt").write_bytes((SAMPLES / "v1.hdt").read_bytes())
+    assert run([PROGRAM, "verify", "http://three.hdt"], cwd=addressed) == Result(0, b"ok 1 1 0 1 0\n", b"")
+
+
+@pytest.mark.parametrize("out", NO_OUTPUTS)
+@pytest.mark.parametrize("words, answer", [
+    (["build", "missing.nt"], READING_FAILED),
+    (["build", THREE], WRITING_FAILED),
+    (["rewrite", "missing.hdt"], READING_FAILED),
+    (["rewrite", SAMPLES / "three.hdt"], WRITING_FAILED),
+], ids=["build-missing", "build", "rewrite-missing", "rewrite"])
+def test_an_output_that_cannot_be_written(words: list[Word], answer: Result, out: str, tmp_path: Path) -> None:
+    """An input that cannot be read is reported first. A missing folder is not made."""
+    assert run([PROGRAM, *words, out], cwd=tmp_path) == answer
+    assert names(tmp_path) == []
+
+
+# ---- kinds of output files
+
+
+@pytest.mark.parametrize("kind", ["soft", "hard"])
+@pytest.mark.parametrize("command", MAKERS)
+def test_an_output_that_is_a_link(command: str, kind: str, made: dict[str, Made], tmp_path: Path) -> None:
+    """A symbolic link is followed and stays; other hard links of the file keep what they had."""
+    source, file, line = made[command]
+    own, link = tmp_path / "own.hdt", tmp_path / "link.hdt"
+    own.write_bytes(b"before")
+    if kind == "soft":
+        link.symlink_to(own)
+    else:
+        os.link(own, link)
+    assert hdt(command, source, link) == Result(0, line, b"")
+    after = link.read_bytes(), own.read_bytes(), link.is_symlink(), own.samefile(link)
+    assert after == ((file, file, True, True) if kind == "soft" else (file, b"before", False, False))
+
+
+@pytest.mark.parametrize("command", MAKERS)
+def test_an_output_that_is_a_socket(command: str, made: dict[str, Made], tmp_path: Path) -> None:
+    """A socket is no output, and stays. (Its path is short, as the system demands it.)"""
+    with socket.socket(socket.AF_UNIX) as listener, tempfile.TemporaryDirectory() as folder:
+        at = Path(folder) / "socket"
+        listener.bind(os.fsencode(at))
+        assert hdt(command, made[command].source, at) == WRITING_FAILED
+        assert at.is_socket() and names(at.parent) == ["socket"]
+
+
+@pytest.mark.parametrize("command", MAKERS)
+def test_an_output_that_is_a_named_pipe(command: str, made: dict[str, Made], tmp_path: Path) -> None:
+    """The program waits until another one opens the pipe for reading, and writes the file into it."""
+    source, file, line = made[command]
+    pipe = tmp_path / "pipe"
+    os.mkfifo(pipe)
+    with subprocess.Popen([PROGRAM, command, source, pipe], stdin=subprocess.DEVNULL, stdout=subprocess.PIPE,
+                          stderr=subprocess.PIPE) as program:
+        time.sleep(0.3)
+        assert program.poll() is None
+        read = pipe.read_bytes()
+        out, err = program.communicate(timeout=60)
+    assert (program.returncode, out, err, read, pipe.is_fifo()) == (0, line, b"", file, True)
+
+
+def test_a_named_pipe_with_a_reader(tmp_path: Path) -> None:
+    """A pipe that another program reads already is written and stays."""
+    pipe = tmp_path / "pipe"
+    os.mkfifo(pipe)
+    with subprocess.Popen(["cat", pipe], stdout=subprocess.PIPE) as reader:
+        answer = hdt("build", "--base", "http://a/", THREE, pipe)
+        read = reader.communicate(timeout=60)[0]
+    assert (answer, read) == (Result(0, b"built 3 2 0 2 1 457\n", b""), (SAMPLES / "three.hdt").read_bytes())
+    assert pipe.is_fifo() and names(tmp_path) == ["pipe"]
+
+
+# ---- an output that is the standard output
+
+
+@pytest.fixture
+def one(tmp_path: Path) -> Path:
+    """A folder with an empty output, a symbolic link to it and another hard link."""
+    folder = tmp_path / "one"
+    folder.mkdir()
+    (folder / "out.hdt").write_bytes(b"")
+    (folder / "soft.hdt").symlink_to(folder / "out.hdt")
+    os.link(folder / "out.hdt", folder / "hard.hdt")
+    return folder
+
+
+PATHS_OF_OUT = (*OUTPUTS, "out.hdt", "soft.hdt", "hard.hdt", "../one/out.hdt")
+# How the shell redirects the outputs, what the output file has before and after (FILE is the file that is made), the
+# exit status, and whether the line comes out on standard error.
+REDIRECTIONS = {
+    "replacing": ('> out.hdt', b"before", b"FILE", 0, True),
+    "appending": ('>> out.hdt', b"before", b"beforeFILE", 0, True),
+    "replacing, errors too": ('> out.hdt 2>&1', b"", b"FILE", 0, False),
+    "appending, errors too": ('>> out.hdt 2>&1', b"x", b"xFILE", 0, False),
+    "over less": ('1<> out.hdt', b"before", b"FILE", 0, True),
+    "over more": ('1<> out.hdt', b"", b"FILEbehind", 0, True),
+    "errors to a full disk": ('> out.hdt 2> /dev/full', b"", b"FILE", 3, False),
+    "errors closed": ('> out.hdt 2>&-', b"", b"FILE", 3, False),
+}
+
+
+@pytest.mark.parametrize("redirection", REDIRECTIONS)
+@pytest.mark.parametrize("path", PATHS_OF_OUT)
+@pytest.mark.parametrize("command", MAKERS)
+def test_one_output(command: str, path: str, redirection: str, made: dict[str, Made], one: Path) -> None:
+    """Where OUT is the standard output, the file and nothing else comes out there, and the line on standard error."""
+    source, file, line = made[command]
+    redirected, before, after, status, printed = REDIRECTIONS[redirection]
+    (one / "out.hdt").write_bytes(b"x" * len(file) + b"behind" if redirection == "over more" else before)
+    answer = shell(f'"$0" {command} "$1" "$2" {redirected}', source, path, cwd=one)
+    assert answer == Result(status, b"", line if printed else b"")
+    assert (one / "out.hdt").read_bytes() == after.replace(b"FILE", file)
+    assert names(one) == ["hard.hdt", "out.hdt", "soft.hdt"]
+
+
+@pytest.mark.parametrize("path", OUTPUTS)
+@pytest.mark.parametrize("command", MAKERS)
+def test_an_output_that_is_no_file(command: str, path: str, made: dict[str, Made]) -> None:
+    """The standard output as a pipe, a pipe for errors too, a full disk, closed; and an input that is missing."""
+    source, file, line = made[command]
+    assert hdt(command, source, path) == Result(0, file, line)
+    assert shell('"$0" "$1" "$2" "$3" 2>&1 | cat', command, source, path) == Result(0, file, b"")
+    assert shell('exec "$0" "$1" "$2" "$3" > /dev/full', command, source, path) == WRITING_FAILED
+    assert closed(1, command, source, path) == WRITING_FAILED
+    assert hdt(command, source.parent / "missing", path) == READING_FAILED
+
+
+@pytest.mark.parametrize("command", MAKERS)
+def test_a_file_like_the_standard_output(command: str, made: dict[str, Made], one: Path) -> None:
+    """Another file with the same bytes is another file: it gets the file, and the standard output the line."""
+    source, file, line = made[command]
+    (one / "apart.hdt").write_bytes(b"")
+    assert shell('"$0" "$1" "$2" apart.hdt > out.hdt', command, source, cwd=one) == Result(0, b"", b"")
+    assert ((one / "out.hdt").read_bytes(), (one / "apart.hdt").read_bytes()) == (line, file)
+
+
+def test_rewriting_what_is_appended_to(made: dict[str, Made], tmp_path: Path) -> None:
+    """IN, OUT and the standard output may be one file, which is appended to."""
+    own = tmp_path / "own.hdt"
+    own.write_bytes(made["rewrite"].file)
+    answer = shell('"$0" rewrite own.hdt own.hdt >> own.hdt', cwd=tmp_path)
+    assert (answer.status, answer.out, own.read_bytes()) == (0, b"", made["rewrite"].file * 2)
+
+
+# ---- a limit on the size of files
+
+
+class Limited(NamedTuple):
+    """An input, the file that a command makes of it, and its line."""
+
+    words: tuple[Word, ...]
+    file: bytes
+    line: bytes
+
+
+@pytest.fixture(scope="module")
+def limited(tmp_path_factory: pytest.TempPathFactory) -> dict[str, Limited]:
+    """A document of 1,000 triples, and the file of it."""
+    folder = tmp_path_factory.mktemp("limited")
+    document, file, again = folder / "many.nt", folder / "many.hdt", folder / "again.hdt"
+    document.write_bytes(b"".join(b"<u:s%d> <u:p> <u:o%d> .\n" % (n, n) for n in range(1_000)))
+    lines = [hdt("build", document, file).out, hdt("rewrite", file, again).out]
+    return {"build": Limited(("build", document), file.read_bytes(), lines[0]),
+            "rewrite": Limited(("rewrite", file), again.read_bytes(), lines[1])}
+
+
+@pytest.mark.parametrize("ignored", [False, True], ids=["by signal", "ignored"])
+@pytest.mark.parametrize("size", [0, 1, 512, -1, None])
+@pytest.mark.parametrize("command", MAKERS)
+def test_a_limit_on_files(command: str, size: int | None, ignored: bool, limited: dict[str, Limited],
+                          tmp_path: Path) -> None:
+    """Past the limit the system ends the program by a signal; where that is ignored, writing fails.
+
+    Either way OUT is what it was. What was written of the new file stays beside OUT only where a signal ended the
+    program. A limit of exactly the size of the file is enough.
+    """
+    words, file, line = limited[command]
+    limit = len(file) if size is None else size % len(file)
+    out = tmp_path / "out.hdt"
+    out.write_bytes(b"before")
+    script = f'{"trap" if ignored else ":"} "" XFSZ; exec prlimit --fsize={limit}:{limit} -- "$0" "$@"'
+    answer = shell(script, *words, out)
+    after = {it.name: it.read_bytes() for it in tmp_path.iterdir()}
+    if size is None:
+        assert (answer, after) == (Result(0, line, b""), {"out.hdt": file})
+    elif ignored:
+        assert (answer, after) == (WRITING_FAILED, {"out.hdt": b"before"})
+    else:
+        begun = {"out.hdt": b"before", UNFINISHED: file[:limit]}
+        assert (answer, after) == (Result(-signal.SIGXFSZ, b"", b""), begun)
+
+
+@pytest.mark.parametrize("command", MAKERS)
+def test_ulimit(command: str, limited: dict[str, Limited], tmp_path: Path) -> None:
+    """The same by the shell's own limit, over a whole file."""
+    words, file, _ = limited[command]
+    out = tmp_path / "out.hdt"
+    out.write_bytes(file)
+    answer = shell('ulimit -f 1; exec "$0" "$@"', *words, out)
+    assert (answer, out.read_bytes()) == (Result(-signal.SIGXFSZ, b"", b""), file)
+    assert names(tmp_path) == [UNFINISHED, "out.hdt"]
+
+
+def test_the_help_names_the_signal() -> None:
+    """The help says what ends the program at a limit."""
+    assert b"SIGXFSZ" in hdt("--help").out
+
+
+# ---- replacing an output as a whole
+
+BUILT = Result(0, b"built 3 2 0 2 1 457\n", b"")
+
+
+def build(*words: Word) -> Result:
+    """Build the three triples so that the file is the sample."""
+    return hdt("build", "--base", "http://a/", THREE, *words)
+
+
+@pytest.fixture
+def replaced(tmp_path: Path) -> Path:
+    """A folder with an output, a link to it, and what a program that was ended midway left."""
+    (tmp_path / "out.hdt").write_bytes(b"x" * 1_000_000)
+    (tmp_path / "out.hdt").chmod(0o640)
+    (tmp_path / "link.hdt").symlink_to("out.hdt")
+    (tmp_path / UNFINISHED).write_bytes(b"left")
+    return tmp_path
+
+
+@pytest.mark.parametrize("name", ["out.hdt", "link.hdt"])
+def test_an_output_is_replaced(name: str, replaced: Path) -> None:
+    """OUT becomes a new file with the same permissions: a program that reads the old one goes on. Nothing is left."""
+    out = replaced / "out.hdt"
+    before, expected = out.stat(), [UNFINISHED, "link.hdt", "out.hdt"]
+    with open(out, "rb") as old:
+        assert build(replaced / name) == BUILT
+        assert old.read() == b"x" * 1_000_000
+    after = out.stat()
+    assert out.read_bytes() == (SAMPLES / "three.hdt").read_bytes()
+    assert (after.st_ino != before.st_ino, after.st_mode) == (True, before.st_mode)
+    assert (replaced / "link.hdt").is_symlink() and names(replaced) == expected
+    assert (replaced / UNFINISHED).read_bytes() == b"left"
+
+
+def test_an_input_is_replaced(replaced: Path) -> None:
+    """IN may be OUT, by a link too."""
+    build(replaced / "out.hdt")
+    answer = hdt("rewrite", replaced / "link.hdt", replaced / "out.hdt")
+    assert (answer.status, answer.err) == (0, b"")
+    assert (replaced / "out.hdt").read_bytes()[-100:] == (SAMPLES / "three.hdt").read_bytes()[-100:]
+
+
+def test_a_link_to_nothing(tmp_path: Path) -> None:
+    """A symbolic link to no file is followed too."""
+    (tmp_path / "link.hdt").symlink_to("other.hdt")
+    assert build(tmp_path / "link.hdt") == BUILT
+    assert (tmp_path / "other.hdt").read_bytes() == (SAMPLES / "three.hdt").read_bytes()
+    assert (tmp_path / "link.hdt").is_symlink() and names(tmp_path) == ["link.hdt", "other.hdt"]
+
+
+def test_a_new_file(tmp_path: Path) -> None:
+    """A new file has the permissions that the process's mask leaves."""
+    new = tmp_path / "new.hdt"
+    assert shell('umask 027; exec "$0" build --base http://a/ "$@"', THREE, new) == BUILT
+    assert (new.stat().st_mode & 0o777, names(tmp_path)) == (0o640, ["new.hdt"])
+
+
+@pytest.mark.parametrize("name", ["", "/", "/missing/out.hdt", "/out.hdt/", "/none/", "/out.hdt/x"])
+def test_a_path_of_no_file(name: str, replaced: Path) -> None:
+    """A folder, a missing folder, and a file that is used like a folder are no outputs."""
+    before = names(replaced)
+    assert build(f"{replaced}{name}") == WRITING_FAILED
+    assert names(replaced) == before
+
+
+def test_an_empty_path(tmp_path: Path) -> None:
+    """An empty path is no output."""
+    assert run([PROGRAM, "build", THREE, ""], cwd=tmp_path) == WRITING_FAILED
+    assert names(tmp_path) == []
+
+
+@pytest.fixture(scope="module")
+def order(tmp_path_factory: pytest.TempPathFactory) -> Path:
+    """The library that logs fsync and rename."""
+    return preloaded("order.c", tmp_path_factory.mktemp("order"))
+
+
+@pytest.mark.parametrize("command", MAKERS)
+def test_the_disk_has_the_file_before_it_is_renamed(command: str, order: Path, made: dict[str, Made],
+                                                    tmp_path: Path) -> None:
+    """A new file is written to the disk before it takes the path of OUT."""
+    log = tmp_path / "order.log"
+    log.write_bytes(b"")
+    env = {"LD_PRELOAD": os.fspath(order), "ORDER_LOG": os.fspath(log)}
+    answer = hdt(command, made[command].source, tmp_path / "out.hdt", env=env)
+    assert (answer.status, log.read_text()) == (0, "fsync\nrename\n")
+
+
+@pytest.fixture
+def public_folder() -> Iterator[Path]:
+    """A folder that every user may enter, which pytest's own folders are not."""
+    with tempfile.TemporaryDirectory() as name:
+        folder = Path(name)
+        folder.chmod(0o755)
+        yield folder
+        folder.chmod(0o755)
+
+
+def test_a_read_only_folder(public_folder: Path) -> None:
+    """In a folder that a user can't write OUT stays what it was, although the user may write OUT itself."""
+    program, document, out = (public_folder / name for name in ("hdt", "in.nt", "out.hdt"))
+    shutil.copy(PROGRAM, program)
+    shutil.copy(THREE, document)
+    document.chmod(0o644)
+    out.write_bytes(b"before")
+    out.chmod(0o666)
+    public_folder.chmod(0o555)
+    as_nobody = ["setpriv", "--reuid=65534", "--clear-groups", "--"] if os.geteuid() == 0 else []
+    assert run([*as_nobody, program, "build", document, out]) == WRITING_FAILED
+    assert (out.read_bytes(), names(public_folder)) == (b"before", ["hdt", "in.nt", "out.hdt"])
+
+
+# ---- several programs at once, and programs that are ended midway
+
+
+def test_builds_at_once(tmp_path: Path) -> None:
+    """Eight builds of one OUT at once all succeed; in the end OUT is the whole file of one. Nothing else is left."""
+    files = []
+    for n in range(8):
+        lines = b"".join(b"<u:s%d> <u:p%d> <u:o> .\n" % (m, n) for m in range(2_000))
+        (tmp_path / f"{n}.nt").write_bytes(lines)
+        assert hdt("build", tmp_path / f"{n}.nt", tmp_path / f"{n}.hdt").status == 0
+        files.append((tmp_path / f"{n}.hdt").read_bytes())
+    out = tmp_path / "out.hdt"
+    for turn in range(5):
+        programs = [subprocess.Popen([PROGRAM, "build", tmp_path / f"{n}.nt", out], stdout=subprocess.PIPE)
+                    for n in range(8)]
+        ends = [(it.communicate(timeout=60)[0][:11], it.returncode) for it in programs]
+        assert (turn, ends) == (turn, [(b"built 2000 ", 0)] * 8)
+        assert out.read_bytes() in files
+    assert names(tmp_path) == sorted([f"{n}.{kind}" for n in range(8) for kind in ("nt", "hdt")] + ["out.hdt"])
+
+
+@pytest.mark.parametrize("command", MAKERS)
+def test_killed_midway(command: str, tmp_path: Path) -> None:
+    """A program that is killed at any moment leaves OUT as it was or whole, and the next run replaces it."""
+    document, source, whole, out = (tmp_path / name for name in ("in.nt", "in.hdt", "whole.hdt", "out.hdt"))
+    document.write_bytes(b"".join(b"<u:s%05d> <u:p> <u:o%05d> .\n" % (n, n * 7 % 20_011) for n in range(20_000)))
+    hdt("build", document, source)
+    words: list[Word] = [PROGRAM, command, document if command == "build" else source]
+    start = time.monotonic()
+    assert run([*words, whole]).status == 0
+    taken = time.monotonic() - start
+    wanted, turns, ends = whole.read_bytes(), 40, set()
+    for turn in range(turns):
+        out.write_bytes(b"before")
+        with subprocess.Popen(list(map(os.fsencode, (*words, out))), stdout=subprocess.DEVNULL) as program:
+            time.sleep(taken * 1.2 * turn / turns)
+            program.kill()
+        ends.add(program.returncode)
+        assert (turn, out.read_bytes() in (b"before", wanted)) == (turn, True)
+        assert program.returncode in (0, -signal.SIGKILL)
+        if program.returncode == 0:
+            assert out.read_bytes() == wanted
+    assert -signal.SIGKILL in ends
+    assert run([*words, out]).status == 0
+    assert out.read_bytes() == wanted
+
+
+# ---- a full file system
+
+
+@pytest.fixture(scope="module")
+def filling(tmp_path_factory: pytest.TempPathFactory) -> Path:
+    """A folder with a document whose file has more than 64 KiB, and that file."""
+    folder = tmp_path_factory.mktemp("filling")
+    lines = (b'<u:s%d> <u:p> "%032x" .\n' % (n, pow(3, n, 2 ** 127 - 1)) for n in range(4_000))
+    (folder / "in.nt").write_bytes(b"".join(lines))
+    assert hdt("build", folder / "in.nt", folder / "in.hdt").status == 0
+    assert (folder / "in.hdt").stat().st_size > 1 << 16
+    return folder
+
+
+@pytest.mark.parametrize("command", MAKERS)
+def test_a_full_file_system(command: str, filling: Path, tmp_path: Path) -> None:
+    """On a full file system writing fails, OUT stays what it was, and nothing is left beside it.
+
+    The file system is mounted in a namespace of its own, which ends with the shell.
+    """
+    namespace: list[Word] = ["unshare", "--mount", *([] if os.geteuid() == 0 else ["--map-root-user"])]
+    mount = 'mount -t tmpfs -o size=64k tmpfs "$1"'
+    if run([*namespace, "sh", "-c", mount, "sh", tmp_path]).status != 0:
+        pytest.skip("no file system may be mounted here")
+    source = filling / ("in.nt" if command == "build" else "in.hdt")
+    script = f'{mount}; out="$1/out.hdt"; printf before > "$out"; "$0" "$2" "$3" "$out"; echo $?; ls "$1"; cat "$out"'
+    answer = run([*namespace, "sh", "-c", script, PROGRAM, tmp_path, command, source])
+    assert answer == Result(0, b"3\nout.hdt\nbefore", b"hdt: writing failed\n")
