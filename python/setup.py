@@ -8,7 +8,7 @@ from pathlib import Path
 
 from setuptools import setup
 from setuptools.command.build_py import build_py
-from wheel.bdist_wheel import bdist_wheel
+from wheel.bdist_wheel import bdist_wheel  # type: ignore[import]
 
 TOP = Path(__file__).resolve().parent.parent
 
@@ -27,7 +27,7 @@ class BuildWithLibrary(build_py):
         shutil.copy(built() / "libhdt.so", Path(self.build_lib) / "hdt/libhdt.so")
 
 
-class PlatformWheel(bdist_wheel):
+class PlatformWheel(bdist_wheel):  # type: ignore[misc]
     """A wheel for any Python 3, on one platform."""
 
     def finalize_options(self) -> None:

@@ -8,11 +8,11 @@
         for subject, predicate, object in graph.find(p="http://example.org/name"):
             print(subject, object)
 
-A term is a dictionary string everywhere, as `str`: an IRI without its brackets (`http://a/b`), a blank node with its label
-(`_:b`), a literal with its quotes and without escapes, and behind them nothing, a tag or a datatype (`"x"`, `"x"@en`,
+A term is a dictionary string everywhere, as `str`: an IRI without its brackets (`http://a/b`), a blank node with its
+label (`_:b`), a literal with its quotes and without escapes, followed by nothing, a tag or a datatype (`"x"`, `"x"@en`,
 `"1"^^<http://www.w3.org/2001/XMLSchema#integer>`). So `<http://a/b>`, with brackets, finds nothing. `Graph.text` alone
-gives N-Triples. A role is `"subject"`, `"predicate"` or `"object"`, and another one a ValueError. The strings of a role are
-numbered from 1.
+gives N-Triples. A role is `"subject"`, `"predicate"` or `"object"`; another one raises ValueError. The strings of a
+role are numbered from 1.
 
 Files are mapped, not copied: a file must stay as it is while a graph of it is open or a call looks at it. Exceptions:
 `Fault` (the file is none), `LineFault` (the text isn't N-Triples), `NoTriples`, `NotATerm`, all of them ValueError;
@@ -50,7 +50,7 @@ _KNOWN = 512  # strings of a role that a search remembers
 
 
 class Counts(NamedTuple):
-    """How much is in a file: triples, and strings that are subjects and objects, subjects alone, predicates, objects alone."""
+    """The counts of a file: triples, strings that are subjects and objects, subjects only, predicates, objects only."""
 
     triples: int
     shared: int
@@ -93,7 +93,9 @@ def _counts(answer: Any) -> Counts:
     if answer.reason == _library.OUT_OF_MEMORY:
         raise MemoryError
     if answer.reason == _library.BAD_OPTIONS:
-        raise ValueError("the base is no absolute IRI" if isinstance(answer, Report) else "the block size isn't 1 to 65535")
+        raise ValueError(
+            "the base is no absolute IRI" if isinstance(answer, Report) else "the block size isn't 1 to 65535"
+        )
     if answer.reason == _library.NO_TRIPLES:
         raise NoTriples("no triples")
     if isinstance(answer, Report):
@@ -121,8 +123,11 @@ def _create_beside(path: str) -> tuple[int, str]:
 
 
 def _replace(path: Path, data: memoryview) -> None:
-    """Puts a file with the bytes at a path: a new file beside it that is handed to the disk and then takes its name, and the
-    permissions of what was there. Until then, and at a fault, that is what it was."""
+    """Replace the file at a path by one with these bytes.
+
+    A new file beside it is handed to the disk and then takes its name and its permissions. On failure the old file is
+    unchanged.
+    """
     target = os.path.realpath(os.fsdecode(path))
     replaced = os.stat(target) if os.path.exists(target) else None
     if replaced and not stat.S_ISREG(replaced.st_mode):
@@ -154,7 +159,7 @@ def _checked(block_size: int) -> int:
 
 
 def verify(path: Path) -> Counts:
-    """The counts of a file that is one, the whole of it; else raises Fault, with its first fault and the place of that."""
+    """Validate a whole file and return its counts. Raises Fault with the first error and its byte offset."""
     verdict = Verdict()
     with Lent(_data(path)) as lent:
         library.hdt_verify(lent.address, lent.size, verdict)
@@ -162,11 +167,11 @@ def verify(path: Path) -> Counts:
 
 
 def build(nt_path: Path, out_path: Path, base: str = "http://example.org/dataset", block_size: int = 16) -> Counts:
-    """Builds the file of the graph of an N-Triples text, and gives its counts.
+    """Build the HDT file of an N-Triples file, and return its counts.
 
-    `base` is the absolute IRI, without brackets, that stands for the file in its header; strings are packed in blocks of
-    `block_size`, 1 to 65535. The file is written whole, by a new file beside it: at an exception it is what it was. Raises
-    LineFault with the text's first fault, NoTriples, or ValueError of the options.
+    `base` is the absolute IRI, without brackets, that names the file in its header. `block_size` is the number of
+    strings in a block, 1 to 65535. The output is replaced atomically: on an exception it is unchanged. Raises LineFault
+    with the first error of the text, NoTriples, or ValueError for the options.
     """
     report, name = Report(), _encoded(base)
     with Made() as made:
@@ -178,9 +183,10 @@ def build(nt_path: Path, out_path: Path, base: str = "http://example.org/dataset
 
 
 def rewrite(in_path: Path, out_path: Path, block_size: int = 16) -> Counts:
-    """Writes the canonical file of the triples of a file, with its header and without unused strings, and gives its counts.
+    """Write the canonical file of a file's triples, with its header and without unused strings; return its counts.
 
-    It is written whole, as by `build`; the two paths may be one. Raises Fault as `verify` does, or ValueError of the block size.
+    The output is replaced atomically, as by `build`; both paths may be the same. Raises Fault as `verify` does, or
+    ValueError for the block size.
     """
     verdict = Verdict()
     with Made() as made:
@@ -192,16 +198,18 @@ def rewrite(in_path: Path, out_path: Path, block_size: int = 16) -> Counts:
 
 
 def open(path: Path) -> Graph:
-    """Opens a file for searches, to be used with `with` or closed by `close`. It is looked at whole: raises Fault as `verify`
-    does."""
+    """Open a file for searches: use it in a `with` statement, or call `close`.
+
+    The whole file is validated first. Raises Fault as `verify` does.
+    """
     return Graph(_data(path))
 
 
 class Graph:
-    """An open file, asked for its triples and terms. Threads may share one: it answers one call at a time.
+    """An open file. Threads may share one: it answers one call at a time.
 
-    Its length is the count of its triples, and it is an iterable of them as `find` gives them. `(s, p, o) in graph` asks for
-    one. Once it is closed, every call but `close` raises ValueError.
+        """Open the bytes of a file, as `bytes` or mapped. They must not change while the graph is open."""
+    Once it is closed, every call but `close` raises ValueError.
     """
 
     def __init__(self, data: Any) -> None:
@@ -302,7 +310,9 @@ class Graph:
             return False
         return self.matching(*triple) > 0
 
-    def find_numbers(self, s: Optional[str] = None, p: Optional[str] = None, o: Optional[str] = None) -> Iterator[tuple[int, int, int]]:
+    def find_numbers(
+        self, s: Optional[str] = None, p: Optional[str] = None, o: Optional[str] = None
+    ) -> Iterator[tuple[int, int, int]]:
         """The triples of `find`, as the numbers of their terms."""
         len(self)
         return self._matches(_pattern(s, p, o))
@@ -319,10 +329,14 @@ class Graph:
             # (those that are skipped are walked over again: so all of that takes thrice the walk at most)
             skip, room = skip + got, 2 * room
 
-    def find(self, s: Optional[str] = None, p: Optional[str] = None, o: Optional[str] = None) -> Iterator[tuple[str, str, str]]:
-        """The triples that have each term that is given, in the order of the file, each once. Terms are dictionary strings,
-        those that are given and those of the triples; None is any. While it goes it keeps up to 24 bytes for each triple that
-        it has given, and some strings."""
+    def find(
+        self, s: Optional[str] = None, p: Optional[str] = None, o: Optional[str] = None
+    ) -> Iterator[tuple[str, str, str]]:
+        """Iterate over the triples that have each given term, in the order of the file, each once.
+
+        Terms are dictionary strings, both the given ones and those of the triples; None matches any. It keeps up to 24
+        bytes for each triple that it has given, and some strings.
+        """
         return self._strings_of(self.find_numbers(s, p, o))
 
     def _strings_of(self, triples: Iterator[tuple[int, int, int]]) -> Iterator[tuple[str, str, str]]:
@@ -342,8 +356,11 @@ class Graph:
         return self.find()
 
     def text(self, s: Optional[str] = None, p: Optional[str] = None, o: Optional[str] = None) -> str:
-        """The triples of `find` as N-Triples, a line each. The terms that are given are dictionary strings; None is any. Raises
-        NotATerm where a string of them has no form in N-Triples, as only foreign files have them."""
+        """Return the triples of `find` as N-Triples, one a line.
+
+        The given terms are dictionary strings; None matches any. Raises NotATerm if a string has no form in N-Triples,
+        which only files of other programs have.
+        """
         telling = Telling()
         with Made() as made:
             with self._lock:

@@ -1,21 +1,23 @@
-"""What can be wrong with a file, a text or a string: exceptions, with the names of docs/FORMAT.md and docs/NTRIPLES.md."""
+"""Errors in a file, a text or a string, as exceptions; the names are those of docs/FORMAT.md and docs/NTRIPLES.md."""
 
 from __future__ import annotations
 
 # The reasons of docs/FORMAT.md, from 1.
 REASONS = (
-    "Truncated OverlongNumber NumberTooLarge NotHdt WrongKind Check16 WrongFormat HeaderLength TripleOrder Check8 Check32 "
-    "SequenceKind Width BitsKind SectionKind BlockSize BlockCount BlockPlace PrefixTooLong PackedLength NotUtf8 "
-    "StringsNotAscending SectionsOverlap NoTriples LengthsDiffer LastMark MarkCount SubjectRange PredicateRange ObjectRange "
-    "PredicatesNotAscending ObjectsNotAscending TrailingBytes Unused"
+    "Truncated OverlongNumber NumberTooLarge NotHdt WrongKind Check16 WrongFormat HeaderLength TripleOrder Check8 "
+    "Check32 SequenceKind Width BitsKind SectionKind BlockSize BlockCount BlockPlace PrefixTooLong PackedLength "
+    "NotUtf8 StringsNotAscending SectionsOverlap NoTriples LengthsDiffer LastMark MarkCount SubjectRange "
+    "PredicateRange ObjectRange PredicatesNotAscending ObjectsNotAscending TrailingBytes Unused"
 ).split()
-# The faults of docs/NTRIPLES.md, from 1.
+# The reasons of docs/NTRIPLES.md, from 1.
 LINE_REASONS = "Syntax NotUtf8 BadEscape RelativeIri IriCharacter ZeroCharacter Read OutOfMemory TooLong".split()
 
 
 class Fault(ValueError):
-    """A file that is none. `reason` is the number of its first fault in docs/FORMAT.md, `name` that reason's name, and
-    `place` where it is, in bytes from the start."""
+    """The input is not a valid HDT file.
+
+    `reason` is the number of its first error in docs/FORMAT.md, `name` that reason's name, and `place` its byte offset.
+    """
 
     def __init__(self, reason: int, place: int) -> None:
         self.reason = reason
@@ -28,8 +30,11 @@ class Fault(ValueError):
 
 
 class LineFault(ValueError):
-    """A text that isn't N-Triples. `reason` is the number of its first fault in docs/NTRIPLES.md, `name` that reason's name,
-    and `line` and `column` where it is, both from 1; columns count bytes."""
+    """The input is not valid N-Triples.
+
+    `reason` is the number of its first error in docs/NTRIPLES.md, `name` that reason's name; `line` and `column` say
+    where it is, both from 1. Columns count bytes.
+    """
 
     def __init__(self, reason: int, line: int, column: int) -> None:
         self.reason = reason

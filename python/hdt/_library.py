@@ -23,7 +23,12 @@ class Verdict(ctypes.Structure):
 class Report(ctypes.Structure):
     """An hdt_report."""
 
-    _fields_ = [("reason", ctypes.c_uint32), ("line", ctypes.c_uint64), ("column", ctypes.c_uint64), ("counts", ctypes.c_uint64 * 5)]
+    _fields_ = [
+        ("reason", ctypes.c_uint32),
+        ("line", ctypes.c_uint64),
+        ("column", ctypes.c_uint64),
+        ("counts", ctypes.c_uint64 * 5),
+    ]
 
 
 class Telling(ctypes.Structure):
@@ -41,7 +46,12 @@ class Handle(ctypes.Structure):
 class Made(ctypes.Structure):
     """An hdt_bytes, which has none at first. Used with `with`, it is freed behind it."""
 
-    _fields_ = [("at", ctypes.c_void_p), ("len", ctypes.c_uint64), ("state", ctypes.c_uint64), ("kept", ctypes.c_void_p)]
+    _fields_ = [
+        ("at", ctypes.c_void_p),
+        ("len", ctypes.c_uint64),
+        ("state", ctypes.c_uint64),
+        ("kept", ctypes.c_void_p),
+    ]
 
     def view(self) -> memoryview:
         """The bytes where they lie, until they are freed."""
@@ -85,11 +95,17 @@ def _load() -> Any:
     candidates = _candidates()
     if not candidates:
         raise ImportError(
-            "no libhdt.so: it is looked for in the file that HDT_LIBRARY names, beside this package, in the checkout that "
-            "the package is part of, and where the system finds it"
+            "no libhdt.so: it is looked for in the file that HDT_LIBRARY names, beside this package, in the "
+            "checkout that the package is part of, and where the system finds it"
         )
     loaded = ctypes.CDLL(candidates[0])
-    bytes_of, graph, role, number, size = [ctypes.c_void_p, ctypes.c_size_t], ctypes.POINTER(Handle), ctypes.c_uint32, ctypes.c_uint64, ctypes.c_size_t
+    bytes_of, graph, role, number, size = (
+        [ctypes.c_void_p, ctypes.c_size_t],
+        ctypes.POINTER(Handle),
+        ctypes.c_uint32,
+        ctypes.c_uint64,
+        ctypes.c_size_t,
+    )
     pattern = [role, *bytes_of] * 3
     made, room = ctypes.POINTER(Made), ctypes.c_void_p
     verdict, report, telling = ctypes.POINTER(Verdict), ctypes.POINTER(Report), ctypes.POINTER(Telling)
@@ -141,8 +157,10 @@ _release.argtypes, _release.restype = [ctypes.POINTER(_Buffer)], None
 
 
 class Lent:
-    """The bytes of an object, as `bytes` or a file that is mapped, lent where they lie: nothing is copied, and the object
-    keeps them there until they are given back. (ctypes alone lends only what may be written.)"""
+    """The bytes of an object, as `bytes` or a mapped file, borrowed without a copy.
+
+    The object keeps them until they are given back. (ctypes alone lends only what may be written.)
+    """
 
     def __init__(self, data: Any) -> None:
         self._buffer = _Buffer()
