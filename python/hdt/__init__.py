@@ -208,7 +208,7 @@ def open(path: Path) -> Graph:
 class Graph:
     """An open file. Threads may share one: it answers one call at a time.
 
-        """Open the bytes of a file, as `bytes` or mapped. They must not change while the graph is open."""
+    Its length is the number of its triples; iterating gives them as `find` does. `(s, p, o) in graph` looks for one.
     Once it is closed, every call but `close` raises ValueError.
     """
 
