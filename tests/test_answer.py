@@ -285,8 +285,7 @@ ALL = 2**64 - 1
 
 def answered(probe: Probe, step: int, fails: int | str, taken: int, calls: int | str) -> tuple[str, ...]:
     """The probe's answer to these requests over the three triples, by a reader and a writer."""
-    return tuple(probe.on(THREE.read_bytes(), "answer_requests", LINES_FORM, "-", 0, step, fails, taken, calls,
-                          REQUESTS))
+    return probe.on(THREE.read_bytes(), "answer_requests", LINES_FORM, "-", 0, step, fails, taken, calls, REQUESTS)
 
 
 @pytest.mark.parametrize("step", [1, 2, 5, 7, 9, 50, 200, ALL])
@@ -316,8 +315,8 @@ def test_equal_requests(probe: Probe) -> None:
     data = THREE.read_bytes()
     terms = probe.on(data, "answer_requests", LINES_FORM, "-", 0, ALL, "-", ALL, "-", b"? ? <u:b>\n" * 1_000)
     strings = probe.on(data, "answer_requests", IDS_FORM, 1, 1, ALL, "-", ALL, "-", b"u:a\t?\t?\n" * 1_000)
-    assert tuple(terms) == ("ok", "false", ((FIRST + b"\n") * 1_000).hex())
-    assert tuple(strings) == ("ok", "false", (b"1 1 2\n\n" * 1_000).hex())
+    assert terms == ("ok", "false", ((FIRST + b"\n") * 1_000).hex())
+    assert strings == ("ok", "false", (b"1 1 2\n\n" * 1_000).hex())
 
 
 # ---- any requests
@@ -464,4 +463,4 @@ def test_any_reader_and_writer(probe: Probe, triples: list[Triple], given_lines:
         wanted = ("reading", "failed", answers.hex())
     seen = probe.on(graph.data, "answer_requests", form, "-" if most is None else most, int(raw), step,
                     "-" if fails is None else fails, taken, "-" if limit is None else f"@{limit}", requests)
-    assert tuple(seen) == wanted
+    assert seen == wanted

@@ -16,7 +16,7 @@ import pytest
 
 from reference import hdt as reference
 from support.built import PROGRAM, SAMPLES, TOP
-from support.probe import Probe
+from support.probe import Answer, Argument, Probe, Request
 from support.program import (BAD_OPTIONS, NO_SUCH_NUMBER, WRITING_FAILED, Result, Word, brief, done, failed, fault,
                              hdt, hdt_into, piped, run)
 
@@ -474,21 +474,20 @@ COMMANDS: dict[str, tuple[list[str], bytes, bytes, bytes]] = {
 }
 every_command = pytest.mark.parametrize("words, data, text, made", COMMANDS.values(), ids=COMMANDS)
 
-Request = tuple[object, ...]
-Answers = list[tuple[object, tuple[str, ...], str]]
+Answers = list[tuple[object, Answer, str]]
 
 
 def request(step: int, fails: int | str, taken: int, calls: int | str, words: Sequence[str]) -> Request:
     """A request to run a command line, with a reader and a writer of pieces that fail or not."""
-    return "run", step, fails, taken, calls, *(word.encode() for word in ["hdt", *words])
+    return ["run", step, fails, taken, calls, *(word.encode() for word in ["hdt", *words])]
 
 
 def answers(probe: Probe, data: bytes, requests: dict[object, Request], after: str) -> Answers:
     """The answers to requests over an input, and how often each called its reader or writer after it had to stop."""
-    sent = [part for asked in requests.values() for part in (asked, (after,))]
+    sent: list[Request] = [part for asked in requests.values() for part in (asked, [after])]
     answered = probe.send(("file", data), *sent)[1:]
     calls = [counts[3:5] if after == "reads" else counts[3:4] for counts in answered[1::2]]
-    return [(name, tuple(answer), " ".join(late)) for name, answer, late in zip(requests, answered[::2], calls)]
+    return [(name, answer, " ".join(late)) for name, answer, late in zip(requests, answered[::2], calls)]
 
 
 @every_command
@@ -575,7 +574,7 @@ REFUSED_RUNS: dict[str, tuple[list[str], bytes, tuple[str, ...], int | None]] = 
 def test_refused_run(probe: Probe, words: list[str], data: bytes, wanted: tuple[str, ...], read: int | None) -> None:
     """A command that is refused prints nothing and makes no file. Bad options of `build` are found before reading."""
     answer, reads = probe.send(("file", data), request(4, "-", ALL, "-", words), ("reads",))[1:]
-    assert tuple(answer) == (*wanted, "", "")
+    assert answer == (*wanted, "", "")
     assert reads[3:5] == ("0", "0") and read in (None, int(reads[2]))
 
 
@@ -586,7 +585,7 @@ def test_large_literal(probe: Probe) -> None:
     built = probe.send(("file", b"<u:a> <u:p> %s .\n" % literal.encode()), request(7_000, "-", ALL, "-", words))[1]
     data = reference.graph([(b"u:a", b"u:p", literal.encode())], b"u:base", 65_535).data
     line = b"built 1 0 1 1 1 %d\n" % len(data)
-    assert tuple(built) == ("ok", line.hex(), data.hex())
+    assert built == ("ok", line.hex(), data.hex())
     found: dict[object, tuple[list[str], bytes]] = {
         "found": (["find", "--raw", "--numbers"], b"1 1 1\n"),
         "counted": (["find", "--raw", "--count", "--most", "1"], b"1\n"),
@@ -603,7 +602,7 @@ def test_large_literal(probe: Probe) -> None:
 
 U64 = 2**64 - 1
 # An error, its exit status and its line. Lines and columns beyond 32 bits, and IDs and byte offsets up to 2^64 - 1.
-FAULT_LINES: list[tuple[Request, int, str]] = [
+FAULT_LINES: list[tuple[tuple[Argument, ...], int, str]] = [
     (("file", 1, 68), 1, "hdt: fault 1 Truncated at 68"),
     (("file", 33, U64), 1, "hdt: fault 33 TrailingBytes at 18446744073709551615"),
     (("file", 34, 319), 1, "hdt: fault 34 Unused at 319"),
@@ -637,7 +636,7 @@ def test_fault_lines(probe: Probe) -> None:
     assert told == FAULT_LINES
 
 
-USAGE_LINES: list[tuple[Request, int, str]] = [
+USAGE_LINES: list[tuple[tuple[Argument, ...], int, str]] = [
     (("usage", b"error: no"), 2, "error: no"),
     (("help", b"Builds\n\nUsage: hdt"), 0, "Builds\n\nUsage: hdt"),
     (("word", 0, 1, 1), 2, "hdt: TERM column 1: 1 Syntax"),
