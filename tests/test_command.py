@@ -455,6 +455,9 @@ LINE = b"<http://a/> <http://a/> <http://a/> .\n"
 DOCUMENT = (SAMPLES / "three.nt").read_bytes()
 BASE = ["--base", "http://a/"]
 STEPS = 1, 2, 5, 7, 9, 50, 200, ALL
+# What was made before the command: a file is put behind it, and an error leaves it as it is.
+BEFORE = b"made"
+KEPT = BEFORE.hex()
 
 # The command line, the input, the text that is printed, and the file that is made.
 COMMANDS: dict[str, tuple[list[str], bytes, bytes, bytes]] = {
@@ -479,7 +482,7 @@ Answers = list[tuple[object, Answer, str]]
 
 def request(step: int, fails: int | str, taken: int, calls: int | str, words: Sequence[str]) -> Request:
     """A request to run a command line, with a reader and a writer of pieces that fail or not."""
-    return ["run", step, fails, taken, calls, *(word.encode() for word in ["hdt", *words])]
+    return ["run_made", BEFORE, step, fails, taken, calls, *(word.encode() for word in ["hdt", *words])]
 
 
 def answers(probe: Probe, data: bytes, requests: dict[object, Request], after: str) -> Answers:
@@ -494,7 +497,7 @@ def answers(probe: Probe, data: bytes, requests: dict[object, Request], after: s
 def test_any_pieces(probe: Probe, words: list[str], data: bytes, text: bytes, made: bytes) -> None:
     """A command reads and writes in pieces of any size; it does not read behind the end of its input."""
     requests: dict[object, Request] = {step: request(step, "-", step, "-", words) for step in STEPS}
-    wanted = ("ok", text.hex(), made.hex())
+    wanted = ("ok", text.hex(), (BEFORE + made).hex())
     assert answers(probe, data, requests, "reads") == [(step, wanted, "0 0") for step in STEPS]
 
 
@@ -504,7 +507,7 @@ def test_reader_that_fails(probe: Probe, words: list[str], data: bytes, text: by
     requests: dict[object, Request] = {
         (length, step, how): request(step, f"{length}{how}", ALL, "-", words)
         for length in range(len(data) + 1) for step, how in ((1, ""), (ALL, ""), (7, ":interrupted"))}
-    wanted = ("reading", "failed", "", "")
+    wanted = ("reading", "failed", "", KEPT)
     assert answers(probe, data, requests, "reads") == [(case, wanted, "0 0") for case in requests]
 
 
@@ -514,18 +517,18 @@ def test_writer_that_fails(probe: Probe, words: list[str], data: bytes, text: by
     requests: dict[object, Request] = {
         (length, how): request(50, "-", 1, f"{length}{how}", words)
         for length in range(len(text)) for how in ("", ":interrupted", ":zero")}
-    wanted = [((length, how), ("written", str(length), text[:length].hex(), ""), "0") for length, how in
+    wanted = [((length, how), ("written", str(length), text[:length].hex(), KEPT), "0") for length, how in
               ((length, how) for length in range(len(text)) for how in ("", ":interrupted", ":zero"))]
     assert answers(probe, data, requests, "writes") == wanted
     requests = {"whole": request(50, "-", 1, len(text), words)}
-    assert answers(probe, data, requests, "writes") == [("whole", ("ok", text.hex(), made.hex()), "0")]
+    assert answers(probe, data, requests, "writes") == [("whole", ("ok", text.hex(), (BEFORE + made).hex()), "0")]
 
 
 @pytest.mark.parametrize("step, calls, taken", [(7, 35, 245), (250, 1, 250), (0, 9, 0)])
 def test_writer_that_fails_in_a_part(probe: Probe, step: int, calls: int, taken: int) -> None:
     """A writer that takes several bytes a call, or none, and fails behind a part of a head."""
     requests: dict[object, Request] = {"head": request(50, "-", step, calls, ["head", "in"])}
-    wanted = ("written", str(taken), V1_HEAD[:taken].hex(), "")
+    wanted = ("written", str(taken), V1_HEAD[:taken].hex(), KEPT)
     assert answers(probe, V1, requests, "writes") == [("head", wanted, "0")]
 
 
@@ -536,7 +539,7 @@ def test_long_input(probe: Probe, length: int) -> None:
     steps = 7, 200, 65_536, ALL
     requests: dict[object, Request] = {(step, "whole"): request(step, "-", ALL, "-", ["head", "in"]) for step in steps}
     requests |= {(step, "cut"): request(step, "-", 7, 35, ["head", "in"]) for step in steps}
-    wanted = {"whole": ("ok", V1_HEAD.hex(), ""), "cut": ("written", "245", V1_HEAD[:245].hex(), "")}
+    wanted = {"whole": ("ok", V1_HEAD.hex(), KEPT), "cut": ("written", "245", V1_HEAD[:245].hex(), KEPT)}
     assert answers(probe, data, requests, "reads") == [
         ((step, kind), wanted[kind], "0 0") for kind in wanted for step in steps]
 
@@ -574,7 +577,7 @@ REFUSED_RUNS: dict[str, tuple[list[str], bytes, tuple[str, ...], int | None]] = 
 def test_refused_run(probe: Probe, words: list[str], data: bytes, wanted: tuple[str, ...], read: int | None) -> None:
     """A command that is refused prints nothing and makes no file. Bad options of `build` are found before reading."""
     answer, reads = probe.send(("file", data), request(4, "-", ALL, "-", words), ("reads",))[1:]
-    assert answer == (*wanted, "", "")
+    assert answer == (*wanted, "", KEPT)
     assert reads[3:5] == ("0", "0") and read in (None, int(reads[2]))
 
 
@@ -585,7 +588,7 @@ def test_large_literal(probe: Probe) -> None:
     built = probe.send(("file", b"<u:a> <u:p> %s .\n" % literal.encode()), request(7_000, "-", ALL, "-", words))[1]
     data = reference.graph([(b"u:a", b"u:p", literal.encode())], b"u:base", 65_535).data
     line = b"built 1 0 1 1 1 %d\n" % len(data)
-    assert built == ("ok", line.hex(), data.hex())
+    assert built == ("ok", line.hex(), (BEFORE + data).hex())
     found: dict[object, tuple[list[str], bytes]] = {
         "found": (["find", "--raw", "--numbers"], b"1 1 1\n"),
         "counted": (["find", "--raw", "--count", "--most", "1"], b"1\n"),
@@ -595,7 +598,7 @@ def test_large_literal(probe: Probe) -> None:
         name: request(7_000, "-", ALL, "-", [*options, "in", "?", "?", literal])
         for name, (options, _) in found.items()}
     assert answers(probe, data, requests, "reads") == [
-        (name, ("ok", text.hex(), ""), "0 0") for name, (_, text) in found.items()]
+        (name, ("ok", text.hex(), KEPT), "0 0") for name, (_, text) in found.items()]
 
 
 # ---- the lines of errors
@@ -634,6 +637,34 @@ def test_fault_lines(probe: Probe) -> None:
     told = [(case, int(answer[1]), bytes.fromhex(answer[2]).decode())
             for (case, _, _), answer in zip(FAULT_LINES, seen)]
     assert told == FAULT_LINES
+
+
+# The same errors as those of a library: their text.
+FAULT_TEXTS: list[tuple[tuple[Argument, ...], str]] = [
+    (("file", 1, 68), "the file has a fault: Truncated at 68"),
+    (("file", 33, U64), "the file has a fault: TrailingBytes at 18446744073709551615"),
+    (("file", 34, 319), "the file has a fault: Unused at 319"),
+    (("input", 1, 20, 7), "the input has a fault: Syntax at line 20 column 7"),
+    (("input", 2, 2**32, 2**32 + 1), "the input has a fault: NotUtf8 at line 4294967296 column 4294967297"),
+    (("input", 3, U64, U64),
+     "the input has a fault: BadEscape at line 18446744073709551615 column 18446744073709551615"),
+    (("no_triples",), "no triples"),
+    (("no_such_term",), "no such term"),
+    (("no_such_number",), "no such number"),
+    (("not_a_term", 0, 1), "a string that is not a term: Subject 1"),
+    (("not_a_term", 1, U64), "a string that is not a term: Predicate 18446744073709551615"),
+    (("not_a_term", 2, 20), "a string that is not a term: Object 20"),
+    (("bad_options",), "bad options"),
+    (("read",), "reading failed"),
+    (("write", 7), "writing failed after 7 bytes"),
+    (("memory",), "out of memory"),
+]
+
+
+def test_fault_texts(probe: Probe) -> None:
+    """Each error of a command has a text as an error of a library."""
+    seen = probe.send(*(("fault_line", *case) for case, _ in FAULT_TEXTS))
+    assert [(case, bytes.fromhex(answer[3]).decode()) for (case, _), answer in zip(FAULT_TEXTS, seen)] == FAULT_TEXTS
 
 
 USAGE_LINES: list[tuple[tuple[Argument, ...], int, str]] = [
@@ -703,8 +734,8 @@ REQUESTS: list[tuple[str, str]] = [
 
 def test_requests(probe: Probe) -> None:
     """What the words of a command line ask for, without a look at any file."""
-    asked = [["hdt", *words.split(" ")] for words, _ in REQUESTS]
-    seen = probe.send(*(("parse_words", *(word.encode() for word in words)) for words in asked))
+    asked: list[Request] = [["parse_words", b"hdt", *words.encode().split(b" ")] for words, _ in REQUESTS]
+    seen = probe.send(*asked)
     assert [(words, " ".join(answer)) for (words, _), answer in zip(REQUESTS, seen)] == [
         (words, f"ok {wanted}") for words, wanted in REQUESTS]
 
