@@ -2,6 +2,7 @@
 
 from __future__ import annotations
 
+import os
 from collections.abc import Sequence
 from itertools import product
 from pathlib import Path
@@ -13,6 +14,7 @@ from hypothesis import strategies as st
 from reference import hdt as reference
 from reference import ntriples
 from support.built import SAMPLES
+from support.probe import Probe
 from support.program import READING_FAILED, WRITING_FAILED, Result, Word, brief, done, failed, fault, hdt, hdt_into
 from support.search import THREE as THREE_TRIPLES
 from support.search import Graph, Pattern, Triple, chosen, spelled
@@ -280,3 +282,30 @@ def test_any_strings(tmp_path: Path, triples: list[Triple], choice: tuple[int | 
                      most: int | None) -> None:
     """The same by strings where strings need not be terms: the first that is printed and not a term is reported."""
     check_pattern(tmp_path / "any.hdt", triples, choice, most, True)
+
+
+# ---- any command line
+
+
+parts = st.tuples(*[st.none() | st.sampled_from(TERMS)] * 3)
+flags = st.lists(st.sampled_from(["--raw", "--numbers", "--count"]), unique=True)
+most_words = st.none() | st.tuples(st.integers(0, 2**64 - 1), st.booleans())
+
+
+@given(parts, flags, most_words, st.lists(st.integers(0, 4), min_size=4, max_size=4))
+def test_any_command_line(probe: Probe, pattern: Pattern, given_flags: list[str], most: tuple[int, bool] | None,
+                          places: list[int]) -> None:
+    """Options may be anywhere before, between and behind the file and the terms, and mean the same."""
+    raw = "--raw" in given_flags
+    groups: list[list[Word]] = [[flag] for flag in given_flags]
+    if most is not None:
+        groups.append([f"--most={most[0]}"] if most[1] else ["--most", str(most[0])])
+    words: list[list[Word]] = [[word] for word in ["a.hdt", *words_of(pattern, raw)]]
+    for place, group in sorted(zip(places, groups), reverse=True):
+        words.insert(place, group)
+    line = [os.fsencode(word) for group in words for word in group]
+    form = 2 if "--count" in given_flags else int("--numbers" in given_flags)
+    strings = ["none" if part is None else part.hex() for part in pattern]
+    action = (["find", *strings, ["false", "true"][form]] if most is None and form < 2
+              else ["search", *strings, str(form), "none" if most is None else str(most[0])])
+    assert probe.ask("parse_words", b"hdt", b"find", *line) == ("ok", b"a.hdt".hex(), "none", *action)
