@@ -127,6 +127,30 @@ def test_large_head_in_pieces() -> None:
     assert brief(piped(data, 7_000, "head", "/dev/stdin")) == brief(wanted)
 
 
+# ---- errors beyond 8 and 16 bits
+#
+# A byte offset, line or column beyond 32 bits needs an input of 4 GiB; test_fault_lines prints such numbers.
+
+
+@pytest.mark.parametrize("offset", [255, 256, 65_535, 65_536, 2**24])
+def test_large_byte_offsets(tmp_path: Path, offset: int) -> None:
+    """An error behind a header body of any length has its byte offset."""
+    room = offset - len(reference.write_head()) + 1
+    length = next(length for length in range(room, 0, -1) if length + len(str(length)) == room)
+    head = reference.write_head(b"x" * length)
+    path = tmp_path / "input.hdt"
+    path.write_bytes(head + b"$HD")
+    assert len(head) == offset and hdt("verify", path) == fault(1, "Truncated", offset)
+
+
+@pytest.mark.parametrize("line, column", [(255, 256), (256, 255), (65_536, 65_537), (70_000, 300)])
+def test_large_lines_and_columns(tmp_path: Path, line: int, column: int) -> None:
+    """An error in any line and column of a document is reported there."""
+    document = b"\n" * (line - 1) + b" " * (column - 1) + b"x"
+    wanted = failed(1, f"line {line} column {column}: 1 Syntax")
+    assert hdt("build", "/dev/stdin", tmp_path / "out.hdt", stdin=document) == wanted
+
+
 # ---- input in pieces
 
 
