@@ -422,7 +422,9 @@ def check_answers(path: Path, triples: list[Triple], requests: bytes, cuts: list
 
 pieces_of = st.lists(st.integers(1, 40), max_size=6)
 mosts = st.none() | st.integers(0, 4) | st.sampled_from([256, 2**32, 2**64 - 1])
-any_path = settings(suppress_health_check=[HealthCheck.function_scoped_fixture])
+# Each example writes its file to the same path, and runs the program once for each request.
+any_path = settings(suppress_health_check=[HealthCheck.function_scoped_fixture],
+                    max_examples=settings.default.max_examples // 2)
 
 
 @any_path

@@ -56,7 +56,7 @@ def patterns_of(triples: Sequence[Triple]) -> list[Pattern]:
     given = [tuple(string if mask >> role & 1 else None for role, string in enumerate(triple))
              for triple in sorted(chosen) for mask in range(8)]
     return [
-        *((pattern[0], pattern[1], pattern[2]) for pattern in given),
+        *dict.fromkeys((pattern[0], pattern[1], pattern[2]) for pattern in given),
         (b"u:nowhere", None, None),
         (None, b"u:nowhere", None),
         (None, None, b'"nowhere"'),
@@ -254,6 +254,11 @@ choices = st.tuples(*[st.none() | st.integers(0, 24) | st.sampled_from(TERMS)] *
 mosts = st.none() | st.integers(0, 8) | st.sampled_from([255, 256, 2**16, 2**32, 2**64 - 1])
 
 
+# Each example writes its file to the same path, and runs the program three times.
+any_path = settings(suppress_health_check=[HealthCheck.function_scoped_fixture],
+                    max_examples=settings.default.max_examples // 2)
+
+
 def check_pattern(path: Path, triples: Sequence[Triple], choice: Sequence[int | bytes | None], most: int | None,
                   raw: bool) -> None:
     """Compare each form of `find` of a pattern with the filter of the graph's triples."""
@@ -266,7 +271,7 @@ def check_pattern(path: Path, triples: Sequence[Triple], choice: Sequence[int | 
     assert seen == graph.results(pattern, most)
 
 
-@settings(suppress_health_check=[HealthCheck.function_scoped_fixture])
+@any_path
 @given(st.lists(triples_of_terms, min_size=1, max_size=25), choices, mosts, st.booleans())
 @example(THREE_TRIPLES, (None, b"u:p", None), 1, False)
 def test_any_pattern(tmp_path: Path, triples: list[Triple], choice: tuple[int | bytes | None, ...], most: int | None,
@@ -275,7 +280,7 @@ def test_any_pattern(tmp_path: Path, triples: list[Triple], choice: tuple[int | 
     check_pattern(tmp_path / "any.hdt", triples, choice, most, raw)
 
 
-@settings(suppress_health_check=[HealthCheck.function_scoped_fixture])
+@any_path
 @given(st.lists(triples_of_strings, min_size=1, max_size=12), choices, mosts)
 @example([(b"u:s", b"u:p", b"u:o"), (b"u:s", b"u:q", b'"no end')], (b"u:s", None, None), 2)
 def test_any_strings(tmp_path: Path, triples: list[Triple], choice: tuple[int | bytes | None, ...],

@@ -132,13 +132,16 @@ def test_ids_beyond_16_bits(tmp_path: Path) -> None:
 # ---- any strings
 
 
+# Each example runs the program some thirty times.
+some_examples = settings(suppress_health_check=[HealthCheck.function_scoped_fixture],
+                         max_examples=settings.default.max_examples // 6)
 texts = st.text(st.characters(min_codepoint=1, blacklist_categories=["Cs"]), max_size=12).map(str.encode)
 terms = st.sampled_from([b"u:a", b"u:b", b"http://a/", b"_:b", b"_:b.1", b'"x"', b'"x"@en', b'"a"b\\\n\r\t"',
                          b'"x"^^<u:t>'])
-sections = st.lists(texts | terms, max_size=8, unique=True).map(lambda strings: sorted(strings))
+sections = st.lists(texts | terms, max_size=6, unique=True).map(lambda strings: sorted(strings))
 
 
-@settings(suppress_health_check=[HealthCheck.function_scoped_fixture], max_examples=60)
+@some_examples
 @given(sections, sections, sections, sections, texts, st.sampled_from([1, 2, 3, 16, 65_535]))
 @example(SHARED, SUBJECTS, PREDICATES, OBJECTS, b"u:z", 1)
 def test_any_strings(tmp_path: Path, shared: list[bytes], subjects: list[bytes], predicates: list[bytes],
@@ -155,7 +158,7 @@ def test_any_strings(tmp_path: Path, shared: list[bytes], subjects: list[bytes],
         assert [(words, hdt(*words)) for words, _ in cases] == cases
 
 
-@settings(suppress_health_check=[HealthCheck.function_scoped_fixture], max_examples=60)
+@some_examples
 @given(st.lists(terms, min_size=1, unique=True), terms)
 def test_any_terms(tmp_path: Path, strings: list[bytes], other: bytes) -> None:
     """The ID of a term is that of its string."""

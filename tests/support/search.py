@@ -3,7 +3,7 @@
 from __future__ import annotations
 
 from collections.abc import Sequence
-from itertools import product
+from functools import cached_property, lru_cache
 from typing import Optional
 
 from reference import hdt as reference
@@ -41,18 +41,28 @@ class Graph:
     def __init__(self, strings: Sequence[Triple]) -> None:
         self.data, self.ids, self.triples = reference.graph(strings)
 
-    def lines(self, found: Sequence[int]) -> Result:
-        """The lines of these triples, or the first of their strings that is not a term."""
-        for n, (role, name) in product(found, enumerate(reference.ROLES)):
-            if not is_term_of(self.triples[n][role], role):
-                return failed(1, f"{name} {self.ids[n][role]} is not a term")
-        return done(b"".join(ntriples.put_strings(self.triples[n]) for n in found))
+    @lru_cache(maxsize=4)
+    def found(self, pattern: Pattern) -> list[int]:
+        """The indices of the triples that match a pattern."""
+        return [n for n, triple in enumerate(self.triples) if matches(pattern, triple)]
+
+    @cached_property
+    def lines(self) -> list[tuple[bytes, str]]:
+        """The line of each triple, or the role and the ID of its first string that is not a term."""
+        lines = []
+        for ids, triple in zip(self.ids, self.triples):
+            odd = [f"{name} {ids[role]}" for role, name in enumerate(reference.ROLES)
+                   if not is_term_of(triple[role], role)]
+            lines.append((b"", odd[0]) if odd else (ntriples.put_strings(triple), ""))
+        return lines
 
     def results(self, pattern: Pattern, most: int | None = None) -> tuple[Result, Result, Result]:
         """The lines, the IDs and the count of the first triples of a pattern."""
-        found = [n for n, triple in enumerate(self.triples) if matches(pattern, triple)][:most]
+        found = self.found(pattern)[:most]
+        odd = next((name for _, name in (self.lines[n] for n in found) if name), None)
+        lines = failed(1, f"{odd} is not a term") if odd else done(b"".join(self.lines[n][0] for n in found))
         ids = b"".join(b"%d %d %d\n" % self.ids[n] for n in found)
-        return self.lines(found), done(ids), done(b"%d\n" % len(found))
+        return lines, done(ids), done(b"%d\n" % len(found))
 
 
 def chosen(triples: Sequence[Triple], choice: Sequence[int | bytes | None]) -> Pattern:
