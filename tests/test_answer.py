@@ -290,7 +290,7 @@ def answered(probe: Probe, step: int, fails: int | str, taken: int, calls: int |
 
 @pytest.mark.parametrize("step", [1, 2, 5, 7, 9, 50, 200, ALL])
 def test_any_pieces(probe: Probe, step: int) -> None:
-    """Requests and answers in pieces of any size; nothing is read behind the end."""
+    """Requests and answers in pieces of any size; nothing is read past the end."""
     assert answered(probe, step, "-", step, "-") == ("ok", "true", ANSWERS.hex())
     assert probe.ask("reads")[3:5] == ("0", "0")
 

@@ -150,7 +150,7 @@ NO_REL = failed(1, "predicate 1 is not a term")
 CUT_AT_291 = fault(1, "Truncated", 291)
 CUT_AT_453 = fault(1, "Truncated", 453)
 
-# The file, the words behind it, and the result. `v1` and `three` are samples; `rel` and `two` have strings that are not
+# The file, the words after it, and the result. `v1` and `three` are samples; `rel` and `two` have strings that are not
 # terms; `short` and `less` are cut off; `none` is missing.
 RESULTS: dict[str, tuple[str, list[str], str, list[str], Result]] = {
     "dump of the sample": ("dump", [], "v1", [], done((SAMPLES / "v1.nt").read_bytes())),
@@ -170,7 +170,7 @@ RESULTS: dict[str, tuple[str, list[str], str, list[str], Result]] = {
     "its IDs by a term": ("find", ["--numbers"], "rel", ["<u:s>", "?", "?"], done(b"1 1 1\n")),
     "its IDs by two strings": ("find", ["--raw", "--numbers"], "rel", ["?", "rel", "u:o"], done(b"1 1 1\n")),
     "a count of strings that are not terms": ("find", ["--count"], "rel", ["<u:s>", "?", "?"], done(b"1\n")),
-    "strings that are not terms behind the last that is asked for": (
+    "strings that are not terms after the last that is asked for": (
         "find", ["--most", "1"], "two", ["<u:s>", "?", "?"], done(b"<u:s> <u:p> <u:o> .\n")),
     "the first that is not a term among those asked for": (
         "find", ["--most", "2"], "two", ["<u:s>", "?", "?"], failed(1, "object 1 is not a term")),
@@ -299,15 +299,15 @@ most_words = st.none() | st.tuples(st.integers(0, 2**64 - 1), st.booleans())
 
 @given(parts, flags, most_words, st.lists(st.integers(0, 4), min_size=4, max_size=4))
 def test_any_command_line(probe: Probe, pattern: Pattern, given_flags: list[str], most: tuple[int, bool] | None,
-                          places: list[int]) -> None:
-    """Options may be anywhere before, between and behind the file and the terms, and mean the same."""
+                          positions: list[int]) -> None:
+    """Options may be anywhere before, between and after the file and the terms, and mean the same."""
     raw = "--raw" in given_flags
     groups: list[list[Word]] = [[flag] for flag in given_flags]
     if most is not None:
         groups.append([f"--most={most[0]}"] if most[1] else ["--most", str(most[0])])
     words: list[list[Word]] = [[word] for word in ["a.hdt", *words_of(pattern, raw)]]
-    for place, group in sorted(zip(places, groups), reverse=True):
-        words.insert(place, group)
+    for position, group in sorted(zip(positions, groups), reverse=True):
+        words.insert(position, group)
     line = [os.fsencode(word) for group in words for word in group]
     form = 2 if "--count" in given_flags else int("--numbers" in given_flags)
     strings = ["none" if part is None else part.hex() for part in pattern]

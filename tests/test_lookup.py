@@ -69,7 +69,7 @@ OVERLAP = fault(23, "SectionsOverlap", 369)
 # The command and its options, the file and the rest: `none` is missing, `short` cut off, `overlap` has a string twice.
 RESULTS: dict[str, tuple[list[str], str, list[str], Result]] = {
     "a term": (["number"], "v1", ["predicate", "<http://a/>"], done(b"1\n")),
-    "a string, behind all options": (["number", "--raw", "--"], "v1", ["predicate", "http://a/"], done(b"1\n")),
+    "a string, after all options": (["number", "--raw", "--"], "v1", ["predicate", "http://a/"], done(b"1\n")),
     "a literal that is not there": (["number"], "v1", ["object", '"x"@en'], NO_SUCH_TERM),
     "a word that is not a term": (["number"], "v1", ["subject", "rel"], failed(2, "TERM column 1: 1 Syntax")),
     "that before a missing file": (

@@ -45,8 +45,8 @@ def test_small_file(words: list[Word], out: bytes) -> None:
 def test_rewrite(tmp_path: Path) -> None:
     """`rewrite --progress` prints the same as `rewrite`, and one line of progress."""
     plain = hdt("rewrite", THREE, tmp_path / "plain.hdt")
-    assert hdt("rewrite", THREE, tmp_path / "told.hdt", "--progress") == Result(0, plain.out, ONCE)
-    assert (tmp_path / "told.hdt").read_bytes() == (tmp_path / "plain.hdt").read_bytes()
+    assert hdt("rewrite", THREE, tmp_path / "progress.hdt", "--progress") == Result(0, plain.out, ONCE)
+    assert (tmp_path / "progress.hdt").read_bytes() == (tmp_path / "plain.hdt").read_bytes()
 
 
 @pytest.fixture(scope="module")
@@ -81,8 +81,8 @@ def test_large_document(tmp_path: Path, document: Path, piped: bool) -> None:
     assert [step for step in steps if not STEP <= step < STEP + (1 << 17)] == []
 
 
-def test_error_behind_the_progress(tmp_path: Path) -> None:
-    """The error of an input is printed behind the lines of progress."""
+def test_error_after_the_progress(tmp_path: Path) -> None:
+    """The error of an input is printed after the lines of progress."""
     path = tmp_path / "bad.nt"
     path.write_bytes(LINE * 20_000 + b"x\n")
     seen = hdt("build", path, tmp_path / "out.hdt", "--progress")
