@@ -15,7 +15,7 @@ from hypothesis import strategies as st
 from reference import hdt as reference
 from reference import ntriples
 from support.built import PROGRAM, SAMPLES
-from support.probe import Probe
+from support.probe import Argument, Probe
 from support.program import (READING_FAILED, WRITING_FAILED, Result, Word, brief, closed, done, fault, fed, hdt,
                              hdt_from, hdt_into, piped)
 from support.search import THREE as THREE_TRIPLES
@@ -463,6 +463,20 @@ def test_any_reader_and_writer(probe: Probe, triples: list[Triple], given_lines:
         wanted = ("written", str(limit), answers[:limit].hex())
     elif fails_first:
         wanted = ("reading", "failed", answers.hex())
-    seen = probe.on(graph.data, "answer_requests", form, "-" if most is None else most, int(raw), step,
-                    "-" if fails is None else fails, taken, "-" if limit is None else f"@{limit}", requests)
-    assert seen == wanted
+    asking: list[Argument] = [form, "-" if most is None else most, int(raw)]
+    reader: list[Argument] = [step, "-" if fails is None else fails]
+    writer: list[Argument] = [taken, "-" if limit is None else f"@{limit}"]
+    seen = probe.send(("file", graph.data), ["answer_requests", *asking, *reader, *writer, requests],
+                      ["answer_file", *asking, len(answers), 9, "-", *reader, *writer, requests])
+    assert seen[1:] == [wanted, wanted]
+
+
+@given(graphs, st.integers(0, 2000), st.integers(1, 500), st.integers(0, 3_000))
+@example(THREE_TRIPLES, 0, 1, 0)
+def test_any_file_that_cannot_be_read(probe: Probe, triples: list[Triple], fails: int, step: int, room: int) -> None:
+    """Where the file cannot be read to its end there are no answers, and no request is read."""
+    data = Graph(triples).data
+    fails = min(fails, len(data))
+    asked: list[Argument] = ["answer_file", 0, "-", 0, room, step, fails, 1, "-", 1, "-", b"? ? ?\n"]
+    answer, reads, writes = probe.send(("file", data), asked, ["reads"], ["writes"])[1:]
+    assert (answer, reads[1], writes[1]) == (("reading", "failed", ""), "0", "0")

@@ -13,6 +13,8 @@ from collections.abc import Iterator, Sequence
 from pathlib import Path
 
 import pytest
+from hypothesis import example, given
+from hypothesis import strategies as st
 
 from reference import hdt as reference
 from support.built import PROGRAM, SAMPLES, TOP
@@ -660,9 +662,9 @@ FAULT_LINES: list[tuple[tuple[Argument, ...], int, str]] = [
 
 def test_fault_lines(probe: Probe) -> None:
     """Each error of a command has its exit status and its line."""
-    given = probe.send(*(("fault_line", *case) for case, _, _ in FAULT_LINES))
+    answered = probe.send(*(("fault_line", *case) for case, _, _ in FAULT_LINES))
     seen = [(case, int(answer[1]), bytes.fromhex(answer[2]).decode())
-            for (case, _, _), answer in zip(FAULT_LINES, given)]
+            for (case, _, _), answer in zip(FAULT_LINES, answered)]
     assert seen == FAULT_LINES
 
 
@@ -708,9 +710,9 @@ USAGE_LINES: list[tuple[tuple[Argument, ...], int, str]] = [
 
 def test_usage_lines(probe: Probe) -> None:
     """Each error of a command line has its exit status and its text; help has the status 0."""
-    given = probe.send(*(("usage_line", *case) for case, _, _ in USAGE_LINES))
+    answered = probe.send(*(("usage_line", *case) for case, _, _ in USAGE_LINES))
     seen = [(case, int(answer[1]), bytes.fromhex(answer[2]).decode())
-            for (case, _, _), answer in zip(USAGE_LINES, given)]
+            for (case, _, _), answer in zip(USAGE_LINES, answered)]
     assert seen == USAGE_LINES
 
 
@@ -765,6 +767,69 @@ def test_requests(probe: Probe) -> None:
     seen = probe.send(*asked)
     assert [(words, " ".join(answer)) for (words, _), answer in zip(REQUESTS, seen)] == [
         (words, f"ok {wanted}") for words, wanted in REQUESTS]
+
+
+def test_requests_with_progress(probe: Probe) -> None:
+    """`--progress` changes nothing of what a command line asks for."""
+    lines = [("verify a.hdt --tight", f"{A} none verify_tight"), ("verify a.hdt", f"{A} none verify"),
+             ("build a.hdt b.hdt", f"{A} {B} build 16 {DEFAULT}"), ("rewrite a.hdt b.hdt", f"{A} {B} rewrite 16")]
+    cases = [*((words, f"ok false {wanted}") for words, wanted in REQUESTS),
+             *((f"{words} --progress", f"ok true {wanted}") for words, wanted in lines)]
+    asked: list[Request] = [["parse_all_words", b"hdt", *words.encode().split(b" ")] for words, _ in cases]
+    assert [(words, " ".join(answer)) for (words, _), answer in zip(cases, probe.send(*asked))] == cases
+
+
+def test_usage_of_words(probe: Probe) -> None:
+    """What is wrong with the words of a command line, and help, as the program prints them."""
+    cases: list[tuple[list[Word], int, bytes]] = [
+        *((words, 2, usage(text).err.rstrip(b"\n")) for words, text in USAGES if b"\xff" not in words),
+        *((words, 2, failed(2, line).err.rstrip(b"\n")) for words, line in NO_TERMS),
+    ]
+    cases += [(list(words), 0, hdt(*words).out.rstrip(b"\n")) for words in [*HELP, *VERSION]]
+    asked: list[Request] = [["parse_words", b"hdt", *map(os.fsencode, words)] for words, _, _ in cases]
+    assert [(words, answer) for (words, _, _), answer in zip(cases, probe.send(*asked))] == [
+        (words, ("usage", str(status), text.hex())) for words, status, text in cases]
+
+
+def test_table(probe: Probe) -> None:
+    """The table of commands has each command, with any names of the three roles."""
+    names = b"s", b"p", b"o"
+    commands: list[list[bytes]] = [
+        [b"head", b"a"], [b"verify", b"a"], [b"strings", b"a", b"s"], [b"string", b"a", b"p", b"1"],
+        [b"number", b"a", b"o", b"x"], [b"find", b"a", b"?", b"?", b"?"], [b"answer", b"a"], [b"dump", b"a"],
+        [b"build", b"a", b"b"], [b"rewrite", b"a", b"b"]]
+    asked: list[Request] = [["table", *names, b"hdt", *words] for words in commands]
+    assert probe.send(*asked) == [("ok", words[0].hex()) for words in commands]
+    answer = probe.ask("table", *names, b"hdt", b"strings", b"a", b"subject")
+    text = b"error: invalid value 'subject' for '<ROLE>'\n  [possible values: s, p, o]\n\n"
+    assert answer[:2] == ("ok", "error") and bytes.fromhex(answer[2]).startswith(text)
+
+
+# ---- any command, any reader and any writer
+
+
+steps = st.integers(1, 100) | st.just(ALL)
+hows = st.sampled_from(["", ":interrupted"])
+rooms = st.integers(0, 1_000) | st.sampled_from([65_535, 65_536, 1 << 20])
+
+
+@given(st.sampled_from(list(COMMANDS)), rooms, steps, st.none() | st.integers(0, 500), hows, steps,
+       st.none() | st.integers(0, 400), hows)
+@example("dump", 0, 1, None, "", 1, 57, "")
+@example("build", 38, ALL, 38, "", ALL, None, "")
+def test_any_reader_and_writer(probe: Probe, name: str, room: int, step: int, fails: int | None, how: str, taken: int,
+                               limit: int | None, how_written: str) -> None:
+    """A command prints its text or a prefix of it, makes its file or none, whatever room there is for its input."""
+    words, data, text, made = COMMANDS[name]
+    wanted: tuple[str, ...] = ("ok", text.hex(), made.hex())
+    if fails is not None and fails <= len(data):
+        wanted = ("reading", "failed", "", "")
+    elif limit is not None and limit < len(text):
+        wanted = ("written", str(limit), text[:limit].hex(), "")
+    asked: list[Argument] = [step, "-" if fails is None else f"{fails}{how}", taken,
+                             "-" if limit is None else f"@{limit}{how_written}",
+                             *(word.encode() for word in ["hdt", *words])]
+    assert probe.send(("file", data), ["run", *asked], ["run_in", room, *asked])[1:] == [wanted, wanted]
 
 
 # ---- the README
