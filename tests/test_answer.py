@@ -448,6 +448,7 @@ def test_any_requests_of_strings(tmp_path: Path, triples: list[Triple], lines: l
 raw_inputs = st.tuples(st.just(False), inputs(term_requests())) | st.tuples(st.just(True), inputs(string_requests))
 
 
+@settings(max_examples=settings.default.max_examples // 2)
 @given(graphs, raw_inputs, st.booleans(), st.integers(0, 2), mosts, st.integers(1, 50), st.none() | st.integers(0, 120),
        st.integers(1, 50), st.none() | st.integers(0, 200))
 @example(THREE_TRIPLES, (False, [(REQUESTS, b"\n")]), False, 0, None, 3, 17, ALL, None)
@@ -471,6 +472,7 @@ def test_any_reader_and_writer(probe: Probe, triples: list[Triple], given_lines:
     assert seen[1:] == [wanted, wanted]
 
 
+@settings(max_examples=settings.default.max_examples // 4)
 @given(graphs, st.integers(0, 2000), st.integers(1, 500), st.integers(0, 3_000))
 @example(THREE_TRIPLES, 0, 1, 0)
 def test_any_file_that_cannot_be_read(probe: Probe, triples: list[Triple], fails: int, step: int, room: int) -> None:
