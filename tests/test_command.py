@@ -1,0 +1,860 @@
+"""The command `hdt`: its heads, its command lines, its help, and its readers and writers that give pieces or fail.
+
+Other commands have modules of their own: test_find.py, test_answer.py, test_lookup.py and test_progress.py.
+"""
+
+from __future__ import annotations
+
+import os
+import re
+import subprocess
+import sys
+from collections.abc import Iterator, Sequence
+from pathlib import Path
+
+import pytest
+from hypothesis import example, given
+from hypothesis import strategies as st
+
+from reference import hdt as reference
+from support.built import PROGRAM, SAMPLES, TOP
+from support.probe import Answer, Argument, Probe, Request
+from support.program import (BAD_OPTIONS, NO_SUCH_NUMBER, WRITING_FAILED, Result, Word, brief, done, failed, fault,
+                             hdt, hdt_into, piped, run)
+
+V1 = (SAMPLES / "v1.hdt").read_bytes()
+THREE = (SAMPLES / "three.hdt").read_bytes()
+HEAD_END = 218
+# More bytes than any reader gives or any writer takes.
+ALL = 2**64 - 1
+
+# What `head` prints of the sample: five lines, and then the header body.
+V1_HEAD = (
+    b"global <http://purl.org/HDT/hdt#HDTv1>\n"
+    b"properties \n"
+    b"header ntriples\n"
+    b"properties length=150;\n"
+    b"length 150\n" + V1[68:HEAD_END]
+)
+
+
+# ---- head
+
+
+def altered(offset: int, byte: int) -> bytes:
+    """The sample with one byte changed."""
+    return V1[:offset] + bytes([byte]) + V1[offset + 1:]
+
+
+def with_properties(text: bytes) -> bytes:
+    """The sample with another property text of its header, and the right CRC."""
+    return V1[:40] + reference.write_control(reference.HEADER, text) + V1[68:]
+
+
+# Properties, formats and a body whose bytes have to be escaped where they are printed in a line.
+ESCAPED_HEAD = (reference.write_control(reference.GLOBAL, b"a\\b=\xff\n\r;")
+                + reference.write_control(reference.HEADER, b"length=3") + b"\\\n\r")
+
+HEADS = {
+    "the head alone": (V1[:HEAD_END], done(V1_HEAD)),
+    "the whole sample": (V1, done(V1_HEAD)),
+    "properties to escape": (
+        with_properties(b"a=\\\n\r;length=150"),
+        done(V1_HEAD.replace(b"properties length=150;", b"properties a=\\\\\\n\\r;length=150"))),
+    "100 bytes": (V1[:100], fault(1, "Truncated", 68)),
+    "no bytes": (b"", fault(1, "Truncated", 0)),
+    "three bytes": (V1[:3], fault(1, "Truncated", 0)),
+    "another cookie": (altered(1, ord("h")), fault(4, "NotHdt", 0)),
+    "another kind": (altered(4, 2), fault(5, "WrongKind", 4)),
+    "an altered CRC": (altered(38, 0x77), fault(6, "Check16", 38)),
+    "an altered CRC of the header": (altered(66, 0x0F), fault(6, "Check16", 66)),
+    "a length with a letter": (with_properties(b"length=15x;"), fault(8, "HeaderLength", 54)),
+    "no length": (with_properties(b"size=150;"), fault(8, "HeaderLength", 54)),
+    "a length of 2^64": (with_properties(b"length=18446744073709551616"), fault(8, "HeaderLength", 54)),
+    "a length beyond the end": (with_properties(b"length=151")[:216], fault(1, "Truncated", 67)),
+    "a length of 2^64 - 1": (with_properties(b"length=18446744073709551615"), fault(1, "Truncated", 84)),
+    "another last byte of the cookie": (altered(3, ord("U")), fault(4, "NotHdt", 0)),
+    "an altered second byte of the CRC": (altered(39, 0x36), fault(6, "Check16", 38)),
+    "another cookie of the header": (altered(43, ord("U")), fault(4, "NotHdt", 40)),
+    "another kind of the header": (altered(44, 3), fault(5, "WrongKind", 44)),
+    "altered properties of the header": (altered(60, ord("2")), fault(6, "Check16", 66)),
+    "another format": (
+        reference.write_control(reference.GLOBAL, format=b"<http://purl.org/HDT/hdt#HDTv2>") + V1[40:],
+        fault(7, "WrongFormat", 5)),
+    "another format of the header": (
+        V1[:40] + reference.write_control(reference.HEADER, b"length=150;", b"turtle") + V1[68:],
+        fault(7, "WrongFormat", 45)),
+    "escaped in one line": (
+        ESCAPED_HEAD,
+        done(b"global <http://purl.org/HDT/hdt#HDTv1>\nproperties a\\\\b=\xff\\n\\r;\n"
+             b"header ntriples\nproperties length=3\nlength 3\n\\\n\r")),
+    # Properties with the length 150, and some without a length that is a number.
+    **{f"properties {text.decode()}": (with_properties(text), done(V1_HEAD.replace(b"length=150;", text)))
+       for text in (b"length=150", b"length=00000000000000000000150;", b"length=5;x;length=150",
+                    b"a=b;length=150;length")},
+    **{f"no length in [{text.decode()}]": (with_properties(text), fault(8, "HeaderLength", 54))
+       for text in (b"", b"length", b"length=", b"length=15a", b"length=a50", b"length=+150", b"length= 150",
+                    b"length=-1", b"Length=150", b"length=18446744073709551616",
+                    b"length=100000000000000000000000000", b"length=150;length=")},
+}
+
+
+@pytest.mark.parametrize("data, wanted", HEADS.values(), ids=HEADS)
+def test_head(tmp_path: Path, data: bytes, wanted: Result) -> None:
+    """`head` prints the head of a file, escaped, or the first error of the head; what follows it is not looked at."""
+    path = tmp_path / "input.hdt"
+    path.write_bytes(data)
+    assert hdt("head", path) == wanted
+
+
+def test_head_cut_off(tmp_path: Path) -> None:
+    """Each proper beginning of a head is truncated in the part of the head that it ends in."""
+    parts = 0, 4, 5, 37, 38, 40, 44, 45, 54, 66, 68
+    path = tmp_path / "input.hdt"
+    seen, wanted = [], []
+    for length in range(HEAD_END):
+        path.write_bytes(V1[:length])
+        seen.append((length, hdt("head", path)))
+        wanted.append((length, fault(1, "Truncated", max(part for part in parts if part <= length))))
+    assert seen == wanted
+
+
+def test_large_head_in_pieces() -> None:
+    """A head of more than a MiB, with properties to escape, comes through a pipe in pieces."""
+    padding, body = b"x" * 100_000, b"y" * (1 << 20)
+    properties = padding + b"=\\;length=1048576"
+    data = V1[:40] + reference.write_control(reference.HEADER, properties) + body + V1[HEAD_END:]
+    lines = V1_HEAD[:-150].replace(b"length=150;", padding + b"=\\\\;length=1048576")
+    wanted = done(lines.replace(b"length 150", b"length 1048576") + body)
+    assert brief(piped(data, 7_000, "head", "/dev/stdin")) == brief(wanted)
+
+
+# ---- errors beyond 8 and 16 bits
+#
+# A byte offset, line or column beyond 32 bits needs an input of 4 GiB; test_fault_lines prints such numbers.
+
+
+@pytest.mark.parametrize("offset", [255, 256, 65_535, 65_536, 2**24])
+def test_large_byte_offsets(tmp_path: Path, offset: int) -> None:
+    """An error after a header body of any length has its byte offset."""
+    room = offset - len(reference.write_head()) + 1
+    length = next(length for length in range(room, 0, -1) if length + len(str(length)) == room)
+    head = reference.write_head(b"x" * length)
+    path = tmp_path / "input.hdt"
+    path.write_bytes(head + b"$HD")
+    assert len(head) == offset and hdt("verify", path) == fault(1, "Truncated", offset)
+
+
+@pytest.mark.parametrize("line, column", [(255, 256), (256, 255), (65_536, 65_537), (70_000, 300)])
+def test_large_lines_and_columns(tmp_path: Path, line: int, column: int) -> None:
+    """An error in any line and column of a document is reported there."""
+    document = b"\n" * (line - 1) + b" " * (column - 1) + b"x"
+    wanted = failed(1, f"line {line} column {column}: 1 Syntax")
+    assert hdt("build", "/dev/stdin", tmp_path / "out.hdt", stdin=document) == wanted
+
+
+# ---- input in pieces
+
+
+UX = reference.write_section([b"u:x"])
+# The sample with a string that its triple does not use in its role.
+UNUSED_SUBJECT = V1[:305] + UX + V1[323:]
+UNUSED_OBJECT = V1[:351] + UX + V1[369:]
+SHARED_USED_ONCE = UNUSED_OBJECT[:-9] + reference.write_numbers([2])
+
+FILES = {
+    "the sample": V1,
+    "three triples": THREE,
+    "an unused subject": UNUSED_SUBJECT,
+    "an unused object": UNUSED_OBJECT,
+    "a shared string used once": SHARED_USED_ONCE,
+}
+
+
+def reading_commands(path: Word) -> list[list[Word]]:
+    """Command lines that read a file and print of it."""
+    return [
+        ["head", path],
+        ["verify", path],
+        ["verify", "--tight", path],
+        ["strings", path, "object"],
+        ["string", path, "object", "1"],
+        ["number", "--raw", path, "subject", "u:x"],
+        ["find", "--numbers", path, "?", "?", "<u:x>"],
+        ["find", "--count", path, "?", "?", "<u:x>"],
+        ["find", "--most", "1", path, "?", "?", "?"],
+        ["dump", path],
+    ]
+
+
+@pytest.mark.parametrize("step", [1, 7, 9])
+@pytest.mark.parametrize("data", FILES.values(), ids=FILES)
+def test_files_in_pieces(tmp_path: Path, data: bytes, step: int) -> None:
+    """A file that comes through a pipe in pieces has the answers of a file on disk."""
+    path, out = tmp_path / "whole.hdt", tmp_path / "out.hdt"
+    path.write_bytes(data)
+    seen = [(words, piped(data, step, *words)) for words in reading_commands("/dev/stdin")]
+    wanted = [(words, hdt(*whole)) for words, whole in zip(reading_commands("/dev/stdin"), reading_commands(path))]
+    assert seen == wanted
+    pieces = piped(data, step, "rewrite", "/dev/stdin", out), out.read_bytes()
+    assert pieces == (hdt("rewrite", path, out), out.read_bytes())
+
+
+@pytest.mark.parametrize("step", [1, 2, 5, 7])
+@pytest.mark.parametrize("sample", ["v1", "three"])
+def test_documents_in_pieces(tmp_path: Path, sample: str, step: int) -> None:
+    """A document that comes through a pipe in pieces is built into the sample file."""
+    out = tmp_path / "pieces.hdt"
+    document = (SAMPLES / f"{sample}.nt").read_bytes()
+    result = piped(document, step, "build", "--base", "http://a/", "/dev/stdin", out)
+    assert (result.status, result.err) == (0, b"")
+    assert out.read_bytes() == (SAMPLES / f"{sample}.hdt").read_bytes()
+
+
+# ---- command lines
+
+
+HELP = {
+    ("--help",): b"Builds and reads RDF HDT files",
+    ("help",): b"Builds and reads RDF HDT files",
+    ("head", "--help"): b"Print the head of an HDT file.\n\n",
+    ("head", "-h"): b"Print a file's head",
+    ("help", "head"): b"Print the head of an HDT file.\n\n",
+    ("find", "--help"): b"Print the triples that have the given terms.\n\n",
+    ("build", "--help"): b"Build an HDT file from N-Triples.\n\n",
+    ("verify", "--help"): b"Verify a file.\n\n",
+    ("rewrite", "--help"): b"Write an HDT file again, as the canonical file of its triples.\n\n",
+    ("help", "dump"): b"Print all triples in N-Triples",
+}
+
+
+VERSION = [("--version",), ("-V",)]
+
+
+@pytest.mark.parametrize("words, begin", HELP.items(), ids=map(" ".join, HELP))
+def test_help(words: tuple[str, ...], begin: bytes) -> None:
+    """Help goes to standard output, with one usage line and one line feed at the end, and the status 0."""
+    status, out, err = hdt(*words)
+    assert (status, out[:len(begin)], err) == (0, begin, b"")
+    assert b"\n\nUsage: hdt " in out and out.count(b"Usage: hdt ") == 1
+    assert out.endswith(b"\n") and not out.endswith(b"\n\n")
+
+
+@pytest.mark.parametrize("words", VERSION, ids=map(" ".join, VERSION))
+def test_version(words: tuple[str, ...]) -> None:
+    """The version goes to standard output."""
+    assert hdt(*words) == done(b"hdt 1.0.0\n")
+
+
+@pytest.mark.parametrize("words", [*HELP, *VERSION], ids=map(" ".join, [*HELP, *VERSION]))
+def test_help_into_a_full_disk(words: tuple[str, ...]) -> None:
+    """Help that cannot be written is a failed write."""
+    assert hdt_into("/dev/full", *words) == WRITING_FAILED
+
+
+STATUSES = """Exit status:
+  0  done
+  1  the input has a fault, whose reason and place are told, or no triples, a look-up has no
+     answer, or a string that N-Triples are to show is no term
+  2  the command line is wrong
+  3  reading or writing failed
+  4  out of memory
+"""
+
+
+def test_help_names_each_status() -> None:
+    """The help names each exit status, once, in these words."""
+    out = hdt("--help").out.decode()
+    assert re.findall(r"^  (\d)  \w", out[out.index("Exit status:"):], re.MULTILINE) == ["0", "1", "2", "3", "4"]
+    assert STATUSES in out
+
+
+REFUSED_WORDS: dict[str, list[Word]] = {
+    "no word": [],
+    "an unknown command": ["summon", SAMPLES / "v1-head.hdt"],
+    "no file": ["head"],
+    "two files": ["head", SAMPLES / "v1-head.hdt", SAMPLES / "v1-head.hdt"],
+    "an unknown option": ["head", "--loud", SAMPLES / "v1-head.hdt"],
+    "help for an unknown command": ["help", "summon"],
+    "a word that is not UTF-8": ["head", b"\xff\xfe"],
+}
+
+
+@pytest.mark.parametrize("words", REFUSED_WORDS.values(), ids=REFUSED_WORDS)
+def test_refused_words(words: list[Word]) -> None:
+    """A wrong command line has status 2 and a text on standard error alone."""
+    status, out, err = hdt(*words)
+    assert (status, out, err != b"") == (2, b"", True)
+
+
+def usage(text: bytes) -> Result:
+    """The result of a wrong command line with this text."""
+    return Result(2, b"", b"error: " + text + b"\n\nFor more information, try '--help'.\n")
+
+
+LACKS = b"the following required arguments were not provided:\n  "
+# Command lines that are refused, and the text of each.
+USAGES: list[tuple[list[Word], bytes]] = [
+    (["build", "a.nt"], LACKS + b"<OUT>\n\nUsage: hdt build <IN> <OUT>"),
+    (["build", "--block-size", "4294967296", "a.nt", "b.hdt"],
+     b"invalid value '4294967296' for '--block-size <N>': 4294967296 is not in 0..=4294967295"),
+    (["strings", "a.hdt", "thing"],
+     b"invalid value 'thing' for '<ROLE>'\n  [possible values: subject, predicate, object]"),
+    (["string", "a.hdt", "object", "18446744073709551616"],
+     b"invalid value '18446744073709551616' for '<N>': number too large to fit in target type"),
+    (["string", "a.hdt", "object", "x"], b"invalid value 'x' for '<N>': invalid digit found in string"),
+    (["strings", "a.hdt"], LACKS + b"<ROLE>\n\nUsage: hdt strings <FILE> <ROLE>"),
+    (["head"], LACKS + b"<FILE>\n\nUsage: hdt head <FILE>"),
+    (["verify", "--tight"], LACKS + b"<FILE>\n\nUsage: hdt verify --tight <FILE>"),
+    (["head", "--tight", "a.hdt"],
+     b"unexpected argument '--tight' found\n\n  tip: to pass '--tight' as a value, use '-- --tight'\n\n"
+     b"Usage: hdt head <FILE>"),
+    (["rewrite", "a.hdt"], LACKS + b"<OUT>\n\nUsage: hdt rewrite <IN> <OUT>"),
+    (["rewrite", "a.hdt", "b.hdt", "--base", "x"],
+     b"unexpected argument '--base' found\n\n  tip: to pass '--base' as a value, use '-- --base'\n\n"
+     b"Usage: hdt rewrite <IN> <OUT>"),
+    (["rewrite", "a.hdt", "b.hdt", "--block-size", "x"],
+     b"invalid value 'x' for '--block-size <N>': invalid digit found in string"),
+    (["find", "a.hdt", "?", "?", "?", "--most", "x"],
+     b"invalid value 'x' for '--most <N>': invalid digit found in string"),
+    (["find", "a.hdt", "x", "y"], LACKS + b"<O>\n\nUsage: hdt find <FILE> <S> <P> <O>"),
+    (["dump", "a.hdt", "x"], b"unexpected argument 'x' found\n\nUsage: hdt dump <FILE>"),
+    (["dump", "--numbers", "a.hdt"],
+     b"unexpected argument '--numbers' found\n\n  tip: to pass '--numbers' as a value, use '-- --numbers'\n\n"
+     b"Usage: hdt dump <FILE>"),
+    (["vierge", "a.hdt"], b"unrecognized subcommand 'vierge'\n\nUsage: hdt <COMMAND>"),
+    (["head", "a.hdt", "b.hdt"], b"unexpected argument 'b.hdt' found\n\nUsage: hdt head <FILE>"),
+    ([], b"'hdt' requires a subcommand but one was not provided\n  [subcommands: head, verify, strings, string, "
+         b"number, find, answer, dump, build, rewrite, help]\n\nUsage: hdt <COMMAND>"),
+    (["head", b"\xff"], b"an argument is not UTF-8"),
+]
+
+
+def shown(words: list[Word]) -> str:
+    """A command line as the name of a case."""
+    return b" ".join(b"''" if word == "" else os.fsencode(word) for word in words).decode("ascii", "replace") or "-"
+
+
+@pytest.mark.parametrize("words, text", USAGES, ids=[shown(words) for words, _ in USAGES])
+def test_usage(words: list[Word], text: bytes) -> None:
+    """Each wrong command line has this text."""
+    assert hdt(*words) == usage(text)
+
+
+# Command lines with a word that is not a term, and the line of each. They are refused before the file is opened.
+NO_TERMS: list[tuple[list[Word], str]] = [
+    (["number", "a.hdt", "subject", "rel"], "TERM column 1: 1 Syntax"),
+    (["number", "a.hdt", "subject", "<rel>"], "TERM column 1: 4 RelativeIri"),
+    (["number", "a.hdt", "object", '"x"@en-'], "TERM column 7: 1 Syntax"),
+    (["number", "a.hdt", "object", '"xy"^^<rel>'], "TERM column 7: 4 RelativeIri"),
+    (["find", "a.hdt", "x", "<y>", "z"], "S column 1: 1 Syntax"),
+    (["find", "a.hdt", "?", "<y>", "z"], "P column 1: 4 RelativeIri"),
+    (["find", "a.hdt", "<u:a>", "?", '"z'], "O column 3: 1 Syntax"),
+    (["find", "a.hdt", "<u:a>", "<u:p>", "??"], "O column 1: 1 Syntax"),
+    (["find", "a.hdt", "<u:a>", "x", "z"], "P column 1: 1 Syntax"),
+    (["find", "a.hdt", "?", "?", "<u:aaaaaaaaaaaaaaaa\\u0020>"], "O column 20: 5 IriCharacter"),
+    # Columns beyond 8 and 16 bits.
+    (["number", "a.hdt", "object", '"' + "x" * 253 + '"@'], "TERM column 256: 1 Syntax"),
+    (["number", "a.hdt", "object", '"' + "x" * 254 + '"@'], "TERM column 257: 1 Syntax"),
+    (["find", "a.hdt", "?", "?", '"' + "x" * 65_533 + '"@'], "O column 65536: 1 Syntax"),
+    (["find", "a.hdt", "?", "<u:" + "a" * 70_000 + "\\u0020>", "?"], "P column 70004: 5 IriCharacter"),
+]
+
+
+@pytest.mark.parametrize("words, line", NO_TERMS, ids=[f"{shown(words)[:60]} {line}" for words, line in NO_TERMS])
+def test_words_that_are_not_terms(words: list[Word], line: str) -> None:
+    """A word that is not a term is refused with its name, the column and the error."""
+    assert hdt(*words) == failed(2, line)
+
+
+# The triples of a.hdt, whose strings are terms, and of raw.hdt, where a string reads as the term of another string.
+READ = [(b"_:b", b"u:p", b"u:a"), (b"u:a", b"u:p", b"u:b"), (b"u:a", b"u:q", b'"x"')]
+RAW = [(b"<a>", b"u:p", b""), (b"<u:a>", b"??", b'"?"'), (b"u:a", b"u:p", b"<u:a>")]
+A_NT = b'_:b <u:p> <u:a> .\n<u:a> <u:p> <u:b> .\n<u:a> <u:q> "x" .\n'
+# The same triples as they are printed from the file, where u:a is subject 1 and _:b subject 2.
+A_LINES = b'<u:a> <u:p> <u:b> .\n<u:a> <u:q> "x" .\n_:b <u:p> <u:a> .\n'
+A_HEAD = b"global <http://purl.org/HDT/hdt#HDTv1>\nproperties \nheader ntriples\nproperties length=0;\nlength 0\n"
+
+
+@pytest.fixture(scope="module")
+def lines_folder(tmp_path_factory: pytest.TempPathFactory) -> Path:
+    """A folder with a.nt, a.hdt, raw.hdt, loose.hdt and copies with names that look like options."""
+    folder = tmp_path_factory.mktemp("lines")
+    (folder / "a.nt").write_bytes(A_NT)
+    (folder / "raw.hdt").write_bytes(reference.graph(RAW)[0])
+    for name in ("a.hdt", "-", "--help", " "):
+        (folder / name).write_bytes(reference.graph(READ)[0])
+    for name in ("loose.hdt", "--tight"):
+        (folder / name).write_bytes(UNUSED_SUBJECT)
+    return folder
+
+
+UNUSED_AT_319 = fault(34, "Unused", 319)
+# Command lines over these files, and their results.
+READ_LINES: list[tuple[list[Word], Result]] = [
+    (["head", "a.hdt"], done(A_HEAD)),
+    (["head", "-"], done(A_HEAD)),
+    (["head", "--", "--help"], done(A_HEAD)),
+    (["strings", "a.hdt", "subject"], done(b"1\tu:a\n2\t_:b\n")),
+    (["strings", "a.hdt", "predicate"], done(b"1\tu:p\n2\tu:q\n")),
+    (["strings", " ", "object"], done(b'1\tu:a\n2\t"x"\n3\tu:b\n')),
+    (["number", "raw.hdt", "subject", "<u:a>"], done(b"3\n")),
+    (["number", "raw.hdt", "subject", "--raw", "<u:a>"], done(b"1\n")),
+    (["number", "--raw", "raw.hdt", "object", ""], done(b"2\n")),
+    (["verify", "a.hdt"], done(b"ok 3 1 1 2 2\n")),
+    (["verify", "--tight", "a.hdt"], done(b"ok 3 1 1 2 2\n")),
+    (["verify", "a.hdt", "--tight"], done(b"ok 3 1 1 2 2\n")),
+    (["verify", "--", "--tight"], done(b"ok 1 1 1 1 0\n")),
+    (["verify", "loose.hdt"], done(b"ok 1 1 1 1 0\n")),
+    (["dump", "a.hdt"], done(A_LINES)),
+    (["find", "a.hdt", "?", "?", "?"], done(A_LINES)),
+    (["find", "a.hdt", "<u:a>", "?", '"x"'], done(b'<u:a> <u:q> "x" .\n')),
+    (["find", "--numbers", "a.hdt", "_:b", "<u:p>", "?"], done(b"2 1 1\n")),
+    (["find", "raw.hdt", "<a>", "?", "", "--raw", "--numbers"], done(b"2 2 2\n")),
+    (["find", "--raw", "--numbers", "raw.hdt", "?", "??", '"?"'], done(b"1 1 3\n")),
+    (["string", "a.hdt", "object", "0"], NO_SUCH_NUMBER),
+    (["string", "a.hdt", "object", "18446744073709551615"], NO_SUCH_NUMBER),
+    (["find", "raw.hdt", "<a>", "?", "", "--raw"], failed(1, "subject 2 is not a term")),
+    (["verify", "--tight", "loose.hdt"], UNUSED_AT_319),
+    (["verify", "loose.hdt", "--tight"], UNUSED_AT_319),
+    (["build", "--block-size", "0", "a.nt", "b.hdt", "--base", "u:x"], BAD_OPTIONS),
+    (["build", "--base=", "--block-size=4294967295", "/dev/stdin", "-"], BAD_OPTIONS),
+    (["rewrite", "a.hdt", "a.hdt", "--block-size", "0"], BAD_OPTIONS),
+    (["rewrite", "--block-size=4294967295", "a.hdt", "-"], BAD_OPTIONS),
+]
+
+
+@pytest.mark.parametrize("words, wanted", READ_LINES, ids=[shown(words) for words, _ in READ_LINES])
+def test_command_lines(lines_folder: Path, words: list[Word], wanted: Result) -> None:
+    """What command lines ask for: options before and after the files, `--`, `-` and names like options."""
+    assert hdt(*words, cwd=lines_folder) == wanted
+
+
+MADE_LINES: list[tuple[list[Word], str, bytes | None, int]] = [
+    (["build", "a.nt", "b.hdt"], "b.hdt", b"http://example.org/dataset", 16),
+    (["build", "--block-size", "1", "a.nt", "c.hdt", "--base", "u:x"], "c.hdt", b"u:x", 1),
+    (["build", "--base=u:y", "--block-size=65535", "a.nt", "-"], "-", b"u:y", 65_535),
+    (["rewrite", "a.hdt", "b.hdt"], "b.hdt", None, 16),
+    (["rewrite", "a.hdt", "a.hdt", "--block-size", "1"], "a.hdt", None, 1),
+    (["rewrite", "--block-size=65535", "a.hdt", "-"], "-", None, 65_535),
+]
+
+
+@pytest.mark.parametrize("words, out, base, block_size", MADE_LINES, ids=[shown(row[0]) for row in MADE_LINES])
+def test_command_lines_that_make_files(tmp_path: Path, words: list[Word], out: str, base: bytes | None,
+                                       block_size: int) -> None:
+    """What command lines that write a file ask for: the line that is printed, and the file."""
+    (tmp_path / "a.nt").write_bytes(A_NT)
+    (tmp_path / "a.hdt").write_bytes(reference.graph(READ)[0])
+    data = reference.graph(READ, base, block_size)[0]
+    line = b"%s 3 1 1 2 2 %d\n" % (b"built" if words[0] == "build" else b"rewritten", len(data))
+    assert hdt(*words, cwd=tmp_path) == done(line)
+    assert (tmp_path / out).read_bytes() == data
+
+
+def test_name_of_the_program(lines_folder: Path) -> None:
+    """The program's own name, the first word of its command line, is not looked at."""
+    other = subprocess.run(["other", "head", "raw.hdt"], executable=PROGRAM, cwd=lines_folder, capture_output=True,
+                           timeout=60)
+    seen = Result(other.returncode, other.stdout, other.stderr)
+    assert seen == hdt("head", "raw.hdt", cwd=lines_folder) and seen.status == 0
+
+
+def test_long_word() -> None:
+    """An unknown word of 10,000 bytes is printed whole."""
+    word = "x" * 10_000
+    status, out, err = hdt(word)
+    assert (status, out, word.encode() in err) == (2, b"", True)
+
+
+@pytest.mark.parametrize("words", [["--help"], ["dump", SAMPLES / "three.hdt"]], ids=["--help", "dump"])
+def test_pipe_without_reader(words: list[Word]) -> None:
+    """A pipe that nobody reads is a failed write, also for the help."""
+    reading, writing = os.pipe()
+    os.close(reading)
+    with open(writing, "wb") as pipe:
+        seen = subprocess.run([os.fsencode(word) for word in (PROGRAM, *words)], stdout=pipe, stderr=subprocess.PIPE,
+                              timeout=60)
+    assert Result(seen.returncode, b"", seen.stderr) == WRITING_FAILED
+
+
+# ---- readers and writers that fail, or give and take pieces
+
+LINE = b"<http://a/> <http://a/> <http://a/> .\n"
+DOCUMENT = (SAMPLES / "three.nt").read_bytes()
+BASE = ["--base", "http://a/"]
+STEPS = 1, 2, 5, 7, 9, 50, 200, ALL
+# What was made before the command: a file is appended to it, and an error leaves it as it is.
+BEFORE = b"made"
+KEPT = BEFORE.hex()
+
+# The command line, the input, the text that is printed, and the file that is made.
+COMMANDS: dict[str, tuple[list[str], bytes, bytes, bytes]] = {
+    "head": (["head", "in"], V1, V1_HEAD, b""),
+    "verify": (["verify", "in"], THREE, b"ok 3 2 0 2 1\n", b""),
+    "verify --tight": (["verify", "--tight", "in"], V1, b"ok 1 1 0 1 0\n", b""),
+    "verify --tight of three triples": (["verify", "--tight", "in"], THREE, b"ok 3 2 0 2 1\n", b""),
+    "dump": (["dump", "in"], THREE, DOCUMENT, b""),
+    "build": (["build", *BASE, "in", "out"], LINE, b"built 1 1 0 1 0 459\n", V1),
+    "build of three triples": (["build", *BASE, "in", "out"], DOCUMENT, b"built 3 2 0 2 1 457\n", THREE),
+    "rewrite": (["rewrite", "in", "out"], V1, b"rewritten 1 1 0 1 0 459\n", V1),
+    "strings": (["strings", "in", "object"], THREE, b'1\tu:a\n2\tu:b\n3\t"x"\n', b""),
+    "string": (["string", "in", "object", "3"], THREE, b'"x"\n', b""),
+    "number": (["number", "in", "object", '"x"'], THREE, b"3\n", b""),
+    "find --numbers": (["find", "--numbers", "in", "?", "<u:p>", "?"], THREE, b"1 1 2\n2 1 1\n", b""),
+    "find --count": (["find", "--count", "in", "?", "<u:p>", "?"], THREE, b"2\n", b""),
+}
+every_command = pytest.mark.parametrize("words, data, text, made", COMMANDS.values(), ids=COMMANDS)
+
+Answers = list[tuple[object, Answer, str]]
+
+
+def request(step: int, fails: int | str, taken: int, calls: int | str, words: Sequence[str]) -> Request:
+    """A request to run a command line, with a reader and a writer of pieces that fail or not."""
+    return ["run_made", BEFORE, step, fails, taken, calls, *(word.encode() for word in ["hdt", *words])]
+
+
+def answers(probe: Probe, data: bytes, requests: dict[object, Request], after: str) -> Answers:
+    """The answers to requests over an input, and how often each called its reader or writer after it had to stop."""
+    sent: list[Request] = [part for asked in requests.values() for part in (asked, [after])]
+    answered = probe.send(("file", data), *sent)[1:]
+    calls = [counts[3:5] if after == "reads" else counts[3:4] for counts in answered[1::2]]
+    return [(name, answer, " ".join(late)) for name, answer, late in zip(requests, answered[::2], calls)]
+
+
+@every_command
+def test_any_pieces(probe: Probe, words: list[str], data: bytes, text: bytes, made: bytes) -> None:
+    """A command reads and writes in pieces of any size; it does not read past the end of its input."""
+    requests: dict[object, Request] = {step: request(step, "-", step, "-", words) for step in STEPS}
+    wanted = ("ok", text.hex(), (BEFORE + made).hex())
+    assert answers(probe, data, requests, "reads") == [(step, wanted, "0 0") for step in STEPS]
+
+
+@every_command
+def test_reader_that_fails(probe: Probe, words: list[str], data: bytes, text: bytes, made: bytes) -> None:
+    """A reader that fails after any number of bytes is reported; it is not read again, and nothing is written."""
+    requests: dict[object, Request] = {
+        (length, step, how): request(step, f"{length}{how}", ALL, "-", words)
+        for length in range(len(data) + 1) for step, how in ((1, ""), (ALL, ""), (7, ":interrupted"))}
+    wanted = ("reading", "failed", "", KEPT)
+    assert answers(probe, data, requests, "reads") == [(case, wanted, "0 0") for case in requests]
+
+
+@every_command
+def test_writer_that_fails(probe: Probe, words: list[str], data: bytes, text: bytes, made: bytes) -> None:
+    """A writer that fails has taken the first bytes of the text; it is not called again, and no file is made."""
+    requests: dict[object, Request] = {
+        (length, how): request(50, "-", 1, f"{length}{how}", words)
+        for length in range(len(text)) for how in ("", ":interrupted", ":zero")}
+    wanted = [((length, how), ("written", str(length), text[:length].hex(), KEPT), "0") for length, how in
+              ((length, how) for length in range(len(text)) for how in ("", ":interrupted", ":zero"))]
+    assert answers(probe, data, requests, "writes") == wanted
+    requests = {"whole": request(50, "-", 1, len(text), words)}
+    assert answers(probe, data, requests, "writes") == [("whole", ("ok", text.hex(), (BEFORE + made).hex()), "0")]
+
+
+@pytest.mark.parametrize("step, calls, taken", [(7, 35, 245), (250, 1, 250), (0, 9, 0)])
+def test_writer_that_fails_in_a_part(probe: Probe, step: int, calls: int, taken: int) -> None:
+    """A writer that takes several bytes a call, or none, and fails after a part of a head."""
+    requests: dict[object, Request] = {"head": request(50, "-", step, calls, ["head", "in"])}
+    wanted = ("written", str(taken), V1_HEAD[:taken].hex(), KEPT)
+    assert answers(probe, V1, requests, "writes") == [("head", wanted, "0")]
+
+
+@pytest.mark.parametrize("length", [HEAD_END, 65_535, 65_536, 65_537])
+def test_long_input(probe: Probe, length: int) -> None:
+    """Files shorter than the program's buffer, as long and longer are not read past their end."""
+    data = V1[:HEAD_END].ljust(length, b"x")
+    steps = 7, 200, 65_536, ALL
+    requests: dict[object, Request] = {(step, "whole"): request(step, "-", ALL, "-", ["head", "in"]) for step in steps}
+    requests |= {(step, "cut"): request(step, "-", 7, 35, ["head", "in"]) for step in steps}
+    wanted = {"whole": ("ok", V1_HEAD.hex(), KEPT), "cut": ("written", "245", V1_HEAD[:245].hex(), KEPT)}
+    assert answers(probe, data, requests, "reads") == [
+        ((step, kind), wanted[kind], "0 0") for kind in wanted for step in steps]
+
+
+BAD, NONE, CUT_OFF = ("bad", "options"), ("no", "triples"), ("fault", "1", "Truncated", "0")
+BUILD = ["build", *BASE, "in", "out"]
+# Commands that are refused: the command line, the input, the answer, and how many bytes are read, where that is given.
+REFUSED_RUNS: dict[str, tuple[list[str], bytes, tuple[str, ...], int | None]] = {
+    "head of nothing": (["head", "in"], b"", CUT_OFF, 0),
+    "head of three bytes": (["head", "in"], b"$HD", CUT_OFF, 3),
+    "build in blocks of 0": ([*BUILD, "--block-size", "0"], LINE, BAD, 0),
+    "build in blocks of 65,536": ([*BUILD, "--block-size", "65536"], LINE, BAD, 0),
+    "build in blocks of 2^32 - 1": ([*BUILD, "--block-size", "4294967295"], LINE, BAD, 0),
+    "build with a relative base": (["build", "--base", "rel", "in", "out"], LINE, BAD, 0),
+    "build without a base": (["build", "--base", "", "in", "out"], LINE, BAD, 0),
+    "build of nothing": (BUILD, b"", NONE, 0),
+    "build of a comment": (BUILD, b"# nothing", NONE, 9),
+    "build without a full stop": (
+        BUILD, b"\n<u:a> <u:p> <u:o>\n", ("fault", "1", "Syntax", "2", "18"), None),
+    "build with a relative IRI": (
+        BUILD, b"<u:a> <u:p> <o> .\n", ("fault", "4", "RelativeIri", "1", "13"), None),
+    "build with a blank node as predicate": (
+        BUILD, b"<u:a> <u:p> <u:o> .\n<u:a> _:p <u:o> .\n", ("fault", "1", "Syntax", "2", "7"), None),
+    "build with the character U+0000": (
+        BUILD, b'<u:a> <u:p> "\\u0000" .\n', ("fault", "6", "ZeroCharacter", "1", "14"), None),
+    "rewrite in blocks of 0": (["rewrite", "--block-size", "0", "in", "out"], V1, BAD, len(V1)),
+    "rewrite in blocks of 65,536": (["rewrite", "--block-size", "65536", "in", "out"], V1, BAD, len(V1)),
+    "rewrite in blocks of 2^32 - 1": (["rewrite", "--block-size", "4294967295", "in", "out"], V1, BAD, len(V1)),
+    "rewrite of nothing in blocks of 0": (["rewrite", "--block-size", "0", "in", "out"], b"", CUT_OFF, 0),
+    "rewrite of another cookie": (["rewrite", "in", "out"], b"$hDT", ("fault", "4", "NotHdt", "0"), 4),
+}
+
+
+@pytest.mark.parametrize("words, data, wanted, read", REFUSED_RUNS.values(), ids=REFUSED_RUNS)
+def test_refused_run(probe: Probe, words: list[str], data: bytes, wanted: tuple[str, ...], read: int | None) -> None:
+    """A command that is refused prints nothing and makes no file. Bad options of `build` are found before reading."""
+    answer, reads = probe.send(("file", data), request(4, "-", ALL, "-", words), ("reads",))[1:]
+    assert answer == (*wanted, "", KEPT)
+    assert reads[3:5] == ("0", "0") and read in (None, int(reads[2]))
+
+
+def test_large_literal(probe: Probe) -> None:
+    """A literal of 150,000 bytes, longer than any word of a command line, is built and found."""
+    literal = '"' + "x" * 150_000 + '"'
+    words = ["build", "--base", "u:base", "--block-size", "65535", "in", "out"]
+    built = probe.send(("file", b"<u:a> <u:p> %s .\n" % literal.encode()), request(7_000, "-", ALL, "-", words))[1]
+    data = reference.graph([(b"u:a", b"u:p", literal.encode())], b"u:base", 65_535).data
+    line = b"built 1 0 1 1 1 %d\n" % len(data)
+    assert built == ("ok", line.hex(), (BEFORE + data).hex())
+    found: dict[object, tuple[list[str], bytes]] = {
+        "found": (["find", "--raw", "--numbers"], b"1 1 1\n"),
+        "counted": (["find", "--raw", "--count", "--most", "1"], b"1\n"),
+        "counted where none is asked for": (["find", "--raw", "--count", "--most", "0"], b"0\n"),
+    }
+    requests: dict[object, Request] = {
+        name: request(7_000, "-", ALL, "-", [*options, "in", "?", "?", literal])
+        for name, (options, _) in found.items()}
+    assert answers(probe, data, requests, "reads") == [
+        (name, ("ok", text.hex(), KEPT), "0 0") for name, (_, text) in found.items()]
+
+
+# ---- the lines of errors
+
+U64 = 2**64 - 1
+# An error, its exit status and its line. Lines and columns beyond 32 bits, and IDs and byte offsets up to 2^64 - 1.
+FAULT_LINES: list[tuple[tuple[Argument, ...], int, str]] = [
+    (("file", 1, 68), 1, "hdt: fault 1 Truncated at 68"),
+    (("file", 33, U64), 1, "hdt: fault 33 TrailingBytes at 18446744073709551615"),
+    (("file", 34, 319), 1, "hdt: fault 34 Unused at 319"),
+    (("input", 1, 20, 7), 1, "hdt: line 20 column 7: 1 Syntax"),
+    (("input", 2, 2**32, 2**32 + 1), 1, "hdt: line 4294967296 column 4294967297: 2 NotUtf8"),
+    (("input", 3, U64, U64), 1, "hdt: line 18446744073709551615 column 18446744073709551615: 3 BadEscape"),
+    (("no_triples",), 1, "hdt: no triples"),
+    (("no_such_term",), 1, "hdt: no such term"),
+    (("no_such_number",), 1, "hdt: no such number"),
+    (("not_a_term", 0, 1), 1, "hdt: subject 1 is not a term"),
+    (("not_a_term", 1, U64), 1, "hdt: predicate 18446744073709551615 is not a term"),
+    (("not_a_term", 2, 20), 1, "hdt: object 20 is not a term"),
+    (("bad_options",), 2, "hdt: bad options"),
+    (("read",), 3, "hdt: reading failed"),
+    (("write", 7), 3, "hdt: writing failed"),
+    (("memory",), 4, "hdt: out of memory"),
+    *((("file", 32, offset), 1, f"hdt: fault 32 ObjectsNotAscending at {offset}")
+      for bits in (8, 16, 32, 63) for offset in (2**bits - 1, 2**bits)),
+    *((("input", 5, n, n + 1), 1, f"hdt: line {n} column {n + 1}: 5 IriCharacter")
+      for bits in (8, 16, 32, 63) for n in (2**bits - 1, 2**bits)),
+    *((("not_a_term", 2, n), 1, f"hdt: object {n} is not a term")
+      for bits in (8, 16, 32, 63) for n in (2**bits - 1, 2**bits)),
+]
+
+
+def test_fault_lines(probe: Probe) -> None:
+    """Each error of a command has its exit status and its line."""
+    answered = probe.send(*(("fault_line", *case) for case, _, _ in FAULT_LINES))
+    seen = [(case, int(answer[1]), bytes.fromhex(answer[2]).decode())
+            for (case, _, _), answer in zip(FAULT_LINES, answered)]
+    assert seen == FAULT_LINES
+
+
+# The same errors as those of a library: their text.
+FAULT_TEXTS: list[tuple[tuple[Argument, ...], str]] = [
+    (("file", 1, 68), "the file has a fault: Truncated at 68"),
+    (("file", 33, U64), "the file has a fault: TrailingBytes at 18446744073709551615"),
+    (("file", 34, 319), "the file has a fault: Unused at 319"),
+    (("input", 1, 20, 7), "the input has a fault: Syntax at line 20 column 7"),
+    (("input", 2, 2**32, 2**32 + 1), "the input has a fault: NotUtf8 at line 4294967296 column 4294967297"),
+    (("input", 3, U64, U64),
+     "the input has a fault: BadEscape at line 18446744073709551615 column 18446744073709551615"),
+    (("no_triples",), "no triples"),
+    (("no_such_term",), "no such term"),
+    (("no_such_number",), "no such number"),
+    (("not_a_term", 0, 1), "a string that is not a term: Subject 1"),
+    (("not_a_term", 1, U64), "a string that is not a term: Predicate 18446744073709551615"),
+    (("not_a_term", 2, 20), "a string that is not a term: Object 20"),
+    (("bad_options",), "bad options"),
+    (("read",), "reading failed"),
+    (("write", 7), "writing failed after 7 bytes"),
+    (("memory",), "out of memory"),
+]
+
+
+def test_fault_texts(probe: Probe) -> None:
+    """Each error of a command has a text as an error of a library."""
+    seen = probe.send(*(("fault_line", *case) for case, _ in FAULT_TEXTS))
+    assert [(case, bytes.fromhex(answer[3]).decode()) for (case, _), answer in zip(FAULT_TEXTS, seen)] == FAULT_TEXTS
+
+
+USAGE_LINES: list[tuple[tuple[Argument, ...], int, str]] = [
+    (("usage", b"error: no"), 2, "error: no"),
+    (("help", b"Builds\n\nUsage: hdt"), 0, "Builds\n\nUsage: hdt"),
+    (("word", 0, 1, 1), 2, "hdt: TERM column 1: 1 Syntax"),
+    (("word", 1, 4, 256), 2, "hdt: S column 256: 4 RelativeIri"),
+    (("word", 2, 5, 65_536), 2, "hdt: P column 65536: 5 IriCharacter"),
+    (("word", 3, 6, 2**32), 2, "hdt: O column 4294967296: 6 ZeroCharacter"),
+    (("word", 3, 2, U64), 2, "hdt: O column 18446744073709551615: 2 NotUtf8"),
+    (("memory",), 4, "hdt: out of memory"),
+]
+
+
+def test_usage_lines(probe: Probe) -> None:
+    """Each error of a command line has its exit status and its text; help has the status 0."""
+    answered = probe.send(*(("usage_line", *case) for case, _, _ in USAGE_LINES))
+    seen = [(case, int(answer[1]), bytes.fromhex(answer[2]).decode())
+            for (case, _, _), answer in zip(USAGE_LINES, answered)]
+    assert seen == USAGE_LINES
+
+
+def reasons_of_the_format() -> list[tuple[int, str]]:
+    """The reasons of docs/FORMAT.md: their numbers and names."""
+    text = (TOP / "docs/FORMAT.md").read_text()
+    table = text[text.index("## Reasons"):text.index("## The parts of a file")]
+    return sorted((int(number), name) for number, name in re.findall(r"\| (\d+) (\w+)(?= \|)", table))
+
+
+def test_reasons_of_the_format() -> None:
+    """The table of the format names 34 reasons, those of the reference."""
+    assert reasons_of_the_format() == [(reason.value, reason.name) for reason in reference.Reason]
+    assert [number for number, _ in reasons_of_the_format()] == list(range(1, 35))
+
+
+def test_reasons(probe: Probe) -> None:
+    """Each reason is printed by the number and the name that the format has for it."""
+    seen = probe.send(*(("fault_line", "file", number, 0) for number, _ in reasons_of_the_format()))
+    assert [bytes.fromhex(answer[2]).decode() for answer in seen] == [
+        f"hdt: fault {number} {name} at 0" for number, name in reasons_of_the_format()]
+
+
+# ---- words
+
+A, B = b"a.hdt".hex(), b"b.hdt".hex()
+DEFAULT = b"http://example.org/dataset".hex()
+# A command line, and the request that it is.
+REQUESTS: list[tuple[str, str]] = [
+    ("head a.hdt", f"{A} none head"),
+    ("verify a.hdt", f"{A} none verify"),
+    ("verify a.hdt --tight", f"{A} none verify_tight"),
+    ("strings a.hdt predicate", f"{A} none strings 1"),
+    ("string a.hdt object 18446744073709551615", f"{A} none nth 2 18446744073709551615"),
+    ("number a.hdt subject <u:a>", f"{A} none number 0 {b'u:a'.hex()}"),
+    ("number a.hdt subject --raw <u:a>", f"{A} none number 0 {b'<u:a>'.hex()}"),
+    ('number a.hdt object "x"@en', f"{A} none number 2 {b'.x.@en'.replace(b'.', bytes([34])).hex()}"),
+    ("build a.hdt b.hdt", f"{A} {B} build 16 {DEFAULT}"),
+    ("build --base u:x a.hdt --block-size 4294967295 b.hdt", f"{A} {B} build 4294967295 {b'u:x'.hex()}"),
+    ("build --base= --block-size=0 a.hdt b.hdt", f"{A} {B} build 0 "),
+    ("rewrite a.hdt b.hdt", f"{A} {B} rewrite 16"),
+    ("rewrite --block-size 65535 a.hdt b.hdt", f"{A} {B} rewrite 65535"),
+    ("answer a.hdt", f"{A} none answer 0 none 0"),
+    ("answer --raw --numbers --most 7 a.hdt", f"{A} none answer 1 7 1"),
+    ("answer --count --numbers a.hdt", f"{A} none answer 2 none 0"),
+]
+
+
+def test_requests(probe: Probe) -> None:
+    """What the words of a command line ask for, without a look at any file."""
+    asked: list[Request] = [["parse_words", b"hdt", *words.encode().split(b" ")] for words, _ in REQUESTS]
+    seen = probe.send(*asked)
+    assert [(words, " ".join(answer)) for (words, _), answer in zip(REQUESTS, seen)] == [
+        (words, f"ok {wanted}") for words, wanted in REQUESTS]
+
+
+def test_requests_with_progress(probe: Probe) -> None:
+    """`--progress` changes nothing of what a command line asks for."""
+    lines = [("verify a.hdt --tight", f"{A} none verify_tight"), ("verify a.hdt", f"{A} none verify"),
+             ("build a.hdt b.hdt", f"{A} {B} build 16 {DEFAULT}"), ("rewrite a.hdt b.hdt", f"{A} {B} rewrite 16")]
+    cases = [*((words, f"ok false {wanted}") for words, wanted in REQUESTS),
+             *((f"{words} --progress", f"ok true {wanted}") for words, wanted in lines)]
+    asked: list[Request] = [["parse_all_words", b"hdt", *words.encode().split(b" ")] for words, _ in cases]
+    assert [(words, " ".join(answer)) for (words, _), answer in zip(cases, probe.send(*asked))] == cases
+
+
+def test_usage_of_words(probe: Probe) -> None:
+    """What is wrong with the words of a command line, and help, as the program prints them."""
+    cases: list[tuple[list[Word], int, bytes]] = [
+        *((words, 2, usage(text).err.rstrip(b"\n")) for words, text in USAGES if b"\xff" not in words),
+        *((words, 2, failed(2, line).err.rstrip(b"\n")) for words, line in NO_TERMS),
+    ]
+    cases += [(list(words), 0, hdt(*words).out.rstrip(b"\n")) for words in [*HELP, *VERSION]]
+    asked: list[Request] = [["parse_words", b"hdt", *map(os.fsencode, words)] for words, _, _ in cases]
+    assert [(words, answer) for (words, _, _), answer in zip(cases, probe.send(*asked))] == [
+        (words, ("usage", str(status), text.hex())) for words, status, text in cases]
+
+
+def test_table(probe: Probe) -> None:
+    """The table of commands has each command, with any names of the three roles."""
+    names = b"s", b"p", b"o"
+    commands: list[list[bytes]] = [
+        [b"head", b"a"], [b"verify", b"a"], [b"strings", b"a", b"s"], [b"string", b"a", b"p", b"1"],
+        [b"number", b"a", b"o", b"x"], [b"find", b"a", b"?", b"?", b"?"], [b"answer", b"a"], [b"dump", b"a"],
+        [b"build", b"a", b"b"], [b"rewrite", b"a", b"b"]]
+    asked: list[Request] = [["table", *names, b"hdt", *words] for words in commands]
+    assert probe.send(*asked) == [("ok", words[0].hex()) for words in commands]
+    answer = probe.ask("table", *names, b"hdt", b"strings", b"a", b"subject")
+    text = b"error: invalid value 'subject' for '<ROLE>'\n  [possible values: s, p, o]\n\n"
+    assert answer[:2] == ("ok", "error") and bytes.fromhex(answer[2]).startswith(text)
+
+
+# ---- any command, any reader and any writer
+
+
+steps = st.integers(1, 100) | st.just(ALL)
+hows = st.sampled_from(["", ":interrupted"])
+rooms = st.integers(0, 1_000) | st.sampled_from([65_535, 65_536, 1 << 20])
+
+
+@given(st.sampled_from(list(COMMANDS)), rooms, steps, st.none() | st.integers(0, 500), hows, steps,
+       st.none() | st.integers(0, 400), hows)
+@example("dump", 0, 1, None, "", 1, 57, "")
+@example("build", 38, ALL, 38, "", ALL, None, "")
+def test_any_reader_and_writer(probe: Probe, name: str, room: int, step: int, fails: int | None, how: str, taken: int,
+                               limit: int | None, how_written: str) -> None:
+    """A command prints its text or a prefix of it, makes its file or none, whatever room there is for its input."""
+    words, data, text, made = COMMANDS[name]
+    wanted: tuple[str, ...] = ("ok", text.hex(), made.hex())
+    if fails is not None and fails <= len(data):
+        wanted = ("reading", "failed", "", "")
+    elif limit is not None and limit < len(text):
+        wanted = ("written", str(limit), text[:limit].hex(), "")
+    asked: list[Argument] = [step, "-" if fails is None else f"{fails}{how}", taken,
+                             "-" if limit is None else f"@{limit}{how_written}",
+                             *(word.encode() for word in ["hdt", *words])]
+    assert probe.send(("file", data), ["run", *asked], ["run_in", room, *asked])[1:] == [wanted, wanted]
+
+
+# ---- the README
+
+
+def readme_blocks() -> Iterator[tuple[str, str]]:
+    """The fenced blocks of the README: their language and their text."""
+    for match in re.finditer(r"^```(\w+)\n(.*?)^```$", (TOP / "README.md").read_text(), re.M | re.S):
+        yield match[1], match[2]
+
+
+def test_readme_dialogue_in_the_shell() -> None:
+    """The README's example of `answer` in a shell prints what the README shows."""
+    blocks = list(readme_blocks())
+    at = next(n for n, (language, text) in enumerate(blocks) if language == "sh" and text.startswith("printf "))
+    script, (language, shown_text) = blocks[at][1], blocks[at + 1]
+    assert language == "text"
+    seen = run(["bash", "-c", script.replace("./hdt", str(PROGRAM))], cwd=TOP)
+    assert seen == Result(1, shown_text.encode(), b"")
+
+
+def test_readme_dialogue_in_python() -> None:
+    """The README's example of `answer` in Python prints what its comments show."""
+    script = next(text for language, text in readme_blocks() if language == "python" and '"answer"' in text)
+    wanted = "".join(f"{line}\n" for line in re.findall(r"print\(.*?\)  # (.*)", script))
+    assert wanted.count("\n") == 2
+    seen = run([sys.executable, "-c", script.replace("./hdt", str(PROGRAM))], cwd=TOP)
+    assert seen == done(wanted.encode())
