@@ -7,7 +7,7 @@ from itertools import product
 from typing import NamedTuple, Optional
 
 import pytest
-from hypothesis import example, given
+from hypothesis import example, given, settings
 from hypothesis import strategies as st
 
 from reference import hdt as model
@@ -29,6 +29,11 @@ ORDER = model.write_control(model.TRIPLES, b"order=1;")
 def ok(*values: object) -> Answer:
     """The answer with these values."""
     return ("ok", *(value.hex() if isinstance(value, bytes) else str(value) for value in values))
+
+
+def read_up_to(end: int, count: int) -> Answer:
+    """The answer that so many triples are read, up to this offset: their count, and that of a copy."""
+    return ok(count, end, count)
 
 
 def flat(triples: Iterable[Triple]) -> list[int]:
@@ -112,14 +117,13 @@ ONE = Sequences([1], [1], [1], [1], (1, 1, 1))
 def test_three_triples(probe: Probe) -> None:
     """Three triples are read up to the byte behind them, by their indexes."""
     data = THREE.written() + b"U"
-    assert probe.on(data, "triples", 0, *THREE.counts) == ok(3, len(data) - 1)
+    assert probe.on(data, "triples", 0, *THREE.counts) == read_up_to(len(data) - 1, 3)
     assert probe.ask("triple", 0, *THREE.counts, 0, 1, 2) == ok(*flat(THREE_IDS))
     assert probe.ask("triple", 0, *THREE.counts, 3) == ("refused",)
 
 
 # Sequences of which one check fails, or two, with the reason and the offset of the first. Each sequence has one byte of
-# data: bitmap Y has its count at 57 and its data at 59, bitmap Z at 65 and 67, numbers Y at 74 and 76, numbers Z at 83 and
-# 85.
+# data. Counts are at 57 and 65 in the bitmaps, 74 and 83 in the numbers; data are at 59, 67, 76 and 85.
 REFUSED = {
     "count-of-pairs": (Sequences([1], [1], [1, 1], [1], (1, 1, 1)), "LengthsDiffer", 74),
     "count-of-triples": (Sequences([1], [1], [1], [1, 2], (1, 1, 2)), "LengthsDiffer", 83),
@@ -164,14 +168,15 @@ def test_another_order(probe: Probe, properties: bytes) -> None:
 def test_accepted(probe: Probe, sequences: Sequences) -> None:
     """A predicate and an object may be smaller in the next group; strings may be unused; the last `order` counts."""
     data = model.write_control(model.TRIPLES, b"order=2;order=1") + sequences.written()[len(ORDER):] + b"U"
-    assert probe.on(data, "triples", 0, *sequences.counts) == ok(len(sequences.numbers_z), len(data) - 1)
+    assert probe.on(data, "triples", 0, *sequences.counts) == read_up_to(
+        len(data) - 1, len(sequences.numbers_z))
 
 
 def test_many_triples(probe: Probe) -> None:
     """100 subjects, each with 10 predicates, each with 100 objects; and counts of which one is too small by one."""
     ids = list(product(range(1, 101), range(1, 11), range(1, 101)))
     data = model.write_triples(ids)
-    assert probe.on(data, "triples", 0, 100, 10, 100) == ok(100_000, len(data))
+    assert probe.on(data, "triples", 0, 100, 10, 100) == read_up_to(len(data), 100_000)
     rows = [0, 99, 100, 54_321, 99_999]
     assert probe.ask("triple", 0, 100, 10, 100, *rows) == ok(*flat(ids[j] for j in rows))
     small = [(99, 10, 100), (100, 9, 100), (100, 10, 99)]
@@ -227,18 +232,18 @@ def test_patterns_past_a_group(probe: Probe, padding: int) -> None:
 
 
 def test_end_of_the_matches(probe: Probe) -> None:
-    """Behind the last match comes none, however often it is asked; and there is none of `Matches::Empty`."""
+    """Behind the last match comes none, also where matches are empty: else `again` would be answered."""
     data = model.write_triples([(1, 1, 2), (1, 2, 3)])
     answers = {word: probe.on(data, word, 0, 3, 3, 3, 1, 2, "-") for word in FIND}
     assert answers == {word: ok(1, 1, 2, 3) for word in FIND}
-    assert probe.ask("empty_matches") == ok("none", "none", "none")
+    assert probe.ask("empty_matches") == ok(0)
 
 
 def held(sequences: Sequences) -> tuple[int, int]:
     """How many numbers triples keep by directories, and how many with lists.
 
-    A directory has a number for each group of 512 bits, and one more. The lists have one for each pair, triple, predicate
-    and object, and two more.
+    A directory has a number for each group of 512 bits, and one more. The lists have one for each pair, triple,
+    predicate and object, and two more.
     """
     pairs, triples = len(sequences.bits_y), len(sequences.bits_z)
     _, predicates, objects = sequences.counts
@@ -259,11 +264,10 @@ def test_numbers_held(probe: Probe, sequences: Sequences, numbers: tuple[int, in
 
 
 def test_handed_back(probe: Probe) -> None:
-    """With memory enough nothing is handed back, and the triples of a list and its directories answer."""
-    data = THREE.written()
-    answer = probe.on(data, "handed_back", 0, *THREE.counts, *tokens_of(ROWS))
-    items = [n for rows in ROWS.values() for n in items_of(rows)]
-    assert answer == ("ok", "listed", *items, "3")
+    """With memory enough nothing is handed back, and the directories below the lists answer."""
+    probe.send(("file", THREE.written()))
+    answers = probe.send(*(("handed_back", 0, *THREE.counts, *tokens(pattern)) for pattern in ROWS))
+    assert dict(zip(ROWS, answers)) == {pattern: ok("listed", 3, *flat(rows)) for pattern, rows in ROWS.items()}
 
 
 def some_of(subjects: int, predicates: int, objects: int) -> list[Triple]:
@@ -381,7 +385,7 @@ def test_written_samples(probe: Probe, ids: list[Triple], sequences: str) -> Non
     control = b"$HDT\x04<http://purl.org/HDT/hdt#triplesBitmap>\x00order=1;\x00\x59\xe9"
     data = BEFORE + control + bytes.fromhex(sequences)
     assert probe.ask("put_triples", BEFORE, *flat(ids)) == ok(data)
-    assert probe.on(data + b"U", "triples", len(BEFORE), 3, 3, 3) == ok(len(ids), len(data))
+    assert probe.on(data + b"U", "triples", len(BEFORE), 3, 3, 3) == read_up_to(len(data), len(ids))
     assert probe.ask("find", len(BEFORE), 3, 3, 3, *tokens(ANY)) == ("ok", *items_of(ids))
 
 
@@ -428,7 +432,7 @@ def assert_written(probe: Probe, before: bytes, ids: Sequence[Triple], counts: C
     """A large list is written behind other bytes, and read again."""
     data = before + model.write_triples(ids)
     assert (probe.ask("put_triples", before, *flat(ids)) == ok(data)) is True, "other bytes than the reference writes"
-    assert probe.on(data, "triples", len(before), *counts) == ok(len(ids), len(data))
+    assert probe.on(data, "triples", len(before), *counts) == read_up_to(len(data), len(ids))
     found = probe.ask("find", len(before), *counts, *tokens(ANY))
     assert (found == ("ok", *items_of(ids))) is True, "other triples are read again"
 
@@ -465,6 +469,7 @@ styles = st.builds(model.Style, width=st.integers(3, 64), padding=st.sampled_fro
 part = st.one_of(st.none(), st.integers(0, 8), st.sampled_from([MAX]))
 
 
+@settings(max_examples=settings.default.max_examples // 2)
 @given(triples_of(small_ids), styles, st.binary(max_size=3), st.tuples(part, part, part), st.data())
 @example(THREE_IDS, model.Style(), b"", (None, 1, 3), None)
 def test_search_is_a_filter(probe: Probe, ids: list[Triple], style: model.Style, before: bytes, pattern: Pattern,
@@ -479,6 +484,7 @@ def test_search_is_a_filter(probe: Probe, ids: list[Triple], style: model.Style,
     assert probe.ask("triple", len(before), 8, 8, 8, *range(len(ids))) == ok(*flat(ids))
 
 
+@settings(max_examples=settings.default.max_examples // 2)
 @given(triples_of(any_ids), st.binary(max_size=3))
 def test_written_as_the_reference(probe: Probe, ids: list[Triple], before: bytes) -> None:
     """The bytes that are written are the canonical form."""
@@ -527,7 +533,7 @@ def test_damaged_triples(probe: Probe, before: bytes, triples: bytes, counts: Co
     data, at = before + triples, len(before)
     try:
         read, end = model.read_triples(data, at, counts)
-        expected = ok(len(read.ids), end)
+        expected = read_up_to(end, len(read.ids))
     except model.Error as error:
         expected = error.answer
     assert probe.on(data, "triples", at, *counts) == expected
