@@ -244,11 +244,11 @@ def test_text_of_a_large_graph(probe: Probe, large: Large) -> None:
     for prefix in "graph", "layout":
         text = probe.ask(f"{prefix}_text_up_to", SECTION - 1, "-", "-", "-")
         assert (text == ok(lines)) is True, prefix
-        no_term = ("not", "a", "term", "Subject", "66000")
+        no_term = "not", "a", "term", "0", "66000"
         assert probe.ask(f"{prefix}_text_up_to", SECTION, "-", "-", "-") == no_term
         assert probe.ask(f"{prefix}_text", "-", "-", "-") == no_term
     # The last subject's ID is large.
-    assert probe.ask("graph_text", 132_000, "-", "-") == ("not", "a", "term", "Subject", "132000")
+    assert probe.ask("graph_text", 132_000, "-", "-") == ("not", "a", "term", "0", "132000")
 
 
 def test_text_of_a_large_graph_by_one_speller(probe: Probe, large: Large) -> None:

@@ -107,7 +107,7 @@ def test_byte_behind_a_file_with_an_unused_string(tmp_path: Path, case: Case) ->
 
 
 def truncations(data: bytes) -> list[tuple[int, Result]]:
-    """Lengths at which a file is cut off, and its verdict: each one with another error than the one before, and some."""
+    """Lengths at which a file is cut off, and its verdict: each one with an error of its own, and some more."""
     cut = [error_of(data[:length]) for length in range(len(data))]
     return [(length, verdict) for length, verdict in enumerate(cut)
             if length % 17 == 0 or length + 1 == len(data) or verdict != cut[length - 1]]
