@@ -334,6 +334,28 @@ def test_counts_among_many(probe: Probe) -> None:
         assert list(zip(AMONG_MANY, answer[1:])) == [(pattern, str(n)) for pattern, n in AMONG_MANY.items()], word
 
 
+def test_more_than_a_million_pairs(probe: Probe) -> None:
+    """1,100,000 subjects, each with predicate 1 and object 1: directories and lists past 2^20 pairs and triples."""
+    n = 1_100_000
+    ones = b"\xff" * (n // 8)
+    preamble = b"\x01" + model.write_vbyte(n)
+    bits = preamble + model.write_crc8(preamble) + ones + model.write_crc32(ones)
+    # Bytes behind the triples, since no role has more strings than the input has bytes.
+    probe.send(("file", ORDER + bits + bits + 2 * model.write_numbers_data(ones, 1, n) + bytes(n)))
+    expected: dict[Pattern, list[Triple]] = {
+        (1, None, None): [(1, 1, 1)], (n, None, None): [(n, 1, 1)],
+        (n, 1, None): [(n, 1, 1)], (n, None, 1): [(n, 1, 1)],
+        (1 << 20, 1, 1): [(1 << 20, 1, 1)], (n + 1, None, None): [], (n, 2, None): [], (None, 2, None): [],
+        (None, None, 2): []}
+    for word in FIND:
+        seen = split_by_pattern(probe.ask(word, 0, n, 2, 2, *tokens_of(expected)))
+        assert list(zip(expected, seen)) == [(pattern, items_of(ids)) for pattern, ids in expected.items()], word
+    counted: dict[Pattern, int] = {ANY: n, (None, 1, None): n, (None, None, 1): n, (None, 1, 1): n, (n, None, None): 1}
+    for word in MATCHING:
+        assert probe.ask(word, 0, n, 2, 2, *tokens_of(counted)) == ok(*counted.values()), word
+    assert probe.ask("handed_back", 0, n, 2, 2, n, "-", "-") == ok("listed", n, n, 1, 1)
+
+
 # What is used
 
 USED = {
