@@ -4,6 +4,7 @@ from __future__ import annotations
 
 from collections.abc import Callable, Sequence
 from dataclasses import dataclass, field
+from itertools import product
 from typing import NamedTuple, Optional, Protocol, TypeVar
 
 import pytest
@@ -13,9 +14,8 @@ from hypothesis import strategies as st
 from reference import hdt as model
 from reference.hdt import MAX, Reason, Triple
 from support.built import SAMPLES
-from support.probe import Probe
+from support.probe import Answer, Argument, Probe, Request, fault, ok
 
-Answer = tuple[str, ...]
 T = TypeVar("T")
 
 V1 = (SAMPLES / "v1.hdt").read_bytes()
@@ -26,14 +26,9 @@ BODY = V1[68:218]
 WORDS = "verify", "verify_tight", "open", "open_tight", "layout"
 
 
-def ok(*values: object) -> Answer:
-    """The answer with these values."""
-    return ("ok", *(value.hex() if isinstance(value, bytes) else str(value) for value in values))
-
-
 def error(reason: str, offset: int) -> Answer:
     """The answer with this error."""
-    return model.Error(Reason[reason], offset).answer
+    return fault(Reason[reason], reason, offset)
 
 
 def held(file: model.File) -> int:
@@ -120,9 +115,9 @@ def test_sections_are_those_of_the_sample() -> None:
 
 
 @pytest.mark.parametrize("sections, behind, expected", [
-    pytest.param((A, NONE, A, NONE), b"", ok(369, 1, 0, 1, 0, 218), id="sample"),
-    pytest.param((A, NONE, A, NONE), b"$HDT\x04", ok(369, 1, 0, 1, 0, 218), id="triples-behind"),
-    pytest.param((A, X, A, NONE), b"", ok(373, 1, 1, 1, 0, 218), id="a-subject"),
+    pytest.param((A, NONE, A, NONE), b"", ok(218, 1, 0, 1, 0, 369), id="sample"),
+    pytest.param((A, NONE, A, NONE), b"$HDT\x04", ok(218, 1, 0, 1, 0, 369), id="triples-behind"),
+    pytest.param((A, X, A, NONE), b"", ok(218, 1, 1, 1, 0, 373), id="a-subject"),
     pytest.param((A, X, A, X), b"", error("SectionsOverlap", 369), id="overlap"),
     pytest.param((A, NONE, A, b""), b"", error("Truncated", 351), id="cut-off")])
 def test_dictionary(probe: Probe, sections: FOUR, behind: bytes, expected: Answer) -> None:
@@ -148,7 +143,7 @@ def test_sample(probe: Probe) -> None:
         assert probe.send(
             ("number_of", role, b"http://a/", b"http://a"), ("string_of", role, 1, b"x"), ("string_of", role, 2, b"x"),
             ("strings", role)) == [
-                ok(1, "none"), ok("true", b"xhttp://a/", "true"), ok("false", b"x", "false"), ok(1, b"http://a/")]
+                ok(1, None), ok(True, b"xhttp://a/", True), ok(False, b"x", False), ok(1, b"http://a/")]
 
 
 # Strings that triples don't use in a role of their section; the first of them is reported in tight mode.
@@ -230,7 +225,9 @@ CUT = {"sample": V1, "three": THREE, **{name: loose_file(*LOOSE[name][:2])
 def test_every_beginning(probe: Probe, data: bytes) -> None:
     """Every proper beginning of a file is Truncated, at the offset of what is missing, in each mode."""
     words = "verify", "verify_tight", "open_tight"
-    requests = [request for size in range(len(data)) for request in (("file", data[:size]), *((w,) for w in words))]
+    requests: list[Request] = []
+    for size in range(len(data)):
+        requests += [("file", data[:size]), *((word,) for word in words)]
     answers = probe.send(*requests)
     step = 1 + len(words)
     seen = [(size, answers[step * size + 1:step * size + step]) for size in range(len(data))]
@@ -242,7 +239,10 @@ def test_every_beginning(probe: Probe, data: bytes) -> None:
 def test_every_bit(probe: Probe) -> None:
     """A change of any bit of the sample is refused, but for the header body; each error is the reference's."""
     changed = [(at, bit, replaced(V1, at, 1, bytes([V1[at] ^ 1 << bit]))) for at in range(len(V1)) for bit in range(8)]
-    answers = probe.send(*(request for _, _, data in changed for request in (("file", data), ("verify",))))
+    requests: list[Request] = []
+    for _, _, data in changed:
+        requests += [("file", data), ("verify",)]
+    answers = probe.send(*requests)
     seen = [(at, bit, answer) for (at, bit, _), answer in zip(changed, answers[1::2])]
     assert seen == [(at, bit, verdicts(data)["verify"]) for at, bit, data in changed]
     assert {at for at, _, answer in seen if answer[0] == "ok"} == set(range(68, 218))
@@ -318,7 +318,7 @@ def test_reasons_are_all() -> None:
 @pytest.mark.parametrize("text, arguments", [
     (b"the file has a fault: Truncated at 68", ("fault", 68, 1)),
     (b"out of memory", ("out_of_memory",))], ids=["fault", "memory"])
-def test_text_of_an_error(probe: Probe, text: bytes, arguments: tuple[object, ...]) -> None:
+def test_text_of_an_error(probe: Probe, text: bytes, arguments: tuple[Argument, ...]) -> None:
     """The text of the error of opening."""
     assert probe.ask("open_fault_text", *arguments) == ok(text)
 
@@ -342,7 +342,9 @@ SECTIONS = "shared", "subjects", "predicates", "objects"
 CONTROLS = "global", "header", "dictionary", "triples"
 BITMAPS, NUMBERS = ("bits_y", "bits_z"), ("numbers_y", "numbers_z")
 
-texts = st.text(alphabet="ab/:é\u20ac", max_size=6).map(str.encode)
+# Strings with common prefixes, some of which end within a character.
+TEXTS = sorted("".join(characters).encode() for n in range(4) for characters in product("a/\u00e9\u00ea", repeat=n))
+texts = st.sampled_from(TEXTS)
 styles = st.builds(
     model.Style, block_size=st.sampled_from([1, 2, 3, 16]), width=st.sampled_from([0, 0, 10, 13, 63, 64]),
     padding=st.sampled_from([0, -1, 0x55]), longest_prefixes=st.booleans(),
@@ -397,14 +399,15 @@ class Draft:
 def drafts(draw: st.DrawFn) -> Draft:
     """Tight files: each section has a string, a subject has two predicates, and a pair two objects."""
     names = draw(st.lists(texts, unique=True, min_size=4, max_size=9))
-    first, second = sorted(draw(st.lists(st.integers(1, len(names) - 2), min_size=2, max_size=2, unique=True)))
+    first = draw(st.integers(1, len(names) - 3))
+    second = draw(st.integers(first + 1, len(names) - 2))
     shared, subjects, objects = sorted(names[:first]), sorted(names[first:second]), sorted(names[second:])
-    predicates = sorted(draw(st.sets(texts, min_size=2, max_size=4)))
+    predicates = sorted(draw(st.lists(texts, unique=True, min_size=2, max_size=4)))
     last, p_count, o_count = len(shared + subjects), len(predicates), len(shared + objects)
     ids = {(last, p, 1) for p in range(1, p_count + 1)} | {(last, 1, o) for o in range(1, o_count + 1)}
+    pairs = list(product(range(1, p_count + 1), range(1, o_count + 1)))
     for s in range(1, last):
-        ids |= {(s, *pair) for pair in draw(st.sets(
-            st.tuples(st.integers(1, p_count), st.integers(1, o_count)), min_size=1, max_size=4))}
+        ids |= {(s, p, o) for p, o in draw(st.lists(st.sampled_from(pairs), min_size=1, max_size=3))}
     sections = dict(zip(SECTIONS, (shared, subjects, predicates, objects)))
     return Draft(sections, sorted(ids), draw(styles), draw(st.binary(max_size=9)))
 

@@ -13,9 +13,8 @@ from hypothesis import strategies as st
 from reference import hdt as model
 from reference.hdt import MAX, Pattern, Triple
 from support.built import SAMPLES
-from support.probe import Probe
+from support.probe import Answer, Argument, Probe, ok, spelled
 
-Answer = tuple[str, ...]
 Given = tuple[Optional[bytes], Optional[bytes], Optional[bytes]]
 
 # Three triples: u:a and u:b have the IDs 1 and 2, u:p and u:q 1 and 2, "x" has 3.
@@ -23,18 +22,9 @@ THREE = (SAMPLES / "three.hdt").read_bytes()
 IDS = [(1, 1, 2), (1, 2, 3), (2, 1, 1)]
 STRINGS = [[b"u:a", b"u:b"], [b"u:p", b"u:q"], [b"u:a", b"u:b", b'"x"']]
 
-# The calls for a graph and for a layout, which answer the same.
+# The calls for a graph, for a layout, and for the layout of a graph, which answer the same.
 BOTH = "", "layout_"
-
-
-def ok(*values: object) -> Answer:
-    """The answer with these values."""
-    return ("ok", *(value.hex() if isinstance(value, bytes) else str(value) for value in values))
-
-
-def tokens(given: Iterable[object]) -> list[object]:
-    """IDs or strings, of which any may be given, as arguments of a request."""
-    return ["-" if part is None else part for part in given]
+ALL = *BOTH, "graph_layout_"
 
 
 def items_of(ids: Sequence[Triple]) -> list[int]:
@@ -62,8 +52,8 @@ def assert_finds(probe: Probe, data: bytes, ids: Sequence[Triple], patterns: Ite
             if pattern in expected:
                 expected[pattern].append(triple)
     wanted = [(pattern, [len(expected[pattern]), *items_of(expected[pattern])]) for pattern in asked]
-    arguments = [token for pattern in asked for token in tokens(pattern)]
-    for prefix in BOTH:
+    arguments = [n for pattern in asked for n in pattern]
+    for prefix in ALL:
         answer = probe.on(data, f"{prefix}search", *arguments)
         assert list(zip(asked, split_by_pattern(answer))) == wanted, f"{prefix}search"
 
@@ -103,12 +93,12 @@ NAMED: dict[Given, Optional[Pattern]] = {
 def assert_names(probe: Probe, data: bytes, ids: Sequence[Triple], named: dict[Given, Optional[Pattern]]) -> None:
     """Strings have these patterns, by a graph and a layout, and a graph finds their matches."""
     probe.send(("file", data))
-    patterns = [ok("none") if pattern is None else ok(*tokens(pattern)) for pattern in named.values()]
-    for prefix in BOTH:
-        answers = probe.send(*((f"{prefix}pattern", *tokens(given)) for given in named))
+    patterns = [ok(None) if pattern is None else ("ok", *map(spelled, pattern)) for pattern in named.values()]
+    for prefix in ALL:
+        answers = probe.send(*((f"{prefix}pattern", *given) for given in named))
         assert list(zip(named, answers)) == list(zip(named, patterns)), f"{prefix}pattern"
     matches = [[] if pattern is None else model.matches(ids, pattern) for pattern in named.values()]
-    answers = probe.send(*(("find_strings", *tokens(given)) for given in named))
+    answers = probe.send(*(("find_strings", *given) for given in named))
     assert list(zip(named, answers)) == [(given, ok(*items_of(found))) for given, found in zip(named, matches)]
 
 
@@ -117,27 +107,35 @@ def test_patterns_of_strings(probe: Probe) -> None:
     assert_names(probe, THREE, IDS, NAMED)
 
 
+def walk(strings: Sequence[bytes]) -> Answer:
+    """The answer of a walk over strings: each behind its ID."""
+    values: list[Argument] = []
+    for n, string in enumerate(strings, 1):
+        values += [n, string]
+    return ok(*values)
+
+
 def assert_looks_up(probe: Probe, data: bytes, strings: Sequence[Sequence[bytes]], ids: Sequence[Triple],
                     others: Sequence[bytes]) -> None:
     """A graph and a layout have these strings in the roles, and none of the others.
 
     Strings are appended to the bytes that are there, and a graph says which of them triples use.
     """
-    probe.send(("file", data))
+    expected: dict[tuple[Argument, ...], Answer] = {}
     for role, row in enumerate(strings):
         used = {triple[role] for triple in ids}
-        numbered = [value for pair in enumerate(row, 1) for value in pair]
         absent = [string for string in others if string not in row]
-        looked_up = [*range(1, len(row) + 1), *("none" for _ in absent)]
         asked = [*range(len(row) + 3), MAX]
-        found = [(n, b"y" + row[n - 1]) if 1 <= n <= len(row) else (n, b"y") for n in asked]
         for prefix in BOTH:
-            assert probe.ask(f"{prefix}strings", role) == ok(*numbered)
-            assert probe.ask(f"{prefix}number_of", role, *row, *absent) == ok(*looked_up)
-            answers = probe.send(*((f"{prefix}string_of", role, n, b"y") for n in asked))
-            expected = [ok(str(1 <= n <= len(row)).lower(), string, *([] if prefix else [str(n in used).lower()]))
-                        for n, string in found]
-            assert list(zip(asked, answers)) == list(zip(asked, expected)), (prefix, role)
+            expected[f"{prefix}strings", role] = walk(row)
+            expected[(f"{prefix}number_of", role, *row, *absent)] = ok(*range(1, len(row) + 1), *[None] * len(absent))
+            for n in asked:
+                there = 1 <= n <= len(row)
+                expected[f"{prefix}string_of", role, n, b"y"] = ok(
+                    there, b"y" + (row[n - 1] if there else b""), *([] if prefix else [n in used]))
+        expected[("uses_of", role, *asked)] = ok(*(n in used for n in asked))
+    answers = probe.send(("file", data), *expected)[1:]
+    assert dict(zip(expected, answers)) == expected
 
 
 def test_look_ups(probe: Probe) -> None:
@@ -205,13 +203,12 @@ def test_large_graph_looks_up(probe: Probe, large: Large, prefix: str, role: int
     probe.on(large.data, "verify")
     assert probe.ask(f"{prefix}number_of", role, *(strings[n - 1] for n in ids)) == ok(*ids)
     out = b"y" * LONG
-    uses = [["true"], ["false"]] if prefix == "" else [[], []]
-    expected = [(n, ok("true", out + strings[n - 1], *uses[0])) for n in ids]
-    expected += [(n, ok("false", out, *uses[1])) for n in past]
+    uses = [[True], [False]] if prefix == "" else [[], []]
+    expected = [(n, ok(True, out + strings[n - 1], *uses[0])) for n in ids]
+    expected += [(n, ok(False, out, *uses[1])) for n in past]
     for n, answer in expected:
         assert (probe.ask(f"{prefix}string_of", role, n, out) == answer) is True, f"another string than that of {n}"
-    walk = [value for pair in enumerate(strings, 1) for value in pair]
-    assert (probe.ask(f"{prefix}strings", role) == ok(*walk)) is True, "another walk"
+    assert (probe.ask(f"{prefix}strings", role) == walk(strings)) is True, "another walk"
 
 
 def test_large_graph_searches(probe: Probe, large: Large) -> None:
@@ -220,7 +217,7 @@ def test_large_graph_searches(probe: Probe, large: Large) -> None:
     assert_finds(probe, large.data, large.ids, dict.fromkeys(
         pattern for triple in triples for pattern in model.patterns(triple) if pattern != (None, None, None)))
     for prefix in BOTH:
-        answer = probe.ask(f"{prefix}search", "-", "-", "-")
+        answer = probe.ask(f"{prefix}search", None, None, None)
         assert (answer == ok(len(large.ids), *items_of(large.ids))) is True, "other triples"
 
 
@@ -242,27 +239,29 @@ def test_text_of_a_large_graph(probe: Probe, large: Large) -> None:
     assert len(lines) == 2_309_965 and lines.endswith(b"<u:131998> <u:065998> <u:131998> .\n")
     probe.send(("file", large.data))
     for prefix in "graph", "layout":
-        text = probe.ask(f"{prefix}_text_up_to", SECTION - 1, "-", "-", "-")
+        text = probe.ask(f"{prefix}_text_up_to", SECTION - 1, None, None, None)
         assert (text == ok(lines)) is True, prefix
         no_term = "not", "a", "term", "0", "66000"
-        assert probe.ask(f"{prefix}_text_up_to", SECTION, "-", "-", "-") == no_term
-        assert probe.ask(f"{prefix}_text", "-", "-", "-") == no_term
+        assert probe.ask(f"{prefix}_text_up_to", SECTION, None, None, None) == no_term
+        assert probe.ask(f"{prefix}_text", None, None, None) == no_term
     # The last subject's ID is large.
-    assert probe.ask("graph_text", 132_000, "-", "-") == ("not", "a", "term", "0", "132000")
+    assert probe.ask("graph_text", 132_000, None, None) == ("not", "a", "term", "0", "132000")
 
 
 def test_text_of_a_large_graph_by_one_speller(probe: Probe, large: Large) -> None:
     """One `Speller` appends a text twice, of triples with more predicates than it keeps, and then a longer one."""
     lines = [line(triple) for triple in large.ids[:SECTION - 1]]
-    whole = ["-"] * 3
+    whole = [None] * 3
     texts = b"".join(lines[:1_000]) * 2 + b"".join(lines)
     seen = probe.on(large.data, "append_graph_text", b"", 1_000, *whole, 1_000, *whole, SECTION - 1, *whole)
-    assert (seen == ok(texts)) is True, "another text"
+    assert (seen == ok("done", "done", "done", texts)) is True, "another text"
 
 
 # Properties
 
-texts = st.text(alphabet="ab/:é\u20ac", max_size=5).map(str.encode)
+# Strings with common prefixes, some of which end within a character.
+TEXTS = sorted("".join(characters).encode() for n in range(4) for characters in product("a/\u00e9\u00ea", repeat=n))
+texts = st.sampled_from(TEXTS)
 styles = st.builds(
     model.Style, block_size=st.sampled_from([1, 2, 3, 16]), width=st.sampled_from([0, 0, 12, 63]),
     padding=st.sampled_from([0, -1]), longest_prefixes=st.booleans(), behind=st.sampled_from([b"", b"a=b"]))
@@ -274,7 +273,7 @@ def graphs(draw: st.DrawFn) -> tuple[model.Written, model.File]:
     pool = draw(st.lists(texts, unique=True, min_size=1, max_size=8))
     some = st.sampled_from(pool)
     triples = draw(st.lists(st.tuples(some, some, some), min_size=1, max_size=14, unique=True))
-    unused = draw(st.sets(texts, max_size=2)) - set(pool)
+    unused = set(draw(st.lists(texts, max_size=2))) - set(pool)
     subjects, predicates, objects = ({triple[role] for triple in triples} for role in range(3))
     parts = model.split(subjects, predicates | unused, objects | unused)
     written = model.write_file(triples, parts, None, draw(styles))

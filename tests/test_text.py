@@ -7,16 +7,15 @@ from itertools import product
 from typing import Optional
 
 import pytest
-from hypothesis import example, given
+from hypothesis import example, given, settings
 from hypothesis import strategies as st
 
 from reference import hdt as model
 from reference import ntriples
 from reference.hdt import Pattern, Triple
 from support.built import SAMPLES
-from support.probe import Probe
+from support.probe import Answer, Argument, Probe, ok
 
-Answer = tuple[str, ...]
 Sections = tuple[list[bytes], list[bytes], list[bytes], list[bytes]]
 
 THREE = (SAMPLES / "three.hdt").read_bytes()
@@ -29,19 +28,9 @@ BOTH = "graph", "layout"
 ROLES = "Subject", "Predicate", "Object"
 
 
-def ok(*values: object) -> Answer:
-    """The answer with these values."""
-    return ("ok", *(value.hex() if isinstance(value, bytes) else str(value) for value in values))
-
-
 def not_a_term(role: int, n: int) -> Answer:
     """The answer that a string of a role is no term."""
     return "not", "a", "term", str(role), str(n)
-
-
-def tokens(pattern: Pattern) -> list[object]:
-    """A pattern as arguments of a request."""
-    return ["-" if n is None else n for n in pattern]
 
 
 def file_of(sections: Sections, ids: Sequence[Triple]) -> bytes:
@@ -52,7 +41,7 @@ def file_of(sections: Sections, ids: Sequence[Triple]) -> bytes:
 
 def answers_by_both(probe: Probe, data: bytes, patterns: Sequence[Pattern]) -> list[tuple[Answer, Answer]]:
     """The text of each pattern's matches, by a graph and by a layout."""
-    requests = [(f"{kind}_text", *tokens(pattern)) for pattern in patterns for kind in BOTH]
+    requests = [(f"{kind}_text", *pattern) for pattern in patterns for kind in BOTH]
     answers = probe.send(("file", data), *requests)[1:]
     return list(zip(answers[::2], answers[1::2]))
 
@@ -75,10 +64,9 @@ def test_every_pattern(probe: Probe) -> None:
 def test_part_of_every_pattern(probe: Probe, most: Optional[int]) -> None:
     """The first lines of each pattern's matches, at most so many."""
     patterns: list[Pattern] = [(s, p, o) for s, p, o in product(GIVEN, GIVEN, GIVEN)]
-    limit = "-" if most is None else most
     probe.send(("file", THREE))
     for kind in BOTH:
-        answers = probe.send(*((f"{kind}_text_up_to", limit, *tokens(pattern)) for pattern in patterns))
+        answers = probe.send(*((f"{kind}_text_up_to", most, *pattern) for pattern in patterns))
         assert list(zip(patterns, answers)) == [
             (pattern, ok(b"".join(LINES[IDS.index(triple)] for triple in model.matches(IDS, pattern)[:most])))
             for pattern in patterns], kind
@@ -92,9 +80,9 @@ def test_no_pattern(probe: Probe) -> None:
 
 def test_texts_by_one_speller(probe: Probe) -> None:
     """Texts of several patterns are appended by one `Speller` to what is there."""
-    arguments = ["-", 1, "-", "-", 1, "-", "-", "-", 0, "-", "-", "-", "-", "-", 1, "-", 2, "none"]
+    asked: list[Argument] = [None, 1, None, None, 1, *ALL, 0, *ALL, None, None, 1, None, 2, "none"]
     expected = b"before" + LINES[0] + LINES[1] + LINES[0] + LINES[0] + LINES[2]
-    assert probe.on(THREE, "append_graph_text", b"before", *arguments) == ok(expected)
+    assert probe.on(THREE, "append_graph_text", b"before", *asked) == ok(*["done"] * 5, expected)
 
 
 # Spelling of terms
@@ -146,8 +134,9 @@ def test_first_string_that_is_no_term(probe: Probe, sections: Sections, ids: lis
     answer = not_a_term(role, n)
     # The triples of predicate 1 are all triples.
     assert answers_by_both(probe, file_of(sections, ids), [ALL, (None, 1, None)]) == [(answer, answer)] * 2
-    assert probe.ask("write_graph", 1, "-", *tokens(ALL)) == (*answer, "")
-    assert probe.ask("append_graph_text", b"before", "-", *tokens(ALL)) == (*answer, b"before".hex())
+    assert probe.ask("write_graph", 1, None, *ALL) == (*answer, "")
+    assert probe.ask("append_graph_text", b"before", 0, *ALL, None, *ALL, 0, *ALL) == ok(
+        "done", "not_a_term", role, n, "done", b"before")
 
 
 def test_string_that_no_match_uses(probe: Probe) -> None:
@@ -161,7 +150,7 @@ def test_string_that_no_match_uses(probe: Probe) -> None:
     (b"a string that is not a term: Object 7", ("not_a_term", 2, 7)),
     (b"writing failed after 5 bytes", ("write", 5)),
     (b"out of memory", ("out_of_memory",))], ids=["term", "write", "memory"])
-def test_text_of_an_error(probe: Probe, text: bytes, arguments: tuple[object, ...]) -> None:
+def test_text_of_an_error(probe: Probe, text: bytes, arguments: tuple[Argument, ...]) -> None:
     """The text of the error of writing."""
     assert probe.ask("dump_fault_text", *arguments) == ok(text)
 
@@ -174,7 +163,7 @@ def test_writer_that_fails_at_each_call(probe: Probe, step: int, failure: str) -
     """A writer takes some bytes a call and fails at one: it has taken what is before, which is reported."""
     text = b"".join(LINES)
     calls = range(-(-len(text) // step) + 2)
-    answers = probe.send(("file", THREE), *(("write_graph", step, f"{n}{failure}", *tokens(ALL)) for n in calls))[1:]
+    answers = probe.send(("file", THREE), *(("write_graph", step, f"{n}{failure}", *ALL) for n in calls))[1:]
     taken = [text[:n * step] for n in calls]
     assert list(zip(calls, answers)) == [
         (n, ok(len(text), text) if part == text else ("written", str(len(part)), part.hex()))
@@ -197,7 +186,7 @@ def test_many_triples(probe: Probe) -> None:
     answers = answers_by_both(probe, data, [ALL, (1, None, None)])
     assert [answer == ok(text) for pair in answers for answer in pair] == [True] * 4
     for step in len(text), 4_096:
-        written = probe.ask("write_graph", step, "-", *tokens(ALL))
+        written = probe.ask("write_graph", step, None, *ALL)
         assert (written == ok(len(text), text)) is True, "another text"
 
 
@@ -247,6 +236,7 @@ def graphs(draw: st.DrawFn) -> model.Written:
 part = st.one_of(st.none(), st.integers(1, 4))
 
 
+@settings(max_examples=settings.default.max_examples // 2)
 @given(graphs(), st.tuples(part, part, part), st.one_of(st.none(), st.integers(0, 9)), st.integers(1, 9),
        st.integers(0, 40))
 @example(model.graph({(b"u:a", b"u:p", b"rel"), (b"u:b", b"u:p", b"u:a")}), (2, None, None), None, 3, 1)
@@ -254,14 +244,13 @@ def test_text_is_that_of_the_reference(probe: Probe, graph: model.Written, patte
                                        step: int, calls: int) -> None:
     """The text of a pattern's matches, whole and in part, or the first string that is no term."""
     file = model.read_file(graph.data)
-    limit = "-" if most is None else most
     for asked in pattern, ALL:
         ids = model.matches(graph.ids, asked)
         whole, first = text_of(file, ids), text_of(file, ids[:most])
         assert answers_by_both(probe, graph.data, [asked]) == [(whole, whole)]
-        answers = probe.send(*((f"{kind}_text_up_to", limit, *tokens(asked)) for kind in BOTH))
+        answers = probe.send(*((f"{kind}_text_up_to", most, *asked) for kind in BOTH))
         assert answers == [first, first]
-        failing = probe.ask("write_graph", step, calls, *tokens(asked))
+        failing = probe.ask("write_graph", step, calls, *asked)
         text = bytes.fromhex(whole[1]) if whole[0] == "ok" else b""
         if whole[0] != "ok":
             assert failing == (*whole, "")
@@ -271,10 +260,11 @@ def test_text_is_that_of_the_reference(probe: Probe, graph: model.Written, patte
             assert failing == ("written", str(step * calls), text[:step * calls].hex())
 
 
+@settings(max_examples=settings.default.max_examples // 2)
 @given(graphs())
 def test_text_is_read_again(probe: Probe, graph: model.Written) -> None:
     """A text is N-Triples of the graph's triples, where no IRI has a character that N-Triples excludes."""
-    answer = probe.on(graph.data, "graph_text", *tokens(ALL))
+    answer = probe.on(graph.data, "graph_text", *ALL)
     excluded: Callable[[bytes], bool] = lambda string: not (string[:1] in b'_"' or ntriples.is_iri(string))
     if answer[0] == "ok" and not any(excluded(string) for row in graph.strings for string in row):
         triples, error = ntriples.read_document(bytes.fromhex(answer[1]))

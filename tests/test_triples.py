@@ -12,10 +12,9 @@ from hypothesis import strategies as st
 
 from reference import hdt as model
 from reference.hdt import MAX, Pattern, Triple
-from support.probe import Probe
+from support.probe import Answer, Probe, fault, ok
 
 Counts = tuple[int, int, int]
-Answer = tuple[str, ...]
 
 # The three types: the triples alone, with directories, and also with lists.
 FIND = "find", "indexed_find", "listed_find"
@@ -24,11 +23,6 @@ ROLES = model.ROLES
 
 ANY: Pattern = (None, None, None)
 ORDER = model.write_control(model.TRIPLES, b"order=1;")
-
-
-def ok(*values: object) -> Answer:
-    """The answer with these values."""
-    return ("ok", *(value.hex() if isinstance(value, bytes) else str(value) for value in values))
 
 
 def read_up_to(end: int, count: int) -> Answer:
@@ -41,20 +35,15 @@ def flat(triples: Iterable[Triple]) -> list[int]:
     return [n for triple in triples for n in triple]
 
 
-def tokens(pattern: Pattern) -> list[object]:
-    """A pattern as arguments of a request."""
-    return ["-" if n is None else n for n in pattern]
-
-
 def pattern_of(*numbers: int) -> Pattern:
     """The pattern of three numbers, of which 0 is any."""
     s, p, o = (n or None for n in numbers)
     return s, p, o
 
 
-def tokens_of(patterns: Iterable[Pattern]) -> list[object]:
-    """Patterns as arguments of a request."""
-    return [token for pattern in patterns for token in tokens(pattern)]
+def parts_of(patterns: Iterable[Pattern]) -> list[Optional[int]]:
+    """Patterns as arguments of a request: IDs, of which None is any."""
+    return [n for pattern in patterns for n in pattern]
 
 
 def items_of(ids: Sequence[Triple]) -> Answer:
@@ -85,10 +74,10 @@ def assert_finds(probe: Probe, data: bytes, at: int, counts: Counts, ids: Sequen
                 expected[pattern].append(triple)
     probe.send(("file", data))
     for word in FIND:
-        seen = split_by_pattern(probe.ask(word, at, *counts, *tokens_of(asked)))
+        seen = split_by_pattern(probe.ask(word, at, *counts, *parts_of(asked)))
         assert list(zip(asked, seen)) == [(pattern, items_of(expected[pattern])) for pattern in asked], word
     for word in MATCHING:
-        answer = probe.ask(word, at, *counts, *tokens_of(asked))
+        answer = probe.ask(word, at, *counts, *parts_of(asked))
         assert answer == ok(*(len(expected[pattern]) for pattern in asked)), word
 
 
@@ -150,7 +139,7 @@ REFUSED = {
 @pytest.mark.parametrize("sequences, reason, offset", REFUSED.values(), ids=REFUSED)
 def test_refused(probe: Probe, sequences: Sequences, reason: str, offset: int) -> None:
     """The first check that fails is reported, at its byte offset."""
-    error = ("fault", str(int(model.Reason[reason])), reason, str(offset))
+    error = fault(model.Reason[reason], reason, offset)
     assert probe.on(sequences.written() + b"U", "triples", 0, *sequences.counts) == error
 
 
@@ -158,7 +147,7 @@ def test_refused(probe: Probe, sequences: Sequences, reason: str, offset: int) -
 def test_another_order(probe: Probe, properties: bytes) -> None:
     """The last property `order` has to be 1."""
     data = model.write_control(model.TRIPLES, properties) + THREE.written()[len(ORDER):]
-    assert probe.on(data, "triples", 0, *THREE.counts) == ("fault", "9", "TripleOrder", "45")
+    assert probe.on(data, "triples", 0, *THREE.counts) == fault(9, "TripleOrder", 45)
 
 
 @pytest.mark.parametrize("sequences", [
@@ -172,6 +161,13 @@ def test_accepted(probe: Probe, sequences: Sequences) -> None:
         len(data) - 1, len(sequences.numbers_z))
 
 
+def error_of(data: bytes, counts: Counts) -> Answer:
+    """The error of triples by the reference."""
+    with pytest.raises(model.Error) as raised:
+        model.read_triples(data, 0, counts)
+    return raised.value.answer
+
+
 def test_many_triples(probe: Probe) -> None:
     """100 subjects, each with 10 predicates, each with 100 objects; and counts of which one is too small by one."""
     ids = list(product(range(1, 101), range(1, 11), range(1, 101)))
@@ -180,7 +176,7 @@ def test_many_triples(probe: Probe) -> None:
     rows = [0, 99, 100, 54_321, 99_999]
     assert probe.ask("triple", 0, 100, 10, 100, *rows) == ok(*flat(ids[j] for j in rows))
     small = [(99, 10, 100), (100, 9, 100), (100, 10, 99)]
-    expected = [("fault", *map(str, model.outcome(model.read_triples, data, 0, counts))) for counts in small]
+    expected = [error_of(data, counts) for counts in small]
     assert probe.send(*(("triples", 0, *counts) for counts in small)) == expected
     assert [answer[2] for answer in expected] == ["SubjectRange", "PredicateRange", "ObjectRange"]
 
@@ -234,7 +230,7 @@ def test_patterns_past_a_group(probe: Probe, padding: int) -> None:
 def test_end_of_the_matches(probe: Probe) -> None:
     """Behind the last match comes none, also where matches are empty: else `again` would be answered."""
     data = model.write_triples([(1, 1, 2), (1, 2, 3)])
-    answers = {word: probe.on(data, word, 0, 3, 3, 3, 1, 2, "-") for word in FIND}
+    answers = {word: probe.on(data, word, 0, 3, 3, 3, 1, 2, None) for word in FIND}
     assert answers == {word: ok(1, 1, 2, 3) for word in FIND}
     assert probe.ask("empty_matches") == ok(0)
 
@@ -266,7 +262,7 @@ def test_numbers_held(probe: Probe, sequences: Sequences, numbers: tuple[int, in
 def test_handed_back(probe: Probe) -> None:
     """With memory enough nothing is handed back, and the directories below the lists answer."""
     probe.send(("file", THREE.written()))
-    answers = probe.send(*(("handed_back", 0, *THREE.counts, *tokens(pattern)) for pattern in ROWS))
+    answers = probe.send(*(("handed_back", 0, *THREE.counts, *pattern) for pattern in ROWS))
     assert dict(zip(ROWS, answers)) == {pattern: ok("listed", 3, *flat(rows)) for pattern, rows in ROWS.items()}
 
 
@@ -328,7 +324,7 @@ def test_counts_among_many(probe: Probe) -> None:
     ids += [(2, n, 7) for n in range(1, 70_001)]
     ids += [(n, 2, 5) for n in range(3, 70_003)]
     probe.send(("file", model.write_triples(ids)))
-    patterns = tokens_of(pattern_of(*pattern) for pattern in AMONG_MANY)
+    patterns = parts_of(pattern_of(*pattern) for pattern in AMONG_MANY)
     for word in MATCHING:
         answer = probe.ask(word, 0, 70_002, 70_000, 70_000, *patterns)
         assert list(zip(AMONG_MANY, answer[1:])) == [(pattern, str(n)) for pattern, n in AMONG_MANY.items()], word
@@ -348,12 +344,12 @@ def test_more_than_a_million_pairs(probe: Probe) -> None:
         (1 << 20, 1, 1): [(1 << 20, 1, 1)], (n + 1, None, None): [], (n, 2, None): [], (None, 2, None): [],
         (None, None, 2): []}
     for word in FIND:
-        seen = split_by_pattern(probe.ask(word, 0, n, 2, 2, *tokens_of(expected)))
+        seen = split_by_pattern(probe.ask(word, 0, n, 2, 2, *parts_of(expected)))
         assert list(zip(expected, seen)) == [(pattern, items_of(ids)) for pattern, ids in expected.items()], word
     counted: dict[Pattern, int] = {ANY: n, (None, 1, None): n, (None, None, 1): n, (None, 1, 1): n, (n, None, None): 1}
     for word in MATCHING:
-        assert probe.ask(word, 0, n, 2, 2, *tokens_of(counted)) == ok(*counted.values()), word
-    assert probe.ask("handed_back", 0, n, 2, 2, n, "-", "-") == ok("listed", n, n, 1, 1)
+        assert probe.ask(word, 0, n, 2, 2, *parts_of(counted)) == ok(*counted.values()), word
+    assert probe.ask("handed_back", 0, n, 2, 2, n, None, None) == ok("listed", n, n, 1, 1)
 
 
 # What is used
@@ -408,7 +404,7 @@ def test_written_samples(probe: Probe, ids: list[Triple], sequences: str) -> Non
     data = BEFORE + control + bytes.fromhex(sequences)
     assert probe.ask("put_triples", BEFORE, *flat(ids)) == ok(data)
     assert probe.on(data + b"U", "triples", len(BEFORE), 3, 3, 3) == read_up_to(len(data), len(ids))
-    assert probe.ask("find", len(BEFORE), 3, 3, 3, *tokens(ANY)) == ("ok", *items_of(ids))
+    assert probe.ask("find", len(BEFORE), 3, 3, 3, *ANY) == ("ok", *items_of(ids))
 
 
 WIDE = [(1, 1, MAX), (1, MAX - 1, 1), (1, MAX, MAX - 1), (1, MAX, MAX), (2, 1, 1)]
@@ -417,7 +413,7 @@ WIDE = [(1, 1, MAX), (1, MAX - 1, 1), (1, MAX, MAX - 1), (1, MAX, MAX), (2, 1, 1
 def test_written_wide_numbers(probe: Probe) -> None:
     """IDs at both ends of what 64 bits hold, in sequences of width 64."""
     sequences = Sequences([0, 0, 1, 1], [1, 1, 0, 1, 1], [1, MAX - 1, MAX, 1], [MAX, 1, MAX - 1, MAX, 1], (0, 0, 0))
-    assert probe.ask("are_writable", *flat(WIDE)) == ok("true")
+    assert probe.ask("are_writable", *flat(WIDE)) == ok(True)
     assert probe.ask("put_triples", BEFORE, *flat(WIDE)) == ok(BEFORE + sequences.written())
 
 
@@ -440,14 +436,14 @@ UNWRITABLE: dict[str, list[Triple]] = {
 @pytest.mark.parametrize("ids", UNWRITABLE.values(), ids=UNWRITABLE)
 def test_unwritable(probe: Probe, ids: list[Triple]) -> None:
     """A list that doesn't ascend, has a gap in its subjects or a 0 can't be written."""
-    assert probe.ask("are_writable", *flat(ids)) == ok("false")
+    assert probe.ask("are_writable", *flat(ids)) == ok(False)
     assert probe.ask("put_triples", b"", *flat(ids)) == ("refused",)
 
 
 @pytest.mark.parametrize("ids", [[(1, 1, 1)], THREE_IDS, WIDE], ids=["one", "three", "wide"])
 def test_writable(probe: Probe, ids: list[Triple]) -> None:
     """Lists that can be written."""
-    assert probe.ask("are_writable", *flat(ids)) == ok("true")
+    assert probe.ask("are_writable", *flat(ids)) == ok(True)
 
 
 def assert_written(probe: Probe, before: bytes, ids: Sequence[Triple], counts: Counts) -> None:
@@ -455,7 +451,7 @@ def assert_written(probe: Probe, before: bytes, ids: Sequence[Triple], counts: C
     data = before + model.write_triples(ids)
     assert (probe.ask("put_triples", before, *flat(ids)) == ok(data)) is True, "other bytes than the reference writes"
     assert probe.on(data, "triples", len(before), *counts) == read_up_to(len(data), len(ids))
-    found = probe.ask("find", len(before), *counts, *tokens(ANY))
+    found = probe.ask("find", len(before), *counts, *ANY)
     assert (found == ("ok", *items_of(ids))) is True, "other triples are read again"
 
 
@@ -526,7 +522,7 @@ nearly_ids = st.integers(0, 3)
 @given(st.one_of(st.lists(st.tuples(nearly_ids, nearly_ids, nearly_ids), max_size=4), triples_of(any_ids)))
 def test_what_can_be_written(probe: Probe, ids: list[Triple]) -> None:
     """`are_writable` holds exactly for the lists that the format can hold."""
-    assert probe.ask("are_writable", *flat(ids)) == ok(str(is_writable(ids)).lower())
+    assert probe.ask("are_writable", *flat(ids)) == ok(is_writable(ids))
 
 
 @st.composite
