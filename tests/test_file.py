@@ -8,13 +8,14 @@ from itertools import product
 from typing import NamedTuple, Optional, Protocol, TypeVar
 
 import pytest
-from hypothesis import given, settings
+from hypothesis import given
 from hypothesis import strategies as st
 
 from reference import hdt as model
 from reference.hdt import MAX, Reason, Triple
 from support.built import SAMPLES
 from support.probe import Answer, Argument, Probe, Request, fault, ok
+from support.properties import examples
 
 T = TypeVar("T")
 
@@ -96,6 +97,18 @@ def test_large_head(probe: Probe) -> None:
 def test_body_cut_off(probe: Probe, size: int) -> None:
     """A body that is cut off is reported where it begins."""
     assert probe.on(V1[:size], "head") == error("Truncated", 68)
+
+
+@pytest.mark.parametrize("properties, expected", [
+    pytest.param(b"length=18446744073709551615;", fault(1, "Truncated", 83), id="2^64-1"),
+    pytest.param(b"length=9223372036854775808;", fault(1, "Truncated", 82), id="2^63"),
+    pytest.param(b"length=18446744073709551616;", fault(8, "HeaderLength", 54), id="2^64"),
+    pytest.param(b"length=99999999999999999999999;", fault(8, "HeaderLength", 54), id="23-digits")])
+def test_length_of_the_body(probe: Probe, properties: bytes, expected: Answer) -> None:
+    """Any length of 64 bits is a length; the body is then cut off."""
+    data = V1[:40] + model.write_control(model.HEADER, properties) + V1[68:]
+    assert [probe.on(data, word) for word in ("head", *WORDS)] == [expected] * 6
+    assert set(verdicts(data).values()) == {expected}
 
 
 # Dictionaries
@@ -412,6 +425,7 @@ def drafts(draw: st.DrawFn) -> Draft:
     return Draft(sections, sorted(ids), draw(styles), draw(st.binary(max_size=9)))
 
 
+@examples()
 @given(drafts())
 def test_files(probe: Probe, draft: Draft) -> None:
     """Files of any graph and style are read as the reference reads them."""
@@ -743,7 +757,7 @@ def test_damages_are_all() -> None:
 
 
 @pytest.mark.parametrize("reason", [reason.name for reason in Reason])
-@settings(max_examples=settings.default.max_examples // 8)
+@examples(8)
 @given(draft=drafts(), data=st.data())
 def test_damaged_file(probe: Probe, reason: str, draft: Draft, data: st.DataObject) -> None:
     """A file in which one check of the format fails is refused for its reason, where the reference finds it."""
@@ -764,6 +778,7 @@ def changed_files(draw: st.DrawFn) -> bytes:
     return model.with_right_crcs(data, model.read_file) if draw(st.booleans()) else data
 
 
+@examples()
 @given(changed_files())
 def test_changed_file(probe: Probe, data: bytes) -> None:
     """Files that are changed anywhere are read, or refused, as the reference reads them."""

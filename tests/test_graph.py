@@ -14,6 +14,7 @@ from reference import hdt as model
 from reference.hdt import MAX, Pattern, Triple
 from support.built import SAMPLES
 from support.probe import Answer, Argument, Probe, ok, spelled
+from support.properties import examples
 
 Given = tuple[Optional[bytes], Optional[bytes], Optional[bytes]]
 
@@ -283,6 +284,7 @@ def graphs(draw: st.DrawFn) -> tuple[model.Written, model.File]:
 part = st.one_of(st.none(), st.integers(0, 9), st.sampled_from([MAX]))
 
 
+@examples()
 @given(graphs(), st.tuples(part, part, part), st.data())
 def test_search_is_a_filter(probe: Probe, graph: tuple[model.Written, model.File], pattern: Pattern,
                             data: st.DataObject) -> None:
@@ -301,6 +303,7 @@ def test_search_is_a_filter(probe: Probe, graph: tuple[model.Written, model.File
     assert_names(probe, written.data, written.ids, named)
 
 
+@examples()
 @given(graphs(), texts)
 def test_look_ups_are_inverse(probe: Probe, graph: tuple[model.Written, model.File], other: bytes) -> None:
     """Strings and IDs of a role are those of the reference, in both directions."""

@@ -7,7 +7,7 @@ from itertools import product
 from typing import Optional
 
 import pytest
-from hypothesis import example, given, settings
+from hypothesis import example, given
 from hypothesis import strategies as st
 
 from reference import hdt as model
@@ -15,6 +15,7 @@ from reference import ntriples
 from reference.hdt import Pattern, Triple
 from support.built import SAMPLES
 from support.probe import Answer, Argument, Probe, ok
+from support.properties import examples
 
 Sections = tuple[list[bytes], list[bytes], list[bytes], list[bytes]]
 
@@ -236,7 +237,7 @@ def graphs(draw: st.DrawFn) -> model.Written:
 part = st.one_of(st.none(), st.integers(1, 4))
 
 
-@settings(max_examples=settings.default.max_examples // 2)
+@examples(2)
 @given(graphs(), st.tuples(part, part, part), st.one_of(st.none(), st.integers(0, 9)), st.integers(1, 9),
        st.integers(0, 40))
 @example(model.graph({(b"u:a", b"u:p", b"rel"), (b"u:b", b"u:p", b"u:a")}), (2, None, None), None, 3, 1)
@@ -260,7 +261,7 @@ def test_text_is_that_of_the_reference(probe: Probe, graph: model.Written, patte
             assert failing == ("written", str(step * calls), text[:step * calls].hex())
 
 
-@settings(max_examples=settings.default.max_examples // 2)
+@examples(2)
 @given(graphs())
 def test_text_is_read_again(probe: Probe, graph: model.Written) -> None:
     """A text is N-Triples of the graph's triples, where no IRI has a character that N-Triples excludes."""

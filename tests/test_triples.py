@@ -7,12 +7,13 @@ from itertools import product
 from typing import NamedTuple, Optional
 
 import pytest
-from hypothesis import example, given, settings
+from hypothesis import example, given
 from hypothesis import strategies as st
 
 from reference import hdt as model
 from reference.hdt import MAX, Pattern, Triple
 from support.probe import Answer, Probe, fault, ok
+from support.properties import examples
 
 Counts = tuple[int, int, int]
 
@@ -487,7 +488,7 @@ styles = st.builds(model.Style, width=st.integers(3, 64), padding=st.sampled_fro
 part = st.one_of(st.none(), st.integers(0, 8), st.sampled_from([MAX]))
 
 
-@settings(max_examples=settings.default.max_examples // 2)
+@examples(2)
 @given(triples_of(small_ids), styles, st.binary(max_size=3), st.tuples(part, part, part), st.data())
 @example(THREE_IDS, model.Style(), b"", (None, 1, 3), None)
 def test_search_is_a_filter(probe: Probe, ids: list[Triple], style: model.Style, before: bytes, pattern: Pattern,
@@ -502,7 +503,7 @@ def test_search_is_a_filter(probe: Probe, ids: list[Triple], style: model.Style,
     assert probe.ask("triple", len(before), 8, 8, 8, *range(len(ids))) == ok(*flat(ids))
 
 
-@settings(max_examples=settings.default.max_examples // 2)
+@examples(2)
 @given(triples_of(any_ids), st.binary(max_size=3))
 def test_written_as_the_reference(probe: Probe, ids: list[Triple], before: bytes) -> None:
     """The bytes that are written are the canonical form."""
@@ -519,6 +520,7 @@ def is_writable(ids: Sequence[Triple]) -> bool:
 nearly_ids = st.integers(0, 3)
 
 
+@examples()
 @given(st.one_of(st.lists(st.tuples(nearly_ids, nearly_ids, nearly_ids), max_size=4), triples_of(any_ids)))
 def test_what_can_be_written(probe: Probe, ids: list[Triple]) -> None:
     """`are_writable` holds exactly for the lists that the format can hold."""
@@ -545,6 +547,7 @@ def nearly_triples(draw: st.DrawFn) -> bytes:
     return data
 
 
+@examples()
 @given(st.binary(max_size=2), nearly_triples(), st.tuples(*[st.integers(1, 5)] * 3))
 def test_damaged_triples(probe: Probe, before: bytes, triples: bytes, counts: Counts) -> None:
     """Triples with any damage give the error that the reference gives, or are read as it reads them."""
