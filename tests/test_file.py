@@ -100,8 +100,8 @@ def test_body_cut_off(probe: Probe, size: int) -> None:
 
 
 @pytest.mark.parametrize("properties, expected", [
-    pytest.param(b"length=18446744073709551615;", fault(1, "Truncated", 83), id="2^64-1"),
-    pytest.param(b"length=9223372036854775808;", fault(1, "Truncated", 82), id="2^63"),
+    pytest.param(b"length=18446744073709551615;", fault(1, "Truncated", 85), id="2^64-1"),
+    pytest.param(b"length=9223372036854775808;", fault(1, "Truncated", 84), id="2^63"),
     pytest.param(b"length=18446744073709551616;", fault(8, "HeaderLength", 54), id="2^64"),
     pytest.param(b"length=99999999999999999999999;", fault(8, "HeaderLength", 54), id="23-digits")])
 def test_length_of_the_body(probe: Probe, properties: bytes, expected: Answer) -> None:
