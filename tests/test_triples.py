@@ -476,9 +476,10 @@ small_ids = st.integers(1, 6)
 any_ids = st.one_of(small_ids, st.integers(1, 300), st.integers(1, MAX))
 
 
-def triples_of(ids: st.SearchStrategy[int], subjects: int = 6) -> st.SearchStrategy[list[Triple]]:
+def triples_of(predicates: st.SearchStrategy[int], objects: st.SearchStrategy[int],
+               subjects: int = 6) -> st.SearchStrategy[list[Triple]]:
     """Lists of triples that can be written, with these predicates and objects."""
-    groups = st.lists(st.sets(st.tuples(ids, ids), min_size=1, max_size=8), min_size=1, max_size=subjects)
+    groups = st.lists(st.sets(st.tuples(predicates, objects), min_size=1, max_size=8), min_size=1, max_size=subjects)
     return groups.map(lambda rows: [(s, p, o) for s, row in enumerate(rows, 1) for p, o in sorted(row)])
 
 
@@ -489,7 +490,7 @@ part = st.one_of(st.none(), st.integers(0, 8), st.sampled_from([MAX]))
 
 
 @examples(2)
-@given(triples_of(small_ids), styles, st.binary(max_size=3), st.tuples(part, part, part), st.data())
+@given(triples_of(small_ids, small_ids), styles, st.binary(max_size=3), st.tuples(part, part, part), st.data())
 @example(THREE_IDS, model.Style(), b"", (None, 1, 3), None)
 def test_search_is_a_filter(probe: Probe, ids: list[Triple], style: model.Style, before: bytes, pattern: Pattern,
                             data: Optional[st.DataObject]) -> None:
@@ -504,7 +505,7 @@ def test_search_is_a_filter(probe: Probe, ids: list[Triple], style: model.Style,
 
 
 @examples(2)
-@given(triples_of(any_ids), st.binary(max_size=3))
+@given(triples_of(any_ids, any_ids), st.binary(max_size=3))
 def test_written_as_the_reference(probe: Probe, ids: list[Triple], before: bytes) -> None:
     """The bytes that are written are the canonical form."""
     assert probe.ask("put_triples", before, *flat(ids)) == ok(before + model.write_triples(ids))
@@ -521,7 +522,7 @@ nearly_ids = st.integers(0, 3)
 
 
 @examples()
-@given(st.one_of(st.lists(st.tuples(nearly_ids, nearly_ids, nearly_ids), max_size=4), triples_of(any_ids)))
+@given(st.one_of(st.lists(st.tuples(nearly_ids, nearly_ids, nearly_ids), max_size=4), triples_of(any_ids, any_ids)))
 def test_what_can_be_written(probe: Probe, ids: list[Triple]) -> None:
     """`are_writable` holds exactly for the lists that the format can hold."""
     assert probe.ask("are_writable", *flat(ids)) == ok(is_writable(ids))
@@ -530,14 +531,16 @@ def test_what_can_be_written(probe: Probe, ids: list[Triple]) -> None:
 @st.composite
 def nearly_triples(draw: st.DrawFn) -> bytes:
     """The bytes of triples, most often with an error: in a sequence, or in a byte, with right CRCs or without."""
-    sequences = model.read_triples(model.write_triples(draw(triples_of(st.integers(1, 4), 4))), 0, (9, 9, 9))[0]
+    ids = draw(triples_of(st.integers(1, 2), st.integers(1, 4), 3))
+    sequences = model.read_triples(model.write_triples(ids), 0, (9, 9, 9))[0]
     bits_y, bits_z = list(sequences.bits_y), list(sequences.bits_z)
     numbers_y, numbers_z = list(sequences.numbers_y), list(sequences.numbers_z)
     for _ in range(draw(st.integers(0, 2))):
         numbers = draw(st.sampled_from([bits_y, bits_z, numbers_y, numbers_z]))
         i = draw(st.integers(0, len(numbers)))
         most = 1 if numbers is bits_y or numbers is bits_z else 5
-        numbers[i:i + draw(st.integers(0, 1))] = draw(st.lists(st.integers(0, most), max_size=1))
+        taken, put = draw(st.sampled_from([(1, 1), (1, 1), (1, 0), (0, 1)]))
+        numbers[i:i + taken] = [draw(st.integers(0, most))][:put]
     data = model.write_sequences(bits_y, bits_z, numbers_y, numbers_z)
     if draw(st.integers(0, 3)) == 0:
         i = draw(st.integers(0, len(data)))
