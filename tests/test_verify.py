@@ -257,9 +257,9 @@ def brief(result: Result) -> tuple[int, int, bytes]:
     return result.status, len(result.out), result.err
 
 
-def assert_prints(result: Result, out: bytes) -> None:
+def assert_prints(result: Result, out: bytes, err: bytes = b"") -> None:
     """The command succeeded and printed `out`, which is large."""
-    assert brief(result) == (0, len(out), b"")
+    assert brief(result) == (0, len(out), err)
     assert result.out == out, "the same length, but other bytes"
 
 
@@ -300,11 +300,13 @@ def test_large_output(tmp_path: Path) -> None:
     built = hdt("build", document, out)
     size = out.stat().st_size
     assert size > 17 << 20
-    assert built == Result(0, b"built 1 0 1 1 1 %d\n" % size, b"")
+    line = b"built 1 0 1 1 1 %d\n" % size
+    assert built == Result(0, line, b"")
     assert hdt("rewrite", out, again).status == 0
     data = out.read_bytes()
     assert again.read_bytes() == data, "rewritten as other bytes"
-    assert_prints(hdt("build", document, "/dev/stdout"), data)
+    # The line is then printed on standard error.
+    assert_prints(hdt("build", document, "/dev/stdout"), data, line)
 
 
 def test_strings_in_pieces(tmp_path: Path) -> None:
