@@ -106,13 +106,6 @@ def test_byte_behind_a_file_with_an_unused_string(tmp_path: Path, case: Case) ->
     assert verdicts(tmp_path / "file.hdt", case.data + b"x") == (refused(33, "TrailingBytes", 463),) * 3
 
 
-def truncations(data: bytes) -> list[tuple[int, Result]]:
-    """Lengths at which a file is cut off, and its verdict: each one with an error of its own, and some more."""
-    cut = [error_of(data[:length]) for length in range(len(data))]
-    return [(length, verdict) for length, verdict in enumerate(cut)
-            if length % 17 == 0 or length + 1 == len(data) or verdict != cut[length - 1]]
-
-
 def error_of(data: bytes) -> Result:
     """The verdict of a damaged file by the reference."""
     try:
@@ -124,11 +117,16 @@ def error_of(data: bytes) -> Result:
 
 @pytest.mark.parametrize("case", CUT, ids=[case.name for case in CUT])
 def test_file_cut_off(tmp_path: Path, case: Case) -> None:
-    """A file that is cut off is Truncated in both modes. (Each length is tried in test_file.py.)"""
+    """A file that is cut off at any length is Truncated, in tight mode too."""
     path = tmp_path / "file.hdt"
-    expected = truncations(case.data)
-    assert [(length, verdicts(path, case.data[:length])) for length, _ in expected] == [
-        (length, (verdict,) * 3) for length, verdict in expected]
+    lengths = range(len(case.data))
+    modes: list[list[str]] = [[], ["--tight"]] if case.unused else [[]]
+    seen = []
+    for length in lengths:
+        path.write_bytes(case.data[:length])
+        seen.append((length, [hdt("verify", path, *mode) for mode in modes]))
+    expected = [(length, error_of(case.data[:length])) for length in lengths]
+    assert seen == [(length, [verdict] * len(modes)) for length, verdict in expected]
     assert {verdict.err.split()[2:4] == [b"1", b"Truncated"] for _, verdict in expected} == {True}
 
 
