@@ -64,6 +64,31 @@ def read(probe: Probe, data: bytes) -> dict[str, Answer]:
     return dict(zip(WORDS, probe.send(("file", data), *((word,) for word in WORDS))[1:]))
 
 
+def values_of(control: model.Control) -> tuple[bytes, bytes, int, int]:
+    """Control information as it is answered: format, properties, where these begin, and where it ends."""
+    end = control.properties_at + len(control.properties) + 1 + 2
+    return control.format, control.properties, control.properties_at, end
+
+
+def fronts(data: bytes) -> dict[str, Answer]:
+    """What the reference says of the head of a file, and of the head and the dictionary, whatever follows."""
+    answers = {}
+    try:
+        head, end = model.read_head(data)
+        answers["head"] = ok(*values_of(head.of_file), *values_of(head.header), head.body, end)
+        dictionary, behind = model.read_dictionary(data, end)
+        answers["read_dictionary"] = ok(end, *dictionary.section_lens, behind)
+    except model.Error as found:
+        answers = {"head": found.answer, "read_dictionary": found.answer, **answers}
+    return answers
+
+
+def read_fronts(probe: Probe, data: bytes) -> dict[str, Answer]:
+    """What the engine says of the same."""
+    words = "head", "read_dictionary"
+    return dict(zip(words, probe.send(("file", data), *((word,) for word in words))[1:]))
+
+
 def replaced(data: bytes, start: int, size: int, part: bytes) -> bytes:
     """The bytes with `size` of them replaced."""
     return data[:start] + part + data[start + size:]
@@ -429,8 +454,9 @@ def drafts(draw: st.DrawFn) -> Draft:
 @given(drafts())
 def test_files(probe: Probe, draft: Draft) -> None:
     """Files of any graph and style are read as the reference reads them."""
-    assert read(probe, draft.data) == verdicts(draft.data)
-    assert verdicts(draft.data)["open_tight"][0] == "ok"
+    expected = verdicts(draft.data)
+    assert (read(probe, draft.data), read_fronts(probe, draft.data)) == (expected, fronts(draft.data))
+    assert expected["open_tight"][0] == "ok"
 
 
 class Draw(Protocol):
@@ -764,7 +790,7 @@ def test_damaged_file(probe: Probe, reason: str, draft: Draft, data: st.DataObje
     DAMAGES[reason](data.draw, draft)
     expected = verdicts(draft.data)
     assert expected["verify_tight"][2] == reason, "the damage of this reason makes another error"
-    assert read(probe, draft.data) == expected
+    assert (read(probe, draft.data), read_fronts(probe, draft.data)) == (expected, fronts(draft.data))
 
 
 @st.composite
@@ -782,4 +808,4 @@ def changed_files(draw: st.DrawFn) -> bytes:
 @given(changed_files())
 def test_changed_file(probe: Probe, data: bytes) -> None:
     """Files that are changed anywhere are read, or refused, as the reference reads them."""
-    assert read(probe, data) == verdicts(data)
+    assert (read(probe, data), read_fronts(probe, data)) == (verdicts(data), fronts(data))
