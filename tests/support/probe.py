@@ -35,7 +35,7 @@ Answer = tuple[str, ...]
 
 
 class ProbeError(Exception):
-    """A probe program ended while a request was open."""
+    """A probe program is missing, or ended while a request was open."""
 
 
 def spelled(argument: Argument) -> str:
@@ -121,6 +121,7 @@ class Probe:
     """All probe programs, each started at the first request that needs it."""
 
     def __init__(self, folder: Path = BUILT) -> None:
+        self.folder = folder
         self.paths = {name: folder / name for name in PROGRAMS if (folder / name).exists()}
         self.running: dict[str, Program] = {}
         self.counts: dict[str, dict[str, str]] = {}
@@ -129,6 +130,8 @@ class Probe:
 
     def program(self, name: str) -> Program:
         """The running program of this name."""
+        if name not in self.paths:
+            raise ProbeError(f"{name} is not built: there is none in {self.folder}")
         if name not in self.running:
             self.running[name] = Program(self.paths[name])
         return self.running[name]

@@ -1,7 +1,7 @@
 //! What a request asks: its arguments, and the bytes that are kept.
 
 use crate::sink::Sink;
-use crate::source::{Failure, Source};
+use crate::source::{Failure, Pieces, Source};
 use hdt_wire::{Counted, Kind, Reason, Role};
 use hex::FromHexError;
 use std::alloc::Global;
@@ -110,13 +110,28 @@ impl<'a> Ask<'a> {
         self.number() != 0
     }
 
+    /// A number, or `-` for none.
+    fn maybe_in(&mut self, text: &str) -> Option<u64> {
+        if text == "-" {
+            return None;
+        }
+        Some(self.number_in(text))
+    }
+
     /// The next argument, a number, or `-` for none.
     pub fn maybe(&mut self) -> Option<u64> {
         let word = self.word();
-        if word == "-" {
+        self.maybe_in(word)
+    }
+
+    /// The next three arguments, numbers, each of which may be none; or none in place of all three.
+    pub fn maybe_three(&mut self) -> Option<(Option<u64>, Option<u64>, Option<u64>)> {
+        let word = self.word();
+        if word == "none" {
             return None;
         }
-        Some(self.number_in(word))
+        let first = self.maybe_in(word);
+        Some((first, self.maybe(), self.maybe()))
     }
 
     /// Bytes in hexadecimal.
@@ -253,16 +268,26 @@ impl<'a> Ask<'a> {
         }
     }
 
-    /// A reader of these bytes, by the next two arguments: its step, which may begin with that of the first call and a
+    /// How a reader gives its bytes, by the next two arguments: its step, which may begin with that of the first call and a
     /// slash, and when it fails.
-    pub fn source<'b>(&mut self, bytes: &'b [u8]) -> Counted<Source<'b>> {
+    pub fn pieces(&mut self) -> Pieces {
         let word = self.word();
         let (first, step) = match word.split_once('/') {
             Some((first, step)) => (Some(self.number_in(first) as usize), self.number_in(step)),
             None => (None, self.number_in(word)),
         };
         let (left, how, _) = self.failing();
-        Counted::new(Source::new(bytes, first, step as usize, left, how))
+        Pieces {
+            first,
+            step: step as usize,
+            left,
+            how,
+        }
+    }
+
+    /// A reader of these bytes, by the next two arguments.
+    pub fn source<'b>(&mut self, bytes: &'b [u8]) -> Counted<Source<'b>> {
+        self.pieces().source(bytes)
     }
 
     /// A writer, by the next two arguments: its step, and when it fails.

@@ -52,6 +52,11 @@ impl Say {
         }
     }
 
+    /// Memory was refused for the answer itself.
+    pub fn lost(&mut self) {
+        self.has_no_memory = true;
+    }
+
     /// Notes the outcome of making a part of the answer.
     fn done(&mut self, done: Result<(), AllocError>) {
         if done.is_err() {
@@ -177,7 +182,7 @@ impl Say {
     pub fn made(&mut self, made: Result<String, AllocError>) {
         match made {
             Ok(text) => self.bytes(text.as_bytes()),
-            Err(_) => self.no_memory(),
+            Err(_) => self.lost(),
         }
     }
 

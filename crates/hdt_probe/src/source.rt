@@ -1,6 +1,7 @@
 //! A reader in pieces, which fails.
 
 use crate::seen::Seen;
+use hdt_wire::Counted;
 use std::io;
 use std::io::Read;
 
@@ -15,6 +16,23 @@ pub enum Failure {
     Zero,
 }
 
+/// How a reader gives its bytes: the step of the first call, where it is another one, that of the later ones, and after how
+/// many bytes it fails, if ever.
+#[derive(Clone, Copy)]
+pub struct Pieces {
+    pub(crate) first: Option<usize>,
+    pub(crate) step: usize,
+    pub(crate) left: Option<u64>,
+    pub(crate) how: Failure,
+}
+
+impl Pieces {
+    /// A reader of these bytes.
+    pub fn source<'a>(&self, bytes: &'a [u8]) -> Counted<Source<'a>> {
+        Counted::new(Source::new(bytes, *self))
+    }
+}
+
 /// A reader of bytes, which gives at most `step` of them a call, and fails once `left` are given.
 #[derive(Drop)]
 pub struct Source<'a> {
@@ -27,21 +45,14 @@ pub struct Source<'a> {
 }
 
 impl<'a> Source<'a> {
-    /// A reader of these bytes: the step of the first call, where it is another one, that of the later ones, and after how
-    /// many bytes it fails, if ever.
-    pub(crate) fn new(
-        bytes: &'a [u8],
-        first: Option<usize>,
-        step: usize,
-        left: Option<u64>,
-        how: Failure,
-    ) -> Source<'a> {
+    /// A reader of these bytes.
+    pub(crate) fn new(bytes: &'a [u8], pieces: Pieces) -> Source<'a> {
         Source {
             bytes,
-            first,
-            step,
-            left,
-            how,
+            first: pieces.first,
+            step: pieces.step,
+            left: pieces.left,
+            how: pieces.how,
             seen: Seen::new(),
         }
     }

@@ -2,14 +2,16 @@
 
 use hdt_dict::Arena;
 use hdt_probe::{Ask, Say};
+use std::alloc::{AllocError, Global};
 
 /// The words, each with the count of its arguments.
-pub const WORDS: &str = "arena 2+";
+pub const WORDS: &str = "arena 2+ arena_of 0+";
 
 /// Answers a request of one of these words.
 pub fn answer(word: &str, ask: &mut Ask<'_>, say: &mut Say) -> bool {
     match word {
         "arena" => say_arena(ask, say),
+        "arena_of" => say_arena_of(ask, say),
         _ => return false,
     }
     true
@@ -45,4 +47,24 @@ fn say_arena(ask: &mut Ask<'_>, say: &mut Say) {
         }
     }
     say_strings(&arena, ask, say)
+}
+
+/// An arena of strings that are put one behind another, and of where each begins.
+fn arena_of(alloc: Global, strings: &[Vec<u8>]) -> Result<Arena, AllocError> {
+    let mut bytes = Vec::new(alloc);
+    let mut starts = Vec::new(alloc);
+    starts.push(0)?;
+    for string in strings {
+        bytes.extend_from_slice(string)?;
+        starts.push(bytes.len())?;
+    }
+    Ok(Arena::of(bytes, starts))
+}
+
+fn say_arena_of(ask: &mut Ask<'_>, say: &mut Say) {
+    let strings = ask.strings(u64::MAX);
+    match arena_of(ask.alloc, &strings) {
+        Ok(arena) => say_strings(&arena, ask, say),
+        Err(AllocError) => say.no_memory(),
+    }
 }

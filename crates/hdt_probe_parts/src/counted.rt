@@ -6,7 +6,8 @@ use hdt_wire::{Counted, Failed, Fault, Tally, cut_on_error, demand};
 use std::mem::size_of;
 
 /// The words, each with the count of its arguments.
-pub const WORDS: &str = "demand 3 fault_text 2 failed_text 0 cut_on_error 3 sizes 0 counted_read 2+ counted_write 2+ counted_write_all 3";
+pub const WORDS: &str =
+    "demand 3 fault_text 2 failed_text 0 cut_on_error 3 sizes 0 counted_read 2+ counted_write 2+ counted_write_all 3";
 
 /// Answers a request of one of these words.
 pub fn answer(word: &str, ask: &mut Ask<'_>, say: &mut Say) -> bool {

@@ -9,7 +9,8 @@ use hdt_probe::{Ask, Say};
 use hdt_seq::Steps;
 
 /// The words, each with the count of its arguments.
-pub const WORDS: &str = "dictionary 1 dictionary_number_of 2+ dictionary_string_of 4 dictionary_block 3 dictionary_string_start 3 dictionary_strings 2 dictionary_strings_kept 2";
+pub const WORDS: &str =
+    "dictionary 1 dictionary_number_of 2+ dictionary_string_of 4 dictionary_block 3 dictionary_string_start 3 dictionary_strings 2 dictionary_strings_kept 2";
 
 /// Answers a request of one of these words.
 pub fn answer(word: &str, ask: &mut Ask<'_>, say: &mut Say) -> bool {

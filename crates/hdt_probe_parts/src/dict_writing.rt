@@ -15,7 +15,8 @@ use hdt_probe::{Ask, Say};
 use std::alloc::{AllocError, Global};
 
 /// The words, each with the count of its arguments.
-pub const WORDS: &str = "ascending_strings 0+ split 3+ split_lent 3+ put_dictionary 5+ put_lent_dictionary 5+ put_written_dictionary 5+";
+pub const WORDS: &str =
+    "ascending_strings 0+ split 3+ split_lent 3+ put_dictionary 5+ put_lent_dictionary 5+ put_written_dictionary 5+";
 
 /// Answers a request of one of these words.
 pub fn answer(word: &str, ask: &mut Ask<'_>, say: &mut Say) -> bool {

@@ -5,7 +5,8 @@ use hdt_probe::{Ask, Say};
 use hdt_seq::Steps;
 
 /// The words, each with the count of its arguments.
-pub const WORDS: &str = "section_read 1 section_string 3 section_strings 1+ section_place_of 1+ section_head 2 section_block 2 are_strings 0+ common_prefix 2 compared_from 3";
+pub const WORDS: &str =
+    "section_read 1 section_string 3 section_strings 1+ section_place_of 1+ section_head 2 section_block 2 are_strings 0+ common_prefix 2 compared_from 3";
 
 /// Answers a request of one of these words.
 pub fn answer(word: &str, ask: &mut Ask<'_>, say: &mut Say) -> bool {

@@ -6,7 +6,8 @@ use hdt_seq::Steps;
 use hdt_triples::Matches;
 
 /// The words, each with the count of its arguments.
-pub const WORDS: &str = "find 7+ indexed_find 7+ listed_find 7+ matching 7+ indexed_matching 7+ listed_matching 7+ handed_back 7+ empty_matches 0";
+pub const WORDS: &str =
+    "find 7+ indexed_find 7+ listed_find 7+ matching 7+ indexed_matching 7+ listed_matching 7+ handed_back 7+ empty_matches 0";
 
 /// Answers a request of one of these words.
 pub fn answer(word: &str, ask: &mut Ask<'_>, say: &mut Say) -> bool {

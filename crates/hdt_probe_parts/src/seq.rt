@@ -7,7 +7,8 @@ use hdt_seq::{
 use std::alloc::AllocError;
 
 /// The words, each with the count of its arguments.
-pub const WORDS: &str = "numbers 2 number 2 entries 1+ put_numbers 1+ width_of 0+ bits 2 bit 2 put_bits 1+ rank 1+ select 1+ held 1 byte_at 1 code8_at 2 packed_at 2";
+pub const WORDS: &str =
+    "numbers 2 number 2 entries 1+ put_numbers 1+ width_of 0+ bits 2 bit 2 put_bits 1+ rank 1+ select 1+ held 1 byte_at 1 code8_at 2 packed_at 2";
 
 /// Answers a request of one of these words.
 pub fn answer(word: &str, ask: &mut Ask<'_>, say: &mut Say) -> bool {

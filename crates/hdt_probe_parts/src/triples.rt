@@ -7,7 +7,8 @@ use hdt_triples::{
 };
 
 /// The words, each with the count of its arguments.
-pub const WORDS: &str = "triples 4 triple 4+ uses 4+ indexed_held 4 listed_held 4 are_writable 0+ put_triples 1+ takes 6";
+pub const WORDS: &str =
+    "triples 4 triple 4+ uses 4+ indexed_held 4 listed_held 4 are_writable 0+ put_triples 1+ takes 6";
 
 /// Answers a request of one of these words.
 pub fn answer(word: &str, ask: &mut Ask<'_>, say: &mut Say) -> bool {

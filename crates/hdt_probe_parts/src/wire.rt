@@ -9,7 +9,8 @@ use hdt_wire::{
 };
 
 /// The words, each with the count of its arguments.
-pub const WORDS: &str = "read_vbyte 1 put_vbyte 2+ vbyte_len 1 check8 0 check16 0 check32 0 read_control 2 put_control 3 property 2 put_decimal 2+ bytes_at 2 text_at 1 zero_in 0";
+pub const WORDS: &str =
+    "read_vbyte 1 put_vbyte 2+ vbyte_len 1 check8 0 check16 0 check32 0 read_control 2 put_control 3 property 2 put_decimal 2+ bytes_at 2 text_at 1 zero_in 0";
 
 /// Answers a request of one of these words.
 pub fn answer(word: &str, ask: &mut Ask<'_>, say: &mut Say) -> bool {

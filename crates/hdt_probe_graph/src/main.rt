@@ -1,0 +1,35 @@
+//! Calls of hdt_file, hdt_build, hdt_command and hdt_usage for tests: a request a line from standard input, an answer a
+//! line to standard output. hdt_probe says what both are; the request `help` lists the words.
+#![tactic(auto)]
+
+mod answer;
+mod build;
+mod command;
+mod faults;
+mod graph;
+mod layout;
+mod open;
+mod run;
+mod texts;
+
+use crate::answer::answer_line;
+use hdt_probe::Kept;
+use std::io;
+use std::io::{BufRead, BufReader, Write};
+
+fn main(rt: HostRuntime) -> io::Result<()> {
+    let mut out = io::writer(&rt);
+    let mut kept = Kept::new(rt.alloc());
+    let mut text = Vec::new(rt.alloc());
+    for line in BufReader::new(rt.alloc(), rt.reader())?.lines(rt.alloc()) {
+        let line = line?;
+        text.clear();
+        if answer_line(rt.alloc(), line.as_str(), &mut kept, &mut text).is_ok() {
+            out.write_all(&text)?;
+        } else {
+            out.write_all(b"out of memory\n")?;
+        }
+        out.flush()?;
+    }
+    Ok(())
+}

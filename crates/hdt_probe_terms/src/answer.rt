@@ -1,0 +1,50 @@
+//! One request and its answer.
+
+use crate::{faults, lines, requests, terms};
+use hdt_probe::{Ask, Kept, Say, word_of};
+use std::alloc::{AllocError, Global};
+
+/// The words, each with the count of its arguments.
+fn say_help(say: &mut Say) {
+    say.word("file 1 help 0 reads 0 writes 0");
+    say.word(terms::WORDS);
+    say.word(faults::WORDS);
+    say.word(lines::WORDS);
+    say.word(requests::WORDS)
+}
+
+/// Answers a request of a word that calls a library.
+fn answer_call(word: &str, ask: &mut Ask<'_>, say: &mut Say) -> bool {
+    terms::answer(word, ask, say)
+        || faults::answer(word, ask, say)
+        || lines::answer(word, ask, say)
+        || requests::answer(word, ask, say)
+}
+
+/// Puts the line that answers a request.
+pub fn answer_line(
+    alloc: Global,
+    line: &str,
+    kept: &mut Kept,
+    out: &mut Vec<u8>,
+) -> Result<(), AllocError> {
+    let (word, rest) = word_of(line);
+    if word == "file" {
+        return kept.take_file(alloc, rest, out);
+    }
+    let mut say = Say::new(alloc);
+    let mut ask = Ask::new(alloc, &kept.file, rest);
+    match word {
+        "help" => say_help(&mut say),
+        "reads" => say.seen(kept.reads),
+        "writes" => say.seen(kept.writes),
+        _ => {
+            if !answer_call(word, &mut ask, &mut say) {
+                say.unknown()
+            }
+        }
+    }
+    say.put_line(&ask, out)?;
+    kept.note(say.reads(), say.writes());
+    Ok(())
+}
