@@ -290,8 +290,9 @@ def test_arena_of_many_strings(probe: Probe) -> None:
 
 @given(st.lists(st.binary(max_size=20), max_size=20), st.integers(0, 30), st.integers(0, 300))
 def test_arena(probe: Probe, strings: list[bytes], room: int, room_of_bytes: int) -> None:
-    """Any strings, with any room at first."""
-    assert probe.ask("arena", room, room_of_bytes, *strings) == ok(len(strings), *strings, *strings)
+    """Any strings, with any room at first; and an arena of strings that are put one behind another before."""
+    answer = ok(len(strings), *strings, *strings)
+    assert probe.send(("arena", room, room_of_bytes, *strings), ("arena_of", *strings)) == [answer, answer]
 
 
 # Large dictionaries

@@ -365,7 +365,8 @@ def test_large(probe: Probe, large: list[bytes], block_size: int) -> None:
     assert passed[2::2] == ("less",) * 140_000 + ("more",)
 
 
-@pytest.mark.parametrize("byte, reason", [(b"0", Reason.StringsNotAscending), (b"\xff", Reason.NotUtf8)])
+@pytest.mark.parametrize("byte, reason", [(b"0", Reason.StringsNotAscending), (b"\xff", Reason.NotUtf8)],
+                         ids=["not ascending", "not UTF-8"])
 def test_an_error_behind_many_strings(probe: Probe, large: list[bytes], byte: bytes, reason: Reason) -> None:
     """A byte of string 120,000 is wrong, under the right CRC."""
     packed, entries = fold(large, 200_000)
