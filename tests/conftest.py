@@ -6,13 +6,17 @@ from collections.abc import Iterator
 from pathlib import Path
 
 import pytest
-from hypothesis import settings
+from hypothesis import HealthCheck, settings
 
 from support import built
 from support.probe import Probe
 
-settings.register_profile("gate", max_examples=200, deadline=None, print_blob=True)
-settings.register_profile("long", max_examples=20_000, deadline=None, print_blob=True)
+# Files are long draws, and slow on a busy machine: neither is an error of a test.
+SUPPRESSED = [HealthCheck.too_slow, HealthCheck.data_too_large]
+
+# The gate draws the same examples each time; `long` draws others, and keeps those that fail in .hypothesis/.
+settings.register_profile("gate", max_examples=200, deadline=None, suppress_health_check=SUPPRESSED, derandomize=True)
+settings.register_profile("long", max_examples=20_000, deadline=None, suppress_health_check=SUPPRESSED, print_blob=True)
 settings.load_profile("gate")
 
 
