@@ -49,7 +49,7 @@ def test_help(program: Program) -> None:
     assert sorted(listed) == sorted(set(listed))
     assert COMMON <= set(listed)
     assert [word for word in listed if not re.fullmatch(r"[a-z0-9_]+", word)] == []
-    assert [count for count in words_of(program).values() if not re.fullmatch(r"\d\+?", count)] == []
+    assert [count for count in words_of(program).values() if not re.fullmatch(r"\d+\+?", count)] == []
 
 
 def test_no_word_twice(probe: Probe) -> None:

@@ -81,9 +81,11 @@ impl Say {
         self.is_unknown = true;
     }
 
-    /// Memory was refused.
+    /// Memory was refused, where no other reason was given before.
     pub fn no_memory(&mut self) {
-        self.stop("out of memory")
+        if self.stop.is_empty() {
+            self.stop("out of memory")
+        }
     }
 
     /// The condition of the call does not hold.

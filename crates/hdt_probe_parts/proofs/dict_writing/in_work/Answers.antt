@@ -1,5 +1,4 @@
-use Rattle.std.proofs.Common.{[], ℕ, List, subst, arith}
-use Rattle.std.specs.Borrow.{Bor}
+use Rattle.std.proofs.Common.{[], subst, arith}
 use Rattle.std.proofs.lemmas.List.{length-map}
 use Rattle.hdt_wire.specs.Control.{HasNoZero}
 use Rattle.hdt_dict.specs.Strings.{Lent, nothing}

@@ -1,11 +1,8 @@
-use Rattle.std.proofs.Common.{◌≡◌, List, subst, sym, ◌∙◌, ap}
-use Rattle.std.specs.Borrow.{Bor}
-use Rattle.hdt_front.specs.InWork.{SectionInWork}
+use Rattle.std.proofs.Common.{◌≡◌, List, subst, sym}
 use Rattle.hdt_front.specs.Section.{AreStrings}
 use Rattle.hdt_front.specs.Canonical.{lent_texts}
 use Rattle.hdt_dict.specs.Strings.{Lent}
 use Rattle.hdt_dict.specs.Split.{lent_lists_of}
-use Rattle.hdt_dict.specs.Writing.{AreSections}
 use Rattle.hdt_probe_parts.proofs.dict_writing.put_one_by_one.Goals as goal
 
 strings_are : (xs ys : List Lent) → xs ≡ ys → AreStrings (lent_texts ys) → AreStrings (lent_texts xs)
