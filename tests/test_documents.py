@@ -18,7 +18,11 @@ from support.program import run
 from support.python_package import ENVIRONMENT, faults
 
 # The blocks that each document has, by language: a document with fewer fails, so that none is silently left untested.
-BLOCKS = {"README.md": {"c": 1, "python": 2, "rust": 5, "sh": 5, "text": 4}}
+BLOCKS = {
+    "README.md": {"c": 1, "python": 2, "rust": 5, "sh": 5, "text": 4},
+    "CONTRIBUTING.md": {"sh": 1},
+    "docs/PROBES.md": {"sh": 1},
+}
 # Shell commands that end with a status other than 0, by how they begin.
 STATUSES = {"printf '<u:a> ? ?\\n? x ?\\n": 1}
 # What commands print, as the comments after them say.

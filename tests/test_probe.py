@@ -8,7 +8,7 @@ from pathlib import Path
 
 import pytest
 
-from support.built import BUILT
+from support.built import BUILT, TOP
 from support.probe import PROGRAMS, Answer, Probe, ProbeError, Program, Request, fault, ok, spelled
 from support.program import run
 
@@ -50,6 +50,21 @@ def test_help(program: Program) -> None:
     assert COMMON <= set(listed)
     assert [word for word in listed if not re.fullmatch(r"[a-z0-9_]+", word)] == []
     assert [count for count in words_of(program).values() if not re.fullmatch(r"\d+\+?", count)] == []
+
+
+def documented(name: str) -> set[str]:
+    """The words that docs/PROBES.md has of a program, without the common ones."""
+    text = (TOP / "docs/PROBES.md").read_text()
+    parts = re.findall(rf"^## {name}: .*?(?=^## |\Z)", text, re.M | re.S)
+    rows = [row for part in parts for row in re.findall(r"^\| ([a-z0-9_, ]+) \|", part, re.M)]
+    return {word for row in rows for word in row.split(", ")} - {"word"}
+
+
+def test_words_are_documented(probe: Probe) -> None:
+    """docs/PROBES.md has each word of each program, and no other."""
+    assert {name: set(probe.words(name)) - COMMON for name in probe.paths} == {
+        name: documented(name) for name in probe.paths
+    }
 
 
 def test_no_word_twice(probe: Probe) -> None:
