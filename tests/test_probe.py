@@ -119,9 +119,9 @@ def test_empty_tokens(probe: Probe) -> None:
 def test_refused(probe: Probe) -> None:
     """A call whose condition does not hold is not made."""
     assert probe.send(
-        ("put_section", b"", 16, b"b", b"a"), ("put_section", b"", 0, b"a"), ("put_section", b"", 16, b"\xff"),
-        ("put_bits", b""), ("put_control", 1, b"\0", b""), ("compared_from", b"ab", b"ac", 2),
-        ("compared_from", b"ab", b"ac", 1), ("triples", 0, 1, 0, 0)) == [
+        ("file", b""), ("put_section", b"", 16, b"b", b"a"), ("put_section", b"", 0, b"a"),
+        ("put_section", b"", 16, b"\xff"), ("put_bits", b""), ("put_control", 1, b"\0", b""),
+        ("compared_from", b"ab", b"ac", 2), ("compared_from", b"ab", b"ac", 1), ("triples", 0, 1, 0, 0))[1:] == [
         ("refused",), ("refused",), ("refused",), ("refused",), ("refused",), ("refused",), ok("less", 1), ("refused",)]
 
 
