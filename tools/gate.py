@@ -28,6 +28,9 @@ from tools.repository import TOP, NoKit, kit, kit_line
 
 Counts = tuple[int, int]
 
+# What checks the scripts and packages; a user who runs the tests does without.
+MORE_PACKAGES = "flake8 git lintian mypy shellcheck"
+
 
 def run(*words: str, env: Mapping[str, str] | None = None) -> Counts:
     """Run a command, show what it prints, and return the counts of its last line; one failure if it ends otherwise."""
@@ -104,7 +107,7 @@ def tests() -> Counts:
         folders.append(manifest.BUILT)
     passed = failed = 0
     for folder in folders:
-        good, bad = run("./test", env={"HDT_BUILT": str(folder / manifest.PLATFORM)})
+        good, bad = run("./test", env={"HDT_BUILT": str(folder / manifest.PLATFORM), "MORE_PACKAGES": MORE_PACKAGES})
         passed, failed = passed + good, failed + bad
     good, bad = run("./test", "-m", "kit", env={"HDT_BUILT": str(manifest.BUILT / manifest.PLATFORM)})
     return passed + good, failed + bad
