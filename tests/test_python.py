@@ -513,11 +513,114 @@ def test_not_replaced(tmp_path: Path) -> None:
     with pytest.raises(hdt.Fault):
         hdt.rewrite(text, out)
     text.write_text(LINE)
-    for path in (tmp_path, Path("/dev/null"), tmp_path / "none/out.hdt"):
+    for path in (tmp_path, tmp_path / "none/out.hdt"):
         with pytest.raises(OSError):
             hdt.build(text, path)
     assert out.read_bytes() == b"before"
     assert sorted(os.listdir(tmp_path)) == ["out.hdt", "text.nt"]
+
+
+@pytest.mark.parametrize("mode", [0o600, 0o640, 0o444, None], ids=["private", "group", "read-only", "new"])
+def test_private_while_it_is_written(tmp_path: Path, monkeypatch: pytest.MonkeyPatch, mode: Optional[int]) -> None:
+    """Until it has its name, only its owner can read a new file; then it has the mode of the one that it replaces."""
+    out, seen = tmp_path / "out.hdt", []
+    if mode is not None:
+        out.write_bytes(b"before")
+        out.chmod(mode)
+    sync = os.fsync
+
+    def fsync(descriptor: int) -> None:
+        seen.append(stat.S_IMODE(os.fstat(descriptor).st_mode))
+        sync(descriptor)
+
+    monkeypatch.setattr(os, "fsync", fsync)
+    hdt.build(SAMPLES / "three.nt", out)
+    assert seen == [0o600]
+    umask = os.umask(0)
+    os.umask(umask)
+    assert stat.S_IMODE(out.stat().st_mode) == (0o666 & ~umask if mode is None else mode)
+
+
+def test_device_is_written(tmp_path: Path) -> None:
+    """A device, or a pipe that is read, is written to and not replaced."""
+    hdt.build(SAMPLES / "three.nt", "/dev/null")
+    assert Path("/dev/null").is_char_device()
+    pipe, got = tmp_path / "pipe", []
+    os.mkfifo(pipe)
+    reader = threading.Thread(target=lambda: got.append(pipe.read_bytes()))
+    reader.start()
+    hdt.build(SAMPLES / "three.nt", pipe, base="http://a/")
+    reader.join()
+    assert got == [THREE.read_bytes()] and pipe.is_fifo()
+
+
+def test_link_that_leads_to_itself(tmp_path: Path) -> None:
+    """Such a link is no output, and stays."""
+    link = tmp_path / "link"
+    link.symlink_to("link")
+    with pytest.raises(OSError, match="[Ss]ymbolic links|ELOOP"):
+        hdt.build(SAMPLES / "three.nt", link)
+    assert link.is_symlink() and os.listdir(tmp_path) == ["link"]
+
+
+def test_link_to_nothing(tmp_path: Path) -> None:
+    """What a link leads to is made, and the link stays."""
+    link = tmp_path / "link"
+    link.symlink_to("out.hdt")
+    hdt.build(SAMPLES / "three.nt", link, base="http://a/")
+    assert link.is_symlink() and (tmp_path / "out.hdt").read_bytes() == THREE.read_bytes()
+
+
+@pytest.mark.parametrize("kind", ["name", "symbolic link", "link"])
+def test_input_is_not_replaced(tmp_path: Path, kind: str) -> None:
+    """`build` refuses an output that is its input, by any name; `rewrite` may take one file for both."""
+    text, out = tmp_path / "text.nt", tmp_path / "out"
+    text.write_text(LINE)
+    if kind == "name":
+        out = text
+    elif kind == "symbolic link":
+        out.symlink_to(text)
+    else:
+        os.link(text, out)
+    with pytest.raises(ValueError, match="one file"):
+        hdt.build(text, out)
+    assert text.read_text() == LINE
+
+
+@pytest.mark.parametrize("size", [16.0, "16", None])
+def test_block_size_is_an_integer(tmp_path: Path, size: Any) -> None:
+    """A block size of another type is a TypeError, of both calls."""
+    with pytest.raises(TypeError):
+        hdt.build(SAMPLES / "three.nt", tmp_path / "out.hdt", block_size=size)
+    with pytest.raises(TypeError):
+        hdt.rewrite(THREE, tmp_path / "out.hdt", block_size=size)
+    assert os.listdir(tmp_path) == []
+
+
+@pytest.mark.parametrize("made", [copy.copy, copy.deepcopy, pickle.dumps])
+def test_graph_is_not_copied(made: Callable[[Any], Any]) -> None:
+    """A graph can't be copied or pickled, and stays open."""
+    with hdt.open(THREE) as graph:
+        with pytest.raises(TypeError, match="Graph can't be"):
+            made(graph)
+        assert len(list(graph)) == 3
+
+
+def test_opened_as_a_copy(tmp_path: Path) -> None:
+    """A file that was read into memory may be cut or overwritten while it is open."""
+    path = tmp_path / "own.hdt"
+    path.write_bytes(THREE.read_bytes())
+    with hdt.open(path, copy=True) as graph:
+        os.truncate(path, 0)
+        assert sorted(graph) == [("u:a", "u:p", "u:b"), ("u:a", "u:q", '"x"'), ("u:b", "u:p", "u:a")]
+
+
+def test_library_that_is_none(tmp_path: Path) -> None:
+    """A file that is no library is an ImportError, as a library of another kind is."""
+    library = tmp_path / "libhdt.so"
+    library.write_bytes(b"no library")
+    done = imported(library)
+    assert done.status == 1 and b"ImportError" in done.err and str(library).encode() in done.err
 
 
 def test_sample_is_built(tmp_path: Path) -> None:

@@ -103,43 +103,53 @@ def _counts(answer: Any) -> Counts:
     raise Fault(answer.reason, answer.place)
 
 
-def _data(path: Path) -> Any:
-    """The bytes of a file: mapped, or read where it can't be mapped, as a pipe or a file of no bytes."""
+def _data(path: Path, copy: bool = False) -> Any:
+    """The bytes of a file: mapped, or read if `copy` says so or it can't be mapped, as a pipe or an empty file."""
     with io.open(path, "rb") as file:
         there = os.fstat(file.fileno())
-        if stat.S_ISREG(there.st_mode) and there.st_size:
+        if not copy and stat.S_ISREG(there.st_mode) and there.st_size:
             return mmap.mmap(file.fileno(), 0, access=mmap.ACCESS_READ)
         return file.read()
 
 
+def _umask() -> int:
+    """The process's umask, without changing it, as another thread may create a file meanwhile."""
+    with io.open("/proc/self/status", encoding="ascii", errors="replace") as status:
+        return next((int(line.split()[1], 8) for line in status if line.startswith("Umask:")), 0o077)
+
+
 def _create_beside(path: str) -> tuple[int, str]:
-    """A new file in the folder of a path."""
+    """A new file in the folder of a path, which nobody else can read."""
     while True:
-        beside = os.path.join(os.path.dirname(path), f"hdt-unfinished-{secrets.token_hex(4)}")
+        beside = os.path.join(os.path.dirname(path), f"hdt-unfinished-{secrets.token_hex(8)}")
         try:
-            return os.open(beside, os.O_WRONLY | os.O_CREAT | os.O_EXCL | os.O_CLOEXEC, 0o666), beside
+            return os.open(beside, os.O_WRONLY | os.O_CREAT | os.O_EXCL | os.O_CLOEXEC, 0o600), beside
         except FileExistsError:
             continue
 
 
 def _replace(path: Path, data: memoryview) -> None:
-    """Replace the file at a path by one with these bytes.
+    """Replace the file at a path by one with these bytes; a device or a pipe is written to.
 
-    A new file beside it is handed to the disk and then takes its name and its permissions. On failure the old file is
-    unchanged.
+    A new file beside it is handed to the disk, gets the permissions of the one that it replaces, and then takes its
+    name. On failure the old file is unchanged.
     """
     target = os.path.realpath(os.fsdecode(path))
+    if os.path.islink(target):
+        raise OSError(errno.ELOOP, os.strerror(errno.ELOOP), os.fsdecode(path))
     replaced = os.stat(target) if os.path.exists(target) else None
     if replaced and not stat.S_ISREG(replaced.st_mode):
-        raise OSError(errno.EINVAL, "not a regular file", os.fsdecode(path))
+        with io.open(target, "wb") as there:
+            there.write(data)
+        return
+    mode = stat.S_IMODE(replaced.st_mode) if replaced else 0o666 & ~_umask()
     descriptor, beside = _create_beside(target)
     try:
         with io.open(descriptor, "wb") as file:
-            if replaced:
-                os.fchmod(descriptor, stat.S_IMODE(replaced.st_mode))
             file.write(data)
             file.flush()
             os.fsync(descriptor)
+            os.fchmod(descriptor, mode)
         os.replace(beside, target)
     except BaseException:
         os.unlink(beside)
@@ -147,15 +157,17 @@ def _replace(path: Path, data: memoryview) -> None:
 
 
 def _block_size(size: int) -> int:
-    """A block size, as far as 32 bits tell it; the library looks at the rest."""
-    return size if 0 <= size < 2**32 else 0
+    """A block size as the library takes it, in 32 bits; 0, which it refuses, for one that has no room there."""
+    number = operator.index(size)
+    return number if 0 <= number < 2**32 else 0
 
 
 def _checked(block_size: int) -> int:
     """A block size that may be taken, so that bad options can only be the base."""
-    if not 1 <= block_size <= 65_535:
+    number = operator.index(block_size)
+    if not 1 <= number <= 65_535:
         raise ValueError("the block size isn't 1 to 65535")
-    return block_size
+    return number
 
 
 def verify(path: Path) -> Counts:
@@ -166,14 +178,26 @@ def verify(path: Path) -> Counts:
     return _counts(verdict)
 
 
+def _are_one(path: Path, other: Path) -> bool:
+    """Whether two paths lead to one regular file."""
+    try:
+        there, here = os.stat(path), os.stat(other)
+    except OSError:
+        return False
+    return stat.S_ISREG(there.st_mode) and os.path.samestat(there, here)
+
+
 def build(nt_path: Path, out_path: Path, base: str = "http://example.org/dataset", block_size: int = 16) -> Counts:
     """Build the HDT file of an N-Triples file, and return its counts.
 
     `base` is the absolute IRI, without brackets, that names the file in its header. `block_size` is the number of
     strings in a block, 1 to 65535. The output is replaced atomically: on an exception it is unchanged. Raises LineFault
-    with the first error of the text, NoTriples, or ValueError for the options.
+    with the first error of the text, NoTriples, ValueError for the options or if both paths are one file, or TypeError
+    for a block size that is no integer.
     """
     report, name = Report(), _encoded(base)
+    if _are_one(nt_path, out_path):
+        raise ValueError("the input and the output are one file")
     with Made() as made:
         with Lent(_data(nt_path)) as lent:
             library.hdt_build(lent.address, lent.size, name, len(name), _checked(block_size), made, report)
@@ -197,12 +221,14 @@ def rewrite(in_path: Path, out_path: Path, block_size: int = 16) -> Counts:
     return counts
 
 
-def open(path: Path) -> Graph:
+def open(path: Path, copy: bool = False) -> Graph:
     """Open a file for searches: use it in a `with` statement, or call `close`.
 
-    The whole file is validated first. Raises Fault as `verify` does.
+    The whole file is validated first. Raises Fault as `verify` does. The file is mapped and must not change while the
+    graph is open: one that is cut or overwritten in place ends the process by a signal (SIGBUS). To replace a file in
+    use, write a new one and rename it, as `build` does; or open it with `copy`, which reads it into memory.
     """
-    return Graph(_data(path))
+    return Graph(_data(path, copy))
 
 
 class Graph:
@@ -213,7 +239,7 @@ class Graph:
     """
 
     def __init__(self, data: Any) -> None:
-        """Opens the bytes of a file, `bytes` or a file that is mapped, which mustn't change as long as it is open."""
+        """Open the bytes of a file, as `bytes` or mapped, which must not change while the graph is open."""
         self._lock, self._handle, verdict = threading.Lock(), Handle(), Verdict()
         self._room: Any = ctypes.create_string_buffer(_FIRST_BYTES)
         self._lent = Lent(data)
@@ -225,7 +251,7 @@ class Graph:
             raise
 
     def close(self) -> None:
-        """Closes it and frees what it grew. A second time it does nothing."""
+        """Close it and free its memory. A second call does nothing."""
         with self._lock:
             library.hdt_close(self._handle)
             self._lent.give_back()
@@ -236,6 +262,15 @@ class Graph:
 
     def __exit__(self, *_: object) -> None:
         self.close()
+
+    def __copy__(self) -> Graph:
+        raise TypeError("a Graph can't be copied: threads may share it, or the file be opened again")
+
+    def __deepcopy__(self, memo: object) -> Graph:
+        return self.__copy__()
+
+    def __reduce__(self) -> tuple[Any, ...]:
+        raise TypeError("a Graph can't be pickled: hand over the path and open the file there")
 
     def __del__(self) -> None:
         if hasattr(self, "_lent"):

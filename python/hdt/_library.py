@@ -98,7 +98,10 @@ def _load() -> Any:
             "no libhdt.so: it is looked for in the file that HDT_LIBRARY names, beside this package, in the "
             "checkout that the package is part of, and where the system finds it"
         )
-    loaded = ctypes.CDLL(candidates[0])
+    try:
+        loaded = ctypes.CDLL(candidates[0])
+    except OSError as why:
+        raise ImportError(f"{candidates[0]} can't be loaded: {why}") from None
     bytes_of, graph, role, number, size = (
         [ctypes.c_void_p, ctypes.c_size_t],
         ctypes.POINTER(Handle),
