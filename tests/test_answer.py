@@ -19,7 +19,7 @@ from support.probe import Argument, Probe
 from support.program import (READING_FAILED, WRITING_FAILED, Result, Word, brief, closed, done, fault, fed, hdt,
                              hdt_from, hdt_into, piped)
 from support.search import THREE as THREE_TRIPLES
-from support.search import Graph, Pattern, Triple, spelled
+from support.search import Graph, Pattern, Triple, not_a_term_past_16_bits, spelled
 
 THREE = SAMPLES / "three.hdt"
 LINES = (SAMPLES / "three.nt").read_bytes().splitlines(keepends=True)
@@ -482,3 +482,12 @@ def test_any_file_that_cannot_be_read(probe: Probe, triples: list[Triple], fails
     asked: list[Argument] = ["answer_file", 0, "-", 0, room, step, fails, 1, "-", 1, "-", b"? ? ?\n"]
     answer, reads, writes = probe.send(("file", data), asked, ["reads"], ["writes"])[1:]
     assert (answer, reads[1], writes[1]) == (("reading", "failed", ""), "0", "0")
+
+
+def test_not_a_term_past_16_bits(tmp_path: Path) -> None:
+    """The ID of a string that is no term is printed whole, and the requests after it are answered."""
+    path = tmp_path / "large.hdt"
+    path.write_bytes(not_a_term_past_16_bits())
+    wanted = b'# object 70001 is not a term\n\n<u:s> <u:p> "69999" .\n\n'
+    assert hdt("answer", path, stdin=b'? ? ?\n? ? "69999"\n') == (1, wanted, b"")
+    assert hdt("answer", "--raw", path, stdin=b'?\t?\trel\n?\t?\t"69999"\n') == (1, wanted, b"")

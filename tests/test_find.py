@@ -17,7 +17,7 @@ from support.built import SAMPLES
 from support.probe import Probe
 from support.program import READING_FAILED, WRITING_FAILED, Result, Word, brief, done, failed, fault, hdt, hdt_into
 from support.search import THREE as THREE_TRIPLES
-from support.search import Graph, Pattern, Triple, chosen, spelled
+from support.search import Graph, Pattern, Triple, chosen, not_a_term_past_16_bits, spelled
 
 V1 = (SAMPLES / "v1.hdt").read_bytes()
 THREE = SAMPLES / "three.hdt"
@@ -314,3 +314,16 @@ def test_any_command_line(probe: Probe, pattern: Pattern, given_flags: list[str]
     action = (["find", *strings, ["false", "true"][form]] if most is None and form < 2
               else ["search", *strings, str(form), "none" if most is None else str(most[0])])
     assert probe.ask("parse_words", b"hdt", b"find", *line) == ("ok", b"a.hdt".hex(), "none", *action)
+
+
+# ---- IDs past 16 bits
+
+
+def test_not_a_term_past_16_bits(tmp_path: Path) -> None:
+    """The ID of a string that is no term is printed whole, by each command that meets it."""
+    path = tmp_path / "large.hdt"
+    path.write_bytes(not_a_term_past_16_bits())
+    wanted = failed(1, "object 70001 is not a term")
+    assert hdt("dump", path) == hdt("find", path, "?", "?", "?") == wanted
+    assert hdt("find", "--raw", path, "?", "?", "rel") == wanted
+    assert hdt("string", path, "object", "70001") == done(b"rel\n")

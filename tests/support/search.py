@@ -70,3 +70,9 @@ def chosen(triples: Sequence[Triple], choice: Sequence[int | bytes | None]) -> P
     s, p, o = (triples[part % len(triples)][role] if isinstance(part, int) else part
                for role, part in enumerate(choice))
     return s, p, o
+
+
+def not_a_term_past_16_bits() -> bytes:
+    """A file whose object 70,001, the last one, is no term."""
+    objects = [b'"%05d"' % number for number in range(70_000)] + [b"rel"]
+    return reference.graph([(b"u:s", b"u:p", it) for it in objects])[0]
