@@ -454,17 +454,17 @@ def test_closed_descriptors(tree: Tree, closed: set[int]) -> None:
 def test_leaves_the_kept_answer_alone(tree: Tree) -> None:
     """Calls leave nothing but the kept answer, whether they run a program or not."""
     tree.hdt()
-    assert os.listdir(tree.top / "out") == ["current"]
+    assert sorted(os.listdir(tree.top / "out")) == ["current", "current.files"]
     rewrite("crates.txt")(tree)
     tree.hdt()
-    assert os.listdir(tree.top / "out") == ["current"]
+    assert sorted(os.listdir(tree.top / "out")) == ["current", "current.files"]
 
 
 def test_calls_side_by_side(tree: Tree) -> None:
     """They do not disturb each other."""
     with ThreadPoolExecutor(8) as pool:
         assert list(pool.map(lambda _: tree.hdt(), range(24))) == [runs("dist")] * 24
-    assert os.listdir(tree.top / "out") == ["current"]
+    assert sorted(os.listdir(tree.top / "out")) == ["current", "current.files"]
 
 
 @pytest.mark.parametrize(
