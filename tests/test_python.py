@@ -4,6 +4,7 @@ from __future__ import annotations
 
 import copy
 import ctypes
+import io
 import os
 import pickle
 import random
@@ -539,6 +540,21 @@ def test_private_while_it_is_written(tmp_path: Path, monkeypatch: pytest.MonkeyP
     umask = os.umask(0)
     os.umask(umask)
     assert stat.S_IMODE(out.stat().st_mode) == (0o666 & ~umask if mode is None else mode)
+
+
+def test_mode_without_proc(tmp_path: Path, monkeypatch: pytest.MonkeyPatch) -> None:
+    """If /proc doesn't tell the umask, a new file is its owner's alone."""
+    opened = io.open
+
+    def open_but_proc(path: Any, *rest: Any, **options: Any) -> Any:
+        if path == "/proc/self/status":
+            raise FileNotFoundError(path)
+        return opened(path, *rest, **options)
+
+    monkeypatch.setattr(io, "open", open_but_proc)
+    hdt.build(SAMPLES / "three.nt", tmp_path / "out.hdt")
+    monkeypatch.undo()
+    assert stat.S_IMODE((tmp_path / "out.hdt").stat().st_mode) == 0o600
 
 
 def test_device_is_written(tmp_path: Path) -> None:

@@ -113,9 +113,15 @@ def _data(path: Path, copy: bool = False) -> Any:
 
 
 def _umask() -> int:
-    """The process's umask, without changing it, as another thread may create a file meanwhile."""
-    with io.open("/proc/self/status", encoding="ascii", errors="replace") as status:
-        return next((int(line.split()[1], 8) for line in status if line.startswith("Umask:")), 0o077)
+    """The process's umask, without changing it, as another thread may create a file meanwhile.
+
+    Where the system doesn't say, as without /proc, it is the strictest one.
+    """
+    try:
+        with io.open("/proc/self/status", encoding="ascii", errors="replace") as status:
+            return next((int(line.split()[1], 8) for line in status if line.startswith("Umask:")), 0o077)
+    except OSError:
+        return 0o077
 
 
 def _create_beside(path: str) -> tuple[int, str]:
