@@ -15,7 +15,7 @@ from pathlib import Path
 
 import pytest
 
-from support.built import SAMPLES, SHARED_LIBRARY, TOP
+from support.built import PROGRAM as BUILT_PROGRAM, SAMPLES, SHARED_LIBRARY, TOP
 from support.program import Result, run
 
 MODULES = sorted(it.stem for it in (TOP / "tools").glob("*.py") if "argparse" in it.read_text())
@@ -29,7 +29,8 @@ def tool(name: str, *words: str | Path) -> Result:
 
 def test_modules() -> None:
     """All commands are found, and are tested below."""
-    assert {"build", "definitions", "dist", "gate", "mutants", "promises", "speed", "speed_python"} <= set(MODULES)
+    wanted = {"build", "definitions", "differential", "dist", "gate", "mutants", "promises", "speed", "speed_python"}
+    assert wanted <= set(MODULES)
 
 
 @pytest.mark.parametrize("name", MODULES)
@@ -47,8 +48,8 @@ def test_help(name: str) -> None:
 @pytest.mark.parametrize("name", MODULES)
 def test_unknown_option(name: str) -> None:
     """An unknown option is refused with the usage."""
-    file = ["file.hdt"] if name == "speed_python" else []
-    status, out, err = tool(name, *file, "--no-such-option")
+    files = {"speed_python": ["file.hdt"], "differential": ["old", "new"]}
+    status, out, err = tool(name, *files.get(name, []), "--no-such-option")
     assert (status, out) == (2, b"")
     assert err.startswith(f"usage: python3 -m tools.{name} ".encode()) and b"unrecognized arguments" in err
 
@@ -652,6 +653,36 @@ def test_definitions_table(defined: Path) -> None:
         "| toy | 2 | 5 | 1 | 1 | 2 | 0 | 0 |",
         "| together | 3 | 9 | 3 | 2 | 4 | 1 | 2 |",
     ]
+
+
+# ---- differential
+
+# The program, but that `verify` is done whatever the file, and that `dump` leaves a file behind.
+CHANGED = """\
+#!/bin/sh
+case "$1" in
+    verify) echo ok ;;
+    dump) : >left; exec {program} "$@" ;;
+    *) exec {program} "$@" ;;
+esac
+"""
+
+
+def test_differential(tmp_path: Path) -> None:
+    """The same program differs nowhere; another one is found out by what it prints and by the files that it leaves."""
+    status, out, err = tool("differential", BUILT_PROGRAM, BUILT_PROGRAM, "--requests", "60")
+    assert (status, err, out.splitlines()[-1]) == (0, b"", b"60 requests, 0 differences")
+    changed = tmp_path / "hdt"
+    changed.write_text(CHANGED.format(program=BUILT_PROGRAM))
+    changed.chmod(0o755)
+    status, out, err = tool("differential", BUILT_PROGRAM, changed, "--requests", "60")
+    assert (status, err) == (1, b"")
+    found = re.findall(rb"^request \d+: \['(\w+)', .*\] differs in (.*?): ", out, re.M)
+    assert {(command, what.split(b", ")[-1]) for command, what in found} == {
+        (b"verify", b"out"),
+        (b"verify", b"err"),
+        (b"dump", b"files"),
+    }
 
 
 # ---- speed
