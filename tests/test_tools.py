@@ -29,8 +29,8 @@ def tool(name: str, *words: str | Path) -> Result:
 
 def test_modules() -> None:
     """All commands are found, and are tested below."""
-    wanted = {"build", "definitions", "differential", "dist", "gate", "mutants", "promises", "speed", "speed_python"}
-    assert wanted <= set(MODULES)
+    checked = {"contracts", "definitions", "differential", "mutants", "promises", "speed", "speed_python"}
+    assert checked | {"build", "dist", "gate"} <= set(MODULES)
 
 
 @pytest.mark.parametrize("name", MODULES)
@@ -48,7 +48,7 @@ def test_help(name: str) -> None:
 @pytest.mark.parametrize("name", MODULES)
 def test_unknown_option(name: str) -> None:
     """An unknown option is refused with the usage."""
-    files = {"speed_python": ["file.hdt"], "differential": ["old", "new"]}
+    files = {"speed_python": ["file.hdt"], "differential": ["old", "new"], "contracts": ["HEAD"]}
     status, out, err = tool(name, *files.get(name, []), "--no-such-option")
     assert (status, out) == (2, b"")
     assert err.startswith(f"usage: python3 -m tools.{name} ".encode()) and b"unrecognized arguments" in err
@@ -653,6 +653,96 @@ def test_definitions_table(defined: Path) -> None:
         "| toy | 2 | 5 | 1 | 1 | 2 | 0 | 0 |",
         "| together | 3 | 9 | 3 | 2 | 4 | 1 | 2 |",
     ]
+
+
+# ---- contracts
+
+# A library before and after a change: a clause of `a` is weaker, one is gone, one is new; `b` has another name, and its
+# clauses another order; `c` is not exported, and `d` is gone.
+OLD_LIBRARY = """\
+pub use one::{a, b, d};
+
+/// What it does.
+pub fn a(x: u8) -> u8
+    requires small { x < 9 }
+    ensures is { result ≡ x }
+    ensures { x ≡ x }
+{
+    x
+}
+
+pub fn b(self: &Self) -> u8
+    ensures low { 1 ≤ result }
+    // why
+    ensures high { result ≤ 9 }
+{
+    1
+}
+
+fn c() {}
+
+pub fn d() {}
+"""
+NEW_LIBRARY = """\
+pub use one::{a, bee};
+
+pub fn a(x: u8) -> u8
+    requires small { x < 9 }
+    ensures is { result ≤ x }
+    ensures more { x ≤ x }
+{
+    x + 0
+}
+
+pub fn bee(self: &Self) -> u8
+    ensures high { result  ≤ 9 }
+    ensures low { 1 ≤
+        result }
+{
+    2
+}
+"""
+CONTRACTS = """\
+import sys
+from pathlib import Path
+from tools import contracts
+contracts.TOP = Path(sys.argv.pop(1))
+sys.exit(contracts.main())
+"""
+
+
+def test_contracts(tmp_path: Path) -> None:
+    """Each clause that is gone, new or another is reported; whitespace, comments and bodies are not."""
+    library = tmp_path / "crates/one/src/lib.rt"
+    definitions = tmp_path / "crates/one/specs/Small.antt"
+    for file in (library, definitions):
+        file.parent.mkdir(parents=True)
+    library.write_text(OLD_LIBRARY)
+    definitions.write_text("-- below ten\nabbrev pub Small : ℕ → Type 0\nSmall n = n < 10\n")
+    git = ["git", "-C", tmp_path, "-c", "user.name=a", "-c", "user.email=a@example.org"]
+    for words in (["init", "-q"], ["add", "-A"], ["commit", "-qm", "old"]):
+        subprocess.run([*git, *words], check=True)
+    library.write_text(NEW_LIBRARY)
+    definitions.write_text("-- below nine\nabbrev pub Small : ℕ → Type 0\nSmall n = n < 9\n")
+    names = tmp_path / "names"
+    names.write_text("b bee\n")
+    words = [sys.executable, "-B", "-c", CONTRACTS, tmp_path, "HEAD", "--names", names]
+    status, out, err = run([*words, "--definitions"], cwd=TOP)
+    found = [it for it in out.decode().splitlines() if not it.startswith("    ")]
+    assert (status, err, found) == (
+        1,
+        b"",
+        [
+            "a: ensures is",
+            "a: ensures 1",
+            "a: ensures more",
+            "d: gone",
+            "Small: definition",
+            "2 functions, 5 differences",
+        ],
+    )
+    library.write_text(OLD_LIBRARY)
+    assert run(words[:-2], cwd=TOP) == (0, b"\n3 functions, 0 differences\n", b"")
 
 
 # ---- differential
