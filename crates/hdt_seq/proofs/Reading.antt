@@ -19,7 +19,7 @@ pub too_many : (bytes : List ℕ) (at n : ℕ) → length bytes < n → bytes_at
 unfolding bytes_at
 too_many bytes at n lt = rw (lt-leb (at + n) (length bytes) (omega (arith, lt))) refl
 
--- what spells with a byte at least ends after its place
+-- what encodes with a byte at least ends after its place
 ends_after : {V : Type 0} (Spells : List ℕ → V → Type 0) (bytes : List ℕ) (at : ℕ) {v : V} {e : ℕ} → SpelledAt Spells bytes at v e → 0 < length (slice_range bytes at e) → at < e
 ends_after Spells bytes at {v} {e} h some = omega (arith, some, h.in_order, length-take (e - at) (drop at bytes))
 

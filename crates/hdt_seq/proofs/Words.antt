@@ -60,7 +60,7 @@ ones_none n = ap ones (mod-one n) ∙ ones_bit 0 (omega arith)
 pub lowest_bits : (n k : ℕ) → k < 64 → bit_and n (1 * 2 ^ k % 2 ^ 64 - 1) ≡ n % 2 ^ k
 lowest_bits n k lt = ap (λ m. bit_and n (m - 1)) (one_shl k 64 lt) ∙ and_mask n k
 
--- ---- the marks of packed bytes
+-- ---- the 1-bits of packed bytes
 
 -- the ones of the first places
 abbrev ones_below : List ℕ → ℕ → ℕ
@@ -87,7 +87,7 @@ ones_between bytes a (suc k) =
     omega (arith, ones_between bytes a k, ones_more (little bytes / 2 ^ a) k, ap digit (bit_after bytes a k)) in
     ap (λ n. ones_below bytes a + ones (little bytes / 2 ^ a % 2 ^ n)) next ∙ more ∙ sym (one_more bytes (a + k)) ∙ ap (ones_below bytes) end
 
--- the marks from a place on and before another are the ones of the bits there
+-- the 1-bits from a place on and before another are the ones of the bits there
 pub marks_between : (bytes : List ℕ) (n a k b : ℕ) → b ≤ n → a + k ≡ b → marks_before (bits bytes n) a + ones (little bytes / 2 ^ a % 2 ^ k) ≡ marks_before (bits bytes n) b
 marks_between bytes n a k b h e =
     ap (λ x. x + ones (little bytes / 2 ^ a % 2 ^ k)) (marks_are bytes n a (omega arith))

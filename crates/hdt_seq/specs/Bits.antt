@@ -1,5 +1,5 @@
--- Bit sequences (rdfhdt.org, "HDT binary format", Bitmap): the type byte 1, the count of bits, which is not 0, and the
--- bits packed eight in a byte. Bits after the last one may be anything.
+-- Bitmaps (rdfhdt.org, "HDT binary format", Bitmap): the type byte 1, the number of bits, which is not 0, and the bits,
+-- eight a byte. Padding bits may be anything.
 use Rattle.std.specs.Prelude.{◌≡◌, ◌<◌, ◌==◌, ℕ, ◌+◌, ◌^◌, List, ◌∷◌, Bool, length, nat_lt, Result, Ok}
 use Rattle.hdt_wire.specs.declared.fault.Fault.{Fault}
 use Rattle.hdt_wire.specs.declared.fault.Reason.TheVariants.{BitsKind, NoTriples}
@@ -9,7 +9,7 @@ use Rattle.hdt_seq.specs.declared.bits.Bits.{Bits}
 use Rattle.hdt_seq.specs.Little.{bytes_for, bits, packed_bits}
 use Rattle.hdt_seq.specs.Sequence.{Places, Sequence, framed, byte_at, code8_at, packed_at}
 
--- the text spells the bits as a sequence: over some packed bytes whose bits they are
+-- the text is an encoding of the bits: with some packed bytes whose bits they are
 pub record IsBits (text : List ℕ) (xs : List Bool) : Type 0 where
   pub count : List ℕ
   pub packed : List ℕ
@@ -20,15 +20,15 @@ pub record IsBits (text : List ℕ) (xs : List Bool) : Type 0 where
   pub holds : bits packed (length xs) ≡ xs
   pub whole : text ≡ framed (1 ∷ count) packed
 
--- the bits that a sequence stands for
+-- the bits of a bitmap
 unfoldable pub bits_of : Bits → List Bool
 bits_of s = bits s.packed.now s.count
 
--- where it lies
+-- its offsets
 unfoldable pub bits_places : Bits → Places
 bits_places s = record { count = s.count_at; packed = s.packed_at; width = 1 }
 
--- the bits that were read, and the place after them
+-- the bits that were read, and the offset after them
 abbrev pub bits_and_end : Bits × ℕ → List Bool × ℕ
 bits_and_end r = (bits_of r.0, r.1)
 
@@ -36,11 +36,11 @@ bits_and_end r = (bits_of r.0, r.1)
 abbrev pub bits_read : Bits × ℕ → Sequence Bool
 bits_read r = record { items = bits_of r.0; places = bits_places r.0; end = r.1 }
 
--- the places of a sequence of n bits that begins at a place
+-- the offsets of a bitmap of n bits that begins at an offset
 abbrev pub bits_places_from : ℕ → ℕ → Places
 bits_places_from at n = record { count = at + 1; packed = at + 2 + length (vbyte n); width = 1 }
 
--- the rows of a bit sequence, from top to bottom: the sequence, or the fault that stands
+-- the checks of a bitmap in turn: the bitmap, or the first error
 unfoldable pub bits_at : List ℕ → ℕ → Result (Sequence Bool) Fault
 bits_at bytes at = do
   kind ← byte_at bytes at
@@ -53,6 +53,6 @@ bits_at bytes at = do
 
 -- ---- writing
 
--- the canonical spelling: all bits after the last one 0
+-- the canonical encoding: all padding bits are 0
 unfoldable pub bits_spelling : List Bool → List ℕ
 bits_spelling xs = framed (1 ∷ vbyte (length xs)) (packed_bits xs)

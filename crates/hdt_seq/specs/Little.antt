@@ -1,19 +1,19 @@
--- Packed bytes (rdfhdt.org, "HDT binary format", Log sequence, Bitmap): the bytes, least first, are one number,
--- and its binary digits, least first, are cut into entries of a fixed width, or taken one by one.
+-- Packed bytes (rdfhdt.org, "HDT binary format", Log sequence, Bitmap): the bytes are one little-endian number, whose
+-- binary digits, least significant first, are cut into entries of a fixed width, or taken one by one.
 use Rattle.std.specs.Prelude.{ℕ, ◌+◌, ◌*◌, ◌/◌, ◌%◌, ◌^◌, ◌<◌, ◌==◌, List, [], ◌∷◌, length, get_or, Bool, cond, map}
 use Rattle.std.specs.List.{range_with_len}
 use Rattle.byteorder.specs.Endian.{little_bytes}
 
--- the whole number whose base-256 digits, least first, are the bytes
+-- the number whose base-256 digits, least significant first, are the bytes
 abbrev pub little : List ℕ → ℕ
 little [] = 0
 little (b ∷ bs) = b + 256 * little bs
 
--- how many bytes hold so many bits
+-- the number of bytes that hold so many bits
 abbrev pub bytes_for : ℕ → ℕ
 bytes_for bits = (bits + 7) / 8
 
--- entry i of a width
+-- entry i of entries of a width
 unfoldable pub entry : List ℕ → ℕ → ℕ → ℕ
 entry bytes width i = little bytes / 2 ^ (width * i) % 2 ^ width
 
@@ -21,7 +21,7 @@ entry bytes width i = little bytes / 2 ^ (width * i) % 2 ^ width
 unfoldable pub entries : List ℕ → ℕ → ℕ → List ℕ
 entries bytes width n = map (entry bytes width) (range_with_len 0 n)
 
--- bit i: it is 1
+-- whether bit i is 1
 unfoldable pub bit : List ℕ → ℕ → Bool
 bit bytes i = (little bytes / 2 ^ i % 2) == 1
 
@@ -31,12 +31,12 @@ bits bytes n = map (bit bytes) (range_with_len 0 n)
 
 -- ---- writing
 
--- the number whose digits to the base 2 ^ width, least first, are the entries
+-- the number whose digits in base 2 ^ width, least significant first, are the entries
 abbrev pub joined : ℕ → List ℕ → ℕ
 joined width [] = 0
 joined width (x ∷ xs) = x + 2 ^ width * joined width xs
 
--- the bytes that hold the entries; the bits after the last one are 0
+-- the bytes that hold the entries; padding bits are 0
 unfoldable pub packed : ℕ → List ℕ → List ℕ
 packed width xs = little_bytes (bytes_for (width * length xs)) (joined width xs)
 
@@ -44,7 +44,7 @@ packed width xs = little_bytes (bytes_for (width * length xs)) (joined width xs)
 abbrev pub bit_number : Bool → ℕ
 bit_number b = cond b 1 0
 
--- the bytes that hold the bits; those after the last one are 0
+-- the bytes that hold the bits; padding bits are 0
 unfoldable pub packed_bits : List Bool → List ℕ
 packed_bits xs = packed 1 (map bit_number xs)
 

@@ -1,11 +1,11 @@
--- Marks, which are the bits that are 1: their counts and their places.
+-- Rank and select: the number of 1-bits before a position, and the position of a 1-bit.
 use Rattle.std.specs.Prelude.{◌≡◌, ℕ, ◌+◌, List, Bool, true, Some, slice_get, take, count_by}
 
--- how many marks stand before place i
+-- rank: the number of 1-bits before position i
 unfoldable pub marks_before : List Bool → ℕ → ℕ
 marks_before bits i = count_by (λ b. b) (take i bits)
 
--- place i is that of mark k, marks being counted from 1: it holds a mark, and k - 1 marks stand before it
+-- select: bit i is 1, and it is the k-th 1-bit, from 1: before it are k - 1 of them
 pub record IsPlaceOfMark (bits : List Bool) (k i : ℕ) : Type 0 where
   pub marked : slice_get bits i ≡ Some true
   pub before : marks_before bits i + 1 ≡ k

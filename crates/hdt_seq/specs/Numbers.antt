@@ -1,5 +1,5 @@
--- Number sequences (rdfhdt.org, "HDT binary format", Log sequence): the type byte 1, a width of 0 to 64 bits, the
--- count of entries, and the entries packed in that width. Bits after the last entry may be anything.
+-- Log sequences (rdfhdt.org, "HDT binary format", Log sequence): the type byte 1, a width of 0 to 64 bits, the number
+-- of entries, and the entries packed in that width. Padding bits may be anything.
 use Rattle.std.specs.Prelude.{◌≡◌, ◌≤◌, ◌<◌, ◌==◌, ℕ, ◌+◌, ◌*◌, ◌^◌, List, ◌∷◌, length, nat_le, Result, Ok}
 use Rattle.hdt_wire.specs.declared.fault.Fault.{Fault}
 use Rattle.hdt_wire.specs.declared.fault.Reason.TheVariants.{SequenceKind, Width}
@@ -10,7 +10,7 @@ use Rattle.hdt_seq.specs.Little.{bytes_for, entries, packed}
 use Rattle.hdt_seq.specs.Width.{width_of}
 use Rattle.hdt_seq.specs.Sequence.{Places, Sequence, framed, byte_at, code8_at, packed_at}
 
--- the text spells the numbers as a sequence: in some width, over some packed bytes whose entries they are
+-- the text is an encoding of the numbers: of some width, with some packed bytes whose entries they are
 pub record IsNumbers (text : List ℕ) (xs : List ℕ) : Type 0 where
   pub width : ℕ
   pub count : List ℕ
@@ -22,15 +22,15 @@ pub record IsNumbers (text : List ℕ) (xs : List ℕ) : Type 0 where
   pub holds : entries packed width (length xs) ≡ xs
   pub whole : text ≡ framed (1 ∷ width ∷ count) packed
 
--- the numbers that a sequence stands for
+-- the entries of a log sequence
 unfoldable pub numbers_of : Numbers → List ℕ
 numbers_of s = entries s.packed.now s.width s.count
 
--- where it lies
+-- its offsets
 unfoldable pub numbers_places : Numbers → Places
 numbers_places s = record { count = s.count_at; packed = s.packed_at; width = s.width }
 
--- the numbers that were read, and the place after them
+-- the entries that were read, and the offset after them
 abbrev pub numbers_and_end : Numbers × ℕ → List ℕ × ℕ
 numbers_and_end r = (numbers_of r.0, r.1)
 
@@ -38,11 +38,11 @@ numbers_and_end r = (numbers_of r.0, r.1)
 abbrev pub numbers_read : Numbers × ℕ → Sequence ℕ
 numbers_read r = record { items = numbers_of r.0; places = numbers_places r.0; end = r.1 }
 
--- the places of a sequence of n entries that begins at a place
+-- the offsets of a log sequence of n entries that begins at an offset
 abbrev pub numbers_places_from : ℕ → ℕ → ℕ → Places
 numbers_places_from at width n = record { count = at + 2; packed = at + 3 + length (vbyte n); width = width }
 
--- the rows of a number sequence, from top to bottom: the sequence, or the fault that stands
+-- the checks of a log sequence in turn: the sequence, or the first error
 unfoldable pub numbers_at : List ℕ → ℕ → Result (Sequence ℕ) Fault
 numbers_at bytes at = do
   kind ← byte_at bytes at
@@ -56,6 +56,6 @@ numbers_at bytes at = do
 
 -- ---- writing
 
--- the canonical spelling: the width of the greatest entry, and all bits after the last entry 0
+-- the canonical encoding: the width of the greatest entry, and all padding bits 0
 unfoldable pub numbers_spelling : List ℕ → List ℕ
 numbers_spelling xs = framed (1 ∷ width_of xs ∷ vbyte (length xs)) (packed (width_of xs) xs)

@@ -1,17 +1,17 @@
--- The width that a written number sequence has: as many binary digits as its greatest entry, and at least one.
+-- The width of a canonical log sequence: the number of binary digits of its greatest entry, and at least 1.
 use Rattle.std.specs.Prelude.{ℕ, zero, suc, ◌/◌, max, List, fold}
 
--- how often a number can be halved, up to a limit, until it is 0
+-- how many halvings make a number 0, up to a limit
 unfoldable pub halvings : ℕ → ℕ → ℕ
 halvings zero n = 0
 halvings (suc limit) zero = 0
 halvings (suc limit) (suc n) = suc (halvings limit (suc n / 2))
 
--- how many binary digits a number has; 0 has none
+-- the number of binary digits of a number; 0 has none
 unfoldable pub digits : ℕ → ℕ
 digits n = halvings n n
 
--- the greatest entry; without entries, 0
+-- the greatest entry, or 0 if there is none
 abbrev pub greatest : List ℕ → ℕ
 greatest xs = fold max 0 xs
 

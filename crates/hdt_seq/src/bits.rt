@@ -1,4 +1,4 @@
-//! Bit sequences: bits packed eight in a byte.
+//! Bitmaps: eight bits a byte.
 ghost use Rattle.std.specs.Prelude.{◌≡◌, ◌+◌, ◌*◌, ◌%◌, ◌^◌, ◌<◌, ◌≤◌, ℕ, length};
 
 use crate::rows::{byte_at, code8_at, packed_at};
@@ -6,7 +6,7 @@ use crate::steps::Steps;
 use crate::window::{bit_of, window};
 use hdt_wire::{Fault, Reason, demand, read_vbyte};
 
-/// A bit sequence that was read: its packed bytes are lent from the input.
+/// A bitmap that was read. It borrows its bytes from the input.
 ///
 /// ```text
 /// let (bits, next) = Bits::read(bytes, at)?;
@@ -31,7 +31,7 @@ impl<'a> Bits<'a> {
     ghost use Rattle.hdt_seq.specs.Marks.{marks_before};
     ghost use Rattle.hdt_seq.specs.Bits.{IsBits, bits_of, bits_places, bits_places_from, bits_and_end, bits_read, bits_at};
 
-    /// Reads by rows.
+    /// Reads a bitmap, check by check.
     #[tactic(auto, unfolding(crate::specs::Bits::bits_at, crate::specs::Bits::bits_of, crate::specs::Bits::bits_places))]
     fn read_rows(bytes: &'a [u8], at: usize) -> Result<(Bits<'a>, usize), Fault>
         ensures exact { Reads bits_read result (bits_at bytes.now at) }
@@ -51,26 +51,28 @@ impl<'a> Bits<'a> {
         Ok((bits, end))
     }
 
-    /// Reads the sequence at a place, in bytes from 0, and answers it with the place after it. Bytes may follow it.
-    /// Time is in proportion to the bytes of the sequence, of which the check code is made; it takes no memory.
+    /// Reads the bitmap at a byte offset, from 0. Returns it with the offset after it. More bytes may follow. Linear
+    /// time in the bytes of the bitmap, because of its CRC.
     ///
-    /// Faults, in the order of the rows: `BitsKind`, those of the count, `Check8`, `NoTriples` where there is no bit,
-    /// `Check32`, and `Truncated` where a part is cut off, at its place.
+    /// # Errors
+    ///
+    /// The first of these, in this order: `BitsKind`, those of the number of bits, `Check8`, `NoTriples` if there is no
+    /// bit, `Check32`; and `Truncated` at the offset of what is cut off.
     pub fn read(bytes: &'a [u8], at: usize) -> Result<(Bits<'a>, usize), Fault>
-        // What is read stands there, spelled so.
+        // What is returned is encoded there.
         ensures found { IfOk result (λ r. SpelledAt IsBits bytes.now at (bits_of r.0) r.1) }
-        // It lies where the format says.
+        // Its offsets are those of the format.
         ensures places { IfOk result (λ r. bits_places r.0 ≡ bits_places_from at (length (bits_of r.0))) }
-        // What is spelled so and stands there is read.
+        // Whatever is encoded there is returned.
         ensures only { (xs : List Bool) (end : ℕ) → SpelledAt IsBits bytes.now at xs end → Reads bits_and_end result (Ok (xs, end)) }
-        // Otherwise it is the one fault that stands.
+        // Otherwise it is the first error.
         ensures exact { Reads bits_read result (bits_at bytes.now at) }
         ensures end { IfOk result (λ r. (at < r.1) × (r.1 ≤ length bytes.now)) }
     {
         Bits::read_rows(bytes, at)
     }
 
-    /// How many bits there are: at least 1, below 2^64.
+    /// Returns the number of bits: at least 1, below 2^64.
     #[tactic(auto, using(crate::specs::Laws::Bits::bits_len))]
     pub fn len(&self) -> u64
         ensures { result ≡ length (bits_of self.now) }
@@ -78,7 +80,7 @@ impl<'a> Bits<'a> {
         self.count
     }
 
-    /// Whether bit i, counted from 0, is 1; the caller shows that there is one.
+    /// Returns whether bit i, from 0, is 1.
     #[tactic(auto, using(crate::specs::Laws::Bits::bit_within, crate::specs::Laws::Bits::bits_get))]
     pub fn get(&self, i: u64) -> bool
         requires { i < length (bits_of self.now) }
@@ -87,7 +89,7 @@ impl<'a> Bits<'a> {
         bit_of(self.packed, i)
     }
 
-    /// The place of the count, in bytes from the start of the input.
+    /// Returns the byte offset of the number of bits in the input.
     #[tactic(auto, unfolding(crate::specs::Bits::bits_places))]
     pub fn count_place(&self) -> u64
         ensures { result ≡ (bits_places self.now).count }
@@ -95,7 +97,7 @@ impl<'a> Bits<'a> {
         self.count_at as u64
     }
 
-    /// The place of the byte that holds bit i, in bytes from the start of the input.
+    /// Returns the byte offset of the byte with bit i in the input.
     #[tactic(auto, using(crate::specs::Laws::Bits::bit_within), unfolding(crate::specs::Bits::bits_places))]
     pub fn entry_place(&self, i: u64) -> u64
         requires { i < length (bits_of self.now) }
@@ -104,13 +106,12 @@ impl<'a> Bits<'a> {
         self.packed_at as u64 + i / 8
     }
 
-    /// The bits from a place on and before another, at most 64 places on, as a number whose lowest bit is the first one:
-    /// one step.
+    /// The bits from one position up to another, at most 64, as a number whose lowest bit is the first one. One step.
     pub(crate) fn word(&self, from: u64, to: u64, steps: &mut Steps) -> u64
         requires order { from ≤ to }
         requires near { to ≤ from + 64 }
         requires within { to ≤ length (bits_of self.now) }
-        // The ones of its lowest k bits are the marks of the first k places, and all its ones are all the marks.
+        // The 1-bits among its lowest k bits are those of the first k positions, and it has no others.
         ensures lowest { (k : ℕ) → from + k ≤ to → marks_before (bits_of self.now) from + ones (result % 2 ^ k) ≡ marks_before (bits_of self.now) (from + k) }
         ensures all { marks_before (bits_of self.now) from + ones result ≡ marks_before (bits_of self.now) to }
         ensures cost { steps.new ≡ steps.old + 1 }

@@ -1,4 +1,4 @@
-//! Directories: the marks of a bit sequence, which are its bits that are 1, counted by groups.
+//! Rank/select indexes: the 1-bits of a bitmap, counted by groups of 512 bits.
 ghost use Rattle.std.specs.Prelude.{◌≡◌, ◌≤◌, ◌<◌, nat_lt, if◌then◌else◌, ◌+◌, ◌-◌, ◌*◌, ◌/◌, ◌%◌, ◌^◌, ℕ, List, Bool, length, slice_index, slice_get, Some, true, IfOk, SomeIndex};
 ghost use Rattle.std.specs.Int.Count.{ones};
 ghost use Rattle.hdt_seq.specs.Width.{digits};
@@ -9,17 +9,16 @@ use crate::bits::Bits;
 use crate::steps::Steps;
 use std::alloc::{AllocError, Global};
 
-/// How many bits a group has. The last group of a sequence may have fewer.
+/// The number of bits of a group. The last group of a bitmap may have fewer.
 const GROUP: u64 = 512;
 
-/// How many bits a word has.
+/// The number of bits of a word.
 const WORD: u64 = 64;
 
-/// The counts by which marks of a bit sequence are found in few steps: how many marks stand before each group of 512
-/// bits, and last how many there are.
+/// A rank/select index over a bitmap: the number of 1-bits before each group of 512 bits, and their total.
 ///
-/// It borrows nothing: the bits are handed in again with each call, and the caller shows that the directory is theirs.
-/// A step is a look at one kept count, or at one word of 64 bits or a part of it.
+/// It borrows nothing: each call is given the bitmap, which must be the one that the index was built from. A step is an
+/// access to one of its counts, or to a word of 64 bits or a part of it.
 ///
 /// ```text
 /// let directory = Directory::new(alloc, &bits)?;
@@ -35,8 +34,8 @@ pub struct Directory {
 impl Directory {
     ghost use Rattle.hdt_seq.specs.Directory.{groups, counts_kept, IsDirectoryOf};
 
-    /// Counts the marks, in one pass over the words; bits past the last one never count. It takes memory once, for the
-    /// counts that it keeps: 8 bytes for each group and 8 more. An `Err` says that this memory was refused.
+    /// Builds the index in one pass over the words; padding bits are not counted. It allocates once, for the counts
+    /// that it keeps: 8 bytes a group and 8 more. The error is that this allocation failed.
     #[tactic(auto, unfolding(crate::specs::Directory::counts_kept))]
     pub fn new(alloc: Global, bits: &Bits<'_>) -> Result<Directory, AllocError>
         ensures { IfOk result (λ d. IsDirectoryOf d (bits_of bits.now)) }
@@ -56,8 +55,8 @@ impl Directory {
         Ok(Directory { counts })
     }
 
-    /// How many marks stand before place i, places being counted from 0, in at most 8 steps and with no memory. The
-    /// caller shows that i is at most the length, at which all marks are counted, in one step.
+    /// Returns the number of 1-bits before position i, from 0, in at most 8 steps. At the length of the bitmap that is
+    /// all of them, in one step.
     #[tactic(auto, unfolding(crate::specs::Directory::counts_kept), using(crate::specs::Laws::Marks::marks_le, crate::proofs::Groups::group_end))]
     pub fn rank(&self, bits: &Bits<'_>, i: u64, steps: &mut Steps) -> u64
         requires counted { IsDirectoryOf self.now (bits_of bits.now) }
@@ -77,15 +76,15 @@ impl Directory {
             let before = self.count(group, steps);
             before + marks_between(bits, i - inside, i, steps)
         } else {
-            // In the group's last word, which is counted backward from the count of the next group.
+            // In the group's last word: counted backward from the count of the next group.
             let left = (GROUP - inside).min(bits.len() - i);
             let through = self.count(group + 1, steps);
             through - marks_between(bits, i, i + left, steps)
         }
     }
 
-    /// The place, counted from 0, of mark k, counted from 1, in at most as many steps as the number of groups has binary
-    /// digits, and 8, and with no memory. The caller shows that there are k marks.
+    /// Returns the position, from 0, of the 1-bit number k, from 1. It takes at most 8 steps more than the number of
+    /// groups has binary digits.
     pub fn select(&self, bits: &Bits<'_>, k: u64, steps: &mut Steps) -> u64
         requires counted { IsDirectoryOf self.now (bits_of bits.now) }
         requires some { 0 < k }
@@ -100,7 +99,7 @@ impl Directory {
         place_from(bits, group * GROUP, k - before, steps)
     }
 
-    /// How many numbers of 8 bytes the directory keeps: one for each group, and the total.
+    /// Returns how many numbers of 8 bytes the index keeps: one for each group, and the total.
     #[tactic(auto, unfolding(crate::specs::Directory::counts_kept))]
     pub fn held(&self) -> u128
         ensures is { result ≡ length (counts_kept self.now) }
@@ -112,7 +111,7 @@ impl Directory {
         counts.len() as u128
     }
 
-    /// The count kept for a group: one step.
+    /// The count of a group. One step.
     #[tactic(auto, unfolding(crate::specs::Directory::counts_kept))]
     fn count(&self, group: u64, steps: &mut Steps) -> u64
         requires { group < length (counts_kept self.now) }
@@ -123,7 +122,7 @@ impl Directory {
         self.counts[group as usize]
     }
 
-    /// The group that holds mark k, with the count of marks before it, by halving.
+    /// The group with the 1-bit number k, and the number of 1-bits before that group, by binary search.
     #[tactic(auto, unfolding(crate::specs::Directory::counts_kept), using(crate::specs::Laws::Width::digits_split))]
     fn group_of(&self, k: u64, steps: &mut Steps) -> (u64, u64)
         requires some { 1 < length (counts_kept self.now) }
@@ -154,7 +153,7 @@ impl Directory {
     }
 }
 
-/// How many marks stand from a place on and before another: a step for each word.
+/// The number of 1-bits from one position up to another. One step a word.
 #[tactic(auto, using(crate::specs::Laws::Marks::marks_le))]
 fn marks_between(bits: &Bits<'_>, from: u64, to: u64, steps: &mut Steps) -> u64
     requires order { from ≤ to }
@@ -173,7 +172,7 @@ fn marks_between(bits: &Bits<'_>, from: u64, to: u64, steps: &mut Steps) -> u64
     between
 }
 
-/// The place of the mark that is number `left`, counted from 1, of those from a place on; it is less than a group away.
+/// The position of the 1-bit number `left`, from 1, of those from a position on; it is less than a group away.
 fn place_from(bits: &Bits<'_>, from: u64, left: u64, steps: &mut Steps) -> u64
     requires some { 0 < left }
     requires near { marks_before (bits_of bits.now) from + left ≤ marks_before (bits_of bits.now) (from + 512) }
@@ -197,7 +196,7 @@ fn place_from(bits: &Bits<'_>, from: u64, left: u64, steps: &mut Steps) -> u64
     }
 }
 
-/// 1 where fewer than k ones stand in a word before a place, else 0.
+/// 1 if a word has fewer than k 1-bits before a position, else 0.
 #[inline(always)]
 #[tactic(auto, using(crate::proofs::Words::lowest_bits))]
 fn has_fewer(word: u64, place: u64, k: u64) -> u64
@@ -208,8 +207,8 @@ fn has_fewer(word: u64, place: u64, k: u64) -> u64
     u64::from(u64::from(lowest.count_ones()) < k)
 }
 
-/// The place of one number k, counted from 1, among the lowest bits of a word: the six bits of the place from the highest on, by sums and
-/// no branch, since which half holds the one is not to be foreseen.
+/// The position of the 1-bit number k, from 1, among the lowest bits of a word. Its six binary digits are found from
+/// the highest on, without branches, which would be unpredictable.
 fn place_of_one(word: u64, width: u64, k: u64) -> u64
     requires narrow { width ≤ 64 }
     requires some { 0 < k }
@@ -228,16 +227,16 @@ fn place_of_one(word: u64, width: u64, k: u64) -> u64
     low
 }
 
-/// Laws of the numbers of marks: the marks of a list of bits are numbered from 1 in the order of their places, so the
-/// count of marks before a place and the place of a mark are inverse.
+/// Laws of rank and select: the 1-bits of a list are numbered from 1 in order, so the number of 1-bits before a
+/// position and the position of a 1-bit are inverse.
 pub fn marks_are_numbered()
-    // A mark's number is one more than the count of marks before it.
+    // The number of a 1-bit is one more than the count of those before it.
     ensures number { (bits : List Bool) (i : ℕ) → slice_get bits i ≡ Some true → IsPlaceOfMark bits (marks_before bits i + 1) i }
-    // Each number up to how many marks there are is that of a mark, and of one only.
+    // Each number up to the count of 1-bits is that of exactly one.
     ensures some { (bits : List Bool) (k : ℕ) → 0 < k → k ≤ marks_before bits (length bits) → SomeIndex bits (IsPlaceOfMark bits k) }
     ensures one { (bits : List Bool) (k i j : ℕ) → IsPlaceOfMark bits k i → IsPlaceOfMark bits k j → i ≡ j }
     ensures ascend { (bits : List Bool) (k m i j : ℕ) → IsPlaceOfMark bits k i → IsPlaceOfMark bits m j → k < m → i < j }
     ensures through { (bits : List Bool) (k i : ℕ) → IsPlaceOfMark bits k i → marks_before bits (i + 1) ≡ k }
-    // Later places have no fewer marks before them.
+    // A later position has no fewer 1-bits before it.
     ensures monotone { (bits : List Bool) (i j : ℕ) → i ≤ j → marks_before bits i ≤ marks_before bits j }
 {}

@@ -1,12 +1,12 @@
-//! Number sequences and bit sequences of an HDT file (HDT format version 1), directories over their marks, and the
-//! steps that searches count.
+//! Log sequences and bitmaps of an HDT file (HDT format version 1), rank/select indexes over bitmaps, and the count of
+//! steps that a search takes.
 //!
-//! The layer's promise: what is read at a place is a spelling of exactly these numbers or bits, whatever follows, any
-//! width and any padding allowed; else the one fault that stands there is answered. What is written is the one
-//! canonical spelling, which is read again. What a directory counts and finds are the marks of the list, which are the
-//! bits that are 1, in a stated number of steps.
+//! What this crate promises: a reader returns exactly the numbers or bits that are encoded at the offset, in any width
+//! and with any padding, whatever follows; if there are none, it returns the first error. A writer appends the
+//! canonical encoding, which is read back. A rank/select index counts and finds exactly the 1-bits of its bitmap, in a
+//! stated number of steps.
 //!
-//! A function that says nothing of its cost takes constant time and no memory; laws do nothing when they are called.
+//! Functions that state no cost take constant time and allocate nothing. Laws do nothing when called.
 //!
 //! ```text
 //! let (marks, next) = Bits::read(bytes, at)?;
@@ -16,10 +16,10 @@
 //! let before = directory.rank(&marks, marks.len(), &mut steps);
 //! ```
 //!
-//! Both sequences borrow the input and are `Copy`; a directory owns its counts, and nothing else. Contracts see sequences
-//! as lists, by `numbers_of` and `bits_of` of specs/, and where they lie by `numbers_places` and `bits_places`; that a
-//! directory is one of a list of bits is `IsDirectoryOf`. Laws on these lists, and on counts and places of marks, stand
-//! in specs/Laws: `Numbers`, `Bits`, `Marks`.
+//! Both sequences borrow the input and are `Copy`; a `Directory` owns its counts and nothing else. Contracts see
+//! sequences as lists, by `numbers_of` and `bits_of` of specs/, and their offsets by `numbers_places` and
+//! `bits_places`; `IsDirectoryOf` says that a directory indexes a list of bits. Laws on these lists, and on ranks and
+//! positions of 1-bits, are in specs/Laws: `Numbers`, `Bits`, `Marks`.
 #![tactic(auto)]
 
 mod bits;

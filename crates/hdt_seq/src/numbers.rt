@@ -1,11 +1,11 @@
-//! Number sequences: entries packed in a width of 0 to 64 bits.
+//! Log sequences: entries of 0 to 64 bits each, packed.
 ghost use Rattle.std.specs.Prelude.{◌≡◌, ◌+◌, ◌*◌, ◌^◌, ◌<◌, ◌≤◌, ℕ, length};
 
 use crate::rows::{byte_at, code8_at, packed_at};
 use crate::window::entry_of;
 use hdt_wire::{Fault, Reason, demand, read_vbyte};
 
-/// A number sequence that was read: its packed bytes are lent from the input.
+/// A log sequence that was read. It borrows its packed bytes from the input.
 ///
 /// ```text
 /// let (numbers, next) = Numbers::read(bytes, at)?;
@@ -30,7 +30,7 @@ impl<'a> Numbers<'a> {
     ghost use Rattle.hdt_seq.specs.Sequence.{place_of_entry};
     ghost use Rattle.hdt_seq.specs.Numbers.{IsNumbers, numbers_of, numbers_places, numbers_places_from, numbers_and_end, numbers_read, numbers_at};
 
-    /// Reads by rows.
+    /// Reads a sequence, check by check.
     #[tactic(auto, unfolding(crate::specs::Numbers::numbers_at, crate::specs::Numbers::numbers_of, crate::specs::Numbers::numbers_places))]
     fn read_rows(bytes: &'a [u8], at: usize) -> Result<(Numbers<'a>, usize), Fault>
         ensures exact { Reads numbers_read result (numbers_at bytes.now at) }
@@ -53,26 +53,28 @@ impl<'a> Numbers<'a> {
         Ok((numbers, end))
     }
 
-    /// Reads the sequence at a place, in bytes from 0, and answers it with the place after it. Bytes may follow it.
-    /// Time is in proportion to the bytes of the sequence, of which the check code is made; it takes no memory.
+    /// Reads the sequence at a byte offset, from 0. Returns it with the offset after it. More bytes may follow. Linear
+    /// time in the bytes of the sequence, because of its CRC.
     ///
-    /// Faults, in the order of the rows: `SequenceKind`, `Width`, those of the count, `Check8`, `Check32`, and
-    /// `Truncated` where a part is cut off, at its place.
+    /// # Errors
+    ///
+    /// The first of these, in this order: `SequenceKind`, `Width`, those of the number of entries, `Check8`, `Check32`;
+    /// and `Truncated` at the offset of what is cut off.
     pub fn read(bytes: &'a [u8], at: usize) -> Result<(Numbers<'a>, usize), Fault>
-        // What is read stands there, spelled so.
+        // What is returned is encoded there.
         ensures found { IfOk result (λ r. SpelledAt IsNumbers bytes.now at (numbers_of r.0) r.1) }
-        // It lies where the format says.
+        // Its offsets are those of the format.
         ensures places { IfOk result (λ r. numbers_places r.0 ≡ numbers_places_from at (slice_index bytes.now (at + 1)) (length (numbers_of r.0))) }
-        // What is spelled so and stands there is read.
+        // Whatever is encoded there is returned.
         ensures only { (xs : List ℕ) (end : ℕ) → SpelledAt IsNumbers bytes.now at xs end → Reads numbers_and_end result (Ok (xs, end)) }
-        // Otherwise it is the one fault that stands.
+        // Otherwise it is the first error.
         ensures exact { Reads numbers_read result (numbers_at bytes.now at) }
         ensures end { IfOk result (λ r. (at < r.1) × (r.1 ≤ length bytes.now)) }
     {
         Numbers::read_rows(bytes, at)
     }
 
-    /// How many entries there are: below 2^64.
+    /// Returns the number of entries, which is below 2^64.
     #[tactic(auto, using(crate::specs::Laws::Numbers::numbers_len))]
     pub fn len(&self) -> u64
         ensures { result ≡ length (numbers_of self.now) }
@@ -80,7 +82,7 @@ impl<'a> Numbers<'a> {
         self.count
     }
 
-    /// Entry i, counted from 0; the caller shows that there is one.
+    /// Returns entry i, from 0.
     #[tactic(auto, using(crate::specs::Laws::Numbers::number_within, crate::specs::Laws::Numbers::numbers_get))]
     pub fn get(&self, i: u64) -> u64
         requires { i < length (numbers_of self.now) }
@@ -89,7 +91,7 @@ impl<'a> Numbers<'a> {
         entry_of(self.packed, self.width, i)
     }
 
-    /// The place of the count, in bytes from the start of the input.
+    /// Returns the byte offset of the number of entries in the input.
     #[tactic(auto, unfolding(crate::specs::Numbers::numbers_places))]
     pub fn count_place(&self) -> u64
         ensures { result ≡ (numbers_places self.now).count }
@@ -97,8 +99,8 @@ impl<'a> Numbers<'a> {
         self.count_at as u64
     }
 
-    /// The place of entry i, in bytes from the start of the input: the byte that holds its first bit. An entry of no
-    /// bits lies where the packed bytes begin.
+    /// Returns the byte offset of entry i in the input: that of the byte with its first bit. Entries of 0 bits are at
+    /// the offset of the packed bytes.
     #[tactic(auto, using(crate::specs::Laws::Numbers::number_within), unfolding(crate::specs::Numbers::numbers_places))]
     pub fn entry_place(&self, i: u64) -> u64
         requires { i < length (numbers_of self.now) }

@@ -1,4 +1,4 @@
-//! Packing entries and bits into bytes, one after another.
+//! Packing entries and bits into bytes.
 ghost use Rattle.std.specs.Prelude.{◌≡◌, ◌<◌, ◌≤◌, ◌+◌, ◌*◌, ◌/◌, ◌%◌, ◌^◌, ◌++◌, ◌∷◌, [], ℕ, length, drop, OnOk, OnErr, slice_index};
 ghost use Rattle.byteorder.specs.Endian.{little_bytes};
 ghost use Rattle.hdt_wire.specs.Check.{code8, code32};
@@ -9,14 +9,14 @@ use byteorder::{ByteOrder, LittleEndian};
 use hdt_wire::{check8, check32};
 use std::alloc::AllocError;
 
-/// The bits that fill no eight bytes yet: the lowest of the word.
+/// The bits that don't fill eight bytes yet, as the lowest bits of a word.
 #[derive(Drop)]
 struct Rest {
     word: u128,
     filled: u8,
 }
 
-/// Appends the lowest bytes of a word, least first. Where memory is refused, `out` is as it was.
+/// Appends the lowest bytes of a word, little-endian. If memory runs out, `out` is unchanged.
 fn append_bytes(word: u128, count: u8, out: &mut Vec<u8>) -> Result<(), AllocError>
     requires { count ≤ 16 }
     ensures ok { OnOk result (out.new.items ≡ out.old.items ++ little_bytes count word) }
@@ -30,7 +30,7 @@ fn append_bytes(word: u128, count: u8, out: &mut Vec<u8>) -> Result<(), AllocErr
     out.extend_from_slice(&bytes[..count as usize])
 }
 
-/// Puts one more entry behind the rest, and appends the first eight bytes where they are full.
+/// Adds an entry to the pending bits, and appends eight bytes when they are full.
 fn append_entry(rest: &mut Rest, entry: u64, width: u8, out: &mut Vec<u8>) -> Result<(), AllocError>
     requires narrow { width ≤ 64 }
     requires filled { rest.old.filled < 64 }
@@ -49,7 +49,7 @@ fn append_entry(rest: &mut Rest, entry: u64, width: u8, out: &mut Vec<u8>) -> Re
     Ok(())
 }
 
-/// Appends the bytes that hold the entries, each in the width. An `Err` may leave a beginning behind.
+/// Appends the packed bytes of entries of a width. An error may leave the first of them.
 pub fn append_entries(xs: &[u64], width: u8, out: &mut Vec<u8>) -> Result<(), AllocError>
     requires narrow { width ≤ 64 }
     requires fits { (i : ℕ) → slice_index xs.now i < 2 ^ width }
@@ -63,7 +63,7 @@ pub fn append_entries(xs: &[u64], width: u8, out: &mut Vec<u8>) -> Result<(), Al
     append_bytes(rest.word, rest.filled.div_ceil(8), out)
 }
 
-/// Puts one more bit behind the rest, and appends the first eight bytes where they are full.
+/// Adds a bit to the pending bits, and appends eight bytes when they are full.
 fn append_bit(rest: &mut Rest, bit: bool, out: &mut Vec<u8>) -> Result<(), AllocError>
     requires filled { rest.old.filled < 64 }
     requires small { rest.old.word < 2 ^ rest.old.filled }
@@ -80,7 +80,7 @@ fn append_bit(rest: &mut Rest, bit: bool, out: &mut Vec<u8>) -> Result<(), Alloc
     Ok(())
 }
 
-/// Appends the bytes that hold the bits. An `Err` may leave a beginning behind.
+/// Appends the packed bytes of bits. An error may leave the first of them.
 pub fn append_bits(bits: &[bool], out: &mut Vec<u8>) -> Result<(), AllocError>
     ensures ok { OnOk result (out.new.items ≡ out.old.items ++ packed_bits bits.now) }
     ensures err { OnErr result (Keeps out.old.items out.new.items) }
@@ -92,7 +92,7 @@ pub fn append_bits(bits: &[bool], out: &mut Vec<u8>) -> Result<(), AllocError>
     append_bytes(rest.word, rest.filled.div_ceil(8), out)
 }
 
-/// Appends the 8-bit code of the bytes from a start on. Where memory is refused, `out` is as it was.
+/// Appends the CRC-8 of the bytes from `start` on. If memory runs out, `out` is unchanged.
 pub fn append_code8(start: usize, out: &mut Vec<u8>) -> Result<(), AllocError>
     requires { start ≤ length out.old.items }
     ensures ok { OnOk result (out.new.items ≡ out.old.items ++ code8 (drop start out.old.items) ∷ []) }
@@ -103,7 +103,7 @@ pub fn append_code8(start: usize, out: &mut Vec<u8>) -> Result<(), AllocError>
     Ok(())
 }
 
-/// Appends the 32-bit code of the bytes from a start on. Where memory is refused, `out` is as it was.
+/// Appends the CRC-32C of the bytes from `start` on. If memory runs out, `out` is unchanged.
 pub fn append_code32(start: usize, out: &mut Vec<u8>) -> Result<(), AllocError>
     requires { start ≤ length out.old.items }
     ensures ok { OnOk result (out.new.items ≡ out.old.items ++ little_bytes 4 (code32 (drop start out.old.items))) }

@@ -1,4 +1,4 @@
-//! The rows that both sequences share.
+//! The checks that both sequences share.
 ghost use Rattle.std.specs.Prelude.{◌≡◌, ◌+◌, ◌<◌, ◌≤◌, length, IfOk};
 ghost use Rattle.hdt_wire.specs.Rows.{Reads, bytes_at};
 ghost use Rattle.hdt_seq.specs.Little.{bytes_for};
@@ -7,7 +7,7 @@ ghost use Rattle.hdt_seq.specs.Sequence.{byte_at, code8_at, packed_at};
 use byteorder::{ByteOrder, LittleEndian};
 use hdt_wire::{Fault, Reason, bytes_at, check8, check32, demand};
 
-/// The byte at a place, and the place after it.
+/// The byte at an offset, and the offset after it.
 #[tactic(auto, unfolding(crate::specs::Sequence::byte_at))]
 pub fn byte_at(bytes: &[u8], at: usize) -> Result<(u8, usize), Fault>
     ensures exact { result ≡ byte_at bytes.now at }
@@ -17,8 +17,8 @@ pub fn byte_at(bytes: &[u8], at: usize) -> Result<(u8, usize), Fault>
     Ok((one[0], end))
 }
 
-/// The 8-bit code of the bytes from a start on stands at a place; answered is the place after it. Time is in proportion
-/// to these bytes; it takes no memory.
+/// Checks that the CRC-8 of the bytes from `start` on is at an offset, and returns the offset after it. Linear time in
+/// these bytes.
 #[tactic(auto, unfolding(crate::specs::Sequence::code8_at))]
 pub fn code8_at(bytes: &[u8], start: usize, at: usize) -> Result<usize, Fault>
     requires order { start ≤ at }
@@ -31,7 +31,7 @@ pub fn code8_at(bytes: &[u8], start: usize, at: usize) -> Result<usize, Fault>
     Ok(end)
 }
 
-/// As many bytes from a place as a count says that may be past every length.
+/// `bytes_at` for a count that may be greater than any length.
 #[tactic(auto, using(crate::proofs::Reading::too_many))]
 fn many_bytes_at(bytes: &[u8], at: usize, count: u128) -> Result<(&[u8], usize), Fault>
     ensures exact { Reads (λ x. (x.0.now, x.1)) result (bytes_at count bytes.now at) }
@@ -42,8 +42,8 @@ fn many_bytes_at(bytes: &[u8], at: usize, count: u128) -> Result<(&[u8], usize),
     bytes_at(bytes, at, count as usize)
 }
 
-/// The bytes from a place that hold so many bits, with their 32-bit code, and the place after it. Time is in proportion
-/// to these bytes; it takes no memory.
+/// The bytes at an offset that hold so many bits, with their CRC-32C checked, and the offset after it. Linear time in
+/// these bytes.
 #[tactic(auto, unfolding(crate::specs::Sequence::packed_at))]
 pub fn packed_at(bytes: &[u8], at: usize, bits: u128) -> Result<(&[u8], usize), Fault>
     ensures exact { Reads (λ x. (x.0.now, x.1)) result (packed_at bits bytes.now at) }

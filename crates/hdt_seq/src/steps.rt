@@ -1,10 +1,11 @@
-//! Steps of a search, counted by a number that only contracts see.
+//! The steps of a search, by a count that only contracts see.
 ghost use Rattle.std.specs.Prelude.{◌≡◌, ◌+◌};
 
 use hdt_wire::Tally;
 use std::marker::Model;
 
-/// How many steps were taken. It takes no bytes; contracts alone see it, and only [`Steps::tick`] raises it.
+/// The number of steps that were taken. It takes no memory; only contracts see it, and only [`Steps::tick`] increments
+/// it.
 #[derive(Drop)]
 pub struct Steps {
     taken: Tally,
@@ -19,7 +20,7 @@ impl Model for Steps {
 }
 
 impl Steps {
-    /// No step.
+    /// Returns a count of no steps.
     pub fn new() -> Steps
         ensures { result ≡ 0 }
     {
@@ -28,7 +29,7 @@ impl Steps {
         }
     }
 
-    /// One step more.
+    /// Counts one step.
     pub fn tick(&mut self)
         ensures { self.new ≡ self.old + 1 }
     {

@@ -1,16 +1,16 @@
-//! The width that a written number sequence has.
+//! The width of a log sequence in canonical form.
 ghost use Rattle.std.specs.Prelude.{◌≡◌, ◌<◌, ◌≤◌, ◌^◌, ℕ, slice_index};
 ghost use Rattle.hdt_seq.specs.Width.{greatest, width_of};
 
-/// The greatest entry; without entries, 0.
+/// The greatest entry, or 0 if there is none.
 fn greatest(xs: &[u64]) -> u64
     ensures { result ≡ greatest xs.now }
 {
     xs.iter().fold(0, |greatest, x| greatest.max(*x))
 }
 
-/// The width in bits that a written sequence of these entries has: the number of binary digits of the greatest one, and
-/// at least 1. Time is in proportion to the entries; it takes no memory.
+/// Returns the width in bits of the canonical sequence of these entries: the number of binary digits of the greatest
+/// one, and at least 1. Linear time.
 pub fn width_of(xs: &[u64]) -> u8
     ensures is { result ≡ width_of xs.now }
     ensures range { (1 ≤ result) × (result ≤ 64) }

@@ -1,4 +1,4 @@
-//! Writing sequences, in their canonical spelling.
+//! Writing sequences in canonical form.
 ghost use Rattle.std.specs.Prelude.{◌≡◌, ◌+◌, ◌^◌, ◌<◌, ◌++◌, ℕ, Bool, List, Ok, OnOk, OnErr, length};
 ghost use Rattle.hdt_wire.specs.Rows.{IsBytes};
 ghost use Rattle.hdt_wire.specs.Control.{Keeps};
@@ -12,7 +12,7 @@ use crate::width::width_of;
 use hdt_wire::{cut_on_error, put_vbyte};
 use std::alloc::AllocError;
 
-/// Appends a number sequence; an `Err` may leave a beginning of it behind.
+/// Appends a log sequence; an error may leave its first bytes.
 #[tactic(auto, unfolding(crate::specs::Numbers::numbers_spelling))]
 fn append_number_sequence(xs: &[u64], out: &mut Vec<u8>) -> Result<(), AllocError>
     ensures ok { OnOk result (out.new.items ≡ out.old.items ++ numbers_spelling xs.now) }
@@ -28,8 +28,8 @@ fn append_number_sequence(xs: &[u64], out: &mut Vec<u8>) -> Result<(), AllocErro
     append_code32(packed, out)
 }
 
-/// Appends the canonical sequence of these entries: as wide as [`width_of`] says, the bits after the last entry 0.
-/// Where memory is refused, `out` is as it was.
+/// Appends the canonical log sequence of these entries: its width is that of [`width_of`], its padding bits are 0. If
+/// memory runs out, `out` is unchanged. Linear time.
 pub fn put_numbers(xs: &[u64], out: &mut Vec<u8>) -> Result<(), AllocError>
     ensures ok { OnOk result (out.new.items ≡ out.old.items ++ numbers_spelling xs.now) }
     ensures err { OnErr result (out.new.items ≡ out.old.items) }
@@ -39,8 +39,8 @@ pub fn put_numbers(xs: &[u64], out: &mut Vec<u8>) -> Result<(), AllocError>
     cut_on_error(appended, start, out)
 }
 
-/// Laws of the spellings of number sequences: that of `put_numbers` spells its entries, and is read again whatever
-/// stands before and after it; a spelling spells one list, and begins no other spelling.
+/// Laws of the encodings of log sequences: that of `put_numbers` encodes its entries, and is read back whatever
+/// precedes and follows it; an encoding is that of one list, and no prefix of another encoding.
 pub fn numbers_are_read_again()
     ensures spelled { (xs : List ℕ) → length xs < 2 ^ 64 → EachFits 64 xs → IsNumbers (numbers_spelling xs) xs }
     ensures again { (before after xs : List ℕ) → length xs < 2 ^ 64 → EachFits 64 xs
@@ -49,7 +49,7 @@ pub fn numbers_are_read_again()
     ensures begins_no_other { (a b x y xs ys : List ℕ) → IsBytes (a ++ x) → IsNumbers a xs → IsNumbers b ys → a ++ x ≡ b ++ y → (a ≡ b) × (xs ≡ ys) }
 {}
 
-/// Appends a bit sequence; an `Err` may leave a beginning of it behind.
+/// Appends a bitmap; an error may leave its first bytes.
 #[tactic(auto, unfolding(crate::specs::Bits::bits_spelling))]
 fn append_bit_sequence(bits: &[bool], out: &mut Vec<u8>) -> Result<(), AllocError>
     ensures ok { OnOk result (out.new.items ≡ out.old.items ++ bits_spelling bits.now) }
@@ -64,8 +64,8 @@ fn append_bit_sequence(bits: &[bool], out: &mut Vec<u8>) -> Result<(), AllocErro
     append_code32(packed, out)
 }
 
-/// Appends the canonical sequence of these bits, of which there is at least one: the bits after the last one are 0.
-/// Where memory is refused, `out` is as it was.
+/// Appends the canonical bitmap of these bits, of which there is at least one: its padding bits are 0. If memory runs
+/// out, `out` is unchanged. Linear time.
 pub fn put_bits(bits: &[bool], out: &mut Vec<u8>) -> Result<(), AllocError>
     requires { 0 < length bits.now }
     ensures ok { OnOk result (out.new.items ≡ out.old.items ++ bits_spelling bits.now) }
@@ -76,8 +76,8 @@ pub fn put_bits(bits: &[bool], out: &mut Vec<u8>) -> Result<(), AllocError>
     cut_on_error(appended, start, out)
 }
 
-/// Laws of the spellings of bit sequences: that of `put_bits` spells its bits, and is read again whatever stands
-/// before and after it; a spelling spells one list, and begins no other spelling.
+/// Laws of the encodings of bitmaps: that of `put_bits` encodes its bits, and is read back whatever precedes and
+/// follows it; an encoding is that of one list, and no prefix of another encoding.
 pub fn bits_are_read_again()
     ensures spelled { (xs : List Bool) → 0 < length xs → length xs < 2 ^ 64 → IsBits (bits_spelling xs) xs }
     ensures again { (before after : List ℕ) (xs : List Bool) → 0 < length xs → length xs < 2 ^ 64

@@ -1,4 +1,4 @@
--- Check codes by bits and by tables: eight shifts of a register are those of its low byte, which a table has, xored
+-- CRCs by bits and by tables: eight shifts of a register are those of its low byte, which a table has, xored
 -- with the bytes above it.
 use Rattle.std.proofs.Common.{◌≡◌, ℕ, zero, suc, ◌+◌, ◌*◌, ◌/◌, ◌%◌, ◌^◌, ◌<◌, Bool, true, ◌&&◌, List, [], ◌∷◌, length, get_or, eqb, bit_xor, refl, sym, ap, ◌∙◌, arith, inl, inr}
 use Rattle.std.specs.Fn.{iterate}

@@ -1,4 +1,4 @@
--- The 32-bit code, eight bytes a step. Shifting is linear over xor, so what eight bytes do to a register is what each
+-- The CRC-32C, eight bytes a step. Shifting is linear over xor, so what eight bytes do to a register is what each
 -- does alone, shifted once for each bit that follows it.
 use Rattle.std.proofs.Common.{◌≡◌, ℕ, zero, suc, ◌+◌, ◌*◌, ◌/◌, ◌%◌, ◌^◌, ◌<◌, true, false, List, [], ◌∷◌, length, get_or, eqb, bit_xor, refl, sym, ap, ◌∙◌, arith, inl, inr}
 use Rattle.std.specs.Prelude.{fold}

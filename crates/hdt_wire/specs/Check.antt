@@ -1,17 +1,17 @@
--- Check codes (rdfhdt.org, "HDT binary format"; the catalogue's CRC-8/SMBUS, CRC-16/ARC and CRC-32C): a register
--- takes the bytes in turn. Each is xored in, and the register is then shifted one bit at a time, eight times.
+-- CRCs (rdfhdt.org, "HDT binary format"; CRC-8/SMBUS, CRC-16/ARC and CRC-32C of the catalogue): a register takes the
+-- bytes in turn. Each is xored in, and the register is then shifted by one bit, eight times.
 use Rattle.std.specs.Prelude.{ℕ, ◌*◌, ◌/◌, ◌%◌, ◌==◌, List, fold, bit_xor, nat_le, if◌then◌else◌}
 use Rattle.std.specs.Fn.{iterate}
 
--- a register of eight bits shifted left, with 07 xored in where a 1 fell out
+-- a register of eight bits shifted left, with 07 xored in if the bit shifted out was 1
 unfoldable pub shift_left : ℕ → ℕ
 shift_left register = if nat_le 128 register then bit_xor (register * 2 % 256) 0x07 else register * 2
 
--- a register shifted right, with the reflected polynomial xored in where a 1 fell out
+-- a register shifted right, with the reflected polynomial xored in if the bit shifted out was 1
 unfoldable pub shift_right : ℕ → ℕ → ℕ
 shift_right polynomial register = if register % 2 == 1 then bit_xor (register / 2) polynomial else register / 2
 
--- the registers after one more byte
+-- the register after one more byte
 unfoldable pub take8 : ℕ → ℕ → ℕ
 take8 register byte = iterate shift_left 8 (bit_xor register byte)
 
@@ -21,14 +21,14 @@ take16 register byte = iterate (shift_right 0xA001) 8 (bit_xor register byte)
 unfoldable pub take32 : ℕ → ℕ → ℕ
 take32 register byte = iterate (shift_right 0x82F63B78) 8 (bit_xor register byte)
 
--- CRC-8/SMBUS: starts at 0
+-- CRC-8/SMBUS: the initial value is 0
 abbrev pub code8 : List ℕ → ℕ
 code8 bytes = fold take8 0 bytes
 
--- CRC-16/ARC: starts at 0
+-- CRC-16/ARC: the initial value is 0
 abbrev pub code16 : List ℕ → ℕ
 code16 bytes = fold take16 0 bytes
 
--- CRC-32C: starts with all ones, and all bits are inverted at the end
+-- CRC-32C: the initial value is all ones, and all bits are inverted at the end
 abbrev pub code32 : List ℕ → ℕ
 code32 bytes = bit_xor (fold take32 0xFFFF_FFFF bytes) 0xFFFF_FFFF

@@ -1,5 +1,5 @@
--- Control blocks (rdfhdt.org, "HDT binary format", Control Information): the cookie, the kind, a format text, a
--- property text, and the 16-bit check code of all that.
+-- Control information (rdfhdt.org, "HDT binary format", Control Information): the cookie, the type, the format, the
+-- properties, and the CRC-16 of all that.
 use Rattle.std.specs.Prelude.{◌≡◌, ◌≢◌, ℕ, ◌+◌, ◌==◌, List, [], ◌∷◌, ◌++◌, All, codes, length, take, slice_range, Result, Ok}
 use Rattle.std.specs.Str.{bytes_eq}
 use Rattle.byteorder.specs.Endian.{little_number, little_bytes}
@@ -26,15 +26,15 @@ format_text Header = codes "ntriples"
 format_text Dictionary = codes "<http://purl.org/HDT/hdt#dictionaryFour>"
 format_text Triples = codes "<http://purl.org/HDT/hdt#triplesBitmap>"
 
--- a property text that a block can hold has no zero byte
+-- properties have no zero byte
 abbrev pub HasNoZero : List ℕ → Type 0
 HasNoZero properties = All (λ b. b ≢ 0) properties
 
--- a block without its check code; each text ends with a zero byte
+-- control information without its CRC; format and properties end with a zero byte
 abbrev pub before_code : Kind → List ℕ → List ℕ
 before_code kind properties = cookie ++ kind_code kind ∷ (format_text kind ++ 0 ∷ (properties ++ 0 ∷ []))
 
--- the bytes of a block: the code stands last, its low byte first
+-- the bytes of control information: the CRC is last, little-endian
 abbrev pub control : Kind → List ℕ → List ℕ
 control kind properties = before_code kind properties ++ little_bytes 2 (code16 (before_code kind properties))
 
@@ -44,30 +44,30 @@ Keeps old new = take (length old) new ≡ old
 
 -- ---- reading
 
--- what a block says: its texts, the place of the property text, and the place after the block
+-- control information: format, properties, the offset of the properties, and the offset after it
 pub record Block : Type 0 where
   pub format : List ℕ
   pub properties : List ℕ
   pub properties_at : ℕ
   pub end : ℕ
 
--- a `Control`, without where it lies in memory
+-- a `Control`, without its addresses
 unfoldable pub block_of : Control → Block
 block_of c = record { format = c.format.now; properties = c.properties.now; properties_at = c.properties_at; end = c.end }
 
--- the block that this property text makes at a place
+-- the control information with these properties at an offset
 abbrev pub block_at : Kind → List ℕ → ℕ → ℕ → Block
 block_at kind properties at end =
     record { format = format_text kind; properties = properties; properties_at = at + 6 + length (format_text kind); end = end }
 
--- a block of the kind stands at the place
+-- control information of this type is encoded at the offset
 pub record IsBlock (kind : Kind) (block : Block) (bytes : List ℕ) (at : ℕ) : Type 0 where
   pub spelled : Stands bytes at (control kind block.properties) block.end
   pub no_zero : HasNoZero block.properties
   pub format : block.format ≡ format_text kind
   pub properties_at : block.properties_at ≡ at + 6 + length (format_text kind)
 
--- the rows of a block, from top to bottom: the block, or the fault that stands
+-- the checks of control information in turn: what was read, or the first error
 unfoldable pub control_at : Kind → List ℕ → ℕ → Result Block Fault
 control_at kind bytes at = do
   mark ← bytes_at 4 bytes at

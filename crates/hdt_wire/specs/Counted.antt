@@ -6,6 +6,6 @@ use Rattle.hdt_wire.specs.declared.counted.Counted.{Counted}
 unfoldable pub inner : {T : Type 0} → Counted T → T
 inner c = c.inner
 
--- how often it has failed
+-- the number of its failures
 unfoldable pub failures : {T : Type 0} → Counted T → ℕ
 failures c = c.failures.count

@@ -1,11 +1,11 @@
--- What is wrong with a file: each reason has a number and a name.
+-- The errors of a file: each reason has a number and a name.
 use Rattle.std.specs.Prelude.{ℕ, List, ◌++◌, codes}
 use Rattle.std.specs.Fmt.{decimal}
 use Rattle.hdt_wire.specs.declared.fault.Fault.{Fault}
 use Rattle.hdt_wire.specs.declared.fault.Reason.{Reason}
 use Rattle.hdt_wire.specs.declared.fault.Reason.TheVariants.{Truncated, OverlongNumber, NumberTooLarge, NotHdt, WrongKind, Check16, WrongFormat, HeaderLength, TripleOrder, Check8, Check32, SequenceKind, Width, BitsKind, SectionKind, BlockSize, BlockCount, BlockPlace, PrefixTooLong, PackedLength, NotUtf8, StringsNotAscending, SectionsOverlap, NoTriples, LengthsDiffer, LastMark, MarkCount, SubjectRange, PredicateRange, ObjectRange, PredicatesNotAscending, ObjectsNotAscending, TrailingBytes, Unused}
 
--- the number, from 1, in the order in which the format's parts come
+-- the number, from 1, in the order of the parts of the format
 abbrev pub reason_number : Reason → ℕ
 reason_number Truncated = 1
 reason_number OverlongNumber = 2
@@ -79,6 +79,6 @@ reason_name ObjectsNotAscending = codes "ObjectsNotAscending"
 reason_name TrailingBytes = codes "TrailingBytes"
 reason_name Unused = codes "Unused"
 
--- a fault as text: the reason's name, and the place in decimal
+-- an error as text: the name of its reason, and the offset in decimal
 abbrev pub fault_text : Fault → List ℕ
 fault_text fault = reason_name fault.reason ++ codes " at " ++ decimal fault.place

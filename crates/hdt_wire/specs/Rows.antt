@@ -1,42 +1,42 @@
--- Reading by rows. The format is a table: each row is a condition, with the reason and the place of the fault that
--- stands where the row is the first to fail. A part of a file is read by a list of such rows, one after another.
+-- Checks. The format is a list of checks, each a condition with the reason and the offset of the error that a file has
+-- if this check is the first that fails. A part of a file is read by such checks in turn.
 use Rattle.std.specs.Prelude.{◌≡◌, ℕ, ◌+◌, ◌==◌, ◌≤◌, ◌<◌, Bool, nat_lt, nat_le, List, length, take, drop, slice_index, slice_range, Option, IfSome, Result, Ok, Err, if◌then◌else◌}
 use Rattle.std.specs.List.{position_or_len}
 use Rattle.hdt_wire.specs.declared.fault.Fault.{Fault}
 use Rattle.hdt_wire.specs.declared.fault.Reason.{Reason}
 use Rattle.hdt_wire.specs.declared.fault.Reason.TheVariants.{Truncated}
 
--- the rows after a part see what was read; the first fault is the whole answer
+-- later checks see what was read; the first error is the result
 infixl 10 ◌>>=◌
 abbrev pub ◌>>=◌ : {A B : Type 0} → Result A Fault → (A → Result B Fault) → Result B Fault
 (Ok x) >>= f = f x
 (Err e) >>= f = Err e
 
--- a row: the condition holds, or the fault stands
+-- a check: the condition holds, or there is this error
 abbrev pub demand : Bool → ℕ → Reason → Result (Unit {0}) Fault
 demand holds place reason = if holds then Ok tt else Err (record { place = place; reason = reason })
 
--- what a function returned, its value seen by view, is what the rows give
+-- the result of a function, by a view of its value, is what the checks give
 abbrev pub Reads : {X Y : Type 0} → (X → Y) → Result X Fault → Result Y Fault → Type 0
 Reads view (Ok x) read = read ≡ Ok (view x)
 Reads view (Err f) read = read ≡ Err f
 
--- the same of a function that may run out of memory, where fault_of tells the fault of an error that is one
+-- the same of a function that may run out of memory: fault_of gives the error of the file, if it is one
 abbrev pub Gives : {X Y E : Type 0} → (E → Option Fault) → (X → Y) → Result X E → Result Y Fault → Type 0
 Gives fault_of view (Ok x) read = read ≡ Ok (view x)
 Gives fault_of view (Err e) read = IfSome (fault_of e) (λ f. read ≡ Err f)
 
--- so many bytes, and the place after them
+-- so many bytes, and the offset after them
 unfoldable pub bytes_at : ℕ → List ℕ → ℕ → Result (List ℕ × ℕ) Fault
 bytes_at count bytes at = do
   _ ← demand (nat_le (at + count) (length bytes)) at Truncated
   Ok (slice_range bytes at (at + count), at + count)
 
--- how many bytes stand before the first zero byte; without one, all
+-- the number of bytes before the first zero byte, or the length if there is none
 abbrev pub zero_in : List ℕ → ℕ
 zero_in bytes = position_or_len (λ b. b == 0) bytes
 
--- a text that ends at a zero byte, and the place after that byte
+-- a zero-terminated text, and the offset after its zero byte
 unfoldable pub text_at : List ℕ → ℕ → Result (List ℕ × ℕ) Fault
 text_at bytes at =
     let rest = drop at bytes in
@@ -45,19 +45,19 @@ text_at bytes at =
       _ ← demand (nat_lt len (length rest)) at Truncated
       Ok (take len rest, at + len + 1)
 
--- ---- what stands at a place
+-- ---- encodings at an offset
 
 -- each number of the list is a byte
 abbrev pub IsBytes : List ℕ → Type 0
 IsBytes bytes = (i : ℕ) → slice_index bytes i < 256
 
--- from a place on stand these bytes, up to an end
+-- these bytes are at an offset, up to an end
 pub record Stands (bytes : List ℕ) (at : ℕ) (text : List ℕ) (end : ℕ) : Type 0 where
   pub end_is : end ≡ at + length text
   pub within : end ≤ length bytes
   pub here : slice_range bytes at end ≡ text
 
--- from a place on stand bytes that spell the value, up to an end
+-- bytes that encode the value are at an offset, up to an end
 pub record SpelledAt {V : Type 0} (Spells : List ℕ → V → Type 0) (bytes : List ℕ) (at : ℕ) (v : V) (end : ℕ) : Type 0 where
   pub in_order : at ≤ end
   pub within : end ≤ length bytes

@@ -1,43 +1,43 @@
--- Numbers as the format writes them (rdfhdt.org, "HDT binary format", VByte): in base 128, least digit first, one
--- digit a byte. The top bit is 1 in the last byte alone.
+-- Variable-length numbers (rdfhdt.org, "HDT binary format", VByte): in base 128, least significant digit first, one
+-- digit a byte. Only the last byte has its top bit set.
 use Rattle.std.specs.Prelude.{◌≡◌, ℕ, zero, suc, ◌/◌, ◌+◌, ◌*◌, ◌%◌, ◌^◌, ◌<◌, ◌==◌, ◌||◌, not, List, [], ◌∷◌, length, take, drop, Result, Ok, nat_lt, nat_le, slice_index, if◌then◌else◌}
 use Rattle.std.specs.List.{position_or_len}
 use Rattle.hdt_wire.specs.declared.fault.Fault.{Fault}
 use Rattle.hdt_wire.specs.declared.fault.Reason.TheVariants.{Truncated, OverlongNumber, NumberTooLarge}
 use Rattle.hdt_wire.specs.Rows.{◌>>=◌, SpelledAt, demand}
 
--- The bytes spell the number. The last byte is the last digit and 128. Before it stands the least digit,
--- and the bytes after it spell the rest, which isn't 0: so each number has one spelling.
+-- The bytes encode the number. The only byte is the number plus 128; or the first byte is the least significant digit,
+-- and the others encode the rest, which is not 0. So each number has one encoding.
 abbrev pub VByte : List ℕ → ℕ → Type 0
 VByte [] v = ⊥
 VByte (b ∷ []) v = (v < 128) × (b ≡ v + 128)
 VByte (b ∷ c ∷ bs) v = (b < 128) × (high : ℕ) × (0 < high) × (v ≡ b + 128 * high) × VByte (c ∷ bs) high
 
--- the spelling as a function, of at most k bytes before the last one
+-- the encoding, with at most k bytes before the last one
 unfoldable pub digits_by : ℕ → ℕ → List ℕ
 digits_by zero v = (v + 128) ∷ []
 digits_by (suc k) v = if nat_lt v 128 then (v + 128) ∷ [] else (v % 128) ∷ digits_by k (v / 128)
 
--- the spelling of a number below 2 ^ 64
+-- the encoding of a number below 2 ^ 64
 unfoldable pub vbyte : ℕ → List ℕ
 vbyte v = digits_by 9 v
 
 -- ---- reading
 
--- the number that digits stand for, whatever their top bits
+-- the number with these digits, whatever their top bits
 abbrev pub number_of : List ℕ → ℕ
 number_of [] = 0
 number_of (b ∷ bs) = b % 128 + 128 * number_of bs
 
--- the ten bytes from a place, or those that are there
+-- the ten bytes at an offset, or as many as there are
 abbrev pub window : List ℕ → ℕ → List ℕ
 window bytes at = take 10 (drop at bytes)
 
--- the index of the first byte with its top bit set; without one, the length
+-- the index of the first byte with its top bit set, or the length if there is none
 abbrev pub last_of : List ℕ → ℕ
 last_of seen = position_or_len (λ b. nat_le 128 b) seen
 
--- the rows of a number: the value and the place after it, or the fault that stands
+-- the checks of a number in turn: the value and the offset after it, or the first error
 unfoldable pub vbyte_at : List ℕ → ℕ → Result (ℕ × ℕ) Fault
 vbyte_at bytes at =
     let seen = window bytes at in
@@ -49,7 +49,7 @@ vbyte_at bytes at =
       _ ← demand (last == 0 || not (slice_index seen last == 128)) at OverlongNumber
       Ok (value, at + last + 1)
 
--- the number below 2 ^ 64 stands at the place, in its one spelling
+-- a number below 2 ^ 64 is encoded at the offset
 pub record IsNumber (v : ℕ) (bytes : List ℕ) (at end : ℕ) : Type 0 where
   pub spelled : SpelledAt VByte bytes at v end
   pub below : v < 2 ^ 64

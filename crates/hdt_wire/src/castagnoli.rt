@@ -1,8 +1,8 @@
-//! The check code CRC-32C, eight bytes a step, by eight tables of 256 entries.
+//! CRC-32C, eight bytes at a time, by eight tables of 256 entries.
 ghost use Rattle.std.specs.Prelude.{◌≡◌, fold, length, slice_index};
 ghost use Rattle.hdt_wire.specs.Check.{take32, code32};
 
-/// The register of the 32-bit code after one more byte.
+/// The register of the CRC after one more byte.
 #[tactic(auto, using(crate::proofs::Checks::entry32))]
 fn next_one(register: u32, byte: u8) -> u32
     ensures { result ≡ take32 register byte }
@@ -12,7 +12,7 @@ fn next_one(register: u32, byte: u8) -> u32
     (register / 256) ^ table[low as usize]
 }
 
-/// The register of the 32-bit code after eight more bytes: the first is shifted 64 times from here on, the last 8.
+/// The register of the CRC after eight more bytes: the first byte is shifted 64 times, the last one 8 times.
 fn next_eight(register: u32, bytes: &[u8]) -> u32
     requires { length bytes.now ≡ 8 }
     ensures { result ≡ fold take32 register bytes.now }
@@ -38,9 +38,9 @@ fn entry(table: &[u32; 256], byte: u8) -> u32
     table[byte as usize]
 }
 
-/// The 32-bit check code of the bytes, CRC-32C: polynomial 1EDC6F41, start all ones, reflected, inverted at the end. It
-/// stands behind the data of a sequence and the packed strings of a section. Time is in proportion to the bytes, eight
-/// at a time; it takes no memory.
+/// Returns the CRC-32C of the bytes: polynomial 1EDC6F41, initial value all ones, reflected, inverted at the end. HDT
+/// has it after the data of a sequence and after the front-coded strings of a section. Linear time, eight bytes at a
+/// time.
 pub fn check32(bytes: &[u8]) -> u32
     ensures { result ≡ code32 bytes.now }
 {
@@ -57,7 +57,7 @@ pub fn check32(bytes: &[u8]) -> u32
     register ^ u32::MAX
 }
 
-// What 8, 16 .. 64 shifts make of each byte, by the Castagnoli polynomial, reflected.
+// Each byte after 8, 16 .. 64 shifts by the Castagnoli polynomial, reflected.
 
 const AFTER_8: [u32; 256] = [
     0x00000000, 0xF26B8303, 0xE13B70F7, 0x1350F3F4, 0xC79A971F, 0x35F1141C, 0x26A1E7E8, 0xD4CA64EB,

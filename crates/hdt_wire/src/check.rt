@@ -1,8 +1,8 @@
-//! The check codes CRC-8/SMBUS and CRC-16/ARC, each by a table of 256 entries.
+//! CRC-8/SMBUS and CRC-16/ARC, each by a table of 256 entries.
 ghost use Rattle.std.specs.Prelude.{◌≡◌, bit_xor};
 ghost use Rattle.hdt_wire.specs.Check.{take8, take16, code8, code16};
 
-/// What eight shifts make of each byte, by the polynomial x^8 + x^2 + x + 1.
+/// Each byte after eight shifts by the polynomial x^8 + x^2 + x + 1.
 const TABLE8: [u8; 256] = [
     0x00, 0x07, 0x0E, 0x09, 0x1C, 0x1B, 0x12, 0x15, 0x38, 0x3F, 0x36, 0x31, 0x24, 0x23, 0x2A, 0x2D,
     0x70, 0x77, 0x7E, 0x79, 0x6C, 0x6B, 0x62, 0x65, 0x48, 0x4F, 0x46, 0x41, 0x54, 0x53, 0x5A, 0x5D,
@@ -22,7 +22,7 @@ const TABLE8: [u8; 256] = [
     0xDE, 0xD9, 0xD0, 0xD7, 0xC2, 0xC5, 0xCC, 0xCB, 0xE6, 0xE1, 0xE8, 0xEF, 0xFA, 0xFD, 0xF4, 0xF3,
 ];
 
-/// What eight shifts make of each byte, by the polynomial x^16 + x^15 + x^2 + 1, reflected.
+/// Each byte after eight shifts by the polynomial x^16 + x^15 + x^2 + 1, reflected.
 const TABLE16: [u16; 256] = [
     0x0000, 0xC0C1, 0xC181, 0x0140, 0xC301, 0x03C0, 0x0280, 0xC241, 0xC601, 0x06C0, 0x0780, 0xC741,
     0x0500, 0xC5C1, 0xC481, 0x0440, 0xCC01, 0x0CC0, 0x0D80, 0xCD41, 0x0F00, 0xCFC1, 0xCE81, 0x0E40,
@@ -48,7 +48,7 @@ const TABLE16: [u16; 256] = [
     0x4100, 0x81C1, 0x8081, 0x4040,
 ];
 
-/// The register of the 8-bit code after one more byte.
+/// The register of the CRC-8 after one more byte.
 #[tactic(auto, using(crate::proofs::Checks::entry8))]
 fn next8(register: u8, byte: u8) -> u8
     ensures { result ≡ take8 register byte }
@@ -57,7 +57,7 @@ fn next8(register: u8, byte: u8) -> u8
     table[(register ^ byte) as usize]
 }
 
-/// The register of the 16-bit code after one more byte.
+/// The register of the CRC-16 after one more byte.
 #[tactic(auto, using(crate::proofs::Checks::entry16))]
 fn next16(register: u16, byte: u8) -> u16
     ensures { result ≡ take16 register byte }
@@ -67,8 +67,8 @@ fn next16(register: u16, byte: u8) -> u16
     (register / 256) ^ table[low as usize]
 }
 
-/// The 8-bit check code of the bytes, CRC-8/SMBUS: polynomial 07, start 0, neither reflected nor inverted. It stands
-/// behind the counts of a sequence or a section. Time is in proportion to the bytes; it takes no memory.
+/// Returns the CRC-8/SMBUS of the bytes: polynomial 07, initial value 0, neither reflected nor inverted. HDT has it
+/// after the preamble of a sequence or a section. Linear time in the bytes.
 pub fn check8(bytes: &[u8]) -> u8
     ensures { result ≡ code8 bytes.now }
 {
@@ -77,8 +77,8 @@ pub fn check8(bytes: &[u8]) -> u8
         .fold(0, |register, byte| next8(register, *byte))
 }
 
-/// The 16-bit check code of the bytes, CRC-16/ARC: polynomial 8005, start 0, reflected, not inverted. It stands behind
-/// a control block. Time is in proportion to the bytes; it takes no memory.
+/// Returns the CRC-16/ARC of the bytes: polynomial 8005, initial value 0, reflected, not inverted. HDT has it after
+/// control information. Linear time in the bytes.
 pub fn check16(bytes: &[u8]) -> u16
     ensures { result ≡ code16 bytes.now }
 {

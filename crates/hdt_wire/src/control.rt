@@ -1,4 +1,4 @@
-//! Control blocks: the cookie, a kind, a format text, a property text and a check code.
+//! Control information: the cookie `$HDT`, a type, the format, the properties, and a CRC-16.
 ghost use Rattle.std.specs.Prelude.{◌≡◌, ℕ, List, ◌+◌, ◌++◌, length, Ok, IfOk, OnOk, OnErr};
 ghost use Rattle.hdt_wire.specs.Rows.{Reads, IsBytes, Stands};
 ghost use Rattle.hdt_wire.specs.Control.{block_of, block_at, control, control_at, kind_code, format_text, IsBlock, HasNoZero, Keeps};
@@ -9,7 +9,7 @@ use crate::rows::{bytes_at, cut_on_error, demand, text_at};
 use byteorder::{ByteOrder, LittleEndian};
 use std::alloc::AllocError;
 
-/// What a control block stands before.
+/// The type of control information: the part of the file that follows it.
 #[derive(Clone, Copy, Debug, PartialEq, Eq)]
 pub enum Kind {
     /// The whole file.
@@ -23,7 +23,7 @@ pub enum Kind {
 }
 
 impl Kind {
-    /// The byte that stands for the kind.
+    /// The byte that encodes the type.
     fn code(self) -> u8
         ensures { result ≡ kind_code self }
     {
@@ -35,7 +35,7 @@ impl Kind {
         }
     }
 
-    /// The one format text that belongs to the kind.
+    /// The only format that is read for this type.
     fn format(self) -> &'static [u8]
         ensures { result.now ≡ format_text self }
     {
@@ -48,7 +48,7 @@ impl Kind {
     }
 }
 
-/// A control block that was read: its texts are lent from the input.
+/// Control information that was read. Its texts are borrowed from the input.
 #[derive(Clone, Copy)]
 pub struct Control<'a> {
     format: &'a [u8],
@@ -62,28 +62,28 @@ impl<'a> Control<'a> {
     ghost use Rattle.std.specs.Prelude.{◌≡◌};
     ghost use Rattle.hdt_wire.specs.Control.{block_of};
 
-    /// The format text, without its zero byte.
+    /// Returns the format, without its zero byte.
     pub fn format(&self) -> &'a [u8]
         ensures { result.now ≡ (block_of self.now).format }
     {
         self.format
     }
 
-    /// The property text, without its zero byte.
+    /// Returns the properties, `key=value;` repeated, without their zero byte.
     pub fn properties(&self) -> &'a [u8]
         ensures { result.now ≡ (block_of self.now).properties }
     {
         self.properties
     }
 
-    /// The place of the property text, in bytes from the start of the input.
+    /// Returns the byte offset of the properties in the input.
     pub fn properties_at(&self) -> usize
         ensures { result ≡ (block_of self.now).properties_at }
     {
         self.properties_at
     }
 
-    /// The place after the block, in bytes from the start of the input.
+    /// Returns the byte offset after the CRC.
     pub fn end(&self) -> usize
         ensures { result ≡ (block_of self.now).end }
     {
@@ -91,7 +91,7 @@ impl<'a> Control<'a> {
     }
 }
 
-/// Reads by rows.
+/// Reads control information, check by check.
 #[tactic(auto, unfolding(crate::specs::Control::control_at, crate::specs::Control::block_of))]
 fn read_rows<'a>(bytes: &'a [u8], at: usize, kind: Kind) -> Result<Control<'a>, Fault>
     ensures exact { Reads block_of result (control_at kind bytes.now at) }
@@ -118,23 +118,24 @@ fn read_rows<'a>(bytes: &'a [u8], at: usize, kind: Kind) -> Result<Control<'a>, 
     })
 }
 
-/// Reads the control block of a kind at a place, in bytes from 0. Bytes may follow it. Time is in proportion to the
-/// block; it takes no memory.
+/// Reads the control information of a type at a byte offset, from 0. More bytes may follow. Linear time in its length.
 ///
-/// Faults, in the order of the block's rows: `Truncated`, `NotHdt`, `WrongKind`, `Check16`, `WrongFormat`.
+/// # Errors
+///
+/// The first of these, in this order: `Truncated`, `NotHdt`, `WrongKind`, `Check16`, `WrongFormat`.
 pub fn read_control<'a>(bytes: &'a [u8], at: usize, kind: Kind) -> Result<Control<'a>, Fault>
-    // What is read stands there, spelled so.
+    // What is returned is encoded there.
     ensures found { IfOk result (λ c. IsBlock kind (block_of c) bytes.now at) }
-    // What is spelled so and stands there is read.
+    // Whatever is encoded there is returned.
     ensures only { (properties : List ℕ) (end : ℕ) → HasNoZero properties → Stands bytes.now at (control kind properties) end
         → Reads block_of result (Ok (block_at kind properties at end)) }
-    // Otherwise it is the one fault that stands.
+    // Otherwise it is the first error.
     ensures exact { Reads block_of result (control_at kind bytes.now at) }
 {
     read_rows(bytes, at, kind)
 }
 
-/// Appends a block; an `Err` may leave a beginning of it behind.
+/// Appends control information; an error may leave its first bytes.
 fn append_block(kind: Kind, properties: &[u8], out: &mut Vec<u8>) -> Result<(), AllocError>
     ensures ok { OnOk result (out.new.items ≡ out.old.items ++ control kind properties.now) }
     ensures err { OnErr result (Keeps out.old.items out.new.items) }
@@ -151,8 +152,8 @@ fn append_block(kind: Kind, properties: &[u8], out: &mut Vec<u8>) -> Result<(), 
     out.extend_from_slice(&code)
 }
 
-/// Appends the control block of a kind with a property text that has no zero byte. Where memory is refused, `out`
-/// is as it was.
+/// Appends the control information of a type with these properties, which have no zero byte. If memory runs out, `out`
+/// is unchanged.
 pub fn put_control(kind: Kind, properties: &[u8], out: &mut Vec<u8>) -> Result<(), AllocError>
     requires { HasNoZero properties.now }
     ensures ok { OnOk result (out.new.items ≡ out.old.items ++ control kind properties.now) }
@@ -163,7 +164,7 @@ pub fn put_control(kind: Kind, properties: &[u8], out: &mut Vec<u8>) -> Result<(
     cut_on_error(appended, start, out)
 }
 
-/// A block that was written is read again, whatever stands before and after it.
+/// The law that control information that was written is read back, whatever precedes and follows it.
 pub fn block_is_read_again()
     ensures { (kind : Kind) (before after properties : List ℕ) → IsBytes properties → HasNoZero properties
         → control_at kind (before ++ control kind properties ++ after) (length before)

@@ -1,4 +1,4 @@
-//! Readers and writers whose failures are counted, by a number that only contracts see.
+//! Readers and writers with a count of their failures, which only contracts see.
 ghost use Rattle.std.specs.Prelude.{◌≡◌, ◌+◌, ◌<◌, [], OnOk, OnErr, IfOk, IfErr, length, take};
 ghost use Rattle.std.specs.Io.{ReadsAtMost, WritesAtMost};
 ghost use Rattle.std.specs.Io.KnownBytes.{Appends, ReadConsumes, WriteAppends};
@@ -24,8 +24,8 @@ impl fmt::Display for Failed {
 
 impl Error for Failed {}
 
-/// A reader or a writer with the count of its failures: each `Err`, `Interrupted` too, and each write that takes
-/// nothing of a slice that is not empty. The count takes no bytes; contracts alone see it.
+/// A reader or a writer with a count of its failures: each `Err`, also `Interrupted`, and each write that takes nothing
+/// of a slice that is not empty. The count takes no memory; only contracts see it.
 #[derive(Drop)]
 pub struct Counted<T> {
     inner: T,
@@ -36,7 +36,7 @@ pub struct Counted<T> {
 impl<T> Counted<T> {
     ghost use Rattle.hdt_wire.specs.Counted.{inner, failures};
 
-    /// A reader or a writer that has not failed yet.
+    /// Wraps a reader or a writer, with no failures so far.
     pub fn new(value: T) -> Counted<T>
         ensures inner { inner result ≡ value }
         ensures failures { failures result ≡ 0 }
@@ -47,7 +47,7 @@ impl<T> Counted<T> {
         }
     }
 
-    /// The reader or writer itself.
+    /// Returns the reader or writer.
     pub fn into_inner(self) -> T
         ensures { result ≡ inner self }
     {
@@ -64,8 +64,8 @@ impl<T> Counted<T> {
         Failed
     }
 
-    /// Reads by one call of the reader: how many bytes it gave, 0 at its end or for an empty buffer. `Failed` where
-    /// it answers any error; nothing is tried again.
+    /// Calls the reader once. Returns the number of bytes read: 0 at the end of the input or for an empty buffer. Fails
+    /// if the reader does, with any error; nothing is retried.
     pub fn read(&mut self, buf: &mut [u8]) -> Result<usize, Failed>
     where
         T: Read,
@@ -80,8 +80,8 @@ impl<T> Counted<T> {
         }
     }
 
-    /// Writes by one call of the writer: how many bytes it took. `Failed` where it answers any error, or takes
-    /// nothing of a slice that is not empty; nothing is tried again.
+    /// Calls the writer once. Returns the number of bytes written. Fails if the writer does, with any error, or if it
+    /// takes nothing of a slice that is not empty; nothing is retried.
     pub fn write(&mut self, buf: &[u8]) -> Result<usize, Failed>
     where
         T: Write,
@@ -97,8 +97,8 @@ impl<T> Counted<T> {
         }
     }
 
-    /// Writes all of a text, by as many calls of the writer as it wants, and none behind its last byte. Where a write
-    /// failed, the answer is how many bytes went out before it: fewer than all. It takes no memory.
+    /// Writes all bytes, in as many calls of the writer as it takes, with no call after the last byte. The error is the
+    /// number of bytes that were written before a write failed: fewer than all.
     pub fn write_all(&mut self, text: &[u8]) -> Result<(), u64>
     where
         T: Write,

@@ -5,7 +5,7 @@ ghost use Rattle.std.specs.Fmt.{decimal};
 use itoa::Buffer;
 use std::alloc::AllocError;
 
-/// Appends a number in decimal, without leading zeros. Where memory is refused, `out` is as it was.
+/// Appends a number in decimal, without leading zeros. If memory runs out, `out` is unchanged.
 pub fn put_decimal(number: u64, out: &mut Vec<u8>) -> Result<(), AllocError>
     ensures ok { OnOk result (out.new.items ≡ out.old.items ++ decimal number) }
     ensures err { OnErr result (out.new.items ≡ out.old.items) }

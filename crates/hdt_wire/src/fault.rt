@@ -1,93 +1,93 @@
-//! What is wrong with a file, and where.
+//! The errors of a file: what is wrong, and at which byte offset.
 ghost use Rattle.std.specs.Prelude.{◌≡◌};
 
 use std::error::Error;
 use std::fmt;
 
-/// What is wrong with a file: the reason of its first fault. The numbers are those of [`Reason::number`].
+/// What is wrong with a file. The values are those of [`Reason::number`].
 #[derive(Clone, Copy, Debug, PartialEq, Eq)]
 pub enum Reason {
-    /// The input ends within the part, or before it.
+    /// The input ends within the item that is read, or before it.
     Truncated = 1,
-    /// A number has a longer spelling than it needs.
+    /// A VByte number has more bytes than it needs.
     OverlongNumber = 2,
-    /// A number is not below 2^64.
+    /// A VByte number is 2^64 or more.
     NumberTooLarge = 3,
-    /// A control block does not begin with `$HDT`.
+    /// Control information does not begin with `$HDT`.
     NotHdt = 4,
-    /// A control block is of another kind than belongs there.
+    /// Control information is of another type than the one expected here.
     WrongKind = 5,
-    /// The 16-bit check code of a control block differs.
+    /// The CRC-16 of control information does not match.
     Check16 = 6,
-    /// The format text is not the one of the block's kind.
+    /// The format is not the supported one for this type of control information.
     WrongFormat = 7,
-    /// The header has no property `length`, or one that is no decimal number below 2^64.
+    /// The header has no property `length`, or its value is not a decimal number below 2^64.
     HeaderLength = 8,
     /// The property `order` of the triples is not `1`.
     TripleOrder = 9,
-    /// An 8-bit check code differs.
+    /// A CRC-8 does not match.
     Check8 = 10,
-    /// A 32-bit check code differs.
+    /// A CRC-32C does not match.
     Check32 = 11,
-    /// The type byte of a number sequence is not 1.
+    /// The type byte of a log sequence is not 1.
     SequenceKind = 12,
-    /// Entries of a number sequence are wider than 64 bits.
+    /// The entries of a log sequence have more than 64 bits.
     Width = 13,
-    /// The type byte of a bit sequence is not 1.
+    /// The type byte of a bitmap is not 1.
     BitsKind = 14,
     /// The type byte of a dictionary section is not 2.
     SectionKind = 15,
-    /// A section that holds strings has the block size 0.
+    /// A section with strings has the block size 0.
     BlockSize = 16,
-    /// A section has another count of block starts than of blocks and one.
+    /// The number of block offsets of a section is not that of its blocks plus one.
     BlockCount = 17,
-    /// A block start is not where its block begins.
+    /// A block offset is not where its block begins.
     BlockPlace = 18,
-    /// A string keeps more bytes than the string before it has.
+    /// A string shares more bytes with the previous string than that has.
     PrefixTooLong = 19,
-    /// The strings of a section do not fill its packed bytes exactly.
+    /// The strings of a section do not end where its front-coded bytes end.
     PackedLength = 20,
     /// A string is not UTF-8.
     NotUtf8 = 21,
-    /// A string is not greater than the one before it.
+    /// A string is not greater than the previous one.
     StringsNotAscending = 22,
-    /// A string stands in two of the shared, the subjects and the objects section.
+    /// A string is in two of the sections shared, subjects and objects.
     SectionsOverlap = 23,
-    /// A bit sequence has no bit.
+    /// A bitmap of the triples is empty.
     NoTriples = 24,
-    /// A bit sequence and its number sequence differ in length.
+    /// A bitmap and its log sequence differ in length.
     LengthsDiffer = 25,
-    /// The last bit of a bit sequence is 0.
+    /// The last bit of a bitmap is 0.
     LastMark = 26,
-    /// The ones of bit sequence Z are not as many as there are pairs.
+    /// The number of 1-bits in bitmap Z is not the number of pairs of subject and predicate.
     MarkCount = 27,
-    /// A subject's number is above the count of subjects.
+    /// A subject ID is greater than the number of subjects.
     SubjectRange = 28,
-    /// A predicate's number is 0 or above the count of predicates.
+    /// A predicate ID is 0 or greater than the number of predicates.
     PredicateRange = 29,
-    /// An object's number is 0 or above the count of objects.
+    /// An object ID is 0 or greater than the number of objects.
     ObjectRange = 30,
-    /// A predicate is not greater than the one before it of the same subject.
+    /// A predicate ID is not greater than the previous one of the same subject.
     PredicatesNotAscending = 31,
-    /// An object is not greater than the one before it of the same pair.
+    /// An object ID is not greater than the previous one of the same subject and predicate.
     ObjectsNotAscending = 32,
-    /// Bytes follow the last part.
+    /// Bytes follow the triples.
     TrailingBytes = 33,
-    /// No triple uses a string of the dictionary in its role. Only tight reading asks for it.
+    /// No triple uses a string of the dictionary in the role of its section. Only tight verification reports it.
     Unused = 34,
 }
 
 impl Reason {
     ghost use Rattle.hdt_wire.specs.Fault.{reason_number, reason_name};
 
-    /// The reason's number, from 1 to 34, as the table of faults in docs/FORMAT.md has it.
+    /// Returns the reason's number, 1 to 34, as in docs/FORMAT.md.
     pub fn number(self) -> u8
         ensures { result ≡ reason_number self }
     {
         self as u8
     }
 
-    /// The reason's name, as the table of faults in docs/FORMAT.md has it.
+    /// Returns the reason's name, as in docs/FORMAT.md.
     pub fn name(self) -> &'static str
         ensures { result.now ≡ reason_name self }
     {
@@ -130,12 +130,12 @@ impl Reason {
     }
 }
 
-/// The first fault of a file: the first row of the format that fails, and the place that it names.
+/// The first error of a file: the first check of the format that fails, and its byte offset.
 #[derive(Clone, Copy, Debug, PartialEq, Eq)]
 pub struct Fault {
-    /// Counted in bytes from the first byte of the input, which is 0.
+    /// The byte offset of the error in the input, from 0.
     pub place: u64,
-    /// Which row fails.
+    /// What is wrong there.
     pub reason: Reason,
 }
 

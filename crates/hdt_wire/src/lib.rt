@@ -1,10 +1,10 @@
-//! The bytes that all parts of an HDT file share (HDT format version 1): numbers in base 128, check codes, control
-//! blocks and their properties, and the faults of a file with their places.
+//! The byte encodings that all parts of an HDT file share (HDT format version 1): VByte numbers, CRCs, control
+//! information with its properties, and the errors of a file with their byte offsets.
 //!
-//! The layer's promise: what is read at a place is the spelling of the value there, whatever follows; else the one
-//! fault that stands there is answered.
+//! What this crate promises: a reader returns the value whose encoding begins at the offset, whatever follows it; if
+//! there is none, it returns the first error.
 //!
-//! A function that says nothing of its cost takes constant time and no memory; laws do nothing when they are called.
+//! Functions that state no cost take constant time and allocate nothing. Laws do nothing when called.
 //!
 //! ```text
 //! let block = read_control(bytes, 0, Kind::Global)?;

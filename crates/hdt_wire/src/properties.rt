@@ -1,4 +1,4 @@
-//! Properties: a text of pieces `key=value`, cut at each `;`.
+//! Properties of control information: items `key=value`, separated by `;`.
 ghost use Rattle.std.specs.Prelude.{◌≡◌, ◌≤◌, length};
 ghost use Rattle.std.specs.Option.{option_copied};
 ghost use Rattle.std.specs.List.{position_or_len};
@@ -6,7 +6,7 @@ ghost use Rattle.hdt_wire.specs.Property.{is, value_of, later, property_value};
 
 use memchr::memchr;
 
-/// The index of the first such byte; without one, the length.
+/// The index of the first such byte, or the length if there is none.
 fn index_of(byte: u8, bytes: &[u8]) -> usize
     ensures index { result ≡ position_or_len (is byte) bytes.now }
     ensures within { result ≤ length bytes.now }
@@ -17,7 +17,7 @@ fn index_of(byte: u8, bytes: &[u8]) -> usize
     }
 }
 
-/// The value of a piece that has the key.
+/// The value of an item, if it has the key.
 fn value_in<'a>(piece: &'a [u8], key: &[u8]) -> Option<&'a [u8]>
     ensures { option_copied result ≡ value_of key.now piece.now }
 {
@@ -29,16 +29,15 @@ fn value_in<'a>(piece: &'a [u8], key: &[u8]) -> Option<&'a [u8]>
     }
 }
 
-/// What counts after one more piece.
+/// The last value, after one more item.
 fn later<'a>(found: Option<&'a [u8]>, value: Option<&'a [u8]>) -> Option<&'a [u8]>
     ensures { option_copied result ≡ later (option_copied found.entry) (option_copied value.entry) }
 {
     value.or(found)
 }
 
-/// The value of the last piece with the key, in the property text of a control block. The text is cut at each `;`; a
-/// piece has the key before its first `=` and the value after it, and one without `=` is ignored. Time is in proportion
-/// to the text; it takes no memory.
+/// Returns the value of the last item with the key. Items are separated by `;`; an item has the key before its first
+/// `=` and the value after it, and one without `=` is ignored. Linear time in the text.
 pub fn property<'a>(text: &'a [u8], key: &[u8]) -> Option<&'a [u8]>
     ensures { option_copied result ≡ property_value text.now key.now }
 {

@@ -1,12 +1,12 @@
-//! The roles that a string can have in a triple, which dictionary and triples share.
+//! The roles of a term in a triple.
 
-/// What a string is in a triple.
+/// The role of a term in a triple. Each role has its own IDs, from 1.
 #[derive(Clone, Copy, Debug, PartialEq, Eq)]
 pub enum Role {
-    /// The first string of a triple. Numbers go through the shared strings, then the other subjects.
+    /// The subject. IDs count the strings of the section shared, then those of the section subjects.
     Subject,
-    /// The second string of a triple. Numbers go through the predicates.
+    /// The predicate. IDs count the strings of the section predicates.
     Predicate,
-    /// The third string of a triple. Numbers go through the shared strings, then the other objects.
+    /// The object. IDs count the strings of the section shared, then those of the section objects.
     Object,
 }

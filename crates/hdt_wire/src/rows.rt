@@ -1,11 +1,12 @@
-//! Reading by rows: what the parts of a file share. A reader's body has one line for each row of its part.
+//! The checks that the readers of all parts are made of. A reader's body has one line for each check in the table of
+//! its part in docs/FORMAT.md.
 ghost use Rattle.std.specs.Prelude.{◌≡◌, ◌+◌, ◌<◌, ◌≤◌, length, take, IfOk, OnErr, OnOk};
 ghost use Rattle.hdt_wire.specs.Rows.{Reads, demand, bytes_at, zero_in, text_at};
 
 use crate::fault::{Fault, Reason};
 use memchr::memchr;
 
-/// A row: the condition holds, or the fault of this reason stands at the place, in bytes from 0.
+/// A check: fails with this reason at `place`, a byte offset from 0, unless the condition holds.
 pub fn demand(holds: bool, place: usize, reason: Reason) -> Result<(), Fault>
     ensures exact { result ≡ demand holds place reason }
 {
@@ -19,7 +20,8 @@ pub fn demand(holds: bool, place: usize, reason: Reason) -> Result<(), Fault>
     }
 }
 
-/// The `count` bytes from a place, and the place after them; with fewer left, `Truncated` at the place.
+/// Returns the `count` bytes at offset `at`, and the offset after them. Fails with `Truncated` at `at` if there are
+/// fewer.
 #[tactic(auto, unfolding(crate::specs::Rows::bytes_at))]
 pub fn bytes_at(bytes: &[u8], at: usize, count: usize) -> Result<(&[u8], usize), Fault>
     ensures exact { Reads (λ x. (x.0.now, x.1)) result (bytes_at count bytes.now at) }
@@ -31,8 +33,7 @@ pub fn bytes_at(bytes: &[u8], at: usize, count: usize) -> Result<(&[u8], usize),
     Ok((&bytes[at..at + count], at + count))
 }
 
-/// How many bytes stand before the first zero byte; without one, all. Time is in proportion to them; it takes no
-/// memory.
+/// Returns the number of bytes before the first zero byte, or the length if there is none. Linear time in that number.
 pub fn zero_in(bytes: &[u8]) -> usize
     ensures len { result ≡ zero_in bytes.now }
     ensures within { result ≤ length bytes.now }
@@ -43,8 +44,8 @@ pub fn zero_in(bytes: &[u8]) -> usize
     }
 }
 
-/// The text from a place up to its zero byte, and the place after that byte; without a zero byte, `Truncated` at the
-/// place. Time is in proportion to the text; it takes no memory.
+/// Returns the zero-terminated text at offset `at`, without its zero byte, and the offset after that byte. Fails with
+/// `Truncated` at `at` if there is no zero byte. Linear time in the text.
 #[tactic(auto, unfolding(crate::specs::Rows::text_at))]
 pub fn text_at(bytes: &[u8], at: usize) -> Result<(&[u8], usize), Fault>
     ensures exact { Reads (λ x. (x.0.now, x.1)) result (text_at bytes.now at) }
@@ -56,7 +57,7 @@ pub fn text_at(bytes: &[u8], at: usize) -> Result<(&[u8], usize), Fault>
     Ok((&rest[..len], at + len + 1))
 }
 
-/// What appending to `out` answered; where it failed, cuts `out` back to the length that it had before.
+/// Returns the result of appending to `out`; after an error, truncates `out` to the length that it had before.
 pub fn cut_on_error<E>(appended: Result<(), E>, len: usize, out: &mut Vec<u8>) -> Result<(), E>
     ensures same { result ≡ appended }
     ensures ok { OnOk appended (out.new ≡ out.old) }

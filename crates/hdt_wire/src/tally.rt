@@ -1,11 +1,11 @@
-//! A number that only contracts see. Its value is set by two walks written by hand, `new` and `after`, and by
-//! nothing else: a proof that the check writes cannot set it.
+//! A ghost counter. Only `new` and `after` set it, by proofs written by hand: a proof that the prover finds by itself
+//! cannot.
 ghost use Rattle.std.specs.Prelude.{◌≡◌, ◌+◌, ℕ};
 ghost use base.Fml.{ftrue};
 
 use std::marker::{Model, PhantomData};
 
-/// A number that only contracts see, in `count`. It takes no bytes, and only [`Tally::tick`] raises it.
+/// A ghost counter: only contracts see `count`. It takes no memory, and only [`Tally::tick`] increments it.
 #[derive(Drop)]
 pub struct Tally {
     marker: PhantomData<()>,
@@ -17,7 +17,7 @@ impl Model for Tally {
 }
 
 impl Tally {
-    /// Zero.
+    /// Returns a counter at 0.
     pub fn new() -> Tally
         ensures { result.count ≡ 0 }
     {
@@ -26,7 +26,7 @@ impl Tally {
         }
     }
 
-    /// One more.
+    /// A counter that is one higher.
     fn after(before: &Tally) -> Tally
         ensures { result.count ≡ before.now.count + 1 }
     {
@@ -36,7 +36,7 @@ impl Tally {
         }
     }
 
-    /// Adds one.
+    /// Increments the counter.
     pub fn tick(&mut self)
         ensures { self.new.count ≡ self.old.count + 1 }
     {

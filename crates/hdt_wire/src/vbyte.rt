@@ -1,4 +1,4 @@
-//! Numbers in base 128, least digit first, one digit a byte, the last one marked by its top bit.
+//! VByte: numbers in base 128, least significant digit first, one digit a byte. The last byte has its top bit set.
 ghost use Rattle.std.specs.Prelude.{◌≡◌, ℕ, List, ◌+◌, ◌≤◌, ◌<◌, ◌^◌, ◌++◌, length, take, drop, Ok, OnOk, OnErr, IfOk, IfSome, IfNone};
 ghost use Rattle.hdt_wire.specs.Rows.{SpelledAt};
 ghost use Rattle.hdt_wire.specs.VByte.{VByte, vbyte, vbyte_at, last_of, number_of};
@@ -6,10 +6,10 @@ ghost use Rattle.hdt_wire.specs.VByte.{VByte, vbyte, vbyte_at, last_of, number_o
 use crate::fault::{Fault, Reason};
 use std::alloc::AllocError;
 
-/// How many bytes the longest spelling has, that of 2^64 - 1.
+/// The length of the longest encoding, that of 2^64 - 1.
 const LONGEST: usize = 10;
 
-/// How many bytes spell the number: 1 to 10.
+/// Returns the length of a number's encoding in bytes: 1 to 10.
 pub fn vbyte_len(v: u64) -> usize
     ensures { result ≡ length (vbyte v) }
 {
@@ -22,7 +22,7 @@ pub fn vbyte_len(v: u64) -> usize
     len
 }
 
-/// Appends the number's spelling. Where memory is refused, `out` is as it was.
+/// Appends the encoding of a number. If memory runs out, `out` is unchanged.
 pub fn put_vbyte(v: u64, out: &mut Vec<u8>) -> Result<(), AllocError>
     ensures ok { OnOk result (out.new.items ≡ out.old.items ++ vbyte v) }
     ensures err { OnErr result (out.new.items ≡ out.old.items) }
@@ -39,8 +39,8 @@ pub fn put_vbyte(v: u64, out: &mut Vec<u8>) -> Result<(), AllocError>
     out.extend_from_slice(&text[..len + 1])
 }
 
-/// Each number below 2^64 has one spelling, which begins no other, and which is read again, whatever stands before
-/// and after it.
+/// The law that each number below 2^64 has exactly one encoding, that no encoding is a prefix of another, and that it
+/// is read back, whatever precedes and follows it.
 pub fn one_spelling()
     ensures spelled { (v : ℕ) → v < 2 ^ 64 → VByte (vbyte v) v }
     ensures alone { (text : List ℕ) (v : ℕ) → v < 2 ^ 64 → VByte text v → text ≡ vbyte v }
@@ -49,7 +49,7 @@ pub fn one_spelling()
         → vbyte_at (before ++ vbyte v ++ after) (length before) ≡ Ok (v, length before + length (vbyte v)) }
 {}
 
-/// The ten bytes from a place, or those that are there.
+/// The ten bytes at an offset, or as many as there are.
 fn window(bytes: &[u8], at: usize) -> &[u8]
     ensures { result.now ≡ take 10 (drop at bytes.now) }
 {
@@ -61,7 +61,7 @@ fn window(bytes: &[u8], at: usize) -> &[u8]
     }
 }
 
-/// The number that the bytes up to the first one with its top bit set spell, and the index of that one.
+/// The number that the bytes up to the first one with its top bit set encode, and the index of that byte.
 fn number_in(seen: &[u8]) -> Option<(u128, usize)>
     requires { length seen.now ≤ 10 }
     ensures none { IfNone result (last_of seen.now ≡ length seen.now) }
@@ -80,7 +80,7 @@ fn number_in(seen: &[u8]) -> Option<(u128, usize)>
     None
 }
 
-/// Reads by rows.
+/// Reads a number, check by check.
 #[tactic(auto, unfolding(crate::specs::VByte::vbyte_at))]
 fn read_rows(bytes: &[u8], at: usize) -> Result<(u64, usize), Fault>
     ensures exact { result ≡ vbyte_at bytes.now at }
@@ -110,7 +110,7 @@ fn read_rows(bytes: &[u8], at: usize) -> Result<(u64, usize), Fault>
     Ok((value as u64, at + last + 1))
 }
 
-/// Reads by rows; a number of one byte needs only a look at it.
+/// Reads a number; most have one byte, and take a short way.
 #[tactic(auto, using(crate::proofs::Reading::one_byte))]
 fn read_short_or_long(bytes: &[u8], at: usize) -> Result<(u64, usize), Fault>
     ensures exact { result ≡ vbyte_at bytes.now at }
@@ -121,16 +121,18 @@ fn read_short_or_long(bytes: &[u8], at: usize) -> Result<(u64, usize), Fault>
     }
 }
 
-/// Reads the number at a place, in bytes from 0, and answers it with the place after it. Bytes may follow it.
+/// Reads the number at a byte offset, from 0. Returns it with the offset after it. More bytes may follow.
 ///
-/// Faults, all at the number's place: `Truncated` where the input ends before a last digit, `NumberTooLarge` where
-/// ten bytes have none or the value is not below 2^64, `OverlongNumber` where a last digit 0 stands after another.
+/// # Errors
+///
+/// All at the number's offset: `Truncated` if the input ends before the last digit, `NumberTooLarge` if the first ten
+/// bytes have no last digit or the value is 2^64 or more, `OverlongNumber` if the last of several digits is 0.
 pub fn read_vbyte(bytes: &[u8], at: usize) -> Result<(u64, usize), Fault>
-    // What is read stands there, spelled so.
+    // What is returned is encoded there.
     ensures found { IfOk result (λ r. SpelledAt VByte bytes.now at r.0 r.1) }
-    // What is spelled so and stands there is read.
+    // Whatever is encoded there is returned.
     ensures only { (v end : ℕ) → v < 2 ^ 64 → SpelledAt VByte bytes.now at v end → result ≡ Ok (v, end) }
-    // Otherwise it is the one fault that stands.
+    // Otherwise it is the first error.
     ensures exact { result ≡ vbyte_at bytes.now at }
     ensures end { IfOk result (λ r. (at < r.1) × (r.1 ≤ length bytes.now)) }
 {

@@ -1,4 +1,4 @@
--- Laws of the number that bytes are, least first.
+-- Laws of the number that bytes are, little-endian.
 use Rattle.std.proofs.Common.{Bool, ◌≡◌, ℕ, ◌+◌, ◌-◌, ◌*◌, ◌/◌, ◌%◌, ◌^◌, ◌<◌, ◌≤◌, zero, suc, List, [], ◌∷◌, length, get_or, take, drop, ap, sym, ◌∙◌, subst, arith}
 use Rattle.std.proofs.lemmas.Nat.{shr-shr, mod-pow-add, field_of, shr_high, mod_low, pow_pos, pow-add, mod_below}
 use Rattle.std.proofs.Math.Nat.{div-one, mod-one, zero-div, zero-mod}

@@ -1,4 +1,4 @@
--- Laws of counts of marks: how they grow from place to place.
+-- Laws of ranks: how they grow from place to place.
 use Rattle.std.proofs.Common.{◌≡◌, ℕ, zero, suc, ◌+◌, ◌-◌, ◌<◌, ◌≤◌, Bool, true, false, cond, List, [], ◌∷◌, length, get_or, take, slice_get, Some, refl, ap, sym, ◌∙◌, arith, le_of_suc-le-suc, inl, inr}
 use Rattle.std.specs.List.{count_by, SomeIndex}
 use Rattle.std.proofs.Math.Nat.{lt_of_not-le}
@@ -14,7 +14,7 @@ pub none_before : (bits : List Bool) → marks_before bits 0 ≡ 0
 unfolding marks_before
 none_before bits = refl
 
--- one more after a mark
+-- one more after a 1-bit
 pub marks_marked : (bits : List Bool) (i : ℕ) → slice_get bits i ≡ Some true → marks_before bits (i + 1) ≡ marks_before bits i + 1
 unfolding marks_before
 marks_marked bits i is = count_by_more_yes (λ b. b) bits i false (slice_get_within bits i true is) (get_or_from_slice_get bits i true false is)
@@ -37,7 +37,7 @@ unfolding marks_before
 by_value bits i h up true e = slice_get-get_or bits i false h ∙ ap Some e
 by_value bits i h up false e = absurd (omega (arith, up, count_by_more_no (λ b. b) bits i false h e))
 
--- where the count goes up there is a mark
+-- where the count goes up there is a 1-bit
 pub mark_from_counts : (bits : List Bool) (i : ℕ) → i < length bits → marks_before bits (i + 1) ≡ marks_before bits i + 1 → slice_get bits i ≡ Some true
 mark_from_counts bits i h up = by_value bits i h up (get_or bits i false) refl
 
@@ -58,7 +58,7 @@ marks_mono (b ∷ bits) zero j h = omega (arith, none_before (b ∷ bits))
 marks_mono (b ∷ bits) (suc i) zero h = absurd (omega (arith, h))
 marks_mono (b ∷ bits) (suc i) (suc j) h = omega (arith, marks_cons b bits i, marks_cons b bits j, marks_mono bits i j (le_of_suc-le-suc h))
 
--- no more marks than places
+-- no more 1-bits than places
 pub marks_le : (bits : List Bool) (i : ℕ) → marks_before bits i ≤ i
 unfolding marks_before
 marks_le bits i = omega (arith, count_by-le-length (λ b. b) (take i bits), length-take i bits)
@@ -68,7 +68,7 @@ pub marks_past : (bits : List Bool) (i j : ℕ) → length bits ≤ i → length
 unfolding marks_before
 marks_past bits i j h k = ap (count_by (λ b. b)) (take_all i bits h ∙ sym (take_all j bits k))
 
--- all marks stand before the end
+-- all 1-bits stand before the end
 pub marks_all : (bits : List Bool) (i : ℕ) → marks_before bits i ≤ marks_before bits (length bits)
 marks_all bits i = omega (arith, marks_mono bits i (length bits + i) (omega arith), marks_past bits (length bits + i) (length bits) (omega arith) (omega arith))
 
@@ -79,15 +79,15 @@ sooner bits i j h = lt_of_not-le (λ le. omega (arith, h, marks_mono bits j i le
 pub sooner_than_end : (bits : List Bool) (i j : ℕ) → marks_before bits i < marks_before bits j → i < length bits
 sooner_than_end bits i j h = lt_of_not-le (λ le. omega (arith, h, sooner bits i j h, marks_past bits i j le (omega (arith, le, sooner bits i j h))))
 
--- where the last bit is a mark, more come at or after each place
+-- where the last bit is a 1-bit, more come at or after each place
 pub marks_before_last : (bits : List Bool) (i : ℕ) → slice_get bits (length bits - 1) ≡ Some true → i < length bits → marks_before bits i < marks_before bits (length bits)
 marks_before_last bits i last h =
     let end : length bits - 1 + 1 ≡ length bits = omega (arith, h) in
     omega (arith, marks_mono bits i (length bits - 1) (omega (arith, h)), marks_marked bits (length bits - 1) last, ap (marks_before bits) end)
 
--- ---- places of marks
+-- ---- places of 1-bits
 
--- each number up to how many marks there are is that of a mark
+-- each number up to how many 1-bits there are is that of a 1-bit
 place_before : (bits : List Bool) (k n : ℕ) → 0 < k → k ≤ marks_before bits n → SomeIndex bits (IsPlaceOfMark bits k)
 place_before bits k zero some h = absurd (omega (arith, some, h, none_before bits))
 place_before bits k (suc n) some h =
@@ -104,15 +104,15 @@ place_before bits k (suc n) some h =
 pub some_place : (bits : List Bool) (k : ℕ) → 0 < k → k ≤ marks_before bits (length bits) → SomeIndex bits (IsPlaceOfMark bits k)
 some_place bits k some h = place_before bits k (length bits) some h
 
--- the marks through the place of mark k are k
+-- the 1-bits through the place of 1-bit k are k
 pub marks_through : (bits : List Bool) (k i : ℕ) → IsPlaceOfMark bits k i → marks_before bits (i + 1) ≡ k
 marks_through bits k i place = marks_marked bits i place.marked ∙ place.before
 
--- marks are numbered in the order of their places
+-- 1-bits are numbered in the order of their places
 pub places_ascend : (bits : List Bool) (k m i j : ℕ) → IsPlaceOfMark bits k i → IsPlaceOfMark bits m j → k < m → i < j
 places_ascend bits k m i j first second lt = sooner bits i j (omega (arith, first.before, second.before, lt))
 
--- and each number is that of one mark at most
+-- and each number is that of one 1-bit at most
 pub one_place : (bits : List Bool) (k i j : ℕ) → IsPlaceOfMark bits k i → IsPlaceOfMark bits k j → i ≡ j
 one_place bits k i j first second =
     let after = sooner bits i (j + 1) (omega (arith, first.before, marks_through bits k j second)) in

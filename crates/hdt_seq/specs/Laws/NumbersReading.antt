@@ -1,4 +1,4 @@
--- Laws of reading number sequences: what is read is spelled so, and what is spelled so is read.
+-- Laws of reading log sequences: what is read is encoded so, and what is encoded is read.
 use Rattle.std.proofs.Common.{◌≡◌, ℕ, ◌+◌, ◌*◌, ◌<◌, ◌≤◌, ◌^◌, true, List, [], ◌∷◌, ◌++◌, length, get_or, eqb, leb, Result, Ok, refl, sym, ap, subst, ◌∙◌, arith}
 use Rattle.std.specs.Prelude.{slice_range}
 use Rattle.std.proofs.lemmas.Bool.{eqb-true, leb-true, le-leb}
@@ -18,7 +18,7 @@ use Rattle.hdt_seq.specs.Sequence.{Sequence, framed, byte_at, code8_at, packed_a
 use Rattle.hdt_seq.specs.Laws.Sequence.{byte_found, byte_only, byte_is, code8_found, framed_found, framed_only, packed_bytes, spelled_stands, stands_spelled, begins}
 use Rattle.hdt_seq.specs.Numbers.{IsNumbers, numbers_at, numbers_places_from, numbers_spelling}
 
--- a sequence that was read: it is spelled from its place to its end, and lies where the format says
+-- a sequence that was read: it is encoded from its place to its end, and lies where the format says
 pub record NumbersFound (bytes : List ℕ) (at : ℕ) (s : Sequence ℕ) : Type 0 where
   pub spelled : SpelledAt IsNumbers bytes at s.items s.end
   pub lies : s.places ≡ numbers_places_from at (get_or bytes (at + 1) 0) (length s.items)
@@ -67,7 +67,7 @@ together bytes at kind width count start packed fits one narrow e1 e2 e3 e4 e5 =
       lies = rw (size, p2, p3, ← wide) refl;
     }
 
--- what is read stands there, spelled so
+-- what is read is encoded there
 pub numbers_found : (bytes : List ℕ) (at : ℕ) (s : Sequence ℕ) → IsBytes bytes → numbers_at bytes at ≡ Ok s → NumbersFound bytes at s
 unfolding numbers_at
 numbers_found bytes at s fits e =
@@ -79,7 +79,7 @@ numbers_found bytes at s fits e =
     let made = together bytes at kind width count start packed fits (eqb-true _ _ h1) (leb-true _ _ h2) e1 e2 e3 e4 e5 in
     subst (NumbersFound bytes at) (same_sequence _ _ e) made)))))))
 
--- what is spelled so and stands there is read
+-- what is encoded there is read
 spelling_read : (bytes : List ℕ) (at : ℕ) (text xs : List ℕ) (end : ℕ) (s : IsNumbers text xs) → IsBytes s.packed → Stands bytes at text end
     → numbers_at bytes at ≡ Ok (record { items = xs; places = numbers_places_from at s.width (length xs); end = end })
 unfolding numbers_at
@@ -107,7 +107,7 @@ numbers_only bytes at xs end fits h =
 
 -- ---- what was written
 
--- the canonical spelling spells the numbers
+-- the canonical encoding encodes the numbers
 pub numbers_spells : (xs : List ℕ) → length xs < 2 ^ 64 → EachFits 64 xs → IsNumbers (numbers_spelling xs) xs
 unfolding numbers_spelling
 numbers_spells xs lt fits = record {
@@ -122,7 +122,7 @@ numbers_spells xs lt fits = record {
   whole = refl;
 }
 
--- it is read again, whatever stands around it
+-- it is read back, whatever precedes and follows it
 pub numbers_again : (before after xs : List ℕ) → length xs < 2 ^ 64 → EachFits 64 xs
     → numbers_at (before ++ numbers_spelling xs ++ after) (length before)
     ≡ Ok (record { items = xs; places = numbers_places_from (length before) (width_of xs) (length xs); end = length before + length (numbers_spelling xs) })
@@ -133,7 +133,7 @@ numbers_again before after xs lt fits =
 
 -- ---- one list for each text
 
--- a spelling spells one list, and begins no other spelling
+-- an encoding is that of one list, and no prefix of another encoding
 pub numbers_begin_no_other : (a b x y : List ℕ) (xs ys : List ℕ) → IsBytes (a ++ x) → IsNumbers a xs → IsNumbers b ys → a ++ x ≡ b ++ y → (a ≡ b) × (xs ≡ ys)
 numbers_begin_no_other a b x y xs ys fits h k e =
     let sa = begins a x in

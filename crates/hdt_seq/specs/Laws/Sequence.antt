@@ -1,4 +1,4 @@
--- Laws of the rows that both sequences share: what is read stands there, and what stands there is read.
+-- Laws of the checks that both sequences share: what is read is there, and what is there is read.
 use Rattle.std.proofs.Common.{◌≡◌, ℕ, zero, suc, ◌+◌, ◌*◌, ◌/◌, ◌%◌, ◌-◌, ◌<◌, ◌≤◌, ◌^◌, true, bit_xor, lit<, inl, inr, List, [], ◌∷◌, ◌++◌, length, get_or, drop, eqb, Result, Ok, refl, sym, ap, subst, ◌∙◌, arith}
 use Rattle.std.specs.Prelude.{fold, slice_range}
 use Rattle.std.specs.Fn.{iterate}
@@ -19,13 +19,13 @@ use Rattle.hdt_seq.specs.Sequence.{framed, byte_at, code8_at, packed_at}
 pub stands_bytes : (bytes : List ℕ) (a : ℕ) (x : List ℕ) (e : ℕ) → IsBytes bytes → Stands bytes a x e → IsBytes x
 stands_bytes bytes a x e fits h = subst IsBytes h.here (IsBytes-take (e - a) (drop a bytes) (IsBytes-drop a bytes fits))
 
--- what a place's slice is stands there
+-- what a place's slice is is there
 pub slice_stands : (bytes : List ℕ) (a : ℕ) (x : List ℕ) (e : ℕ) → a ≤ e → e ≤ length bytes → slice_range bytes a e ≡ x → Stands bytes a x e
 slice_stands bytes a x e order within is =
     let size : length x ≡ e - a = ap length (sym is) ∙ (omega (arith, length-take (e - a) (drop a bytes), length-drop a bytes, order, within)) in
     record { end_is = omega (arith, size, order); within = within; here = is }
 
--- what spells a value stands there
+-- what encodes a value is there
 pub spelled_stands : {V : Type 0} (Spells : List ℕ → V → Type 0) (bytes : List ℕ) (a : ℕ) (v : V) (e : ℕ) → SpelledAt Spells bytes a v e → Stands bytes a (slice_range bytes a e) e
 spelled_stands Spells bytes a v e h = slice_stands bytes a (slice_range bytes a e) e h.in_order h.within refl
 
@@ -141,7 +141,7 @@ fits_fold : (register : ℕ) (bytes : List ℕ) → register < 2 ^ 32 → IsByte
 fits_fold register [] small fits = small
 fits_fold register (b ∷ bs) small fits = fits_fold (take32 register b) bs (fits_take register b small (fits 0)) (λ i. fits (suc i))
 
--- the 32-bit code of bytes is below 2 ^ 32
+-- the CRC-32C of bytes is below 2 ^ 32
 pub code32_fits : (bytes : List ℕ) → IsBytes bytes → code32 bytes < 2 ^ 32
 code32_fits bytes fits = xor_lt 32 (fold take32 0xFFFFFFFF bytes) 0xFFFFFFFF (fits_fold 0xFFFFFFFF bytes (lit< tt) fits) (lit< tt)
 

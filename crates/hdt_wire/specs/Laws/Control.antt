@@ -1,4 +1,4 @@
--- Laws of control blocks: what is read is spelled so, what is spelled so is read, and so is what was written.
+-- Laws of control information: what is read is encoded so, what is encoded is read, and so is what was written.
 use Rattle.std.proofs.Common.{◌≡◌, ℕ, ◌+◌, ◌*◌, ◌/◌, ◌%◌, ◌-◌, ◌<◌, ◌^◌, Bool, true, zero, suc, bit_xor, ltb, lit<, inl, inr, List, [], ◌∷◌, ◌++◌, length, get_or, drop, eqb, Result, Ok, refl, sym, ap, subst, ◌∙◌, arith, append_assoc, length-append}
 use Rattle.std.specs.Prelude.{◌≢◌, not, fold, slice_range}
 use Rattle.std.specs.Str.{bytes_eq}
@@ -46,7 +46,7 @@ joined : (kind : Kind) (format properties : List ℕ) → format ≡ format_text
 joined kind format properties is =
     ap (λ (t : List ℕ). cookie ++ (kind_code kind ∷ t)) (append_assoc format (0 ∷ []) (properties ++ 0 ∷ []) ∙ ap (λ (t : List ℕ). t ++ 0 ∷ (properties ++ 0 ∷ [])) is)
 
--- what is read stands there, spelled so
+-- what is read is encoded there
 pub control_found : (kind : Kind) (bytes : List ℕ) (at : ℕ) (block : Block) → IsBytes bytes → control_at kind bytes at ≡ Ok block → IsBlock kind block bytes at
 unfolding control_at
 control_found kind bytes at block fits e =
@@ -77,7 +77,7 @@ control_found kind bytes at block fits e =
     record { spelled = Stands-then bytes at _ properties.1 _ check.1 front m5; no_zero = s4.1; format = is; properties_at = size } in
     subst (λ (b : Block). IsBlock kind b bytes at) (same_block _ _ e) made)))))))))
 
--- ---- what is spelled so is read
+-- ---- what is encoded is read
 
 -- a register of 16 bits stays one
 fits_shift : (register : ℕ) → register < 2 ^ 16 → shift_right 0xA001 register < 2 ^ 16
@@ -99,7 +99,7 @@ fits_fold : (register : ℕ) (bytes : List ℕ) → register < 2 ^ 16 → IsByte
 fits_fold register [] small fits = small
 fits_fold register (b ∷ bs) small fits = fits_fold (take16 register b) bs (fits_take register b small (fits 0)) (λ i. fits (suc i))
 
--- the 16-bit code of bytes is below 2 ^ 16
+-- the CRC-16 of bytes is below 2 ^ 16
 pub code16_fits : (bytes : List ℕ) → IsBytes bytes → code16 bytes < 2 ^ 16
 code16_fits bytes fits = fits_fold 0 bytes (lit< tt) fits
 
@@ -151,7 +151,7 @@ stands_fits kind bytes at properties end fits h =
     let part : IsBytes (slice_range bytes at end) = IsBytes-take (end - at) (drop at bytes) (IsBytes-drop at bytes fits) in
     IsBytes-front (before_code kind properties) (little_bytes 2 (code16 (before_code kind properties))) (subst IsBytes h.here part)
 
--- what is spelled so and stands there is read
+-- what is encoded there is read
 pub control_only : (kind : Kind) (bytes : List ℕ) (at : ℕ) (properties : List ℕ) (end : ℕ) → IsBytes (before_code kind properties) → HasNoZero properties
     → Stands bytes at (control kind properties) end → control_at kind bytes at ≡ Ok (block_at kind properties at end)
 unfolding control_at
@@ -180,7 +180,7 @@ control_only kind bytes at properties end fits none h =
     let number_holds = (Decides-eqb _ _).1 number in
     rw (mark_read, code_read, same (kind_code kind ∷ []), format_read, properties_read, check_read, number_holds, same format, place) refl
 
--- what was written is read again, whatever stands around it
+-- what was written is read back, whatever precedes and follows it
 pub control_again : (kind : Kind) (before after properties : List ℕ) → IsBytes properties → HasNoZero properties
     → control_at kind (before ++ control kind properties ++ after) (length before) ≡ Ok (block_at kind properties (length before) (length before + length (control kind properties)))
 control_again kind before after properties fits none =

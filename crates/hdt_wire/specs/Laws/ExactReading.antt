@@ -1,4 +1,4 @@
--- What exact rows say of a reader whose answer they are.
+-- What exact checks say of a reader whose answer they are.
 use Rattle.std.proofs.Common.{◌≡◌, Option, Some, None, Result, Ok, Err, sym, ◌∙◌}
 use Rattle.std.specs.Prelude.{IfOk, IfSome}
 use Rattle.hdt_wire.specs.declared.fault.Fault.{Fault}
@@ -6,12 +6,12 @@ use Rattle.hdt_wire.specs.Rows.{Reads, Gives}
 use Rattle.hdt_wire.specs.Exact.{Exactly}
 
 module _ {X Y : Type 0} (view : X → Y) (rows : Result Y Fault) (Is : Y → Type 0) where
-  -- what is read stands there
+  -- what is read is there
   pub reads_found : (r : Result X Fault) → Exactly rows Is → Reads view r rows → IfOk r (λ x. Is (view x))
   reads_found (Ok x) h e = h.found (view x) e
   reads_found (Err f) h e = tt
 
-  -- what stands there is read
+  -- what is there is read
   pub reads_only : (r : Result X Fault) → Exactly rows Is → Reads view r rows → (y : Y) → Is y → Reads view r (Ok y)
   reads_only (Ok x) h e y is = sym (h.only y is) ∙ e
   reads_only (Err f) h e y is = sym (h.only y is) ∙ e

@@ -1,4 +1,4 @@
--- Laws of rows: what stands where rows hold, and which rows hold where something stands.
+-- Laws of checks: what stands where checks hold, and which checks hold where something stands.
 use Rattle.std.proofs.Common.{◌≡◌, ◌≢◌, ℕ, ◌+◌, ◌-◌, ◌<◌, ◌≤◌, Bool, true, false, List, [], ◌∷◌, ◌++◌, length, get_or, take, drop, leb, ltb, eqb, Result, Ok, Err, refl, sym, ap, subst, ◌∙◌, arith, inl, inr, append_assoc, length-append, take-add}
 use Rattle.std.specs.Prelude.{slice_range, not, All}
 use Rattle.std.proofs.Math.Seq.{take-append_seam, drop-append_seam, get_or-append_seam, get_or-append_right}
@@ -12,12 +12,12 @@ use Rattle.hdt_wire.specs.Rows.{◌>>=◌, demand, bytes_at, zero_in, text_at, I
 
 -- ---- binds and demands
 
--- the rows after a row, where the whole reading ends well
+-- the checks after a check, where the whole reading ends well
 pub held : {B P : Type 0} (holds : Bool) (place : ℕ) (reason : Reason) (f : Unit {0} → Result B Fault) (y : B) → (demand holds place reason >>= f) ≡ Ok y → (holds ≡ true → f tt ≡ Ok y → P) → P
 held true place reason f y e k = k refl e
 held false place reason f y e k = absurd cc
 
--- the rows after a part, where the whole reading ends well
+-- the checks after a part, where the whole reading ends well
 pub bound : {A B P : Type 0} (r : Result A Fault) (f : A → Result B Fault) (y : B) → (r >>= f) ≡ Ok y → ((x : A) → r ≡ Ok x → f x ≡ Ok y → P) → P
 bound (Ok x) f y e k = k x refl e
 bound (Err d) f y e k = absurd cc
@@ -58,7 +58,7 @@ IsBytes-append x y hx hy i =
       | inr le ↦ rw (get_or-append_right x y i 0 le) (hy (i - length x))
     ]
 
--- ---- what stands at a place
+-- ---- encodings at an offset
 
 -- what stands after the bytes before it
 pub Stands-after : (before text after : List ℕ) → Stands (before ++ text ++ after) (length before) text (length before + length text)
@@ -117,7 +117,7 @@ done x = Ok x
 ok_part : (x y : List ℕ × ℕ) → done x ≡ done y → x ≡ y
 ok_part x y e = cc
 
--- the bytes that are read stand there
+-- the bytes that are read are there
 pub bytes_found : (n : ℕ) (bytes : List ℕ) (a : ℕ) (x : List ℕ × ℕ) → bytes_at n bytes a ≡ Ok x → Stands bytes a x.0 x.1 × (length x.0 ≡ n)
 unfolding bytes_at
 bytes_found n bytes a x e =
@@ -127,14 +127,14 @@ bytes_found n bytes a x e =
     let made : Stands bytes a (slice_range bytes a (a + n)) (a + n) × (length (slice_range bytes a (a + n)) ≡ n) = (record { end_is = omega (arith, size); within = le; here = refl }, size) in
     subst (λ (y : List ℕ × ℕ). Stands bytes a y.0 y.1 × (length y.0 ≡ n)) (ok_part _ _ e) made)
 
--- the bytes that stand there are read
+-- the bytes that are there are read
 pub bytes_only : (n : ℕ) (bytes : List ℕ) (a : ℕ) (x : List ℕ) (end : ℕ) → Stands bytes a x end → length x ≡ n → bytes_at n bytes a ≡ Ok (x, end)
 unfolding bytes_at
 bytes_only n bytes a x end h size =
     let end_is : a + n ≡ end = omega (arith, h.end_is, size) in
     rw (end_is, le-leb end (length bytes) h.within, h.here) refl
 
--- the text that is read stands there with its zero byte, and has no other
+-- the text that is read is there with its zero byte, and has no other
 pub text_found : (bytes : List ℕ) (a : ℕ) (x : List ℕ × ℕ) → text_at bytes a ≡ Ok x → Stands bytes a (x.0 ++ 0 ∷ []) x.1 × All (λ b. b ≢ 0) x.0
 unfolding text_at
 text_found bytes a x e =
@@ -158,7 +158,7 @@ text_found bytes a x e =
 nonzero : (b : ℕ) → b ≢ 0 → eqb b 0 ≡ false
 nonzero b ne = grind (arith, ne)
 
--- a text without a zero byte that stands there with one is read
+-- a text without a zero byte that is there with one is read
 pub text_only : (bytes : List ℕ) (a : ℕ) (x : List ℕ) (end : ℕ) → Stands bytes a (x ++ 0 ∷ []) end → All (λ b. b ≢ 0) x → text_at bytes a ≡ Ok (x, end)
 unfolding text_at
 text_only bytes a x end h none =

@@ -1,5 +1,5 @@
--- Laws of numbers in base 128: each has one spelling, which begins no other; what is read is spelled so, and what is
--- spelled so is read.
+-- Laws of numbers in base 128: each has one encoding, which is no prefix of another; what is read is encoded so, and what is
+-- encoded so is read.
 use Rattle.std.proofs.Common.{◌≡◌, ℕ, zero, suc, ◌+◌, ◌*◌, ◌-◌, ◌/◌, ◌%◌, ◌^◌, ◌<◌, ◌≤◌, Bool, true, ◌||◌, List, [], ◌∷◌, ◌++◌, length, get_or, take, drop, leb, ltb, eqb, Result, Ok, refl, lit<, sym, ap, subst, ◌∙◌, arith, inl, inr}
 use Rattle.std.specs.Prelude.{not, ◌⊎◌, slice_range}
 use Rattle.std.specs.List.{prefix_len, position_or_len}
@@ -14,7 +14,7 @@ use Rattle.hdt_wire.specs.Rows.{IsBytes, SpelledAt}
 use Rattle.hdt_wire.specs.Laws.Row.{held, not-true, not-false, IsBytes-take, IsBytes-drop, Stands-after}
 use Rattle.hdt_wire.specs.VByte.{VByte, digits_by, vbyte, number_of, window, last_of, vbyte_at}
 
--- ---- spelling
+-- ---- encoding
 
 pub digits_more : (k v : ℕ) → 128 ≤ v → digits_by (suc k) v ≡ v % 128 ∷ digits_by k (v / 128)
 unfolding digits_by
@@ -41,7 +41,7 @@ spelled_by (suc k) v lt =
       | inr high ↦ rw (digits_more k v high) (spelled_more (digits_by k (v / 128)) v high (spelled_by k (v / 128) (below_high k v lt)))
     ]
 
--- the spelling of a number spells it
+-- the encoding of a number encodes it
 pub vbyte_spells : (v : ℕ) → v < 2 ^ 64 → VByte (vbyte v) v
 unfolding vbyte
 vbyte_spells v lt = spelled_by 9 v (omega (arith, lt))
@@ -79,7 +79,7 @@ first_last seen i lt low high =
           absurd (omega (arith, small, high))
     ]
 
--- digits before a last byte that isn't 128 spell a number that isn't 0
+-- digits before a last byte that isn't 128 encode a number that isn't 0
 pub spelled_high : (seen : List ℕ) (i : ℕ) → i < length seen → IsBytes seen → ((k : ℕ) → k < i → get_or seen k 0 < 128) → 128 < get_or seen i 0
     → VByte (take (suc i) seen) (number_of (take (suc i) seen)) × (0 < number_of (take (suc i) seen))
 spelled_high [] i lt fits low high = absurd (omega arith)
@@ -111,7 +111,7 @@ done x = Ok x
 ok_is : (x y : ℕ × ℕ) → done x ≡ done y → x ≡ y
 ok_is x y e = cc
 
--- what is read stands there, spelled so
+-- what is read is encoded there
 pub vbyte_found : (bytes : List ℕ) (at : ℕ) (x : ℕ × ℕ) → IsBytes bytes → vbyte_at bytes at ≡ Ok x → SpelledAt VByte bytes at x.0 x.1
 unfolding vbyte_at
 vbyte_found bytes at x fits e =
@@ -160,7 +160,7 @@ vbyte_bounded bytes at x e =
     } in
     subst (λ (y : ℕ × ℕ). Bounded bytes at y.0 y.1) (ok_is _ _ e) made)))
 
--- where a spelling ends
+-- where an encoding ends
 record Ends (text : List ℕ) (v : ℕ) : Type 0 where
   pub i : ℕ
   pub len : length text ≡ suc i
@@ -213,7 +213,7 @@ short_enough i v large zero_alone lt =
 canonical : (i byte v : ℕ) → (0 < v → byte ≡ 128 → ⊥) → (v ≡ 0 → i ≡ 0) → (eqb i 0 || not (eqb byte 128)) ≡ true
 canonical i byte v shortest zero_alone = grind (arith, common_steps)
 
--- what is spelled so and stands there is read
+-- what is encoded there is read
 pub vbyte_only : (bytes : List ℕ) (at v end : ℕ) → v < 2 ^ 64 → SpelledAt VByte bytes at v end → vbyte_at bytes at ≡ Ok (v, end)
 unfolding vbyte_at
 vbyte_only bytes at v end lt h =
@@ -234,7 +234,7 @@ vbyte_only bytes at v end lt h =
     let place : at + t.i + 1 ≡ end = omega (arith, size, h.in_order) in
     rw (last_is, number, first, second, third, place) refl
 
--- what was written is read again, whatever stands around it
+-- what was written is read back, whatever precedes and follows it
 pub vbyte_again : (before after : List ℕ) (v : ℕ) → v < 2 ^ 64 → vbyte_at (before ++ vbyte v ++ after) (length before) ≡ Ok (v, length before + length (vbyte v))
 vbyte_again before after v lt =
     let s = Stands-after before (vbyte v) after in
@@ -244,7 +244,7 @@ vbyte_again before after v lt =
       spelled = subst (λ (t : List ℕ). VByte t v) (sym s.here) (vbyte_spells v lt);
     })
 
--- a spelling begins no other
+-- no encoding is a prefix of another
 pub begins_no_other : (a b x y : List ℕ) (m n : ℕ) → VByte a m → VByte b n → a ++ x ≡ b ++ y → (a ≡ b) × (m ≡ n)
 begins_no_other [] b x y m n h k e = absurd h
 begins_no_other (p ∷ cs) [] x y m n h k e = absurd k
