@@ -1,4 +1,4 @@
-//! How far two strings agree, 32 bytes at a time.
+//! The longest common prefix of two strings, 32 bytes at a time.
 ghost use Rattle.std.specs.Prelude.{◌≡◌, ◌≤◌, ◌<◌, ◌+◌, length, min, take, slice_index, nat_eq};
 ghost use Rattle.hdt_wire.specs.Rows.{zero_in};
 ghost use Rattle.std.specs.List.{common_prefix_len};
@@ -10,10 +10,10 @@ use crate::scan::{HALF, LANES, first_set};
 use std::cmp::Ordering;
 use std::simd::prelude::*;
 
-/// The bytes of one load where fewer than [`HALF`] are to be compared.
+/// The bytes of one load if fewer than [`HALF`] are to be compared.
 const WORD: usize = 8;
 
-/// How many of the next 32 bytes agree.
+/// The number of equal bytes at the front of the next 32.
 #[inline(always)]
 fn lanes_agree(a: &[u8], b: &[u8], at: usize) -> usize
     requires in_a { at + LANES ≤ length a.now }
@@ -26,7 +26,7 @@ fn lanes_agree(a: &[u8], b: &[u8], at: usize) -> usize
     first_set(left.simd_ne(right).to_bitmask(), LANES)
 }
 
-/// How many of the next 16 bytes agree.
+/// The number of equal bytes at the front of the next 16.
 #[inline(always)]
 fn half_agrees(a: &[u8], b: &[u8], at: usize) -> usize
     requires in_a { at + HALF ≤ length a.now }
@@ -39,7 +39,7 @@ fn half_agrees(a: &[u8], b: &[u8], at: usize) -> usize
     first_set(left.simd_ne(right).to_bitmask(), HALF)
 }
 
-/// How many of the next 8 bytes agree.
+/// The number of equal bytes at the front of the next 8.
 #[inline(always)]
 fn word_agrees(a: &[u8], b: &[u8], at: usize) -> usize
     requires in_a { at + WORD ≤ length a.now }
@@ -52,7 +52,7 @@ fn word_agrees(a: &[u8], b: &[u8], at: usize) -> usize
     first_set(left.simd_ne(right).to_bitmask(), WORD)
 }
 
-/// How far two strings agree, byte by byte.
+/// The length of the longest common prefix, byte by byte.
 fn common_bytes(a: &[u8], b: &[u8]) -> usize
     ensures greatest { result ≡ common_prefix_len nat_eq a.now b.now }
     ensures within { (result ≤ length a.now) × (result ≤ length b.now) }
@@ -64,7 +64,8 @@ fn common_bytes(a: &[u8], b: &[u8]) -> usize
     len
 }
 
-/// How far two strings agree of which one is shorter than 32 bytes: by two loads, which may overlap, or byte by byte.
+/// The length of the longest common prefix if one string has less than 32 bytes: two loads, which may overlap, or byte
+/// by byte.
 #[inline(always)]
 #[tactic(auto, using(crate::proofs::Loads::agreed_least))]
 fn common_short(a: &[u8], b: &[u8]) -> usize
@@ -90,8 +91,8 @@ fn common_short(a: &[u8], b: &[u8]) -> usize
     common_bytes(a, b)
 }
 
-/// How many bytes two strings have in common at their front: the greatest number, at most both lengths, of first bytes
-/// that are equal. It compares 32 bytes at a time, fewer where a string is shorter.
+/// Returns the length in bytes of the longest common prefix of two strings. Linear time in it; it compares 32 bytes at
+/// a time.
 #[tactic(auto, using(crate::proofs::Loads::agreed_least))]
 pub fn common_prefix(a: &[u8], b: &[u8]) -> usize
     ensures greatest { result ≡ common_prefix_len nat_eq a.now b.now }
@@ -109,11 +110,12 @@ pub fn common_prefix(a: &[u8], b: &[u8]) -> usize
         }
         at += LANES;
     }
-    // The last load may overlap the one before.
+    // The last load may overlap the previous one.
     least - LANES + lanes_agree(a, b, least - LANES)
 }
 
-/// How far two strings agree that agree so far at least. Where little of the shorter one is left, one load at its end tells.
+/// The length of the longest common prefix, if the first `from` bytes are known to be equal. A short rest of the
+/// shorter string takes one load at its end.
 #[inline(always)]
 #[tactic(auto, using(crate::proofs::Loads::agreed_least))]
 fn common_from(a: &[u8], b: &[u8], from: usize) -> usize
@@ -132,7 +134,7 @@ fn common_from(a: &[u8], b: &[u8], from: usize) -> usize
     common_prefix(a, b)
 }
 
-/// How a string lies to another one, and how far they agree: the first bytes that differ decide, else the lengths.
+/// Compares two strings, whose longest common prefix is known: the first bytes that differ decide, else the lengths.
 #[tactic(auto, using(crate::proofs::AgreeLaws::bytes_decide, crate::proofs::AgreeLaws::lengths_decide))]
 pub(crate) fn compared(a: &[u8], b: &[u8]) -> (Ordering, usize)
     ensures order { result.0 ≡ string_cmp a.now b.now }
@@ -146,8 +148,8 @@ pub(crate) fn compared(a: &[u8], b: &[u8]) -> (Ordering, usize)
     (a.len().cmp(&b.len()), same)
 }
 
-/// How a string lies to another one, and how far they agree. They agree so far at least, which the caller shows: no byte
-/// before is looked at, and time is in proportion to the bytes behind in which they agree.
+/// Compares two strings whose first `from` bytes are equal; returns also the length of their longest common prefix. The
+/// first `from` bytes are not read: linear time in the equal bytes after them.
 pub fn compared_from(a: &[u8], b: &[u8], from: usize) -> (Ordering, usize)
     requires so_far { from ≤ agreed a.now b.now }
     ensures order { result.0 ≡ string_cmp a.now b.now }
@@ -157,7 +159,7 @@ pub fn compared_from(a: &[u8], b: &[u8], from: usize) -> (Ordering, usize)
     (order, from + same)
 }
 
-/// The byte at a place, 0 behind the end.
+/// The byte at an index, or 0 after the end.
 #[inline(always)]
 fn byte_or_zero(x: &[u8], at: usize) -> u8
     ensures { result ≡ slice_index x.now at }
@@ -165,8 +167,8 @@ fn byte_or_zero(x: &[u8], at: usize) -> u8
     if at < x.len() { x[at] } else { 0 }
 }
 
-/// How the text up to the first zero byte lies to a string without zero bytes, and how far they agree, which is so far
-/// at least. Its end isn't sought: the zero byte there differs.
+/// Compares a zero-terminated text with a string without zero bytes; returns also the length of their longest common
+/// prefix, which is at least `from`. The end of the text is not searched: its zero byte differs.
 pub(crate) fn compared_stored(stored: &[u8], x: &[u8], from: usize) -> (Ordering, usize)
     requires ends { zero_in stored.now < length stored.now }
     requires sought { zero_in x.now ≡ length x.now }

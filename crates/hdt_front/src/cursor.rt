@@ -1,4 +1,4 @@
-//! A cursor over the strings of a section: it stands on one, and is moved on.
+//! A cursor over the strings of a section.
 ghost use Rattle.std.specs.Prelude.{◌≡◌, ◌≤◌, ◌<◌, [], length, Ok, IsOk, OnOk, OnErr, IfOk, drop, option_copied};
 ghost use Rattle.hdt_front.specs.Walks.{placed_of};
 ghost use Rattle.hdt_front.specs.Walking.{first_string, first_order, first_agreed, next_agreed, next_place, PlacedAscend};
@@ -10,8 +10,8 @@ use std::alloc::{AllocError, Global};
 use std::cmp::Ordering;
 use std::marker::Model;
 
-/// A cursor over the strings of a section, which stands on one of them, from the first on, or on the end. Several of
-/// them go through several sections side by side.
+/// A cursor over the strings of a section: it is at one of them, from the first on, or at the end. Several cursors
+/// merge several sections.
 #[derive(Drop)]
 pub struct Cursor<'a> {
     walk: Walk<'a>,
@@ -28,7 +28,7 @@ impl<'a> Model for Cursor<'a> {
 }
 
 impl<'a> Cursor<'a> {
-    /// A cursor on the first string. It takes the memory of that string.
+    /// Returns a cursor at the first string, of which it keeps a copy.
     pub fn new(alloc: Global, section: &Section<'a>) -> Result<Cursor<'a>, AllocError>
         ensures is { IfOk result (λ c. c ≡ placed_of section.now) }
         ensures ascends { IfOk result (λ c. PlacedAscend c) }
@@ -38,7 +38,7 @@ impl<'a> Cursor<'a> {
         Ok(Cursor { walk, place })
     }
 
-    /// The string that it stands on; at the end None.
+    /// Returns the current string, or `None` at the end.
     pub fn string(&self) -> Option<&[u8]>
         ensures { option_copied result ≡ first_string self.now }
     {
@@ -48,15 +48,14 @@ impl<'a> Cursor<'a> {
         }
     }
 
-    /// The place of the string that it stands on; at the end None.
+    /// Returns the byte offset of the current string in the input, or `None` at the end.
     pub fn place(&self) -> Option<usize>
         ensures { result ≡ next_place self.now }
     {
         self.place
     }
 
-    /// How the string that it stands on lies to another one; the end lies after all. Time is in proportion to the bytes
-    /// in which they agree.
+    /// Compares the current string with another one; the end is greater than all. Linear time in their common prefix.
     pub fn order(&self, x: &[u8]) -> Ordering
         ensures { result ≡ first_order self.now x.now }
     {
@@ -66,8 +65,9 @@ impl<'a> Cursor<'a> {
         }
     }
 
-    /// How the string that it stands on lies to another one, and how far they agree. They agree so far at least: the bytes
-    /// before aren't looked at. The end lies after all, and agrees with none.
+    /// Compares the current string with another one whose first `from` bytes are equal to it, and which are not read;
+    /// returns also the length of their longest common prefix. The end is greater than all, and has nothing in common
+    /// with any.
     pub fn compared(&self, x: &[u8], from: usize) -> (Ordering, usize)
         requires so_far { from ≤ first_agreed self.now x.now }
         ensures order { result.0 ≡ first_order self.now x.now }
@@ -79,7 +79,7 @@ impl<'a> Cursor<'a> {
         }
     }
 
-    /// Moves on to the next string; at the end nothing moves, and no memory is taken. Where memory is refused, nothing moves.
+    /// Goes to the next string. At the end, and if memory runs out, nothing changes.
     pub fn pass(&mut self) -> Result<(), AllocError>
         ensures ok { OnOk result (self.new ≡ drop 1 self.old) }
         ensures err { OnErr result (self.new ≡ self.old) }
@@ -89,9 +89,9 @@ impl<'a> Cursor<'a> {
         Ok(())
     }
 
-    /// Moves on as [`pass`](Cursor::pass), and answers how many bytes at its front the next string keeps of the one
-    /// before: they agree so far at least. At the end that is 0. Time is in proportion to the bytes that the next
-    /// string doesn't keep, and so is the memory that it takes, if any.
+    /// Goes to the next string as [`pass`](Cursor::pass) does, and returns how many bytes its entry shares with the
+    /// previous one: a lower bound of their common prefix. At the end that is 0. Linear time in the bytes that it
+    /// doesn't share.
     pub fn pass_kept(&mut self) -> Result<usize, AllocError>
         ensures ok { OnOk result (self.new ≡ drop 1 self.old) }
         ensures kept { IfOk result (λ k. k ≤ next_agreed self.old) }

@@ -1,4 +1,4 @@
-//! Why a section could not be read.
+//! The errors of reading a section.
 ghost use Rattle.std.specs.Prelude.{◌≡◌};
 ghost use Rattle.hdt_front.specs.declared.fault.ReadFault.TheVariants.{OutOfMemory, Fault as FaultOf};
 
@@ -7,9 +7,9 @@ use std::alloc::{AllocError, AllocFailed};
 /// Why a section could not be read.
 #[derive(Debug, Drop)]
 pub enum ReadFault {
-    /// The fault that stands in the bytes. Reading again gives it again.
+    /// The bytes are not valid. Reading them again gives the same error.
     Fault(hdt_wire::Fault),
-    /// A growth of memory was refused; of the bytes nothing is said.
+    /// Memory ran out. Nothing is known of the bytes.
     OutOfMemory,
 }
 

@@ -1,4 +1,4 @@
-//! Which strings a section can hold.
+//! Which strings a section can have.
 ghost use Rattle.std.specs.Prelude.{◌≡◌, ◌&&◌, ◌||◌, true, length, nat_eq};
 ghost use Rattle.std.specs.Str.{is_utf8};
 ghost use Rattle.hdt_wire.specs.Rows.{zero_in};
@@ -9,16 +9,15 @@ ghost use Rattle.hdt_front.specs.Canonical.{lent_texts};
 use crate::unfold::valid;
 use hdt_wire::zero_in;
 
-/// Whether a string can follow the one before it, if there is one.
+/// Whether a string can follow the previous one, if there is one.
 fn can_follow(first: bool, before: &[u8], string: &[u8]) -> bool
     ensures { result ≡ (is_utf8 string.now && (nat_eq (zero_in string.now) (length string.now) && (first || precedes before.now string.now))) }
 {
     valid(string) && zero_in(string) == string.len() && (first || before.cmp(string).is_lt())
 }
 
-/// Whether a section can hold these strings: each is UTF-8 without a zero byte, and less than the next by unsigned
-/// bytes. [`put_section`](crate::put_section) wants such ones. Time is in proportion to the strings; it takes no
-/// memory.
+/// Returns whether a section can have these strings: each is UTF-8 without a zero byte, and less than the next one by
+/// unsigned bytes. [`put_section`](crate::put_section) requires it. Linear time in the strings.
 pub fn are_strings(strings: &[&[u8]]) -> bool
     ensures yes { result ≡ true → AreStrings (lent_texts strings.now) }
     ensures no { AreStrings (lent_texts strings.now) → result ≡ true }

@@ -1,19 +1,19 @@
-//! Where a sought string may stand.
+//! Where a search may find its string.
 
-/// Where the halving of blocks landed.
+/// The result of the binary search over the blocks.
 pub(crate) enum Landed<'a> {
     /// Before the first string.
     Before,
-    /// At the head of a block.
+    /// It is the first string of a block.
     Head(u64),
-    /// Behind the head of a block: the block, how far the head agrees, and what is left after it.
+    /// After the first string of a block: the block, the common prefix with that string, and the bytes after it.
     Inside(u64, usize, &'a [u8]),
 }
 
-/// How a string lies to the sought one.
+/// How a string compares with the one that is searched.
 pub(crate) enum Lie {
     Same,
     Greater,
-    /// It is less, and agrees so far.
+    /// It is less; this is the length of their common prefix.
     Less(usize),
 }

@@ -11,25 +11,25 @@ ghost use Rattle.hdt_front.specs.Canonical.{canonical, canonical_parts};
 ghost use Rattle.hdt_front.specs.Section.{SectionParts, AreStrings, IsSection, section_at, string_place};
 ghost use Rattle.hdt_front.specs.SectionWriting.{CanBeWritten, section_head, section_spelling};
 
-/// The rows of a section answer exactly what stands at the place.
+/// The checks of a section give exactly the section that is encoded at the offset.
 pub fn sections_are_exact()
     ensures { (bytes : List ℕ) (at : ℕ) → IsBytes bytes → Exactly (section_at bytes at) (λ s. IsSection s bytes at) }
 {}
 
-/// At a place stands one section and no fault, or one fault and no section.
+/// At an offset there is one section and no error, or one error and no section.
 pub fn one_section()
     ensures one { (bytes : List ℕ) (at : ℕ) (s t : SectionParts) → IsBytes bytes → IsSection s bytes at → IsSection t bytes at → s ≡ t }
     ensures or_fault { (bytes : List ℕ) (at : ℕ) → IsBytes bytes → OneValue (section_at bytes at) (λ s. IsSection s bytes at) ⊎ OneFault (section_at bytes at) (λ s. IsSection s bytes at) }
 {}
 
-/// A string's place is where its piece begins.
+/// The offset of a string is where its entry begins.
 pub fn string_places()
     ensures { (s : SectionParts) (bytes : List ℕ) (at : ℕ) (h : IsSection s bytes at) (i : ℕ) → i < length s.strings
         → string_place s i ≡ s.packed_place + length (concat (take i h.folded.pieces)) }
 {}
 
-/// What is written for strings is a section where it stands, whatever stands around it: the canonical bytes, and those
-/// of any other folding of the strings.
+/// What is written for strings is read back as their section, whatever precedes and follows it: the canonical bytes,
+/// and those of any other front coding of the strings.
 pub fn section_is_read_again()
     ensures canonical { (b : ℕ) (strings : List (List ℕ)) (bytes : List ℕ) (at end : ℕ) → 1 ≤ b → b < 2 ^ 64 → AreStrings strings → length bytes < 2 ^ 64
         → Stands bytes at (canonical b strings) end → IsSection (canonical_parts b strings at) bytes at }
@@ -47,15 +47,14 @@ pub fn section_is_read_again()
         }) bytes at }
 {}
 
-/// Looking up by string and by number are inverse: where a string has a number, it is the string of that number, and
-/// the string of each number has it.
+/// Look-ups by string and by ID are inverse: the ID of a string is that of this string, and the string of an ID has it.
 pub fn look_ups_are_inverse()
     ensures found { (s : SectionIs) (x : List ℕ) (n : ℕ) → place (strings_of s) x ≡ Some n → (1 ≤ n) × (n ≤ length (strings_of s)) × (get_or (strings_of s) (n - 1) [] ≡ x) }
     ensures only { (s : SectionIs) (n : ℕ) → 1 ≤ n → n ≤ length (strings_of s) → place (strings_of s) (get_or (strings_of s) (n - 1) []) ≡ Some n }
 {}
 
-/// The blocks of a section are the least number whose product with the block size is at least the number of strings;
-/// without strings there are none.
+/// The number of blocks of a section is the least one whose product with the block size is at least the number of
+/// strings; 0 if there are none.
 pub fn blocks_are_least()
     ensures enough { (s : SectionIs) → length (strings_of s) ≤ blocks_of s * block_size s }
     ensures least { (s : SectionIs) (k : ℕ) → length (strings_of s) ≤ k * block_size s → blocks_of s ≤ k }

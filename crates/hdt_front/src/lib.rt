@@ -1,11 +1,11 @@
 //! Sections of an HDT file's dictionary: ascending strings, front-coded (HDT format version 1, "Plain Front Coding").
 //!
-//! The layer's promise: what is read at a place is the one strictly ascending list of UTF-8 strings that the bytes there
-//! spell, for any block size, any kept lengths, any width and padding of the starts; else the one fault that stands is
-//! answered. Looking up by string and by number are inverse. What is written is the canonical section, with the longest
-//! kept lengths, which is read again.
+//! What this crate promises: a reader returns the strictly ascending list of UTF-8 strings that is encoded at the
+//! offset, with any block size, any shared prefixes, any width and padding of the block offsets; if there is none, it
+//! returns the first error. Look-ups by string and by ID are inverse. A writer appends the canonical section, with the
+//! longest shared prefixes, which is read back.
 //!
-//! A function that says nothing of its cost takes constant time and no memory; laws do nothing when they are called.
+//! Functions that state no cost take constant time and allocate nothing. Laws do nothing when called.
 //!
 //! ```text
 //! let (section, next) = Section::read(alloc, bytes, at)?;
@@ -15,11 +15,11 @@
 //! }
 //! ```
 //!
-//! A [`Section`] borrows the input, keeps nothing unfolded and is `Copy`: it is searched in the folded bytes as they
-//! lie. [`Walk`] gives its strings in order, each unfolded once. Contracts see a section by `strings_of`, the list of its
-//! strings, and by `section_of`, all that it says (specs/`Strings`); what a section is stands in specs/`Section`, and its
-//! canonical bytes in specs/`Canonical`. Laws that crates above cite stand in specs/Laws: `Section`, `Place`, `Canonical`,
-//! `Walk`, `Strings`.
+//! A [`Section`] borrows the input, keeps no decoded string and is `Copy`: it is searched in its front-coded bytes.
+//! [`Walk`] gives its strings in order, each decoded once. Contracts see a section by `strings_of`, the list of its
+//! strings, and by `section_of`, all of its fields (specs/`Strings`). specs/`Section` defines what a section is,
+//! specs/`Canonical` its canonical bytes. Laws that other crates use are in specs/Laws: `Section`, `Place`,
+//! `Canonical`, `Walk`, `Strings`.
 #![tactic(auto)]
 
 mod common;

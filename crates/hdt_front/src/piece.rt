@@ -1,4 +1,4 @@
-//! The piece of a string: a number where it isn't the head of a block, a text, and a zero byte.
+//! The entry of a string: its prefix length, unless it is the first of its block, its text, and a zero byte.
 ghost use Rattle.std.specs.Prelude.{◌≡◌, ◌≤◌, ◌<◌, ◌+◌, length, drop, IfOk, IfSome, Ok};
 ghost use Rattle.hdt_wire.specs.Rows.{zero_in};
 ghost use Rattle.hdt_wire.specs.VByte.{vbyte_at};
@@ -7,7 +7,7 @@ ghost use Rattle.hdt_front.specs.Unfolding.{read_or, text_from, kept, text_of, a
 use crate::scan::text_len;
 use hdt_wire::{Fault, read_vbyte};
 
-/// The number at the front, and where it ends, as `read_vbyte`: apart, since most have one byte.
+/// The number at the front, and where it ends, as `read_vbyte`. A function of its own, as most numbers have one byte.
 #[inline(never)]
 fn read_long(rest: &[u8]) -> Result<(u64, usize), Fault>
     ensures exact { result ≡ vbyte_at rest.now 0 }
@@ -16,7 +16,7 @@ fn read_long(rest: &[u8]) -> Result<(u64, usize), Fault>
     read_vbyte(rest, 0)
 }
 
-/// The number at the front, where it has one byte.
+/// The number at the front, if it has one byte.
 #[inline(always)]
 #[tactic(auto, using(crate::proofs::Inside::one_byte))]
 pub(crate) fn short_front(rest: &[u8]) -> Option<u64>
@@ -28,7 +28,7 @@ pub(crate) fn short_front(rest: &[u8]) -> Option<u64>
     None
 }
 
-/// The number at the front, and where it ends, as `read_vbyte`; that of one byte at once.
+/// The number at the front, and where it ends, as `read_vbyte`; one byte takes a short way.
 #[inline(always)]
 pub(crate) fn read_front(rest: &[u8]) -> Result<(u64, usize), Fault>
     ensures exact { result ≡ vbyte_at rest.now 0 }
@@ -40,7 +40,7 @@ pub(crate) fn read_front(rest: &[u8]) -> Result<(u64, usize), Fault>
     }
 }
 
-/// The number at the front, and where it ends; zeros where none is there: apart, as [`read_long`].
+/// The number at the front, and where it ends; zeros if there is none. A function of its own, as [`read_long`].
 #[inline(never)]
 fn read_long_or_zero(rest: &[u8]) -> (u64, usize)
     ensures is { result ≡ read_or (0, 0) (vbyte_at rest.now 0) }
@@ -52,7 +52,7 @@ fn read_long_or_zero(rest: &[u8]) -> (u64, usize)
     }
 }
 
-/// The number at the front, and where it ends; zeros where none is there.
+/// The number at the front, and where it ends; zeros if there is none.
 #[inline(always)]
 pub(crate) fn read_or_zero(rest: &[u8]) -> (u64, usize)
     ensures is { result ≡ read_or (0, 0) (vbyte_at rest.now 0) }
@@ -64,7 +64,7 @@ pub(crate) fn read_or_zero(rest: &[u8]) -> (u64, usize)
     }
 }
 
-/// The piece of a string: how much it keeps, and the bytes from its text on.
+/// The entry of a string: its prefix length, and the bytes from its text on.
 #[inline(always)]
 #[tactic(auto, unfolding(crate::specs::Unfolding::kept, crate::specs::Unfolding::text_from))]
 pub(crate) fn opened_text(head: bool, rest: &[u8]) -> (u64, &[u8])
@@ -75,7 +75,7 @@ pub(crate) fn opened_text(head: bool, rest: &[u8]) -> (u64, &[u8])
     (kept, rest.split_at(end).1)
 }
 
-/// The piece of a string: how much it keeps, its text, and what is left after it.
+/// The entry of a string: its prefix length, its text, and the bytes after it.
 #[inline(always)]
 #[tactic(auto, unfolding(crate::specs::Unfolding::text_of, crate::specs::Unfolding::after_piece))]
 pub(crate) fn piece_of(head: bool, rest: &[u8]) -> (u64, &[u8], &[u8])
@@ -89,7 +89,7 @@ pub(crate) fn piece_of(head: bool, rest: &[u8]) -> (u64, &[u8], &[u8])
     (kept, from.split_at(len).0, from.split_at(len + 1).1)
 }
 
-/// What is left after the text at the front and its zero byte.
+/// The bytes after the text at the front and its zero byte.
 pub(crate) fn behind_text(bytes: &[u8]) -> &[u8]
     requires { zero_in bytes.now < length bytes.now }
     ensures { result.now ≡ drop (zero_in bytes.now + 1) bytes.now }

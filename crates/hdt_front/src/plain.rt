@@ -1,12 +1,12 @@
-//! The usual piece: behind the head of a block, with a kept length of one byte and an ASCII text.
+//! The usual entry: not the first of its block, with a prefix length of one byte and an ASCII text.
 ghost use Rattle.std.specs.Prelude.{◌≡◌, true, IfSome};
 ghost use Rattle.std.specs.Str.{is_utf8};
 ghost use Rattle.hdt_front.specs.Inside.PlainPieces.{IsPlainPiece};
 
 use crate::scan::plain_len;
 
-/// How much the piece keeps of the string before and how long its text is, where it is seen at once that its rows hold:
-/// its text is ASCII, and begins with a greater byte than the string before has there. Of other pieces nothing is said.
+/// The prefix length of an entry and the length of its text, if its checks are seen to hold at once: its text is ASCII,
+/// and begins with a greater byte than the previous string has there. `None` says nothing of the entry.
 #[inline(always)]
 pub(crate) fn plain_piece(before: &[u8], rest: &[u8]) -> Option<(usize, usize)>
     requires { is_utf8 before.now ≡ true }

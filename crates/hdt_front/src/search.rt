@@ -1,4 +1,4 @@
-//! The search for a string, in the folded bytes as they lie.
+//! Searching a string in the front-coded bytes.
 ghost use Rattle.std.specs.Prelude.{◌≡◌, ◌≤◌, ◌<◌, ◌+◌, ◌-◌, ◌*◌, ◌++◌, length, take, drop, get_or, [], List, ℕ, false, MatchOption};
 ghost use Rattle.hdt_wire.specs.Rows.{zero_in};
 ghost use Rattle.hdt_wire.specs.VByte.{vbyte_at};
@@ -16,7 +16,8 @@ use hdt_seq::Steps;
 use hdt_wire::zero_in;
 use std::cmp::Ordering;
 
-/// What a kept length says alone: where more is kept of the string before than agrees, a string lies as that one does.
+/// What a prefix length tells: a string that shares more with the previous one than that has in common with the
+/// searched string compares as the previous one.
 fn lie_by_kept(kept: u64, same: usize) -> Option<Lie>
     ensures { MatchOption result (kept ≤ same) (λ l. (same < kept) × (l ≡ LessOf same)) }
 {
@@ -26,7 +27,7 @@ fn lie_by_kept(kept: u64, same: usize) -> Option<Lie>
     None
 }
 
-/// How a string that keeps bytes of the one before it lies to the sought one, where the one before is less and agrees so far.
+/// Compares a string with the searched one, if the previous string is less and has so many bytes in common with it.
 fn lie(kept: u64, text: &[u8], same: usize, x: &[u8]) -> Lie
     requires { same ≤ length x.now }
     ensures { (last : List ℕ) → kept ≤ length last → IsLess last x.now same → LiesSo (take kept last ++ text.now) x.now result }
@@ -49,8 +50,8 @@ impl<'a> Section<'a> {
     ghost use Rattle.hdt_front.specs.Numbering.{place};
     ghost use Rattle.hdt_seq.specs.Width.{digits};
 
-    /// A look at the head of a block, which agrees with the sought string so far at least: how it lies to that, how far
-    /// they agree, and the bytes from it on.
+    /// Compares the first string of a block with the searched one, whose first `from` bytes are equal; returns also the
+    /// length of their common prefix, and the bytes from that string on.
     fn look_at_head(
         &self,
         block: u64,
@@ -73,8 +74,8 @@ impl<'a> Section<'a> {
         (order, same, head)
     }
 
-    /// The last block whose head isn't greater than the sought string, by halving. The heads between two agree with it
-    /// as far as both of these do.
+    /// The last block whose first string is not greater than the searched one, by binary search. First strings between
+    /// two others have in common with it what both of these have.
     #[tactic(auto, using(hdt_seq::specs::Laws::Width::digits_split))]
     fn block_of(&self, x: &[u8], steps: &mut Steps) -> Landed<'a>
         requires some { 0 < blocks_of self.now }
@@ -112,7 +113,7 @@ impl<'a> Section<'a> {
         }
     }
 
-    /// A look at a piece that isn't a head: how much it keeps, its text, and what is left after it.
+    /// An entry that is not the first of its block: its prefix length, its text, and the bytes after it.
     fn look_at_piece(rest: &'a [u8], steps: &mut Steps) -> (u64, &'a [u8], &'a [u8])
         requires { zero_in (text_from false rest.now) < length (text_from false rest.now) }
         ensures kept { result.0 ≡ kept false rest.now }
@@ -124,7 +125,7 @@ impl<'a> Section<'a> {
         piece_of(false, rest)
     }
 
-    /// Looks for a string behind the head of a block.
+    /// Searches a string after the first one of a block.
     fn within(
         &self,
         block: u64,
@@ -157,11 +158,11 @@ impl<'a> Section<'a> {
         None
     }
 
-    /// The number of a string, from 1, or None where it isn't in the section.
+    /// Returns the ID of a string, from 1, or `None` if it is not in the section.
     ///
-    /// It halves the blocks by their heads, and then goes through one block, comparing what is stored with what the
-    /// sought string has there: at most as many looks as the number of blocks has binary digits, and one less than the
-    /// block size; none in an empty section.
+    /// A binary search over the first strings of the blocks, then a scan of one block, whose strings are compared
+    /// without decoding them. Steps: at most the number of binary digits of the number of blocks, plus the block size,
+    /// minus 1; none in an empty section.
     pub fn place_of(&self, x: &[u8], steps: &mut Steps) -> Option<u64>
         ensures place { result ≡ place (strings_of self.now) x.now }
         ensures cost { steps.new ≤ steps.old + section_looks (section_of self.now) }

@@ -1,4 +1,4 @@
-//! A writer of a section, which takes the strings one at a time.
+//! Writing a section string by string.
 ghost use Rattle.std.specs.Prelude.{◌≡◌, ◌≤◌, ◌<◌, ◌^◌, ◌++◌, ◌∷◌, [], ℕ, List, length, cond, drop, OnOk, OnErr};
 ghost use Rattle.byteorder.specs.Endian.{little_bytes};
 ghost use Rattle.hdt_wire.specs.Check.{code8, code32};
@@ -17,8 +17,8 @@ use hdt_wire::{check8, check32, cut_on_error, put_vbyte};
 use std::alloc::{AllocError, Global};
 use std::marker::Model;
 
-/// A section in work: the strings that were handed in so far, folded. It keeps their packed bytes, 8 bytes a block, and
-/// the last string, in room for a few of the longest; no other string. Contracts see the strings.
+/// A writer of a section, which takes its strings one at a time. It keeps their front-coded bytes, 8 bytes a block, and
+/// the last string, in a buffer that is at most a few times as long as the longest one. Contracts see the strings.
 ///
 /// ```text
 /// let mut writer = SectionWriter::new(alloc, 16);
@@ -31,7 +31,7 @@ pub struct SectionWriter {
     block_size: u32,
     count: u64,
     last: Vec<u8>,
-    /// Where each block begins.
+    /// The offset of each block.
     starts: Vec<u64>,
     packed: Vec<u8>,
 }
@@ -48,8 +48,8 @@ impl Model for SectionWriter {
     ghost invariant = { λ w. AreKept w.block_size (unfolded w.block_size w.count 0 [] w.packed.items) w.last.items w.starts.items w.packed.items };
 }
 
-/// Appends the piece of a string that keeps so many bytes of the one before: at the head of a block the string, else how many
-/// it keeps and the rest. An `Err` may leave a beginning of it behind.
+/// Appends the entry of a string that shares so many bytes with the previous one: the string if it is the first of its
+/// block, else that number and the rest. An error may leave its first bytes.
 fn append_piece(
     head: bool,
     same: usize,
@@ -70,7 +70,7 @@ fn append_piece(
     Ok(())
 }
 
-/// Notes the start of a block, where one begins.
+/// Adds the offset of a block, if one begins.
 fn push_start(head: bool, place: usize, starts: &mut Vec<u64>) -> Result<(), AllocError>
     ensures ok { OnOk result (starts.new.items ≡ starts.old.items ++ cond head (place ∷ []) []) }
     ensures err { OnErr result (starts.new.items ≡ starts.old.items) }
@@ -81,8 +81,8 @@ fn push_start(head: bool, place: usize, starts: &mut Vec<u64>) -> Result<(), All
     Ok(())
 }
 
-/// Folds one more string, which agrees so far with the last one: of that the bytes behind alone are touched. An `Err` may leave a
-/// beginning of it behind, but the last string is as it was.
+/// Adds a string, of which the common prefix with the last one is known and not read. An error may leave the first
+/// bytes of its entry; the last string is unchanged.
 fn fold(
     head: bool,
     same: usize,
@@ -104,8 +104,7 @@ fn fold(
     unfold(last, same, string.split_at(same).1)
 }
 
-/// Appends what stands before the starts: the numbers of a section, with their code. An `Err` may leave a beginning
-/// of it behind.
+/// Appends the head of a section, with its CRC. An error may leave its first bytes.
 fn append_head(count: u64, size: u64, block_size: u32, out: &mut Vec<u8>) -> Result<(), AllocError>
     ensures ok { OnOk result (out.new.items ≡ out.old.items ++ (section_head count size block_size ++ code8 (section_head count size block_size) ∷ [])) }
     ensures err { OnErr result (Keeps out.old.items out.new.items) }
@@ -120,7 +119,7 @@ fn append_head(count: u64, size: u64, block_size: u32, out: &mut Vec<u8>) -> Res
     Ok(())
 }
 
-/// Appends packed bytes with their code. An `Err` may leave a beginning of it behind.
+/// Appends front-coded bytes with their CRC. An error may leave the first of them.
 fn append_packed(packed: &[u8], out: &mut Vec<u8>) -> Result<(), AllocError>
     ensures ok { OnOk result (out.new.items ≡ out.old.items ++ (packed.now ++ little_bytes 4 (code32 packed.now))) }
     ensures err { OnErr result (Keeps out.old.items out.new.items) }
@@ -131,7 +130,7 @@ fn append_packed(packed: &[u8], out: &mut Vec<u8>) -> Result<(), AllocError>
     out.extend_from_slice(&code)
 }
 
-/// Appends the section that packed bytes and their starts are; an `Err` may leave a beginning of it behind.
+/// Appends the section with these front-coded bytes and block offsets. An error may leave its first bytes.
 fn append_parts(
     count: u64,
     block_size: u32,
@@ -147,7 +146,7 @@ fn append_parts(
     append_packed(packed, out)
 }
 
-/// Appends the section that packed bytes and their starts are. Where memory is refused, `out` is as it was.
+/// Appends the section with these front-coded bytes and block offsets. If memory runs out, `out` is unchanged.
 fn put_parts(
     count: u64,
     block_size: u32,
@@ -164,8 +163,7 @@ fn put_parts(
 }
 
 impl SectionWriter {
-    /// A writer that has no string yet, in blocks of so many. It takes no memory. The caller shows that a block has one
-    /// string at least.
+    /// Returns a writer without strings, of a block size that is at least 1. It allocates nothing yet.
     pub fn new(alloc: Global, block_size: u32) -> SectionWriter
         requires block { 1 ≤ block_size }
         ensures { result ≡ record { block_size = block_size; strings = [] } }
@@ -179,14 +177,14 @@ impl SectionWriter {
         }
     }
 
-    /// How many strings were handed in.
+    /// Returns the number of strings so far.
     pub fn len(&self) -> u64
         ensures { result ≡ length self.now.strings }
     {
         self.count
     }
 
-    /// A law: a block has one string at least, and its size fits 4 bytes.
+    /// The law that the block size is at least 1 and below 2^32.
     pub fn has_blocks(&self)
         ensures some { 1 ≤ self.now.block_size }
         ensures fits { self.now.block_size < 2 ^ 32 }
@@ -194,15 +192,15 @@ impl SectionWriter {
         let _block_size = &self.block_size;
     }
 
-    /// The string that was handed in last; none yet: empty.
+    /// Returns the last string, or nothing if there is none yet.
     pub fn last(&self) -> &[u8]
         ensures { result.now ≡ last_string self.now }
     {
         &self.last
     }
 
-    /// Takes one more string, in time in proportion to it. The caller shows that it has no zero byte. Where memory is
-    /// refused, the writer is as it was.
+    /// Adds a string, which must have no zero byte. If memory runs out, the writer is unchanged. Linear time in the
+    /// string.
     pub fn push(&mut self, string: &[u8]) -> Result<(), AllocError>
         requires no_zero { HasNoZero string.now }
         ensures ok { OnOk result (self.new ≡ record self.old { strings = self.old.strings ++ string.now ∷ [] }) }
@@ -212,9 +210,8 @@ impl SectionWriter {
         self.push_agreeing(string, same)
     }
 
-    /// Takes one more string as [`push`](SectionWriter::push), in time in proportion to the bytes behind those in which it
-    /// agrees with the one before; at the head of a block, where it is written whole, to its length. The caller shows that it
-    /// has no zero byte, and that it agrees exactly so far with the one before. Where memory is refused, the writer is as it was.
+    /// Adds a string as [`push`](SectionWriter::push) does, if the length of its longest common prefix with the last
+    /// one is known. Linear time in the bytes after that prefix, or in the string if it is the first of its block.
     pub fn push_agreeing(&mut self, string: &[u8], same: usize) -> Result<(), AllocError>
         requires no_zero { HasNoZero string.now }
         requires same { same ≡ agreed (last_string self.old) string.now }
@@ -241,12 +238,12 @@ impl SectionWriter {
         Ok(())
     }
 
-    /// Appends the canonical section of the strings, as [`put_section`](crate::put_section). The caller shows that a
-    /// section can hold them. Where memory is refused, `out` is as it was.
+    /// Appends the canonical section of the strings, as [`put_section`](crate::put_section) does. The strings must be
+    /// valid. If memory runs out, `out` is unchanged.
     pub fn finish(self, out: &mut Vec<u8>) -> Result<(), AllocError>
         requires strings { AreStrings self.strings }
         ensures ok { OnOk result (out.new.items ≡ out.old.items ++ canonical self.block_size self.strings) }
-        // What was appended is a section.
+        // It is read back as a section.
         ensures section { OnOk result (IsSection (canonical_parts self.block_size self.strings (length out.old.items)) out.new.items (length out.old.items)) }
         ensures err { OnErr result (out.new.items ≡ out.old.items) }
     {

@@ -1,4 +1,4 @@
-//! One string of a section, unfolded from the head of its block.
+//! One string of a section, decoded from the first string of its block on.
 ghost use Rattle.std.specs.Prelude.{◌≡◌, ◌≤◌, ◌<◌, ◌+◌, ◌-◌, ◌++◌, ◌*◌, List, [], length, take, get_or, IfOk, OnOk, OnErr, true};
 ghost use Rattle.hdt_wire.specs.Control.{Keeps};
 ghost use Rattle.hdt_wire.specs.Rows.{zero_in};
@@ -15,11 +15,11 @@ use hdt_wire::cut_on_error;
 use std::alloc::AllocError;
 use std::simd::prelude::*;
 
-/// The bytes of a room in which a string is unfolded while it is no longer.
+/// The bytes of the buffer in which a string is decoded as long as it fits.
 const ROOM: usize = 160;
 
-/// Copies the next 32 bytes to a place in a room: how many of them are of the text at the front, up to its end. Most texts that are
-/// pieces end in the first load, so which one ends a text is mostly foreseen.
+/// Copies the next 32 bytes into a buffer; returns how many of them are of the text at the front. Most texts end in the
+/// first load, so the branch on that is mostly predicted.
 #[inline(always)]
 fn copy_load(bytes: &[u8], room: &mut [u8], at: usize) -> usize
     requires load { LANES ≤ length bytes.now }
@@ -33,9 +33,9 @@ fn copy_load(bytes: &[u8], room: &mut [u8], at: usize) -> usize
     first_set(v.simd_eq(u8x32::splat(0)).to_bitmask(), LANES)
 }
 
-/// Unfolds the first strings of a block in a room, each over the one before, so many of them or fewer: how many, how much of the last
-/// one stands in the room, and the bytes from the rest of its text on. It stops before a load that the bytes or the room don't have
-/// whole, and before a number of more than one byte.
+/// Decodes up to `many` strings of a block into a buffer, each over the previous one. Returns the number decoded, the
+/// decoded length of the last one, and its unread rest. It stops before a load that exceeds the bytes or the buffer,
+/// and before a number of more than one byte.
 fn unfold_in<'a>(
     section: &Section<'a>,
     block: u64,
@@ -86,8 +86,8 @@ fn extend_by(text: &[u8], out: &mut Vec<u8>) -> Result<(), AllocError>
     out.extend_from_slice(text)
 }
 
-/// Unfolds the next string over the one before it, which stands from a place on: what is left after its piece. An `Err` may leave
-/// a beginning of the string before behind.
+/// Decodes the next string over the previous one, which begins at an index of `out`; returns the bytes after its entry.
+/// An error may leave the first bytes of the previous string.
 #[tactic(auto, unfolding(crate::specs::Unfolding::text_of, crate::specs::Unfolding::after_piece))]
 fn put_piece<'a>(
     head: bool,
@@ -107,8 +107,8 @@ fn put_piece<'a>(
     Ok(after)
 }
 
-/// Appends string i, counted from 0; an `Err` may leave a beginning of it behind. It is unfolded in a room, and where that is too
-/// small goes on behind `out`.
+/// Appends string i, from 0; an error may leave its first bytes. It is decoded in a buffer, and in `out` once that is
+/// too small.
 #[tactic(auto, unfolding(crate::specs::Strings::strings_of))]
 fn append_string(
     section: &Section<'_>,
@@ -140,8 +140,8 @@ impl<'a> Section<'a> {
     ghost use Rattle.hdt_front.specs.Strings.{packed_block, section_of};
     ghost use Rattle.hdt_front.specs.Section.{string_place};
 
-    /// Appends string n, counted from 1; the caller shows that there is one. It unfolds one block at most, in as many
-    /// looks as the block size at most. Where memory is refused, `out` is as it was.
+    /// Appends the string with ID n, from 1. It decodes at most one block, in at most as many steps as the block size.
+    /// If memory runs out, `out` is unchanged.
     pub fn string(&self, n: u64, out: &mut Vec<u8>, steps: &mut Steps) -> Result<(), AllocError>
         requires from_one { 1 ≤ n }
         requires within { n ≤ length (strings_of self.now) }
@@ -155,8 +155,8 @@ impl<'a> Section<'a> {
         cut_on_error(appended, start, out)
     }
 
-    /// The packed bytes of the block of string n, counted from 1, lent from the input: unfolding the string needs no others. The
-    /// caller shows that there is such a string. It takes two looks, and no memory; the bytes themselves are not looked at.
+    /// Returns the front-coded bytes of the block of string n, from 1, borrowed from the input: decoding the string
+    /// needs no others. Two memory accesses; the bytes themselves are not read.
     #[inline(always)]
     #[tactic(auto, using(std::proofs::lemmas::List::take_min), unfolding(crate::specs::Strings::packed_block))]
     pub fn block(&self, n: u64) -> &'a [u8]
@@ -171,8 +171,8 @@ impl<'a> Section<'a> {
         bytes.split_at(len.min(bytes.len())).0
     }
 
-    /// The place of string n, counted from 1, in bytes from the start of the input: where its piece begins, which is
-    /// the place that faults name. The caller shows that there is one. It goes through one block at most.
+    /// Returns the byte offset of string n, from 1, in the input: that of its entry, which errors report. It scans at
+    /// most one block.
     pub fn string_start(&self, n: u64) -> u64
         requires from_one { 1 ≤ n }
         requires within { n ≤ length (strings_of self.now) }

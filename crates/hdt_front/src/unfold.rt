@@ -1,11 +1,11 @@
-//! A string unfolded over the one before it, and what is tested of it.
+//! Decoding a string over the previous one, and checking it.
 ghost use Rattle.std.specs.Prelude.{◌≡◌, ◌≤◌, ◌<◌, ◌++◌, ◌||◌, true, false, length, take, IfOk, OnOk, OnErr};
 ghost use Rattle.std.specs.Str.{is_utf8, IsCharBoundary};
 ghost use Rattle.hdt_front.specs.StringRows.{precedes};
 
 use std::alloc::AllocError;
 
-/// Whether a text is before another one; first bytes that differ decide at once.
+/// Whether a text is less than another one. Different first bytes decide at once.
 #[tactic(auto, using(crate::proofs::Order::first_decides))]
 fn is_before(a: &[u8], b: &[u8]) -> bool
     ensures { result ≡ precedes a.now b.now }
@@ -16,7 +16,7 @@ fn is_before(a: &[u8], b: &[u8]) -> bool
     a.cmp(b).is_lt()
 }
 
-/// Whether the text that goes on from the first bytes of a string is after that string.
+/// Whether a string that shares a prefix with the previous one and goes on with `text` is greater than that.
 #[tactic(auto, using(crate::proofs::Order::kept_order))]
 pub(crate) fn ascends(first: bool, before: &[u8], kept: usize, text: &[u8]) -> bool
     requires { kept ≤ length before.now }
@@ -38,7 +38,7 @@ pub(crate) fn valid(bytes: &[u8]) -> bool
     }
 }
 
-/// Whether a text is UTF-8; one that was seen to be ASCII is.
+/// Whether a text is UTF-8, if it may be known to be ASCII.
 fn seen_or_valid(ascii: bool, text: &[u8]) -> bool
     requires { ascii ≡ true → is_utf8 text.now ≡ true }
     ensures { result ≡ is_utf8 text.now }
@@ -46,7 +46,7 @@ fn seen_or_valid(ascii: bool, text: &[u8]) -> bool
     ascii || valid(text)
 }
 
-/// Whether a character of a string begins at a place, or the string ends there.
+/// Whether a character of a string begins at an index, or the string ends there.
 #[tactic(auto, using(crate::proofs::Utf8::at_start))]
 fn is_boundary(string: &[u8], at: usize) -> bool
     requires within { at ≤ length string.now }
@@ -63,8 +63,8 @@ fn is_boundary(string: &[u8], at: usize) -> bool
     }
 }
 
-/// The last place up to a given one where a character of a string begins or the string ends: at most three bytes
-/// before.
+/// The last index up to a given one at which a character of a string begins or the string ends: at most three bytes
+/// before it.
 fn character_start(string: &[u8], place: usize) -> usize
     requires within { place ≤ length string.now }
     requires utf8 { is_utf8 string.now ≡ true }
@@ -78,7 +78,8 @@ fn character_start(string: &[u8], place: usize) -> usize
     at
 }
 
-/// Unfolds a string over the one before it, of which so many bytes are kept. Where memory is refused, nothing moves.
+/// Decodes a string over the previous one, of which it keeps the first `kept` bytes. If memory runs out, nothing
+/// changes.
 pub(crate) fn unfold(string: &mut Vec<u8>, kept: usize, text: &[u8]) -> Result<(), AllocError>
     ensures ok { OnOk result (string.new.items ≡ take kept string.old.items ++ text.now) }
     ensures err { OnErr result (string.new.items ≡ string.old.items) }
@@ -88,9 +89,9 @@ pub(crate) fn unfold(string: &mut Vec<u8>, kept: usize, text: &[u8]) -> Result<(
     string.extend_from_slice(text)
 }
 
-/// Unfolds a string over the one before it, and answers whether it is UTF-8. The string before is, so only what
-/// follows the kept bytes is tested, with the beginning of a character that is cut there; where the text was seen to be
-/// ASCII, and no character is cut, nothing is.
+/// Decodes a string over the previous one, and returns whether it is UTF-8. The previous one is, so only the bytes
+/// after the prefix are checked, with the first bytes of a character that the prefix cuts; none, if the text is known
+/// to be ASCII and no character is cut.
 pub(crate) fn unfold_tested(
     string: &mut Vec<u8>,
     kept: usize,

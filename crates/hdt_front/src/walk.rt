@@ -1,4 +1,4 @@
-//! A walk over the strings of a section, in order.
+//! An iteration over the strings of a section, in order.
 ghost use Rattle.std.specs.Prelude.{◌≡◌, ◌≤◌, ◌<◌, ◌+◌, ◌-◌, ◌++◌, ◌==◌, Bool, length, take, [], Ok, IsOk, OnOk, OnErr, IfOk};
 ghost use Rattle.hdt_wire.specs.Rows.{zero_in};
 ghost use Rattle.hdt_front.specs.Unfolding.{kept, text_from, text_of, after_piece};
@@ -12,8 +12,8 @@ use crate::unfold::unfold;
 use std::alloc::{AllocError, Global};
 use std::marker::Model;
 
-/// A walk over the strings of a section in order, each unfolded once from the one before into one buffer. The whole
-/// walk takes time in proportion to the packed bytes and the strings.
+/// An iteration over the strings of a section in order, each decoded once, over the previous one in one buffer. All of
+/// it takes linear time in the front-coded bytes and the strings.
 ///
 /// ```text
 /// let mut walk = Walk::new(alloc, &section);
@@ -44,7 +44,7 @@ impl<'a> Model for Walk<'a> {
 }
 
 impl<'a> Walk<'a> {
-    /// A walk before the first string.
+    /// Returns an iteration that begins with the first string.
     pub fn new(alloc: Global, section: &Section<'a>) -> Walk<'a>
         ensures { result ≡ record { last = []; ahead = placed_of section.now } }
     {
@@ -56,15 +56,15 @@ impl<'a> Walk<'a> {
         }
     }
 
-    /// The string that was unfolded last; none yet: empty.
+    /// Returns the last string, or nothing if there is none yet.
     pub fn last(&self) -> &[u8]
         ensures { result.now ≡ self.now.last }
     {
         &self.last
     }
 
-    /// Unfolds the next string, and answers its place, in bytes from the start of the input; at the end None, which takes
-    /// no memory. Where memory is refused, nothing moves.
+    /// Decodes the next string and returns its byte offset in the input, or `None` at the end. If memory runs out,
+    /// nothing changes.
     pub fn next(&mut self) -> Result<Option<usize>, AllocError>
         ensures place { IfOk result (λ r. r ≡ next_place self.old.ahead) }
         ensures ok { OnOk result (self.new ≡ further self.old) }
@@ -75,9 +75,9 @@ impl<'a> Walk<'a> {
         Ok(place)
     }
 
-    /// Unfolds the next string as [`next`](Walk::next), and answers with its place how many bytes at its front it keeps
-    /// of the string before: it agrees with that so far at least. At the end that is 0. Time is in proportion to the bytes
-    /// that it doesn't keep.
+    /// Decodes the next string as [`next`](Walk::next) does, and returns also how many bytes its entry shares with the
+    /// previous one: a lower bound of their common prefix. At the end that is 0. Linear time in the bytes that it
+    /// doesn't share.
     pub fn next_kept(&mut self) -> Result<(Option<usize>, usize), AllocError>
         ensures place { IfOk result (λ r. r.0 ≡ next_place self.old.ahead) }
         ensures kept { IfOk result (λ r. r.1 ≤ first_agreed self.old.ahead self.old.last) }

@@ -1,4 +1,4 @@
-//! Writing a section of strings that are there, in its canonical form.
+//! Writing a section in canonical form.
 ghost use Rattle.std.specs.Prelude.{◌≡◌, ◌≤◌, ◌++◌, length, IfOk, OnOk, OnErr};
 ghost use Rattle.hdt_front.specs.Section.{AreStrings, IsSection};
 ghost use Rattle.hdt_front.specs.Canonical.{texts, lent_texts, canonical, canonical_parts};
@@ -6,7 +6,7 @@ ghost use Rattle.hdt_front.specs.Canonical.{texts, lent_texts, canonical, canoni
 use crate::section_writer::SectionWriter;
 use std::alloc::{AllocError, Global};
 
-/// Appends the canonical section of lent strings in blocks of so many, as [`put_section`].
+/// Appends the canonical section of borrowed strings, as [`put_section`].
 pub fn put_lent_section(
     alloc: Global,
     strings: &[&[u8]],
@@ -16,7 +16,7 @@ pub fn put_lent_section(
     requires strings { AreStrings (lent_texts strings.now) }
     requires block { 1 ≤ block_size }
     ensures ok { OnOk result (out.new.items ≡ out.old.items ++ canonical block_size (lent_texts strings.now)) }
-    // What was appended is a section.
+    // It is read back as a section.
     ensures section { OnOk result (IsSection (canonical_parts block_size (lent_texts strings.now) (length out.old.items)) out.new.items (length out.old.items)) }
     ensures err { OnErr result (out.new.items ≡ out.old.items) }
 {
@@ -27,7 +27,7 @@ pub fn put_lent_section(
     writer.finish(out)
 }
 
-/// The strings of vectors, lent: each the same, in their order. Time and memory are in proportion to their number.
+/// Borrows the strings of vectors, in order. Linear time and memory in their number.
 pub fn lent_strings<'a>(alloc: Global, strings: &'a [Vec<u8>]) -> Result<Vec<&'a [u8]>, AllocError>
     ensures { IfOk result (λ r. lent_texts r.items ≡ texts strings.now) }
 {
@@ -38,10 +38,10 @@ pub fn lent_strings<'a>(alloc: Global, strings: &'a [Vec<u8>]) -> Result<Vec<&'a
     Ok(slices)
 }
 
-/// Appends the canonical section of strings in blocks of so many: the longest kept lengths, starts as wide as they
-/// need, padding bits 0; without strings the one start 0. The caller shows that a section can hold the strings, as
-/// [`are_strings`](crate::are_strings) tells, and that a block has one at least. The strings aren't copied. Where memory
-/// is refused, `out` is as it was.
+/// Appends the canonical section of strings, with so many strings a block: the longest shared prefixes, block offsets
+/// of the least width, padding bits 0; without strings the one block offset 0. The strings must be valid
+/// ([`are_strings`](crate::are_strings)), and the block size at least 1. If memory runs out, `out` is unchanged. Linear
+/// time in the strings, which are not copied.
 pub fn put_section(
     alloc: Global,
     strings: &[Vec<u8>],
@@ -51,7 +51,7 @@ pub fn put_section(
     requires strings { AreStrings (texts strings.now) }
     requires block { 1 ≤ block_size }
     ensures ok { OnOk result (out.new.items ≡ out.old.items ++ canonical block_size (texts strings.now)) }
-    // What was appended is a section.
+    // It is read back as a section.
     ensures section { OnOk result (IsSection (canonical_parts block_size (texts strings.now) (length out.old.items)) out.new.items (length out.old.items)) }
     ensures err { OnErr result (out.new.items ≡ out.old.items) }
 {
