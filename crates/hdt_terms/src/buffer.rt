@@ -1,4 +1,4 @@
-//! The bytes that were read and not yet taken: one vector, filled at its end and taken from its front.
+//! A buffer of bytes that were read and not yet consumed.
 ghost use Rattle.std.specs.Prelude.{◌≡◌, ◌≢◌, IfErr, ℕ, ◌+◌, ◌-◌, ◌*◌, ◌<◌, ◌≤◌, List, [], length, drop, take, IfOk, OnOk, OnErr, IsErrOf, vec_len};
 ghost use Rattle.std.specs.Io.KnownBytes.{Consumes, Keeps, IsAtEnd};
 ghost use Rattle.hdt_wire.specs.Counted.{inner, failures};
@@ -11,10 +11,10 @@ use std::alloc::{AllocError, Global};
 use std::io::Read;
 use std::marker::Model;
 
-/// How many bytes are asked of the reader at once.
+/// The number of bytes of a read.
 const PIECE: usize = 65536;
 
-/// Bytes that are held: those of one vector from `start` to `end`. Contracts see them alone.
+/// A buffer: the bytes of a vector from `start` to `end`. Contracts see only these bytes.
 #[derive(Drop)]
 pub struct Buffer {
     bytes: Vec<u8>,
@@ -30,7 +30,8 @@ impl Model for Buffer {
     ghost invariant = { λ b. (b.start ≤ b.end) × (b.end ≤ vec_len b.bytes) × (0 < vec_len b.bytes) };
 }
 
-/// Brings the bytes from `start` to `end` to the front, with room behind them: where they fill the vector it grows.
+/// Moves the bytes from `start` to `end` to the front, so that there is free space after them: the vector grows if they
+/// fill it.
 fn make_room(bytes: &mut Vec<u8>, start: usize, end: usize) -> Result<(), AllocError>
     requires order { start ≤ end }
     requires within { end ≤ vec_len bytes.old }
@@ -38,7 +39,7 @@ fn make_room(bytes: &mut Vec<u8>, start: usize, end: usize) -> Result<(), AllocE
     ensures front { take (end - start) bytes.new.items ≡ take (end - start) (drop start bytes.old.items) }
     ensures len { vec_len bytes.old ≤ vec_len bytes.new }
     ensures ok { OnOk result (end - start < vec_len bytes.new) }
-    // It has grown only where they filled it.
+    // It has grown only if they filled it.
     ensures size { end - start < vec_len bytes.old → vec_len bytes.new ≡ vec_len bytes.old }
 {
     if start > 0 {
@@ -49,7 +50,7 @@ fn make_room(bytes: &mut Vec<u8>, start: usize, end: usize) -> Result<(), AllocE
     Ok(())
 }
 
-/// Reads at most so many bytes into the vector from a place on.
+/// Reads at most so many bytes into the vector, from an index on.
 fn read_at<R: Read>(
     bytes: &mut Vec<u8>,
     at: usize,
@@ -71,7 +72,7 @@ fn read_at<R: Read>(
 }
 
 impl Buffer {
-    /// Nothing is held.
+    /// An empty buffer.
     pub fn new(alloc: Global) -> Result<Buffer, AllocError>
         ensures { IfOk result (λ b. b ≡ []) }
     {
@@ -82,21 +83,21 @@ impl Buffer {
         })
     }
 
-    /// How many bytes are held.
+    /// The number of bytes.
     pub fn len(&self) -> usize
         ensures { result ≡ length self.now }
     {
         self.end - self.start
     }
 
-    /// The bytes that are held.
+    /// The bytes.
     pub fn as_slice(&self) -> &[u8]
         ensures { result.now ≡ self.now }
     {
         &self.bytes[self.start..self.end]
     }
 
-    /// Lets the first bytes go.
+    /// Consumes the first bytes.
     pub fn skip(&mut self, n: usize)
         requires { n ≤ length self.old }
         ensures { self.new ≡ drop n self.old }
@@ -104,7 +105,7 @@ impl Buffer {
         self.start += n;
     }
 
-    /// One read behind the bytes that are held, of so many bytes at most.
+    /// Calls the reader once, for at most so many bytes after those of the buffer.
     pub fn read<R: Read>(
         &mut self,
         most: usize,

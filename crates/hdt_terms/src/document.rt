@@ -1,4 +1,4 @@
-//! All the triples of a document.
+//! All triples of a document.
 ghost use Rattle.std.specs.Prelude.{◌≡◌, ◌≢◌, ◌+◌, ◌^◌, ◌<◌, IfOk, IfErr, OnOk};
 ghost use Rattle.hdt_wire.specs.Counted.{inner, failures};
 ghost use Rattle.hdt_terms.specs.Documents.{IsDocument, FaultInDocument};
@@ -11,7 +11,7 @@ use hdt_wire::Counted;
 use std::alloc::{AllocError, Global};
 use std::io::Read;
 
-/// Memory runs out in this line.
+/// The error of running out of memory in this line.
 fn no_memory(line: u64) -> LineFault
     ensures { result ≡ record { line = line; column = 0; reason = reasons.OutOfMemory } }
 {
@@ -22,24 +22,24 @@ fn no_memory(line: u64) -> LineFault
     }
 }
 
-/// The triples of the document that the reader gives, in their order, whatever its pieces are: those of all its lines
-/// (W3C RDF 1.1 N-Triples, section 2, by the profile of docs/NTRIPLES.md). It may have so many bytes at most. Time is
-/// in proportion to the input, and memory to its longest line and the terms.
+/// Returns the triples of a document (W3C RDF 1.1 N-Triples, section 2, by the profile of docs/NTRIPLES.md), in their
+/// order, however the reader cuts it into pieces. `limit` is the greatest number of bytes that it may have. Linear time
+/// in the input; memory for its longest line and the terms.
 ///
 /// # Errors
 ///
-/// The fault that stands in the document, as [`Lines::next_triple`] answers it.
+/// The first error of the document, as [`Lines::next_triple`] returns it.
 pub fn read_document<R: Read>(
     alloc: Global,
     limit: u64,
     input: &mut Counted<R>,
 ) -> Result<Vec<Triple>, LineFault>
     requires { limit < 2 ^ 63 }
-    // The input is a document, and these are its triples.
+    // The input is a document with these triples.
     ensures found { IfOk result (λ triples. IsDocument limit (R.remaining (inner input.old)) triples.items) }
-    // Or this fault stands in it, behind lines that are whole: want of memory too, in the line in work.
+    // Or this is its first error, after valid lines; running out of memory is one too, in the line that is read.
     ensures fault { IfErr result (λ f. FaultInDocument f limit (R.remaining (inner input.old)) (R.remaining (inner input.new))) }
-    // The reader failed at a fault that says so, and else not.
+    // The reader failed if the error says so, and only then.
     ensures read { IfErr result (λ f. f.reason ≡ reasons.Read → failures input.new ≡ failures input.old + 1) }
     ensures still { IfErr result (λ f. f.reason ≢ reasons.Read → failures input.new ≡ failures input.old) }
     ensures count { OnOk result (failures input.new ≡ failures input.old) }

@@ -1,4 +1,4 @@
-//! Whether a text is UTF-8.
+//! Checking UTF-8.
 ghost use Rattle.std.specs.Prelude.{◌≡◌, ◌↔◌, IsTrue, MatchResult};
 ghost use Rattle.std.specs.Str.{IsUtf8};
 ghost use Rattle.std.specs.Str.Lossy.{utf8_valid_len};
@@ -8,14 +8,14 @@ ghost use Rattle.hdt_terms.specs.Terms.{IsText};
 use crate::fault::{LineReason, TermFault};
 use crate::lanes::{Class, run_len};
 
-/// Whether the bytes are ASCII without U+0000, as those of most texts.
+/// Whether the bytes are ASCII without U+0000, as most texts are.
 pub fn is_ascii_text(bytes: &[u8]) -> bool
     ensures { IsTrue result → IsText bytes.now }
 {
     run_len(Class::AsciiText, bytes) == bytes.len()
 }
 
-/// Refuses a text that is not UTF-8, at its first byte that is not: for texts with other characters, which few have.
+/// Fails at the first byte that is not UTF-8: for texts that are not ASCII, which few are.
 #[inline(never)]
 pub fn check_beyond_ascii(text: &[u8]) -> Result<(), TermFault>
     ensures { MatchResult result (λ _. IsUtf8 text.now) (λ fault. ¬ (IsUtf8 text.now) × (fault ≡ not_utf8_at (utf8_valid_len text.now))) }
@@ -29,7 +29,7 @@ pub fn check_beyond_ascii(text: &[u8]) -> Result<(), TermFault>
     }
 }
 
-/// The same, fast where the text is ASCII.
+/// Fails at the first byte that is not UTF-8. Fast for ASCII.
 #[inline(always)]
 pub fn check_utf8(text: &[u8]) -> Result<(), TermFault>
     ensures { MatchResult result (λ _. IsUtf8 text.now) (λ fault. ¬ (IsUtf8 text.now) × (fault ≡ not_utf8_at (utf8_valid_len text.now))) }

@@ -1,4 +1,4 @@
-//! How many bytes from the first on are of one class, 16 at a time.
+//! The length of a run of bytes of one class, 16 at a time.
 ghost use Rattle.std.specs.Prelude.{◌≡◌, ◌+◌, ◌<◌, ◌≤◌, false, length, map, slice_index};
 ghost use Rattle.hdt_terms.specs.declared.pieces.Token.TheVariants.{Iri, Quoted};
 ghost use Rattle.hdt_terms.specs.declared.lanes.Class.TheVariants.{Inside, AsciiText, Text, AsciiLine};
@@ -13,9 +13,9 @@ use std::simd::prelude::*;
 /// A class of bytes.
 #[derive(Clone, Copy)]
 pub enum Class {
-    /// Those that stand in the token as they are.
+    /// Those that the token has unescaped.
     Inside(Token),
-    /// Those below 128 but 0.
+    /// Those from 1 to 127.
     AsciiText,
     /// Those that end no line.
     Text,
@@ -26,7 +26,7 @@ pub enum Class {
 /// The bytes of one load.
 const LANES: usize = 16;
 
-/// The place of the lowest bit that is set, or the number of lanes.
+/// The position of the lowest 1-bit, or the number of lanes.
 #[inline(always)]
 fn first_set(mask: u64) -> usize
     ensures { result ≡ first_set mask LANES }
@@ -38,7 +38,7 @@ fn first_set(mask: u64) -> usize
     }
 }
 
-/// Which characters an IRI excludes, at the low four bits of their codes: a bit for each value of the high four.
+/// The characters that IRIs exclude, by the low four bits of their codes: one bit for each value of the high four.
 const EXCLUDED: [u8; 16] = [
     0x47, 3, 7, 3, 3, 3, 3, 3, 3, 3, 3, 0x83, 0xAB, 0x83, 0x2B, 3,
 ];
@@ -62,7 +62,7 @@ fn bit_by_high(v: u8x16) -> u8x16
     u8x16::from_array(ROWS).swizzle_dyn(v >> u8x16::splat(4))
 }
 
-/// How many bytes from here on an IRI may hold as they are, by two tables of 16.
+/// The number of bytes at the front that an IRI may have unescaped, by two tables of 16.
 #[inline(always)]
 fn iri_run(bytes: &[u8], at: usize) -> usize
     requires { at + LANES ≤ length bytes.now }
@@ -73,7 +73,7 @@ fn iri_run(bytes: &[u8], at: usize) -> usize
     first_set(excluded.simd_ne(u8x16::splat(0)).to_bitmask())
 }
 
-/// How many bytes from here on a string may hold as they are.
+/// The number of bytes at the front that a string may have unescaped.
 #[inline(always)]
 fn string_run(bytes: &[u8], at: usize) -> usize
     requires { at + LANES ≤ length bytes.now }
@@ -88,7 +88,7 @@ fn string_run(bytes: &[u8], at: usize) -> usize
     first_set(stops.to_bitmask())
 }
 
-/// How many bytes from here on are ASCII but U+0000.
+/// The number of bytes at the front that are ASCII without U+0000.
 #[inline(always)]
 fn ascii_text_run(bytes: &[u8], at: usize) -> usize
     requires { at + LANES ≤ length bytes.now }
@@ -99,7 +99,7 @@ fn ascii_text_run(bytes: &[u8], at: usize) -> usize
     first_set(stops.to_bitmask())
 }
 
-/// How many bytes from here on end no line.
+/// The number of bytes at the front that end no line.
 #[inline(always)]
 fn text_run(bytes: &[u8], at: usize) -> usize
     requires { at + LANES ≤ length bytes.now }
@@ -110,7 +110,7 @@ fn text_run(bytes: &[u8], at: usize) -> usize
     first_set(stops.to_bitmask())
 }
 
-/// How many bytes from here on are ASCII and end no line.
+/// The number of bytes at the front that are ASCII and end no line.
 #[inline(always)]
 fn ascii_line_run(bytes: &[u8], at: usize) -> usize
     requires { at + LANES ≤ length bytes.now }
@@ -123,7 +123,7 @@ fn ascii_line_run(bytes: &[u8], at: usize) -> usize
     first_set(stops.to_bitmask())
 }
 
-/// How many bytes from here on are of the class.
+/// The number of bytes at the front that are of the class.
 #[inline(always)]
 fn load_run(class: Class, bytes: &[u8], at: usize) -> usize
     requires { at + LANES ≤ length bytes.now }
@@ -150,7 +150,7 @@ fn passes(class: Class, byte: u8) -> bool
     }
 }
 
-/// How many bytes at the front of a short text are of the class, byte by byte.
+/// The number of bytes at the front of a short text that are of the class, byte by byte.
 fn short_run(class: Class, bytes: &[u8]) -> usize
     ensures within { result ≤ length bytes.now }
     ensures run { PassBetween (passes class) bytes.now 0 result }
@@ -166,7 +166,7 @@ fn short_run(class: Class, bytes: &[u8]) -> usize
     at
 }
 
-/// How many bytes at the front are of the class: the longest run of them.
+/// The number of bytes at the front of a text that are of the class.
 #[inline(always)]
 pub fn run_len(class: Class, bytes: &[u8]) -> usize
     ensures within { result ≤ length bytes.now }
@@ -183,9 +183,9 @@ pub fn run_len(class: Class, bytes: &[u8]) -> usize
         if run < LANES {
             return at + run;
         }
-        // By a constant, so that the next load need not wait for this one's run.
+        // Advance by a constant, so that the next load doesn't wait for the result of this one.
         at += LANES;
     }
-    // The last load may overlap the one before.
+    // The last load may overlap the previous one.
     len - LANES + load_run(class, bytes, len - LANES)
 }

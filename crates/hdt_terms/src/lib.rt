@@ -1,23 +1,22 @@
-//! Terms of N-Triples: read, written, and kept as the strings of an HDT dictionary.
+//! Terms of N-Triples: reading, writing, and their strings in an HDT dictionary.
 //!
-//! The crate's promise: [`parse_term`] reads a text exactly where it spells a term of the grammar (W3C RDF 1.1
-//! N-Triples, section 7, by the profile of docs/NTRIPLES.md), and as that term; else it answers the one fault that
-//! stands in the text, with its column. What [`put_term`] writes of a term of the grammar spells it. [`term_string`] and
-//! [`string_term`] are inverse, and no two terms have one string.
+//! What this crate promises: [`parse_term`] returns the term if the text is one of the grammar (W3C RDF 1.1 N-Triples,
+//! section 7, by the profile of docs/NTRIPLES.md), else the first error with its column. What [`put_term`] writes is
+//! read back. [`term_string`] and [`string_term`] are inverse, and different terms have different strings.
 //!
-//! A function that says nothing of its cost takes constant time and no memory; laws do nothing when they are called.
+//! Functions that state no cost take constant time and allocate nothing. Laws do nothing when called.
 //!
 //! ```
 //! let term = parse_term(alloc, b"\"caf\\u00e9\" @fr")?;
 //! let string = term_string(alloc, &term)?; // "café"@fr
-//! put_term(&term, &mut line)?; // the same here, since nothing in it is escaped
+//! put_term(&term, &mut line)?; // the same, as nothing in it is escaped
 //! ```
 //!
-//! [`parse_string`] reads a text as [`parse_term`] does and appends its dictionary string, and [`put_string`] goes the other
-//! way, from a dictionary string to the text, both with no term made.
+//! [`parse_string`] reads a text as [`parse_term`] does and appends its dictionary string; [`put_string`] writes the
+//! text of a dictionary string. Neither makes a term.
 //!
-//! [`Lines`] gives the triples of a document, line by line, over any reader in any pieces: [`Lines::next_triple`] as terms,
-//! which is simple, and [`Lines::next_strings`] as dictionary strings in buffers that are handed in, which is fast.
+//! [`Lines`] gives the triples of a document line by line, over any reader in any pieces: [`Lines::next_triple`] as
+//! terms, which is simple, and [`Lines::next_strings`] as dictionary strings in buffers of the caller, which is fast.
 //! [`Lines::next_text`] gives the text of each line, whatever it is, and [`read_request`] what a line asks for.
 //! [`read_document`] gives all triples, and says of whole inputs what `Lines` says of each call: they are the document's,
 //! or the fault is the one that stands in it.

@@ -26,7 +26,7 @@ fn begins(role: Role, first: u8) -> bool
     }
 }
 
-/// Nothing, or a comment.
+/// Nothing or a comment follows.
 fn is_comment(bytes: &[u8]) -> bool
     ensures { result ≡ is_comment bytes.now }
 {
@@ -36,7 +36,7 @@ fn is_comment(bytes: &[u8]) -> bool
     }
 }
 
-/// Tabs and spaces, and then nothing or a comment.
+/// Nothing or a comment follows tabs and spaces.
 #[tactic(auto, unfolding(crate::specs::LineReading::is_bare))]
 pub fn is_bare(text: &[u8]) -> bool
     ensures { result ≡ is_bare text.now }
@@ -44,7 +44,7 @@ pub fn is_bare(text: &[u8]) -> bool
     is_comment(after_blanks(text))
 }
 
-/// Nothing stands here, or a comment.
+/// Nothing or a comment is here.
 pub fn read_bare(bytes: &[u8]) -> Result<(), ReadError>
     ensures { GivesRead (λ _. tt) result (bare_at bytes.now) }
 {
@@ -54,7 +54,7 @@ pub fn read_bare(bytes: &[u8]) -> Result<(), ReadError>
     Ok(())
 }
 
-/// The full stop behind tabs and spaces, and then nothing or a comment.
+/// The full stop after tabs and spaces; then nothing or a comment.
 #[tactic(auto, unfolding(crate::specs::LineReading::closed_at))]
 fn read_end(bytes: &[u8]) -> Result<(), ReadError>
     ensures { GivesRead (λ _. tt) result (closed_at bytes.now) }
@@ -66,7 +66,7 @@ fn read_end(bytes: &[u8]) -> Result<(), ReadError>
     read_bare(after_blanks(behind))
 }
 
-/// The term of the role behind tabs and spaces, and the bytes after it.
+/// The term of the role after tabs and spaces, and the bytes after it.
 #[tactic(auto, unfolding(crate::specs::LineReading::role_at, crate::specs::LineReading::role_here))]
 fn read_role(alloc: Global, role: Role, bytes: &[u8]) -> Result<(Term, &[u8]), ReadError>
     requires { IsUtf8 bytes.now }
@@ -80,7 +80,7 @@ fn read_role(alloc: Global, role: Role, bytes: &[u8]) -> Result<(Term, &[u8]), R
     }
 }
 
-/// Appends the string of the term of the role that begins here, and answers the bytes after it.
+/// Appends the string of the term of the role that begins here, and returns the bytes after it.
 #[tactic(auto, unfolding(crate::specs::LineReading::role_here))]
 pub fn append_here<'a>(
     role: Role,
@@ -97,7 +97,7 @@ pub fn append_here<'a>(
     }
 }
 
-/// Puts the string of the term of the role behind tabs and spaces into the buffer, and answers the bytes after it.
+/// Puts the string of the term of the role after tabs and spaces into the buffer, and returns the bytes after it.
 #[tactic(auto, unfolding(crate::specs::LineReading::role_at))]
 fn put_role<'a>(role: Role, bytes: &'a [u8], out: &mut Vec<u8>) -> Result<&'a [u8], ReadError>
     requires { IsUtf8 bytes.now }
@@ -138,7 +138,7 @@ fn put_strings(
     read_end(rest)
 }
 
-/// The triple of a line, or the fault that stands in it.
+/// The triple of a line, or its first error.
 #[tactic(auto, unfolding(crate::specs::LineReading::line_triple))]
 pub fn read_triple(alloc: Global, text: &[u8]) -> Result<Triple, TermFault>
     requires { IsUtf8 text.now }
@@ -150,7 +150,7 @@ pub fn read_triple(alloc: Global, text: &[u8]) -> Result<Triple, TermFault>
     }
 }
 
-/// Puts the strings of the triple of a line into the buffers, or answers the fault that stands in the line.
+/// Puts the strings of the triple of a line into the buffers, or returns the first error of the line.
 #[tactic(auto, unfolding(crate::specs::LineReading::line_triple))]
 pub fn put_triple(
     text: &[u8],

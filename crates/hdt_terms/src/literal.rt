@@ -13,7 +13,7 @@ use crate::term::{Suffix, Term};
 use crate::text::Text;
 use std::alloc::Global;
 
-/// The datatype of a literal without suffix.
+/// The datatype of a literal without a suffix: `xsd:string`.
 const XSD_STRING: &[u8] = b"http://www.w3.org/2001/XMLSchema#string";
 
 /// What follows the tabs and spaces.
@@ -31,14 +31,14 @@ pub fn after_blanks(bytes: &[u8]) -> &[u8]
     rest
 }
 
-/// Whether the IRI is XMLSchema's string.
+/// Whether the IRI is `xsd:string`.
 pub fn is_xsd_string(iri: &[u8]) -> bool
     ensures { result ≡ bytes_eq iri.now xsd_string }
 {
     iri == XSD_STRING
 }
 
-/// The suffix for this datatype: none for XMLSchema's string.
+/// The suffix of this datatype: none for `xsd:string`.
 fn datatype_of(iri: Vec<u8>) -> Suffix
     ensures { result ≡ datatype_of iri.items }
 {
@@ -61,7 +61,7 @@ fn read_datatype(alloc: Global, bytes: &[u8]) -> Result<(Suffix, &[u8]), ReadErr
     Ok((datatype_of(iri), rest))
 }
 
-/// What stands behind the closing quote, and the bytes after it.
+/// What follows the closing quote, and the bytes after it.
 #[tactic(auto, unfolding(crate::specs::Reading::suffix_at))]
 fn read_suffix(alloc: Global, bytes: &[u8]) -> Result<(Suffix, &[u8]), ReadError>
     ensures { GivesRead (λ x. (x.0, x.1.now)) result (suffix_at bytes.now) }

@@ -41,7 +41,7 @@ pub fn read_term(alloc: Global, bytes: &[u8]) -> Result<(Term, &[u8]), ReadError
     }
 }
 
-/// The term that the text spells, or the fault that stands in it.
+/// The term of a text, or its first error.
 #[tactic(auto, unfolding(crate::specs::Faults::term_in, crate::specs::Faults::checked))]
 fn read_whole(alloc: Global, text: &[u8]) -> Result<Term, TermFault>
     ensures reads { IsRead result (term_in text.now) }
@@ -58,29 +58,28 @@ fn read_whole(alloc: Global, text: &[u8]) -> Result<Term, TermFault>
     }
 }
 
-/// The term that the text spells, all of the text: one term of N-Triples (W3C RDF 1.1 N-Triples, section 7) and nothing
-/// before or after it, by the profile of docs/NTRIPLES.md. IRIs are absolute, no text holds U+0000, and the datatype
-/// `http://www.w3.org/2001/XMLSchema#string` is dropped.
+/// Reads a text that is one term of N-Triples (W3C RDF 1.1 N-Triples, section 7, by the profile of docs/NTRIPLES.md),
+/// with nothing before or after it. IRIs are absolute, no text has U+0000, and the datatype
+/// `http://www.w3.org/2001/XMLSchema#string` is dropped. Linear time; memory for the term.
 ///
 /// # Errors
 ///
-/// The fault that stands in the text, with its column in bytes from 1. [`LineReason::OutOfMemory`], with the column 0,
-/// comes only where memory was refused.
+/// The first error of the text, with its column in bytes, from 1. [`LineReason::OutOfMemory`], with the column 0, only
+/// if memory ran out.
 pub fn parse_term(alloc: Global, text: &[u8]) -> Result<Term, TermFault>
-    // What is read is spelled so, and a term of the grammar.
+    // The text is one of the term that is returned, which is one of the grammar.
     ensures found { IfOk result (λ term. Spelled text.now term × IsGrammarTerm term) }
-    // What is spelled so is read, unless memory runs out.
+    // If the text is one of a term, it is returned, unless memory runs out.
     ensures only { (term : Term) → Spelled text.now term → IsRead result (Ok term) }
-    // A fault is the one of the table of faults, unless memory ran out.
+    // The error is the one of the table of errors, unless memory ran out.
     ensures fault { IfErr result (λ fault. (fault ≡ out_of_memory) ⊎ FaultIn text.now fault) }
-    // All of this at once: the term that the text spells, or the fault that stands in it.
+    // All of this at once: the term of the text, or its first error.
     ensures exact { IsRead result (term_in text.now) }
 {
     read_whole(alloc, text)
 }
 
-/// Appends the string of the term that the text spells, or answers the fault that stands in the text; after a fault
-/// `out` may have grown.
+/// Appends the string of the term of a text, or returns its first error; after an error `out` may have grown.
 #[tactic(auto, unfolding(crate::specs::Faults::term_in, crate::specs::Faults::checked))]
 fn append_whole(text: &[u8], out: &mut Vec<u8>) -> Result<(), TermFault>
     ensures reads { PutsParsed text.now out.old.items out.new.items result }
@@ -98,18 +97,18 @@ fn append_whole(text: &[u8], out: &mut Vec<u8>) -> Result<(), TermFault>
     }
 }
 
-/// Appends the dictionary string of the term that the text spells, with no term made on the way: what [`parse_term`]
-/// and then [`crate::term_string`] give. Time is in proportion to the text; memory is the string's.
+/// Appends the dictionary string of the term of a text, without making the term: what [`parse_term`] and then
+/// [`crate::term_string`] give. Linear time; memory for the string.
 ///
 /// # Errors
 ///
-/// As [`parse_term`], and then `out` is as it was.
+/// As [`parse_term`]; then `out` is unchanged.
 pub fn parse_string(text: &[u8], out: &mut Vec<u8>) -> Result<(), TermFault>
-    // What is appended is the string of a term of the grammar that the text spells.
+    // What is appended is the string of a term of the grammar that the text is one of.
     ensures found { OnOk result (SpellsString text.now out.old.items out.new.items) }
-    // A fault is the one of the table of faults, unless memory ran out.
+    // The error is the one of the table of errors, unless memory ran out.
     ensures fault { IfErr result (λ fault. (fault ≡ out_of_memory) ⊎ FaultIn text.now fault) }
-    // The string of the term that the text spells, or the fault that stands in it.
+    // The string of the term of the text, or its first error.
     ensures exact { PutsParsed text.now out.old.items out.new.items result }
     ensures err { OnErr result (out.new.items ≡ out.old.items) }
 {

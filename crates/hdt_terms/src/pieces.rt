@@ -1,4 +1,4 @@
-//! The inside of an IRI or a string, its escapes resolved.
+//! The content of an IRI or a string, with its escapes decoded.
 ghost use Rattle.std.specs.Prelude.{◌≡◌, ◌≤◌, ◌+◌, ◌^◌, ◌<◌, length, false, ◌++◌, encode_utf8, IfSome, IfOk, IfErr, OnOk, OnErr};
 ghost use Rattle.std.specs.Prelude.{ℕ, true, slice_index};
 ghost use Rattle.hdt_terms.specs.Chars.{echar};
@@ -13,14 +13,14 @@ use crate::fault::{LineReason, ReadError, refuse};
 use crate::lanes::{Class, run_len};
 use std::alloc::{AllocError, Global};
 
-/// A token that has an inside of pieces: production IRIREF or STRING_LITERAL_QUOTE.
+/// A token with escapes: production IRIREF or STRING_LITERAL_QUOTE.
 #[derive(Clone, Copy, Debug, PartialEq, Eq)]
 pub enum Token {
     Iri,
     Quoted,
 }
 
-/// What stands next inside a token: its end, a byte as it is, or an escape with the bytes behind its backslash.
+/// What is next in a token: its end, an unescaped byte, or an escape with the bytes after its backslash.
 #[derive(Clone, Copy, Debug, PartialEq, Eq)]
 pub enum Item {
     End,
@@ -28,7 +28,7 @@ pub enum Item {
     Char(char, usize),
 }
 
-/// The character that stands behind a backslash as \u or \U, and how many bytes spell it there.
+/// The character of an escape `\u` or `\U`, and the number of its bytes after the backslash.
 #[tactic(auto, unfolding(crate::specs::Reading::uchar))]
 fn uchar(rest: &[u8]) -> Option<(char, usize)>
     ensures value { result ≡ uchar rest.now }
@@ -41,7 +41,7 @@ fn uchar(rest: &[u8]) -> Option<(char, usize)>
     }
 }
 
-/// The character that so many digits write, and one more than their number.
+/// The character with so many digits, and one more than their number.
 fn escaped(len: usize, digits: &[u8]) -> Option<(char, usize)>
     requires { len ≤ 8 }
     ensures value { result ≡ escape_here len digits.now }
@@ -54,7 +54,7 @@ fn escaped(len: usize, digits: &[u8]) -> Option<(char, usize)>
     Some((c, len + 1))
 }
 
-/// What a backslash and a letter stand for.
+/// The character of an escape of one letter.
 fn echar(letter: u8) -> Option<char>
     ensures { result ≡ echar letter }
 {
@@ -71,7 +71,7 @@ fn echar(letter: u8) -> Option<char>
     }
 }
 
-/// The character for what stands behind a backslash, and that it takes one byte there.
+/// The character of such an escape, and the number of its bytes after the backslash, which is 1.
 fn echar_at(rest: &[u8]) -> Option<(char, usize)>
     ensures value { result ≡ echar_at rest.now }
     ensures within { IfSome result (λ x. x.1 ≤ length rest.now) }
@@ -80,7 +80,7 @@ fn echar_at(rest: &[u8]) -> Option<(char, usize)>
     Some((echar(*letter)?, 1))
 }
 
-/// What begins with this byte inside an IRI.
+/// What begins with this byte in an IRI.
 #[tactic(auto, unfolding(crate::specs::Reading::iri_item))]
 fn iri_item(first: u8, rest: &[u8]) -> Result<Item, ReadError>
     requires { length rest.now < 2 ^ 63 }
@@ -101,7 +101,7 @@ fn iri_item(first: u8, rest: &[u8]) -> Result<Item, ReadError>
     }
 }
 
-/// What begins with this byte inside a string.
+/// What begins with this byte in a string.
 #[tactic(auto, unfolding(crate::specs::Reading::string_item))]
 fn string_item(first: u8, rest: &[u8]) -> Result<Item, ReadError>
     requires { length rest.now < 2 ^ 63 }
@@ -122,7 +122,7 @@ fn string_item(first: u8, rest: &[u8]) -> Result<Item, ReadError>
     }
 }
 
-/// What begins with this byte inside the token.
+/// What begins with this byte in the token.
 fn next_item(token: Token, first: u8, rest: &[u8]) -> Result<Item, ReadError>
     requires { length rest.now < 2 ^ 63 }
     ensures value { GivesRead (λ x. x) result (item token first rest.now) }
@@ -144,7 +144,7 @@ pub fn close(token: Token) -> u8
     }
 }
 
-/// Whether a byte stands in a token as it is.
+/// Whether a token may have this byte unescaped.
 pub fn is_raw(token: Token, byte: u8) -> bool
     ensures { result ≡ is_raw token byte }
 {
@@ -154,7 +154,7 @@ pub fn is_raw(token: Token, byte: u8) -> bool
     }
 }
 
-/// How many bytes at the front stand in a token as they are.
+/// The number of bytes at the front that a token has unescaped.
 #[inline(always)]
 pub fn plain_len(token: Token, bytes: &[u8]) -> usize
     ensures within { result ≤ length bytes.now }
@@ -165,8 +165,7 @@ pub fn plain_len(token: Token, bytes: &[u8]) -> usize
     run_len(Class::Inside(token), bytes)
 }
 
-/// Appends the bytes at the front that stand in the token as they are, and answers what follows them: what the inside
-/// reads behind `out` stays the same.
+/// Appends the bytes at the front that the token has unescaped, and returns what follows them.
 #[inline(always)]
 fn append_plain<'a>(token: Token, bytes: &'a [u8], out: &mut Vec<u8>) -> Result<&'a [u8], ReadError>
     ensures goes_on { IfOk result (λ rest. with_front out.new.items (inside token 0 rest.now) ≡ with_front out.old.items (inside token 0 bytes.now)) }
@@ -188,8 +187,8 @@ fn append_char(c: char, out: &mut Vec<u8>) -> Result<(), AllocError>
     out.extend_from_slice(c.encode_utf8(&mut buffer).as_bytes())
 }
 
-/// Appends what stands inside a token, its escapes resolved, and answers the bytes after its end: item by item, for
-/// tokens with escapes, which few have.
+/// Appends the content of a token, with its escapes decoded, and returns the bytes after its end: item by item, for
+/// tokens with escapes, which are few.
 #[inline(never)]
 fn inside_by_items<'a>(
     token: Token,
@@ -216,7 +215,7 @@ fn inside_by_items<'a>(
     refuse(LineReason::Syntax, 0)
 }
 
-/// The same, at once where the end stands here.
+/// The same; at once if the token ends here.
 #[inline(always)]
 fn inside_at_end<'a>(
     token: Token,
@@ -232,7 +231,7 @@ fn inside_at_end<'a>(
     }
 }
 
-/// Appends what stands inside a token, its escapes resolved, and answers the bytes after its end.
+/// Appends the content of a token, with its escapes decoded, and returns the bytes after its end.
 #[inline(always)]
 pub fn inside<'a>(token: Token, bytes: &'a [u8], out: &mut Vec<u8>) -> Result<&'a [u8], ReadError>
     ensures reads { AppendsRead itself out.old.items out.new.items (λ rest. rest.now) result (inside token 0 bytes.now) }
@@ -242,7 +241,7 @@ pub fn inside<'a>(token: Token, bytes: &'a [u8], out: &mut Vec<u8>) -> Result<&'
     inside_at_end(token, rest, out)
 }
 
-/// What stands inside a token, its escapes resolved, and the bytes after its end. Without escapes it takes no more
+/// The content of a token, with its escapes decoded, and the bytes after its end. Without escapes it takes no more
 /// memory than its bytes.
 #[inline(always)]
 pub fn read_inside(alloc: Global, token: Token, bytes: &[u8]) -> Result<(Vec<u8>, &[u8]), ReadError>

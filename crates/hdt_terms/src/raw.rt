@@ -8,7 +8,7 @@ use crate::encoding::check_utf8;
 use crate::fault::{LineReason, ReadError, TermFault, fault_of, refuse};
 use crate::line::is_bare;
 
-/// What a backslash and a letter stand for.
+/// The byte of an escape of one letter.
 fn letter(letter: u8) -> Option<u8>
     ensures { result ≡ raw_letter letter }
 {
@@ -21,7 +21,7 @@ fn letter(letter: u8) -> Option<u8>
     }
 }
 
-/// The byte for what stands behind a backslash, and what follows it.
+/// The byte of such an escape, and the bytes after it.
 fn letter_at(rest: &[u8]) -> Option<(u8, &[u8])>
     ensures { IsLetterAt (λ x. x.0) (λ x. x.1.now) rest.now result }
 {
@@ -29,7 +29,7 @@ fn letter_at(rest: &[u8]) -> Option<(u8, &[u8])>
     Some((letter(*first)?, behind))
 }
 
-/// Appends the string that stands here, its escapes resolved, and answers the bytes from the tab behind it on.
+/// Appends the string that is here, with its escapes decoded, and returns the bytes from the tab after it on.
 fn append_raw<'a>(bytes: &'a [u8], out: &mut Vec<u8>) -> Result<&'a [u8], ReadError>
     ensures { AppendsRead itself out.old.items out.new.items (λ rest. rest.now) result (raw_at bytes.now) }
 {
@@ -53,7 +53,7 @@ fn append_raw<'a>(bytes: &'a [u8], out: &mut Vec<u8>) -> Result<&'a [u8], ReadEr
     Ok(rest)
 }
 
-/// Puts the string that stands here into the buffer, and answers the bytes from the tab behind it on.
+/// Puts the string that is here into the buffer, and returns the bytes from the tab after it on.
 fn put_raw<'a>(bytes: &'a [u8], out: &mut Vec<u8>) -> Result<&'a [u8], ReadError>
     ensures { AppendsRead itself [] out.new.items (λ rest. rest.now) result (raw_at bytes.now) }
 {
@@ -61,7 +61,7 @@ fn put_raw<'a>(bytes: &'a [u8], out: &mut Vec<u8>) -> Result<&'a [u8], ReadError
     append_raw(bytes, out)
 }
 
-/// What follows the tab here.
+/// The bytes after the tab here.
 fn behind_tab(bytes: &[u8]) -> Result<&[u8], ReadError>
     ensures { GivesRead (λ rest. rest.now) result (tab_at bytes.now) }
 {
@@ -71,7 +71,7 @@ fn behind_tab(bytes: &[u8]) -> Result<&[u8], ReadError>
     }
 }
 
-/// Nothing stands here.
+/// Nothing is here.
 fn read_nothing(bytes: &[u8]) -> Result<(), ReadError>
     ensures { GivesRead (λ _. tt) result (nothing_at bytes.now) }
 {
@@ -101,16 +101,17 @@ fn is_given(string: &[u8]) -> bool
     string != b"?".as_slice()
 }
 
-/// What a line asks for by dictionary strings: which of subject, predicate and object are given, or `None` where it has nothing
-/// but blanks and a comment. A request is three strings with one tab between two of them; in a string `\\`, `\n`, `\r` and `\t`
-/// stand for a backslash, a line feed, a carriage return and a tab. `?` is any. The three strings then stand in the buffers.
-/// Once these have grown, a call allocates nothing; time is in proportion to the line.
+/// Reads a request by dictionary strings into the buffers. Returns which of subject, predicate and object are given, or
+/// `None` if the line has only whitespace and a comment. A request is three strings, separated by one tab each; in a
+/// string `\\`, `\n`, `\r` and `\t` are a backslash, a line feed, a carriage return and a tab. `?` is any. Linear time;
+/// it allocates only to grow the buffers.
 ///
 /// # Errors
 ///
-/// The fault that stands in the line, with its column in bytes from 1: [`LineReason::NotUtf8`], [`LineReason::BadEscape`] at
-/// the backslash, and [`LineReason::Syntax`] where a tab is missing, at the line's end, or is one too many.
-/// [`LineReason::OutOfMemory`], with the column 0, comes only where memory was refused. After a fault the buffers hold anything.
+/// The first error of the line, with its column in bytes, from 1: [`LineReason::NotUtf8`], [`LineReason::BadEscape`] at
+/// the backslash, and [`LineReason::Syntax`] at the end of the line if a tab is missing, or at a tab too many.
+/// [`LineReason::OutOfMemory`], with the column 0, only if memory ran out. After an error the buffers have any
+/// contents.
 pub fn read_raw_request(
     text: &[u8],
     s: &mut Vec<u8>,
