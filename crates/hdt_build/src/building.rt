@@ -1,4 +1,4 @@
-//! From N-Triples to a file.
+//! Building a file from N-Triples.
 ghost use Rattle.std.specs.Prelude.{◌≡◌, ◌≢◌, ◌<◌, ◌+◌, ◌↔◌, ℕ, length, IfOk, IfErr, OnOk, IsErrOf};
 ghost use Rattle.std.specs.Io.KnownBytes.{IsAtEnd};
 ghost use Rattle.hdt_wire.specs.Counted.{inner, failures};
@@ -19,7 +19,7 @@ use hdt_wire::Counted;
 use std::alloc::{AllocError, Global};
 use std::io::{Read, Write};
 
-/// The canonical file of a document's graph under the options, and its numbers.
+/// The canonical file of a document's graph under the options, and its counts.
 fn built(
     alloc: Global,
     document: Document,
@@ -37,13 +37,12 @@ fn built(
     whole_file(alloc, header.as_slice(), form)
 }
 
-/// Builds the canonical file of the graph of an N-Triples document, in memory: the bytes, and their numbers. The input
-/// may have 2^63 - 1 bytes. The order of its lines, repeats and comments make no difference.
+/// Builds the canonical file of an N-Triples document's graph in memory. Returns its bytes and its counts. The input
+/// may have up to 2^63 - 1 bytes. The order of its lines, repeats and comments make no difference.
 ///
-/// Time is that of reading the lines once and of sorting the strings and the triples, whatever the strings are. Memory is
-/// that of each distinct string, whatever its roles, of those that are listed again since the cache had lost them, some 50 bytes
-/// for each, 24 bytes a line for its triple, the sections and the file. No string is copied but into its sections, and, while it
-/// waits to be looked up, into 64 KiB for up to 256 lines, with the last of them whole.
+/// Time is that of reading the lines once and of sorting the strings and the triples, whatever the strings are. Memory:
+/// each distinct string once, whatever its roles, and again if the cache has lost it, with some 50 bytes for each; 24
+/// bytes for the triple of each line; the sections; and the file.
 ///
 /// ```text
 /// let (bytes, report) = build_bytes(alloc, &mut input, &options)?;
@@ -51,24 +50,24 @@ fn built(
 ///
 /// # Errors
 ///
-/// [`BuildFault::BadOptions`], before anything is read; then those of the lines and [`BuildFault::NoTriples`];
-/// [`BuildFault::OutOfMemory`] only where memory was refused. Never [`BuildFault::Write`].
+/// [`BuildFault::BadOptions`], before anything is read; then those of the lines, and [`BuildFault::NoTriples`];
+/// [`BuildFault::OutOfMemory`] only if memory ran out. Never [`BuildFault::Write`].
 pub fn build_bytes<R: Read>(
     alloc: Global,
     input: &mut Counted<R>,
     options: &Options,
 ) -> Result<(Vec<u8>, Report), BuildFault>
-    // The input is a document, and this is the canonical file of its graph under the options, with its numbers.
+    // The input is a document; this is the canonical file of its graph under the options, and its counts.
     ensures found { IfOk result (λ made. Builds options.now (R.remaining (inner input.old)) made.0.items made.1) }
-    // The options are right, and the reader is at its end.
+    // The options are valid, and the reader is at its end.
     ensures right { OnOk result (AreRight options.now) }
     ensures end { OnOk result (IsAtEnd (R.remaining (inner input.new))) }
-    // Bad options are told exactly where they are so, and then nothing was read.
+    // BadOptions is returned exactly if the options are not valid, and then nothing was read.
     ensures bad { IsErrOf result BuildFault.BadOptions ↔ (AreRight options.now → ⊥) }
     ensures unread { IsErrOf result BuildFault.BadOptions → input.new ≡ input.old }
-    // Any other fault is one that stands in the input.
+    // Any other error is the first one of the input.
     ensures told { IfErr result (λ e. e ≢ BuildFault.BadOptions → TellsBuildFault (R.remaining (inner input.old)) (R.remaining (inner input.new)) e) }
-    // The reader failed in this call where the fault says so, and at no other answer.
+    // The reader failed in this call, once, if the error says so; else it has not failed.
     ensures read { IfErr result (λ e. ReadFailed e → failures input.new ≡ failures input.old + 1) }
     ensures still { IfErr result (λ e. (ReadFailed e → ⊥) → failures input.new ≡ failures input.old) }
     ensures count { OnOk result (failures input.new ≡ failures input.old) }
@@ -83,37 +82,37 @@ pub fn build_bytes<R: Read>(
     Ok(built(alloc, document, options)?)
 }
 
-/// Builds the canonical file of the graph of an N-Triples document, and then writes it: the bytes of [`build_bytes`].
-/// No byte is written before the file is whole. Time and memory are those of [`build_bytes`].
+/// Builds the canonical file of an N-Triples document's graph, and then writes it: the bytes of [`build_bytes`].
+/// Nothing is written before the file is complete. Time and memory are those of [`build_bytes`].
 ///
 /// # Errors
 ///
-/// Those of [`build_bytes`], with nothing written; [`BuildFault::Write`] where the writer failed, with the count of the
-/// bytes that it took.
+/// Those of [`build_bytes`], with nothing written; [`BuildFault::Write`] if the writer failed, with the number of bytes
+/// that were written.
 pub fn build<R: Read, W: Write>(
     alloc: Global,
     input: &mut Counted<R>,
     out: &mut Counted<W>,
     options: &Options,
 ) -> Result<Report, BuildFault>
-    // The input is a document, and the writer has gained the canonical file of its graph under the options.
+    // The input is a document, and the canonical file of its graph under the options was written.
     ensures written { IfOk result (Writes options.now (R.remaining (inner input.old)) (W.contents (inner out.old)) (W.contents (inner out.new))) }
-    // The options are right, and the reader is at its end.
+    // The options are valid, and the reader is at its end.
     ensures right { OnOk result (AreRight options.now) }
     ensures end { OnOk result (IsAtEnd (R.remaining (inner input.new))) }
-    // Bad options are told exactly where they are so, and then nothing was read.
+    // BadOptions is returned exactly if the options are not valid, and then nothing was read.
     ensures bad { IsErrOf result BuildFault.BadOptions ↔ (AreRight options.now → ⊥) }
     ensures unread { IsErrOf result BuildFault.BadOptions → input.new ≡ input.old }
-    // Any other fault than that of writing is one that stands in the input.
+    // Any other error than that of writing is the first one of the input.
     ensures told { IfErr result (λ e. e ≢ BuildFault.BadOptions → ((n : ℕ) → e ≢ BuildFault.Write n) → TellsBuildFault (R.remaining (inner input.old)) (R.remaining (inner input.new)) e) }
-    // The reader failed in this call where the fault says so, and at no other answer.
+    // The reader failed in this call, once, if the error says so; else it has not failed.
     ensures read { IfErr result (λ e. ReadFailed e → failures input.new ≡ failures input.old + 1) }
     ensures still { IfErr result (λ e. (ReadFailed e → ⊥) → failures input.new ≡ failures input.old) }
     ensures count { OnOk result (failures input.new ≡ failures input.old) }
-    // The writer failed in this call, and has gained exactly the first n bytes.
+    // The writer failed in this call, once, after exactly the first n bytes.
     ensures write { IfErr result (λ e. (n : ℕ) → e ≡ BuildFault.Write n → (failures out.new ≡ failures out.old + 1)
         × WritesBeginning options.now (R.remaining (inner input.old)) (W.contents (inner out.old)) (W.contents (inner out.new)) n) }
-    // At Ok it has not failed, and at any other fault nothing was written.
+    // Without an error it has not failed, and at any other error nothing was written.
     ensures well { OnOk result (failures out.new ≡ failures out.old) }
     ensures unwritten { IfErr result (λ e. ((n : ℕ) → e ≢ BuildFault.Write n) → out.new ≡ out.old) }
 {

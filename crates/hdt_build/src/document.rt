@@ -1,4 +1,4 @@
-//! The triples of a document, over strings that are kept once.
+//! The triples of a document, as indices into one list of strings.
 ghost use Rattle.std.specs.Prelude.{◌≡◌, ◌++◌, ◌∷◌, [], length, IfOk, OnOk, IsTrue, ◌↔◌};
 ghost use Rattle.hdt_build.specs.Inside.Documents.{document_graph, IsSound, AreBelow};
 ghost use Rattle.hdt_build.specs.Graph.{string_triples_of};
@@ -9,8 +9,8 @@ use crate::triples::replace;
 use hdt_dict::Arena;
 use std::alloc::{AllocError, Global};
 
-/// The triples of a document, as places in one list of strings, whatever their roles. Those that came last wait until their
-/// strings are looked up together.
+/// The triples of a document, as indices into one list of strings for all roles. The last triples are queued, so that
+/// their strings are looked up together.
 #[derive(Drop)]
 pub struct Document {
     terms: Interner,
@@ -19,7 +19,7 @@ pub struct Document {
 }
 
 impl Document {
-    /// The document without triples.
+    /// A document without triples.
     pub fn new(alloc: Global) -> Result<Document, AllocError>
         ensures graph { IfOk result (λ made. document_graph made ≡ []) }
         ensures sound { IfOk result IsSound }
@@ -31,7 +31,7 @@ impl Document {
         })
     }
 
-    /// Puts a triple at the end. Where memory is refused, the document is of no more use.
+    /// Adds a triple. After an error the document can't be used any more.
     pub fn add(&mut self, alloc: Global, s: &[u8], p: &[u8], o: &[u8]) -> Result<(), AllocError>
         requires { IsSound self.old }
         ensures graph { OnOk result (document_graph self.new ≡ document_graph self.old ++ (s.now, p.now, o.now) ∷ []) }
@@ -41,7 +41,7 @@ impl Document {
         self.queue.add(s, p, o)
     }
 
-    /// Looks up the strings of the triples that wait, where no more shall.
+    /// Looks up the strings of the queued triples, if the queue is full.
     fn make_room(&mut self, alloc: Global) -> Result<(), AllocError>
         requires { IsSound self.old }
         ensures graph { OnOk result (document_graph self.new ≡ document_graph self.old) }
@@ -53,7 +53,7 @@ impl Document {
         self.look_up(alloc)
     }
 
-    /// Looks up the strings of the triples that wait. Where memory is refused, the document is of no more use.
+    /// Looks up the strings of the queued triples. After an error the document can't be used any more.
     fn look_up(&mut self, alloc: Global) -> Result<(), AllocError>
         requires { IsSound self.old }
         ensures graph { OnOk result (string_triples_of self.new.terms self.new.ids.items ≡ document_graph self.old) }
@@ -72,14 +72,14 @@ impl Document {
         Ok(())
     }
 
-    /// Whether there is no triple.
+    /// Whether there are no triples.
     pub fn is_empty(&self) -> bool
         ensures { IsTrue result ↔ (document_graph self.now ≡ []) }
     {
         self.ids.is_empty() && self.queue.ids.is_empty()
     }
 
-    /// The strings, without what finds their places, and the triples.
+    /// The strings, without the cache of their indices, and the triples.
     pub fn into_parts(self, alloc: Global) -> Result<(Arena, Vec<(u64, u64, u64)>), AllocError>
         requires { IsSound self }
         ensures graph { IfOk result (λ parts. string_triples_of parts.0 parts.1.items ≡ document_graph self) }

@@ -1,4 +1,4 @@
-//! Why nothing was built or rewritten.
+//! The errors of building and rewriting.
 ghost use Rattle.std.specs.Prelude.{◌≡◌};
 ghost use Rattle.hdt_build.specs.declared.fault.BuildFault.TheVariants as faults;
 ghost use Rattle.hdt_build.specs.declared.fault.RewriteFault.TheVariants as rewrites;
@@ -7,23 +7,22 @@ use hdt_terms::LineFault;
 use std::alloc::{AllocError, AllocFailed};
 use thiserror::Error;
 
-/// Why nothing was built, or not all of it was written.
+/// Why no file was built, or why it was not written completely.
 #[derive(Clone, Copy, Debug, PartialEq, Eq, Error)]
 pub enum BuildFault {
-    /// The input has this fault, or the reader failed; nothing was written. The reason is never want of memory.
+    /// The input has this error, or the reader failed; nothing was written. The reason is never `OutOfMemory`.
     #[error("the input has a fault: {0}")]
     Line(LineFault),
-    /// The input is a document without triples; nothing was written. A file needs one triple at least.
+    /// The input is a document without triples; nothing was written. A file has at least one triple.
     #[error("the input has no triples")]
     NoTriples,
-    /// The block size or the base is not one that can be taken; nothing was read or written.
+    /// The block size or the base is not valid; nothing was read or written.
     #[error("the options are not ones that can be taken")]
     BadOptions,
-    /// Memory was refused; nothing was written. With more memory the call may be made again, over the input from its
-    /// start.
+    /// Memory ran out; nothing was written. With more memory the call can be repeated, over the input from its start.
     #[error("out of memory")]
     OutOfMemory,
-    /// The writer failed after it had taken so many bytes, which are the first ones of the file.
+    /// The writer failed after this number of bytes, which are the first ones of the file.
     #[error("writing failed after {0} bytes")]
     Write(u64),
 }
@@ -44,16 +43,16 @@ impl<T: Drop> From<AllocFailed<T>> for BuildFault {
     }
 }
 
-/// Why nothing was rewritten, or not all of it was written.
+/// Why no file was made, or why it was not written completely.
 #[derive(Clone, Copy, Debug, PartialEq, Eq, Error)]
 pub enum RewriteFault {
-    /// The block size is not one that can be taken; nothing was written.
+    /// The block size is not valid; nothing was written.
     #[error("the options are not ones that can be taken")]
     BadOptions,
-    /// Memory was refused; nothing was written. With more memory the call may be made again.
+    /// Memory ran out; nothing was written. With more memory the call can be repeated.
     #[error("out of memory")]
     OutOfMemory,
-    /// The writer failed after it had taken so many bytes, which are the first ones of the file.
+    /// The writer failed after this number of bytes, which are the first ones of the file.
     #[error("writing failed after {0} bytes")]
     Write(u64),
 }

@@ -1,4 +1,4 @@
-//! The sections and the number triples of a graph.
+//! The sections and the ID triples of a graph.
 ghost use Rattle.std.specs.Prelude.{◌≤◌, length, IfOk};
 ghost use Rattle.hdt_build.specs.Inside.Documents.{AreBelow};
 ghost use Rattle.hdt_build.specs.Graph.{string_triples_of, IsForm};
@@ -13,15 +13,15 @@ use crate::triples::{order, replace};
 use hdt_dict::Arena;
 use std::alloc::{AllocError, Global};
 
-/// The four sections of a graph, and its number triples.
+/// The four sections of a graph, and its ID triples.
 #[derive(Drop)]
 pub struct Form {
     pub sections: Sections,
     pub triples: Vec<(u64, u64, u64)>,
 }
 
-/// The sections and the number triples of the graph whose triples are places in a list of strings. No string is copied but into
-/// its sections, and the triples keep their memory.
+/// The sections and the ID triples of the graph whose triples are indices into a list of strings. Strings are copied
+/// only into their sections; the triples are converted in place.
 pub fn form_of(
     alloc: Global,
     list: Arena,

@@ -1,4 +1,4 @@
-//! Strings kept once, as far as a cache of their places remembers them.
+//! A list of distinct strings, as far as a cache of their indices remembers them.
 ghost use Rattle.std.specs.Prelude.{◌≡◌, ◌<◌, ◌≤◌, ◌++◌, ◌∷◌, [], ℕ, List, ◌+◌, IfSome, length, slice_index_or, vec_len, IfOk, OnOk, OnErr};
 ghost use Rattle.hdt_build.specs.Inside.Placed.{AreRanks};
 ghost use Rattle.hdt_build.specs.Inside.Texts.{GoesOn};
@@ -8,19 +8,19 @@ use std::alloc::{AllocError, Global};
 use std::hash::{FoldHasher, Hasher};
 use std::marker::Model;
 
-/// How many slots a string may stand in, from its hash's on.
+/// The number of slots that a string may be in, from that of its hash on.
 const PROBES: usize = 8;
 
-/// How many slots there are at first.
+/// The number of slots at first.
 const FIRST: usize = 1024;
 
-/// A list of strings with a cache of their places. A look-up goes over a few slots and no more. Where strings have one
-/// hash, which anyone can bring about, the cache loses some of them; a string that it has lost is listed again, and the
-/// sorting drops it. So no choice of strings makes a look-up slow.
+/// A list of strings with a cache of their indices. A look-up probes a few slots and no more. If many strings have the
+/// same hash, which anyone can arrange, the cache loses some of them; a lost string is listed again, and sorting drops
+/// the duplicate. So no choice of strings makes look-ups slow.
 #[derive(Drop)]
 pub struct Interner {
     list: Arena,
-    /// The upper half of a string's hash, and its place + 1; 0 is a free slot.
+    /// The upper half of a string's hash, and its index + 1; 0 is a free slot.
     slots: Vec<u64>,
 }
 
@@ -32,7 +32,7 @@ impl Model for Interner {
     ghost invariant = { λ s. 8 ≤ vec_len s.slots };
 }
 
-/// The hash of a text. Nothing is promised of it.
+/// The hash of a text. The result of a build doesn't depend on it.
 fn hash(text: &[u8]) -> u64 {
     let mut hasher = FoldHasher::default();
     hasher.write(text);
@@ -48,7 +48,7 @@ fn first_slot(slots: &[u64], hash: u64) -> usize
     ((hash >> 32) as u128 * (room + 1) as u128 >> 32) as usize
 }
 
-/// The place at which the list has the text, where the cache knows it.
+/// The index of a text in the list, if the cache has it.
 fn find(list: &Arena, slots: &[u64], text: &[u8], hash: u64) -> Option<usize>
     ensures { IfSome result (λ i. (i < length list.now) × (slice_index_or list.now i [] ≡ text.now)) }
 {
@@ -74,8 +74,7 @@ fn hashes_of(alloc: Global, strings: &Arena) -> Result<Vec<u64>, AllocError>
     Ok(made)
 }
 
-/// The place that an entry for a hash has, or one past all places. Which of several entries doesn't matter. No step waits for
-/// another one.
+/// The index of some entry with a hash, or one past all indices. No step depends on the previous one.
 fn guess(slots: &[u64], hash: u64) -> usize {
     let mut place = 0;
     for entry in slots {
@@ -86,8 +85,7 @@ fn guess(slots: &[u64], hash: u64) -> usize {
     (place as usize).wrapping_sub(1)
 }
 
-/// The sum of the first and the last of the slots for each hash, which are looked at with no test of what is there: so they are
-/// fetched side by side.
+/// The sum of the first and the last slot of each hash: a prefetch, with no branch between the loads.
 fn looked_at(slots: &[u64], hashes: &[u64]) -> u64
     requires { 8 ≤ length slots.now }
 {
@@ -101,12 +99,12 @@ fn looked_at(slots: &[u64], hashes: &[u64]) -> u64
     sum
 }
 
-/// Where strings with these hashes may stand.
+/// The indices that strings with these hashes may have.
 fn guesses_of(alloc: Global, slots: &[u64], hashes: &[u64]) -> Result<Vec<usize>, AllocError>
     requires { 8 ≤ length slots.now }
     ensures { IfOk result (λ made. length made.items ≡ length hashes.now) }
 {
-    // (The sum says nothing: that it is used makes the slots be looked at.)
+    // (The sum means nothing; its use keeps the loads.)
     let room = hashes
         .len()
         .saturating_add(looked_at(slots, hashes).min(1) as usize);
@@ -118,13 +116,13 @@ fn guesses_of(alloc: Global, slots: &[u64], hashes: &[u64]) -> Result<Vec<usize>
     Ok(made)
 }
 
-/// Whether a string of a list has the first byte of a text, and the last. Most are so short that no other line of a cache is read
-/// when all of it is compared.
+/// Whether a string of a list has the first and the last byte of a text. Most strings are so short that comparing them
+/// whole reads no other cache line.
 fn is_alike(list: &Arena, at: usize, text: &[u8]) -> bool {
     at < list.len() && list.get(at).first() == text.first() && list.get(at).last() == text.last()
 }
 
-/// Drops the guesses whose strings begin or end otherwise. These are fetched side by side.
+/// Drops the guesses whose strings begin or end otherwise. Their loads don't depend on each other.
 fn check(list: &Arena, strings: &Arena, guesses: &mut Vec<usize>)
     requires { length guesses.old.items ≡ length strings.now }
     ensures { length guesses.new.items ≡ length guesses.old.items }
@@ -136,7 +134,7 @@ fn check(list: &Arena, strings: &Arena, guesses: &mut Vec<usize>)
     }
 }
 
-/// Puts an entry into the first free slot of those for its hash, or else over the last one.
+/// Puts an entry into the first free slot of its hash, or over the last one if there is none.
 fn put(slots: &mut [u64], entry: u64)
     requires { 8 ≤ length slots.old }
 {
@@ -150,7 +148,7 @@ fn put(slots: &mut [u64], entry: u64)
     slots[from + PROBES - 1] = entry;
 }
 
-/// Keeps the place of a string, where it is small enough for an entry.
+/// Adds the index of a string to the cache, if an entry can hold it.
 fn remember(slots: &mut [u64], hash: u64, at: usize)
     requires { 8 ≤ length slots.old }
 {
@@ -159,7 +157,7 @@ fn remember(slots: &mut [u64], hash: u64, at: usize)
     }
 }
 
-/// The slots for twice as many strings; an entry is lost where those for its hash are full.
+/// The slots for twice as many strings; an entry is lost if those of its hash are full.
 fn doubled(alloc: Global, slots: &[u64]) -> Result<Vec<u64>, AllocError>
     requires { 8 ≤ length slots.now }
     ensures { IfOk result (λ made. 8 ≤ vec_len made) }
@@ -183,7 +181,7 @@ impl Interner {
         })
     }
 
-    /// The strings alone, without what finds their places.
+    /// The strings, without the cache.
     pub fn into_list(self) -> Arena
         ensures { result ≡ self }
     {
@@ -191,7 +189,7 @@ impl Interner {
         list
     }
 
-    /// A place of a string in the list, at whose end it is put where neither the guess is right nor the cache knows one.
+    /// An index of a string in the list. The string is appended if neither the guess nor the cache has it.
     fn place_of(
         &mut self,
         alloc: Global,
@@ -214,7 +212,7 @@ impl Interner {
         }
     }
 
-    /// A place in the list for each of other strings, which are put at its end where the cache doesn't know one.
+    /// An index in the list for each of other strings, which are appended if the cache doesn't have them.
     pub fn places_of(&mut self, alloc: Global, strings: &Arena) -> Result<Vec<u64>, AllocError>
         ensures places { IfOk result (λ made. AreRanks strings.now self.new made.items) }
         ensures list { OnOk result (GoesOn self.old self.new) }
@@ -230,7 +228,7 @@ impl Interner {
         Ok(places)
     }
 
-    /// Puts a string at the end, whether or not it is in the list.
+    /// Appends a string, whether or not it is in the list.
     fn add(&mut self, alloc: Global, text: &[u8], hash: u64) -> Result<usize, AllocError>
         ensures at { IfOk result (λ i. i ≡ length self.old) }
         ensures ok { OnOk result (self.new ≡ self.old ++ text.now ∷ []) }

@@ -1,11 +1,10 @@
-//! The builder of HDT files (HDT format version 1): N-Triples in, the canonical file of their graph out; or a file of any
-//! origin in, the canonical file of the same graph out.
+//! Building HDT files (HDT format version 1): from N-Triples, or from another HDT file, in canonical form.
 //!
-//! The layer's promise: what is built is the canonical file of the document's graph, byte for byte, whatever the order of
-//! its lines and however often they repeat. `open` of hdt_file accepts it, and the graph that it denotes lists exactly the
+//! What this crate promises: `build` writes the canonical file of the document's graph, byte for byte, whatever the
+//! order of its lines and however often they repeat. `open` of hdt_file accepts it, and its graph has exactly the
 //! document's triples, each once.
 //!
-//! A function that says nothing of its cost takes constant time and no memory; laws do nothing when they are called.
+//! Functions that state no cost take constant time and allocate nothing. Laws do nothing when called.
 //!
 //! ```text
 //! let options = Options { block_size: 16, base: Vec::from_slice(alloc, b"http://example.org/dataset")? };
@@ -13,7 +12,7 @@
 //! let graph = open(alloc, &bytes)?; // report.triples triples
 //! ```
 //!
-//! The second promise: what is rewritten of a graph is the canonical file of exactly what it denotes, with its header body.
+//! And: `rewrite` writes the canonical file of exactly the triples of a graph, with its header body.
 //!
 //! ```text
 //! let graph = open(alloc, bytes)?;

@@ -1,14 +1,14 @@
-//! A look at strings before they are read. They lie anywhere: so several are looked at, one soon after another and with no test of
-//! what is there, and wait for memory together.
+//! Prefetching strings that are anywhere in memory: the first and the last byte of several are loaded, with no branch
+//! on them, so that the loads overlap.
 ghost use Rattle.std.specs.Prelude.{◌≢◌, ◌<◌, ◌-◌, length, IsTrue, IsFalse};
 ghost use Rattle.hdt_build.specs.Inside.Placed.{placed_key};
 
 use hdt_dict::Arena;
 
-/// How many are looked at together.
+/// The number of strings that are prefetched together.
 pub const AHEAD: usize = 64;
 
-/// The sum of the first byte of a text and of the last: a short one lies in the lines of a cache that these are in.
+/// The sum of the first and the last byte of a text: a short text is in their cache lines.
 pub fn ends(text: &[u8]) -> usize {
     if text.is_empty() {
         return 0;
@@ -16,13 +16,12 @@ pub fn ends(text: &[u8]) -> usize {
     usize::from(text[0]) + usize::from(text[text.len() - 1])
 }
 
-/// Up to where strings were seen of which bytes were looked at up to an end: to there, or the last is looked at again. (The sum says
-/// nothing: that it is used makes the bytes be looked at.)
+/// The new end of what is prefetched. (The sum means nothing; its use keeps the loads.)
 pub fn seen_up_to(end: usize, sum: usize) -> usize {
     end.saturating_sub(sum.min(1))
 }
 
-/// Whether an entry has the key of the one before.
+/// Whether an entry has the key of the previous one.
 pub fn is_tied(entries: &[(u64, usize)], at: usize) -> bool
     requires { at < length entries.now }
     ensures some { IsTrue result → 0 < at }
@@ -31,7 +30,7 @@ pub fn is_tied(entries: &[(u64, usize)], at: usize) -> bool
     at > 0 && entries[at].0 == entries[at - 1].0
 }
 
-/// The sum of those bytes of the string at a place of a list.
+/// The same sum for the string at an index of a list.
 fn ends_at(list: &Arena, place: usize) -> usize {
     if place < list.len() {
         ends(list.get(place))
@@ -40,7 +39,7 @@ fn ends_at(list: &Arena, place: usize) -> usize {
     }
 }
 
-/// Looks at the strings of the next entries that have equal keys, where these weren't seen, and answers up to where they are now.
+/// Prefetches the strings of the next entries with equal keys, unless they are already; returns the new end.
 pub fn looked_at(list: &Arena, entries: &[(u64, usize)], at: usize, seen: usize) -> usize {
     if at < seen {
         return seen;

@@ -1,4 +1,4 @@
-//! The strings of a list, each once.
+//! Dropping duplicates of sorted strings.
 ghost use Rattle.std.specs.Prelude.{◌≡◌, ◌+◌, length, IfOk, OnOk, IsTrue, IsFalse, ◌↔◌};
 ghost use Rattle.hdt_front.specs.Canonical.{lent_texts};
 ghost use Rattle.hdt_front.specs.Order.{IsAscending};
@@ -8,7 +8,7 @@ use crate::looking::{is_tied, looked_at};
 use hdt_dict::Arena;
 use std::alloc::{AllocError, Global};
 
-/// Whether a string is the last one of a list.
+/// Whether a text is the last string of a list.
 fn is_last(strings: &[&[u8]], text: &[u8]) -> bool
     ensures { IsTrue result ↔ IsLast (lent_texts strings.now) text.now }
 {
@@ -18,8 +18,7 @@ fn is_last(strings: &[&[u8]], text: &[u8]) -> bool
     }
 }
 
-/// Puts a string at the end of a list, where it isn't the last one already, and answers its place. It is compared where the keys tell
-/// nothing.
+/// Appends a string to a list, unless it is the last one; returns its index. It is compared only if the keys are equal.
 fn join<'a>(strings: &mut Vec<&'a [u8]>, text: &'a [u8], tied: bool) -> Result<usize, AllocError>
     requires apart { IsFalse tied → IsLast (lent_texts strings.old.items) text.now → ⊥ }
     ensures joined { OnOk result (IsJoined (lent_texts strings.old.items) text.now (lent_texts strings.new.items)) }
@@ -31,8 +30,8 @@ fn join<'a>(strings: &mut Vec<&'a [u8]>, text: &'a [u8], tied: bool) -> Result<u
     Ok(strings.len() - 1)
 }
 
-/// The strings of a list in ascending order, each once and lent where it stands; and for each place of the list where its string
-/// stands among them. Of equal strings, which follow each other in the order of the places, the first is taken.
+/// The distinct strings of a list in ascending order, borrowed, and for each index of the list that of its string among
+/// them.
 pub fn distinct<'a>(
     alloc: Global,
     list: &'a Arena,

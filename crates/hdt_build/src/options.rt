@@ -1,30 +1,30 @@
-//! What a builder is asked for.
+//! The options of building.
 ghost use Rattle.std.specs.Prelude.{◌↔◌, IsTrue};
 ghost use Rattle.hdt_build.specs.Options.{AreRight, IsBlockSize};
 
 use hdt_terms::is_iri;
 
-/// The most strings of a block.
+/// The greatest block size.
 const MOST: u32 = 65_535;
 
-/// What a file is built with.
+/// The options of a file that is built.
 #[derive(Debug, Drop)]
 pub struct Options {
-    /// How many strings stand in a block of the dictionary: 1 to 65,535. Larger blocks make a smaller file, and its
-    /// look-ups slower.
+    /// The number of strings of a dictionary block: 1 to 65,535. Larger blocks make a smaller file with slower
+    /// look-ups.
     pub block_size: u32,
-    /// The IRI that stands for the file in its header, in UTF-8: an absolute IRI without excluded characters.
+    /// The subject of the statements in the header, in UTF-8: an absolute IRI without characters that IRIs exclude.
     pub base: Vec<u8>,
 }
 
-/// Whether a file can be written in such blocks.
+/// Whether a block size is valid.
 pub fn is_block_size(block_size: u32) -> bool
     ensures { IsTrue result ↔ IsBlockSize block_size }
 {
     1 <= block_size && block_size <= MOST
 }
 
-/// Whether a builder takes the options. Time is in proportion to the base; it takes no memory.
+/// Whether options are valid. Linear time in the base.
 pub fn are_right(options: &Options) -> bool
     ensures { IsTrue result ↔ AreRight options.now }
 {

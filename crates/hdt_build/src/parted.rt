@@ -1,4 +1,4 @@
-//! The four sections as filters of the strings in order.
+//! Writing the four sections: each is a filter of the sorted strings.
 ghost use Rattle.std.specs.Prelude.{◌≡◌, ◌≤◌, ◌<◌, ℕ, [], length, slice_index_or, IsTrue, ◌↔◌, IfOk};
 ghost use Rattle.hdt_front.specs.Canonical.{lent_texts};
 ghost use Rattle.hdt_wire.specs.Control.{HasNoZero};
@@ -16,7 +16,7 @@ use hdt_dict::Role;
 use hdt_front::SectionWriter;
 use std::alloc::{AllocError, Global};
 
-/// Which strings a section has: those that are used so, and as something else too, or not.
+/// The strings of a section: those that are used in one role, and also, or not, in the other.
 #[derive(Clone, Copy)]
 struct Filter<'a> {
     used: &'a [bool],
@@ -24,7 +24,7 @@ struct Filter<'a> {
     wanted: bool,
 }
 
-/// Whether a section has the string at a place.
+/// Whether a section has the string at an index.
 fn has(filter: Filter<'_>, at: usize) -> bool
     requires used { at < length filter.used.now }
     requires other { at < length filter.other.now }
@@ -33,8 +33,7 @@ fn has(filter: Filter<'_>, at: usize) -> bool
     filter.used[at] && filter.other[at] == filter.wanted
 }
 
-/// Looks at the strings that a filter takes of those at the next places, where these weren't seen, and answers up to where they
-/// are now.
+/// Prefetches the strings of a filter among the next ones, unless they are already; returns the new end.
 fn looked_at(strings: &[&[u8]], filter: Filter<'_>, at: usize, seen: usize) -> usize
     requires used { length filter.used.now ≡ length strings.now }
     requires other { length filter.other.now ≡ length strings.now }
@@ -52,7 +51,8 @@ fn looked_at(strings: &[&[u8]], filter: Filter<'_>, at: usize, seen: usize) -> u
     seen_up_to(end, sum)
 }
 
-/// Writes the section of the strings that a filter takes, and notes at the place of each its number behind so many other strings.
+/// Writes the section of a filter, and stores the ID of each of its strings at the index of the string. IDs count from
+/// `count + 1`.
 fn put(
     alloc: Global,
     strings: &[&[u8]],
@@ -84,18 +84,18 @@ fn put(
     Ok(out)
 }
 
-/// The sections of triples, and the numbers of the strings.
+/// The sections of triples, and the IDs of the strings.
 #[derive(Drop)]
 pub struct Numbered {
     pub sections: Sections,
-    /// Of each string as a subject or an object. A shared string has one number in both roles, any other only one role.
+    /// The ID of each string as a subject or an object: shared strings have one ID in both roles, others only one role.
     pub nodes: Vec<u64>,
-    /// Of each string as a predicate.
+    /// The ID of each string as a predicate.
     pub predicates: Vec<u64>,
 }
 
-/// The sections of triples over strings in order, each written as the filter of these by what the triples use in its roles; and the
-/// numbers of the strings.
+/// The sections of triples over sorted strings, and the IDs of the strings. Each section is written as a filter of the
+/// strings by the roles in which the triples use them.
 pub fn parted(
     alloc: Global,
     strings: &[&[u8]],

@@ -1,4 +1,4 @@
-//! Triples that wait until their strings are looked up.
+//! Triples whose strings are not looked up yet.
 ghost use Rattle.std.specs.Prelude.{◌≡◌, ◌<◌, ◌++◌, ◌∷◌, [], length, slice_index_or, IfOk, OnOk, IsTrue, IsFalse, ◌≤◌, ◌⊎◌};
 ghost use Rattle.std.specs.List.{All};
 ghost use Rattle.hdt_build.specs.Inside.Documents.{waiting_in, IsQueue};
@@ -7,24 +7,24 @@ ghost use Rattle.hdt_build.specs.Inside.Texts.{GoesOn};
 use hdt_dict::Arena;
 use std::alloc::{AllocError, Global};
 
-/// How many triples wait at most. So many strings are looked up together that their waits for memory overlap, and so few that they
-/// lie near.
+/// The greatest number of queued triples: enough strings are looked up together for their loads to overlap, and few
+/// enough to stay in the cache.
 const MOST: usize = 256;
 
-/// How many bytes their strings have at most before the last one.
+/// The greatest number of bytes of their strings before the last triple.
 const MOST_BYTES: usize = 65_536;
 
-/// Triples as places in a list of their own strings. A string is listed each time that it comes, but for a subject that the triple
-/// before has too.
+/// Triples as indices into a list of their own strings. Strings are repeated in it, except a subject that is that of
+/// the previous triple.
 #[derive(Drop)]
 pub struct Queue {
     pub strings: Arena,
     pub ids: Vec<(u64, u64, u64)>,
-    /// How many bytes the triples' strings have.
+    /// The number of bytes of the triples' strings.
     bytes: usize,
 }
 
-/// Puts a string at the end of a list, and answers its place.
+/// Appends a string to a list, and returns its index.
 fn listed(list: &mut Arena, text: &[u8]) -> Result<usize, AllocError>
     ensures within { IfOk result (λ i. i < length list.new) }
     ensures is { IfOk result (λ i. slice_index_or list.new i [] ≡ text.now) }
@@ -35,7 +35,7 @@ fn listed(list: &mut Arena, text: &[u8]) -> Result<usize, AllocError>
     Ok(at)
 }
 
-/// A place of a subject in the list, at whose end it is put where the triple before has another one.
+/// The index of a subject in the list. It is appended unless it is that of the previous triple.
 fn subject_place(
     list: &mut Arena,
     ids: &[(u64, u64, u64)],
@@ -56,7 +56,7 @@ fn subject_place(
 }
 
 impl Queue {
-    /// The queue without triples, in room for all that wait, but for the strings of the last one where they are long.
+    /// An empty queue, with capacity for all that it can have, except long strings of its last triple.
     pub fn new(alloc: Global) -> Result<Queue, AllocError>
         ensures ids { IfOk result (λ made. made.ids.items ≡ []) }
         ensures sound { IfOk result IsQueue }
@@ -68,7 +68,7 @@ impl Queue {
         })
     }
 
-    /// Puts a triple at the end. Where memory is refused, the queue is of no more use.
+    /// Adds a triple. After an error the queue can't be used any more.
     pub fn add(&mut self, s: &[u8], p: &[u8], o: &[u8]) -> Result<(), AllocError>
         requires { IsQueue self.old }
         ensures graph { OnOk result (waiting_in self.new ≡ waiting_in self.old ++ (s.now, p.now, o.now) ∷ []) }
@@ -86,7 +86,7 @@ impl Queue {
         Ok(())
     }
 
-    /// Whether no more triples shall wait.
+    /// Whether the queue is full.
     pub fn is_full(&self) -> bool
         ensures more { IsFalse result → (length self.now.ids.items < 256) × (self.now.bytes < 65536) }
         ensures full { IsTrue result → (256 ≤ length self.now.ids.items) ⊎ (65536 ≤ self.now.bytes) }

@@ -1,4 +1,4 @@
-//! The graph of an N-Triples document.
+//! Reading an N-Triples document.
 ghost use Rattle.std.specs.Prelude.{◌≡◌, ◌+◌, ◌≢◌, Ok, IfOk, IfErr, OnOk, Some};
 ghost use Rattle.std.specs.Io.KnownBytes.{IsAtEnd};
 ghost use Rattle.hdt_wire.specs.Counted.{inner, failures};
@@ -13,10 +13,10 @@ use hdt_wire::Counted;
 use std::alloc::Global;
 use std::io::Read;
 
-/// How many bytes an input can have.
+/// The greatest length of an input in bytes.
 const MOST: u64 = 9_223_372_036_854_775_807;
 
-/// The fault of a document, as a builder tells it.
+/// The error of a document, as an error of building.
 fn fault_of(fault: LineFault) -> BuildFault
     ensures { IsToldAs fault result }
 {
@@ -26,7 +26,7 @@ fn fault_of(fault: LineFault) -> BuildFault
     }
 }
 
-/// The triples of the document that the reader gives.
+/// The triples of a document.
 pub fn read_graph<R: Read>(alloc: Global, input: &mut Counted<R>) -> Result<Document, BuildFault>
     ensures found { IfOk result (λ document. IsGraphIn (R.remaining (inner input.old)) (document_graph document)) }
     ensures sound { IfOk result IsSound }

@@ -1,16 +1,15 @@
-//! The new numbers of a role.
+//! The new IDs of a role.
 ghost use Rattle.std.specs.Prelude.{◌≡◌, ◌<◌, ◌≤◌, ◌+◌, ◌-◌, ℕ, length, slice_index, IsTrue};
 ghost use Rattle.hdt_build.specs.Inside.Kept.{new_number};
 
-/// The new number of each number of a role that triples use. Where all strings stay where they were, which is so in a file
-/// without unused strings, none is looked up.
+/// The new ID of each ID of a role. In a file without unused strings IDs don't change, and none is looked up.
 #[derive(Drop)]
 pub enum Numbering {
     Same,
     Listed(Vec<u64>),
 }
 
-/// Whether each place has its own number.
+/// Whether each ID is the same as before.
 fn are_same(numbers: &[u64]) -> bool
     ensures { IsTrue result → (k : ℕ) → k < length numbers.now → slice_index numbers.now k ≡ k + 1 }
 {
@@ -22,7 +21,7 @@ fn are_same(numbers: &[u64]) -> bool
     true
 }
 
-/// The numbering that has these numbers, at the place of each old one.
+/// The map from old IDs to these new ones.
 pub fn numbering_of(numbers: Vec<u64>) -> Numbering
     ensures { (n : ℕ) → 1 ≤ n → n ≤ length numbers.items → new_number result n ≡ slice_index numbers.items (n - 1) }
 {
@@ -33,7 +32,7 @@ pub fn numbering_of(numbers: Vec<u64>) -> Numbering
 }
 
 impl Numbering {
-    /// The new number of an old one, which counts from 1.
+    /// The new ID of an old one.
     pub fn new_number(&self, old: u64) -> u64
         ensures { result ≡ new_number self.now old }
     {
@@ -44,7 +43,7 @@ impl Numbering {
     }
 }
 
-/// The number at the place of an old one.
+/// The new ID in a list of them, by the old one.
 fn number_in(numbers: &[u64], old: u64) -> u64
     ensures { result ≡ slice_index numbers.now (old - 1) }
 {

@@ -1,18 +1,18 @@
-//! What a builder tells of a file.
+//! The counts of a file that was made.
 
-/// The numbers of a file that was built.
+/// The counts of a file that was built or rewritten.
 #[derive(Clone, Copy, Debug, PartialEq, Eq)]
 pub struct Report {
-    /// How many triples the graph has, each counted once.
+    /// The number of triples.
     pub triples: u64,
-    /// How many strings are both subjects and objects.
+    /// The number of strings that are both subjects and objects.
     pub shared: u64,
-    /// How many strings are subjects alone.
+    /// The number of strings that are only subjects.
     pub subjects: u64,
-    /// How many strings are predicates.
+    /// The number of strings that are predicates.
     pub predicates: u64,
-    /// How many strings are objects alone.
+    /// The number of strings that are only objects.
     pub objects: u64,
-    /// How many bytes the file has.
+    /// The length of the file in bytes.
     pub bytes: u64,
 }

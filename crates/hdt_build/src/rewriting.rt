@@ -1,4 +1,4 @@
-//! From a graph that was opened to its canonical file.
+//! Rewriting an open graph as its canonical file.
 ghost use Rattle.std.specs.Prelude.{◌≡◌, ◌≢◌, ◌+◌, ◌↔◌, ℕ, IfOk, IfErr, OnOk, IsErrOf};
 ghost use Rattle.hdt_wire.specs.Counted.{inner, failures};
 ghost use Rattle.hdt_file.specs.Views.{graph_seen};
@@ -18,8 +18,8 @@ use hdt_wire::Counted;
 use std::alloc::{AllocError, Global};
 use std::io::Write;
 
-/// The canonical file of what a graph denotes, with its header body, and its numbers. A section is let go once it stands in the
-/// file, and the triples are found then.
+/// The canonical file of a graph's triples, with its header body, and its counts. Each section is freed once it is in
+/// the file, and the triples are searched after that.
 fn rewritten(
     alloc: Global,
     graph: &Graph<'_>,
@@ -55,9 +55,9 @@ fn rewritten(
     Ok((bytes, report))
 }
 
-/// Rewrites a file that was opened as the canonical file of the same set of string triples, in memory: with the same header
-/// body byte for byte, with blocks of the size that the options say, and without the strings that no triple uses. Of the
-/// options only the block size is looked at; strings needn't be terms.
+/// Rewrites an open file as the canonical file of the same triples, in memory. Returns its bytes and its counts. The
+/// header body stays the same, byte for byte; strings that no triple uses are left out. Only the block size of the
+/// options is used. Strings need not be terms. Linear time, except for sorting the triples if the order of IDs changes.
 ///
 /// ```text
 /// let graph = open(alloc, bytes)?;
@@ -66,18 +66,18 @@ fn rewritten(
 ///
 /// # Errors
 ///
-/// [`RewriteFault::BadOptions`] where the block size is not from 1 to 65,535; [`RewriteFault::OutOfMemory`] only where
-/// memory was refused. Never [`RewriteFault::Write`].
+/// [`RewriteFault::BadOptions`] if the block size is not 1 to 65,535; [`RewriteFault::OutOfMemory`] only if memory ran
+/// out. Never [`RewriteFault::Write`].
 pub fn rewrite_bytes(
     alloc: Global,
     graph: &Graph<'_>,
     options: &Options,
 ) -> Result<(Vec<u8>, Report), RewriteFault>
-    // This is the canonical file of the triples that the graph denotes, with its header body, and the file's numbers.
+    // This is the canonical file of the graph's triples with its header body, and the counts of that file.
     ensures made { IfOk result (λ made. IsRewritten options.now.block_size (graph_seen graph.now) made.0.items made.1) }
-    // Bad options are told exactly where the block size is none that is written.
+    // BadOptions is returned exactly if the block size is not valid.
     ensures bad { IsErrOf result RewriteFault.BadOptions ↔ (IsBlockSize options.now.block_size → ⊥) }
-    // Nothing is written, so no writer fails.
+    // There is no writer that could fail.
     ensures unwritten { IfErr result (λ e. (n : ℕ) → e ≢ RewriteFault.Write n) }
 {
     if !is_block_size(options.block_size) {
@@ -86,27 +86,27 @@ pub fn rewrite_bytes(
     Ok(rewritten(alloc, graph, options.block_size)?)
 }
 
-/// Rewrites a file that was opened, and then writes it: the bytes of [`rewrite_bytes`]. No byte is written before the
-/// file is whole. Time and memory are those of [`rewrite_bytes`].
+/// Rewrites an open file, and then writes it: the bytes of [`rewrite_bytes`]. Nothing is written before the file is
+/// complete. Time and memory are those of [`rewrite_bytes`].
 ///
 /// # Errors
 ///
-/// Those of [`rewrite_bytes`], with nothing written; [`RewriteFault::Write`] where the writer failed, with the count of the
-/// bytes that it took.
+/// Those of [`rewrite_bytes`], with nothing written; [`RewriteFault::Write`] if the writer failed, with the number of
+/// bytes that were written.
 pub fn rewrite<W: Write>(
     alloc: Global,
     graph: &Graph<'_>,
     out: &mut Counted<W>,
     options: &Options,
 ) -> Result<Report, RewriteFault>
-    // The writer has gained the canonical file of the triples that the graph denotes, with its header body.
+    // The canonical file of the graph's triples, with its header body, was written.
     ensures written { IfOk result (WritesAgain options.now.block_size (graph_seen graph.now) (W.contents (inner out.old)) (W.contents (inner out.new))) }
-    // Bad options are told exactly where the block size is none that is written.
+    // BadOptions is returned exactly if the block size is not valid.
     ensures bad { IsErrOf result RewriteFault.BadOptions ↔ (IsBlockSize options.now.block_size → ⊥) }
-    // The writer failed in this call, and has gained exactly the first n bytes.
+    // The writer failed in this call, once, after exactly the first n bytes.
     ensures write { IfErr result (λ e. (n : ℕ) → e ≡ RewriteFault.Write n → (failures out.new ≡ failures out.old + 1)
         × BeginsAgain options.now.block_size (graph_seen graph.now) (W.contents (inner out.old)) (W.contents (inner out.new)) n) }
-    // At Ok it has not failed, and at any other fault nothing was written.
+    // Without an error it has not failed, and at any other error nothing was written.
     ensures well { OnOk result (failures out.new ≡ failures out.old) }
     ensures unwritten { IfErr result (λ e. ((n : ℕ) → e ≢ RewriteFault.Write n) → out.new ≡ out.old) }
 {

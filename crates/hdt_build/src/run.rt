@@ -1,4 +1,4 @@
-//! The strings of one ascending run that a section keeps, given one after another.
+//! The strings of an ascending run that a new section has.
 ghost use Rattle.std.specs.Prelude.{◌≡◌, ◌<◌, ◌≤◌, ◌+◌, List, ℕ, length, IsTrue, IsFalse, IfOk, OnOk};
 ghost use Rattle.hdt_front.specs.InWork.{last_string};
 ghost use Rattle.hdt_front.specs.Searching.{agreed};
@@ -12,20 +12,19 @@ use hdt_file::Graph;
 use hdt_front::{SectionWriter, compared_from};
 use std::alloc::{AllocError, Global};
 
-/// The strings from one place of a role up to another that a section keeps. Those that it doesn't keep are unfolded only where
-/// one that it keeps comes after them. A whole run takes time in proportion to the folded bytes of its strings.
+/// A cursor over those strings of a role, from one index up to another, that a new section has. The others are decoded
+/// only if one that it has follows them. All of a run takes linear time in the front-coded bytes of its strings.
 #[derive(Drop)]
 pub struct Run<'a> {
     strings: Strings<'a>,
-    /// The place of the string that was unfolded last, or the end.
+    /// The index of the current string, or the end.
     pub at: u64,
     end: u64,
-    /// How far the string at which it stands agrees with the one that was written last.
+    /// The length of the longest common prefix of the current string and the one that was written last.
     pub same: usize,
 }
 
-/// Goes on to a string that is ahead, and answers how many bytes at its front it keeps of the one that was given last: they agree
-/// so far at least.
+/// Advances to a later string; returns a lower bound of its longest common prefix with the previous one.
 fn go_to(strings: &mut Strings<'_>, number: u64) -> Result<usize, AllocError>
     requires { strings.old.given < number }
     ensures stands { OnOk result ((all : List (List ℕ)) → HasGiven all strings.old → number ≤ length all → StandsBehind all number strings.new) }
@@ -47,7 +46,7 @@ fn go_to(strings: &mut Strings<'_>, number: u64) -> Result<usize, AllocError>
 impl<'a> Run<'a> {
     ghost use Rattle.hdt_build.specs.Inside.Kept.{IsRunOfStrings};
 
-    /// The run from one place up to another, where nothing was written yet.
+    /// The run from one index up to another, with nothing written yet.
     pub fn new(
         alloc: Global,
         graph: &Graph<'a>,
@@ -71,8 +70,8 @@ impl<'a> Run<'a> {
         Ok(run)
     }
 
-    /// Goes on to the first string from a place on that is kept, and answers how many bytes at its front it keeps of the one that
-    /// was unfolded last.
+    /// Advances to the first string from an index on that the section has; returns a lower bound of its longest common
+    /// prefix with the previous one.
     fn seek(&mut self, graph: &Graph<'_>, part: Part, from: u64) -> Result<usize, AllocError>
         requires stands { HasGiven (strings_in (graph_seen graph.now).dictionary (role_of part)) self.old.strings }
         requires behind { self.old.strings.given ≤ from }
@@ -90,8 +89,8 @@ impl<'a> Run<'a> {
         Ok(0)
     }
 
-    /// Goes on to the next string, where that at which it stands was written last. Of the next one only the bytes that it doesn't
-    /// keep are compared.
+    /// Advances to the next string, if the current one was written last. Only bytes that the next one doesn't share by
+    /// its entries are compared.
     pub fn step(
         &mut self,
         graph: &Graph<'_>,
@@ -110,7 +109,7 @@ impl<'a> Run<'a> {
         Ok(())
     }
 
-    /// Whether the run stands at a string.
+    /// Whether there is a current string.
     pub fn is_there(&self) -> bool
         ensures there { IsTrue result → self.now.at < self.now.end }
         ensures over { IsFalse result → self.now.end ≤ self.now.at }
@@ -118,7 +117,7 @@ impl<'a> Run<'a> {
         self.at < self.end
     }
 
-    /// The string at which it stands.
+    /// The current string.
     pub fn string(&self) -> &[u8]
         ensures { result.now ≡ self.now.strings.last }
     {

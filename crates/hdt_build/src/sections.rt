@@ -1,4 +1,4 @@
-//! The sections of the strings that triples use, and the new numbers of these.
+//! The sections of the strings that triples use, and their new IDs.
 ghost use Rattle.std.specs.Prelude.{◌≡◌, ◌≢◌, ◌<◌, ◌≤◌, ◌+◌, ◌^◌, ◌++◌, ◌∷◌, [], ℕ, length, set, slice_index, IsTrue, IsFalse, IfOk, OnOk};
 ghost use Rattle.std.specs.declared.cmp.Ordering.TheVariants.{Less};
 ghost use Rattle.hdt_front.specs.InWork.{last_string};
@@ -20,8 +20,8 @@ use hdt_front::{SectionWriter, compared_from};
 use std::alloc::{AllocError, Global};
 use std::cmp::Ordering;
 
-/// How the strings of two runs lie to each other, and how far they agree. Where one of them agrees further with the string that was
-/// written last, it is the lesser one; else they are compared, from there on.
+/// Compares the current strings of two runs; returns also the length of their longest common prefix. The one that has
+/// more in common with the string that was written last is less; else they are compared after that prefix.
 fn compared(one: &Run<'_>, two: &Run<'_>) -> (Ordering, usize)
     requires { Tell one.now two.now }
     ensures order { result.0 ≡ string_cmp one.now.strings.last two.now.strings.last }
@@ -36,7 +36,8 @@ fn compared(one: &Run<'_>, two: &Run<'_>) -> (Ordering, usize)
     compared_from(one.string(), two.string(), one.same)
 }
 
-/// Whether the next string of two runs is that of the first, and how far the two agree where both have one.
+/// Whether the next string of two runs is that of the first one, and the length of their longest common prefix, if both
+/// have one.
 fn comes_first(one: &Run<'_>, two: &Run<'_>) -> (bool, usize)
     requires { one.now.at < one.now.end → two.now.at < two.now.end → Tell one.now two.now }
     ensures first { IsTrue result.0 → (one.now.at < one.now.end) × (two.now.at < two.now.end → string_cmp one.now.strings.last two.now.strings.last ≡ Less) }
@@ -50,7 +51,7 @@ fn comes_first(one: &Run<'_>, two: &Run<'_>) -> (bool, usize)
     (order.is_lt(), same)
 }
 
-/// Writes the string at which a run stands, notes its number behind so many other strings, and goes on.
+/// Writes the current string of a run, stores its new ID, and advances. IDs count from `count + 1`.
 fn take(
     graph: &Graph<'_>,
     part: Part,
@@ -76,9 +77,9 @@ fn take(
     run.step(graph, part, out)
 }
 
-/// Writes the section of the strings that are kept, and notes at the place of each its number behind so many other strings, in
-/// time in proportion to the folded bytes of the role and those that are written: each byte that is unfolded is compared once or
-/// twice, since a run knows how far its string agrees with the one that was written last.
+/// Writes a new section, and stores the new ID of each of its strings at its old index. IDs count from `count + 1`.
+/// Linear time in the front-coded bytes of the role and those that are written: each decoded byte is compared at most
+/// twice, since a run knows the common prefix of its current string and the one that was written last.
 fn put(
     alloc: Global,
     graph: &Graph<'_>,
@@ -113,7 +114,7 @@ fn put(
     Ok(out)
 }
 
-/// The strings of four sections.
+/// Four sections that are written.
 #[derive(Drop)]
 pub struct Sections {
     pub shared: SectionWriter,
@@ -123,7 +124,7 @@ pub struct Sections {
 }
 
 impl Sections {
-    /// How many strings each has: shared, subjects, predicates, objects.
+    /// The number of strings of each: shared, subjects, predicates, objects.
     pub fn lens(&self) -> [u64; 4]
         ensures { result ≡ length (sections_in_work self.now).shared ∷ length (sections_in_work self.now).subjects ∷ length (sections_in_work self.now).predicates ∷ length (sections_in_work self.now).objects ∷ [] }
     {
@@ -136,7 +137,7 @@ impl Sections {
     }
 }
 
-/// The new numbers of three roles.
+/// The new IDs of the three roles.
 #[derive(Drop)]
 pub struct Numbers {
     pub subjects: Numbering,
@@ -144,7 +145,7 @@ pub struct Numbers {
     pub objects: Numbering,
 }
 
-/// The numbers of objects, where the shared ones have those that they have as subjects.
+/// The new IDs of objects: those of shared strings are the same as for subjects, the others still 0.
 fn object_numbers(
     alloc: Global,
     graph: &Graph<'_>,
@@ -162,8 +163,8 @@ fn object_numbers(
     Ok(made)
 }
 
-/// The sections of the strings that triples use, and their new numbers. Each string is unfolded once in the role that has it, and
-/// those of the shared section up to five times.
+/// The sections of the strings that triples use, and their new IDs. Each string is decoded once, those of the section
+/// shared up to five times.
 pub fn new_sections(
     alloc: Global,
     graph: &Graph<'_>,

@@ -1,4 +1,4 @@
-//! Triples as numbers.
+//! ID triples.
 ghost use Rattle.std.specs.Prelude.{◌≡◌, ◌<◌, map, length, IsTrue, IfOk};
 ghost use Rattle.std.specs.List.{All};
 ghost use Rattle.hdt_dict.specs.Strings.{SameMembers};
@@ -12,14 +12,14 @@ use hdt_file::Graph;
 use hdt_triples::Pattern;
 use std::alloc::{AllocError, Global};
 
-/// The pattern that gives nothing.
+/// The pattern that matches all triples.
 const ANY: Pattern = Pattern {
     s: None,
     p: None,
     o: None,
 };
 
-/// Puts in place of each number of triples what three lists have there.
+/// Replaces each index of triples by what the list of its role has there.
 pub fn replace(
     triples: &mut Vec<(u64, u64, u64)>,
     subjects: &[u64],
@@ -53,7 +53,7 @@ fn are_ascending(triples: &[(u64, u64, u64)]) -> bool
     true
 }
 
-/// Puts triples in ascending order, each once. Those that stand so are only looked at.
+/// Sorts triples and drops duplicates. Ascending triples are only checked.
 pub fn order(triples: &mut Vec<(u64, u64, u64)>)
     ensures ascending { AreAscending triples.new.items }
     ensures same { SameMembers triples.new.items triples.old.items }
@@ -65,7 +65,7 @@ pub fn order(triples: &mut Vec<(u64, u64, u64)>)
     triples.dedup();
 }
 
-/// The triples of a graph with new numbers, in their order.
+/// The triples of a graph with new IDs, in their old order.
 fn renumbered(
     alloc: Global,
     graph: &Graph<'_>,
@@ -85,7 +85,7 @@ fn renumbered(
     Ok(made)
 }
 
-/// The triples of a graph with new numbers, ascending. Each is found once.
+/// The triples of a graph with new IDs, ascending.
 pub fn new_triples(
     alloc: Global,
     graph: &Graph<'_>,

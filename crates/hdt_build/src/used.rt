@@ -7,7 +7,7 @@ ghost use Rattle.hdt_build.specs.Inside.Parted.{AreUsed};
 use hdt_dict::Role;
 use std::alloc::{AllocError, Global};
 
-/// The number of a triple in a role.
+/// The index that a triple has in a role.
 fn number_in(triple: &(u64, u64, u64), role: Role) -> u64
     ensures { result ≡ part role triple.now }
 {
@@ -19,7 +19,7 @@ fn number_in(triple: &(u64, u64, u64), role: Role) -> u64
     }
 }
 
-/// Which of so many numbers triples have in a role.
+/// Which of so many indices triples have in a role.
 pub fn used(
     alloc: Global,
     triples: &[(u64, u64, u64)],
