@@ -1,4 +1,4 @@
--- Laws of the list that a bitmap has, which crates above cite.
+-- Laws of the list that a bitmap has, which other crates use.
 use Rattle.std.proofs.Common.{◌≡◌, ℕ, ◌/◌, ◌^◌, ◌<◌, false, Some, length, get_or, ap, ◌∙◌, arith}
 use Rattle.std.specs.Prelude.{slice_get}
 use Rattle.std.proofs.lemmas.Option.{slice_get-get_or}

@@ -1,4 +1,4 @@
--- Laws of the list that a log sequence stands for, which crates above cite.
+-- Laws of the list that a log sequence stands for, which other crates use.
 use Rattle.std.proofs.Common.{◌≡◌, ℕ, ◌*◌, ◌^◌, ◌<◌, ◌≤◌, length, get_or, arith}
 use Rattle.std.proofs.Math.Nat.{mul-le-mul_left, pow-le-pow_right}
 use Rattle.hdt_seq.specs.declared.numbers.Numbers.{Numbers}
