@@ -7,6 +7,7 @@ mod ListsLaws
 mod MatchingLaws
 mod ObjectLaws
 mod PlaceLaws
+mod PlacesLaws
 mod PlacingLaws
 mod PredicateLaws
 mod RunLaws

@@ -1,6 +1,6 @@
 -- The table of steps: what a search takes at most, by what is given. A search is a call of find and all of its items together. A step is a look at a kept
 -- count, at a word of 64 marks or a part of it, at an entry of the predicates or objects, or at an entry of a list.
-use Rattle.std.specs.Prelude.{ℕ, ◌+◌, ◌*◌, ◌≤◌, List, length, Option, Some, None}
+use Rattle.std.specs.Prelude.{ℕ, ◌+◌, ◌*◌, ◌≤◌, List, length, min, Option, Some, None}
 use Rattle.hdt_seq.specs.Width.{digits}
 use Rattle.hdt_seq.specs.Directory.{groups}
 use Rattle.hdt_triples.specs.Counting.{BitmapTriples, Triple, triples_of}
@@ -80,6 +80,17 @@ counting_steps_by f None (Some p) (Some o) = 2 + 10 * triples_with (of_object o)
 -- the table of steps of counting the matches
 unfoldable pub counting_steps : BitmapTriples → Pattern → ℕ
 counting_steps f p = counting_steps_by f p.s p.p p.o
+
+abbrev pub short_counting_steps_by : BitmapTriples → ℕ → Option ℕ → Option ℕ → Option ℕ → ℕ
+-- a subject and an object: two jumps, and halving the object's list twice
+short_counting_steps_by f most (Some s) None (Some o) = 2 * jump f + 2 * digits (triples_with (of_object o) f)
+-- a predicate alone: as a walk, or two jumps for each pair that is looked at, and for one more
+short_counting_steps_by f most None (Some p) None = min (2 + 4 * length f.zs) (2 * jump f * (1 + min most (length (places_of f.ys p))))
+short_counting_steps_by f most s p o = counting_steps_by f s p o
+
+-- the same where the shorter of two lists is taken, and counting ends at `most` matches
+unfoldable pub short_counting_steps : BitmapTriples → ℕ → Pattern → ℕ
+short_counting_steps f most p = short_counting_steps_by f most p.s p.p p.o
 
 abbrev pub walking_steps_by : BitmapTriples → Option ℕ → Option ℕ → Option ℕ → ℕ
 walking_steps_by f None None None = 0

@@ -41,6 +41,7 @@ mod pair;
 mod pattern;
 mod place;
 mod predicate;
+mod price;
 mod rows;
 mod sequences;
 mod spot;
