@@ -10,6 +10,7 @@ mod PlaceLaws
 mod PlacesLaws
 mod PlacingLaws
 mod PredicateLaws
+mod PredicateObjectLaws
 mod RunLaws
 mod SliceLaws
 mod SubjectLaws

@@ -44,6 +44,10 @@ predicate_price f p = record { base = 0; each = jump f; counted = of_predicate p
 unfoldable pub object_price : ℕ → Price
 object_price o = record { base = 0; each = 20; counted = of_object o }
 
+-- an object looked up in a pair: two jumps, and halving the triples
+unfoldable pub pair_look : BitmapTriples → ℕ
+pair_look f = 2 * jump f + digits (length f.zs)
+
 -- so many triples agree
 abbrev pub triples_with : Pattern → BitmapTriples → ℕ
 triples_with p f = length (matches p (triples_of f))
@@ -62,6 +66,15 @@ most_steps_by f pattern None None None = 4 * length f.zs
 -- the table
 unfoldable pub most_steps : BitmapTriples → Pattern → ℕ
 most_steps f p = most_steps_by f p p.s p.p p.o
+
+abbrev pub short_steps_by : BitmapTriples → Pattern → Option ℕ → Option ℕ → Option ℕ → ℕ
+-- a predicate and an object: the object looked up in each pair of the predicate, and in one more
+short_steps_by f pattern None (Some p) (Some o) = pair_look f * (1 + length (places_of f.ys p))
+short_steps_by f pattern s p o = most_steps_by f pattern s p o
+
+-- the same where the shorter of two lists is taken
+unfoldable pub short_steps : BitmapTriples → Pattern → ℕ
+short_steps f p = short_steps_by f p p.s p.p p.o
 
 abbrev pub counting_steps_by : BitmapTriples → Option ℕ → Option ℕ → Option ℕ → ℕ
 -- nothing: how many triples there are is known

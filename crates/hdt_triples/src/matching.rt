@@ -92,7 +92,7 @@ impl<'a> IndexedTriples<'a> {
 
     /// Where the triples of the pairs from one to another begin and end. Most pairs have one triple, as its mark tells.
     #[tactic(auto, using(hdt_seq::specs::Laws::Marks::sooner))]
-    fn edges(&self, first: u64, last: u64, steps: &mut Steps) -> (u64, u64)
+    pub(crate) fn edges(&self, first: u64, last: u64, steps: &mut Steps) -> (u64, u64)
         requires order { first ≤ last }
         requires within { last < length (bitmap_read (triples_indexed self.now)).ys }
         ensures are { Edges (bitmap_read (triples_indexed self.now)) first last result.0 result.1 }

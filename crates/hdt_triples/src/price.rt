@@ -1,7 +1,7 @@
 //! What a search costs at most, reckoned before it begins: no look is taken for it.
 ghost use Rattle.std.specs.Prelude.{◌≡◌, ◌≤◌};
 ghost use Rattle.hdt_seq.specs.Width.{digits};
-ghost use Rattle.hdt_triples.specs.Bounds.{jump};
+ghost use Rattle.hdt_triples.specs.Bounds.{jump, pair_look};
 ghost use Rattle.hdt_triples.specs.Views.{bitmap_read};
 
 use crate::indexed::IndexedTriples;
@@ -30,5 +30,13 @@ impl<'a> IndexedTriples<'a> {
         let pairs = self.triples.my.len().div_ceil(GROUP);
         let triples = self.triples.mz.len().div_ceil(GROUP);
         digits_of(pairs) + digits_of(triples) + 20
+    }
+
+    /// Two jumps, and halving the triples: what looking an object up in a pair takes at most.
+    #[tactic(auto, unfolding(crate::specs::Bounds::pair_look, crate::specs::Views::bitmap_read))]
+    pub(crate) fn pair_look(&self) -> u64
+        ensures { result ≡ pair_look (bitmap_read (triples_indexed self.now)) }
+    {
+        2 * self.jump() + digits_of(self.triples.zs.len())
     }
 }
