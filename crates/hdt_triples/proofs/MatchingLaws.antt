@@ -12,12 +12,12 @@ use Rattle.hdt_triples.specs.declared.pattern.Pattern.{Pattern}
 use Rattle.hdt_triples.specs.Counting.{BitmapTriples, IsMarked, Triple, triple_at, triples_of, subject_at, pair_of}
 use Rattle.hdt_triples.specs.Patterns.{agrees, admits, matches}
 use Rattle.hdt_triples.specs.Walking.{triples_from}
-use Rattle.hdt_triples.specs.Bounds.{jump, of_subject, of_predicate, of_object}
+use Rattle.hdt_triples.specs.Bounds.{of_subject, of_predicate, of_object}
 use Rattle.hdt_triples.specs.Lists.{places_of, places_from, IsPlaceOf}
 use Rattle.hdt_triples.specs.Inside.Runs.{AreBetween, Edges, IsRunOfTriples, PairsOf}
 use Rattle.hdt_triples.specs.Inside.Spots.{Between}
 use Rattle.hdt_triples.specs.Laws.Order.{pair_within}
-use Rattle.hdt_triples.proofs.PlacesLaws.{Holds, held_at, matches_mapped, part_count}
+use Rattle.hdt_triples.proofs.PlacesLaws.{held_at, matches_mapped, part_count}
 use Rattle.hdt_triples.proofs.WalkLaws.{matches_taken, matches_passed, none_left, not_less, skipped}
 use Rattle.hdt_triples.proofs.AgreeLaws.{admitted, has_subject, other_subject, own_predicate, own_subject, tells}
 use Rattle.hdt_triples.proofs.PredicateLaws.{Begins, predicate_entered, next_of}

@@ -271,13 +271,7 @@ impl<'a> ListedTriples<'a> {
     /// How many triples have this subject and this object: the places of the object's list that are among the subject's,
     /// by halving the list, or by the objects of the subject's triples where they are fewer looks.
     #[tactic(auto, unfolding(crate::specs::Bounds::jump))]
-    fn count_of_both(
-        &self,
-        pattern: Pattern,
-        subject: u64,
-        object: u64,
-        steps: &mut Steps,
-    ) -> u64
+    fn count_of_both(&self, pattern: Pattern, subject: u64, object: u64, steps: &mut Steps) -> u64
         requires subject_given { pattern.s ≡ Some subject }
         requires predicate_free { pattern.p ≡ None }
         requires object_given { pattern.o ≡ Some object }
@@ -347,7 +341,9 @@ impl<'a> ListedTriples<'a> {
         ensures more { steps.old ≤ steps.new }
     {
         match (pattern.s, pattern.p, pattern.o) {
-            (None, Some(predicate), None) => self.count_of_predicate(pattern, predicate, most, steps),
+            (None, Some(predicate), None) => self.count_of_predicate(
+                pattern, predicate, most, steps,
+            ),
             (None, None, Some(object)) => self.count_of_object(object, steps).min(most),
             (None, Some(predicate), Some(object)) => {
                 self.count_in_object(pattern, predicate, object, most, steps)

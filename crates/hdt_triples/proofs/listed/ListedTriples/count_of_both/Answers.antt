@@ -26,8 +26,11 @@ returns-clause-is c =
     let from = c.triples_of_subject-from in
     let low = c.first_from-low in
     let high = c.first_from-high in
-    omega (arith, (both_count f c.args.pattern c.args.subject c.args.object from.result.0 from.result.1 low.result high.result c.places_of-places.result.now c.requires.subject_given c.requires.predicate_free c.requires.object_given
-    from.ensures.are c.places_of-places.ensures.is low.ensures.high high.ensures.high low.ensures.below low.ensures.above high.ensures.below high.ensures.above).1)
+    omega (
+      arith,
+      (both_count f c.args.pattern c.args.subject c.args.object from.result.0 from.result.1 low.result high.result c.places_of-places.result.now c.requires.subject_given c.requires.predicate_free c.requires.object_given
+          from.ensures.are c.places_of-places.ensures.is low.ensures.high high.ensures.high low.ensures.below low.ensures.above high.ensures.below high.ensures.above).1,
+    )
 
 pub returns-then-to-from-clause-by_subject : goal.returns-then-to-from-clause-by_subject
 unfolding jump

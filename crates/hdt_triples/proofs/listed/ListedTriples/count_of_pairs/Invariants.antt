@@ -1,8 +1,8 @@
-use Rattle.std.proofs.Common.{◌≡◌, ◌≤◌, ◌+◌, ◌*◌, ◌-◌, ℕ, length, min}
+use Rattle.std.proofs.Common.{◌≡◌, ◌≤◌, ◌+◌, ◌*◌, ℕ, length}
 use Rattle.hdt_seq.specs.Directory.{groups}
 use Rattle.hdt_seq.specs.Width.{digits}
 use Rattle.hdt_triples.specs.Bounds.{of_predicate}
-use Rattle.hdt_triples.specs.Counting.{BitmapTriples, triples_of}
+use Rattle.hdt_triples.specs.Counting.{triples_of}
 use Rattle.hdt_triples.specs.Patterns.{matches}
 use Rattle.hdt_triples.specs.Inside.Spots.{Between}
 use Rattle.hdt_triples.specs.Views.{bitmap_read}

@@ -4,7 +4,6 @@ use Rattle.hdt_triples.specs.Lists.{places_of}
 use Rattle.hdt_triples.specs.Patterns.{matches}
 use Rattle.hdt_triples.specs.Views.{bitmap_read}
 use Rattle.hdt_triples.specs.Left.{left_of}
-use Rattle.hdt_triples.specs.Walking.{triples_from}
 use Rattle.hdt_triples.proofs.MatchingLaws.{object_count}
 use Rattle.hdt_triples.proofs.PredicateLaws.{between_first}
 use Rattle.hdt_triples.proofs.PredicateObjectLaws.{look_is, shorter}
