@@ -112,9 +112,9 @@ impl<'a> IndexedTriples<'a> {
         ensures more { steps.old ≤ steps.new }
     {
         let (at, end) = self.edges(pair, pair, steps);
-        let place = place_from(&self.triples.zs, at, end, object, steps);
-        if place < end && entry(&self.triples.zs, place, steps) == object {
-            return (place, end);
+        let here = place_from(&self.triples.zs, at, end, object, steps);
+        if here < end && entry(&self.triples.zs, here, steps) == object {
+            return (here, end);
         }
         (end, end)
     }
