@@ -20,6 +20,7 @@ Counts = tuple[int, int, int]
 # The three types: the triples alone, with directories, and also with lists.
 FIND = "find", "indexed_find", "listed_find"
 MATCHING = "matching", "indexed_matching", "listed_matching"
+UP_TO = "matching_up_to", "listed_matching_up_to"
 ROLES = model.ROLES
 
 ANY: Pattern = (None, None, None)
@@ -80,6 +81,9 @@ def assert_finds(probe: Probe, data: bytes, at: int, counts: Counts, ids: Sequen
     for word in MATCHING:
         answer = probe.ask(word, at, *counts, *parts_of(asked))
         assert answer == ok(*(len(expected[pattern]) for pattern in asked)), word
+    for word, most in product(UP_TO, (0, 1, 2, MAX)):
+        answer = probe.ask(word, at, *counts, most, *parts_of(asked))
+        assert answer == ok(*(min(most, len(expected[pattern])) for pattern in asked)), (word, most)
 
 
 # Reading
@@ -320,7 +324,7 @@ AMONG_MANY = {
 
 
 def test_counts_among_many(probe: Probe) -> None:
-    """All three types count the matches among 210,000 triples."""
+    """All three types count the matches among 210,000 triples, also up to a limit."""
     ids = [(1, 1, n) for n in range(1, 70_001)]
     ids += [(2, n, 7) for n in range(1, 70_001)]
     ids += [(n, 2, 5) for n in range(3, 70_003)]
@@ -329,6 +333,25 @@ def test_counts_among_many(probe: Probe) -> None:
     for word in MATCHING:
         answer = probe.ask(word, 0, 70_002, 70_000, 70_000, *patterns)
         assert list(zip(AMONG_MANY, answer[1:])) == [(pattern, str(n)) for pattern, n in AMONG_MANY.items()], word
+    for word, most in product(UP_TO, (0, 1, 65_536, 70_000, 70_001, MAX)):
+        answer = probe.ask(word, 0, 70_002, 70_000, 70_000, most, *patterns)
+        wanted = [(pattern, str(min(most, n))) for pattern, n in AMONG_MANY.items()]
+        assert list(zip(AMONG_MANY, answer[1:])) == wanted, (word, most)
+
+
+def test_finds_by_the_shorter_list(probe: Probe) -> None:
+    """A predicate with an object is found by the pairs of the one and by the triples of the other, in order.
+
+    Predicate 1 has 10 pairs, of which 5 have object 1, and predicates 2 and 3 have one for each of 50,000 subjects, all
+    with object 1.
+    """
+    ids = [(s, p, 1) for s in range(1, 50_001) for p in (2, 3)]
+    ids += [(s, 1, o) for s in range(5_000, 50_001, 5_000) for o in ([2, 3] if s % 10_000 else [1])]
+    ids.sort()
+    patterns: list[Pattern] = [(None, 1, 1), (None, 1, 2), (None, 1, 3), (None, 2, 1), (None, 2, 2), (None, 4, 1),
+                               (None, 1, 4), (5_000, None, 2), (10_000, None, 1), (10_000, None, 3)]
+    assert [len(model.matches(ids, pattern)) for pattern in patterns] == [5, 5, 5, 50_000, 0, 0, 0, 1, 3, 0]
+    assert_finds(probe, model.write_triples(ids), 0, (50_000, 4, 4), ids, patterns)
 
 
 def test_more_than_a_million_pairs(probe: Probe) -> None:

@@ -261,6 +261,8 @@ def triples() -> Iterator[Request]:
     yield "triple", *counts, 0, 17, len(IDS) - 1
     for word in ("find", "indexed_find", "listed_find", "matching", "indexed_matching", "listed_matching"):
         yield word, *counts, *patterns
+    for word in ("matching_up_to", "listed_matching_up_to"):
+        yield word, *counts, 3, *patterns
     for at in range(0, len(patterns), 3):
         yield "handed_back", *counts, *patterns[at:at + 3]
     yield "uses", *counts, 0, 1, 1, 3, 2, 11
@@ -281,6 +283,8 @@ def large_triples() -> Iterator[Request]:
     yield "triples", *counts
     for word in ("matching", "indexed_matching", "listed_matching", "indexed_find", "listed_find"):
         yield word, *counts, "-", "-", 50, 250, "-", "-"
+    for word in ("matching_up_to", "listed_matching_up_to"):
+        yield word, *counts, 30, "-", "-", 50, "-", 1, "-", "-", 2, 50
     yield "handed_back", *counts, "-", "-", 50
     yield "uses", *counts, 2, 50
     yield "listed_held", *counts
@@ -395,6 +399,8 @@ def searching() -> Iterator[Request]:
     yield "file", OF_THREE
     for word in ("search", "layout_search", "graph_layout_search"):
         yield word, *ANY, 1, "-", "-", "-", 1, "-", "-", "-", 1, 1, 1, "-", 1, "-", 2, "-", 1, 2, 1, 1, 2
+    for word in ("matching_up_to", "layout_matching_up_to", "graph_layout_matching_up_to"):
+        yield word, 1, *ANY, 1, "-", "-", "-", 1, "-", "-", "-", 1, "-", 1, 2
     for word in ("pattern", "layout_pattern", "graph_layout_pattern", "find_strings"):
         yield word, b"u:a", "-", "-"
         yield word, "-", b"u:p", b"u:z"

@@ -77,8 +77,7 @@ fn count_of(layout: &Layout<'_>, pattern: Option<Pattern>, most: Option<u64>) ->
     let Some(pattern) = pattern else {
         return 0;
     };
-    let count = layout.matching(pattern, &mut Steps::new());
-    count.min(most.unwrap_or(u64::MAX))
+    layout.matching_up_to(pattern, most.unwrap_or(u64::MAX), &mut Steps::new())
 }
 
 /// The pattern of the numbers of the strings that are given, where each is in its role.
@@ -132,8 +131,7 @@ fn graph_count(graph: &Graph<'_>, pattern: Option<Pattern>, most: Option<u64>) -
     let Some(pattern) = pattern else {
         return 0;
     };
-    let found = graph.matching(pattern, &mut Steps::new());
-    found.min(most.unwrap_or(u64::MAX))
+    graph.matching_up_to(pattern, most.unwrap_or(u64::MAX), &mut Steps::new())
 }
 
 /// Appends the lines of the numbers of the matches of a pattern in a graph, or of nothing; at an error `out` is as it was.

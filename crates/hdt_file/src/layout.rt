@@ -44,7 +44,7 @@ fn counts_in(dictionary: &Dictionary<'_>) -> Counts
 
 #[tactic(auto, unfolding(crate::specs::LayoutView::layout_seen))]
 impl<'a> Layout<'a> {
-    ghost use Rattle.std.specs.Prelude.{◌↔◌, ◌≤◌, ◌<◌, ◌+◌, ◌*◌, ◌^◌, ◌∷◌, [], Option, Some, None, IsOk, OnErr};
+    ghost use Rattle.std.specs.Prelude.{◌↔◌, ◌≤◌, ◌<◌, ◌+◌, ◌*◌, ◌^◌, ◌∷◌, [], Option, Some, None, IsOk, OnErr, min};
     ghost use Rattle.hdt_wire.specs.Rows.{Gives};
     ghost use Rattle.hdt_dict.specs.Numbered.{numbered, AppendsString};
     ghost use Rattle.hdt_triples.specs.Bounds.{walking_steps};
@@ -188,6 +188,18 @@ impl<'a> Layout<'a> {
         ensures few { limit_of result ≡ 4 * length (layout_seen self.now).triples }
     {
         self.triples.find(pattern)
+    }
+
+    /// How many triples agree with each number that the pattern gives, or `most` where they are more. It takes no memory,
+    /// and walks over the triples, with four looks a triple at most, until `most` are counted; where nothing is given it
+    /// takes no look.
+    #[tactic(auto, unfolding(crate::specs::LayoutView::layout_seen, crate::specs::PartsViews::layout_parts))]
+    pub fn matching_up_to(&self, pattern: Pattern, most: u64, steps: &mut Steps) -> u64
+        ensures is { result ≡ min most (length (matches pattern (layout_seen self.now).triples)) }
+        ensures cost { steps.new ≤ steps.old + walking_steps (bitmap_in (layout_parts self.now)) pattern }
+        ensures more { steps.old ≤ steps.new }
+    {
+        self.triples.matching_up_to(pattern, most, steps)
     }
 
     /// How many triples agree with each number that the pattern gives: as many as [`Layout::search`] gives. It takes no

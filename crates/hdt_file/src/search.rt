@@ -1,7 +1,7 @@
 //! Searching a graph, by numbers and by strings.
-ghost use Rattle.std.specs.Prelude.{◌≡◌, ◌↔◌, ◌≤◌, ◌<◌, ◌+◌, ◌^◌, [], Some, filter, length};
-ghost use Rattle.hdt_triples.specs.Bounds.{counting_steps, most_steps};
-ghost use Rattle.hdt_triples.specs.Left.{left_of, limit_of};
+ghost use Rattle.std.specs.Prelude.{◌≡◌, ◌↔◌, ◌≤◌, ◌<◌, ◌+◌, ◌-◌, ◌^◌, [], Some, filter, length, min};
+ghost use Rattle.hdt_triples.specs.Bounds.{counting_steps, most_steps, short_counting_steps, short_steps};
+ghost use Rattle.hdt_triples.specs.Left.{left_of, limit_of, short_limit_of};
 ghost use Rattle.hdt_triples.specs.Patterns.{matches};
 ghost use Rattle.hdt_file.specs.Denoted.{denoted};
 ghost use Rattle.hdt_file.specs.Parts.{bitmap_in, dictionary_in};
@@ -23,16 +23,34 @@ impl<'a> Graph<'a> {
         ensures fits { length (left_of result) < 2 ^ 64 }
         // The steps of this call and of all its items are at most the table's number.
         ensures few { limit_of result ≡ most_steps (bitmap_in (graph_parts self.now)) pattern }
+        // And they are at most that of the table of the shorter lists.
+        ensures short { short_limit_of result ≤ short_steps (bitmap_in (graph_parts self.now)) pattern }
     {
         self.triples.find(pattern)
     }
 
+    /// How many triples agree with each number that the pattern gives, or `most` where they are more: so `most` = 1 tells
+    /// whether there is one. The steps are those of [`Graph::matching`]; where matches add up, no more of them are looked at
+    /// than `most`. It takes no memory.
+    pub fn matching_up_to(&self, pattern: Pattern, most: u64, steps: &mut Steps) -> u64
+        ensures is { result ≡ min most (length (matches pattern (graph_seen self.now).triples)) }
+        // The steps are at most the table's number, and that of the table of the shorter lists.
+        ensures cost { steps.new ≤ steps.old + counting_steps (bitmap_in (graph_parts self.now)) pattern }
+        ensures short { steps.new ≤ steps.old + short_counting_steps (bitmap_in (graph_parts self.now)) most pattern }
+        ensures more { steps.old ≤ steps.new }
+    {
+        self.triples.matching_up_to(pattern, most, steps)
+    }
+
     /// How many triples agree with each number that the pattern gives: as many as [`Graph::search`] gives. Where nothing is
     /// given, a subject, a subject with a predicate, or an object alone, the directories and lists tell it in steps that
-    /// don't grow with the matches; they are those of the table. It takes no memory.
+    /// don't grow with the matches; with a subject and an object they grow with the digits of the object's count. They are
+    /// those of the table. It takes no memory.
     pub fn matching(&self, pattern: Pattern, steps: &mut Steps) -> u64
         ensures is { result ≡ length (matches pattern (graph_seen self.now).triples) }
+        // The steps are at most the table's number, and that of the table of the shorter lists.
         ensures cost { steps.new ≤ steps.old + counting_steps (bitmap_in (graph_parts self.now)) pattern }
+        ensures short { steps.new ≤ steps.old + short_counting_steps (bitmap_in (graph_parts self.now)) (2 ^ 64 - 1) pattern }
         ensures more { steps.old ≤ steps.new }
     {
         self.triples.matching(pattern, steps)
@@ -51,7 +69,7 @@ impl<'a> Graph<'a> {
 
     /// The triples that have each string that is given in its role, as [`Graph::search`] gives them; none where a string
     /// isn't in its role. It takes no memory.
-    #[tactic(auto, unfolding(crate::specs::Views::graph_seen, crate::specs::PartsViews::graph_parts, hdt_triples::specs::Left::left_of, hdt_triples::specs::Left::limit_of))]
+    #[tactic(auto, unfolding(crate::specs::Views::graph_seen, crate::specs::PartsViews::graph_parts, hdt_triples::specs::Left::left_of, hdt_triples::specs::Left::limit_of, hdt_triples::specs::Left::short_limit_of))]
     pub fn find(&self, given: [Option<&[u8]>; 3], steps: &mut Steps) -> Matches<'_>
         // As triples of strings: exactly those of the denoted graph that have each given string in its role, in order.
         ensures answers { denoted (graph_seen self.now) (left_of result) ≡ filter (is_wanted given.entry) (denoted (graph_seen self.now) (graph_seen self.now).triples) }
@@ -63,6 +81,7 @@ impl<'a> Graph<'a> {
         ensures cost { steps.new ≤ steps.old + given_looks (dictionary_in (graph_parts self.now)) given.entry }
         // The steps of the items are at most the table's number, apart from those of the look-ups; none where there are none.
         ensures few { (p : Pattern) → IsPattern (graph_seen self.now) given.entry p → limit_of result ≡ most_steps (bitmap_in (graph_parts self.now)) p }
+        ensures short { (p : Pattern) → IsPattern (graph_seen self.now) given.entry p → short_limit_of result ≤ short_steps (bitmap_in (graph_parts self.now)) p }
         ensures idle { ((p : Pattern) → IsPattern (graph_seen self.now) given.entry p → ⊥) → limit_of result ≡ 0 }
         ensures more { steps.old ≤ steps.new }
     {

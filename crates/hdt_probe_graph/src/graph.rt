@@ -8,12 +8,13 @@ use hdt_triples::{Matches, Pattern};
 
 /// The words, each with the count of its arguments.
 pub const WORDS: &str =
-    "search 3+ find_strings 3 pattern 3 number_of 1+ string_of 3 uses_of 1+ strings 1";
+    "search 3+ matching_up_to 4+ find_strings 3 pattern 3 number_of 1+ string_of 3 uses_of 1+ strings 1";
 
 /// Answers a request of one of these words.
 pub fn answer(word: &str, ask: &mut Ask<'_>, say: &mut Say) -> bool {
     match word {
         "search" => say_search(ask, say),
+        "matching_up_to" => say_matching_up_to(ask, say),
         "find_strings" => say_find_strings(ask, say),
         "pattern" => say_pattern_of(ask, say),
         "number_of" => say_number_of(ask, say),
@@ -68,6 +69,20 @@ fn say_search(ask: &mut Ask<'_>, say: &mut Say) {
         say.number(graph.matching(pattern, &mut Steps::new()));
         say.number(count(graph.search(pattern)));
         say_items(graph.search(pattern), say);
+        if !ask.more() {
+            break;
+        }
+    }
+}
+
+/// For each pattern how many match, but at most so many.
+fn say_matching_up_to(ask: &mut Ask<'_>, say: &mut Say) {
+    let Some(graph) = graph_of(ask, say) else {
+        return;
+    };
+    let most = ask.number();
+    for _ in 0..u64::MAX {
+        say.number(graph.matching_up_to(pattern_of(ask), most, &mut Steps::new()));
         if !ask.more() {
             break;
         }

@@ -8,13 +8,15 @@ use hdt_seq::Steps;
 
 /// The words, each with the count of its arguments.
 pub const WORDS: &str =
-    "layout_search 3+ graph_layout_search 3+ layout_pattern 3 graph_layout_pattern 3 layout_number_of 1+ layout_string_of 3 layout_strings 1";
+    "layout_search 3+ graph_layout_search 3+ layout_matching_up_to 4+ graph_layout_matching_up_to 4+ layout_pattern 3 graph_layout_pattern 3 layout_number_of 1+ layout_string_of 3 layout_strings 1";
 
 /// Answers a request of one of these words.
 pub fn answer(word: &str, ask: &mut Ask<'_>, say: &mut Say) -> bool {
     match word {
         "layout_search" => say_layout_search(ask, say),
         "graph_layout_search" => say_graph_layout_search(ask, say),
+        "layout_matching_up_to" => say_layout_matching_up_to(ask, say),
+        "graph_layout_matching_up_to" => say_graph_layout_matching_up_to(ask, say),
         "layout_pattern" => say_layout_pattern(ask, say),
         "graph_layout_pattern" => say_graph_layout_pattern(ask, say),
         "layout_number_of" => say_number_of(ask, say),
@@ -47,6 +49,29 @@ fn say_layout_search(ask: &mut Ask<'_>, say: &mut Say) {
 fn say_graph_layout_search(ask: &mut Ask<'_>, say: &mut Say) {
     if let Some(graph) = graph_of(ask, say) {
         say_search(&graph.layout(), ask, say)
+    }
+}
+
+/// For each pattern how many match, but at most so many.
+fn say_matching_up_to(layout: &Layout<'_>, ask: &mut Ask<'_>, say: &mut Say) {
+    let most = ask.number();
+    for _ in 0..u64::MAX {
+        say.number(layout.matching_up_to(pattern_of(ask), most, &mut Steps::new()));
+        if !ask.more() {
+            break;
+        }
+    }
+}
+
+fn say_layout_matching_up_to(ask: &mut Ask<'_>, say: &mut Say) {
+    if let Some(layout) = layout_of(ask, say) {
+        say_matching_up_to(&layout, ask, say)
+    }
+}
+
+fn say_graph_layout_matching_up_to(ask: &mut Ask<'_>, say: &mut Say) {
+    if let Some(graph) = graph_of(ask, say) {
+        say_matching_up_to(&graph.layout(), ask, say)
     }
 }
 

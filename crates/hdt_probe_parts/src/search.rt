@@ -7,7 +7,7 @@ use hdt_triples::Matches;
 
 /// The words, each with the count of its arguments.
 pub const WORDS: &str =
-    "find 7+ indexed_find 7+ listed_find 7+ matching 7+ indexed_matching 7+ listed_matching 7+ handed_back 7+ empty_matches 0";
+    "find 7+ indexed_find 7+ listed_find 7+ matching 7+ indexed_matching 7+ listed_matching 7+ matching_up_to 8+ listed_matching_up_to 8+ handed_back 7+ empty_matches 0";
 
 /// Answers a request of one of these words.
 pub fn answer(word: &str, ask: &mut Ask<'_>, say: &mut Say) -> bool {
@@ -18,6 +18,8 @@ pub fn answer(word: &str, ask: &mut Ask<'_>, say: &mut Say) -> bool {
         "matching" => say_matching(ask, say),
         "indexed_matching" => say_indexed_matching(ask, say),
         "listed_matching" => say_listed_matching(ask, say),
+        "matching_up_to" => say_matching_up_to(ask, say),
+        "listed_matching_up_to" => say_listed_matching_up_to(ask, say),
         "handed_back" => say_handed_back(ask, say),
         "empty_matches" => say_empty_matches(say),
         _ => return false,
@@ -122,6 +124,32 @@ fn say_listed_matching(ask: &mut Ask<'_>, say: &mut Say) {
     };
     for _ in 0..u64::MAX {
         say.number(triples.matching(pattern_of(ask), &mut Steps::new()));
+        if !ask.more() {
+            break;
+        }
+    }
+}
+
+fn say_matching_up_to(ask: &mut Ask<'_>, say: &mut Say) {
+    let Some((triples, _)) = triples_at(ask, say) else {
+        return;
+    };
+    let most = ask.number();
+    for _ in 0..u64::MAX {
+        say.number(triples.matching_up_to(pattern_of(ask), most, &mut Steps::new()));
+        if !ask.more() {
+            break;
+        }
+    }
+}
+
+fn say_listed_matching_up_to(ask: &mut Ask<'_>, say: &mut Say) {
+    let Some(triples) = listed_at(ask, say) else {
+        return;
+    };
+    let most = ask.number();
+    for _ in 0..u64::MAX {
+        say.number(triples.matching_up_to(pattern_of(ask), most, &mut Steps::new()));
         if !ask.more() {
             break;
         }

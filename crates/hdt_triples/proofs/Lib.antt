@@ -7,8 +7,10 @@ mod ListsLaws
 mod MatchingLaws
 mod ObjectLaws
 mod PlaceLaws
+mod PlacesLaws
 mod PlacingLaws
 mod PredicateLaws
+mod PredicateObjectLaws
 mod RunLaws
 mod SliceLaws
 mod SubjectLaws

@@ -1,5 +1,6 @@
 -- How many triples agree.
-use Rattle.std.proofs.Common.{◌≡◌, ℕ, ◌+◌, ◌-◌, ◌*◌, ◌<◌, ◌≤◌, ◌==◌, zero, suc, List, [], ◌∷◌, length, map, drop, slice_get, ap, sym, ◌∙◌, arith, Bool, true, false, Some, None, slice_index, eq-eqb, refl}
+use Rattle.std.proofs.Common.{◌≡◌, ℕ, ◌+◌, ◌-◌, ◌*◌, ◌<◌, ◌≤◌, ◌==◌, zero, suc, List, [], ◌∷◌, length, map, min, drop, slice_get, ap, sym, ◌∙◌, arith, Bool, true, false, Some, None, slice_index, eq-eqb, refl}
+use Rattle.std.proofs.Math.Nat.{mul-le-mul_left}
 use Rattle.std.specs.Int.{from_bool}
 use Rattle.std.proofs.lemmas.List.Elements.{All-rest}
 use Rattle.std.specs.List.{All}
@@ -11,12 +12,13 @@ use Rattle.hdt_triples.specs.declared.pattern.Pattern.{Pattern}
 use Rattle.hdt_triples.specs.Counting.{BitmapTriples, IsMarked, Triple, triple_at, triples_of, subject_at, pair_of}
 use Rattle.hdt_triples.specs.Patterns.{agrees, admits, matches}
 use Rattle.hdt_triples.specs.Walking.{triples_from}
-use Rattle.hdt_triples.specs.Bounds.{jump, of_subject, of_predicate, of_object}
+use Rattle.hdt_triples.specs.Bounds.{of_subject, of_predicate, of_object}
 use Rattle.hdt_triples.specs.Lists.{places_of, places_from, IsPlaceOf}
 use Rattle.hdt_triples.specs.Inside.Runs.{AreBetween, Edges, IsRunOfTriples, PairsOf}
 use Rattle.hdt_triples.specs.Inside.Spots.{Between}
 use Rattle.hdt_triples.specs.Laws.Order.{pair_within}
-use Rattle.hdt_triples.proofs.WalkLaws.{matches_taken, matches_passed, none_left, skipped}
+use Rattle.hdt_triples.proofs.PlacesLaws.{held_at, matches_mapped, part_count}
+use Rattle.hdt_triples.proofs.WalkLaws.{matches_taken, matches_passed, none_left, not_less, skipped}
 use Rattle.hdt_triples.proofs.AgreeLaws.{admitted, has_subject, other_subject, own_predicate, own_subject, tells}
 use Rattle.hdt_triples.proofs.PredicateLaws.{Begins, predicate_entered, next_of}
 use Rattle.hdt_triples.proofs.ObjectLaws.{among_first, among_places, object_law, object_step}
@@ -113,6 +115,28 @@ in_subject_on f p s o at end i z one given_s free given_o r l h is more =
     count_on p f i (o == z) one (omega (arith, h, r.within))
     (object_tells p f s o i given_s free given_o (has_subject s (triple_at f i) (r.all i l h)) ∙ ap (λ n. o == n) (sym is)) more
 
+-- a place of the object agrees where it is among those of the subject
+pub both_count : (f : BitmapTriples) (p : Pattern) (s o from to low high : ℕ) (js : List ℕ) → p.s ≡ Some s → p.p ≡ None → p.o ≡ Some o → AreBetween f (of_subject s) from to → js ≡ places_of f.zs o
+    → low ≤ length js → high ≤ length js → ((i : ℕ) → i < low → slice_index js i < from) → ((i : ℕ) → low ≤ i → i < length js → from ≤ slice_index js i)
+    → ((i : ℕ) → i < high → slice_index js i < to) → ((i : ℕ) → high ≤ i → i < length js → to ≤ slice_index js i)
+    → (low ≤ high) × (length (matches p (triples_of f)) + low ≡ high)
+both_count f p s o from to low high js given_s free given_o between is low_in high_in below_from from_on below_to to_on =
+    let ordered : low ≤ high = not_less low high (λ l. omega (arith, below_from high l, to_on high (omega arith) (omega (arith, l, low_in)), between.ordered)) in
+    let held : (i : ℕ) → i < length js → IsPlaceOf f.zs o (slice_index js i) = λ i h. held_at f.zs js o i is h in
+    let count = part_count js (λ j. agrees p (triple_at f j)) low high (record {
+      ordered = ordered;
+      within = high_in;
+      before = λ i l. other_by p s (triple_at f (slice_index js i)) given_s (between.before (slice_index js i) (below_from i l));
+      inside = λ i l h.
+          let place = held i (omega (arith, h, high_in)) in
+          let own = has_subject s (triple_at f (slice_index js i)) (between.all (slice_index js i) (from_on i l (omega (arith, h, high_in))) (below_to i h)) in
+          object_tells p f s o (slice_index js i) given_s free given_o own ∙ eq-eqb o (slice_index f.zs (slice_index js i)) (sym place.1);
+      over = λ i l h.
+          let place = held i h in
+          other_by p s (triple_at f (slice_index js i)) given_s (between.over (slice_index js i) (to_on i l h) place.0);
+    }) in
+    (ordered, omega (arith, count, matches_mapped p f js, ap (λ ks. length (matches p (map (triple_at f) ks))) is, ap length (object_law p f o given_o)))
+
 -- ---- a predicate
 
 -- a pair of one triple
@@ -148,16 +172,17 @@ between_on f p at q start end rest qs s split e =
       earlier = λ i h. omega (arith, e.ends, e.to i h);
     }
 
--- two looks for the list, and each pair's own
-pub pairs_pay_first : (f : BitmapTriples) (n m steps before after : ℕ) → before ≤ steps + 2 → after + 2 * jump f * m ≤ before + 2 * jump f * n → after ≤ steps + 2 * jump f * (1 + n)
-unfolding jump
-pairs_pay_first f n m steps before after few pays = omega (arith, few, pays)
+-- each pair's own looks
+pub pairs_pay_on : (f : BitmapTriples) (k before steps after : ℕ) → after ≤ steps + (2 * digits (groups f.mz) + 18)
+    → steps ≤ before + (2 * digits (groups f.mz) + 18) * k → after ≤ before + (2 * digits (groups f.mz) + 18) * (k + 1)
+pairs_pay_on f k before steps after few pays = omega (arith, few, pays)
 
-pub pairs_pay_on : (f : BitmapTriples) (q steps after most : ℕ) (rest qs : List ℕ) → rest ≡ q ∷ qs → after ≤ steps + (2 * digits (groups f.mz) + 18) → steps + 2 * jump f * length rest ≤ most → after + 2 * jump f * length qs ≤ most
-unfolding jump
-pairs_pay_on f q steps after most rest qs split few pays =
-    let count : length rest ≡ suc (length qs) = ap length split in
-    omega (arith, few, pays, ap (λ k. 2 * (digits (groups f.my) + digits (groups f.mz) + 20) * k) count)
+-- no more pairs than there are, and no more than are asked for
+pub pairs_paid : (f : BitmapTriples) (k rest n most before after : ℕ) → k + rest ≡ n → k ≤ most
+    → after ≤ before + (2 * digits (groups f.mz) + 18) * k → after ≤ before + (2 * digits (groups f.mz) + 18) * min most n
+pairs_paid f k rest n most before after split few pays =
+    let within : k ≤ min most n = omega (arith, split, few) in
+    omega (arith, pays, mul-le-mul_left (2 * digits (groups f.mz) + 18) within)
 
 -- ---- an object
 
@@ -190,3 +215,6 @@ in_object_on p f q o rest js at n one free given_p given_o all some first behind
 -- as many as its list is long
 pub object_count : (f : BitmapTriples) (o : ℕ) → length (places_of f.zs o) ≡ length (matches (of_object o) (triples_of f))
 object_count f o = sym (places_count (places_of f.zs o) f o (among_places f.zs o)) ∙ ap length (object_law (of_object o) f o refl)
+
+pub list_digits : (f : BitmapTriples) (o : ℕ) (js : List ℕ) → js ≡ places_of f.zs o → digits (length js) ≡ digits (length (matches (of_object o) (triples_of f)))
+list_digits f o js is = ap digits (ap length is ∙ object_count f o)

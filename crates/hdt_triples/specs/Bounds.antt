@@ -1,6 +1,6 @@
 -- The table of steps: what a search takes at most, by what is given. A search is a call of find and all of its items together. A step is a look at a kept
 -- count, at a word of 64 marks or a part of it, at an entry of the predicates or objects, or at an entry of a list.
-use Rattle.std.specs.Prelude.{ℕ, ◌+◌, ◌*◌, ◌≤◌, List, length, Option, Some, None}
+use Rattle.std.specs.Prelude.{ℕ, ◌+◌, ◌*◌, ◌≤◌, List, length, min, Option, Some, None}
 use Rattle.hdt_seq.specs.Width.{digits}
 use Rattle.hdt_seq.specs.Directory.{groups}
 use Rattle.hdt_triples.specs.Counting.{BitmapTriples, Triple, triples_of}
@@ -44,6 +44,10 @@ predicate_price f p = record { base = 0; each = jump f; counted = of_predicate p
 unfoldable pub object_price : ℕ → Price
 object_price o = record { base = 0; each = 20; counted = of_object o }
 
+-- an object looked up in a pair: two jumps, and halving the triples
+unfoldable pub pair_look : BitmapTriples → ℕ
+pair_look f = 2 * jump f + digits (length f.zs)
+
 -- so many triples agree
 abbrev pub triples_with : Pattern → BitmapTriples → ℕ
 triples_with p f = length (matches p (triples_of f))
@@ -63,6 +67,15 @@ most_steps_by f pattern None None None = 4 * length f.zs
 unfoldable pub most_steps : BitmapTriples → Pattern → ℕ
 most_steps f p = most_steps_by f p p.s p.p p.o
 
+abbrev pub short_steps_by : BitmapTriples → Pattern → Option ℕ → Option ℕ → Option ℕ → ℕ
+-- a predicate and an object: the object looked up in each pair of the predicate, and in one more
+short_steps_by f pattern None (Some p) (Some o) = pair_look f * (1 + length (places_of f.ys p))
+short_steps_by f pattern s p o = most_steps_by f pattern s p o
+
+-- the same where the shorter of two lists is taken
+unfoldable pub short_steps : BitmapTriples → Pattern → ℕ
+short_steps f p = short_steps_by f p p.s p.p p.o
+
 abbrev pub counting_steps_by : BitmapTriples → Option ℕ → Option ℕ → Option ℕ → ℕ
 -- nothing: how many triples there are is known
 counting_steps_by f None None None = 0
@@ -80,6 +93,17 @@ counting_steps_by f None (Some p) (Some o) = 2 + 10 * triples_with (of_object o)
 -- the table of steps of counting the matches
 unfoldable pub counting_steps : BitmapTriples → Pattern → ℕ
 counting_steps f p = counting_steps_by f p.s p.p p.o
+
+abbrev pub short_counting_steps_by : BitmapTriples → ℕ → Option ℕ → Option ℕ → Option ℕ → ℕ
+-- a subject and an object: two jumps, and halving the object's list twice
+short_counting_steps_by f most (Some s) None (Some o) = 2 * jump f + 2 * digits (triples_with (of_object o) f)
+-- a predicate alone: as a walk, or two jumps for each pair that is looked at, and for one more
+short_counting_steps_by f most None (Some p) None = min (2 + 4 * length f.zs) (2 * jump f * (1 + min most (length (places_of f.ys p))))
+short_counting_steps_by f most s p o = counting_steps_by f s p o
+
+-- the same where the shorter of two lists is taken, and counting ends at `most` matches
+unfoldable pub short_counting_steps : BitmapTriples → ℕ → Pattern → ℕ
+short_counting_steps f most p = short_counting_steps_by f most p.s p.p p.o
 
 abbrev pub walking_steps_by : BitmapTriples → Option ℕ → Option ℕ → Option ℕ → ℕ
 walking_steps_by f None None None = 0

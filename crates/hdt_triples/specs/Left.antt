@@ -1,12 +1,13 @@
--- Matches: those that are still to come, the looks that they may take in all, and the looks so far.
-use Rattle.std.specs.Prelude.{ℕ, ◌*◌, List, [], length, map}
-use Rattle.hdt_triples.specs.Bounds.{limit, object_price, of_predicate, pair_price, predicate_price, subject_price}
+-- Matches: those that are still to come, the looks that they may take in all by either table, and the looks so far.
+use Rattle.std.specs.Prelude.{ℕ, ◌+◌, ◌*◌, List, [], length, map}
+use Rattle.hdt_triples.specs.Bounds.{limit, object_price, of_predicate, pair_look, pair_price, predicate_price, subject_price}
 use Rattle.hdt_triples.specs.Counting.{Triple, triple_at}
+use Rattle.hdt_triples.specs.Lists.{places_of}
 use Rattle.hdt_triples.specs.Patterns.{matches}
 use Rattle.hdt_triples.specs.Views.{bitmap_read}
 use Rattle.hdt_triples.specs.Walking.{triples_from}
 use Rattle.hdt_triples.specs.declared.matches.Matches.{Matches}
-use Rattle.hdt_triples.specs.declared.matches.Matches.TheVariants.{Empty, Walk, Subject, Pair, Predicate, Object}
+use Rattle.hdt_triples.specs.declared.matches.Matches.TheVariants.{Empty, Walk, Subject, Pair, Predicate, PredicateObject, Object}
 
 -- the triples that agree from a place on, or among the places of an object that are left
 unfoldable pub left_of : Matches → List Triple
@@ -15,6 +16,7 @@ left_of (Walk m) = matches m.pattern (triples_from (bitmap_read m.triples) m.pla
 left_of (Subject m) = matches m.pattern (triples_from (bitmap_read m.triples) m.place.at)
 left_of (Pair m) = matches m.pattern (triples_from (bitmap_read m.triples) m.at)
 left_of (Predicate m) = matches (of_predicate m.predicate) (triples_from (bitmap_read m.indexed.now.triples) m.spot.at)
+left_of (PredicateObject m) = matches m.pattern (triples_from (bitmap_read m.indexed.now.triples) m.at)
 left_of (Object m) = matches m.pattern (map (triple_at (bitmap_read m.indexed.now.triples)) m.rest.now)
 
 unfoldable pub limit_of : Matches → ℕ
@@ -23,7 +25,12 @@ limit_of (Walk m) = 4 * length (bitmap_read m.triples).zs
 limit_of (Subject m) = limit (subject_price (bitmap_read m.triples) m.subject) (bitmap_read m.triples)
 limit_of (Pair m) = limit (pair_price (bitmap_read m.triples) m.pattern) (bitmap_read m.triples)
 limit_of (Predicate m) = limit (predicate_price (bitmap_read m.indexed.now.triples) m.predicate) (bitmap_read m.indexed.now.triples)
+limit_of (PredicateObject m) = limit (object_price m.object) (bitmap_read m.indexed.now.triples)
 limit_of (Object m) = limit (object_price m.object) (bitmap_read m.indexed.now.triples)
+
+unfoldable pub short_limit_of : Matches → ℕ
+short_limit_of (PredicateObject m) = pair_look (bitmap_read m.indexed.now.triples) * (1 + length (places_of (bitmap_read m.indexed.now.triples).ys m.predicate))
+short_limit_of m = limit_of m
 
 unfoldable pub steps_of : Matches → ℕ
 steps_of Empty = 0
@@ -31,4 +38,5 @@ steps_of (Walk m) = m.steps
 steps_of (Subject m) = m.steps
 steps_of (Pair m) = m.steps
 steps_of (Predicate m) = m.steps
+steps_of (PredicateObject m) = m.steps
 steps_of (Object m) = m.steps

@@ -1,9 +1,9 @@
-//! Looking a number up in an ascending part of a sequence.
+//! Looking a number up in an ascending part of a sequence, or in an ascending list.
 ghost use Rattle.std.specs.Prelude.{◌≤◌, ◌<◌, ◌+◌, ◌-◌, ℕ, length, slice_index};
 ghost use Rattle.hdt_seq.specs.Numbers.{numbers_of};
 ghost use Rattle.hdt_seq.specs.Width.{digits};
 
-use crate::look::entry;
+use crate::look::{entry, listed};
 use hdt_seq::{Numbers, Steps};
 
 /// The first place of an ascending part whose entry is x or more, or its end, by halving.
@@ -24,6 +24,29 @@ pub(crate) fn place_from(xs: &Numbers<'_>, from: u64, to: u64, x: u64, steps: &m
     'halves: while low < high {
         let middle = low + (high - low) / 2;
         if entry(xs, middle, steps) < x {
+            low = middle + 1;
+        } else {
+            high = middle;
+        }
+    }
+    low
+}
+
+/// The first place of an ascending list whose entry is x or more, or its end, by halving.
+#[tactic(auto, using(hdt_seq::specs::Laws::Width::digits_split))]
+pub(crate) fn first_from(xs: &[u64], x: u64, steps: &mut Steps) -> usize
+    requires ascend { (i j : ℕ) → i < j → j < length xs.now → slice_index xs.now i < slice_index xs.now j }
+    ensures high { result ≤ length xs.now }
+    ensures below { (i : ℕ) → i < result → slice_index xs.now i < x }
+    ensures above { (i : ℕ) → result ≤ i → i < length xs.now → x ≤ slice_index xs.now i }
+    ensures cost { steps.new ≤ steps.old + digits (length xs.now) }
+    ensures more { steps.old ≤ steps.new }
+{
+    let mut low = 0;
+    let mut high = xs.len();
+    'halves: while low < high {
+        let middle = low + (high - low) / 2;
+        if listed(xs, middle, steps) < x {
             low = middle + 1;
         } else {
             high = middle;

@@ -71,6 +71,17 @@ impl<'a> IndexedTriples<'a> {
         self.y.rank(&self.triples.my, self.triples.my.len(), steps)
     }
 
+    /// The subject of a pair.
+    #[tactic(auto, unfolding(crate::specs::Views::bitmap_read))]
+    pub(crate) fn subject_of_pair(&self, pair: u64, steps: &mut Steps) -> u64
+        requires { pair < length (bitmap_read (triples_indexed self.now)).ys }
+        ensures is { result ≡ subject_at (bitmap_read (triples_indexed self.now)) pair }
+        ensures cost { steps.new ≤ steps.old + 8 }
+        ensures more { steps.old ≤ steps.new }
+    {
+        self.y.rank(&self.triples.my, pair, steps) + 1
+    }
+
     /// The place of a pair's first triple.
     #[tactic(auto, unfolding(crate::specs::Views::bitmap_read))]
     pub(crate) fn start_of_pair(&self, pair: u64, steps: &mut Steps) -> u64

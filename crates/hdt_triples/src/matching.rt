@@ -1,31 +1,33 @@
 //! How many triples match a pattern.
-ghost use Rattle.std.specs.Prelude.{◌≡◌, ◌≤◌, ◌<◌, ◌+◌, ◌*◌, length, slice_index, Some, None, IsSome};
+ghost use Rattle.std.specs.Prelude.{◌≡◌, ◌≤◌, ◌<◌, ◌+◌, ◌-◌, ◌*◌, ◌^◌, length, min, slice_index, Some, None, IsSome};
 ghost use Rattle.hdt_seq.specs.Directory.{groups};
 ghost use Rattle.hdt_seq.specs.Width.{digits};
-ghost use Rattle.hdt_triples.specs.Bounds.{counting_steps, jump, of_object, of_predicate, of_subject, triples_with, walking_steps};
+ghost use Rattle.hdt_triples.specs.Bounds.{counting_steps, jump, of_object, of_predicate, of_subject, short_counting_steps, triples_with, walking_steps};
 ghost use Rattle.hdt_triples.specs.Counting.{pair_of, triples_of};
 ghost use Rattle.hdt_triples.specs.Lists.{places_of};
 ghost use Rattle.hdt_triples.specs.Patterns.{matches};
 ghost use Rattle.hdt_triples.specs.Inside.Runs.{AreBetween, Edges};
 ghost use Rattle.hdt_triples.specs.Views.{bitmap_read};
 
+use crate::halving::first_from;
 use crate::indexed::IndexedTriples;
 use crate::listed::ListedTriples;
 use crate::look::{entry, listed, mark};
 use crate::pattern::Pattern;
+use crate::price::digits_of;
 use crate::triples::Triples;
 use hdt_seq::Steps;
 
 impl<'a> Triples<'a> {
-    /// How many triples match, by a walk over all triples.
-    fn count_all(&self, pattern: Pattern, steps: &mut Steps) -> u64
-        ensures is { result ≡ length (matches pattern (triples_of (bitmap_read self.now))) }
+    /// How many triples match, or `most` where they are more, by a walk over all triples that ends there.
+    pub(crate) fn count_all(&self, pattern: Pattern, most: u64, steps: &mut Steps) -> u64
+        ensures is { result ≡ min most (length (matches pattern (triples_of (bitmap_read self.now)))) }
         ensures cost { steps.new ≤ steps.old + 4 * length (bitmap_read self.now).zs }
         ensures more { steps.old ≤ steps.new }
     {
         let mut place = self.first();
         let mut count = 0;
-        'triples: while place.at < self.len() {
+        'triples: while count < most && place.at < self.len() {
             let triple = self.look(place, steps);
             place = self.go_on(place, steps);
             count += u64::from(pattern.takes(triple));
@@ -33,18 +35,55 @@ impl<'a> Triples<'a> {
         count
     }
 
+    /// How many of a subject's triples, which are those from one place on and before another, have this object: each is
+    /// looked at once.
+    fn count_between(
+        &self,
+        pattern: Pattern,
+        subject: u64,
+        object: u64,
+        from: u64,
+        to: u64,
+        steps: &mut Steps,
+    ) -> u64
+        requires subject_given { pattern.s ≡ Some subject }
+        requires predicate_free { pattern.p ≡ None }
+        requires object_given { pattern.o ≡ Some object }
+        requires between { AreBetween (bitmap_read self.now) (of_subject subject) from to }
+        ensures is { result ≡ length (matches pattern (triples_of (bitmap_read self.now))) }
+        ensures cost { steps.new ≡ steps.old + (to - from) }
+    {
+        let mut count = 0;
+        let mut at = from;
+        'triples: while at < to {
+            count += u64::from(object == entry(&self.zs, at, steps));
+            at += 1;
+        }
+        count
+    }
+
+    /// How many triples match a pattern, or `most` where they are more. Where nothing is given that takes no look, else it
+    /// is a walk over the triples, at most four looks a triple, which ends when `most` are counted. It takes no memory.
+    #[tactic(auto, unfolding(crate::specs::Bounds::walking_steps))]
+    pub fn matching_up_to(&self, pattern: Pattern, most: u64, steps: &mut Steps) -> u64
+        ensures is { result ≡ min most (length (matches pattern (triples_of (bitmap_read self.now)))) }
+        ensures cost { steps.new ≤ steps.old + walking_steps (bitmap_read self.now) pattern }
+        ensures more { steps.old ≤ steps.new }
+    {
+        match (pattern.s, pattern.p, pattern.o) {
+            (None, None, None) => self.len().min(most),
+            _ => self.count_all(pattern, most, steps),
+        }
+    }
+
     /// How many triples match a pattern: as many as the items of `find`. Where nothing is given that takes no look, else
     /// it is a walk over all triples, at most four looks a triple. It takes no memory.
-    #[tactic(auto, unfolding(crate::specs::Bounds::walking_steps))]
     pub fn matching(&self, pattern: Pattern, steps: &mut Steps) -> u64
         ensures is { result ≡ length (matches pattern (triples_of (bitmap_read self.now))) }
         ensures cost { steps.new ≤ steps.old + walking_steps (bitmap_read self.now) pattern }
         ensures more { steps.old ≤ steps.new }
     {
-        match (pattern.s, pattern.p, pattern.o) {
-            (None, None, None) => self.len(),
-            _ => self.count_all(pattern, steps),
-        }
+        self.matching_up_to(pattern, u64::MAX, steps)
     }
 }
 
@@ -53,7 +92,7 @@ impl<'a> IndexedTriples<'a> {
 
     /// Where the triples of the pairs from one to another begin and end. Most pairs have one triple, as its mark tells.
     #[tactic(auto, using(hdt_seq::specs::Laws::Marks::sooner))]
-    fn edges(&self, first: u64, last: u64, steps: &mut Steps) -> (u64, u64)
+    pub(crate) fn edges(&self, first: u64, last: u64, steps: &mut Steps) -> (u64, u64)
         requires order { first ≤ last }
         requires within { last < length (bitmap_read (triples_indexed self.now)).ys }
         ensures are { Edges (bitmap_read (triples_indexed self.now)) first last result.0 result.1 }
@@ -69,10 +108,9 @@ impl<'a> IndexedTriples<'a> {
     }
 
     /// Where the triples of a subject begin and end.
-    #[tactic(auto, unfolding(crate::specs::Bounds::jump))]
     fn triples_of_subject(&self, subject: u64, steps: &mut Steps) -> (u64, u64)
         ensures are { AreBetween (bitmap_read (triples_indexed self.now)) (of_subject subject) result.0 result.1 }
-        ensures cost { steps.new ≤ steps.old + 2 * jump (bitmap_read (triples_indexed self.now)) }
+        ensures cost { steps.new ≤ steps.old + (2 * digits (groups (bitmap_read (triples_indexed self.now)).my) + 2 * digits (groups (bitmap_read (triples_indexed self.now)).mz) + 34) }
         ensures more { steps.old ≤ steps.new }
     {
         let (low, high) = self.pairs_of_subject(subject, steps);
@@ -83,6 +121,7 @@ impl<'a> IndexedTriples<'a> {
     }
 
     /// How many triples have this subject.
+    #[tactic(auto, unfolding(crate::specs::Bounds::jump))]
     fn count_of_subject(&self, subject: u64, steps: &mut Steps) -> u64
         ensures is { result ≡ length (matches (of_subject subject) (triples_of (bitmap_read (triples_indexed self.now)))) }
         ensures cost { steps.new ≤ steps.old + 2 * jump (bitmap_read (triples_indexed self.now)) }
@@ -93,6 +132,7 @@ impl<'a> IndexedTriples<'a> {
     }
 
     /// How many triples have this subject and this object, by the objects of the subject's triples.
+    #[tactic(auto, unfolding(crate::specs::Bounds::jump))]
     fn count_in_subject(
         &self,
         pattern: Pattern,
@@ -108,13 +148,8 @@ impl<'a> IndexedTriples<'a> {
         ensures more { steps.old ≤ steps.new }
     {
         let (from, to) = self.triples_of_subject(subject, steps);
-        let mut count = 0;
-        let mut at = from;
-        'triples: while at < to {
-            count += u64::from(object == entry(&self.triples.zs, at, steps));
-            at += 1;
-        }
-        count
+        self.triples
+            .count_between(pattern, subject, object, from, to, steps)
     }
 
     /// The predicate of the triple at a place, by counting marks.
@@ -148,10 +183,31 @@ impl<'a> IndexedTriples<'a> {
         end - at
     }
 
+    /// How many triples match a pattern, or `most` where they are more. With a subject it is told by the directories: where
+    /// its triples, or those of the pair, begin and end; where an object is given and no predicate, the objects of the
+    /// subject's triples are compared. Without a subject it is the walk of [`Triples::matching_up_to`]. It takes no memory.
+    #[tactic(auto, unfolding(crate::specs::Bounds::counting_steps))]
+    pub(crate) fn matching_up_to(&self, pattern: Pattern, most: u64, steps: &mut Steps) -> u64
+        ensures is { result ≡ min most (length (matches pattern (triples_of (bitmap_read (triples_indexed self.now))))) }
+        ensures cost { IsSome pattern.s → steps.new ≤ steps.old + counting_steps (bitmap_read (triples_indexed self.now)) pattern }
+        ensures walked { pattern.s ≡ None → steps.new ≤ steps.old + walking_steps (bitmap_read (triples_indexed self.now)) pattern }
+        ensures more { steps.old ≤ steps.new }
+    {
+        match (pattern.s, pattern.p, pattern.o) {
+            (None, _, _) => self.triples.matching_up_to(pattern, most, steps),
+            (Some(subject), None, None) => self.count_of_subject(subject, steps).min(most),
+            (Some(subject), None, Some(object)) => self
+                .count_in_subject(pattern, subject, object, steps)
+                .min(most),
+            (Some(subject), Some(predicate), _) => self
+                .count_of_pair(pattern, subject, predicate, steps)
+                .min(most),
+        }
+    }
+
     /// How many triples match a pattern: as many as the items of `find`. With a subject it is told by the directories:
     /// where its triples, or those of the pair, begin and end; where an object is given and no predicate, the objects of
     /// the subject's triples are compared. Without a subject it is the walk of [`Triples::matching`]. It takes no memory.
-    #[tactic(auto, unfolding(crate::specs::Bounds::counting_steps))]
     pub fn matching(&self, pattern: Pattern, steps: &mut Steps) -> u64
         ensures is { result ≡ length (matches pattern (triples_of (bitmap_read (triples_indexed self.now)))) }
         // With a subject, the steps are at most the table's number.
@@ -160,37 +216,79 @@ impl<'a> IndexedTriples<'a> {
         ensures walked { pattern.s ≡ None → steps.new ≤ steps.old + walking_steps (bitmap_read (triples_indexed self.now)) pattern }
         ensures more { steps.old ≤ steps.new }
     {
-        match (pattern.s, pattern.p, pattern.o) {
-            (None, _, _) => self.triples.matching(pattern, steps),
-            (Some(subject), None, None) => self.count_of_subject(subject, steps),
-            (Some(subject), None, Some(object)) => {
-                self.count_in_subject(pattern, subject, object, steps)
-            }
-            (Some(subject), Some(predicate), _) => {
-                self.count_of_pair(pattern, subject, predicate, steps)
-            }
-        }
+        self.matching_up_to(pattern, u64::MAX, steps)
     }
 }
 
 impl<'a> ListedTriples<'a> {
     ghost use Rattle.hdt_triples.specs.ListedViews.{triples_listed};
 
-    /// How many triples have this predicate, by the lengths of its pairs.
-    fn count_of_predicate(&self, predicate: u64, steps: &mut Steps) -> u64
-        ensures is { result ≡ length (matches (of_predicate predicate) (triples_of (bitmap_read (triples_listed self.now)))) }
-        ensures cost { steps.new ≤ steps.old + 2 * jump (bitmap_read (triples_listed self.now)) * (1 + length (places_of (bitmap_read (triples_listed self.now)).ys predicate)) }
+    /// How many triples of these pairs of a predicate there are, or `most` where they are more, by the pairs' lengths: each
+    /// pair has a triple, so no more than `most` of them are looked at.
+    fn count_of_pairs(&self, predicate: u64, pairs: &[u64], most: u64, steps: &mut Steps) -> u64
+        requires { pairs.now ≡ places_of (bitmap_read (triples_listed self.now)).ys predicate }
+        ensures is { result ≡ min most (length (matches (of_predicate predicate) (triples_of (bitmap_read (triples_listed self.now))))) }
+        ensures cost { steps.new ≤ steps.old + (2 * digits (groups (bitmap_read (triples_listed self.now)).mz) + 18) * min most (length pairs.now) }
         ensures more { steps.old ≤ steps.new }
     {
-        let mut rest = self.pairs_of(predicate, steps);
+        let mut rest = pairs;
         let mut count = 0;
-        'pairs: while !rest.is_empty() {
+        'pairs: while count < most && !rest.is_empty() {
             let pair = listed(rest, 0, steps);
             let (at, end) = self.indexed.edges(pair, pair, steps);
             count += end - at;
             rest = rest.split_at(1).1;
         }
-        count
+        count.min(most)
+    }
+
+    /// How many triples have this predicate, or `most` where they are more: by the lengths of its pairs, or by a walk over
+    /// all triples where that is cheaper.
+    #[tactic(auto, unfolding(crate::specs::Bounds::jump))]
+    fn count_of_predicate(
+        &self,
+        pattern: Pattern,
+        predicate: u64,
+        most: u64,
+        steps: &mut Steps,
+    ) -> u64
+        requires { pattern ≡ of_predicate predicate }
+        ensures is { result ≡ min most (length (matches pattern (triples_of (bitmap_read (triples_listed self.now))))) }
+        ensures by_pairs { steps.new ≤ steps.old + 2 * jump (bitmap_read (triples_listed self.now)) * (1 + min most (length (places_of (bitmap_read (triples_listed self.now)).ys predicate))) }
+        ensures by_triples { steps.new ≤ steps.old + (2 + 4 * length (bitmap_read (triples_listed self.now)).zs) }
+        ensures more { steps.old ≤ steps.new }
+    {
+        let pairs = self.pairs_of(predicate, steps);
+        let looked_at = u128::from((pairs.len() as u64).min(most));
+        let triples = &self.indexed.triples;
+        let price = u128::from(2 * self.indexed.jump());
+        if 2 + 4 * u128::from(triples.len()) <= price.saturating_mul(1 + looked_at) {
+            return triples.count_all(pattern, most, steps);
+        }
+        self.count_of_pairs(predicate, pairs, most, steps)
+    }
+
+    /// How many triples have this subject and this object: the places of the object's list that are among the subject's,
+    /// by halving the list, or by the objects of the subject's triples where they are fewer looks.
+    #[tactic(auto, unfolding(crate::specs::Bounds::jump))]
+    fn count_of_both(&self, pattern: Pattern, subject: u64, object: u64, steps: &mut Steps) -> u64
+        requires subject_given { pattern.s ≡ Some subject }
+        requires predicate_free { pattern.p ≡ None }
+        requires object_given { pattern.o ≡ Some object }
+        ensures is { result ≡ length (matches pattern (triples_of (bitmap_read (triples_listed self.now)))) }
+        ensures by_subject { steps.new ≤ steps.old + (2 * jump (bitmap_read (triples_listed self.now)) + triples_with (of_subject subject) (bitmap_read (triples_listed self.now))) }
+        ensures by_object { steps.new ≤ steps.old + (2 * jump (bitmap_read (triples_listed self.now)) + 2 * digits (triples_with (of_object object) (bitmap_read (triples_listed self.now)))) }
+        ensures more { steps.old ≤ steps.new }
+    {
+        let (from, to) = self.indexed.triples_of_subject(subject, steps);
+        let places = self.places_of(object, steps);
+        if to - from <= 2 * digits_of(places.len() as u64) {
+            let triples = &self.indexed.triples;
+            return triples.count_between(pattern, subject, object, from, to, steps);
+        }
+        let low = first_from(places, from, steps);
+        let high = first_from(places, to, steps);
+        (high - low) as u64
     }
 
     /// How many triples have this object.
@@ -202,24 +300,26 @@ impl<'a> ListedTriples<'a> {
         self.places_of(object, steps).len() as u64
     }
 
-    /// How many triples have this predicate and this object, by the predicates of the object's triples.
+    /// How many triples have this predicate and this object, or `most` where they are more, by the predicates of the
+    /// object's triples.
     fn count_in_object(
         &self,
         pattern: Pattern,
         predicate: u64,
         object: u64,
+        most: u64,
         steps: &mut Steps,
     ) -> u64
         requires subject_free { pattern.s ≡ None }
         requires predicate_given { pattern.p ≡ Some predicate }
         requires object_given { pattern.o ≡ Some object }
-        ensures is { result ≡ length (matches pattern (triples_of (bitmap_read (triples_listed self.now)))) }
+        ensures is { result ≡ min most (length (matches pattern (triples_of (bitmap_read (triples_listed self.now))))) }
         ensures cost { steps.new ≤ steps.old + (2 + 10 * triples_with (of_object object) (bitmap_read (triples_listed self.now))) }
         ensures more { steps.old ≤ steps.new }
     {
         let mut rest = self.places_of(object, steps);
         let mut count = 0;
-        'places: while !rest.is_empty() {
+        'places: while count < most && !rest.is_empty() {
             let at = listed(rest, 0, steps);
             count += u64::from(predicate == self.indexed.predicate_at(at, steps));
             rest = rest.split_at(1).1;
@@ -227,24 +327,46 @@ impl<'a> ListedTriples<'a> {
         count
     }
 
-    /// How many triples match a pattern: as many as the items of `find`. Where nothing is given, a subject, a subject and
-    /// a predicate, all three, or an object alone, the steps don't grow with the matches; a predicate alone takes at most
-    /// two searches for each of its pairs; else the triples of the subject or of the object are compared one by one. It
-    /// takes no memory.
-    #[tactic(auto, unfolding(crate::specs::Bounds::counting_steps, crate::specs::Bounds::walking_steps))]
-    pub fn matching(&self, pattern: Pattern, steps: &mut Steps) -> u64
-        ensures is { result ≡ length (matches pattern (triples_of (bitmap_read (triples_listed self.now)))) }
-        // The steps are at most the table's number.
+    /// How many triples match a pattern, or `most` where they are more: so `most` = 1 tells whether there is one. Where
+    /// nothing is given, a subject, a subject and a predicate, all three, or an object alone, the steps don't grow with the
+    /// matches; with a subject and an object they grow with the digits of the object's count. Pairs of a predicate alone,
+    /// and triples of an object with a predicate, are looked at one by one until `most` matches are counted. It takes no
+    /// memory.
+    #[tactic(auto, unfolding(crate::specs::Bounds::counting_steps, crate::specs::Bounds::short_counting_steps, crate::specs::Bounds::walking_steps))]
+    pub fn matching_up_to(&self, pattern: Pattern, most: u64, steps: &mut Steps) -> u64
+        ensures is { result ≡ min most (length (matches pattern (triples_of (bitmap_read (triples_listed self.now))))) }
+        // The steps are at most the table's number, and that of the table of the shorter lists.
         ensures cost { steps.new ≤ steps.old + counting_steps (bitmap_read (triples_listed self.now)) pattern }
+        ensures short { steps.new ≤ steps.old + short_counting_steps (bitmap_read (triples_listed self.now)) most pattern }
         ensures more { steps.old ≤ steps.new }
     {
         match (pattern.s, pattern.p, pattern.o) {
-            (None, Some(predicate), None) => self.count_of_predicate(predicate, steps),
-            (None, None, Some(object)) => self.count_of_object(object, steps),
+            (None, Some(predicate), None) => self.count_of_predicate(
+                pattern, predicate, most, steps,
+            ),
+            (None, None, Some(object)) => self.count_of_object(object, steps).min(most),
             (None, Some(predicate), Some(object)) => {
-                self.count_in_object(pattern, predicate, object, steps)
+                self.count_in_object(pattern, predicate, object, most, steps)
             }
-            _ => self.indexed.matching(pattern, steps),
+            (Some(subject), None, Some(object)) => self
+                .count_of_both(pattern, subject, object, steps)
+                .min(most),
+            _ => self.indexed.matching_up_to(pattern, most, steps),
         }
+    }
+
+    /// How many triples match a pattern: as many as the items of `find`. Where nothing is given, a subject, a subject and
+    /// a predicate, all three, or an object alone, the steps don't grow with the matches; with a subject and an object they
+    /// grow with the digits of the object's count. A predicate alone takes at most two searches for each of its pairs, and
+    /// no more than a walk over all triples; with an object, the object's triples are compared one by one. It takes no
+    /// memory.
+    pub fn matching(&self, pattern: Pattern, steps: &mut Steps) -> u64
+        ensures is { result ≡ length (matches pattern (triples_of (bitmap_read (triples_listed self.now)))) }
+        // The steps are at most the table's number, and that of the table of the shorter lists.
+        ensures cost { steps.new ≤ steps.old + counting_steps (bitmap_read (triples_listed self.now)) pattern }
+        ensures short { steps.new ≤ steps.old + short_counting_steps (bitmap_read (triples_listed self.now)) (2 ^ 64 - 1) pattern }
+        ensures more { steps.old ≤ steps.new }
+    {
+        self.matching_up_to(pattern, u64::MAX, steps)
     }
 }

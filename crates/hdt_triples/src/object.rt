@@ -50,15 +50,16 @@ impl<'a> ListedTriples<'a> {
     ghost use Rattle.hdt_triples.specs.Left.{left_of, limit_of};
     ghost use Rattle.hdt_triples.specs.ListedViews.{triples_listed};
 
-    /// The matches of a pattern that gives this object.
+    /// The matches of a pattern that gives this object, after a few steps.
     #[tactic(auto, unfolding(crate::specs::Left::left_of, crate::specs::Left::limit_of))]
-    pub(crate) fn find_object(&self, pattern: Pattern, object: u64) -> Matches<'_>
-        requires { pattern.o ≡ Some object }
+    pub(crate) fn find_object(&self, pattern: Pattern, object: u64, steps: Steps) -> Matches<'_>
+        requires given { pattern.o ≡ Some object }
+        requires few { steps ≤ 18 }
         ensures items { left_of result ≡ matches pattern (triples_of (bitmap_read (triples_listed self.now))) }
         ensures fits { length (left_of result) < 2 ^ 64 }
         ensures few { limit_of result ≡ limit (object_price object) (bitmap_read (triples_listed self.now)) }
     {
-        let mut steps = Steps::new();
+        let mut steps = steps;
         let rest = self.places_of(object, &mut steps);
         Matches::Object(ObjectMatches {
             indexed: &self.indexed,

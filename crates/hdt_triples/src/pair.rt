@@ -5,7 +5,7 @@ ghost use Rattle.hdt_seq.specs.Width.{digits};
 ghost use Rattle.hdt_triples.specs.Bounds.{pair_price, Pays, limit};
 ghost use Rattle.hdt_triples.specs.Counting.{triple_at, triples_of};
 ghost use Rattle.hdt_triples.specs.Patterns.{agrees, matches};
-ghost use Rattle.hdt_triples.specs.Inside.Runs.{IsPairOf, IsRunOfTriples, PairsOf};
+ghost use Rattle.hdt_triples.specs.Inside.Runs.{IsObjectIn, IsPairOf, IsRunOfTriples, PairsOf};
 ghost use Rattle.hdt_triples.specs.Views.{bitmap_read};
 ghost use Rattle.hdt_triples.specs.Walking.{triples_from};
 
@@ -101,6 +101,22 @@ impl<'a> IndexedTriples<'a> {
             return (place, place + 1);
         }
         (0, 0)
+    }
+
+    /// The place of the triple of a pair that has this object, or the end of the pair, and where the pair ends.
+    #[tactic(auto, unfolding(crate::specs::Views::bitmap_read))]
+    pub(crate) fn object_in_pair(&self, pair: u64, object: u64, steps: &mut Steps) -> (u64, u64)
+        requires { pair < length (bitmap_read (triples_indexed self.now)).ys }
+        ensures is { IsObjectIn (bitmap_read (triples_indexed self.now)) pair object result.0 result.1 }
+        ensures cost { steps.new ≤ steps.old + (2 * digits (groups (bitmap_read (triples_indexed self.now)).mz) + 18 + digits (length (bitmap_read (triples_indexed self.now)).zs)) }
+        ensures more { steps.old ≤ steps.new }
+    {
+        let (at, end) = self.edges(pair, pair, steps);
+        let here = place_from(&self.triples.zs, at, end, object, steps);
+        if here < end && entry(&self.triples.zs, here, steps) == object {
+            return (here, end);
+        }
+        (end, end)
     }
 
     /// The matches of a pattern that gives this subject and this predicate.

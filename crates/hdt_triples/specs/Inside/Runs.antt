@@ -1,5 +1,5 @@
 -- Matches that stand together.
-use Rattle.std.specs.Prelude.{ℕ, ◌≡◌, ◌≤◌, ◌<◌, ◌+◌, length, slice_index, true, false}
+use Rattle.std.specs.Prelude.{ℕ, ◌≡◌, ◌≢◌, ◌≤◌, ◌<◌, ◌+◌, length, slice_index, true, false}
 use Rattle.hdt_triples.specs.Counting.{BitmapTriples, pair_of, subject_at, triple_at}
 use Rattle.hdt_triples.specs.Patterns.{agrees}
 use Rattle.hdt_triples.specs.declared.pattern.Pattern.{Pattern}
@@ -33,6 +33,15 @@ pub record Edges (f : BitmapTriples) (first last at end : ℕ) : Type 0 where
   pub before : (i : ℕ) → i < at → pair_of f i < first
   pub to : (i : ℕ) → i < end → pair_of f i ≤ last
   pub ends : pair_of f end ≡ last + 1
+
+-- the triples of pair q end at `end`; the one that has object o is at place `here`, which is `end` where there is none
+pub record IsObjectIn (f : BitmapTriples) (q o here end : ℕ) : Type 0 where
+  pub start : ℕ
+  pub edges : Edges f q q start end
+  pub from : start ≤ here
+  pub to : here ≤ end
+  pub is : here < end → slice_index f.zs here ≡ o
+  pub other : (i : ℕ) → start ≤ i → i < end → i ≢ here → slice_index f.zs i ≢ o
 
 -- the triples that agree are those from `at` on and before `end`
 pub record AreBetween (f : BitmapTriples) (pattern : Pattern) (at end : ℕ) : Type 0 where

@@ -8,6 +8,7 @@ use Rattle.hdt_triples.specs.Views.{bitmap_read}
 use Rattle.hdt_triples.proofs.ListsLaws.{split_rest}
 use Rattle.hdt_triples.proofs.MatchingLaws.{in_object_on, object_count}
 use Rattle.hdt_triples.proofs.ObjectLaws.{among_behind, among_first, among_places, object_law, object_over}
+use Rattle.hdt_triples.proofs.PlaceLaws.{at_most_one}
 use Rattle.hdt_triples.proofs.WalkLaws.{matches_fit}
 use Rattle.hdt_triples.proofs.listed.ListedTriples.count_in_object.Goals as goal
 
@@ -17,6 +18,7 @@ places-init c =
     let is = c.places_of-rest.ensures.is in
     record {
       among = subst (All (IsPlaceOf f.zs c.args.object)) (sym is) (among_places f.zs c.args.object);
+      few = omega arith;
       so_far = omega (arith, ap (λ js. length (matches c.args.pattern (map (triple_at f) js))) is, ap length (object_law c.args.pattern f c.args.object c.requires.object_given));
       cost = omega (arith, ap length is);
       more = omega arith;
@@ -25,14 +27,14 @@ places-init c =
 pub predicate_at-requires : goal.predicate_at-requires
 predicate_at-requires c =
     let rest = c.places.rest.now in
-    let some : 0 < length rest = omega (arith, eqb-false (length rest) 0 (sym c.is_empty.ensures ∙ c.places-test.true)) in
+    let some : 0 < length rest = omega (arith, eqb-false (length rest) 0 (sym c.is_empty.ensures ∙ c.if-not-is_empty.true)) in
     (among_first (bitmap_read c.args.self.now.indexed.triples).zs c.args.object rest c.listed-at.result some c.listed-at.ensures.is c.places.invariant.among).0
 
 pub overflow_add-count : goal.overflow_add-count
 overflow_add-count c =
     let t = c.args.self.now.indexed.triples in
     let rest = c.places.rest.now in
-    let some : 0 < length rest = omega (arith, eqb-false (length rest) 0 (sym c.is_empty.ensures ∙ c.places-test.true)) in
+    let some : 0 < length rest = omega (arith, eqb-false (length rest) 0 (sym c.is_empty.ensures ∙ c.if-not-is_empty.true)) in
     omega (
       arith,
       c.places.invariant.so_far,
@@ -49,9 +51,10 @@ places-preserved c =
     let at = c.listed-at.result in
     let first = c.listed-at.ensures.is in
     let behind = c.split_at.ensures.back in
-    let some : 0 < length rest = omega (arith, eqb-false (length rest) 0 (sym c.is_empty.ensures ∙ c.places-test.true)) in
+    let some : 0 < length rest = omega (arith, eqb-false (length rest) 0 (sym c.is_empty.ensures ∙ c.if-not-is_empty.true)) in
     record {
       among = among_behind f.zs c.args.object rest js at some first behind c.places.invariant.among;
+      few = omega (arith, c.places-test.true, at_most_one _ c.from-count.result c.from-count.ensures);
       so_far = omega (
         arith,
         c.places.invariant.so_far,
@@ -62,14 +65,23 @@ places-preserved c =
       more = omega (arith, c.places.invariant.more, c.listed-at.ensures.cost, c.predicate_at.ensures.more);
     }
 
-pub returns-clause-is : goal.returns-clause-is
-returns-clause-is c =
-    let rest = c.places.rest.now in
-    omega (arith, c.places.invariant.so_far, ap length (object_over c.args.pattern (bitmap_read c.args.self.now.indexed.triples) rest (eqb-true (length rest) 0 (sym c.is_empty.ensures ∙ c.places-test.false))))
+pub returns-after-places-clause-is : goal.returns-after-places-clause-is
+returns-after-places-clause-is c = omega (arith, c.places.invariant.so_far, c.places.invariant.few, c.places-test.false)
 
-pub returns-clause-cost : goal.returns-clause-cost
-returns-clause-cost c =
+pub returns-else-not-is_empty-clause-is : goal.returns-else-not-is_empty-clause-is
+returns-else-not-is_empty-clause-is c =
+    let rest = c.places.rest.now in
+    omega (
+      arith,
+      c.places.invariant.so_far,
+      c.places.invariant.few,
+      ap length (object_over c.args.pattern (bitmap_read c.args.self.now.indexed.triples) rest (eqb-true (length rest) 0 (sym c.is_empty.ensures ∙ c.if-not-is_empty.false))),
+    )
+
+pub returns-after-places-clause-cost : goal.returns-after-places-clause-cost
+returns-after-places-clause-cost c =
     omega (arith, c.places.invariant.cost, c.places_of-rest.ensures.cost, object_count (bitmap_read c.args.self.now.indexed.triples) c.args.object)
 
-pub returns-clause-more : goal.returns-clause-more
-returns-clause-more c = omega (arith, c.places.invariant.more, c.places_of-rest.ensures.more)
+pub returns-else-not-is_empty-clause-cost : goal.returns-else-not-is_empty-clause-cost
+returns-else-not-is_empty-clause-cost c =
+    omega (arith, c.places.invariant.cost, c.places_of-rest.ensures.cost, object_count (bitmap_read c.args.self.now.indexed.triples) c.args.object)

@@ -15,17 +15,17 @@ invariant_of-result c =
     let f = bitmap_read c.args.self.now.indexed.triples in
     let is = sym c.places_of-rest.ensures.is in
     record {
-      given = c.requires;
+      given = c.requires.given;
       among = subst (All (IsPlaceOf f.zs c.args.object)) is (among_places f.zs c.args.object);
       few = subst (λ js. Pays (object_price c.args.object) f c.places_of-rest.new.steps (map (triple_at f) js)) is
-          (object_pays_first f c.args.object c.places_of-rest.new.steps (omega (arith, c.places_of-rest.ensures.cost, c.new-steps.ensures)));
+          (object_pays_first f c.args.object c.places_of-rest.new.steps (omega (arith, c.places_of-rest.ensures.cost, c.requires.few)));
     }
 
 pub returns-clause-items : goal.returns-clause-items
 unfolding left_of
 returns-clause-items c =
     let f = bitmap_read c.args.self.now.indexed.triples in
-    ap (λ js. matches c.args.pattern (map (triple_at f) js)) c.places_of-rest.ensures.is ∙ object_law c.args.pattern f c.args.object c.requires
+    ap (λ js. matches c.args.pattern (map (triple_at f) js)) c.places_of-rest.ensures.is ∙ object_law c.args.pattern f c.args.object c.requires.given
 
 pub returns-clause-fits : goal.returns-clause-fits
 unfolding left_of

@@ -1,9 +1,6 @@
-use Rattle.std.proofs.Common.{arith, length}
-use Rattle.hdt_triples.specs.Views.{bitmap_read}
-use Rattle.hdt_triples.proofs.MatchingLaws.{all_between, count_between}
+use Rattle.std.proofs.Common.{arith}
+use Rattle.hdt_triples.proofs.WalkLaws.{matches_fit}
 use Rattle.hdt_triples.proofs.triples.Triples.matching.Goals as goal
 
-pub returns-in-None-None-None-clause-is : goal.returns-in-None-None-None-clause-is
-returns-in-None-None-None-clause-is c =
-    let f = bitmap_read c.args.self.now in
-    omega (arith, c.len.ensures, count_between f c.args.pattern 0 (length f.zs) (all_between f c.args.pattern c.in-None-None-None.is-0 c.in-None-None-None.is-1 c.in-None-None-None.is-2))
+pub returns-clause-is : goal.returns-clause-is
+returns-clause-is c = omega (arith, c.matching_up_to.ensures.is, matches_fit c.args.pattern c.args.self.now)

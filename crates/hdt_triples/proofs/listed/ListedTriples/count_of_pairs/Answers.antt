@@ -1,21 +1,22 @@
-use Rattle.std.proofs.Common.{◌<◌, ◌*◌, ◌∙◌, ap, arith, drop, length, refl, sym}
+use Rattle.std.proofs.Common.{◌<◌, ◌+◌, ◌∙◌, ap, arith, drop, length, refl, sym}
 use Rattle.std.proofs.lemmas.Bool.{eqb-true, eqb-false}
 use Rattle.std.proofs.lemmas.List.{nil_from_length}
-use Rattle.hdt_triples.specs.Bounds.{jump, of_predicate}
+use Rattle.hdt_triples.specs.Bounds.{of_predicate}
 use Rattle.hdt_triples.specs.Patterns.{matches}
 use Rattle.hdt_triples.specs.Views.{bitmap_read}
 use Rattle.hdt_triples.proofs.ListsLaws.{split_rest}
-use Rattle.hdt_triples.proofs.MatchingLaws.{between_on, pairs_pay_first, pairs_pay_on, predicate_on}
+use Rattle.hdt_triples.proofs.MatchingLaws.{between_on, pairs_paid, pairs_pay_on, predicate_on}
 use Rattle.hdt_triples.proofs.PredicateLaws.{between_first, next_of, predicate_over}
 use Rattle.hdt_triples.proofs.WalkLaws.{from_start, matches_fit}
-use Rattle.hdt_triples.proofs.listed.ListedTriples.count_of_predicate.Goals as goal
+use Rattle.hdt_triples.proofs.listed.ListedTriples.count_of_pairs.Goals as goal
+use Rattle.hdt_triples.proofs.listed.ListedTriples.count_of_pairs.Goals.{then-pairs-test+else-not-is_empty, else-pairs-test}
 
 pub pairs-init : goal.pairs-init
 pairs-init c =
     let f = bitmap_read c.args.self.now.indexed.triples in
     record {
-      so_far = (0, between_first f c.args.predicate c.pairs_of-rest.result.now c.pairs_of-rest.ensures.is, omega (arith, ap (λ ts. length (matches (of_predicate c.args.predicate) ts)) (from_start f)));
-      cost = omega (arith, ap (λ qs. 2 * jump f * length qs) c.pairs_of-rest.ensures.is);
+      so_far = (0, between_first f c.args.predicate c.args.pairs.now c.requires, omega (arith, ap (λ ts. length (matches (of_predicate c.args.predicate) ts)) (from_start f)));
+      cost = (0, omega arith, omega arith, omega arith, omega arith);
       more = omega arith;
     }
 
@@ -24,7 +25,7 @@ edges-at-requires-clause-within c =
     let f = bitmap_read c.args.self.now.indexed.triples in
     let rest = c.pairs.rest.now in
     let at = c.pairs.invariant.so_far in
-    let some : 0 < length rest = omega (arith, eqb-false (length rest) 0 (sym c.is_empty.ensures ∙ c.pairs-test.true)) in
+    let some : 0 < length rest = omega (arith, eqb-false (length rest) 0 (sym c.is_empty.ensures ∙ c.if-not-is_empty.true)) in
     (next_of f c.args.predicate at.0 c.listed-pair.result rest (drop 1 rest) at.1 (split_rest rest (drop 1 rest) c.listed-pair.result some c.listed-pair.ensures.is refl)).within
 
 pub overflow_add-count : goal.overflow_add-count
@@ -34,7 +35,7 @@ overflow_add-count c =
     let f = bitmap_read t in
     let rest = c.pairs.rest.now in
     let at = c.pairs.invariant.so_far in
-    let some : 0 < length rest = omega (arith, eqb-false (length rest) 0 (sym c.is_empty.ensures ∙ c.pairs-test.true)) in
+    let some : 0 < length rest = omega (arith, eqb-false (length rest) 0 (sym c.is_empty.ensures ∙ c.if-not-is_empty.true)) in
     let e = c.edges-at.ensures.are in
     omega (
       arith,
@@ -53,13 +54,15 @@ pairs-preserved c =
     let rest = c.pairs.rest.now in
     let qs = c.split_at.result.1.now in
     let at = c.pairs.invariant.so_far in
-    let some : 0 < length rest = omega (arith, eqb-false (length rest) 0 (sym c.is_empty.ensures ∙ c.pairs-test.true)) in
+    let some : 0 < length rest = omega (arith, eqb-false (length rest) 0 (sym c.is_empty.ensures ∙ c.if-not-is_empty.true)) in
     let split = split_rest rest qs q some c.listed-pair.ensures.is c.split_at.ensures.back in
     let e = c.edges-at.ensures.are in
     let r = c.edges-at.result in
     record {
       so_far = (r.1, between_on f c.args.predicate at.0 q r.0 r.1 rest qs at.1 split e, omega (arith, e.some, at.2, predicate_on f c.args.predicate at.0 q r.0 r.1 rest qs t.fit.marked at.1 split e));
-      cost = pairs_pay_on f q c.pairs.steps c.edges-at.new.steps _ rest qs split (omega (arith, c.listed-pair.ensures.cost, c.edges-at.ensures.cost)) c.pairs.invariant.cost;
+      cost =
+          let k = c.pairs.invariant.cost in
+          (k.0 + 1, omega (arith, k.1, ap length split), omega (arith, k.2, e.some), omega (arith, k.2, c.pairs-test.true), pairs_pay_on f k.0 c.args.steps.now c.pairs.steps c.edges-at.new.steps (omega (arith, c.listed-pair.ensures.cost, c.edges-at.ensures.cost)) k.4);
       more = omega (arith, c.pairs.invariant.more, c.listed-pair.ensures.cost, c.edges-at.ensures.more);
     }
 
@@ -69,12 +72,14 @@ returns-clause-is c =
     let t = c.args.self.now.indexed.triples in
     let rest = c.pairs.rest.now in
     let at = c.pairs.invariant.so_far in
-    omega (arith, at.2, ap length (predicate_over (bitmap_read t) c.args.predicate at.0 rest t.fit.marked at.1 (nil_from_length rest (eqb-true (length rest) 0 (sym c.is_empty.ensures ∙ c.pairs-test.false)))))
+    elim c.pairs-test.branch [
+      | then-pairs-test+else-not-is_empty w ↦
+          let none = predicate_over (bitmap_read t) c.args.predicate at.0 rest t.fit.marked at.1 (nil_from_length rest (eqb-true (length rest) 0 (sym w.is_empty.ensures ∙ w.if-not-is_empty.false))) in
+          omega (arith, c.min.ensures, at.2, ap length none)
+      | else-pairs-test w ↦ omega (arith, c.min.ensures, at.2, w.pairs-test.false)
+    ]
 
 pub returns-clause-cost : goal.returns-clause-cost
 returns-clause-cost c =
-    let f = bitmap_read c.args.self.now.indexed.triples in
-    pairs_pay_first f _ (length c.pairs.rest.now) _ c.pairs_of-rest.new.steps c.pairs.steps (omega (arith, c.pairs_of-rest.ensures.cost)) c.pairs.invariant.cost
-
-pub returns-clause-more : goal.returns-clause-more
-returns-clause-more c = omega (arith, c.pairs.invariant.more, c.pairs_of-rest.ensures.more)
+    let k = c.pairs.invariant.cost in
+    pairs_paid (bitmap_read c.args.self.now.indexed.triples) k.0 (length c.pairs.rest.now) (length c.args.pairs.now) c.args.most c.args.steps.now c.pairs.steps k.1 k.3 k.4

@@ -1,0 +1,75 @@
+-- Counting in an ascending list of places.
+use Rattle.std.proofs.Common.{◌≡◌, ℕ, ◌+◌, ◌-◌, ◌<◌, ◌≤◌, ◌==◌, zero, suc, List, [], ◌∷◌, length, filter, map, slice_index, refl, ap, sym, subst, arith, Bool, true, false, cond}
+use Rattle.std.specs.List.{range_with_len}
+use Rattle.std.specs.List.Sorted.{IsStrictlyIncreasing}
+use Rattle.std.proofs.lemmas.List.FromFn.{length-range_with_len, get_or-range_with_len}
+use Rattle.std.proofs.lemmas.List.Kept.{AllPairs-from_increasing, IsStrictlyIncreasing-filter}
+use Rattle.hdt_triples.specs.declared.pattern.Pattern.{Pattern}
+use Rattle.hdt_triples.specs.Counting.{BitmapTriples, triple_at}
+use Rattle.hdt_triples.specs.Lists.{places_of, IsPlaceOf}
+use Rattle.hdt_triples.specs.Patterns.{agrees, matches}
+use Rattle.hdt_triples.proofs.ObjectLaws.{among_places}
+
+-- those that are kept stand together, from `low` on and before `high`
+pub record Holds (js : List ℕ) (keep : ℕ → Bool) (low high : ℕ) : Type 0 where
+  pub ordered : low ≤ high
+  pub within : high ≤ length js
+  pub before : (i : ℕ) → i < low → keep (slice_index js i) ≡ false
+  pub inside : (i : ℕ) → low ≤ i → i < high → keep (slice_index js i) ≡ true
+  pub over : (i : ℕ) → high ≤ i → i < length js → keep (slice_index js i) ≡ false
+
+behind : (j : ℕ) (js : List ℕ) (keep : ℕ → Bool) (low high l h : ℕ) → l ≡ low - 1 → h ≡ high - 1 → Holds (j ∷ js) keep low high → Holds js keep l h
+behind j js keep low high l h low_is high_is holds = record {
+  ordered = omega (arith, low_is, high_is, holds.ordered);
+  within = omega (arith, high_is, holds.within);
+  before = λ i b. holds.before (suc i) (omega (arith, low_is, b));
+  inside = λ i a b. holds.inside (suc i) (omega (arith, low_is, a)) (omega (arith, high_is, b));
+  over = λ i a b. holds.over (suc i) (omega (arith, high_is, a)) (omega (arith, b));
+}
+
+-- what is kept of the first and of the rest
+first_kept : (j : ℕ) (js : List ℕ) (keep : ℕ → Bool) (b : Bool) → keep j ≡ b → length (filter keep (j ∷ js)) ≡ cond b 1 0 + length (filter keep js)
+first_kept j js keep true is = omega (arith, ap (λ b. length (cond b (j ∷ filter keep js) (filter keep js))) is)
+first_kept j js keep false is = omega (arith, ap (λ b. length (cond b (j ∷ filter keep js) (filter keep js))) is)
+
+-- so many are kept
+pub part_count : (js : List ℕ) (keep : ℕ → Bool) (low high : ℕ) → Holds js keep low high → length (filter keep js) + low ≡ high
+part_count [] keep low high h = omega (arith, h.ordered, h.within)
+part_count (j ∷ js) keep low zero h =
+    omega (arith, h.ordered, first_kept j js keep false (h.over 0 (omega arith) (omega arith)), part_count js keep 0 0 (behind j js keep low zero 0 0 (omega (arith, h.ordered)) refl h))
+part_count (j ∷ js) keep zero (suc high) h =
+    omega (arith, first_kept j js keep true (h.inside 0 (omega arith) (omega arith)), part_count js keep 0 high (behind j js keep zero (suc high) 0 high refl (omega arith) h))
+part_count (j ∷ js) keep (suc low) (suc high) h =
+    omega (arith, first_kept j js keep false (h.before 0 (omega arith)), part_count js keep low high (behind j js keep (suc low) (suc high) low high (omega arith) (omega arith) h))
+
+range_rises : (a n : ℕ) → IsStrictlyIncreasing (range_with_len a n)
+range_rises a n k h =
+    let within : k + 1 < n = omega (arith, h, length-range_with_len a n) in
+    omega (arith, get_or-range_with_len a n k 0 (omega (arith, within)), get_or-range_with_len a n (k + 1) 0 within)
+
+-- the places of a key ascend
+places_ascend : (xs : List ℕ) (k i j : ℕ) → i < j → j < length (places_of xs k) → slice_index (places_of xs k) i < slice_index (places_of xs k) j
+places_ascend xs k i j less within =
+    AllPairs-from_increasing (places_of xs k) (IsStrictlyIncreasing-filter (λ i. slice_index xs i == k) (range_with_len 0 (length xs)) (range_rises 0 (length xs))) i j 0 less within
+
+pub list_ascends : (xs js : List ℕ) (k : ℕ) → js ≡ places_of xs k → (i j : ℕ) → i < j → j < length js → slice_index js i < slice_index js j
+list_ascends xs js k is = subst (λ (l : List ℕ). (i j : ℕ) → i < j → j < length l → slice_index l i < slice_index l j) (sym is) (places_ascend xs k)
+
+-- each of them is one
+pub held_at : (xs js : List ℕ) (k i : ℕ) → js ≡ places_of xs k → i < length js → IsPlaceOf xs k (slice_index js i)
+held_at xs js k i is h =
+    subst (λ (l : List ℕ). IsPlaceOf xs k (slice_index l i)) (sym is) (among_places xs k i 0 (omega (arith, h, ap length is)))
+
+-- matches at places are the places whose triples match
+mapped_by : (p : Pattern) (f : BitmapTriples) (j : ℕ) (js : List ℕ) (b : Bool) → agrees p (triple_at f j) ≡ b
+    → length (filter (agrees p) (map (triple_at f) js)) ≡ length (filter (λ j. agrees p (triple_at f j)) js)
+    → length (filter (agrees p) (map (triple_at f) (j ∷ js))) ≡ length (filter (λ j. agrees p (triple_at f j)) (j ∷ js))
+mapped_by p f j js true is rest =
+    omega (arith, rest, first_kept j js (λ j. agrees p (triple_at f j)) true is, ap (λ b. length (cond b (triple_at f j ∷ filter (agrees p) (map (triple_at f) js)) (filter (agrees p) (map (triple_at f) js)))) is)
+mapped_by p f j js false is rest =
+    omega (arith, rest, first_kept j js (λ j. agrees p (triple_at f j)) false is, ap (λ b. length (cond b (triple_at f j ∷ filter (agrees p) (map (triple_at f) js)) (filter (agrees p) (map (triple_at f) js)))) is)
+
+pub matches_mapped : (p : Pattern) (f : BitmapTriples) (js : List ℕ) → length (matches p (map (triple_at f) js)) ≡ length (filter (λ j. agrees p (triple_at f j)) js)
+unfolding matches
+matches_mapped p f [] = refl
+matches_mapped p f (j ∷ js) = mapped_by p f j js (agrees p (triple_at f j)) refl (matches_mapped p f js)
