@@ -164,7 +164,8 @@ def test_predicate_that_is_kept(tmp_path: Path) -> None:
         line = b"<u:a> <u:p%06d> <u:o> .\n\n<u:b> <u:p000000> <u:o> .\n\n" % (2_304 * scale)
         taken = []
         for asked in (0, 2_000):
-            result, one = timed([PROGRAM, "answer", tmp_path / f"{scale}.hdt"], stdin=b"<u:a> ? ?\n<u:b> ? ?\n" * asked)
+            requests = b"<u:a> ? ?\n<u:b> ? ?\n" * asked
+            result, one = timed([PROGRAM, "answer", tmp_path / f"{scale}.hdt"], stdin=requests)
             assert abridged(result) == abridged(Result(0, line * asked, b""))
             taken.append(one)
         return taken[1] - taken[0]

@@ -151,12 +151,13 @@ def test_lines_take_no_new_memory(line: bytes, meter: Meter) -> None:
     """A line is read into the memory of the line before: lines that are no requests take no allocation of their own."""
     few, more = (meter.run([PROGRAM, "answer", THREE], stdin=line * count) for count in (2, 200))
     assert (few.result, more.result) == (done(), done())
-    assert more.count == few.count
+    assert more.allocations == few.allocations
 
 
 def test_answers_are_written_as_they_come(meter: Meter, objects: Path) -> None:
     """Many requests that come together take the memory of one answer and 64 KiB: what is more is written before."""
-    few, more = (meter.run([PROGRAM, "answer", "--most", "500", objects], stdin=b"? ? ?\n" * count) for count in (3, 150))
+    command: list[Word] = [PROGRAM, "answer", "--most", "500", objects]
+    few, more = (meter.run(command, stdin=b"? ? ?\n" * count) for count in (3, 150))
     assert brief(more.result) == brief(done(few.result.out * 50))
     assert more.most <= few.most + FIXED
 
@@ -164,9 +165,9 @@ def test_answers_are_written_as_they_come(meter: Meter, objects: Path) -> None:
 def test_room_of_a_long_answer_is_given_back(meter: Meter, objects: Path) -> None:
     """What a long answer took is there for a long request after it."""
     answer, request = b"? ? ?\n", b'? ? "' + b"x" * 1_000_000 + b'"\n'
-    after, before, both = (meter.run([PROGRAM, "answer", objects], stdin=it) for it in (answer, request, answer + request))
-    assert brief(both.result) == brief(done(after.result.out + before.result.out))
-    assert both.most <= max(after.most, before.most) + FIXED
+    one, other, both = (meter.run([PROGRAM, "answer", objects], stdin=it) for it in (answer, request, answer + request))
+    assert brief(both.result) == brief(done(one.result.out + other.result.out))
+    assert both.most <= max(one.most, other.most) + FIXED
 
 
 def test_directories_take_8_bytes_for_512_marks(meter: Meter, tmp_path: Path) -> None:
@@ -187,7 +188,7 @@ def arena(meter: Meter, *arguments: Argument) -> int:
     request = line_of(["arena", *arguments, *(b"x" * 100 for _ in range(20))])
     measured = meter.run([BUILT / "hdt_probe_parts"], stdin=request.encode() + b"\n")
     assert measured.result.out.startswith(b"ok 20 ")
-    return measured.count
+    return measured.allocations
 
 
 def test_room_of_an_arena_is_allocated_at_once(meter: Meter) -> None:

@@ -20,7 +20,7 @@ class Measured(NamedTuple):
     """How a program ended, how many allocations it made, and in bytes the most that it held and the largest one."""
 
     result: Result
-    count: int
+    allocations: int
     most: int
     largest: int
 
@@ -35,7 +35,11 @@ class Meter:
     def run(self, command: Sequence[Word], *, stdin: bytes = b"") -> Measured:
         """Run a command that reads these bytes from a pipe."""
         self.log.unlink(missing_ok=True)
-        done = subprocess.run([os.fsencode(word) for word in command], input=stdin, capture_output=True,
-                              timeout=SECONDS, env={**os.environ, "LD_PRELOAD": os.fspath(self.library),
-                                                    "MEASURE_LOG": os.fspath(self.log)})
+        done = subprocess.run(
+            [os.fsencode(word) for word in command],
+            input=stdin,
+            capture_output=True,
+            timeout=SECONDS,
+            env={**os.environ, "LD_PRELOAD": os.fspath(self.library), "MEASURE_LOG": os.fspath(self.log)},
+        )
         return Measured(Result(done.returncode, done.stdout, done.stderr), *struct.unpack("=3q", self.log.read_bytes()))
