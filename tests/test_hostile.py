@@ -149,8 +149,8 @@ def test_answers_at_the_start_of_a_huge_block(tmp_path: Path) -> None:
 def test_predicate_that_is_kept(tmp_path: Path) -> None:
     """The term of a predicate that is met first is kept, also where another one that has its place is asked for.
 
-    It stands at the end of a huge block, and the other one at its start: so 4,000 requests take at most some four times as
-    long in a file of sixteen times the size, without opening it.
+    It stands at the end of a huge block, and the other one at its start: so 4,000 requests take at most some four times
+    as long in a file of sixteen times the size, without opening it.
     """
     for scale in SCALES:
         last = 2_304 * scale
