@@ -2,6 +2,7 @@
 
 from __future__ import annotations
 
+import os
 import subprocess
 from collections.abc import Callable, Sequence
 from itertools import accumulate, pairwise
@@ -175,6 +176,30 @@ def test_answers_one_by_one() -> None:
         program.stdin.close()
         assert program.stdout.read() == FIRST + b"\n"
         assert program.wait(60) == 1
+
+
+@pytest.mark.parametrize("change", ["cut", "overwritten", "replaced", "removed"])
+def test_file_that_changes_meanwhile(change: str, tmp_path: Path) -> None:
+    """The file is read once, before the first answer: what is done to it then changes no answer."""
+    path, other = tmp_path / "three.hdt", tmp_path / "other"
+    path.write_bytes(THREE.read_bytes())
+    other.write_bytes(bytes(1_000))
+    with subprocess.Popen([PROGRAM, "answer", path], bufsize=0, stdin=subprocess.PIPE,
+                          stdout=subprocess.PIPE) as program:
+        assert program.stdin is not None and program.stdout is not None
+        program.stdin.write(b"? ? <u:b>\n")
+        assert line_of(program.stdout) + line_of(program.stdout) == FIRST + b"\n"
+        if change == "cut":
+            os.truncate(path, 10)
+        elif change == "overwritten":
+            path.write_bytes(bytes(path.stat().st_size))
+        elif change == "replaced":
+            other.replace(path)
+        else:
+            path.unlink()
+        program.stdin.write(b"? <u:p> ?\n")
+        program.stdin.close()
+        assert (program.stdout.read(), program.wait(60)) == (FIRST + THIRD + b"\n", 0)
 
 
 # ---- what stops the answers

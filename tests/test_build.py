@@ -224,6 +224,19 @@ def test_strings_found_again(tmp_path: Path, k: int, length: int, room: int) -> 
     assert in_memory(room, "build", source, out) == OUT_OF_MEMORY
 
 
+def test_more_than_a_million_strings(tmp_path: Path) -> None:
+    """1,050,000 strings, each used once: built, verified, and found past 2^20 strings."""
+    count = 350_000
+    source, out = tmp_path / "many.nt", tmp_path / "many.hdt"
+    source.write_bytes(numbered_lines(range(count), b"u:"))
+    built = b"built %d 0 %d %d %d " % (count, count, count, count)
+    status, report, error = hdt("build", source, out)
+    assert (status, report, error) == (0, built + b"%d\n" % out.stat().st_size, b"")
+    assert hdt("verify", "--tight", out) == Result(0, b"ok" + built[5:-1] + b"\n", b"")
+    last = numbered_lines([count - 1], b"u:")
+    assert hdt("find", out, *last.split()[:3]) == Result(0, last, b"")
+
+
 # Strings of 32 bytes that begin so have one hash: their third eight bytes undo what the hash made of those before, and
 # nothing that follows counts.
 COLLIDING = b"u:one-hash166742jByz7XnI/"

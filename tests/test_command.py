@@ -19,8 +19,8 @@ from hypothesis import strategies as st
 from reference import hdt as reference
 from support.built import PROGRAM, SAMPLES, TOP
 from support.probe import Answer, Argument, Probe, Request
-from support.program import (BAD_OPTIONS, NO_SUCH_NUMBER, WRITING_FAILED, Result, Word, brief, done, failed, fault,
-                             hdt, hdt_into, piped, run)
+from support.program import (BAD_OPTIONS, NO_SUCH_NUMBER, READING_FAILED, WRITING_FAILED, Result, Word, brief, done,
+                             failed, fault, hdt, hdt_from, hdt_into, piped, run)
 
 V1 = (SAMPLES / "v1.hdt").read_bytes()
 THREE = (SAMPLES / "three.hdt").read_bytes()
@@ -339,6 +339,22 @@ def shown(words: list[Word]) -> str:
 def test_usage(words: list[Word], text: bytes) -> None:
     """Each wrong command line has this text."""
     assert hdt(*words) == usage(text)
+
+
+def test_file_whose_name_is_not_utf8(tmp_path: Path) -> None:
+    """It is read by standard input, or another descriptor, and written by standard output; `-` is a name."""
+    names = [os.fsencode(tmp_path) + b"/\xff", os.fsencode(tmp_path) + b"/\xfe"]
+    document, file = (Path(os.fsdecode(name)) for name in names)
+    document.write_bytes((SAMPLES / "three.nt").read_bytes())
+    shell: list[Word] = ["sh", "-c", 'exec "$0" build /dev/stdin /dev/stdout <"$1" >"$2"', PROGRAM, document, file]
+    assert run(shell) == done()._replace(err=b"built 3 2 0 2 1 491\n")
+    assert hdt_from(file, "verify", "/dev/stdin") == done(b"ok 3 2 0 2 1\n")
+    for number in (0, 3, 9):
+        read = f'exec "$0" verify /proc/self/fd/{number} {number}<"$1"'
+        assert run(["sh", "-c", read, PROGRAM, file]) == done(b"ok 3 2 0 2 1\n")
+    assert hdt_from(file, "verify", "-") == READING_FAILED
+    (tmp_path / "-").write_bytes(file.read_bytes())
+    assert hdt("verify", "-", cwd=tmp_path) == done(b"ok 3 2 0 2 1\n")
 
 
 # Command lines with a word that is not a term, and the line of each. They are refused before the file is opened.

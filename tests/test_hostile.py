@@ -144,3 +144,30 @@ def test_answers_at_the_start_of_a_huge_block(tmp_path: Path) -> None:
         return taken[1] - taken[0]
 
     check_linear(seconds, 4, 0.02)
+
+
+def test_predicate_that_is_kept(tmp_path: Path) -> None:
+    """The term of a predicate that is met first is kept, also where another one that has its place is asked for.
+
+    It stands at the end of a huge block, and the other one at its start: so 4,000 requests take at most some four times
+    as long in a file of sixteen times the size, without opening it.
+    """
+    for scale in SCALES:
+        last = 2_304 * scale
+        rows = [b"<u:a> <u:p%06d> <u:o> .\n" % last, b"<u:b> <u:p000000> <u:o> .\n"]
+        rows += [b"<u:c> <u:p%06d> <u:o> .\n" % i for i in range(last + 1)]
+        (tmp_path / "many.nt").write_bytes(b"".join(rows))
+        out = tmp_path / f"{scale}.hdt"
+        assert hdt("build", "--block-size", "65535", tmp_path / "many.nt", out).status == 0
+
+    def seconds(scale: int) -> float:
+        line = b"<u:a> <u:p%06d> <u:o> .\n\n<u:b> <u:p000000> <u:o> .\n\n" % (2_304 * scale)
+        taken = []
+        for asked in (0, 2_000):
+            requests = b"<u:a> ? ?\n<u:b> ? ?\n" * asked
+            result, one = timed([PROGRAM, "answer", tmp_path / f"{scale}.hdt"], stdin=requests)
+            assert abridged(result) == abridged(Result(0, line * asked, b""))
+            taken.append(one)
+        return taken[1] - taken[0]
+
+    check_linear(seconds, 4, 0.02)

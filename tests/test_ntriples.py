@@ -485,14 +485,21 @@ def test_held_lines(probe: Probe, data: bytes, step: int, held: str) -> None:
     assert answer == texts_answer(data, 1_000_000, step, None)
 
 
-@pytest.mark.parametrize("step", [1_000, 1_000_000])
-def test_large_texts(probe: Probe, step: int) -> None:
-    """A line of 140,000 bytes between others."""
-    data = b"a\n" + LARGE + b"\nc"
-    answer = probe.on(data, "line_texts", 1_000_000, step, "-")
+@pytest.mark.parametrize("length, step", [(140_000, 1_000), (140_000, 1_000_000), (1_100_000, ALL)])
+def test_large_texts(probe: Probe, length: int, step: int) -> None:
+    """A line of 140,000 bytes, or of more than a mebibyte, between others."""
+    data = b"a\n" + b"b" * length + b"\nc"
+    answer = probe.on(data, "line_texts", ALL, step, "-")
     seen = [token for at, token in enumerate(answer[1:]) if at % 3 != 2]
-    assert seen[3] == LARGE.hex()
+    assert seen[3] == (b"b" * length).hex()
     assert seen[:3] + seen[4:] == ["1", b"a".hex(), "2", "3", b"c".hex(), "end"]
+
+
+@pytest.mark.parametrize("length, most", [(1_000, 2), (100_000, 3), (1_000_000, 6)])
+def test_reads_of_a_long_line(probe: Probe, length: int, most: int) -> None:
+    """A long line takes few reads, as each asks for what the buffer has room for, and that doubles where it is full."""
+    assert probe.on(b"b" * length, "line_texts", ALL, ALL, "-")[2] == (b"b" * length).hex()
+    assert int(probe.ask("reads")[1]) <= most
 
 
 def test_many_texts(probe: Probe) -> None:

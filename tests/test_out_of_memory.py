@@ -155,6 +155,14 @@ def test_commands(name: str, refuser: Refuser, folder: Path) -> None:
     check_refused(refuser, words, unchanged, folder)
 
 
+@pytest.mark.parametrize("subject", ["u:a", "u:b"])
+def test_search_without_directories(subject: str, refuser: Refuser) -> None:
+    """A search with a subject walks where memory is refused for one of the two directories: its answer is whole."""
+    refusals = refuser.run([PROGRAM, "find", "--raw", THREE, subject, "?", "?"])
+    assert refusals.ample.status == 0
+    assert [result for result, _ in refusals.refused].count(refusals.ample) == 2
+
+
 @pytest.mark.parametrize("words", HELP, ids=lambda words: " ".join(map(str, words)))
 def test_help(words: list[Word], refuser: Refuser, folder: Path) -> None:
     """So does a command line that asks for help."""

@@ -792,6 +792,18 @@ def test_long_strings(tmp_path: Path) -> None:
         assert graph.header.count(base.encode()) == 2
 
 
+def test_file_past_four_gibibytes(tmp_path: Path) -> None:
+    """A file of more than 2^32 bytes is opened and searched: its header body is a hole that takes no disk."""
+    path, data, length = tmp_path / "huge.hdt", THREE.read_bytes(), (1 << 32) + 5
+    with open(path, "wb") as out:
+        out.write(reference.write_control(reference.GLOBAL))
+        out.write(reference.write_control(reference.HEADER, b"length=%d;" % length))
+        out.seek(length, os.SEEK_CUR)
+        out.write(data[reference.read_head(data)[1]:])
+    with hdt.open(path) as graph:
+        assert list(graph) == [("u:a", "u:p", "u:b"), ("u:a", "u:q", '"x"'), ("u:b", "u:p", "u:a")]
+
+
 # ---- random graphs
 
 
