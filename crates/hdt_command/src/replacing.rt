@@ -85,26 +85,31 @@ fn create_new(rt: &HostRuntime, mode: u32) -> io::Result<(File, String)> {
     Err(io::Error::from(ErrorKind::AlreadyExists))
 }
 
-/// The permissions that a file for everyone gets in this folder. The system tells them of an empty one, which is removed.
-fn usual_permissions(rt: &HostRuntime) -> io::Result<Permissions> {
+/// The permissions of the file of this name, if one is there.
+fn permissions_of(rt: &HostRuntime, name: &str) -> io::Result<Option<Permissions>> {
+    match fs::metadata(rt, name) {
+        Ok(there) => Ok(Some(there.permissions())),
+        Err(error) if error.kind() == ErrorKind::NotFound => Ok(None),
+        Err(error) => Err(error),
+    }
+}
+
+/// The permissions of the file of this name; where there is none, those that a file for everyone gets in this folder, which the
+/// system tells of an empty one. That is removed.
+fn usual_permissions(rt: &HostRuntime, name: &str) -> io::Result<Permissions> {
+    if let Some(permissions) = permissions_of(rt, name)? {
+        return Ok(permissions);
+    }
     let (empty, name) = create_new(rt, PUBLIC)?;
     let metadata = empty.metadata();
     fs::remove_file(rt, name.as_str())?;
     Ok(metadata?.permissions())
 }
 
-/// The permissions of the file that is to be replaced, or where there is none the usual ones.
-fn permissions_for(rt: &HostRuntime, name: &str) -> io::Result<Permissions> {
-    match fs::metadata(rt, name) {
-        Ok(replaced) => Ok(replaced.permissions()),
-        Err(error) if error.kind() == ErrorKind::NotFound => usual_permissions(rt),
-        Err(error) => Err(error),
-    }
-}
-
-/// Lets those read and write a new file who may do so with the file of this name, which it is to replace.
-fn permit(rt: &HostRuntime, file: &File, name: &str) -> io::Result<()> {
-    let permissions = permissions_for(rt, name)?;
+/// Lets those read and write a new file who may do so with the file of this name, which it is to replace, or as is usual where
+/// there is none.
+fn permit(rt: &HostRuntime, file: &File, name: &str, usual: Permissions) -> io::Result<()> {
+    let permissions = permissions_of(rt, name)?.unwrap_or(usual);
     if file.metadata()?.permissions() == permissions {
         return Ok(());
     }
@@ -133,13 +138,14 @@ fn fill_and_rename(
     file: File,
     new: &str,
     name: &str,
+    usual: Permissions,
     built: &[u8],
 ) -> Result<(), ToolFault>
     ensures fault { IfErr result (IsUnfilled built.now) }
 {
     let file = apart(file).map_err(|error| file_fault(&error, ToolFault::Write(0)))?;
     let whole = filled(file, built)?;
-    let permitted = permit(rt, &whole, name);
+    let permitted = permit(rt, &whole, name, usual);
     permitted.map_err(|error| file_fault(&error, ToolFault::Write(built.len() as u64)))?;
     fs::rename(rt, new, name).map_err(|_| ToolFault::Write(built.len() as u64))
 }
@@ -153,6 +159,15 @@ fn parts_of(path: &str) -> (&str, &str) {
     }
 }
 
+/// Goes into a folder, and creates a new file there, to take the place of the one of this name: the permissions that it gets
+/// where none is there in the end, the file, and its own name.
+fn begin(rt: &HostRuntime, folder: &str, name: &str) -> io::Result<(Permissions, File, String)> {
+    env::set_current_dir(rt, folder)?;
+    let usual = usual_permissions(rt, name)?;
+    let (file, new) = create_new(rt, PRIVATE)?;
+    Ok((usual, file, new))
+}
+
 /// Puts a file with what was made at a path, in place of a regular file that is there, with its permissions: at a fault that
 /// file is what it was, and the new one is removed. The process goes into the folder, so that a path as long as the system takes
 /// leaves room for the name of the new file. (No clause can say what the file system then has: tests check it.)
@@ -161,11 +176,9 @@ pub fn replace(rt: &HostRuntime, path: &PathBuf, built: &[u8]) -> Result<(), Too
     ensures fault { IfErr result (IsUnfilled built.now) }
 {
     let (folder, name) = parts_of(path.as_str());
-    let entered = env::set_current_dir(rt, folder);
-    entered.map_err(|error| file_fault(&error, ToolFault::Write(0)))?;
-    let created = create_new(rt, PRIVATE);
-    let (file, new) = created.map_err(|error| file_fault(&error, ToolFault::Write(0)))?;
-    let outcome = fill_and_rename(rt, file, new.as_str(), name, built);
+    let begun = begin(rt, folder, name);
+    let (usual, file, new) = begun.map_err(|error| file_fault(&error, ToolFault::Write(0)))?;
+    let outcome = fill_and_rename(rt, file, new.as_str(), name, usual, built);
     if outcome.is_err() {
         let _ = fs::remove_file(rt, new.as_str());
     }
