@@ -255,9 +255,10 @@ def test_help_into_a_full_disk(words: tuple[str, ...]) -> None:
 STATUSES = """Exit status:
   0  done
   1  the input has a fault, whose reason and place are told, or no triples, a look-up has no
-     answer, or a string that N-Triples are to show is no term
-  2  the command line is wrong
-  3  reading or writing failed
+     answer, or a string that N-Triples are to show is no term; or a request of `answer` had
+     a fault
+  2  the command line is wrong, or `build` is to write over its input
+  3  reading or writing failed, also where the reader of a pipe has gone
   4  out of memory
 """
 

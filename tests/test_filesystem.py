@@ -1,8 +1,11 @@
-"""Where the program reads and writes: paths, kinds of files, closed descriptors, limits, full disks, ends midway."""
+"""Where the program reads and writes: paths, kinds of files, standard streams, limits, full disks, ends midway."""
 
 from __future__ import annotations
 
+import fcntl
+import itertools
 import os
+import re
 import shutil
 import signal
 import socket
@@ -11,7 +14,7 @@ import tempfile
 import time
 from collections.abc import Iterator
 from pathlib import Path
-from typing import NamedTuple
+from typing import Callable, NamedTuple
 
 import pytest
 
@@ -22,12 +25,16 @@ from support.refusing import preloaded
 THREE = SAMPLES / "three.nt"
 READING_FAILED = Result(3, b"", b"hdt: reading failed\n")
 WRITING_FAILED = Result(3, b"", b"hdt: writing failed\n")
+ONE_FILE = Result(2, b"", b"error: IN and OUT are the same file\n\nFor more information, try '--help'.\n")
+as_root = pytest.mark.skipif(os.geteuid() != 0, reason="only root may be another user")
 # The commands that make a file.
 MAKERS = ("build", "rewrite")
 # Paths of the standard output.
 OUTPUTS = ("/dev/stdout", "/dev/fd/1", "/proc/self/fd/1")
-# A file that is being written, beside OUT.
-UNFINISHED = "hdt-unfinished-0"
+# The name of a file that is being written, beside OUT.
+UNFINISHED = re.compile(r"hdt-unfinished-[0-9a-f]{16}")
+# What a program of an older version left there.
+LEFT = "hdt-unfinished-0"
 
 
 class Made(NamedTuple):
@@ -352,8 +359,8 @@ def test_a_limit_on_files(command: str, size: int | None, ignored: bool, limited
     elif ignored:
         assert (answer, after) == (WRITING_FAILED, {"out.hdt": b"before"})
     else:
-        begun = {"out.hdt": b"before", UNFINISHED: file[:limit]}
-        assert (answer, after) == (Result(-signal.SIGXFSZ, b"", b""), begun)
+        assert (answer, after.pop("out.hdt")) == (Result(-signal.SIGXFSZ, b"", b""), b"before")
+        assert list(after.values()) == [file[:limit]] and UNFINISHED.fullmatch(next(iter(after)))
 
 
 @pytest.mark.parametrize("command", MAKERS)
@@ -364,7 +371,8 @@ def test_ulimit(command: str, limited: dict[str, Limited], tmp_path: Path) -> No
     out.write_bytes(file)
     answer = shell('ulimit -f 1; exec "$0" "$@"', *words, out)
     assert (answer, out.read_bytes()) == (Result(-signal.SIGXFSZ, b"", b""), file)
-    assert names(tmp_path) == [UNFINISHED, "out.hdt"]
+    left, other = names(tmp_path)
+    assert UNFINISHED.fullmatch(left) and other == "out.hdt"
 
 
 def test_the_help_names_the_signal() -> None:
@@ -388,7 +396,7 @@ def replaced(tmp_path: Path) -> Path:
     (tmp_path / "out.hdt").write_bytes(b"x" * 1_000_000)
     (tmp_path / "out.hdt").chmod(0o640)
     (tmp_path / "link.hdt").symlink_to("out.hdt")
-    (tmp_path / UNFINISHED).write_bytes(b"left")
+    (tmp_path / LEFT).write_bytes(b"left")
     return tmp_path
 
 
@@ -396,7 +404,7 @@ def replaced(tmp_path: Path) -> Path:
 def test_an_output_is_replaced(name: str, replaced: Path) -> None:
     """OUT becomes a new file with the same permissions: a program that reads the old one goes on. Nothing is left."""
     out = replaced / "out.hdt"
-    before, expected = out.stat(), [UNFINISHED, "link.hdt", "out.hdt"]
+    before, expected = out.stat(), [LEFT, "link.hdt", "out.hdt"]
     with open(out, "rb") as old:
         assert build(replaced / name) == BUILT
         assert old.read() == b"x" * 1_000_000
@@ -404,7 +412,7 @@ def test_an_output_is_replaced(name: str, replaced: Path) -> None:
     assert out.read_bytes() == (SAMPLES / "three.hdt").read_bytes()
     assert (after.st_ino != before.st_ino, after.st_mode) == (True, before.st_mode)
     assert (replaced / "link.hdt").is_symlink() and names(replaced) == expected
-    assert (replaced / UNFINISHED).read_bytes() == b"left"
+    assert (replaced / LEFT).read_bytes() == b"left"
 
 
 def test_an_input_is_replaced(replaced: Path) -> None:
@@ -444,21 +452,129 @@ def test_an_empty_path(tmp_path: Path) -> None:
     assert names(tmp_path) == []
 
 
+def test_a_new_file_without_proc(tmp_path: Path) -> None:
+    """The same where the system shows no processes."""
+    namespace = mounts()
+    script = 'umask 027; mount -t tmpfs tmpfs /proc; exec "$0" build --base http://a/ "$@"'
+    assert run([*namespace, "sh", "-c", script, PROGRAM, THREE, tmp_path / "new.hdt"]) == BUILT
+    assert ((tmp_path / "new.hdt").stat().st_mode & 0o777, names(tmp_path)) == (0o640, ["new.hdt"])
+
+
+@pytest.mark.parametrize("mode", [0o600, 0o640, 0o644, 0o666, 0o400, 0o000])
+def test_permissions_are_kept(mode: int, tmp_path: Path) -> None:
+    """OUT keeps its permissions, whatever the process's mask."""
+    out = tmp_path / "out.hdt"
+    out.write_bytes(b"before")
+    out.chmod(mode)
+    assert shell('umask 077; exec "$0" build --base http://a/ "$@"', THREE, out) == BUILT
+    assert (out.stat().st_mode & 0o7777, names(tmp_path)) == (mode, ["out.hdt"])
+
+
+def test_many_leftovers(tmp_path: Path) -> None:
+    """What others put into the folder blocks no build, and stays."""
+    for number in range(1_000):
+        (tmp_path / f"hdt-unfinished-{number}").write_bytes(b"left")
+    assert build(tmp_path / "out.hdt") == BUILT
+    assert len(names(tmp_path)) == 1_001
+
+
+@pytest.fixture
+def long_path(tmp_path: Path) -> Path:
+    """A path of 4,095 bytes, the longest that the system takes, in folders that are there."""
+    folder = os.fspath(tmp_path)
+    while len(folder) < 4_093 - 200:
+        folder += "/" + "d" * 199
+    folder += "/" + "d" * (4_093 - len(folder) - 1)
+    os.makedirs(folder)
+    assert len(os.fsencode(f"{folder}/o")) == 4_095
+    return Path(f"{folder}/o")
+
+
+def test_the_longest_path(long_path: Path) -> None:
+    """There a file is made, read, rewritten over itself and replaced."""
+    wanted = (SAMPLES / "three.hdt").read_bytes()
+    assert (build(long_path), long_path.read_bytes()) == (BUILT, wanted)
+    assert hdt("verify", long_path) == Result(0, b"ok 3 2 0 2 1\n", b"")
+    assert (hdt("rewrite", long_path, long_path).status, long_path.read_bytes()) == (0, wanted)
+    assert (build(long_path), names(long_path.parent)) == (BUILT, ["o"])
+
+
+# ---- the calls of the system that put OUT in its place
+
+
+class Calls(NamedTuple):
+    """How a program ended, and the calls that it made (tests/support/calls.c)."""
+
+    result: Result
+    made: list[str]
+
+
 @pytest.fixture(scope="module")
-def order(tmp_path_factory: pytest.TempPathFactory) -> Path:
-    """The library that logs fsync and rename."""
-    return preloaded("order.c", tmp_path_factory.mktemp("order"))
+def calls(tmp_path_factory: pytest.TempPathFactory) -> Callable[..., Calls]:
+    """Build the three triples with the call of this number, from 1, failing."""
+    folder = tmp_path_factory.mktemp("calls")
+    library, log = preloaded("calls.c", folder), folder / "log"
+
+    def building(out: Path, failing: int = 0) -> Calls:
+        log.write_bytes(b"")
+        env = {"LD_PRELOAD": os.fspath(library), "CALLS_LOG": os.fspath(log), "CALLS_FAIL": str(failing)}
+        result = hdt("build", "--base", "http://a/", THREE, out, env=env)
+        return Calls(result, log.read_text().splitlines())
+
+    return building
 
 
-@pytest.mark.parametrize("command", MAKERS)
-def test_the_disk_has_the_file_before_it_is_renamed(command: str, order: Path, made: dict[str, Made],
-                                                    tmp_path: Path) -> None:
-    """A new file is written to the disk before it takes the path of OUT."""
-    log = tmp_path / "order.log"
-    log.write_bytes(b"")
-    env = {"LD_PRELOAD": os.fspath(order), "ORDER_LOG": os.fspath(log)}
-    answer = hdt(command, made[command].source, tmp_path / "out.hdt", env=env)
-    assert (answer.status, log.read_text()) == (0, "fsync\nrename\n")
+# The calls that replace an OUT of the mode 640, and that make a new one under the mask 022.
+REPLACING = ["chdir", "random", "create 600", "write", "fsync", "mode 640", "rename"]
+MAKING = ["chdir", "random", "create 666", "unlink", "random", "create 600", "write", "fsync", "mode 644", "rename"]
+
+
+@pytest.fixture
+def mask() -> Iterator[None]:
+    """The usual mask."""
+    before = os.umask(0o022)
+    yield
+    os.umask(before)
+
+
+@pytest.mark.usefixtures("mask")
+@pytest.mark.parametrize("there", [True, False], ids=["replacing", "making"])
+def test_the_order_of_calls(there: bool, calls: Callable[..., Calls], tmp_path: Path) -> None:
+    """A new file is private until it is whole and on the disk; then it gets its permissions, and last its name."""
+    out = tmp_path / "out.hdt"
+    if there:
+        out.write_bytes(b"before")
+        out.chmod(0o640)
+    assert calls(out) == (BUILT, REPLACING if there else MAKING)
+    assert (out.stat().st_mode & 0o777, names(tmp_path)) == (0o640 if there else 0o644, ["out.hdt"])
+
+
+@pytest.mark.usefixtures("mask")
+@pytest.mark.parametrize("failing", range(1, len(REPLACING) + 1))
+def test_a_call_that_fails(failing: int, calls: Callable[..., Calls], tmp_path: Path) -> None:
+    """Writing fails, OUT stays what it was and nothing is left; without random numbers the clock gives the name."""
+    out = tmp_path / "out.hdt"
+    out.write_bytes(b"before")
+    out.chmod(0o640)
+    ended = calls(out, failing).result
+    if REPLACING[failing - 1] == "random":
+        assert (ended, names(tmp_path)) == (BUILT, ["out.hdt"])
+    else:
+        after = out.read_bytes(), out.stat().st_mode & 0o777, names(tmp_path)
+        assert (ended, after) == (WRITING_FAILED, (b"before", 0o640, ["out.hdt"]))
+
+
+@pytest.mark.usefixtures("mask")
+@pytest.mark.parametrize("failing", range(1, len(MAKING) + 1))
+def test_a_call_that_fails_for_a_new_file(failing: int, calls: Callable[..., Calls], tmp_path: Path) -> None:
+    """The same where nothing is there. (An empty file stays where it is its removal that fails.)"""
+    out, call = tmp_path / "out.hdt", MAKING[failing - 1]
+    ended = calls(out, failing).result
+    if call == "random":
+        assert (ended, names(tmp_path)) == (BUILT, ["out.hdt"])
+    else:
+        left = [it.stat().st_size for it in tmp_path.iterdir()]
+        assert (ended, left) == (WRITING_FAILED, [0] if call == "unlink" else [])
 
 
 @pytest.fixture
@@ -483,6 +599,38 @@ def test_a_read_only_folder(public_folder: Path) -> None:
     as_nobody = ["setpriv", "--reuid=65534", "--clear-groups", "--"] if os.geteuid() == 0 else []
     assert run([*as_nobody, program, "build", document, out]) == WRITING_FAILED
     assert (out.read_bytes(), names(public_folder)) == (b"before", ["hdt", "in.nt", "out.hdt"])
+
+
+# Opens the new files of a folder as soon as they are there, until its input ends; prints how many could be read.
+SPY = """
+import os, select, sys
+read, seen = 0, 0
+print("ready", flush=True)
+while not select.select([sys.stdin], [], [], 0)[0]:
+    for name in os.listdir(sys.argv[1]):
+        if name.startswith("hdt-unfinished-"):
+            seen += 1
+            try:
+                os.close(os.open(os.path.join(sys.argv[1], name), os.O_RDONLY))
+                read += 1
+            except OSError:
+                pass
+print(seen, read)
+"""
+
+
+@as_root
+def test_a_private_output_stays_private(public_folder: Path) -> None:
+    """No other user can open the new file while a private OUT is replaced, in none of 1,000 builds."""
+    out = public_folder / "out.hdt"
+    out.write_bytes(b"before")
+    out.chmod(0o600)
+    with subprocess.Popen(["setpriv", "--reuid=65534", "--clear-groups", "--", "/usr/bin/python3", "-c", SPY,
+                           public_folder], stdin=subprocess.PIPE, stdout=subprocess.PIPE, text=True) as spy:
+        assert spy.stdout is not None and spy.stdout.readline() == "ready\n"
+        ends = {build(out) for _ in range(1_000)}
+        seen, read = map(int, spy.communicate("\n", timeout=60)[0].split())
+    assert (ends, read, seen > 0, names(public_folder)) == ({BUILT}, 0, True, ["out.hdt"])
 
 
 # ---- several programs at once, and programs that are ended midway
@@ -532,7 +680,16 @@ def test_killed_midway(command: str, tmp_path: Path) -> None:
     assert out.read_bytes() == wanted
 
 
-# ---- a full file system
+# ---- file systems of one's own
+
+
+def mounts() -> list[Word]:
+    """The words that run a command where it may mount file systems, which end with it. Skips the test if it may not."""
+    namespace: list[Word] = ["unshare", "--mount", *([] if os.geteuid() == 0 else ["--map-root-user"])]
+    with tempfile.TemporaryDirectory() as folder:
+        if run([*namespace, "mount", "-t", "tmpfs", "tmpfs", folder]).status != 0:
+            pytest.skip("no file system may be mounted here")
+    return namespace
 
 
 @pytest.fixture(scope="module")
@@ -552,11 +709,243 @@ def test_a_full_file_system(command: str, filling: Path, tmp_path: Path) -> None
 
     The file system is mounted in a namespace of its own, which ends with the shell.
     """
-    namespace: list[Word] = ["unshare", "--mount", *([] if os.geteuid() == 0 else ["--map-root-user"])]
+    namespace = mounts()
     mount = 'mount -t tmpfs -o size=64k tmpfs "$1"'
-    if run([*namespace, "sh", "-c", mount, "sh", tmp_path]).status != 0:
-        pytest.skip("no file system may be mounted here")
     source = filling / ("in.nt" if command == "build" else "in.hdt")
     script = f'{mount}; out="$1/out.hdt"; printf before > "$out"; "$0" "$2" "$3" "$out"; echo $?; ls "$1"; cat "$out"'
     answer = run([*namespace, "sh", "-c", script, PROGRAM, tmp_path, command, source])
     assert answer == Result(0, b"3\nout.hdt\nbefore", b"hdt: writing failed\n")
+
+
+# Two file systems in which the files `in` and `out` have the same number.
+TWINS = """
+for part in a b; do
+    mkdir "$1/$part" && mount -t tmpfs tmpfs "$1/$part" || exit 99
+done
+cp "$2" "$1/a/in" && printf before > "$1/b/out" || exit 99
+[ "$(stat -c %i "$1/a/in")" = "$(stat -c %i "$1/b/out")" ] || exit 98
+"""
+
+
+@pytest.mark.parametrize("command", MAKERS)
+def test_two_files_of_one_number(command: str, made: dict[str, Made], tmp_path: Path) -> None:
+    """Files of one number in two file systems are two files: as IN and OUT, and as standard output and OUT."""
+    namespace, (source, file, line) = mounts(), made[command]
+    (tmp_path / "wanted").write_bytes(file)
+    as_files = f'{TWINS}"$0" {command} "$1/a/in" "$1/b/out" && cmp "$1/b/out" "$1/wanted"'
+    as_output = f'{TWINS}"$0" {command} "$2" "$1/b/out" > "$1/a/in" && cmp "$1/b/out" "$1/wanted" && cat "$1/a/in"'
+    for script in (as_files, as_output):
+        answer = run([*namespace, "sh", "-c", script, PROGRAM, tmp_path, source])
+        if answer.status == 98:
+            pytest.skip("file systems that number files otherwise")
+        assert answer == Result(0, line, b"")
+        (tmp_path / "a").rmdir()
+        (tmp_path / "b").rmdir()
+
+
+# ---- an output that is the input
+
+
+@pytest.fixture
+def own(tmp_path: Path) -> Path:
+    """A document that isn't N-Triples, with a symbolic link to it and another hard link."""
+    (tmp_path / "own.nt").write_bytes(b"no triple\n")
+    (tmp_path / "soft.nt").symlink_to("own.nt")
+    os.link(tmp_path / "own.nt", tmp_path / "hard.nt")
+    return tmp_path
+
+
+# How the shell calls `build` with IN and OUT the same file.
+OVER_ITSELF = [
+    '"$0" build own.nt own.nt',
+    '"$0" build own.nt soft.nt',
+    '"$0" build soft.nt own.nt',
+    '"$0" build hard.nt own.nt',
+    '"$0" build own.nt --progress ./own.nt',
+    '"$0" build /dev/stdin own.nt < own.nt',
+    '"$0" build /proc/self/fd/0 soft.nt < own.nt',
+    '"$0" build /dev/fd/7 own.nt 7< own.nt',
+    '"$0" build own.nt /dev/stdout >> own.nt',
+    '"$0" build /dev/stdin /dev/stdout < own.nt >> own.nt',
+]
+
+
+@pytest.mark.parametrize("script", OVER_ITSELF)
+def test_a_document_is_not_built_over(script: str, own: Path) -> None:
+    """A build over its own input is a wrong command line, before the input is read, whose fault would be told else."""
+    assert shell(script, cwd=own) == ONE_FILE
+    assert ((own / "own.nt").read_bytes(), names(own)) == (b"no triple\n", ["hard.nt", "own.nt", "soft.nt"])
+
+
+def test_a_build_from_a_device_into_it() -> None:
+    """A device keeps no bytes, so none are lost."""
+    assert hdt("build", "/dev/null", "/dev/null") == Result(1, b"", b"hdt: no triples\n")
+
+
+def test_one_socket_for_both_streams(made: dict[str, Made]) -> None:
+    """A socket is read and written: what is written isn't what is read."""
+    here, there = socket.socketpair()
+    with here, there:
+        here.sendall(THREE.read_bytes())
+        here.shutdown(socket.SHUT_WR)
+        built = subprocess.run([PROGRAM, "build", "/dev/stdin", "/dev/stdout"], stdin=there.fileno(),
+                               stdout=there.fileno(), stderr=subprocess.PIPE, timeout=60)
+        there.close()
+        with here.makefile("rb") as answer:
+            assert (built.returncode, answer.read()) == (0, made["build"].file)
+
+
+# ---- standard input by its path
+
+INPUTS = ("/dev/stdin", "/dev/fd/0", "/proc/self/fd/0")
+
+
+class Reading(NamedTuple):
+    """A command on its standard input, what stands there, and how the command ends (it may make `out.hdt`)."""
+
+    words: tuple[str, ...]
+    stdin: bytes
+    wanted: Result
+
+
+def hdt_on(descriptor: int, *words: str) -> Result:
+    """Run the program with this standard input."""
+    ended = subprocess.run([PROGRAM, *words], stdin=descriptor, capture_output=True, timeout=60)
+    return Result(ended.returncode, ended.stdout, ended.stderr)
+
+
+def reading(path: str, made: dict[str, Made], out: str) -> list[Reading]:
+    """Commands that read the file at this path."""
+    file = made["rewrite"].file
+    return [
+        Reading(("build", path, out), THREE.read_bytes(), Result(0, made["build"].line, b"")),
+        Reading(("rewrite", path, out), file, Result(0, made["rewrite"].line, b"")),
+        Reading(("verify", path), file, Result(0, b"ok 3 2 0 2 1\n", b"")),
+        Reading(("find", path, "?", "?", "?", "--count"), file, Result(0, b"3\n", b"")),
+    ]
+
+
+@pytest.mark.parametrize("path", INPUTS)
+def test_standard_input_that_is_a_socket(path: str, made: dict[str, Made], tmp_path: Path) -> None:
+    """A socket can't be opened by a path, and is read all the same."""
+    for words, data, wanted in reading(path, made, os.fspath(tmp_path / "out.hdt")):
+        here, there = socket.socketpair()
+        with here, there:
+            here.sendall(data)
+            here.shutdown(socket.SHUT_WR)
+            assert (words, hdt_on(there.fileno(), *words)) == (words, wanted)
+
+
+@as_root
+@pytest.mark.parametrize("path", INPUTS)
+def test_standard_input_that_is_the_pipe_of_another_user(path: str, made: dict[str, Made], public_folder: Path) -> None:
+    """Nor can the pipe of another user."""
+    shutil.copy(PROGRAM, public_folder / "hdt")
+    public_folder.chmod(0o777)
+    for words, data, wanted in reading(path, made, os.fspath(public_folder / "out.hdt")):
+        as_nobody = ["setpriv", "--reuid=65534", "--clear-groups", "--"]
+        assert (words, run([*as_nobody, public_folder / "hdt", *words], stdin=data)) == (words, wanted)
+
+
+@pytest.mark.parametrize("path", INPUTS)
+def test_standard_input_from_where_it_stands(path: str, made: dict[str, Made], tmp_path: Path) -> None:
+    """A file is read from where its descriptor stands."""
+    for words, data, wanted in reading(path, made, os.fspath(tmp_path / "out.hdt")):
+        (tmp_path / "in").write_bytes(b"before" + data)
+        with open(tmp_path / "in", "rb") as source:
+            os.lseek(source.fileno(), 6, os.SEEK_SET)
+            assert (words, hdt_on(source.fileno(), *words)) == (words, wanted)
+
+
+def test_streams_that_do_not_wait(tmp_path: Path) -> None:
+    """A stream that is set not to wait and would have to is reading or writing that failed."""
+    reader, writer = os.pipe()
+    fcntl.fcntl(reader, fcntl.F_SETFL, os.O_NONBLOCK)
+    assert hdt_on(reader, "verify", "/dev/stdin") == READING_FAILED
+    (tmp_path / "many.nt").write_bytes(b"".join(b"<u:s%d> <u:p> <u:o> .\n" % n for n in range(10_000)))
+    assert hdt("build", tmp_path / "many.nt", tmp_path / "many.hdt").status == 0
+    fcntl.fcntl(writer, fcntl.F_SETFL, os.O_NONBLOCK)
+    ended = subprocess.run([PROGRAM, "dump", tmp_path / "many.hdt"], stdout=writer, stderr=subprocess.PIPE, timeout=60)
+    assert (ended.returncode, ended.stderr) == (3, b"hdt: writing failed\n")
+    os.close(reader)
+    os.close(writer)
+
+
+# ---- closed streams and few descriptors
+
+STREAMS = [set(it) for count in range(4) for it in itertools.combinations((0, 1, 2), count)]
+FILE = os.fspath(SAMPLES / "three.hdt")
+# Commands by name: the words, and what is printed of them.
+TOUCHING: dict[str, tuple[list[str], bytes]] = {
+    "version": (["--version"], b"hdt 1.0.0\n"),
+    "verify": (["verify", "FILE"], b"ok 3 2 0 2 1\n"),
+    "find": (["find", "FILE", "?", "?", "?", "--count"], b"3\n"),
+    "build": (["build", "--base", "http://a/", "IN", "OUT"], b"built 3 2 0 2 1 457\n"),
+    "answer": (["answer", "FILE", "--count"], b"3\n\n"),
+    "stdin": (["verify", "/dev/stdin"], b""),
+}
+
+
+def touched(name: str, closed_ones: set[int], descriptors: int | None, folder: str, *before: Word) -> Result:
+    """Run a command on the files of a folder, with these streams closed and this limit of descriptors."""
+    names_of = {"FILE": "three.hdt", "IN": "three.nt", "OUT": "out/new.hdt"}
+    words = [f"{folder}/{names_of[word]}" if word in names_of else word for word in TOUCHING[name][0]]
+    closing = " ".join(CLOSED[it] for it in sorted(closed_ones))
+    limit = "" if descriptors is None else f"ulimit -n {descriptors}; "
+    return run(["sh", "-c", f'{limit}exec "$0" "$@" {closing}', *before, *words], stdin=b"? ? ?\n")
+
+
+def wanted_of(name: str, closed_ones: set[int], descriptors: int | None) -> Result:
+    """How such a command ends: a file needs a descriptor beside the three."""
+    opens = name not in ("version", "stdin")
+    out, err, status = TOUCHING[name][1], b"", 0
+    if opens and descriptors == 3 or 0 in closed_ones and name in ("answer", "stdin"):
+        out, err, status = b"", b"hdt: reading failed\n", 3
+    elif name == "stdin":
+        out, err, status = b"", b"hdt: fault 2 BadMagic at 0\n", 1
+    elif 1 in closed_ones:
+        out, err, status = b"", b"hdt: writing failed\n", 3
+    return Result(status, out, b"" if 2 in closed_ones else err)
+
+
+@pytest.fixture
+def touching(public_folder: Path) -> Path:
+    """A folder with the three triples as a document and as a file, and one in which everyone may make a file."""
+    shutil.copy(THREE, public_folder / "three.nt")
+    shutil.copy(FILE, public_folder / "three.hdt")
+    (public_folder / "out").mkdir()
+    (public_folder / "out").chmod(0o777)
+    return public_folder
+
+
+def assert_all_touch(folder: Path, descriptors: int | None, *before: Word, at: str | None = None) -> None:
+    """Each command ends as it should, with any of the streams closed, and makes the file that it should."""
+    for closed_ones, name in itertools.product(STREAMS, TOUCHING):
+        if descriptors == 3 and not closed_ones:
+            continue  # (then the C library can't be loaded)
+        case = sorted(closed_ones), name
+        ended = touched(name, closed_ones, descriptors, os.fspath(folder) if at is None else at, *before)
+        assert (case, ended) == (case, wanted_of(name, closed_ones, descriptors))
+        made = {it.name: it.read_bytes() for it in (folder / "out").iterdir()}
+        is_made = name == "build" and descriptors != 3
+        assert (case, made) == (case, {"new.hdt": (folder / "three.hdt").read_bytes()} if is_made else {})
+        if is_made:
+            (folder / "out/new.hdt").unlink()
+
+
+@pytest.mark.parametrize("descriptors", [None, 3, 4, 5, 6, 7, 8])
+def test_closed_streams_and_few_descriptors(descriptors: int | None, touching: Path) -> None:
+    """A closed stream fails where it is used, and never meets a file; one descriptor beside the three is enough."""
+    assert_all_touch(touching, descriptors, PROGRAM)
+
+
+@as_root
+def test_an_unreadable_root(touching: Path) -> None:
+    """The same below a root folder that can't be read, without /proc and /dev."""
+    libraries = re.findall(r"(/\S+) \(0x", run(["ldd", PROGRAM]).out.decode())
+    for path in (PROGRAM, *map(Path, libraries)):
+        inside = touching / ("hdt" if path == PROGRAM else os.fspath(path)[1:])
+        inside.parent.mkdir(parents=True, exist_ok=True)
+        shutil.copy(path, inside)
+    touching.chmod(0o711)
+    assert_all_touch(touching, None, "chroot", "--userspec=65534:65534", touching, "/hdt", at="")

@@ -10,7 +10,7 @@ use Rattle.hdt_command.specs.declared.request.Action.{Action}
 use Rattle.hdt_command.specs.Answer.{Reports}
 use Rattle.hdt_command.specs.Words.{IsRefused, WantsSo}
 use Rattle.hdt_command.specs.Lines.{fault_status}
-use Rattle.hdt_command.specs.Status.{Ends, IsCommandStatus, IsRefusalStatus}
+use Rattle.hdt_command.specs.Status.{Ends, IsCommandStatus, IsRefusalStatus, IsStatusOf}
 use Rattle.hdt_command.proofs.Refused.{so}
 
 -- a fault that is not the writer's, or one that is
@@ -101,7 +101,7 @@ kept_in_memory outcome fault told kind is other not e =
 -- the status of what the words ask for is one that the words end with
 pub ends : {X E : Type 0} (texts : X → List Text) (words : Result X E) (asked : Result Call UsageFault) (status : ℕ)
     → IfOk asked (λ asked. MatchResult words (λ w. WantsSo (texts w) asked) (λ _. ⊥)) → IfErr asked (λ fault. IfOk words (λ w. IsRefused (texts w) fault))
-    → MatchResult asked (λ _. IsCommandStatus status) (λ fault. IsRefusalStatus fault status) → IfOk words (λ w. Ends (texts w) status)
+    → MatchResult asked (λ asked. IsStatusOf asked.request.action status) (λ fault. IsRefusalStatus fault status) → IfOk words (λ w. Ends (texts w) status)
 ends texts (Ok w) (Ok asked) status wanted refused of = inl (record { request = asked.request; wanted = so (texts w) asked wanted; ends = of })
 ends texts (Ok w) (Err fault) status wanted refused of = inr (record { fault = fault; refused = refused; ends = of })
 ends texts (Err e) asked status wanted refused of = tt

@@ -3,6 +3,8 @@ use Rattle.std.specs.Prelude.{◌≡◌, ◌⊎◌, ℕ, List}
 use Rattle.clap.specs.Words.{Text}
 use Rattle.hdt_command.specs.Words.{IsRefused, Wants}
 use Rattle.hdt_command.specs.Lines.{fault_status}
+use Rattle.hdt_command.specs.declared.request.Action.{Action}
+use Rattle.hdt_command.specs.declared.request.Action.TheVariants.{Build}
 use Rattle.hdt_command.specs.declared.request.Request.{Request}
 use Rattle.hdt_command.specs.declared.fault.ToolFault.{ToolFault}
 use Rattle.hdt_command.specs.declared.fault.UsageFault.{UsageFault}
@@ -12,6 +14,14 @@ use Rattle.hdt_command.specs.declared.fault.UsageFault.TheVariants as usage
 abbrev pub IsCommandStatus : ℕ → Type 0
 IsCommandStatus status = (status ≡ 0) ⊎ ((fault : ToolFault) × (status ≡ fault_status fault))
 
+abbrev pub IsBuild : Action → Type 0
+IsBuild (Build options) = Unit {0}
+IsBuild action = ⊥
+
+-- a command's status, or the words are told to be wrong since `build` is to write over its own input
+abbrev pub IsStatusOf : Action → ℕ → Type 0
+IsStatusOf action status = IsCommandStatus status ⊎ (IsBuild action × (status ≡ 2))
+
 -- help ends with 0, or with 3 where it can't be printed; wrong words end with 2, or with 4 where memory for their line is
 -- refused
 abbrev pub IsRefusalStatus : UsageFault → ℕ → Type 0
@@ -20,11 +30,11 @@ IsRefusalStatus (usage.Usage text) status = (status ≡ 2) ⊎ (status ≡ 4)
 IsRefusalStatus (usage.Word word fault) status = (status ≡ 2) ⊎ (status ≡ 4)
 IsRefusalStatus usage.OutOfMemory status = status ≡ 4
 
--- the words want a request, and the status is a command's
+-- the words want a request, and the status is one of what it asks for
 pub record EndsCommand (words : List Text) (status : ℕ) : Type 0 where
   pub request : Request
   pub wanted : Wants words request
-  pub ends : IsCommandStatus status
+  pub ends : IsStatusOf request.action status
 
 -- the words are refused, and the status is that of the refusal
 pub record EndsRefusal (words : List Text) (status : ℕ) : Type 0 where

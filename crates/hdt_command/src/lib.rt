@@ -9,7 +9,7 @@
 //! In reading order: `request` and `fault`, what is asked for and what can go wrong; `entries` and `words`, how the words of a
 //! command line ask for it, by hdt_usage's table for `clap`; `escaping`, `printed_head`, `printed_verdict`, `printed_strings`,
 //! `printed_triples` and `printed_built`, the texts; `whole` and `answer`, which text a command has; `dialogue`, requests that are
-//! answered one by one; `running`, all commands from a reader to a writer; `lines`, what is told of a fault; `progress`, `replacing` and
+//! answered one by one; `running`, all commands from a reader to a writer; `lines`, what is told of a fault; `progress`, `files`, `replacing` and
 //! `status`, the same with the files, the streams and the status of the program; `process`, all of it.
 #![tactic(auto)]
 
@@ -18,6 +18,7 @@ mod dialogue;
 mod entries;
 mod escaping;
 mod fault;
+mod files;
 mod lines;
 mod printed_built;
 mod printed_head;

@@ -5,7 +5,7 @@
 //! |---|---|
 //! | 0 | done, or help was asked for |
 //! | 1 | the input has a fault |
-//! | 2 | the command line is wrong |
+//! | 2 | the command line is wrong, or `build` is to write over its input |
 //! | 3 | reading or writing failed |
 //! | 4 | out of memory |
 ghost use Rattle.std.specs.Prelude.{◌≡◌, ◌≢◌, ◌⊎◌, ◌+◌, ℕ, true, false, [], Ok, Err, Some, IfOk, IfErr, OnOk, MatchResult, map, string_bytes, if◌then◌else◌};
@@ -17,11 +17,11 @@ ghost use Rattle.hdt_command.specs.Answer.{Breaks, FailsAfter, Faults, HasOut, M
 ghost use Rattle.hdt_command.specs.Words.{IsRefused, SaysUsage, WantsSo};
 ghost use Rattle.hdt_command.specs.Dialogue.{Converses, ConversesSome};
 ghost use Rattle.hdt_command.specs.Lines.{fault_status};
-ghost use Rattle.hdt_command.specs.Status.{Ends, IsCommandStatus, IsRefusalStatus};
+ghost use Rattle.hdt_command.specs.Status.{Ends, IsBuild, IsCommandStatus, IsRefusalStatus, IsStatusOf};
 
 use crate::fault::{ToolFault, UsageFault, file_fault};
+use crate::files::{ERRORS, OUTPUT, create, is_one_file, opened, room_for, takes_the_place};
 use crate::lines::{fault_line, usage_line};
-use crate::progress::Watched;
 use crate::replacing::{replace, replaced_path};
 use crate::request::{Action, Asking, Call, Request};
 use crate::running::{answer_file, run_in};
@@ -29,11 +29,13 @@ use crate::words::parse_all_words;
 use hdt_wire::Counted;
 use std::alloc::{AllocError, Global};
 use std::env::Args;
-use std::fs::{self, File};
-use std::io::{self, ErrorKind, Read, Stderr, Write};
-use std::os::unix::fs::MetadataExt;
+use std::io::{self, ErrorKind, Read, Write};
 
 const NOT_UTF8: &str = "error: an argument is not UTF-8
+
+For more information, try '--help'.";
+
+const ONE_FILE: &str = "error: IN and OUT are the same file
 
 For more information, try '--help'.";
 
@@ -267,20 +269,6 @@ fn store<F: Write, W: Write>(
     print_line(out, line)
 }
 
-/// Where the system shows the file that is standard output.
-const OUTPUT: &str = "/proc/self/fd/1";
-
-/// Where it shows the one that is standard error.
-const ERRORS: &str = "/proc/self/fd/2";
-
-/// Whether two paths lead to one file, pipe or device.
-fn is_one_file(rt: &HostRuntime, path: &str, other: &str) -> bool {
-    match (fs::metadata(rt, path), fs::metadata(rt, other)) {
-        (Ok(one), Ok(two)) => one.dev() == two.dev() && one.ino() == two.ino(),
-        _ => false,
-    }
-}
-
 /// Prints what was made to the standard output, where nothing else is to stand, and its line to the standard error, unless that is
 /// the same file.
 fn print_built(rt: &HostRuntime, built: &[u8], line: &[u8]) -> Result<(), ToolFault> {
@@ -299,35 +287,11 @@ fn put_at(rt: &HostRuntime, path: &str, built: &[u8], line: &[u8]) -> Result<(),
     let mut out = Counted::new(io::writer(rt));
     let replaced = replaced_path(rt, rt.alloc(), path);
     if let Some(path) = replaced.map_err(|error| file_fault(&error, ToolFault::Write(0)))? {
-        replace(rt, rt.alloc(), &path, built)?;
+        replace(rt, &path, built)?;
         return print_line(&mut out, line);
     }
-    let mut file = created(File::create(rt, path))?;
+    let mut file = created(create(rt, path))?;
     store(&mut file, built, &mut out, line)
-}
-
-/// How many bytes a file has, where it is a regular one.
-fn size_of(file: &File) -> Option<u64> {
-    match file.metadata() {
-        Ok(metadata) if metadata.is_file() => Some(metadata.len()),
-        _ => None,
-    }
-}
-
-/// Opens the file that is read. Where progress is asked for, the standard error is told of it.
-fn opened(rt: &HostRuntime, path: &str, progress: bool) -> io::Result<Watched<File, Stderr>> {
-    let file = File::open(rt, path)?;
-    let size = size_of(&file);
-    let told = if progress { Some(rt.stderr()) } else { None };
-    Ok(Watched::new(rt.alloc(), file, told, size))
-}
-
-/// Room for all that is to be read, where that is known.
-fn room_for(input: &io::Result<Watched<File, Stderr>>) -> usize {
-    match input {
-        Ok(input) => input.size().unwrap_or(0) as usize,
-        Err(_) => 0,
-    }
 }
 
 /// Does what a request that makes a file asks for: that file is put at its path only where the whole of it was made, and the line
@@ -357,11 +321,25 @@ fn refuse(rt: &HostRuntime, fault: UsageFault) -> u8
     }
 }
 
-/// Does what a request that makes a file asks for, and tells how it ended.
+/// Whether `build` is asked to write over the document that it reads, which would be lost. (`rewrite` keeps the graph.)
+fn writes_over_its_input(rt: &HostRuntime, asked: &Call, path: &str) -> bool
+    ensures { result ≡ true → IsBuild asked.now.request.action }
+{
+    match &asked.request.action {
+        Action::Build(_) => takes_the_place(rt, path, asked.request.file.as_str()),
+        _ => false,
+    }
+}
+
+/// Does what a request that makes a file asks for, and tells how it ended. What would be written over its input is refused
+/// before anything is read.
 fn stored(rt: &HostRuntime, asked: &Call, path: &str) -> u8
     requires { MakesFile asked.now.request.action }
-    ensures { IsCommandStatus result }
+    ensures { IsStatusOf asked.now.request.action result }
 {
+    if writes_over_its_input(rt, asked, path) {
+        return complain(rt, 2, ONE_FILE);
+    }
     done(rt, build_to(rt, asked, path))
 }
 
@@ -443,7 +421,7 @@ fn conversed_over(rt: &HostRuntime, path: &str, asking: Asking) -> u8
 /// Does what a request asks for, and tells how it ended.
 fn fulfilled(rt: &HostRuntime, asked: &Call) -> u8
     requires { HasOut asked.now.request }
-    ensures { IsCommandStatus result }
+    ensures { IsStatusOf asked.now.request.action result }
 {
     match &asked.request.out {
         Some(path) => stored(rt, asked, path.as_str()),
@@ -462,7 +440,7 @@ fn fulfilled(rt: &HostRuntime, asked: &Call) -> u8
 /// Does what was asked for, or tells why nothing was.
 fn answered(rt: &HostRuntime, asked: Result<Call, UsageFault>) -> u8
     requires { IfOk asked (λ asked. HasOut asked.request) }
-    ensures { MatchResult asked (λ _. IsCommandStatus result) (λ fault. IsRefusalStatus fault result) }
+    ensures { MatchResult asked (λ asked. IsStatusOf asked.request.action result) (λ fault. IsRefusalStatus fault result) }
 {
     match asked {
         Ok(asked) => fulfilled(rt, &asked),
@@ -470,8 +448,8 @@ fn answered(rt: &HostRuntime, asked: Result<Call, UsageFault>) -> u8
     }
 }
 
-/// Does what the words ask for, and tells how it ended: 0 done, 1 a fault of the input, 2 words that are none, 3 reading or writing
-/// failed, 4 out of memory. It costs what [`run`](crate::run) costs.
+/// Does what the words ask for, and tells how it ended: 0 done, 1 a fault of the input, 2 words that are none, or a `build` that is
+/// to write over its input, 3 reading or writing failed, 4 out of memory. It costs what [`run`](crate::run) costs.
 pub fn status_of(rt: &HostRuntime, words: io::Result<Vec<String>>) -> u8
     ensures given { IfOk words (λ words. Ends (map string_bytes words.items) result) }
     ensures memory { IfErr words (λ error. error_kind error ≡ ErrorKind.OutOfMemory → result ≡ 4) }

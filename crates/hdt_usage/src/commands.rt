@@ -14,9 +14,10 @@ const VERSION: &str = "1.0.0";
 const STATUSES: &str = "Exit status:
   0  done
   1  the input has a fault, whose reason and place are told, or no triples, a look-up has no
-     answer, or a string that N-Triples are to show is no term
-  2  the command line is wrong
-  3  reading or writing failed
+     answer, or a string that N-Triples are to show is no term; or a request of `answer` had
+     a fault
+  2  the command line is wrong, or `build` is to write over its input
+  3  reading or writing failed, also where the reader of a pipe has gone
   4  out of memory
 
 Past a limit on the size of files (ulimit -f) the system ends the program by the signal SIGXFSZ,
@@ -103,11 +104,12 @@ const BUILD_LONG_ABOUT: &str = "Build an HDT file from N-Triples.
 
 The order of the lines, repeats and comments make no difference: one graph gives one file, byte
 for byte. It is told by `built` and six counts: the triples, the strings of the sections shared,
-subjects, predicates and objects, and the bytes of the file. IN may be /dev/stdin.
+subjects, predicates and objects, and the bytes of the file. IN may be /dev/stdin, but not OUT.
 
-OUT is replaced whole: a new file is written beside it, as hdt-unfinished-0, and handed to the
-disk before it takes its name. Until then OUT is what it was, also where writing fails or the
-program is killed. Where OUT is no regular file, it is opened and written.
+OUT is replaced whole: a new file is written beside it, which nobody else can open, and handed to
+the disk before it takes OUT's permissions and name. Until then OUT is what it was, also where
+writing fails or the program is killed; then hdt-unfinished- and 16 digits may be left, to be
+removed. Where OUT is no regular file, it is opened and written.
 
 OUT may be /dev/stdout. Where it is the file or pipe that standard output goes to, the HDT file
 alone is printed there, behind what stands there, and its line on standard error, or nowhere
@@ -123,9 +125,10 @@ numbers of strings and the order of triples may change; the triples are the same
 `rewritten` and six counts: the triples, the strings of the sections shared, subjects,
 predicates and objects, and the bytes of the file. IN may be OUT.
 
-OUT is replaced whole: a new file is written beside it, as hdt-unfinished-0, and handed to the
-disk before it takes its name. Until then OUT is what it was, also where writing fails or the
-program is killed. Where OUT is no regular file, it is opened and written.
+OUT is replaced whole: a new file is written beside it, which nobody else can open, and handed to
+the disk before it takes OUT's permissions and name. Until then OUT is what it was, also where
+writing fails or the program is killed; then hdt-unfinished- and 16 digits may be left, to be
+removed. Where OUT is no regular file, it is opened and written.
 
 OUT may be /dev/stdout. Where it is the file or pipe that standard output goes to, the HDT file
 alone is printed there, behind what stands there, and its line on standard error, or nowhere
