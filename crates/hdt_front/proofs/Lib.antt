@@ -13,4 +13,5 @@ pub mod Following
 pub mod Inverse
 pub mod PlainLaws
 pub mod Keeping
+pub mod Seeking
 pub mod KeptStrings

@@ -13,6 +13,7 @@ pub mod Numbering
 pub mod Looks
 pub mod Strings
 pub mod Searching
+pub mod Seeking
 pub mod Walking
 pub mod Walks
 pub mod Laws

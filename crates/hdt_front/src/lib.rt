@@ -36,6 +36,7 @@ mod scan;
 mod search;
 mod section;
 mod section_writer;
+mod seeker;
 mod string;
 mod unfold;
 mod walk;
@@ -51,5 +52,6 @@ pub use laws::{
 };
 pub use section::Section;
 pub use section_writer::SectionWriter;
+pub use seeker::Seeker;
 pub use walk::Walk;
 pub use writing::{lent_strings, put_lent_section, put_section};

@@ -1,0 +1,23 @@
+use Rattle.std.proofs.Common.{◌≡◌, ◌<◌, ◌+◌, ◌*◌, ◌∙◌, ap, sym, subst, ℕ, arith}
+use Rattle.hdt_front.specs.Seeking.{Seeking}
+use Rattle.hdt_front.specs.Strings.{blocks_of}
+use Rattle.hdt_front.proofs.Seeking.{head_within, string_before}
+use Rattle.hdt_front.proofs.seeker.Seeker.open.Goals as goal
+
+pub overflow_mul-self : goal.overflow_mul-self
+overflow_mul-self c =
+    let s = c.self.inside.section in
+    let h : c.args.block * s.packed.block < s.packed.count = head_within s c.args.block (subst (λ (w : Seeking). c.args.block < blocks_of w.section) (sym c.self.view_is) c.requires) in
+    omega (arith, h, s.packed.counted)
+
+pub overflow_add-self : goal.overflow_add-self
+overflow_add-self c =
+    let s = c.self.inside.section in
+    let h : c.args.block * s.packed.block < s.packed.count = head_within s c.args.block (subst (λ (w : Seeking). c.args.block < blocks_of w.section) (sym c.self.view_is) c.requires) in
+    omega (arith, h, s.packed.counted)
+
+pub invariant_of-self-2 : goal.invariant_of-self-2
+invariant_of-self-2 c =
+    let s = c.self.inside.section in
+    let h : c.args.block * s.packed.block < s.packed.count = head_within s c.args.block (subst (λ (w : Seeking). c.args.block < blocks_of w.section) (sym c.self.view_is) c.requires) in
+    (omega (arith, h), c.in_ok-unfold.ensures.ok ∙ c.opened_head.ensures.string ∙ string_before s (c.args.block * s.packed.block) h, c.opened_head.ensures.rest)

@@ -1,0 +1,136 @@
+//! A seeker over the strings of a section: it goes to the string of any number.
+ghost use Rattle.std.specs.Prelude.{◌≡◌, ◌≤◌, ◌<◌, ◌+◌, ◌-◌, ◌*◌, ◌/◌, [], length, OnOk, OnErr};
+ghost use Rattle.hdt_front.specs.Strings.{strings_of, blocks_of, block_size};
+ghost use Rattle.hdt_front.specs.Seeking.{standing, head_before};
+
+use crate::piece::piece_of;
+use crate::section::Section;
+use crate::unfold::unfold;
+use hdt_seq::Steps;
+use std::alloc::{AllocError, Global};
+use std::marker::Model;
+
+/// A seeker over the strings of a section, which stands on one of them. It goes to a later string of the same block from
+/// where it stands, and to any other one from the head of its block: so who asks for ascending numbers has each block
+/// unfolded once.
+///
+/// ```text
+/// let mut seeker = Seeker::new(alloc, &section);
+/// for n in numbers {
+///     seeker.seek(*n, &mut steps)?;
+///     out.extend_from_slice(seeker.last())?;
+/// }
+/// ```
+#[derive(Drop)]
+pub struct Seeker<'a> {
+    section: Section<'a>,
+    at: u64,
+    last: Vec<u8>,
+    rest: &'a [u8],
+}
+
+impl<'a> Model for Seeker<'a> {
+    ghost use Rattle.std.specs.Prelude.{◌≡◌, ◌≤◌};
+    ghost use Rattle.hdt_front.specs.Seeking.{Seeking};
+    ghost use Rattle.hdt_front.specs.Facts.{before_at, rest_at};
+
+    ghost Value = { Seeking };
+
+    ghost view = { λ s. record { section = s.section; at = s.at; last = s.last.items } };
+
+    ghost invariant = { λ s. (s.at ≤ s.section.packed.count)
+        × (s.last.items ≡ before_at s.section.packed.block s.at s.section.packed.bytes.now)
+        × (s.rest.now ≡ rest_at s.section.packed.block s.at s.section.packed.bytes.now) };
+}
+
+impl<'a> Seeker<'a> {
+    /// A seeker that stands before the first string.
+    pub fn new(alloc: Global, section: &Section<'a>) -> Seeker<'a>
+        ensures { result ≡ record { section = section.now; at = 0; last = [] } }
+    {
+        Seeker {
+            section: *section,
+            at: 0,
+            last: Vec::new(alloc),
+            rest: section.packed.bytes,
+        }
+    }
+
+    /// The string where it stands; before the first one: empty.
+    pub fn last(&self) -> &[u8]
+        ensures { result.now ≡ self.now.last }
+    {
+        &self.last
+    }
+
+    /// Goes to the head of a block. Where memory is refused, nothing moves.
+    fn open(&mut self, block: u64, steps: &mut Steps) -> Result<(), AllocError>
+        requires { block < blocks_of self.old.section }
+        ensures ok { OnOk result (self.new ≡ standing self.old.section (block * block_size self.old.section + 1)) }
+        ensures err { OnErr result (self.new ≡ self.old) }
+        ensures cost { steps.new ≡ steps.old + 1 }
+    {
+        steps.tick();
+        let (head, rest) = self.section.opened_head(block);
+        unfold(&mut self.last, 0, head)?;
+        self.at = block * self.section.packed.block + 1;
+        self.rest = rest;
+        Ok(())
+    }
+
+    /// Goes on to the next string. Where memory is refused, nothing moves.
+    fn pass(&mut self, steps: &mut Steps) -> Result<(), AllocError>
+        requires { self.old.at < length (strings_of self.old.section) }
+        ensures ok { OnOk result (self.new ≡ standing self.old.section (self.old.at + 1)) }
+        ensures err { OnErr result (self.new ≡ self.old) }
+        ensures cost { steps.new ≡ steps.old + 1 }
+    {
+        steps.tick();
+        let head = self.at % self.section.packed.block == 0;
+        let (kept, text, after) = piece_of(head, self.rest);
+        unfold(&mut self.last, kept as usize, text)?;
+        self.rest = after;
+        self.at += 1;
+        Ok(())
+    }
+
+    /// Goes to the head of the block of string n, unless it stands in front of string n, or on it, and in that block.
+    fn approach(&mut self, n: u64, steps: &mut Steps) -> Result<(), AllocError>
+        requires from_one { 1 ≤ n }
+        requires within { n ≤ length (strings_of self.old.section) }
+        ensures section { self.new.section ≡ self.old.section }
+        ensures string { OnOk result (0 < self.new.at → self.new ≡ standing self.old.section self.new.at) }
+        ensures here { OnOk result ((head_before self.old.section n ≤ self.new.at) × (self.new.at ≤ n)) }
+        ensures cost { OnOk result (steps.new + head_before self.old.section n ≤ steps.old + self.new.at) }
+        ensures near { OnOk result (self.old.at ≤ n → steps.new + self.old.at ≤ steps.old + self.new.at) }
+        ensures err { OnErr result (steps.new ≡ steps.old + 1) }
+        ensures far { OnErr result (self.old.at ≤ n → self.old.at < n) }
+        ensures more { steps.old ≤ steps.new }
+    {
+        let block = (n - 1) / self.section.packed.block;
+        let head = block * self.section.packed.block;
+        if self.at < head || n < self.at {
+            self.open(block, steps)?;
+        }
+        Ok(())
+    }
+
+    /// Goes to string n, counted from 1; the caller shows that there is one. It takes at most as many looks as the block
+    /// size; and where it doesn't stand behind string n, one at most for each string from there on. Where memory is
+    /// refused, it may stand elsewhere than before.
+    pub fn seek(&mut self, n: u64, steps: &mut Steps) -> Result<(), AllocError>
+        requires from_one { 1 ≤ n }
+        requires within { n ≤ length (strings_of self.old.section) }
+        ensures ok { OnOk result (self.new ≡ standing self.old.section n) }
+        ensures err { OnErr result (self.new.section ≡ self.old.section) }
+        ensures cost { steps.new ≤ steps.old + block_size self.old.section }
+        ensures near { self.old.at ≤ n → steps.new + self.old.at ≤ steps.old + n }
+        ensures more { steps.old ≤ steps.new }
+    {
+        self.approach(n, steps)?;
+        while self.at < n {
+            self.pass(steps)?;
+        }
+        Ok(())
+    }
+}
