@@ -1,15 +1,11 @@
-use Rattle.std.proofs.Common.{arith, ap, sym, suc, ◌∷◌, ◌∙◌, ◌≡◌, ◌≤◌, ◌+◌, ◌*◌, length, refl, slice_index}
+use Rattle.std.proofs.Common.{arith, ap, sym, suc, ◌∷◌, ◌∙◌, ◌≡◌, ◌≤◌, ◌+◌, ◌*◌, length, refl}
 use Rattle.hdt_triples.specs.Bounds.{jump, skip_price, triples_with}
-use Rattle.hdt_triples.specs.Counting.{subject_at}
 use Rattle.hdt_triples.specs.Patterns.{matches}
 use Rattle.hdt_triples.specs.Views.{bitmap_read}
-use Rattle.hdt_triples.specs.Left.{left_of, limit_of, short_limit_of, steps_of}
+use Rattle.hdt_triples.specs.Left.{left_of}
 use Rattle.hdt_triples.specs.Walking.{triples_from}
-use Rattle.hdt_triples.specs.declared.matches.Matches.TheVariants.{SubjectObject}
-use Rattle.hdt_triples.proofs.GoingLaws.{goes_some}
 use Rattle.hdt_triples.proofs.PlaceLaws.{within_pairs}
-use Rattle.hdt_triples.proofs.SubjectLaws.{matches_over, pays_on}
-use Rattle.hdt_triples.proofs.SubjectObjectLaws.{first_price, goes_hit, goes_miss, goes_over, goes_short, goes_skip, next_taken, no_next, spared, walk_missed, walk_taken}
+use Rattle.hdt_triples.proofs.SubjectObjectLaws.{first_price, goes_over, goes_skip, next_taken, no_next, spared}
 use Rattle.hdt_triples.proofs.WalkLaws.{matches_none}
 use Rattle.hdt_triples.proofs.subject_object.SubjectObjectMatches.skip.Goals as goal
 

@@ -1,4 +1,4 @@
-use Rattle.std.proofs.Common.{arith, ap, sym, suc, ◌∷◌, ◌∙◌, ◌≡◌, ◌≤◌, ◌<◌, ◌+◌, ◌*◌, length, refl, slice_index}
+use Rattle.std.proofs.Common.{arith, ap, sym, suc, ◌∷◌, ◌∙◌, ◌≡◌, ◌≤◌, ◌<◌, ◌+◌, ◌*◌, length}
 use Rattle.hdt_triples.specs.Bounds.{jump, skip_price, triples_with}
 use Rattle.hdt_triples.specs.Counting.{pair_of, subject_at}
 use Rattle.hdt_triples.specs.Patterns.{matches}
