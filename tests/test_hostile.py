@@ -146,6 +146,7 @@ def test_answers_at_the_start_of_a_huge_block(tmp_path: Path) -> None:
     check_linear(seconds, 4, 0.02)
 
 
+<<<<<<< HEAD
 def test_predicate_that_is_kept(tmp_path: Path) -> None:
     """The term of a predicate that is met first is kept, also where another one that has its place is asked for.
 
@@ -167,6 +168,44 @@ def test_predicate_that_is_kept(tmp_path: Path) -> None:
             requests = b"<u:a> ? ?\n<u:b> ? ?\n" * asked
             result, one = timed([PROGRAM, "answer", tmp_path / f"{scale}.hdt"], stdin=requests)
             assert abridged(result) == abridged(Result(0, line * asked, b""))
+=======
+def one_subject(count: int) -> bytes:
+    """A document of one subject, one predicate and so many objects."""
+    return b"".join(b'<u:s> <u:p> "%07d" .\n' % i for i in range(count))
+
+
+def one_object(count: int) -> bytes:
+    """A document of so many subjects, each with one predicate and one object, and one triple of another predicate."""
+    return b"<u:s> <u:q> <u:o> .\n" + b"".join(b"<u:s%07d> <u:p> <u:o> .\n" % i for i in range(count))
+
+
+# Requests whose answer is short although one of the lists that it could be found by is as long as the file: how the file
+# is made, the options, the request, and the answer.
+SHORT_ANSWERS: dict[str, tuple[Callable[[int], bytes], list[str], bytes, bytes]] = {
+    "a subject with an object": (one_subject, [], b'<u:s> ? "0000000"\n', b'<u:s> <u:p> "0000000" .\n\n'),
+    "a predicate with an object": (one_object, [], b"? <u:q> <u:o>\n", b"<u:s> <u:q> <u:o> .\n\n"),
+    "a count of one subject of many": (one_object, ["--count"], b"<u:s> ? <u:o>\n", b"1\n\n"),
+    "a count of a subject with an object": (one_subject, ["--count"], b'<u:s> ? "0000000"\n', b"1\n\n"),
+    "some of a predicate's": (one_object, ["--count", "--most", "3"], b"? <u:p> ?\n", b"3\n\n"),
+    "some of a predicate's with an object": (
+        one_object, ["--count", "--most", "3"], b"? <u:p> <u:o>\n", b"3\n\n"),
+}
+
+
+@pytest.mark.parametrize("name", SHORT_ANSWERS)
+def test_short_answers_from_long_lists(name: str, tmp_path: Path) -> None:
+    """2,000 requests take no longer in a file of sixteen times the size, without opening it."""
+    document, options, request, reply = SHORT_ANSWERS[name]
+    for scale in SCALES:
+        (tmp_path / f"{scale}.nt").write_bytes(document(12_500 * scale))
+        assert hdt("build", tmp_path / f"{scale}.nt", tmp_path / f"{scale}.hdt").status == 0
+
+    def seconds(scale: int) -> float:
+        taken = []
+        for asked in (0, 2_000):
+            result, one = timed([PROGRAM, "answer", *options, tmp_path / f"{scale}.hdt"], stdin=request * asked)
+            assert abridged(result) == abridged(Result(0, reply * asked, b""))
+>>>>>>> 636c55dab86f4ff9ce8e008db4dacf3086dbffbe
             taken.append(one)
         return taken[1] - taken[0]
 

@@ -339,6 +339,17 @@ def test_counts_among_many(probe: Probe) -> None:
         assert list(zip(AMONG_MANY, answer[1:])) == wanted, (word, most)
 
 
+@pytest.mark.parametrize("step", [1, 2, 3, 7, 45, 100, 1_000, 99_999])
+def test_subject_with_an_object_among_many(step: int, probe: Probe) -> None:
+    """Every so many of a subject's 100,000 pairs has object 2, and so have the subjects before and behind; in order."""
+    ids = [(1, p, 2) for p in range(1, 51)]
+    ids += [(2, p, 2 if p % step == 0 else 1) for p in range(1, 100_001)]
+    ids += [(3, p, 2) for p in range(1, 101)] + [(4, 1, 1), (5, 1, 3)]
+    patterns: list[Pattern] = [(s, None, o) for s in range(7) for o in range(5)]
+    assert len(model.matches(ids, (2, None, 2))) == 100_000 // step
+    assert_finds(probe, model.write_triples(ids), 0, (5, 100_000, 4), ids, patterns)
+
+
 def test_finds_by_the_shorter_list(probe: Probe) -> None:
     """A predicate with an object is found by the pairs of the one and by the triples of the other, in order.
 

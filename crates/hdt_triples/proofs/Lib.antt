@@ -14,5 +14,6 @@ mod PredicateObjectLaws
 mod RunLaws
 mod SliceLaws
 mod SubjectLaws
+mod SubjectObjectLaws
 mod UsingLaws
 mod WalkLaws

@@ -1,5 +1,6 @@
 -- Counting in an ascending list of places.
-use Rattle.std.proofs.Common.{◌≡◌, ℕ, ◌+◌, ◌-◌, ◌<◌, ◌≤◌, ◌==◌, zero, suc, List, [], ◌∷◌, length, filter, map, slice_index, refl, ap, sym, subst, arith, Bool, true, false, cond}
+use Rattle.std.proofs.Common.{◌≡◌, ◌⊎◌, inl, inr, ◌∙◌, ℕ, ◌+◌, ◌-◌, ◌<◌, ◌≤◌, ◌==◌, zero, suc, List, [], ◌∷◌, length, filter, map, slice_index, refl, ap, sym, subst, arith, Bool, true, false, cond, eq-eqb, eq-or-lt_of_le}
+use Rattle.std.proofs.lemmas.Bool.{cases_lt}
 use Rattle.std.specs.List.{range_with_len}
 use Rattle.std.specs.List.Sorted.{IsStrictlyIncreasing}
 use Rattle.std.proofs.lemmas.List.FromFn.{length-range_with_len, get_or-range_with_len}
@@ -73,3 +74,50 @@ pub matches_mapped : (p : Pattern) (f : BitmapTriples) (js : List ℕ) → lengt
 unfolding matches
 matches_mapped p f [] = refl
 matches_mapped p f (j ∷ js) = mapped_by p f j js (agrees p (triple_at f j)) refl (matches_mapped p f js)
+
+-- ---- where a place stands in its list
+
+abbrev StandsIn : List ℕ → ℕ → Type 0
+StandsIn js i = (m : ℕ) × (m < length js) × (slice_index js m ≡ i)
+
+stands_by : (js : List ℕ) (a i : ℕ) (b : Bool) → (a ≡ i → b ≡ true) → (a ≡ i) ⊎ StandsIn js i → StandsIn (cond b (a ∷ js) js) i
+stands_by js a i true own (inl e) = (0, omega arith, e)
+stands_by js a i true own (inr s) = (suc s.0, omega (arith, s.1), s.2)
+stands_by js a i false own (inl e) = let no : false ≡ true = own e in absurd (cc)
+stands_by js a i false own (inr s) = s
+
+abbrev kept : List ℕ → ℕ → ℕ → ℕ → List ℕ
+kept xs k a n = filter (λ i. slice_index xs i == k) (range_with_len a n)
+
+stands_from : (n : ℕ) (xs : List ℕ) (k a i : ℕ) → a ≤ i → i < a + n → slice_index xs i ≡ k → (a ≡ i) ⊎ (a < i) → StandsIn (kept xs k a n) i
+stands_from zero xs k a i from to is c = absurd (omega (arith, from, to))
+stands_from (suc n) xs k a i from to is (inl e) =
+    stands_by (kept xs k (a + 1) n) a i (slice_index xs a == k) (λ same. eq-eqb (slice_index xs a) k (ap (slice_index xs) same ∙ is)) (inl e)
+stands_from (suc n) xs k a i from to is (inr less) =
+    stands_by (kept xs k (a + 1) n) a i (slice_index xs a == k) (λ same. eq-eqb (slice_index xs a) k (ap (slice_index xs) same ∙ is))
+    (inr (stands_from n xs k (a + 1) i (omega (arith, less)) (omega (arith, to)) is (eq-or-lt_of_le (omega (arith, less)))))
+
+pub place_stands : (xs js : List ℕ) (k i : ℕ) → js ≡ places_of xs k → IsPlaceOf xs k i → (m : ℕ) × (m < length js) × (slice_index js m ≡ i)
+place_stands xs js k i is place =
+    subst (λ (l : List ℕ). StandsIn l i) (sym is) (stands_from (length xs) xs k 0 i (omega arith) (omega (arith, place.0)) place.1 (eq-or-lt_of_le (omega arith)))
+
+at_or_behind : (js : List ℕ) (next m : ℕ) → ((i j : ℕ) → i < j → j < length js → slice_index js i < slice_index js j) → m < length js → (next ≡ m) ⊎ (next < m) → slice_index js next ≤ slice_index js m
+at_or_behind js next m up h (inl e) = omega (arith, ap (slice_index js) e)
+at_or_behind js next m up h (inr less) = omega (arith, up next m less h)
+
+behind_by : (js : List ℕ) (from next i m : ℕ) → ((i j : ℕ) → i < j → j < length js → slice_index js i < slice_index js j) → ((i : ℕ) → i < next → slice_index js i < from)
+    → m < length js → slice_index js m ≡ i → from ≤ i → (m < next) ⊎ (next ≤ m) → slice_index js next ≤ i
+behind_by js from next i m up below h is l (inl less) = absurd (omega (arith, below m less, is, l))
+behind_by js from next i m up below h is l (inr more) = omega (arith, is, at_or_behind js next m up h (eq-or-lt_of_le more))
+
+-- where those before `next` stand before place `from`, no place from there on stands before that of `next`
+pub next_is_first : (xs js : List ℕ) (k from next i : ℕ) → js ≡ places_of xs k → ((i : ℕ) → i < next → slice_index js i < from) → from ≤ i → i < length xs → slice_index xs i ≡ k → slice_index js next ≤ i
+next_is_first xs js k from next i is below l h own =
+    let m = place_stands xs js k i is (h, own) in
+    behind_by js from next i m.0 (list_ascends xs js k is) below m.1 m.2 l (cases_lt m.0 next)
+
+-- and where these are all there is none
+pub none_behind : (xs js : List ℕ) (k from next i : ℕ) → js ≡ places_of xs k → length js ≤ next → ((i : ℕ) → i < next → slice_index js i < from) → from ≤ i → i < length xs → slice_index xs i ≡ k → ⊥
+none_behind xs js k from next i is all below l h own =
+    let m = place_stands xs js k i is (h, own) in
+    absurd (omega (arith, below m.0 (omega (arith, m.1, all)), m.2, l))

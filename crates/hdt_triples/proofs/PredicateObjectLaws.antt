@@ -5,7 +5,7 @@ use Rattle.hdt_seq.specs.Directory.{groups}
 use Rattle.hdt_seq.specs.Width.{digits}
 use Rattle.hdt_seq.specs.Laws.Marks.{marks_mono}
 use Rattle.hdt_triples.specs.declared.matches.Matches.{Matches}
-use Rattle.hdt_triples.specs.declared.matches.Matches.TheVariants.{Empty, Walk, Subject, Pair, Predicate, PredicateObject, Object}
+use Rattle.hdt_triples.specs.declared.matches.Matches.TheVariants.{Empty, Walk, Subject, SubjectObject, Pair, Predicate, PredicateObject, Object}
 use Rattle.hdt_triples.specs.declared.pattern.Pattern.{Pattern}
 use Rattle.hdt_triples.specs.Bounds.{jump, pair_look}
 use Rattle.hdt_triples.specs.Counting.{BitmapTriples, IsMarked, Triple, pair_of, subject_at, triple_at}
@@ -120,6 +120,7 @@ unfolding short_limit_of limit_of
 shorter Empty = omega arith
 shorter (Walk m) = omega arith
 shorter (Subject m) = omega arith
+shorter (SubjectObject m) = omega arith
 shorter (Pair m) = omega arith
 shorter (Predicate m) = omega arith
 shorter (PredicateObject m) = m.few
@@ -130,6 +131,7 @@ unfolding short_limit_of limit_of steps_of
 fewer Empty few = few
 fewer (Walk m) few = few
 fewer (Subject m) few = few
+fewer (SubjectObject m) few = omega (arith, m.short, few)
 fewer (Pair m) few = few
 fewer (Predicate m) few = few
 fewer (PredicateObject m) few = omega (arith, m.short)

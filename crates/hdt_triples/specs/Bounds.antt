@@ -67,9 +67,15 @@ most_steps_by f pattern None None None = 4 * length f.zs
 unfoldable pub most_steps : BitmapTriples → Pattern → ℕ
 most_steps f p = most_steps_by f p p.s p.p p.o
 
+-- the next place of an object looked up in its list: halving the list, and 20 more
+unfoldable pub skip_price : BitmapTriples → ℕ → ℕ
+skip_price f o = digits (triples_with (of_object o) f) + 20
+
 abbrev pub short_steps_by : BitmapTriples → Pattern → Option ℕ → Option ℕ → Option ℕ → ℕ
 -- a predicate and an object: the object looked up in each pair of the predicate, and in one more
 short_steps_by f pattern None (Some p) (Some o) = pair_look f * (1 + length (places_of f.ys p))
+-- a subject and an object: a jump, and the object's list looked up four times for each match and for one more
+short_steps_by f pattern (Some s) None (Some o) = jump f + 4 * skip_price f o * (1 + triples_with pattern f)
 short_steps_by f pattern s p o = most_steps_by f pattern s p o
 
 -- the same where the shorter of two lists is taken

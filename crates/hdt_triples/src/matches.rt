@@ -13,6 +13,7 @@ use crate::pattern::Pattern;
 use crate::predicate::PredicateMatches;
 use crate::predicate_object::PredicateObjectMatches;
 use crate::subject::SubjectMatches;
+use crate::subject_object::SubjectObjectMatches;
 use crate::walk::WalkMatches;
 use hdt_seq::Steps;
 
@@ -31,6 +32,8 @@ pub enum Matches<'a> {
     Walk(WalkMatches<'a>),
     /// The triples of a subject in turn.
     Subject(SubjectMatches<'a>),
+    /// The triples of a subject that have an object, in turn, or by the object's list.
+    SubjectObject(SubjectObjectMatches<'a>),
     /// The triples of a subject and a predicate, which stand together, or the one with the object.
     Pair(PairMatches<'a>),
     /// The triples of a predicate, by its list of pairs.
@@ -71,8 +74,9 @@ impl<'a> ListedTriples<'a> {
 
     /// The matches of a pattern: exactly the triples that agree with each number that is given, once each, in the order of
     /// the triples. A subject is found by the directories, a predicate alone by its list of pairs, an object alone by its
-    /// list of places, and a predicate with an object by the one of the two lists that takes fewer steps; where nothing is
-    /// given it is a walk. It takes no memory.
+    /// list of places, and a predicate with an object by the one of the two lists that takes fewer steps; of a subject's
+    /// triples those with an object are found by the object's list where many don't have it. Where nothing is given it is a
+    /// walk. It takes no memory.
     #[tactic(auto, using(crate::proofs::PredicateObjectLaws::shorter), unfolding(crate::specs::Bounds::most_steps, crate::specs::Bounds::short_steps))]
     pub fn find(&self, pattern: Pattern) -> Matches<'_>
         ensures items { left_of result ≡ matches pattern (triples_of (bitmap_read (triples_listed self.now))) }
@@ -83,6 +87,9 @@ impl<'a> ListedTriples<'a> {
         ensures short { short_limit_of result ≤ short_steps (bitmap_read (triples_listed self.now)) pattern }
     {
         match (pattern.s, pattern.p, pattern.o) {
+            (Some(subject), None, Some(object)) => {
+                self.find_subject_object(pattern, subject, object)
+            }
             (Some(_), _, _) => self.indexed.find(pattern),
             (None, None, Some(object)) => self.find_object(pattern, object, Steps::new()),
             (None, Some(predicate), Some(object)) => {
@@ -101,22 +108,21 @@ impl<'a> Iterator for Matches<'a> {
     ghost use Rattle.std.specs.Prelude.{⊤};
     ghost use Rattle.hdt_triples.specs.Left.{left_of, limit_of, short_limit_of, steps_of};
 
-    // The first of those left is given; the limit of the looks stays, and the looks don't go back.
-    ghost next_gives = { λ old result new. YieldsFirst left_of old result new × (limit_of new ≡ limit_of old) × (steps_of old ≤ steps_of new) };
+    // The first of those left is given; both limits of the looks stay, and the looks don't go back.
+    ghost next_gives = { λ old result new. YieldsFirst left_of old result new × (limit_of new ≡ limit_of old) × (steps_of old ≤ steps_of new) × (short_limit_of new ≡ short_limit_of old) };
 
     ghost remaining = { item_count left_of };
 
     #[tactic(auto, unfolding(crate::specs::Left::left_of, crate::specs::Left::limit_of, crate::specs::Left::short_limit_of, crate::specs::Left::steps_of))]
     fn next(&mut self) -> Option<(u64, u64, u64)>
-        ensures steps { YieldsFirst left_of self.old result self.new × (limit_of self.new ≡ limit_of self.old) × (steps_of self.old ≤ steps_of self.new) }
+        ensures steps { YieldsFirst left_of self.old result self.new × (limit_of self.new ≡ limit_of self.old) × (steps_of self.old ≤ steps_of self.new) × (short_limit_of self.new ≡ short_limit_of self.old) }
         ensures goes { MakesProgress (λ _. ⊤) (item_count left_of) self.old result self.new }
-        // The limit by the shorter list stays too.
-        ensures short { short_limit_of self.new ≡ short_limit_of self.old }
     {
         match self {
             Matches::Empty => None,
             Matches::Walk(matches) => matches.next(),
             Matches::Subject(matches) => matches.next(),
+            Matches::SubjectObject(matches) => matches.next(),
             Matches::Pair(matches) => matches.next(),
             Matches::Predicate(matches) => matches.next(),
             Matches::PredicateObject(matches) => matches.next(),

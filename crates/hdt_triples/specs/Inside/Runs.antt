@@ -2,7 +2,9 @@
 use Rattle.std.specs.Prelude.{ℕ, ◌≡◌, ◌≢◌, ◌≤◌, ◌<◌, ◌+◌, length, slice_index, true, false}
 use Rattle.hdt_triples.specs.Counting.{BitmapTriples, pair_of, subject_at, triple_at}
 use Rattle.hdt_triples.specs.Patterns.{agrees}
+use Rattle.hdt_triples.specs.Walking.{StandsAt}
 use Rattle.hdt_triples.specs.declared.pattern.Pattern.{Pattern}
+use Rattle.hdt_triples.specs.declared.place.Place.{Place}
 
 -- pair q has this subject and this predicate
 abbrev pub IsPairOf : BitmapTriples → ℕ → ℕ → ℕ → Type 0
@@ -50,3 +52,12 @@ pub record AreBetween (f : BitmapTriples) (pattern : Pattern) (at end : ℕ) : T
   pub before : (i : ℕ) → i < at → agrees pattern (triple_at f i) ≡ false
   pub all : (i : ℕ) → at ≤ i → i < end → agrees pattern (triple_at f i) ≡ true
   pub over : (i : ℕ) → end ≤ i → i < length f.zs → agrees pattern (triple_at f i) ≡ false
+
+-- the first triple from place `from` on that has object o is this one, of subject s
+pub record IsNextOf (f : BitmapTriples) (s o from : ℕ) (p : Place) : Type 0 where
+  pub stands : StandsAt f p
+  pub later : from ≤ p.at
+  pub within : p.at < length f.zs
+  pub own : p.subject ≡ s
+  pub object : slice_index f.zs p.at ≡ o
+  pub first : (i : ℕ) → from ≤ i → i < p.at → slice_index f.zs i ≢ o
