@@ -202,7 +202,7 @@ def all_strings() -> bytes:
                     for c in OTHERS for d in OTHERS if (c, d) != (1, 1))
     own = reference.crc32(same) ^ 0xFFFFFFFF ^ shifted(0xFFFFFFFF, len(same))
     moved = [shifted(1 << bit, len(same)) for bit in range(32)]
-    pieces, register = [], 0xFFFFFFFF
+    pieces, register = list[bytes](), 0xFFFFFFFF
     for a in FIRST:
         for b in OTHERS:
             front = fronts[1] + bytes([b, 1, 1, 0]) if b > 1 else fronts[0] + bytes([a, 1, 1, 1, 0])
