@@ -2,6 +2,8 @@
 
 from __future__ import annotations
 
+import functools
+import operator
 from pathlib import Path
 
 import pytest
@@ -168,3 +170,58 @@ def test_any_terms(tmp_path: Path, strings: list[bytes], other: bytes) -> None:
     cases = [(string, done(b"%d\n" % (strings.index(string) + 1)) if string in strings else NO_SUCH_TERM)
              for string in [*strings, other]]
     assert [(string, hdt("number", path, "object", spelled(string))) for string, _ in cases] == cases
+
+
+# ---- more than 2^24 strings
+
+# Strings of four bytes, the first one of nine and each other one of 127: all of them, in order, 18,435,447.
+FIRST, OTHERS = range(33, 42), range(1, 128)
+
+
+def string_at(n: int) -> bytes:
+    """String n of these, from 0."""
+    n, last = divmod(n, 127)
+    n, third = divmod(n, 127)
+    return bytes([FIRST[n // 127], OTHERS[n % 127], OTHERS[third], OTHERS[last]])
+
+
+def shifted(register: int, length: int) -> int:
+    """The register of CRC-32C after so many zero bytes."""
+    for _ in range(length):
+        register = register >> 8 ^ reference.TABLE32[register & 0xFF]
+    return register
+
+
+def all_strings() -> bytes:
+    """The section of these strings, in one block.
+
+    The pieces behind a string that ends in 1 1 are the same for every front, and so is what they do to a CRC.
+    """
+    fronts = [reference.write_vbyte(kept) for kept in range(4)]
+    same = b"".join(fronts[3 if d > 1 else 2] + bytes([d] if d > 1 else [c, 1]) + b"\0"
+                    for c in OTHERS for d in OTHERS if (c, d) != (1, 1))
+    own = reference.crc32(same) ^ 0xFFFFFFFF ^ shifted(0xFFFFFFFF, len(same))
+    moved = [shifted(1 << bit, len(same)) for bit in range(32)]
+    pieces, register = list[bytes](), 0xFFFFFFFF
+    for a in FIRST:
+        for b in OTHERS:
+            front = fronts[1] + bytes([b, 1, 1, 0]) if b > 1 else fronts[0] + bytes([a, 1, 1, 1, 0])
+            front = front if pieces else front[1:]
+            for byte in front:
+                register = register >> 8 ^ reference.TABLE32[(register ^ byte) & 0xFF]
+            register = functools.reduce(operator.xor, (moved[bit] for bit in range(32) if register >> bit & 1), own)
+            pieces += [front, same]
+    packed = b"".join(pieces)
+    count = len(FIRST) * 127**3
+    return (reference.write_section_preamble(count, len(packed), count) + reference.write_numbers([0, len(packed)])
+            + packed + (register ^ 0xFFFFFFFF).to_bytes(4, "little"))
+
+
+def test_more_than_2_to_the_24_strings(tmp_path: Path) -> None:
+    """A string is found by its ID past 2^24, and its ID by it."""
+    path, count = tmp_path / "many.hdt", len(FIRST) * 127**3
+    sections = [reference.write_section([]), reference.write_section([b"u:s"]), reference.write_section([b"u:p"])]
+    path.write_bytes(reference.write_head() + reference.write_control(reference.DICTIONARY, b"mapping=1;")
+                     + b"".join(sections) + all_strings() + reference.write_triples([(1, 1, 1)]))
+    assert hdt("string", path, "object", str(count)) == done(string_at(count - 1) + b"\n")
+    assert hdt("number", "--raw", path, "object", string_at(1 << 24)) == done(b"%d\n" % ((1 << 24) + 1))
