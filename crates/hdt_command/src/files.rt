@@ -83,11 +83,7 @@ impl Read for Source {
 }
 
 /// Opens the file that is read. Where progress is asked for, the standard error is told of it.
-pub fn opened(
-    rt: &HostRuntime,
-    path: &str,
-    progress: bool,
-) -> io::Result<Watched<Source, Stderr>> {
+pub fn opened(rt: &HostRuntime, path: &str, progress: bool) -> io::Result<Watched<Source, Stderr>> {
     let source = Source::open(rt, path)?;
     let size = source.size(rt);
     let told = if progress { Some(rt.stderr()) } else { None };
