@@ -8,3 +8,4 @@ pub mod Dictionaries
 pub mod Steps
 pub mod Turning
 pub mod Appending
+pub mod OneAfterAnother

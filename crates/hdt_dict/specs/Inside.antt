@@ -1,2 +1,3 @@
 pub mod Overlap
 pub mod Merging
+pub mod Seeking

@@ -1,6 +1,7 @@
 pub mod Dictionary
 pub mod Numbered
 pub mod Looks
+pub mod Many
 pub mod Views
 pub mod Walking
 pub mod Following

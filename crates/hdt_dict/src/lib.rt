@@ -25,6 +25,7 @@ mod apart;
 mod arena;
 mod dictionary;
 mod laws;
+mod many;
 mod merge;
 mod overlap;
 mod parts;

@@ -31,7 +31,7 @@ invariant_of-self-2 c =
     let inside : c.self.inside.at < length (strings_of s) = subst (λ (w : Seeking). w.at < length (strings_of w.section)) (sym c.self.view_is) c.requires in
     let p = passes s c.self.inside.at c.self.inside.last.items c.self.inside.rest.now (omega (arith, inside, count_is s)) c.self.invariant.1 c.self.invariant.2 in
     let made = string_made (is_head s.packed.block c.self.inside.at) c.self.inside.last.items c.self.inside.rest.now c.unfold.new.string.items c.piece_of-kept.result.1.now c.piece_of-kept.result.0
-        c.in_ok-unfold.ensures.ok c.piece_of-kept.ensures.kept c.piece_of-kept.ensures.text in
+    c.in_ok-unfold.ensures.ok c.piece_of-kept.ensures.kept c.piece_of-kept.ensures.text in
     (omega (arith, inside, count_is s), made ∙ p.string, c.piece_of-kept.ensures.rest ∙ p.after)
 
 pub returns-clause-ok : goal.returns-clause-ok
@@ -40,7 +40,7 @@ returns-clause-ok c =
     let inside : c.self.inside.at < length (strings_of s) = subst (λ (w : Seeking). w.at < length (strings_of w.section)) (sym c.self.view_is) c.requires in
     let p = passes s c.self.inside.at c.self.inside.last.items c.self.inside.rest.now (omega (arith, inside, count_is s)) c.self.invariant.1 c.self.invariant.2 in
     let made = string_made (is_head s.packed.block c.self.inside.at) c.self.inside.last.items c.self.inside.rest.now c.unfold.new.string.items c.piece_of-kept.result.1.now c.piece_of-kept.result.0
-        c.in_ok-unfold.ensures.ok c.piece_of-kept.ensures.kept c.piece_of-kept.ensures.text in
+    c.in_ok-unfold.ensures.ok c.piece_of-kept.ensures.kept c.piece_of-kept.ensures.text in
     let same : c.self.inside.at ≡ c.self.inside.at + 1 - 1 = omega arith in
     let string = made ∙ p.string ∙ sym (string_before s c.self.inside.at (omega (arith, inside, count_is s))) ∙ ap (λ k. get_or (strings_of s) k []) same in
     ap (λ (l : List ℕ). (let w : Seeking = record { section = s; at = c.self.inside.at + 1; last = l } in w)) string ∙ ap (λ (w : Seeking). standing w.section (w.at + 1)) c.self.view_is

@@ -1,0 +1,208 @@
+//! The strings of many numbers at once.
+ghost use Rattle.std.specs.Prelude.{◌≡◌, ◌<◌, ◌≤◌, ◌+◌, ◌-◌, ◌*◌, ◌++◌, ◌^◌, [], ℕ, true, false, length, max, slice_index_or, slice_index, IsOk, IfOk, OnOk, OnErr};
+ghost use Rattle.hdt_wire.specs.Control.{Keeps};
+ghost use Rattle.hdt_front.specs.Strings.{strings_of, block_size};
+ghost use Rattle.hdt_dict.specs.Dictionary.{strings_in, sections_of};
+ghost use Rattle.hdt_dict.specs.Inside.Seeking.{StandAt};
+ghost use Rattle.hdt_dict.specs.Looks.{role_block};
+ghost use Rattle.hdt_dict.specs.Many.{AppendsAll, AppendsStrings, AreNumbers, AscendTo, strings_at};
+ghost use Rattle.hdt_dict.specs.Views.{dictionary_of};
+
+use crate::dictionary::Dictionary;
+use hdt_front::{Section, Seeker};
+use hdt_seq::Steps;
+use hdt_wire::{Role, cut_on_error};
+use std::alloc::{AllocError, Global};
+
+/// Whether each of the numbers is that of one of so many strings, from 1.
+fn are_numbers(numbers: &[u64], count: u64) -> bool
+    ensures yes { result ≡ true → (i : ℕ) → i < length numbers.now → (1 ≤ slice_index numbers.now i) × (slice_index numbers.now i ≤ count) }
+    ensures no { result ≡ false → ((i : ℕ) → i < length numbers.now → (1 ≤ slice_index numbers.now i) × (slice_index numbers.now i ≤ count)) → ⊥ }
+{
+    for at in 0..numbers.len() {
+        if numbers[at] == 0 || numbers[at] > count {
+            return false;
+        }
+    }
+    true
+}
+
+/// Appends string n of two sections, one after the other, the first of which has so many strings.
+fn append_next(
+    first: &mut Seeker<'_>,
+    second: &mut Seeker<'_>,
+    many: u64,
+    n: u64,
+    out: &mut Vec<u8>,
+    steps: &mut Steps,
+) -> Result<(), AllocError>
+    requires many { many ≡ length (strings_of first.old.section) }
+    requires from_one { 1 ≤ n }
+    requires within { n ≤ length (strings_of first.old.section ++ strings_of second.old.section) }
+    ensures sections { (first.new.section ≡ first.old.section) × (second.new.section ≡ second.old.section) }
+    ensures ok { OnOk result (out.new.items ≡ out.old.items ++ slice_index_or (strings_of first.old.section ++ strings_of second.old.section) (n - 1) []) }
+    ensures err { OnErr result (out.new.items ≡ out.old.items) }
+    ensures cost { steps.new ≤ steps.old + max (block_size first.old.section) (block_size second.old.section) }
+    ensures near { (before : ℕ) → StandAt first.old second.old before → before ≤ n → steps.new + before ≤ steps.old + n }
+    ensures stand { OnOk result ((before : ℕ) → StandAt first.old second.old before → before ≤ n → StandAt first.new second.new n) }
+{
+    if n <= many {
+        first.seek(n, steps)?;
+        return out.extend_from_slice(first.last());
+    }
+    second.seek(n - many, steps)?;
+    out.extend_from_slice(second.last())
+}
+
+/// Appends the strings of numbers of two sections, one after the other, and where they end. An `Err` may leave some behind.
+fn append_all<'a>(
+    alloc: Global,
+    first: &Section<'a>,
+    second: &Section<'a>,
+    numbers: &[u64],
+    out: &mut Vec<u8>,
+    ends: &mut Vec<u64>,
+    steps: &mut Steps,
+) -> Result<(), AllocError>
+    requires { AreNumbers (strings_of first.now ++ strings_of second.now) numbers.now }
+    ensures ok { OnOk result (AppendsStrings (strings_at (strings_of first.now ++ strings_of second.now) numbers.now) out.old.items out.new.items ends.old.items ends.new.items) }
+    ensures err { OnErr result (Keeps out.old.items out.new.items) }
+    ensures places { OnErr result (Keeps ends.old.items ends.new.items) }
+    ensures cost { steps.new ≤ steps.old + length numbers.now * max (block_size first.now) (block_size second.now) }
+    ensures once { (n : ℕ) → AscendTo numbers.now n → steps.new ≤ steps.old + n }
+{
+    let mut in_first = Seeker::new(alloc, first);
+    let mut in_second = Seeker::new(alloc, second);
+    for at in 0..numbers.len() {
+        append_next(
+            &mut in_first,
+            &mut in_second,
+            first.len(),
+            numbers[at],
+            out,
+            steps,
+        )?;
+        ends.push(out.len() as u64)?;
+    }
+    Ok(())
+}
+
+/// The same; where memory is refused, `out` and `ends` are as they were.
+fn append_whole<'a>(
+    alloc: Global,
+    first: &Section<'a>,
+    second: &Section<'a>,
+    numbers: &[u64],
+    out: &mut Vec<u8>,
+    ends: &mut Vec<u64>,
+    steps: &mut Steps,
+) -> Result<(), AllocError>
+    requires { AreNumbers (strings_of first.now ++ strings_of second.now) numbers.now }
+    ensures ok { OnOk result (AppendsStrings (strings_at (strings_of first.now ++ strings_of second.now) numbers.now) out.old.items out.new.items ends.old.items ends.new.items) }
+    ensures err { OnErr result ((out.new.items ≡ out.old.items) × (ends.new.items ≡ ends.old.items)) }
+    ensures cost { steps.new ≤ steps.old + length numbers.now * max (block_size first.now) (block_size second.now) }
+    ensures once { (n : ℕ) → AscendTo numbers.now n → steps.new ≤ steps.old + n }
+{
+    let start = out.len();
+    let listed = ends.len();
+    let appended = append_all(alloc, first, second, numbers, out, ends, steps);
+    if appended.is_err() {
+        ends.truncate(listed);
+    }
+    cut_on_error(appended, start, out)
+}
+
+/// Appends the strings of numbers of a section, if each number has one.
+fn strings_in_one(
+    alloc: Global,
+    section: &Section<'_>,
+    numbers: &[u64],
+    out: &mut Vec<u8>,
+    ends: &mut Vec<u64>,
+    steps: &mut Steps,
+) -> Result<bool, AllocError>
+    ensures ok { IfOk result (λ all. AppendsAll (strings_of section.now) numbers.now all out.old.items out.new.items ends.old.items ends.new.items) }
+    ensures err { OnErr result ((out.new.items ≡ out.old.items) × (ends.new.items ≡ ends.old.items)) }
+    ensures cost { steps.new ≤ steps.old + length numbers.now * block_size section.now }
+    ensures once { (n : ℕ) → AscendTo numbers.now n → steps.new ≤ steps.old + n }
+    ensures absent { (AreNumbers (strings_of section.now) numbers.now → ⊥) → IsOk result }
+{
+    if !are_numbers(numbers, section.len()) {
+        return Ok(false);
+    }
+    // (no number goes on to the second section)
+    append_whole(alloc, section, section, numbers, out, ends, steps)?;
+    Ok(true)
+}
+
+/// The same of two sections, one after the other.
+fn strings_in_two(
+    alloc: Global,
+    first: &Section<'_>,
+    second: &Section<'_>,
+    numbers: &[u64],
+    out: &mut Vec<u8>,
+    ends: &mut Vec<u64>,
+    steps: &mut Steps,
+) -> Result<bool, AllocError>
+    requires { length (strings_of first.now) + length (strings_of second.now) < 2 ^ 64 }
+    ensures ok { IfOk result (λ all. AppendsAll (strings_of first.now ++ strings_of second.now) numbers.now all out.old.items out.new.items ends.old.items ends.new.items) }
+    ensures err { OnErr result ((out.new.items ≡ out.old.items) × (ends.new.items ≡ ends.old.items)) }
+    ensures cost { steps.new ≤ steps.old + length numbers.now * max (block_size first.now) (block_size second.now) }
+    ensures once { (n : ℕ) → AscendTo numbers.now n → steps.new ≤ steps.old + n }
+    ensures absent { (AreNumbers (strings_of first.now ++ strings_of second.now) numbers.now → ⊥) → IsOk result }
+{
+    if !are_numbers(numbers, first.len() + second.len()) {
+        return Ok(false);
+    }
+    append_whole(alloc, first, second, numbers, out, ends, steps)?;
+    Ok(true)
+}
+
+impl<'a> Dictionary<'a> {
+    /// Appends the strings of many numbers of a role, from 1, one after another, and to `ends` where each of them ends, in
+    /// bytes from the start of `out`: true; or false where one of the numbers is that of no string, which is the first
+    /// one that is 0 or above [`count`](Dictionary::count), with `out` and `ends` unchanged. Where memory is refused, both
+    /// are as they were.
+    ///
+    /// Each string takes at most as many looks as [`string_of`](Dictionary::string_of). Where the numbers ascend, repeats
+    /// allowed, each block is unfolded once: all strings together take at most as many looks as the last number.
+    #[tactic(auto, unfolding(crate::specs::Views::dictionary_of, crate::specs::Looks::role_block, hdt_front::specs::Strings::section_of))]
+    pub fn strings_of(
+        &self,
+        alloc: Global,
+        role: Role,
+        numbers: &[u64],
+        out: &mut Vec<u8>,
+        ends: &mut Vec<u64>,
+        steps: &mut Steps,
+    ) -> Result<bool, AllocError>
+        ensures ok { IfOk result (λ all. AppendsAll (strings_in (sections_of (dictionary_of self.now)) role) numbers.now all out.old.items out.new.items ends.old.items ends.new.items) }
+        ensures err { OnErr result ((out.new.items ≡ out.old.items) × (ends.new.items ≡ ends.old.items)) }
+        ensures cost { steps.new ≤ steps.old + length numbers.now * role_block (dictionary_of self.now) role }
+        ensures once { (n : ℕ) → AscendTo numbers.now n → steps.new ≤ steps.old + n }
+        ensures absent { (AreNumbers (strings_in (sections_of (dictionary_of self.now)) role) numbers.now → ⊥) → IsOk result }
+    {
+        match role {
+            Role::Subject => strings_in_two(
+                alloc,
+                &self.shared,
+                &self.subjects,
+                numbers,
+                out,
+                ends,
+                steps,
+            ),
+            Role::Predicate => strings_in_one(alloc, &self.predicates, numbers, out, ends, steps),
+            Role::Object => strings_in_two(
+                alloc,
+                &self.shared,
+                &self.objects,
+                numbers,
+                out,
+                ends,
+                steps,
+            ),
+        }
+    }
+}
