@@ -121,9 +121,9 @@ take_ended_is s n more cr held lt p h held_is more_is cr_is =
     let after : ends_in_cr s.after_cr (take (n + 1) s.held) ≡ cr = ap (ends_in_cr s.after_cr) cut ∙ ends_in_cr-ended s.after_cr (take n s.held) e ∙ sym cr_is in
     cc
 
-pub take_last_is : (s : State) (cr : Bool) (held : List ℕ) → NoEnd s.held → held ≡ drop (length s.held) s.held → cr ≡ (s.after_cr && eqb (length s.held) 0)
-    → record s { held = held; taken = s.taken + length s.held; after_cr = cr; ended = true } ≡ record (take_of s (length s.held)) { ended = true }
-take_last_is s cr held p held_is cr_is =
+pub take_held_is : (s : State) (cr : Bool) (held : List ℕ) → NoEnd s.held → held ≡ drop (length s.held) s.held → cr ≡ (s.after_cr && eqb (length s.held) 0)
+    → record s { held = held; taken = s.taken + length s.held; after_cr = cr } ≡ take_of s (length s.held)
+take_held_is s cr held p held_is cr_is =
     let cut : take (length s.held) s.held ≡ s.held = take_all (length s.held) s.held (omega arith) in
     let ends : s.ends + line_ends s.after_cr (take (length s.held) s.held) ≡ s.ends =
     rw (cut, line_ends-no_end s.after_cr s.held p) (add-zero s.ends) in

@@ -40,6 +40,7 @@ pub mod Looking
 pub mod TextReasons
 pub mod Taken
 pub mod Answering
+pub mod TextFronts
 pub mod Running
 pub mod RunningTexts
 pub mod LineAgain

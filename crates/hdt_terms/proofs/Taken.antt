@@ -32,7 +32,7 @@ left_takes front rest None = tt
 left_takes front rest (Some x) = append_assoc front rest x
 
 -- what is left stays, when the reader gives what is then held
-left_kept : (held new : List ℕ) (given given' : Option (List ℕ)) → Grew held new given given' → Keeps (prepend_known held given) (prepend_known new given')
+pub left_kept : (held new : List ℕ) (given given' : Option (List ℕ)) → Grew held new given given' → Keeps (prepend_known held given) (prepend_known new given')
 left_kept held new None given' p = tt
 left_kept held new (Some x) None p = absurd p.2
 left_kept held new (Some x) (Some y) p = ap (λ l. l ++ y) p.1 ∙ append_assoc held p.0 y ∙ ap (λ l. held ++ l) (sym p.2)
@@ -44,12 +44,12 @@ Keeps-Consumes (Some x) (Some y) None bs p q = absurd q
 Keeps-Consumes (Some x) (Some y) (Some z) bs p q = sym p ∙ q
 
 -- the front of what is held is taken, after the reader gave some of it
-left_front : (held new front rest : List ℕ) (given given' : Option (List ℕ)) → Grew held new given given' → new ≡ front ++ rest → Consumes (prepend_known held given) (prepend_known rest given') front
+pub left_front : (held new front rest : List ℕ) (given given' : Option (List ℕ)) → Grew held new given given' → new ≡ front ++ rest → Consumes (prepend_known held given) (prepend_known rest given') front
 left_front held new front rest given given' p e =
     Keeps-Consumes _ (prepend_known new given') _ front (left_kept held new given given' p)
     (subst (λ l. Consumes (prepend_known l given') (prepend_known rest given') front) (sym e) (left_takes front rest given'))
 
-nothing_given : (given : Option (List ℕ)) → Consumes given given []
+pub nothing_given : (given : Option (List ℕ)) → Consumes given given []
 nothing_given None = tt
 nothing_given (Some x) = refl
 
@@ -98,7 +98,7 @@ module _ (old : State) (h : List ℕ) (n : ℕ) (given given' : Option (List ℕ
     failed = refl;
   }
 
-  ended_taken : n < length h → is_end (get_or h n 0) ≡ true → LineTaken old (take_of (record old { held = h }) (n + 1)) (take n h) (left old given) (prepend_known (drop (n + 1) h) given')
+  pub ended_taken : n < length h → is_end (get_or h n 0) ≡ true → LineTaken old (take_of (record old { held = h }) (n + 1)) (take n h) (left old given) (prepend_known (drop (n + 1) h) given')
   ended_taken lt end = record {
     bytes = take (n + 1) h;
     takes = takes_front (n + 1) old.ended (omega (arith, lt));

@@ -1,5 +1,5 @@
 -- The texts of lines, whatever they are, taken from what is left of an input.
-use Rattle.std.specs.Prelude.{◌≡◌, ℕ, ◌+◌, Bool, true, false, List, [], ◌∷◌, ◌++◌, Option, Result, Ok, Err, ◌⊎◌}
+use Rattle.std.specs.Prelude.{◌≡◌, ℕ, ◌+◌, Bool, true, false, List, [], ◌∷◌, ◌++◌, take, Option, Result, Ok, Err, ◌⊎◌}
 use Rattle.std.specs.Io.KnownBytes.{IsAtEnd}
 use Rattle.hdt_terms.specs.declared.fault.LineFault.{LineFault}
 use Rattle.hdt_terms.specs.declared.fault.LineReason.{LineReason}
@@ -17,6 +17,10 @@ IsLineOf text bytes new after = NoEnd text
 -- one line of this text
 abbrev pub TakesText : State → State → Option (List ℕ) → Option (List ℕ) → List ℕ → Type 0
 TakesText old new before after text = (bytes : List ℕ) × Takes old new before after bytes × IsLineOf text bytes new after
+
+-- one line, and at most so many bytes of the front of its text
+abbrev pub TakesFront : ℕ → State → State → Option (List ℕ) → Option (List ℕ) → List ℕ → Type 0
+TakesFront most old new before after front = (text : List ℕ) × TakesText old new before after text × (front ≡ take most text)
 
 -- a line whose text can't be had after so many bytes: it can't be read, or is too long, as of any line, or memory ran out
 abbrev pub StandsUnread : LineReason → ℕ → ℕ → Option (List ℕ) → Option (List ℕ) → Type 0
@@ -36,6 +40,12 @@ abbrev pub AnswersText : Result Bool LineFault → List ℕ → State → State 
 AnswersText (Ok true) text old new before after given = TakesText old new before after text
 AnswersText (Ok false) text old new before after given = ⊥
 AnswersText (Err fault) text old new before after given = StandsNext fault old before given
+
+-- The same of at most so many bytes of the front of its text.
+abbrev pub AnswersFront : Result Bool LineFault → ℕ → List ℕ → State → State → Option (List ℕ) → Option (List ℕ) → Option (List ℕ) → Type 0
+AnswersFront (Ok true) most front old new before after given = TakesFront most old new before after front
+AnswersFront (Ok false) most front old new before after given = ⊥
+AnswersFront (Err fault) most front old new before after given = StandsNext fault old before given
 
 -- only a line's text is left in the buffer
 abbrev pub NoText : Result Bool LineFault → List ℕ → Type 0

@@ -28,7 +28,7 @@ pub(crate) fn line_end(bytes: &[u8], from: usize) -> Option<usize>
 
 /// One read of bytes that may be so many at most: whether there are more. One byte past the most is asked for, to see
 /// whether the input ends there.
-fn read_more<R: Read>(
+pub fn read_more<R: Read>(
     held: &mut Buffer,
     most: usize,
     input: &mut Counted<R>,

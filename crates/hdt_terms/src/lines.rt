@@ -1,15 +1,15 @@
 //! The lines of a document, over any reader in any pieces.
-ghost use Rattle.std.specs.Prelude.{◌≡◌, ◌≢◌, ◌+◌, ◌-◌, ◌==◌, take, slice_index, ◌^◌, ◌<◌, ◌≤◌, true, false, [], length, IfOk, OnOk, OnErr, IfErr, IsErrOf, IsUtf8, None, Some, Ok, Err, IfSome};
+ghost use Rattle.std.specs.Prelude.{◌≡◌, ◌≢◌, ◌+◌, ◌++◌, ◌-◌, ◌==◌, take, slice_index, ◌^◌, ◌<◌, ◌≤◌, true, false, [], length, IfOk, OnOk, OnErr, IfErr, IsErrOf, IsUtf8, None, Some, Ok, Err, IfSome};
 ghost use Rattle.hdt_wire.specs.Counted.{inner, failures};
 ghost use Rattle.hdt_terms.specs.Chars.{is_end};
-ghost use Rattle.hdt_terms.specs.Inside.Filling.{Filled, text_len};
+ghost use Rattle.hdt_terms.specs.Inside.Filling.{Filled, ReadMore, text_len};
 ghost use Rattle.hdt_terms.specs.Lines.{NoEnd};
-ghost use Rattle.hdt_terms.specs.declared.fault.LineReason.TheVariants.{Read};
+ghost use Rattle.hdt_terms.specs.declared.fault.LineReason.TheVariants.{OutOfMemory, Read};
 
 use crate::buffer::Buffer;
 use crate::encoding::check_beyond_ascii;
 use crate::fault::{LineFault, LineReason, TermFault};
-use crate::filling::{first_line, line_end};
+use crate::filling::{first_line, line_end, read_more};
 use crate::line::{is_bare, put_triple, read_triple};
 use crate::triple::Triple;
 use hdt_wire::Counted;
@@ -20,8 +20,8 @@ use std::marker::Model;
 /// The triples of a document, line by line, over any reader in any pieces (W3C RDF 1.1 N-Triples, by the profile of
 /// docs/NTRIPLES.md).
 ///
-/// It holds one buffer, of 64 KiB at first, which grows where a line is longer. Reading a document takes time in
-/// proportion to its bytes, and memory in proportion to its longest line.
+/// It holds one buffer, of 64 KiB at first, which grows where a line is longer, but not in [`Lines::next_front`]. Reading a
+/// document takes time in proportion to its bytes, and memory in proportion to its longest line.
 ///
 /// ```
 /// let mut lines = Lines::new(alloc, limit)?;
@@ -54,7 +54,7 @@ impl Model for Lines {
 
 impl Lines {
     ghost use Rattle.hdt_terms.specs.LineReading.{is_bare};
-    ghost use Rattle.hdt_terms.specs.TakingText.{TakesText, StandsNext, AnswersText, NoText};
+    ghost use Rattle.hdt_terms.specs.TakingText.{TakesText, TakesFront, StandsNext, AnswersFront, AnswersText, NoText};
     ghost use Rattle.hdt_terms.specs.Taking.{HoldsLine, State, start, left, line_number, take_of, take_line, Looked, Parsed, ParsedStrings, FindsLine, TakesNext, AnswersStrings, NoStrings};
 
     /// A reader of lines that has taken nothing. The input may have so many bytes at most: where it has more,
@@ -200,15 +200,23 @@ impl Lines {
         self.taken += n as u64 + 1;
     }
 
-    /// Takes the last line, which has no end.
-    fn take_last(&mut self)
+    /// Takes all that is held, where no line ends in it.
+    fn take_held(&mut self)
         requires text { NoEnd self.old.held }
-        ensures { self.new ≡ record (take_of self.old (length self.old.held)) { ended = true } }
+        ensures { self.new ≡ take_of self.old (length self.old.held) }
     {
         let n = self.held.len();
         self.after_cr &= n == 0;
         self.held.skip(n);
         self.taken += n as u64;
+    }
+
+    /// Takes the last line, which has no end.
+    fn take_last(&mut self)
+        requires text { NoEnd self.old.held }
+        ensures { self.new ≡ record (take_of self.old (length self.old.held)) { ended = true } }
+    {
+        self.take_held();
         self.ended = true;
     }
 
@@ -458,6 +466,133 @@ impl Lines {
             }
         }
     }
+
+    /// Notes that the input has ended.
+    fn end(&mut self)
+        ensures { self.new ≡ record self.old { ended = true } }
+    {
+        self.ended = true;
+    }
+
+    /// One read behind what is held: whether there are more bytes.
+    fn read_on<R: Read>(&mut self, input: &mut Counted<R>) -> Result<bool, LineReason>
+        ensures does { ReadMore result self.old.held self.new.held (R.remaining (inner input.old)) (R.remaining (inner input.new))
+            (self.old.limit - self.old.taken) }
+        ensures others { self.new ≡ record self.old { held = self.new.held } }
+        ensures room { self.old.taken + length self.old.held ≤ self.old.limit }
+        ensures count { OnOk result (failures input.new ≡ failures input.old) }
+        ensures failed { IsErrOf result Read → failures input.new ≡ failures input.old + 1 }
+        ensures still { IfErr result (λ reason. reason ≢ Read → failures input.new ≡ failures input.old) }
+    {
+        let room = (self.limit - self.taken) as usize;
+        read_more(&mut self.held, room, input)
+    }
+
+    /// Appends the first n bytes that are held to a text of at most so many, as far as these go.
+    fn put_held(&self, most: usize, n: usize, text: &mut Vec<u8>) -> Result<(), LineFault>
+        requires within { n ≤ length self.now.held }
+        ensures ok { OnOk result (text.new.items ≡ text.old.items ++ take (most - length text.old.items) (take n self.now.held)) }
+        ensures err { IfErr result (λ f. f ≡ record { line = self.now.ends + 1; column = 0; reason = OutOfMemory }) }
+    {
+        match put_front(most, &self.held.as_slice()[..n], text) {
+            Ok(()) => Ok(()),
+            Err(AllocError) => Err(self.fault(0, LineReason::OutOfMemory)),
+        }
+    }
+
+    /// Takes the next line piece by piece, and puts at most so many bytes of the front of its text into the buffer, which is empty.
+    fn take_front<R: Read>(
+        &mut self,
+        most: usize,
+        input: &mut Counted<R>,
+        text: &mut Vec<u8>,
+    ) -> Result<(), LineFault>
+        requires going { self.old.ended ≡ false }
+        requires empty { text.old.items ≡ [] }
+        ensures does { OnOk result (TakesFront most self.old self.new (left self.old (R.remaining (inner input.old)))
+            (left self.new (R.remaining (inner input.new))) text.new.items) }
+        ensures fault { IfErr result (λ f. StandsNext f self.old (left self.old (R.remaining (inner input.old))) (R.remaining (inner input.new))) }
+        ensures unread { HoldsLine self.old → input.new ≡ input.old }
+        ensures count { OnOk result (failures input.new ≡ failures input.old) }
+        ensures failed { IfErr result (λ f. f.reason ≡ Read → failures input.new ≡ failures input.old + 1) }
+        ensures still { IfErr result (λ f. f.reason ≢ Read → failures input.new ≡ failures input.old) }
+    {
+        // What holds of every reader of lines is known from here on.
+        let _ = &self.alloc;
+        'pieces: loop {
+            match line_end(self.held.as_slice(), 0) {
+                Some(n) => {
+                    self.put_held(most, n, text)?;
+                    self.take_ended(n);
+                    return Ok(());
+                }
+                None => self.put_held(most, self.held.len(), text)?,
+            }
+            self.take_held();
+            let more = match self.read_on(input) {
+                Ok(more) => more,
+                Err(why) => return Err(self.fault(0, why)),
+            };
+            if !more {
+                self.end();
+                return Ok(());
+            }
+        }
+    }
+
+    /// Whether there is a next line, as [`Lines::next_text`]. At most so many bytes of its text, the first ones, then stand in the buffer;
+    /// the others are passed over. Time is in proportion to the line, memory to the bytes in the buffer: what is held of the input doesn't
+    /// grow, however long the line is.
+    ///
+    /// # Errors
+    ///
+    /// As [`Lines::next_text`].
+    pub fn next_front<R: Read>(
+        &mut self,
+        most: usize,
+        input: &mut Counted<R>,
+        text: &mut Vec<u8>,
+    ) -> Result<bool, LineFault>
+        // A fault is answered again, and nothing is read or taken.
+        ensures repeated { IfSome self.old.failed (λ f. (result ≡ Err f) × (self.new ≡ self.old) × (input.new ≡ input.old)) }
+        // So is the end.
+        ensures ended { self.old.failed ≡ None → self.old.ended ≡ true →
+            (result ≡ Ok false) × (self.new ≡ self.old) × (input.new ≡ input.old) }
+        // Until then the answer is that of what is left of the input.
+        ensures answers { self.old.failed ≡ None → self.old.ended ≡ false →
+            AnswersFront result most text.new.items self.old self.new (left self.old (R.remaining (inner input.old)))
+            (left self.new (R.remaining (inner input.new))) (R.remaining (inner input.new)) }
+        ensures none { NoText result text.new.items }
+        // Where a line is held with its end, nothing is read.
+        ensures unread { HoldsLine self.old → input.new ≡ input.old }
+        ensures fault { IfErr result (λ f. self.new.failed ≡ Some f) }
+        // The reader failed in this call at a fault that says so, and at no other answer.
+        ensures read { self.old.failed ≡ None → IfErr result (λ f. f.reason ≡ Read → failures input.new ≡ failures input.old + 1) }
+        ensures still { IfErr result (λ f. f.reason ≢ Read → failures input.new ≡ failures input.old) }
+        ensures count { OnOk result (failures input.new ≡ failures input.old) }
+    {
+        text.clear();
+        if let Some(fault) = self.failed {
+            return Err(fault);
+        }
+        if self.ended {
+            return Ok(false);
+        }
+        if let Err(fault) = self.take_front(most, input, text) {
+            text.clear();
+            self.failed = Some(fault);
+            return Err(fault);
+        }
+        Ok(true)
+    }
+}
+
+/// Appends the bytes to a text of at most so many, as far as these go.
+fn put_front(most: usize, bytes: &[u8], text: &mut Vec<u8>) -> Result<(), AllocError>
+    ensures { OnOk result (text.new.items ≡ text.old.items ++ take (most - length text.old.items) bytes.now) }
+{
+    let room = most.saturating_sub(text.len());
+    text.extend_from_slice(bytes.get(..room).unwrap_or(bytes))
 }
 
 /// Empties the buffers.

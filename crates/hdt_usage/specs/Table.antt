@@ -81,12 +81,6 @@ find_command =
     with_rule (with_rule (with_rule (with_rule find_words (flag_named (codes "raw"))) (flag_named (codes "numbers")))
     (flag_named (codes "count"))) most_option
 
--- `answer FILE`, with `--raw`, `--numbers`, `--count` and `--most`
-abbrev pub answer_command : App
-answer_command =
-    with_rule (with_rule (with_rule (with_rule (file_command (codes "answer")) (flag_named (codes "raw"))) (flag_named (codes "numbers")))
-    (flag_named (codes "count"))) most_option
-
 -- `dump FILE`
 abbrev pub dump_command : App
 dump_command = file_command (codes "dump")
@@ -102,6 +96,16 @@ base_option = option_named (codes "base") (codes "http://example.org/dataset")
 -- `--block-size N`: a number below 2^32
 abbrev pub block_size_option : Rule
 block_size_option = record (option_named (codes "block-size") (codes "16")) { parser = Some (parser.Signed (pos 0) (pos 4294967295)) }
+
+-- `--longest-request N`: a number below 2^32
+abbrev pub longest_request_option : Rule
+longest_request_option = record (option_named (codes "longest-request") (codes "1048576")) { parser = Some (parser.Signed (pos 0) (pos 4294967295)) }
+
+-- `answer FILE`, with `--raw`, `--numbers`, `--count`, `--most` and `--longest-request`
+abbrev pub answer_command : App
+answer_command =
+    with_rule (with_rule (with_rule (with_rule (with_rule (file_command (codes "answer")) (flag_named (codes "raw"))) (flag_named (codes "numbers")))
+    (flag_named (codes "count"))) most_option) longest_request_option
 
 -- a command that makes a file: IN and OUT
 abbrev pub making_command : Text → App

@@ -2,7 +2,7 @@
 ghost use Rattle.std.specs.Prelude.{◌≡◌, IfOk, false};
 ghost use Rattle.clap.specs.Words.{app_of, rule_of, with_rule, with_subcommand};
 ghost use Rattle.clap.specs.declared.builder.command.Command.TheViews.{out-Command as fields_of};
-ghost use Rattle.hdt_usage.specs.Table.{word_named, flag_named, option_named, role_word, base_option, block_size_option, build_command, rewrite_command, making_command, progress_flag, number_word, file_command, head_command, verify_command, strings_command, string_command, number_command, answer_command, find_command, find_words, most_option, dump_command, empty_table, first_commands, look_up_commands, text_commands, table};
+ghost use Rattle.hdt_usage.specs.Table.{word_named, flag_named, option_named, role_word, base_option, block_size_option, build_command, rewrite_command, making_command, progress_flag, number_word, file_command, head_command, verify_command, strings_command, string_command, number_command, answer_command, find_command, find_words, longest_request_option, most_option, dump_command, empty_table, first_commands, look_up_commands, text_commands, table};
 
 use clap::{Arg, ArgAction, Command, value_parser};
 use std::alloc::{AllocError, Global};
@@ -81,7 +81,8 @@ const ANSWER_LONG_ABOUT: &str = "Answer requests for triples.
 FILE is opened once. Then each line of the standard input is a request: subject, predicate and
 object, each an N-Triples term or ? for any, and a full stop or none. Its answer is what `find`
 prints of these, and an empty line, and is written before more is read. Blank lines and comments
-get no answer.
+get no answer. A line of more bytes than --longest-request says, whatever it is, is a request with
+a fault, TooLong; it is passed over, and takes no memory.
 
 With --raw a request is three dictionary strings with one tab between them, or ? for any; in a
 string \\\\, \\n, \\r and \\t stand for a backslash, a line feed, a carriage return and a tab.
@@ -92,6 +93,8 @@ line; a string that is no term by `# ROLE NUMBER is not a term`. It goes on behi
 status at the end is 1.";
 
 const RAW_REQUESTS_HELP: &str = "Take the words of a request as dictionary strings";
+
+const LONGEST_REQUEST_HELP: &str = "How many bytes a line of the requests has at most";
 
 const DUMP_ABOUT: &str = "Print all triples";
 
@@ -354,6 +357,22 @@ fn with_most<'a>(alloc: Global, command: Command<'a>) -> Result<Command<'a>, All
     command.arg(option.value_parser(value_parser!(u64)))
 }
 
+/// The command with `--longest-request`.
+fn with_longest_request<'a>(alloc: Global, command: Command<'a>) -> Result<Command<'a>, AllocError>
+    requires { (fields_of command).has_globals ≡ false }
+    ensures shape { IfOk result (λ c. app_of c ≡ with_rule (app_of command.entry) longest_request_option) }
+    ensures local { IfOk result (λ c. (fields_of c).has_globals ≡ false) }
+{
+    let option = option_of(
+        alloc,
+        "longest-request",
+        "N",
+        "1048576",
+        LONGEST_REQUEST_HELP,
+    );
+    command.arg(option.value_parser(value_parser!(u32)))
+}
+
 /// `find FILE S P O`.
 fn find_words<'a>(alloc: Global) -> Result<Command<'a>, AllocError>
     ensures shape { IfOk result (λ c. app_of c ≡ find_words) }
@@ -430,7 +449,7 @@ fn rewrite_of<'a>(alloc: Global) -> Result<Command<'a>, AllocError>
     with_progress(alloc, command)
 }
 
-/// `answer FILE`, with `--raw`, `--numbers`, `--count` and `--most`.
+/// `answer FILE`, with `--raw`, `--numbers`, `--count`, `--most` and `--longest-request`.
 fn answer_of<'a>(alloc: Global) -> Result<Command<'a>, AllocError>
     ensures shape { IfOk result (λ c. app_of c ≡ answer_command) }
     ensures local { IfOk result (λ c. (fields_of c).has_globals ≡ false) }
@@ -439,7 +458,8 @@ fn answer_of<'a>(alloc: Global) -> Result<Command<'a>, AllocError>
     let command = with_flag(alloc, command, "raw", RAW_REQUESTS_HELP)?;
     let command = with_flag(alloc, command, "numbers", NUMBERS_HELP)?;
     let command = with_flag(alloc, command, "count", COUNT_HELP)?;
-    with_most(alloc, command)
+    let command = with_most(alloc, command)?;
+    with_longest_request(alloc, command)
 }
 
 /// The program, with no command yet.

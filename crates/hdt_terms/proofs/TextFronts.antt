@@ -1,0 +1,212 @@
+-- A line that is taken piece by piece, with the front of its text.
+use Rattle.std.proofs.Common.{◌≡◌, ℕ, ◌+◌, ◌-◌, ◌≤◌, Bool, true, false, List, [], ◌∷◌, ◌++◌, length, take, drop, get_or, Option, None, Some, Ok, Err, inl, inr, sym, refl, ap, subst, ◌∙◌, arith, append_assoc, append-nil, add-zero}
+use Rattle.std.proofs.lemmas.Bool.{cases_lt}
+use Rattle.std.proofs.lemmas.List.{length-take-le, take-append-le, take_all}
+use Rattle.std.proofs.lemmas.List.Elements.{All-append, All-get_or, All-nil}
+use Rattle.std.proofs.Math.Seq.{drop-length, take-append-add, take-length}
+use Rattle.std.proofs.KnownBytes.{Consumes-trans, prepend_known-nil}
+use Rattle.std.specs.Io.KnownBytes.{Consumes, Keeps, prepend_known}
+use Rattle.hdt_terms.specs.declared.fault.LineFault.{LineFault}
+use Rattle.hdt_terms.specs.declared.fault.LineReason.{LineReason}
+use Rattle.hdt_terms.specs.declared.fault.LineReason.TheVariants.{Syntax, NotUtf8, BadEscape, RelativeIri, IriCharacter, ZeroCharacter, Read, OutOfMemory, TooLong}
+use Rattle.hdt_terms.specs.Chars.{is_end}
+use Rattle.hdt_terms.specs.Inside.Filling.{FoundEnd, Grew, ReadMore}
+use Rattle.hdt_terms.specs.Lines.{NoEnd, ends_in_cr, line_ends}
+use Rattle.hdt_terms.specs.Taking.{HoldsLine, State, Takes, left, take_of}
+use Rattle.hdt_terms.specs.TakingText.{IsLineOf, StandsNext, StandsUnread, TakesFront}
+use Rattle.hdt_terms.proofs.Counting.{Takes-trans, line_ends-no_end}
+use Rattle.hdt_terms.proofs.Taken.{Grew-same, ended_taken, left_front, left_kept, nothing_given}
+
+-- bytes of a line were taken, and this is the front of them
+abbrev pub Passing : ℕ → State → State → Option (List ℕ) → Option (List ℕ) → List ℕ → Type 0
+Passing most old new before after front = (gone : List ℕ) × Takes old new before after gone × NoEnd gone × (front ≡ take most gone)
+
+-- ---- what is known of an input
+
+Consumes-Keeps : (a b c : Option (List ℕ)) (bs : List ℕ) → Consumes a b bs → Keeps b c → Consumes a c bs
+Consumes-Keeps None b c bs p q = tt
+Consumes-Keeps (Some x) None c bs p q = absurd p
+Consumes-Keeps (Some x) (Some y) None bs p q = absurd q
+Consumes-Keeps (Some x) (Some y) (Some z) bs p q = p ∙ ap (λ l. bs ++ l) (sym q)
+
+-- ---- the front of a text that grows
+
+pub front_grows : (most : ℕ) (gone piece : List ℕ) → take most gone ++ take (most - length (take most gone)) piece ≡ take most (gone ++ piece)
+front_grows most gone piece =
+    elim (cases_lt most (length gone)) [
+      | inl lt ↦
+          let full : length (take most gone) ≡ most = length-take-le most gone (omega arith) in
+          let none : most - length (take most gone) ≡ 0 = omega (arith, full) in
+          ap (λ n. take most gone ++ take n piece) none ∙ append-nil (take most gone) ∙ sym (take-append-le most gone piece (omega arith))
+      | inr le ↦
+          let whole : take most gone ≡ gone = take_all most gone le in
+          let room : length gone + (most - length gone) ≡ most = omega arith in
+          ap (λ l. l ++ take (most - length l) piece) whole ∙ sym (take-append-add gone piece (most - length gone)) ∙ ap (λ n. take n (gone ++ piece)) room
+    ]
+
+-- ---- nothing, and one piece more
+
+pub passing_none : (most : ℕ) (s : State) (before : Option (List ℕ)) (front : List ℕ) → s.taken + length s.held ≤ s.limit → front ≡ [] → Passing most s s before before front
+passing_none most s before front within e = (
+  [],
+  record { consumed = nothing_given before; taken = omega arith; ends = sym (add-zero s.ends); after_cr = refl; within = within; limit = refl; failed = refl },
+  All-nil (λ c. is_end c ≡ false),
+  e ∙ sym (take_all most [] (omega arith)),
+)
+
+none_left : (s : State) → drop (length s.held) s.held ≡ []
+none_left s = drop-length s.held
+
+takes_held : (s : State) (given : Option (List ℕ)) → s.taken + length s.held ≤ s.limit → Takes s (take_of s (length s.held)) (left s given) (left (take_of s (length s.held)) given) s.held
+takes_held s given within =
+    let all : take (length s.held) s.held ≡ s.held = take-length s.held in
+    let cut : s.held ≡ s.held ++ drop (length s.held) s.held = sym (ap (λ l. s.held ++ l) (none_left s) ∙ append-nil s.held) in
+    record {
+      consumed = left_front s.held s.held s.held (drop (length s.held) s.held) given given (Grew-same s.held given) cut;
+      taken = refl;
+      ends = ap (λ l. s.ends + line_ends s.after_cr l) all;
+      after_cr = ap (ends_in_cr s.after_cr) all;
+      within = omega (arith, ap length (none_left s));
+      limit = refl;
+      failed = refl;
+    }
+
+-- all that is held is taken
+passing_held : (most : ℕ) (old s taken : State) (before given : Option (List ℕ)) (front more : List ℕ) → Passing most old s before (left s given) front → NoEnd s.held
+    → taken ≡ take_of s (length s.held) → more ≡ front ++ take (most - length front) s.held → Passing most old taken before (left taken given) more
+passing_held most old s taken before given front more p none is e =
+    subst (λ (t : State). Passing most old t before (left t given) more) (sym is) (
+      p.0 ++ s.held,
+      Takes-trans old s (take_of s (length s.held)) before (left s given) (left (take_of s (length s.held)) given) p.0 s.held p.1 (takes_held s given p.1.within),
+      All-append (λ c. is_end c ≡ false) p.0 s.held p.2 none,
+      e ∙ ap (λ l. l ++ take (most - length l) s.held) p.3 ∙ front_grows most p.0 s.held,
+    )
+
+pub passing_all : (most : ℕ) (old s taken : State) (before given : Option (List ℕ)) (front more : List ℕ) (n : ℕ) → Passing most old s before (left s given) front → NoEnd s.held
+    → taken ≡ take_of s (length s.held) → n ≡ length s.held → more ≡ front ++ take (most - length front) (take n s.held) → Passing most old taken before (left taken given) more
+passing_all most old s taken before given front more n p none is all e =
+    passing_held most old s taken before given front more p none is (e ∙ ap (λ l. front ++ take (most - length front) l) (ap (λ k. take k s.held) all ∙ take-length s.held))
+
+pub none_held : (s taken : State) → taken ≡ take_of s (length s.held) → taken.held ≡ []
+none_held s taken is = ap (λ (t : State). t.held) is ∙ none_left s
+
+-- more is read, or nothing more is there
+read_behind : (old taken : State) (before given given' : Option (List ℕ)) (bytes held : List ℕ) (b : Bool) → Takes old taken before (left taken given) bytes → Grew taken.held held given given'
+    → taken.taken + length held ≤ taken.limit → Takes old (record taken { held = held; ended = b }) before (prepend_known held given') bytes
+read_behind old taken before given given' bytes held b t grew within = record {
+  consumed = Consumes-Keeps before (left taken given) (prepend_known held given') bytes t.consumed (left_kept taken.held held given given' grew);
+  taken = t.taken;
+  ends = t.ends;
+  after_cr = t.after_cr;
+  within = within;
+  limit = t.limit;
+  failed = t.failed;
+}
+
+pub passing_on : (most : ℕ) (old taken new : State) (before given given' : Option (List ℕ)) (front : List ℕ) → Passing most old taken before (left taken given) front
+    → ReadMore (Ok true) taken.held new.held given given' (taken.limit - taken.taken) → new ≡ record taken { held = new.held } → taken.taken + length taken.held ≤ taken.limit
+    → Passing most old new before (left new given') front
+passing_on most old taken new before given given' front p more is within =
+    subst (λ (t : State). Passing most old t before (left t given') front) (sym is)
+    (p.0, read_behind old taken before given given' p.0 new.held taken.ended p.1 more.0 (omega (arith, more.2)), p.2, p.3)
+
+-- ---- the line's end, and the input's
+
+line_behind : (gone text bytes : List ℕ) (new : State) (after : Option (List ℕ)) → NoEnd gone → IsLineOf text bytes new after → IsLineOf (gone ++ text) (gone ++ bytes) new after
+line_behind gone text bytes new after none p = (
+  All-append (λ c. is_end c ≡ false) gone text none p.0,
+  elim p.1 [
+    | inl w ↦ inl (w.0, w.1, ap (λ l. gone ++ l) w.2 ∙ sym (append_assoc gone text (w.0 ∷ [])), w.3)
+    | inr w ↦ inr (ap (λ l. gone ++ l) w.0, w.1, w.2, w.3)
+  ],
+)
+
+pub front_ended : (most : ℕ) (old s new : State) (before given : Option (List ℕ)) (n : ℕ) (front more : List ℕ) → Passing most old s before (left s given) front → s.ended ≡ false
+    → FoundEnd s.held (Some n) → new ≡ take_of s (n + 1) → more ≡ front ++ take (most - length front) (take n s.held) → TakesFront most old new before (left new given) more
+front_ended most old s new before given n front more p going found is e =
+    subst (λ (t : State). TakesFront most old t before (left t given) more) (sym is)
+    (let line = ended_taken s s.held n given given (Grew-same s.held given) found.2 p.1.within going found.0 found.1 in
+    let text = take n s.held in
+    let after = left (take_of s (n + 1)) given in (
+      p.0 ++ text,
+      (
+        p.0 ++ line.bytes,
+        Takes-trans old s (take_of s (n + 1)) before (left s given) after p.0 line.bytes p.1 line.takes,
+        line_behind p.0 text line.bytes (take_of s (n + 1)) after p.2 line.is,
+      ),
+      e ∙ ap (λ l. l ++ take (most - length l) text) p.3 ∙ front_grows most p.0 text,
+    ))
+
+pub front_last : (most : ℕ) (old taken read new : State) (before given given' : Option (List ℕ)) (front : List ℕ) → Passing most old taken before (left taken given) front → taken.held ≡ []
+    → ReadMore (Ok false) taken.held read.held given given' (taken.limit - taken.taken) → read ≡ record taken { held = read.held } → new ≡ record read { ended = true } → TakesFront most old new before (left new given') front
+front_last most old taken read new before given given' front p none end others is =
+    let held : read.held ≡ [] = end.1 ∙ none in
+    let within : taken.taken + length read.held ≤ taken.limit = omega (arith, ap length end.1, p.1.within) in
+    subst (λ (t : State). TakesFront most old t before (left t given') front) (sym (is ∙ ap (λ (r : State). record r { ended = true }) others)) (
+      p.0,
+      (
+        p.0,
+        read_behind old taken before given given' p.0 read.held true p.1 end.0 within,
+        (p.2, inr (refl, refl, held, rw held (rw prepend_known-nil end.2))),
+      ),
+      p.3,
+    )
+
+-- ---- faults
+
+module _ (most : ℕ) (old taken : State) (before given given' : Option (List ℕ)) (front held : List ℕ) (p : Passing most old taken before (left taken given) front) (none : taken.held ≡ []) where
+  given_up_to : Consumes before given p.0
+  given_up_to = subst (λ a. Consumes before a p.0) (ap (λ l. prepend_known l given) none ∙ prepend_known-nil given) p.1.consumed
+
+  within_limit : old.taken + length p.0 ≤ old.limit
+  within_limit = omega (arith, p.1.taken, p.1.within, p.1.limit)
+
+  stands_passing : (r : LineReason) → ReadMore (Err r) taken.held held given given' (taken.limit - taken.taken) → StandsUnread r old.taken old.limit before given'
+  stands_passing Syntax h = absurd h
+  stands_passing NotUtf8 h = absurd h
+  stands_passing BadEscape h = absurd h
+  stands_passing RelativeIri h = absurd h
+  stands_passing IriCharacter h = absurd h
+  stands_passing ZeroCharacter h = absurd h
+  stands_passing OutOfMemory h = tt
+  stands_passing Read h = (refl, (p.0, p.2, Consumes-Keeps before given given' p.0 given_up_to h.1, within_limit))
+  stands_passing TooLong h = (
+    refl,
+    (
+      p.0,
+      h.2.0,
+      p.2,
+      h.2.1,
+      omega (arith, h.1, ap length h.0, ap length none, p.1.taken, p.1.within, p.1.limit),
+      Consumes-trans before given given' p.0 h.2.0 given_up_to h.2.2,
+    ),
+  )
+
+-- no line end is passed
+passing_ends : (most : ℕ) (old s : State) (before after : Option (List ℕ)) (front : List ℕ) → Passing most old s before after front → s.ends ≡ old.ends
+passing_ends most old s before after front p = p.1.ends ∙ ap (λ n. old.ends + n) (line_ends-no_end old.after_cr p.0 p.2) ∙ add-zero old.ends
+
+pub no_memory : (most : ℕ) (old s : State) (before after given : Option (List ℕ)) (front : List ℕ) (fault : LineFault) → Passing most old s before after front
+    → fault ≡ record { line = s.ends + 1; column = 0; reason = OutOfMemory } → StandsNext fault old before given
+no_memory most old s before after given front fault p is =
+    subst (λ (f : LineFault). StandsNext f old before given) (sym is)
+    (record { line = ap (λ n. n + 1) (passing_ends most old s before after front p); column = refl; fault_is = tt })
+
+pub unread_on : (most : ℕ) (old taken read : State) (before given given' : Option (List ℕ)) (front : List ℕ) (reason : LineReason) (fault : LineFault) → Passing most old taken before (left taken given) front
+    → taken.held ≡ [] → ReadMore (Err reason) taken.held read.held given given' (taken.limit - taken.taken) → read ≡ record taken { held = read.held }
+    → fault ≡ record { line = read.ends + 1; column = 0; reason = reason } → StandsNext fault old before given'
+unread_on most old taken read before given given' front reason fault p none h others is =
+    subst (λ (f : LineFault). StandsNext f old before given') (sym is)
+    (record {
+      line = ap (λ n. n + 1) (ap (λ (r : State). r.ends) others ∙ passing_ends most old taken before (left taken given) front p);
+      column = refl;
+      fault_is = stands_passing most old taken before given given' front read.held p none reason h;
+    })
+
+-- ---- a line that is held
+
+-- bytes without an end don't hold a line
+pub holds_none : {P : Type 0} (s : State) → NoEnd s.held → HoldsLine s → P
+holds_none s none h =
+    let not_end : is_end (get_or s.held h.0 0) ≡ false = All-get_or (λ c. is_end c ≡ false) s.held h.0 0 h.1 none in
+    let bad : true ≡ false = sym h.2 ∙ not_end in absurd cc
