@@ -146,7 +146,6 @@ def test_answers_at_the_start_of_a_huge_block(tmp_path: Path) -> None:
     check_linear(seconds, 4, 0.02)
 
 
-<<<<<<< HEAD
 def test_predicate_that_is_kept(tmp_path: Path) -> None:
     """The term of a predicate that is met first is kept, also where another one that has its place is asked for.
 
@@ -168,7 +167,12 @@ def test_predicate_that_is_kept(tmp_path: Path) -> None:
             requests = b"<u:a> ? ?\n<u:b> ? ?\n" * asked
             result, one = timed([PROGRAM, "answer", tmp_path / f"{scale}.hdt"], stdin=requests)
             assert abridged(result) == abridged(Result(0, line * asked, b""))
-=======
+            taken.append(one)
+        return taken[1] - taken[0]
+
+    check_linear(seconds, 4, 0.02)
+
+
 def one_subject(count: int) -> bytes:
     """A document of one subject, one predicate and so many objects."""
     return b"".join(b'<u:s> <u:p> "%07d" .\n' % i for i in range(count))
@@ -179,7 +183,7 @@ def one_object(count: int) -> bytes:
     return b"<u:s> <u:q> <u:o> .\n" + b"".join(b"<u:s%07d> <u:p> <u:o> .\n" % i for i in range(count))
 
 
-# Requests whose answer is short although one of the lists that it could be found by is as long as the file: how the file
+# Requests whose answer is short although one of the lists that could give it is as long as the file: how the file
 # is made, the options, the request, and the answer.
 SHORT_ANSWERS: dict[str, tuple[Callable[[int], bytes], list[str], bytes, bytes]] = {
     "a subject with an object": (one_subject, [], b'<u:s> ? "0000000"\n', b'<u:s> <u:p> "0000000" .\n\n'),
@@ -205,7 +209,6 @@ def test_short_answers_from_long_lists(name: str, tmp_path: Path) -> None:
         for asked in (0, 2_000):
             result, one = timed([PROGRAM, "answer", *options, tmp_path / f"{scale}.hdt"], stdin=request * asked)
             assert abridged(result) == abridged(Result(0, reply * asked, b""))
->>>>>>> 636c55dab86f4ff9ce8e008db4dacf3086dbffbe
             taken.append(one)
         return taken[1] - taken[0]
 
