@@ -172,7 +172,7 @@ between_on f p at q start end rest qs s split e =
       earlier = λ i h. omega (arith, e.ends, e.to i h);
     }
 
--- each pair's own looks
+-- each pair's own steps
 pub pairs_pay_on : (f : BitmapTriples) (k before steps after : ℕ) → after ≤ steps + (2 * digits (groups f.mz) + 18)
     → steps ≤ before + (2 * digits (groups f.mz) + 18) * k → after ≤ before + (2 * digits (groups f.mz) + 18) * (k + 1)
 pairs_pay_on f k before steps after few pays = omega (arith, few, pays)

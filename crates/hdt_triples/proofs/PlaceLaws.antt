@@ -1,4 +1,4 @@
--- A place, and the place after it.
+-- A place, and the offset after it.
 use Rattle.std.proofs.Common.{◌≡◌, ℕ, ◌+◌, ◌-◌, ◌<◌, ◌≤◌, length, ap, arith, Bool, true, false, ◌&&◌, slice_get, Some}
 use Rattle.std.specs.Int.{from_bool}
 use Rattle.std.proofs.lemmas.Option.{slice_get_within}
@@ -13,7 +13,7 @@ use Rattle.hdt_triples.specs.declared.place.Place.{Place}
 pub within_pairs : (f : BitmapTriples) (p : Place) → IsMarked f → StandsAt f p → p.at < length f.zs → p.pair < length f.ys
 within_pairs f p m s h = omega (arith, s.pair_is, pair_within f m p.at h)
 
--- the place after it, as the mark at its triple and the one at its pair say
+-- the offset after it, as the 1-bit at its triple and the one at its pair say
 pub goes_on : (f : BitmapTriples) (p : Place) (ends_pair marked : Bool) (pairs subjects : ℕ) → StandsAt f p → p.at < length f.zs
     → slice_get f.mz p.at ≡ Some ends_pair → slice_get f.my p.pair ≡ Some marked → pairs ≡ from_bool ends_pair → subjects ≡ from_bool (ends_pair && marked)
     → StandsAt f (record { at = p.at + 1; pair = p.pair + pairs; subject = p.subject + subjects })
@@ -39,7 +39,7 @@ goes_on f p true true pairs subjects s h mark last one more =
       subject_is = omega (arith, s.subject_is, more, marks_marked f.my p.pair last, ap (marks_before f.my) next);
     }
 
--- a mark is one at most
+-- a 1-bit is one at most
 pub at_most_one : (mark : Bool) (n : ℕ) → n ≡ from_bool mark → n ≤ 1
 at_most_one true n is = omega (arith, is)
 at_most_one false n is = omega (arith, is)

@@ -101,7 +101,7 @@ over p f r at rest marked given between none =
     none_left p f at between.within
     (λ i l w. other_predicate p r (triple_at f i) given (no_place f.ys r (pair_of f at) (sym none ∙ between.rest_is) (pair_of f i) (marks_mono f.mz at i l) (pair_within f marked i w)))
 
--- ---- the looks
+-- ---- the steps
 
 pub look_is : (f : BitmapTriples) → 2 * digits (groups f.mz) + 27 + digits (length f.zs) ≤ pair_look f
 unfolding pair_look jump

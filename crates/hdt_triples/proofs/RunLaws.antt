@@ -1,4 +1,4 @@
--- Matches that stand together.
+-- Consecutive matches.
 use Rattle.std.proofs.Common.{Option, ◌≡◌, ◌≢◌, ◌⊎◌, inl, inr, ℕ, ◌+◌, ◌*◌, ◌<◌, ◌≤◌, List, [], ◌∷◌, length, ap, sym, ◌∙◌, arith, Bool, true, false, Some, None, slice_index}
 use Rattle.std.proofs.lemmas.Bool.{cases_eq, cases_lt}
 use Rattle.hdt_seq.specs.Width.{digits}
@@ -31,7 +31,7 @@ no_pairs f s marked out = record {
   to = λ q h e. has_none f s q marked out h e;
 }
 
--- from behind mark s - 1 to behind mark s
+-- from behind 1-bit s - 1 to behind 1-bit s
 pub pairs_between : (f : BitmapTriples) (s low high : ℕ) → IsMarked f → 0 < s → low ≤ high → high ≤ length f.my → marks_before f.my low + 1 ≡ s → marks_before f.my high ≡ s
     → ((q : ℕ) → q < low → marks_before f.my q + 1 < s) → ((q : ℕ) → q < high → marks_before f.my q < s) → PairsOf f s low high
 pairs_between f s low high marked some ordered within at_low at_high below below_high = record {
@@ -209,7 +209,7 @@ pair_run f s p q at end pair only low begins earlier within below above = record
   above = above;
 }
 
--- fewer marks stand before an earlier place
+-- fewer 1-bits stand before an earlier place
 pub ordered : (bits : List Bool) (low high s : ℕ) → marks_before bits low + 1 ≡ s → marks_before bits high ≡ s → low ≤ high
 ordered bits low high s at_low at_high = not_less low high (λ l. omega (arith, at_low, at_high, marks_mono bits high low (omega (arith, l))))
 

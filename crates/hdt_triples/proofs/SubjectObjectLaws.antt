@@ -80,7 +80,7 @@ pub spared : (s : ℕ) (f : BitmapTriples) (at k steps after : ℕ) → at ≤ k
 unfolding limit subject_price
 spared s f at k steps after l h few pays = omega (arith, few, pays, fewer_left (of_subject s) f at k l h)
 
--- ---- the looks by matches: `price` is that of a look-up, `most` the limit, `left` how many matches there are
+-- ---- the steps by matches: `price` is that of a look-up, `most` the limit, `left` how many matches there are
 
 abbrev pub Goes : ℕ → ℕ → ℕ → ℕ → ℕ → Type 0
 Goes price most steps left spare = steps + 4 * price * (1 + left) ≤ most + 3 * spare

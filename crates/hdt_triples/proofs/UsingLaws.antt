@@ -16,7 +16,7 @@ use Rattle.hdt_triples.specs.Laws.Uses.{uses_decides}
 use Rattle.hdt_triples.proofs.ListsLaws.{first_place, no_place, places_from_start}
 use Rattle.hdt_triples.proofs.SubjectLaws.{subject_above}
 
--- a place has so many marks before it, of each number of marks below all of them
+-- a place has so many 1-bits before it, of each number of 1-bits below all of them
 some_at : (bits : List Bool) (k : ℕ) → k < marks_before bits (length bits) → (j : ℕ) × (j < length bits) × (marks_before bits j ≡ k)
 some_at bits zero h = (zero, omega (arith, h, marks_le bits (length bits)), none_before bits)
 some_at bits (suc k) h =

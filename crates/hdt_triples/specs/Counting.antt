@@ -1,5 +1,5 @@
--- Triples by counting marks (rdfhdt.org, "HDT binary format", Bitmap Triples): marks end groups, and the number of the group that an entry stands in is the count of
--- marks before it.
+-- Triples by rank (rdfhdt.org, "HDT binary format", Bitmap Triples): 1-bits end groups, and the number of the group of an entry is the count of
+-- 1-bits before it.
 use Rattle.std.specs.Prelude.{◌≡◌, ℕ, ◌+◌, ◌-◌, ◌≤◌, ◌<◌, List, Bool, true, length, map, slice_index, slice_get, Some}
 use Rattle.std.specs.List.{range_with_len}
 use Rattle.hdt_seq.specs.Marks.{marks_before}
@@ -7,7 +7,7 @@ use Rattle.hdt_seq.specs.Marks.{marks_before}
 abbrev pub Triple : Type 0
 Triple = ℕ × ℕ × ℕ
 
--- the four sequences: marks and predicates of the pairs, marks and objects of the triples
+-- the four sequences: bitmap and predicates of the pairs, bitmap and objects of the triples
 pub record BitmapTriples : Type 0 where
   pub my : List Bool
   pub mz : List Bool
@@ -43,14 +43,14 @@ pub record IsMarked (f : BitmapTriples) : Type 0 where
   pub last_triple : slice_get f.mz (length f.mz - 1) ≡ Some true
   pub each_pair : marks_before f.mz (length f.mz) ≡ length f.ys
 
--- numbers in groups: each is from 1 to the count, and greater than the one before it in its group
+-- numbers in groups: each is from 1 to the count, and greater than the previous one in its group
 pub record AreGrouped (marks : List Bool) (xs : List ℕ) (count : ℕ) : Type 0 where
   pub from : (i : ℕ) → i < length xs → 1 ≤ slice_index xs i
   pub to : (i : ℕ) → i < length xs → slice_index xs i ≤ count
   pub ascend : (i : ℕ) → i + 1 < length xs → marks_before marks i ≡ marks_before marks (i + 1) → slice_index xs i < slice_index xs (i + 1)
 
--- the four sequences hold triples over so many strings: marks and numbers fit together, each number is in range, each
--- pair of subject and predicate stands once, and pairs and objects ascend
+-- the four sequences hold triples over so many strings: bitmaps and sequences fit together, each ID is in range, each
+-- pair of subject and predicate occurs once, and pairs and objects ascend
 pub record AreTriples (counts : Counts) (f : BitmapTriples) : Type 0 where
   pub marked : IsMarked f
   pub subjects : (q : ℕ) → q < length f.ys → subject_at f q ≤ counts.subjects

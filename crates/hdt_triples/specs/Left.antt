@@ -1,4 +1,4 @@
--- Matches: those that are still to come, the looks that they may take in all by either table, and the looks so far.
+-- Matches: those that are still to come, the steps that they may take in all by either table, and the steps so far.
 use Rattle.std.specs.Prelude.{ℕ, ◌+◌, ◌*◌, List, [], length, map, min}
 use Rattle.hdt_triples.specs.Bounds.{jump, limit, object_price, of_predicate, pair_look, pair_price, predicate_price, skip_price, subject_price, triples_with}
 use Rattle.hdt_triples.specs.Counting.{Triple, triple_at}

@@ -1,4 +1,4 @@
--- Triples with directories and lists, as the layout sees them, and the numbers that they keep.
+-- Triples with indexes, as the layout sees them, and the numbers that they keep.
 use Rattle.std.specs.Prelude.{ℕ, ◌+◌, length}
 use Rattle.hdt_seq.specs.Directory.{groups}
 use Rattle.hdt_triples.specs.Counting.{BitmapTriples, Counts}
@@ -7,7 +7,7 @@ use Rattle.hdt_triples.specs.declared.triples.Triples.{Triples}
 use Rattle.hdt_triples.specs.declared.indexed.IndexedTriples.{IndexedTriples}
 use Rattle.hdt_triples.specs.declared.listed.ListedTriples.{ListedTriples}
 
--- the triples whose directories these are
+-- the triples of these indexes
 abbrev pub triples_indexed : IndexedTriples → Triples
 triples_indexed t = t.triples
 
@@ -19,7 +19,7 @@ triples_listed t = triples_indexed t.indexed
 abbrev pub roles_of : Triples → Counts
 roles_of t = counts_seen t.counts
 
--- a count for each group, and the total, of the marks of both kinds
+-- a count for each group, and the total, of the 1-bits of both kinds
 abbrev pub directories_held : BitmapTriples → ℕ
 directories_held f = groups f.my + 1 + (groups f.mz + 1)
 

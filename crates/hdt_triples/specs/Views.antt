@@ -19,6 +19,6 @@ read_of r = (bitmap_read r.0, r.1)
 abbrev pub parts_read : TripleParts → BitmapTriples × ℕ
 parts_read t = (bitmap_of t, t.zs.end)
 
--- the four sequences, and the place after them, or the fault that stands
+-- the four sequences, and the offset after them, or the first error
 abbrev pub triples_in : counting.Counts → List ℕ → ℕ → Result (BitmapTriples × ℕ) Fault
 triples_in counts bytes at = seen parts_read (triples_at counts bytes at)

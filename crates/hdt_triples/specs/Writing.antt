@@ -21,7 +21,7 @@ all_pairs ts = map (λ t. (t.0, t.1)) ts
 abbrev pub pairs_of : List Triple → List (ℕ × ℕ)
 pairs_of ts = dedup pair_eq (all_pairs ts)
 
--- the four sequences of a list of triples: a mark at each pair that is the last of its subject, a mark at each triple
+-- the four sequences of a list of triples: a 1-bit at each pair that is the last of its subject, a 1-bit at each triple
 -- that is the last of its pair, the predicates of the pairs, the objects of the triples
 unfoldable pub sequences_of : List Triple → BitmapTriples
 sequences_of ts = record {
@@ -35,11 +35,11 @@ sequences_of ts = record {
 abbrev pub ordered : List ℕ
 ordered = codes "order=1;"
 
--- the canonical bytes of four sequences: a control block and each in its canonical spelling
+-- the canonical bytes of four sequences: control information and each in its canonical encoding
 unfoldable pub canonical_sequences : BitmapTriples → List ℕ
 canonical_sequences f = control kinds.Triples ordered ++ (bits_spelling f.my ++ (bits_spelling f.mz ++ (numbers_spelling f.ys ++ numbers_spelling f.zs)))
 
--- what they say where they stand
+-- what they encode at an offset
 unfoldable pub sequences_parts : BitmapTriples → ℕ → TripleParts
 sequences_parts f at =
     let a : ℕ = at + length (control kinds.Triples ordered) in
@@ -58,6 +58,6 @@ sequences_parts f at =
 abbrev pub canonical_triples : List Triple → List ℕ
 canonical_triples ts = canonical_sequences (sequences_of ts)
 
--- what they say where they stand
+-- what they encode at an offset
 abbrev pub canonical_triples_parts : List Triple → ℕ → TripleParts
 canonical_triples_parts ts at = sequences_parts (sequences_of ts) at

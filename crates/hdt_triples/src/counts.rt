@@ -1,12 +1,12 @@
-//! How many strings there are to be numbered.
+//! The number of strings of each role.
 
-/// How many strings each role has: the numbers of a role go from 1 to its count.
+/// The number of strings of each role: its IDs are 1 to this number.
 #[derive(Clone, Copy, Debug, PartialEq, Eq)]
 pub struct Counts {
-    /// The count of the shared strings and the subjects.
+    /// The number of strings of shared and subjects.
     pub subjects: u64,
-    /// The count of the predicates.
+    /// The number of strings of predicates.
     pub predicates: u64,
-    /// The count of the shared strings and the objects.
+    /// The number of strings of shared and objects.
     pub objects: u64,
 }

@@ -3,7 +3,7 @@ ghost use Rattle.std.specs.Prelude.{◌≡◌, ◌+◌, ◌<◌, ◌≤◌, ℕ,
 ghost use Rattle.hdt_triples.specs.Order.{AreWritable, TripleLess};
 ghost use Rattle.hdt_triples.specs.Inside.Fitting.{CanFollow};
 
-/// Whether a triple can follow another: it comes after it, and its subject is the same or the next one.
+/// Whether a triple can follow another one: it is greater, and its subject is the same or the next one.
 fn can_follow(before: (u64, u64, u64), next: (u64, u64, u64)) -> bool
     ensures yes { result ≡ true → TripleLess before next × (next.0 ≤ before.0 + 1) }
     ensures no { TripleLess before next → next.0 ≤ before.0 + 1 → result ≡ true }
@@ -15,7 +15,7 @@ fn can_follow(before: (u64, u64, u64), next: (u64, u64, u64)) -> bool
     predicate < next.1 || (predicate == next.1 && object < next.2)
 }
 
-/// Whether triple i can stand behind the one before it.
+/// Whether triple i can follow the previous one.
 fn can_stand(triples: &[(u64, u64, u64)], i: usize) -> bool
     requires { i < length triples.now }
     ensures yes { result ≡ true → CanFollow triples.now i }
@@ -31,9 +31,8 @@ fn can_stand(triples: &[(u64, u64, u64)], i: usize) -> bool
     can_follow(triples[i - 1], triples[i])
 }
 
-/// Whether triples can be written: there is one, they strictly ascend, their subjects are 1, 2, 3, .. without a gap, and
-/// their predicates and objects are at least 1. [`put_triples`](crate::put_triples) wants such ones. It takes no memory,
-/// and time in proportion to the triples.
+/// Returns whether triples can be written: there is one, they strictly ascend, their subjects are 1, 2, 3, .. without a
+/// gap, and their predicates and objects are at least 1. [`put_triples`](crate::put_triples) requires it. Linear time.
 pub fn are_writable(triples: &[(u64, u64, u64)]) -> bool
     ensures yes { result ≡ true → AreWritable triples.now }
     ensures no { AreWritable triples.now → result ≡ true }

@@ -1,4 +1,4 @@
-//! Triples with directories over their marks: where a subject and a pair begin.
+//! Triples with rank/select indexes over their bitmaps, which find a subject and a pair.
 ghost use Rattle.std.specs.Prelude.{◌≡◌, ◌≢◌, ◌≤◌, ◌<◌, ◌+◌, ◌*◌, ℕ, length, IfOk, IfErr, IfSome, Some};
 ghost use Rattle.hdt_seq.specs.Directory.{IsDirectoryOf, groups};
 ghost use Rattle.hdt_seq.specs.Marks.{marks_before};
@@ -12,8 +12,8 @@ use crate::triples::Triples;
 use hdt_seq::{Directory, Steps};
 use std::alloc::Global;
 
-/// Triples with directories over the marks of their pairs and of their triples, by which a subject and a pair are found
-/// in few steps. They borrow the input; the directories are all that they keep.
+/// Triples with rank/select indexes over both bitmaps, which find a subject and a pair in few steps. They borrow the
+/// input, and keep only the indexes.
 #[derive(Drop)]
 pub struct IndexedTriples<'a> {
     pub(crate) triples: Triples<'a>,
@@ -26,8 +26,8 @@ pub struct IndexedTriples<'a> {
 impl<'a> Triples<'a> {
     ghost use Rattle.hdt_triples.specs.ListedViews.{triples_indexed};
 
-    /// Grows the directories, in one pass over the marks: a number of 8 bytes for each 512 of them, and two more. Want of
-    /// memory hands the triples back.
+    /// Builds the rank/select indexes in one pass over the bitmaps: 8 bytes for each 512 bits, and 16 more. If memory
+    /// runs out, the error is the triples themselves.
     #[tactic(auto, unfolding(crate::specs::Views::bitmap_read))]
     pub fn with_directories(self, alloc: Global) -> Result<IndexedTriples<'a>, Triples<'a>>
         ensures indexed { IfOk result (λ t. triples_indexed t ≡ self.entry) }
@@ -50,7 +50,7 @@ impl<'a> Triples<'a> {
 impl<'a> IndexedTriples<'a> {
     ghost use Rattle.hdt_triples.specs.ListedViews.{directories_held, triples_indexed};
 
-    /// How many numbers of 8 bytes the directories keep.
+    /// Returns how many numbers of 8 bytes the indexes keep.
     #[tactic(auto, unfolding(crate::specs::Views::bitmap_read))]
     pub fn held(&self) -> u128
         ensures { result ≡ directories_held (bitmap_read (triples_indexed self.now)) }
@@ -62,7 +62,7 @@ impl<'a> IndexedTriples<'a> {
         y.held() + z.held()
     }
 
-    /// How many subjects the triples have, by one look.
+    /// The number of subjects of the triples. One step.
     #[tactic(auto, unfolding(crate::specs::Views::bitmap_read))]
     pub(crate) fn subjects(&self, steps: &mut Steps) -> u64
         ensures is { result ≡ marks_before (bitmap_read (triples_indexed self.now)).my (length (bitmap_read (triples_indexed self.now)).my) }
@@ -82,7 +82,7 @@ impl<'a> IndexedTriples<'a> {
         self.y.rank(&self.triples.my, pair, steps) + 1
     }
 
-    /// The place of a pair's first triple.
+    /// The index of a pair's first triple.
     #[tactic(auto, unfolding(crate::specs::Views::bitmap_read))]
     pub(crate) fn start_of_pair(&self, pair: u64, steps: &mut Steps) -> u64
         requires { pair < length (bitmap_read (triples_indexed self.now)).ys }
@@ -98,7 +98,7 @@ impl<'a> IndexedTriples<'a> {
         self.z.select(&self.triples.mz, pair, steps) + 1
     }
 
-    /// The place after a pair's last triple.
+    /// The index after a pair's last triple.
     #[tactic(auto, unfolding(crate::specs::Views::bitmap_read))]
     pub(crate) fn end_of_pair(&self, pair: u64, steps: &mut Steps) -> u64
         requires { pair < length (bitmap_read (triples_indexed self.now)).ys }
@@ -112,7 +112,7 @@ impl<'a> IndexedTriples<'a> {
         self.z.select(&self.triples.mz, pair + 1, steps) + 1
     }
 
-    /// The place of a subject's first triple, or the end.
+    /// The position of a subject's first triple, or the end.
     #[tactic(auto, unfolding(crate::specs::Views::bitmap_read))]
     pub(crate) fn start_of(&self, subject: u64, steps: &mut Steps) -> Place
         ensures stands { StandsAt (bitmap_read (triples_indexed self.now)) result }

@@ -7,19 +7,19 @@ ghost use Rattle.hdt_triples.specs.Order.{AreAscending, AreFew, AreInRange, AreW
 ghost use Rattle.hdt_triples.specs.Triples.{IsTriples, triples_at};
 ghost use Rattle.hdt_triples.specs.Writing.{canonical_triples, canonical_triples_parts, sequences_of};
 
-/// The rows of triples answer exactly what stands at the place.
+/// The checks of triples give exactly the triples that are encoded at the offset.
 pub fn triples_are_exact()
     ensures { (counts : Counts) (bytes : List ℕ) (at : ℕ) → IsBytes bytes → Exactly (triples_at counts bytes at) (λ t. IsTriples counts t bytes at) }
 {}
 
-/// The triples that four fitting sequences hold strictly ascend, and each number is that of a string of its role.
+/// The triples of four consistent sequences strictly ascend, and each ID is that of a string of its role.
 pub fn triples_ascend()
     ensures ascend { (counts : Counts) (f : BitmapTriples) → AreTriples counts f → AreAscending (triples_of f) }
     ensures range { (counts : Counts) (f : BitmapTriples) → AreTriples counts f → AreInRange counts (triples_of f) }
 {}
 
-/// The sequences that are written of a list hold that list by counting; their bytes are these triples where they stand,
-/// and are read again, whatever stands around them.
+/// The sequences that are written for a list are those of its triples; their bytes are read back, whatever precedes and
+/// follows them.
 pub fn triples_are_read_again()
     ensures counted { (ts : List Triple) → AreWritable ts → triples_of (sequences_of ts) ≡ ts }
     ensures stands { (ts : List Triple) (counts : Counts) (bytes : List ℕ) (at end : ℕ) → AreWritable ts → AreWithin counts ts → AreFew counts

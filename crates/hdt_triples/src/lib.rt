@@ -1,10 +1,10 @@
 //! The triples of an HDT file: bitmap triples (HDT submission, Triples; rdfhdt.org, "HDT binary format").
 //!
-//! The layer's promise: what is read at a place is triples in range, each once, in ascending order, with each pair of
-//! subject and predicate once; else the one fault that stands there is answered, with its place. What is written of a
-//! list is read again as that list.
+//! What this crate promises: a reader returns the triples that are encoded at the offset, in range and strictly
+//! ascending; if there are none, it returns the first error with its offset. What is written of a list is read back as
+//! that list. A search gives exactly the matching triples, in order, in a stated number of steps.
 //!
-//! A function that says nothing of its cost takes constant time and no memory; laws do nothing when they are called.
+//! Functions that state no cost take constant time and allocate nothing. Laws do nothing when called.
 //!
 //! ```text
 //! let counts = Counts { subjects, predicates, objects };
@@ -16,14 +16,14 @@
 //! let same = listed.matching(pattern, &mut Steps::new());
 //! ```
 //!
-//! In reading order: `counts`, how many strings the numbers are of; `rows`, the rows of the four sequences; `triples`,
-//! the triples themselves; `fitting`, which lists can be written; `sequences`, the four sequences of a list, and
-//! `writing`, their bytes; `laws`. Triples are counted: the definition is specs/Counting.
+//! In reading order: `counts`, the number of strings of each role; `rows`, the checks of the four sequences; `triples`,
+//! what was read; `fitting`, which lists can be written; `sequences`, the four sequences of a list, and `writing`,
+//! their bytes; `laws`. specs/Counting defines the triples of four sequences.
 //!
-//! Searching: `matches`, the items of a search whichever way it goes; `walk`, over all triples; `indexed`, directories over
-//! the marks, by which `subject` and `pair` go; `listed`, the lists by predicate and by object that `counting` makes, by
-//! which `predicate` and `object` go. How many steps each takes at most is the table of specs/Bounds. `matching` tells how
-//! many items a search has, `uses` which numbers stand in a triple.
+//! Searching: `matches`, the iterator; `walk`, a scan of all triples; `indexed`, the rank/select indexes, which
+//! `subject` and `pair` use; `listed`, the inverted indexes by predicate and by object, which `counting` builds and the
+//! other searches use. specs/Bounds has the table of the steps that each takes at most. `matching` counts matches;
+//! `uses` tells which IDs occur in a triple.
 #![tactic(auto)]
 
 mod counting;

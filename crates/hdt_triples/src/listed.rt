@@ -1,4 +1,4 @@
-//! Triples with their lists by predicate and by object.
+//! Triples with inverted indexes by predicate and by object.
 ghost use Rattle.std.specs.Prelude.{◌≡◌, ◌≤◌, ◌+◌, ℕ, List, IfOk, IfErr};
 ghost use Rattle.std.specs.List.{All};
 ghost use Rattle.hdt_triples.specs.Lists.{AreLists, AreBounds, IsListKey, places_of};
@@ -11,9 +11,9 @@ use crate::triples::Triples;
 use hdt_seq::Steps;
 use std::alloc::Global;
 
-/// Triples with directories, and with the pairs of each predicate and the places of each object, ascending: each of the
-/// eight patterns is found in few steps. They borrow the input; the directories and the four vectors are all that they
-/// keep.
+/// Triples with rank/select indexes, and with two inverted indexes: the pairs of each predicate and the triples of each
+/// object, ascending. Each of the eight patterns is found in few steps. They borrow the input, and keep only the
+/// indexes.
 ///
 /// ```text
 /// let (triples, end) = Triples::read(bytes, at, counts)?;
@@ -24,17 +24,17 @@ use std::alloc::Global;
 #[derive(Drop)]
 pub struct ListedTriples<'a> {
     pub(crate) indexed: IndexedTriples<'a>,
-    // where the pairs of each predicate end in `pairs`, and before them those of the predicate before
+    // the end in `pairs` of each predicate's pairs, which is the start of those of the next one
     pub(crate) pair_starts: Vec<u64>,
     pub(crate) pairs: Vec<u64>,
-    // where the places of each object end in `places`, and before them those of the object before
+    // the end in `places` of each object's triples, which is the start of those of the next one
     pub(crate) triple_starts: Vec<u64>,
     pub(crate) places: Vec<u64>,
     ghost by_predicate: { AreLists (bitmap_read indexed.triples).ys indexed.triples.counts.predicates pair_starts.items pairs.items },
     ghost by_object: { AreLists (bitmap_read indexed.triples).zs indexed.triples.counts.objects triple_starts.items places.items },
 }
 
-/// The places of a key, by two looks.
+/// The part of an inverted index for a key. Two steps.
 fn part<'a>(starts: &[u64], flat: &'a [u64], key: u64, steps: &mut Steps) -> &'a [u64]
     requires { AreBounds starts.now flat.now }
     ensures is { (xs : List ℕ) (greatest : ℕ) → AreLists xs greatest starts.now flat.now → All (IsListKey greatest) xs → result.now ≡ places_of xs key }
@@ -53,8 +53,8 @@ fn part<'a>(starts: &[u64], flat: &'a [u64], key: u64, steps: &mut Steps) -> &'a
 impl<'a> IndexedTriples<'a> {
     ghost use Rattle.hdt_triples.specs.ListedViews.{triples_indexed, triples_listed};
 
-    /// Grows the lists, by counting: in time in proportion to the triples and the strings, with no sort. Want of memory
-    /// hands the value back.
+    /// Builds the inverted indexes by counting sort. Linear time in the triples and the strings. If memory runs out,
+    /// the error is the value itself.
     #[tactic(auto, using(crate::proofs::ListsLaws::keys_of), unfolding(crate::specs::Views::bitmap_read))]
     pub fn with_lists(self, alloc: Global) -> Result<ListedTriples<'a>, IndexedTriples<'a>>
         ensures listed { IfOk result (λ t. triples_listed t ≡ triples_indexed self.entry) }
@@ -82,21 +82,21 @@ impl<'a> IndexedTriples<'a> {
 impl<'a> ListedTriples<'a> {
     ghost use Rattle.hdt_triples.specs.ListedViews.{directories_held, lists_held, roles_of, triples_indexed, triples_listed};
 
-    /// The triples themselves.
+    /// Returns the triples without indexes.
     pub fn triples(&self) -> &Triples<'a>
         ensures { result.now ≡ triples_listed self.now }
     {
         &self.indexed.triples
     }
 
-    /// The same triples with their directories alone.
+    /// Returns the triples with their rank/select indexes only.
     pub fn indexed(&self) -> &IndexedTriples<'a>
         ensures { triples_indexed result.now ≡ triples_listed self.now }
     {
         &self.indexed
     }
 
-    /// How many numbers of 8 bytes the directories and the lists keep.
+    /// Returns how many numbers of 8 bytes the indexes keep.
     #[tactic(auto, unfolding(crate::specs::Views::bitmap_read))]
     pub fn held(&self) -> u128
         ensures { result ≡ directories_held (bitmap_read (triples_listed self.now)) + lists_held (roles_of (triples_listed self.now)) (bitmap_read (triples_listed self.now)) }
@@ -119,7 +119,7 @@ impl<'a> ListedTriples<'a> {
             + places.len() as u128
     }
 
-    /// The pairs of a predicate, ascending, by two looks.
+    /// The pairs of a predicate, ascending. Two steps.
     #[tactic(auto, using(crate::proofs::ListsLaws::parts_of_lists), unfolding(crate::specs::Views::bitmap_read))]
     pub(crate) fn pairs_of(&self, predicate: u64, steps: &mut Steps) -> &[u64]
         ensures is { result.now ≡ places_of (bitmap_read (triples_listed self.now)).ys predicate }
@@ -129,7 +129,7 @@ impl<'a> ListedTriples<'a> {
         part(&self.pair_starts, &self.pairs, predicate, steps)
     }
 
-    /// The places of the triples of an object, ascending, by two looks.
+    /// The triples of an object, ascending. Two steps.
     #[tactic(auto, using(crate::proofs::ListsLaws::parts_of_lists), unfolding(crate::specs::Views::bitmap_read))]
     pub(crate) fn places_of(&self, object: u64, steps: &mut Steps) -> &[u64]
         ensures is { result.now ≡ places_of (bitmap_read (triples_listed self.now)).zs object }

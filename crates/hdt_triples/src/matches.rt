@@ -17,8 +17,8 @@ use crate::subject_object::SubjectObjectMatches;
 use crate::walk::WalkMatches;
 use hdt_seq::Steps;
 
-/// The matches of a pattern, in order, one after another: an iterator, each of whose ways to the next match gives the
-/// same. It takes no memory.
+/// An iterator over the matches of a pattern, in order. Its cases are the ways to find them; all give the same. It
+/// allocates nothing.
 ///
 /// ```text
 /// let mut matches = listed.find(pattern);
@@ -28,19 +28,19 @@ use hdt_seq::Steps;
 pub enum Matches<'a> {
     /// No triple.
     Empty,
-    /// All triples in turn.
+    /// A scan of all triples.
     Walk(WalkMatches<'a>),
-    /// The triples of a subject in turn.
+    /// A scan of the triples of a subject.
     Subject(SubjectMatches<'a>),
-    /// The triples of a subject that have an object, in turn, or by the object's list.
+    /// The triples of a subject and an object: a scan of the subject's, with jumps by those of the object.
     SubjectObject(SubjectObjectMatches<'a>),
-    /// The triples of a subject and a predicate, which stand together, or the one with the object.
+    /// The triples of a subject and a predicate, which are consecutive, or the one with the object.
     Pair(PairMatches<'a>),
-    /// The triples of a predicate, by its list of pairs.
+    /// The triples of a predicate, by its pairs.
     Predicate(PredicateMatches<'a>),
-    /// The triples of a predicate and an object, by the predicate's list of pairs, in each of which the object is looked up.
+    /// The triples of a predicate and an object: a search of the object in each pair of the predicate.
     PredicateObject(PredicateObjectMatches<'a>),
-    /// The triples of an object, by its list, in turn.
+    /// A scan of the triples of an object.
     Object(ObjectMatches<'a>),
 }
 
@@ -48,16 +48,15 @@ impl<'a> IndexedTriples<'a> {
     ghost use Rattle.hdt_triples.specs.Left.{left_of, limit_of};
     ghost use Rattle.hdt_triples.specs.ListedViews.{triples_indexed};
 
-    /// The matches of a pattern: exactly the triples that agree with each number that is given, once each, in the order of
-    /// the triples. Where a subject is given it is found by the directories, else it is a walk over all triples. It takes
-    /// no memory.
+    /// Finds the matches of a pattern: exactly the triples with each ID that is given, once each, in order. A subject
+    /// is found by the rank/select indexes; without one, all triples are scanned. It allocates nothing.
     #[tactic(auto, unfolding(crate::specs::Bounds::most_steps))]
     pub fn find(&self, pattern: Pattern) -> Matches<'_>
         ensures items { left_of result ≡ matches pattern (triples_of (bitmap_read (triples_indexed self.now))) }
         ensures fits { length (left_of result) < 2 ^ 64 }
-        // With a subject, the steps of this call and of all its items are at most the table's number.
+        // With a subject, the steps of this call and of all its items are at most those of the table.
         ensures few { IsSome pattern.s → limit_of result ≡ most_steps (bitmap_read (triples_indexed self.now)) pattern }
-        // Without one, those of the walk.
+        // Without one, those of the scan.
         ensures walked { pattern.s ≡ None → limit_of result ≡ 4 * length (bitmap_read (triples_indexed self.now)).zs }
     {
         match (pattern.s, pattern.p) {
@@ -72,18 +71,17 @@ impl<'a> ListedTriples<'a> {
     ghost use Rattle.hdt_triples.specs.Left.{left_of, limit_of, short_limit_of};
     ghost use Rattle.hdt_triples.specs.ListedViews.{triples_listed};
 
-    /// The matches of a pattern: exactly the triples that agree with each number that is given, once each, in the order of
-    /// the triples. A subject is found by the directories, a predicate alone by its list of pairs, an object alone by its
-    /// list of places, and a predicate with an object by the one of the two lists that takes fewer steps; of a subject's
-    /// triples those with an object are found by the object's list where many don't have it. Where nothing is given it is a
-    /// walk. It takes no memory.
+    /// Finds the matches of a pattern: exactly the triples with each ID that is given, once each, in order. A subject
+    /// is found by the rank/select indexes, only a predicate by its pairs, only an object by its triples, and a
+    /// predicate with an object by what takes fewer steps; a subject's triples with an object are found by those of the
+    /// object if many don't have it. If nothing is given it scans all triples. It allocates nothing.
     #[tactic(auto, using(crate::proofs::PredicateObjectLaws::shorter), unfolding(crate::specs::Bounds::most_steps, crate::specs::Bounds::short_steps))]
     pub fn find(&self, pattern: Pattern) -> Matches<'_>
         ensures items { left_of result ≡ matches pattern (triples_of (bitmap_read (triples_listed self.now))) }
         ensures fits { length (left_of result) < 2 ^ 64 }
-        // The steps of this call and of all its items are at most the table's number.
+        // The steps of this call and of all its items are at most those of the table.
         ensures few { limit_of result ≡ most_steps (bitmap_read (triples_listed self.now)) pattern }
-        // And they are at most that of the table of the shorter lists.
+        // And they are at most those of the table for the shorter of two lists.
         ensures short { short_limit_of result ≤ short_steps (bitmap_read (triples_listed self.now)) pattern }
     {
         match (pattern.s, pattern.p, pattern.o) {
@@ -108,7 +106,7 @@ impl<'a> Iterator for Matches<'a> {
     ghost use Rattle.std.specs.Prelude.{⊤};
     ghost use Rattle.hdt_triples.specs.Left.{left_of, limit_of, short_limit_of, steps_of};
 
-    // The first of those left is given; both limits of the looks stay, and the looks don't go back.
+    // It gives the first of the remaining matches; both limits of the steps stay, and the steps don't decrease.
     ghost next_gives = { λ old result new. YieldsFirst left_of old result new × (limit_of new ≡ limit_of old) × (steps_of old ≤ steps_of new) × (short_limit_of new ≡ short_limit_of old) };
 
     ghost remaining = { item_count left_of };
@@ -134,12 +132,12 @@ impl<'a> Iterator for Matches<'a> {
 impl<'a> Matches<'a> {
     ghost use Rattle.hdt_triples.specs.Left.{limit_of, short_limit_of, steps_of};
 
-    /// The law that at every moment the looks since the call of `find` are within its limit.
+    /// The law that the steps since the call of `find` are always within its limit.
     pub fn steps_are_few(&self)
         ensures { steps_of self.now ≤ limit_of self.now }
     {}
 
-    /// The law that they are within the limit by the shorter list too.
+    /// The law that they are also within the limit for the shorter of two lists.
     pub fn steps_are_fewer(&self)
         ensures { steps_of self.now ≤ short_limit_of self.now }
     {

@@ -1,4 +1,4 @@
-//! How many triples match a pattern.
+//! Counting the matches of a pattern.
 ghost use Rattle.std.specs.Prelude.{◌≡◌, ◌≤◌, ◌<◌, ◌+◌, ◌-◌, ◌*◌, ◌^◌, length, min, slice_index, Some, None, IsSome};
 ghost use Rattle.hdt_seq.specs.Directory.{groups};
 ghost use Rattle.hdt_seq.specs.Width.{digits};
@@ -19,7 +19,7 @@ use crate::triples::Triples;
 use hdt_seq::Steps;
 
 impl<'a> Triples<'a> {
-    /// How many triples match, or `most` where they are more, by a walk over all triples that ends there.
+    /// The number of matches, but at most `most`, by a scan of the triples that ends there.
     pub(crate) fn count_all(&self, pattern: Pattern, most: u64, steps: &mut Steps) -> u64
         ensures is { result ≡ min most (length (matches pattern (triples_of (bitmap_read self.now)))) }
         ensures cost { steps.new ≤ steps.old + 4 * length (bitmap_read self.now).zs }
@@ -35,8 +35,8 @@ impl<'a> Triples<'a> {
         count
     }
 
-    /// How many of a subject's triples, which are those from one place on and before another, have this object: each is
-    /// looked at once.
+    /// The number of triples of a subject, which are those from one index up to another, with this object. One step
+    /// each.
     fn count_between(
         &self,
         pattern: Pattern,
@@ -62,8 +62,8 @@ impl<'a> Triples<'a> {
         count
     }
 
-    /// How many triples match a pattern, or `most` where they are more. Where nothing is given that takes no look, else it
-    /// is a walk over the triples, at most four looks a triple, which ends when `most` are counted. It takes no memory.
+    /// Returns the number of matches of a pattern, but at most `most`. It scans the triples, in at most four steps
+    /// each, until `most` are counted, unless nothing is given. It allocates nothing.
     #[tactic(auto, unfolding(crate::specs::Bounds::walking_steps))]
     pub fn matching_up_to(&self, pattern: Pattern, most: u64, steps: &mut Steps) -> u64
         ensures is { result ≡ min most (length (matches pattern (triples_of (bitmap_read self.now)))) }
@@ -76,8 +76,8 @@ impl<'a> Triples<'a> {
         }
     }
 
-    /// How many triples match a pattern: as many as the items of `find`. Where nothing is given that takes no look, else
-    /// it is a walk over all triples, at most four looks a triple. It takes no memory.
+    /// Returns the number of matches of a pattern. It scans all triples, in at most four steps each, unless nothing is
+    /// given. It allocates nothing.
     pub fn matching(&self, pattern: Pattern, steps: &mut Steps) -> u64
         ensures is { result ≡ length (matches pattern (triples_of (bitmap_read self.now))) }
         ensures cost { steps.new ≤ steps.old + walking_steps (bitmap_read self.now) pattern }
@@ -90,7 +90,7 @@ impl<'a> Triples<'a> {
 impl<'a> IndexedTriples<'a> {
     ghost use Rattle.hdt_triples.specs.ListedViews.{triples_indexed};
 
-    /// Where the triples of the pairs from one to another begin and end. Most pairs have one triple, as its mark tells.
+    /// Where the triples of consecutive pairs begin and end. Most pairs have one triple, as its bit tells.
     #[tactic(auto, using(hdt_seq::specs::Laws::Marks::sooner))]
     pub(crate) fn edges(&self, first: u64, last: u64, steps: &mut Steps) -> (u64, u64)
         requires order { first ≤ last }
@@ -120,7 +120,7 @@ impl<'a> IndexedTriples<'a> {
         self.edges(low, high - 1, steps)
     }
 
-    /// How many triples have this subject.
+    /// The number of triples with this subject.
     #[tactic(auto, unfolding(crate::specs::Bounds::jump))]
     fn count_of_subject(&self, subject: u64, steps: &mut Steps) -> u64
         ensures is { result ≡ length (matches (of_subject subject) (triples_of (bitmap_read (triples_indexed self.now)))) }
@@ -131,7 +131,7 @@ impl<'a> IndexedTriples<'a> {
         end - at
     }
 
-    /// How many triples have this subject and this object, by the objects of the subject's triples.
+    /// The number of triples with this subject and this object, by a scan of the subject's triples.
     #[tactic(auto, unfolding(crate::specs::Bounds::jump))]
     fn count_in_subject(
         &self,
@@ -152,7 +152,7 @@ impl<'a> IndexedTriples<'a> {
             .count_between(pattern, subject, object, from, to, steps)
     }
 
-    /// The predicate of the triple at a place, by counting marks.
+    /// The predicate of a triple, by rank.
     #[tactic(auto, using(crate::specs::Laws::Order::pair_within), unfolding(crate::specs::Views::bitmap_read))]
     fn predicate_at(&self, at: u64, steps: &mut Steps) -> u64
         requires { at < length (bitmap_read (triples_indexed self.now)).zs }
@@ -164,7 +164,7 @@ impl<'a> IndexedTriples<'a> {
         entry(&self.triples.ys, pair, steps)
     }
 
-    /// How many triples have this subject and this predicate, and the object if one is given.
+    /// The number of triples with this subject and this predicate, and the object if one is given.
     #[tactic(auto, unfolding(crate::specs::Bounds::jump))]
     fn count_of_pair(
         &self,
@@ -183,9 +183,9 @@ impl<'a> IndexedTriples<'a> {
         end - at
     }
 
-    /// How many triples match a pattern, or `most` where they are more. With a subject it is told by the directories: where
-    /// its triples, or those of the pair, begin and end; where an object is given and no predicate, the objects of the
-    /// subject's triples are compared. Without a subject it is the walk of [`Triples::matching_up_to`]. It takes no memory.
+    /// The number of matches of a pattern, but at most `most`. With a subject, the rank/select indexes tell where its
+    /// triples, or those of the pair, begin and end; with an object and no predicate, the subject's triples are
+    /// scanned. Without a subject it is the scan of [`Triples::matching_up_to`].
     #[tactic(auto, unfolding(crate::specs::Bounds::counting_steps))]
     pub(crate) fn matching_up_to(&self, pattern: Pattern, most: u64, steps: &mut Steps) -> u64
         ensures is { result ≡ min most (length (matches pattern (triples_of (bitmap_read (triples_indexed self.now))))) }
@@ -205,14 +205,14 @@ impl<'a> IndexedTriples<'a> {
         }
     }
 
-    /// How many triples match a pattern: as many as the items of `find`. With a subject it is told by the directories:
-    /// where its triples, or those of the pair, begin and end; where an object is given and no predicate, the objects of
-    /// the subject's triples are compared. Without a subject it is the walk of [`Triples::matching`]. It takes no memory.
+    /// Returns the number of matches of a pattern. With a subject, the rank/select indexes tell where its triples, or
+    /// those of the pair, begin and end; with an object and no predicate, the subject's triples are scanned. Without a
+    /// subject it is the scan of [`Triples::matching`]. It allocates nothing.
     pub fn matching(&self, pattern: Pattern, steps: &mut Steps) -> u64
         ensures is { result ≡ length (matches pattern (triples_of (bitmap_read (triples_indexed self.now)))) }
-        // With a subject, the steps are at most the table's number.
+        // With a subject, the steps are at most those of the table.
         ensures cost { IsSome pattern.s → steps.new ≤ steps.old + counting_steps (bitmap_read (triples_indexed self.now)) pattern }
-        // Without one, those of the walk.
+        // Without one, those of the scan.
         ensures walked { pattern.s ≡ None → steps.new ≤ steps.old + walking_steps (bitmap_read (triples_indexed self.now)) pattern }
         ensures more { steps.old ≤ steps.new }
     {
@@ -223,8 +223,8 @@ impl<'a> IndexedTriples<'a> {
 impl<'a> ListedTriples<'a> {
     ghost use Rattle.hdt_triples.specs.ListedViews.{triples_listed};
 
-    /// How many triples of these pairs of a predicate there are, or `most` where they are more, by the pairs' lengths: each
-    /// pair has a triple, so no more than `most` of them are looked at.
+    /// The number of triples of these pairs of a predicate, but at most `most`, by the lengths of the pairs. Each pair
+    /// has a triple, so at most `most` of them are read.
     fn count_of_pairs(&self, predicate: u64, pairs: &[u64], most: u64, steps: &mut Steps) -> u64
         requires { pairs.now ≡ places_of (bitmap_read (triples_listed self.now)).ys predicate }
         ensures is { result ≡ min most (length (matches (of_predicate predicate) (triples_of (bitmap_read (triples_listed self.now))))) }
@@ -242,8 +242,8 @@ impl<'a> ListedTriples<'a> {
         count.min(most)
     }
 
-    /// How many triples have this predicate, or `most` where they are more: by the lengths of its pairs, or by a walk over
-    /// all triples where that is cheaper.
+    /// The number of triples with this predicate, but at most `most`: by the lengths of its pairs, or by a scan of all
+    /// triples if that is cheaper.
     #[tactic(auto, unfolding(crate::specs::Bounds::jump))]
     fn count_of_predicate(
         &self,
@@ -268,8 +268,8 @@ impl<'a> ListedTriples<'a> {
         self.count_of_pairs(predicate, pairs, most, steps)
     }
 
-    /// How many triples have this subject and this object: the places of the object's list that are among the subject's,
-    /// by halving the list, or by the objects of the subject's triples where they are fewer looks.
+    /// The number of triples with this subject and this object: the triples of the object that are among those of the
+    /// subject, by two binary searches, or by a scan of the subject's triples if that takes fewer steps.
     #[tactic(auto, unfolding(crate::specs::Bounds::jump))]
     fn count_of_both(&self, pattern: Pattern, subject: u64, object: u64, steps: &mut Steps) -> u64
         requires subject_given { pattern.s ≡ Some subject }
@@ -291,7 +291,7 @@ impl<'a> ListedTriples<'a> {
         (high - low) as u64
     }
 
-    /// How many triples have this object.
+    /// The number of triples with this object.
     fn count_of_object(&self, object: u64, steps: &mut Steps) -> u64
         ensures is { result ≡ length (matches (of_object object) (triples_of (bitmap_read (triples_listed self.now)))) }
         ensures cost { steps.new ≤ steps.old + 2 }
@@ -300,8 +300,8 @@ impl<'a> ListedTriples<'a> {
         self.places_of(object, steps).len() as u64
     }
 
-    /// How many triples have this predicate and this object, or `most` where they are more, by the predicates of the
-    /// object's triples.
+    /// The number of triples with this predicate and this object, but at most `most`, by a scan of the object's
+    /// triples.
     fn count_in_object(
         &self,
         pattern: Pattern,
@@ -327,15 +327,15 @@ impl<'a> ListedTriples<'a> {
         count
     }
 
-    /// How many triples match a pattern, or `most` where they are more: so `most` = 1 tells whether there is one. Where
-    /// nothing is given, a subject, a subject and a predicate, all three, or an object alone, the steps don't grow with the
-    /// matches; with a subject and an object they grow with the digits of the object's count. Pairs of a predicate alone,
-    /// and triples of an object with a predicate, are looked at one by one until `most` matches are counted. It takes no
-    /// memory.
+    /// Returns the number of matches of a pattern, but at most `most`: with 1, whether there is one. If nothing is
+    /// given, or a subject, a subject and a predicate, all three, or only an object, the steps don't grow with the
+    /// matches; with a subject and an object they grow with the logarithm of the object's triples. The pairs of only a
+    /// predicate, and the triples of an object with a predicate, are scanned until `most` matches are counted. It
+    /// allocates nothing.
     #[tactic(auto, unfolding(crate::specs::Bounds::counting_steps, crate::specs::Bounds::short_counting_steps, crate::specs::Bounds::walking_steps))]
     pub fn matching_up_to(&self, pattern: Pattern, most: u64, steps: &mut Steps) -> u64
         ensures is { result ≡ min most (length (matches pattern (triples_of (bitmap_read (triples_listed self.now))))) }
-        // The steps are at most the table's number, and that of the table of the shorter lists.
+        // The steps are at most those of the table, and those of the table for the shorter of two lists.
         ensures cost { steps.new ≤ steps.old + counting_steps (bitmap_read (triples_listed self.now)) pattern }
         ensures short { steps.new ≤ steps.old + short_counting_steps (bitmap_read (triples_listed self.now)) most pattern }
         ensures more { steps.old ≤ steps.new }
@@ -355,14 +355,14 @@ impl<'a> ListedTriples<'a> {
         }
     }
 
-    /// How many triples match a pattern: as many as the items of `find`. Where nothing is given, a subject, a subject and
-    /// a predicate, all three, or an object alone, the steps don't grow with the matches; with a subject and an object they
-    /// grow with the digits of the object's count. A predicate alone takes at most two searches for each of its pairs, and
-    /// no more than a walk over all triples; with an object, the object's triples are compared one by one. It takes no
-    /// memory.
+    /// Returns the number of matches of a pattern. If nothing is given, or a subject, a subject and a predicate, all
+    /// three, or only an object, the steps don't grow with the matches; with a subject and an object they grow with the
+    /// logarithm of the object's triples. Only a predicate takes at most two searches for each of its pairs, and no
+    /// more than a scan of all triples; a predicate with an object takes a scan of the object's triples. It allocates
+    /// nothing.
     pub fn matching(&self, pattern: Pattern, steps: &mut Steps) -> u64
         ensures is { result ≡ length (matches pattern (triples_of (bitmap_read (triples_listed self.now)))) }
-        // The steps are at most the table's number, and that of the table of the shorter lists.
+        // The steps are at most those of the table, and those of the table for the shorter of two lists.
         ensures cost { steps.new ≤ steps.old + counting_steps (bitmap_read (triples_listed self.now)) pattern }
         ensures short { steps.new ≤ steps.old + short_counting_steps (bitmap_read (triples_listed self.now)) (2 ^ 64 - 1) pattern }
         ensures more { steps.old ≤ steps.new }

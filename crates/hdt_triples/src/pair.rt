@@ -1,4 +1,4 @@
-//! The matches of a pattern that gives a subject and a predicate.
+//! The matches of a pattern with a subject and a predicate.
 ghost use Rattle.std.specs.Prelude.{◌≡◌, ◌≤◌, ◌<◌, ◌+◌, ◌*◌, ◌^◌, ℕ, length, Some, IfSome, false};
 ghost use Rattle.hdt_seq.specs.Directory.{groups};
 ghost use Rattle.hdt_seq.specs.Width.{digits};
@@ -17,7 +17,7 @@ use crate::pattern::Pattern;
 use crate::triples::Triples;
 use hdt_seq::Steps;
 
-/// The matches of a pattern that gives a subject and a predicate, in order: they stand together.
+/// The matches of a pattern with a subject and a predicate, in order: they are consecutive.
 #[derive(Drop)]
 pub struct PairMatches<'a> {
     triples: Triples<'a>,
@@ -72,7 +72,7 @@ impl<'a> IndexedTriples<'a> {
         None
     }
 
-    /// The places of the matches.
+    /// Where the matches begin and end.
     #[tactic(auto, unfolding(crate::specs::Views::bitmap_read))]
     pub(crate) fn run_of(
         &self,
@@ -103,7 +103,7 @@ impl<'a> IndexedTriples<'a> {
         (0, 0)
     }
 
-    /// The place of the triple of a pair that has this object, or the end of the pair, and where the pair ends.
+    /// The index of the triple of a pair with this object, or the end of the pair, and the end of the pair.
     #[tactic(auto, unfolding(crate::specs::Views::bitmap_read))]
     pub(crate) fn object_in_pair(&self, pair: u64, object: u64, steps: &mut Steps) -> (u64, u64)
         requires { pair < length (bitmap_read (triples_indexed self.now)).ys }
@@ -119,7 +119,7 @@ impl<'a> IndexedTriples<'a> {
         (end, end)
     }
 
-    /// The matches of a pattern that gives this subject and this predicate.
+    /// The matches of a pattern with this subject and this predicate.
     #[tactic(auto, unfolding(crate::specs::Left::left_of, crate::specs::Left::limit_of))]
     pub(crate) fn find_pair(&self, pattern: Pattern, subject: u64, predicate: u64) -> Matches<'a>
         requires subject_given { pattern.s ≡ Some subject }

@@ -1,19 +1,19 @@
-//! Which triples a search wants.
+//! Patterns of a search.
 ghost use Rattle.std.specs.Prelude.{◌≡◌};
 ghost use Rattle.hdt_triples.specs.Patterns.{admits, agrees};
 
-/// A pattern of triples: for each of the three parts a number, or any.
+/// A triple pattern: an ID or any, for each of the three roles.
 #[derive(Clone, Copy, Debug, PartialEq, Eq)]
 pub struct Pattern {
-    /// The number of the subject.
+    /// The ID of the subject.
     pub s: Option<u64>,
-    /// The number of the predicate.
+    /// The ID of the predicate.
     pub p: Option<u64>,
-    /// The number of the object.
+    /// The ID of the object.
     pub o: Option<u64>,
 }
 
-/// Whether a part admits a number.
+/// Whether an ID matches that of the pattern.
 fn admits(given: Option<u64>, number: u64) -> bool
     ensures { result ≡ admits given number }
 {
@@ -24,7 +24,7 @@ fn admits(given: Option<u64>, number: u64) -> bool
 }
 
 impl Pattern {
-    /// Whether a triple agrees with each number that is given.
+    /// Returns whether a triple has each ID that is given.
     pub fn takes(&self, triple: (u64, u64, u64)) -> bool
         ensures { result ≡ agrees self.now triple }
     {

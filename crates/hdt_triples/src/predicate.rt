@@ -1,4 +1,4 @@
-//! The matches of a pattern that gives a predicate alone.
+//! The matches of a pattern with only a predicate.
 ghost use Rattle.std.specs.Prelude.{◌≡◌, ◌≤◌, ◌<◌, ◌^◌, length};
 ghost use Rattle.hdt_triples.specs.Bounds.{of_predicate, predicate_price, Pays, limit};
 ghost use Rattle.hdt_triples.specs.Counting.{triples_of};
@@ -14,7 +14,7 @@ use crate::matches::Matches;
 use crate::spot::Spot;
 use hdt_seq::Steps;
 
-/// The triples of a predicate, in order: its pairs by its list, the triples of each pair by their marks.
+/// The triples of a predicate, in order: its pairs by the inverted index, the triples of each pair by their bits.
 #[derive(Drop)]
 pub struct PredicateMatches<'a> {
     indexed: &'a IndexedTriples<'a>,

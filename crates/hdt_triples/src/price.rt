@@ -1,4 +1,4 @@
-//! What a search costs at most, reckoned before it begins: no look is taken for it.
+//! Upper bounds of the cost of a search, computed before it begins and without steps.
 ghost use Rattle.std.specs.Prelude.{◌≡◌, ◌≤◌};
 ghost use Rattle.hdt_seq.specs.Width.{digits};
 ghost use Rattle.hdt_triples.specs.Bounds.{jump, pair_look};
@@ -6,10 +6,10 @@ ghost use Rattle.hdt_triples.specs.Views.{bitmap_read};
 
 use crate::indexed::IndexedTriples;
 
-/// How many bits a group of marks has, of which a directory keeps the count.
+/// The number of bits of a group of a rank/select index.
 const GROUP: u64 = 512;
 
-/// How many binary digits a number has: so many looks halving a list of so many entries takes.
+/// The number of binary digits of a number: the steps of a binary search in a list of so many entries.
 #[tactic(auto, using(hdt_seq::specs::Laws::Width::digits_by_zeros))]
 pub(crate) fn digits_of(n: u64) -> u64
     ensures is { result ≡ digits n }
@@ -21,7 +21,7 @@ pub(crate) fn digits_of(n: u64) -> u64
 impl<'a> IndexedTriples<'a> {
     ghost use Rattle.hdt_triples.specs.ListedViews.{triples_indexed};
 
-    /// Halving the groups of the marks of both kinds, once each, and 20 more.
+    /// A binary search of the groups of both bitmaps, and 20 more.
     #[tactic(auto, unfolding(crate::specs::Bounds::jump, crate::specs::Views::bitmap_read))]
     pub(crate) fn jump(&self) -> u64
         ensures is { result ≡ jump (bitmap_read (triples_indexed self.now)) }
@@ -32,7 +32,7 @@ impl<'a> IndexedTriples<'a> {
         digits_of(pairs) + digits_of(triples) + 20
     }
 
-    /// Two jumps, and halving the triples: what looking an object up in a pair takes at most.
+    /// The greatest cost of finding an object in a pair: two jumps, and a binary search of the triples.
     #[tactic(auto, unfolding(crate::specs::Bounds::pair_look, crate::specs::Views::bitmap_read))]
     pub(crate) fn pair_look(&self) -> u64
         ensures { result ≡ pair_look (bitmap_read (triples_indexed self.now)) }

@@ -1,4 +1,4 @@
-//! The rows of the four sequences, one after another.
+//! The checks of the four sequences.
 ghost use Rattle.std.specs.Prelude.{◌≡◌, ℕ, ◌≤◌, ◌<◌, ◌+◌, ◌-◌, ◌^◌, length, slice_index, IfOk, OnOk, codes};
 ghost use Rattle.hdt_wire.specs.Property.{property_value};
 ghost use Rattle.hdt_seq.specs.Marks.{marks_before};
@@ -12,7 +12,7 @@ use crate::counts::Counts;
 use hdt_seq::{Bits, Numbers};
 use hdt_wire::{Fault, Reason, demand, property};
 
-/// The last bit is a mark.
+/// Checks that the last bit is 1.
 fn last_marked(marks: &Bits<'_>) -> Result<(), Fault>
     requires { 0 < length (bits_of marks.now) }
     ensures { result ≡ last_at (bits_of marks.now) (bits_places marks.now) }
@@ -25,7 +25,7 @@ fn last_marked(marks: &Bits<'_>) -> Result<(), Fault>
     )
 }
 
-/// How many marks stand before a place, counted from the first.
+/// The number of 1-bits before a position, counted from the first bit on.
 pub fn marks_before(marks: &Bits<'_>, place: u64) -> u64
     requires { place ≤ length (bits_of marks.now) }
     ensures is { result ≡ marks_before (bits_of marks.now) place }
@@ -40,7 +40,7 @@ pub fn marks_before(marks: &Bits<'_>, place: u64) -> u64
     before
 }
 
-/// The rows of an entry, with the one before it.
+/// The checks of an entry, given the previous one.
 #[tactic(auto, unfolding(crate::specs::Triples::entry_row))]
 fn entry_stands(
     marks: &Bits<'_>,
@@ -65,7 +65,7 @@ fn entry_stands(
     demand(before < entry, xs.entry_place(i) as usize, ascent)
 }
 
-/// The rows of a pair, with its subject and the predicate before it.
+/// The checks of a pair, given its subject and the previous predicate.
 #[tactic(auto, unfolding(crate::specs::Triples::pair_row))]
 fn pair_stands(
     counts: &Counts,
@@ -101,7 +101,7 @@ fn pair_stands(
     )
 }
 
-/// The rows of all pairs.
+/// The checks of all pairs.
 #[tactic(auto, using(hdt_wire::specs::Laws::Item::rows_passed, hdt_wire::specs::Laws::Item::rows_stopped, hdt_wire::specs::Laws::Item::rows_over))]
 fn pairs_stand(counts: &Counts, my: &Bits<'_>, ys: &Numbers<'_>) -> Result<(), Fault>
     requires same { length (bits_of my.now) ≡ length (numbers_of ys.now) }
@@ -123,7 +123,7 @@ fn pairs_stand(counts: &Counts, my: &Bits<'_>, ys: &Numbers<'_>) -> Result<(), F
     Ok(())
 }
 
-/// The rows of the objects of all triples.
+/// The checks of all objects.
 #[tactic(auto, using(hdt_wire::specs::Laws::Item::rows_passed, hdt_wire::specs::Laws::Item::rows_stopped, hdt_wire::specs::Laws::Item::rows_over))]
 fn objects_stand(mz: &Bits<'_>, zs: &Numbers<'_>, count: u64) -> Result<(), Fault>
     requires { length (bits_of mz.now) ≡ length (numbers_of zs.now) }
@@ -161,7 +161,7 @@ pub fn in_order(properties: &[u8]) -> bool
     }
 }
 
-/// The rows of the four sequences together.
+/// The checks of the four sequences together.
 #[tactic(auto, unfolding(crate::specs::Triples::fit_at))]
 fn fit_rows(
     counts: &Counts,
@@ -196,7 +196,7 @@ fn fit_rows(
     objects_stand(mz, zs, counts.objects)
 }
 
-/// The rows of the four sequences together, and what holds where none fails.
+/// The checks of the four sequences together, and what holds if none fails.
 pub fn fit(
     counts: &Counts,
     my: &Bits<'_>,

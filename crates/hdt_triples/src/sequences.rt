@@ -9,13 +9,13 @@ use std::alloc::{AllocError, Global};
 /// The four sequences of bitmap triples.
 #[derive(Drop)]
 pub struct Sequences {
-    /// A mark at each pair that is the last of its subject.
+    /// Bitmap Y: a 1-bit for each pair that is the last of its subject.
     pub my: Vec<bool>,
-    /// A mark at each triple that is the last of its pair.
+    /// Bitmap Z: a 1-bit for each triple that is the last of its pair.
     pub mz: Vec<bool>,
-    /// The predicates of the pairs.
+    /// Sequence Y: the predicates of the pairs.
     pub ys: Vec<u64>,
-    /// The objects of the triples.
+    /// Sequence Z: the objects of the triples.
     pub zs: Vec<u64>,
 }
 
@@ -35,7 +35,7 @@ fn ends_subject(pairs: &[(u64, u64)], at: usize) -> bool
     at + 1 == pairs.len() || pairs[at + 1].0 != pairs[at].0
 }
 
-/// A mark at each pair that no equal pair follows.
+/// A 1-bit for each pair that is not followed by an equal one.
 fn pair_marks(alloc: Global, pairs: &[(u64, u64)]) -> Result<Vec<bool>, AllocError>
     ensures { IfOk result (λ made. made.items ≡ last_marks pair_eq pairs.now) }
 {
@@ -46,7 +46,7 @@ fn pair_marks(alloc: Global, pairs: &[(u64, u64)]) -> Result<Vec<bool>, AllocErr
     Ok(made)
 }
 
-/// A mark at each pair that no pair of the same subject follows.
+/// A 1-bit for each pair that is not followed by one of the same subject.
 fn subject_marks(alloc: Global, pairs: &[(u64, u64)]) -> Result<Vec<bool>, AllocError>
     ensures { IfOk result (λ made. made.items ≡ last_marks nat_eq (map (λ p. p.0) pairs.now)) }
 {

@@ -1,4 +1,4 @@
-//! Where a search by a predicate stands.
+//! The position of a search by a predicate.
 ghost use Rattle.std.specs.Prelude.{◌≡◌, ◌≤◌, ◌<◌, ◌+◌, ℕ, length, true, false};
 ghost use Rattle.hdt_seq.specs.Directory.{groups};
 ghost use Rattle.hdt_seq.specs.Width.{digits};
@@ -13,24 +13,24 @@ use crate::look::{listed, mark};
 use crate::triples::Triples;
 use hdt_seq::Steps;
 
-/// Where a search by a predicate stands: before a pair of the predicate, or within one.
+/// The position of a search by a predicate: before a pair of the predicate, or within one.
 #[derive(Clone, Copy)]
 pub(crate) struct Spot<'a> {
-    /// The predicate's pairs that are not begun.
+    /// The pairs of the predicate that are still to come.
     pub rest: &'a [u64],
-    /// The place of the next triple within a pair, else the place after the last triple that was given.
+    /// The index of the next triple of the current pair, or the index after the last triple that was returned.
     pub at: u64,
-    /// The subject of the pair that is begun.
+    /// The subject of the current pair.
     pub subject: u64,
-    /// Whether a pair is begun.
+    /// Whether there is a current pair.
     pub inside: bool,
 }
 
 impl<'a> IndexedTriples<'a> {
     ghost use Rattle.hdt_triples.specs.ListedViews.{triples_indexed};
 
-    /// The spot itself within a pair, else the first triple of the next pair, by one search for the pair's subject and
-    /// one for its first triple.
+    /// The position itself within a pair, else that of the first triple of the next pair, by one rank for the pair's
+    /// subject and one select for its first triple.
     #[tactic(auto, unfolding(crate::specs::Views::bitmap_read))]
     pub(crate) fn enter<'b>(&self, spot: Spot<'b>, predicate: u64, steps: &mut Steps) -> Spot<'b>
         requires stands { InPairs (bitmap_read (triples_indexed self.now)) predicate spot }
@@ -57,7 +57,7 @@ impl<'a> IndexedTriples<'a> {
 }
 
 impl<'a> Triples<'a> {
-    /// The spot after the triple of a begun pair, by one look at its mark.
+    /// The position after a triple of the current pair, by its bit. One step.
     #[tactic(auto, unfolding(crate::specs::Views::bitmap_read))]
     pub(crate) fn leave<'b>(&self, spot: Spot<'b>, steps: &mut Steps) -> Spot<'b>
         requires inside { spot.inside ≡ true }

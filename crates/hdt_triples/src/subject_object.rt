@@ -1,4 +1,4 @@
-//! The matches of a pattern that gives a subject and an object, and no predicate.
+//! The matches of a pattern with a subject and an object, and no predicate.
 ghost use Rattle.std.specs.Prelude.{◌≡◌, ◌≢◌, ◌≤◌, ◌<◌, ◌+◌, ◌*◌, ◌^◌, ℕ, length, slice_index, IfSome, Some, None};
 ghost use Rattle.hdt_seq.specs.Width.{digits};
 ghost use Rattle.hdt_triples.specs.Bounds.{jump, limit, of_subject, Pays, skip_price, subject_price, triples_with};
@@ -19,9 +19,9 @@ use crate::place::Place;
 use crate::price::digits_of;
 use hdt_seq::Steps;
 
-/// The matches of a pattern that gives a subject and an object, and no predicate, in order: a walk over the subject's
-/// triples, which leaves a look at each that doesn't match. What is left pays for looking the next match up in the
-/// object's list.
+/// The matches of a pattern with a subject and an object, and no predicate, in order: a scan of the subject's triples.
+/// Each triple that doesn't match costs one step less than the table allows; once these pay for a binary search in the
+/// triples of the object, the next match is found by that.
 #[derive(Drop)]
 pub struct SubjectObjectMatches<'a> {
     indexed: &'a IndexedTriples<'a>,
@@ -49,7 +49,8 @@ pub struct SubjectObjectMatches<'a> {
 impl<'a> IndexedTriples<'a> {
     ghost use Rattle.hdt_triples.specs.ListedViews.{triples_indexed};
 
-    /// The place of the first triple from one on that has an object, by the list of the object, if it is of the subject.
+    /// The position of the first triple, from one on, that has this object, by the triples of the object, if it has the
+    /// subject.
     #[tactic(auto, unfolding(crate::specs::Views::bitmap_read))]
     fn next_of(
         &self,
@@ -84,7 +85,7 @@ impl<'a> ListedTriples<'a> {
     ghost use Rattle.hdt_triples.specs.Left.{left_of, limit_of, short_limit_of};
     ghost use Rattle.hdt_triples.specs.ListedViews.{triples_listed};
 
-    /// The matches of a pattern that gives this subject and this object, and no predicate.
+    /// The matches of a pattern with this subject and this object, and no predicate.
     #[tactic(auto, unfolding(crate::specs::Left::left_of, crate::specs::Left::limit_of, crate::specs::Left::short_limit_of))]
     pub(crate) fn find_subject_object(
         &self,
@@ -122,7 +123,7 @@ impl<'a> SubjectObjectMatches<'a> {
     ghost use Rattle.hdt_triples.specs.declared.matches.Matches.TheVariants.{SubjectObject};
     ghost use Rattle.std.specs.Iterator.{YieldsFirst};
 
-    /// The next match, by the object's list.
+    /// The next match, by the triples of the object.
     #[tactic(auto, unfolding(crate::specs::Left::left_of, crate::specs::Left::limit_of, crate::specs::Left::short_limit_of, crate::specs::Left::steps_of))]
     fn skip(&mut self) -> Option<(u64, u64, u64)>
         requires within { self.old.place.at < length (bitmap_read self.old.indexed.now.triples).zs }

@@ -11,7 +11,7 @@ use crate::rows::{fit, in_order, marks_before};
 use hdt_seq::{Bits, Numbers};
 use hdt_wire::{Fault, Kind, Reason, demand, read_control};
 
-/// Triples that were read: they borrow the input, and are searched as they lie.
+/// Triples that were read. They borrow the input, in which they are searched.
 ///
 /// ```text
 /// let (triples, next) = Triples::read(bytes, at, counts)?;
@@ -38,7 +38,7 @@ impl<'a> Triples<'a> {
     ghost use Rattle.hdt_triples.specs.ListedViews.{roles_of};
     ghost use Rattle.hdt_triples.specs.Views.{bitmap_read, read_of, parts_read, triples_in};
 
-    /// Reads by rows.
+    /// Reads triples, check by check.
     #[tactic(auto, unfolding(crate::specs::Triples::triples_at, crate::specs::Views::bitmap_read))]
     fn read_rows(bytes: &'a [u8], at: usize, counts: Counts) -> Result<(Triples<'a>, usize), Fault>
         requires subjects { counts.subjects < 2 ^ 63 }
@@ -71,37 +71,39 @@ impl<'a> Triples<'a> {
         ))
     }
 
-    /// Reads the triples at a place, whose numbers are of so many strings, and answers them with the place after them.
+    /// Reads the triples at a byte offset, from 0, whose IDs are those of so many strings. Returns them with the offset
+    /// after them. More bytes may follow. One pass over the pairs and one over the triples.
     ///
-    /// It takes no memory, and goes once over the pairs and once over the triples. Faults, in the order of the rows: those
-    /// of the control block, `TripleOrder`, those of the four sequences, `LengthsDiffer`, `LastMark`, `MarkCount`, those
-    /// of the pairs in turn, those of the objects in turn.
+    /// # Errors
+    ///
+    /// The first of these, in this order: those of the control information, `TripleOrder`, those of the four sequences,
+    /// `LengthsDiffer`, `LastMark`, `MarkCount`, those of each pair, those of each object.
     pub fn read(bytes: &'a [u8], at: usize, counts: Counts) -> Result<(Triples<'a>, usize), Fault>
         requires subjects { counts.subjects ≤ length bytes.now }
         requires predicates { counts.predicates ≤ length bytes.now }
         requires objects { counts.objects ≤ length bytes.now }
-        // What is read stands at that place.
+        // What is returned is encoded there.
         ensures found { IfOk result (λ r. Seen parts_read (λ t. IsTriples (counts_seen counts) t bytes.now at) (read_of r)) }
-        // What stands there is read, whatever follows.
+        // Whatever is encoded there is returned.
         ensures only { (t : TripleParts) → IsTriples (counts_seen counts) t bytes.now at → Reads read_of result (Ok (parts_read t)) }
-        // Otherwise it is the one fault that stands.
+        // Otherwise it is the first error.
         ensures exact { Reads read_of result (triples_in (counts_seen counts) bytes.now at) }
         ensures end { IfOk result (λ r. r.1 ≤ length bytes.now) }
-        // The triples are of so many strings.
+        // Their IDs are those of so many strings.
         ensures roles { IfOk result (λ r. roles_of r.0 ≡ counts_seen counts) }
     {
         Triples::read_rows(bytes, at, counts)
     }
 
-    /// How many triples there are.
+    /// Returns the number of triples.
     pub fn len(&self) -> u64
         ensures { result ≡ length (bitmap_read self.now).zs }
     {
         self.zs.len()
     }
 
-    /// Triple j, counted from 0: its subject, its predicate and its object. It counts marks from the first on, so it
-    /// costs time in proportion to the place.
+    /// Returns the subject, predicate and object of triple j, from 0. It scans the bitmaps from the first bit on:
+    /// linear time in j.
     #[tactic(auto, using(crate::specs::Laws::Order::pair_within), unfolding(crate::specs::Views::bitmap_read))]
     pub fn get(&self, j: u64) -> (u64, u64, u64)
         requires { j < length (bitmap_read self.now).zs }

@@ -1,4 +1,4 @@
-//! Writing triples, in their canonical form.
+//! Writing triples in canonical form.
 ghost use Rattle.std.specs.Prelude.{◌≡◌, ◌++◌, ◌<◌, ◌^◌, length, OnOk, OnErr};
 ghost use Rattle.hdt_wire.specs.Control.{Keeps};
 ghost use Rattle.hdt_triples.specs.Counting.{Counts};
@@ -12,7 +12,7 @@ use hdt_seq::{put_bits, put_numbers};
 use hdt_wire::{Kind, cut_on_error, put_control};
 use std::alloc::{AllocError, Global};
 
-/// Appends four sequences; an `Err` may leave a beginning of them behind.
+/// Appends four sequences; an error may leave their first bytes.
 #[tactic(auto, using(crate::specs::Laws::Writing::ordered_no_zero), unfolding(crate::specs::Writing::canonical_sequences, crate::specs::Inside::SequencesView::bitmap_made))]
 fn append_sequences(made: &Sequences, out: &mut Vec<u8>) -> Result<(), AllocError>
     requires some_pairs { 0 < length made.now.my.items }
@@ -27,7 +27,7 @@ fn append_sequences(made: &Sequences, out: &mut Vec<u8>) -> Result<(), AllocErro
     put_numbers(made.zs.as_slice(), out)
 }
 
-/// Appends four sequences; where memory is refused, `out` is as it was.
+/// Appends four sequences. If memory runs out, `out` is unchanged.
 fn put_sequences(made: &Sequences, out: &mut Vec<u8>) -> Result<(), AllocError>
     requires some_pairs { 0 < length made.now.my.items }
     requires some_triples { 0 < length made.now.mz.items }
@@ -39,12 +39,11 @@ fn put_sequences(made: &Sequences, out: &mut Vec<u8>) -> Result<(), AllocError>
     cut_on_error(appended, start, out)
 }
 
-/// Appends the canonical triples of a list: the control block with the property `order=1;`, the marks of the pairs, the
-/// marks of the triples, the predicates of the pairs and the objects of the triples. Where memory is refused, `out` is
-/// as it was. It costs time and memory in proportion to the triples.
+/// Appends the canonical triples of a list: control information with the property `order=1;`, bitmap Y, bitmap Z,
+/// sequence Y and sequence Z. If memory runs out, `out` is unchanged. Linear time and memory in the triples.
 ///
-/// The caller shows that there is a triple, that the triples strictly ascend, that their subjects are 1, 2, 3, .. without
-/// a gap, and that their predicates and objects are at least 1.
+/// There must be a triple, the triples must strictly ascend, their subjects must be 1, 2, 3, .. without a gap, and
+/// their predicates and objects at least 1: see [`are_writable`](crate::are_writable).
 pub fn put_triples(
     alloc: Global,
     triples: &[(u64, u64, u64)],
@@ -52,7 +51,7 @@ pub fn put_triples(
 ) -> Result<(), AllocError>
     requires { AreWritable triples.now }
     ensures ok { OnOk result (out.new.items ≡ out.old.items ++ canonical_triples triples.now) }
-    // What was written stands there, over any counts that the numbers are within, and is read again.
+    // It is read back, for any counts that the IDs are within.
     ensures triples { OnOk result ((counts : Counts) → AreWithin counts triples.now → AreFew counts
         → IsTriples counts (canonical_triples_parts triples.now (length out.old.items)) out.new.items (length out.old.items)) }
     ensures err { OnErr result (out.new.items ≡ out.old.items) }

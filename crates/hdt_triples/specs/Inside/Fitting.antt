@@ -3,7 +3,7 @@ use Rattle.std.specs.Prelude.{◌≡◌, ℕ, ◌+◌, ◌≤◌, List}
 use Rattle.hdt_triples.specs.Counting.{Triple}
 use Rattle.hdt_triples.specs.Order.{triple_in, TripleLess}
 
--- triple i can stand behind the one before it
+-- triple i can follow the previous one
 pub record CanFollow (ts : List Triple) (i : ℕ) : Type 0 where
   pub predicate : 1 ≤ (triple_in ts i).1
   pub object : 1 ≤ (triple_in ts i).2

@@ -1,4 +1,4 @@
--- Matches that stand together.
+-- Consecutive matches.
 use Rattle.std.specs.Prelude.{ℕ, ◌≡◌, ◌≢◌, ◌≤◌, ◌<◌, ◌+◌, length, slice_index, true, false}
 use Rattle.hdt_triples.specs.Counting.{BitmapTriples, pair_of, subject_at, triple_at}
 use Rattle.hdt_triples.specs.Patterns.{agrees}

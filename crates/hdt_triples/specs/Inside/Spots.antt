@@ -1,4 +1,4 @@
--- Where a search by predicate stands.
+-- The position of a search by predicate.
 use Rattle.std.specs.Prelude.{ℕ, List, ◌≡◌, ◌≤◌, ◌<◌, ◌+◌, length, slice_index, true, false}
 use Rattle.hdt_triples.specs.Counting.{BitmapTriples, pair_of, subject_at}
 use Rattle.hdt_triples.specs.Lists.{places_from}

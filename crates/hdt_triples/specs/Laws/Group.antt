@@ -1,4 +1,4 @@
--- Groups of equal neighbours: their marks, their first elements, and how the two go together.
+-- Groups of equal neighbours: their 1-bits, their first elements, and how the two go together.
 use Rattle.std.proofs.Common.{◌≡◌, ◌≢◌, ℕ, ◌+◌, ◌-◌, ◌<◌, ◌≤◌, suc, zero, Bool, true, false, not, cond, List, [], ◌∷◌, ◌++◌, length, get_or, take, map, slice_get, Some, refl, ap, sym, ◌∙◌, subst, arith, eqb}
 use Rattle.std.specs.List.{dedup, dedup_from}
 use Rattle.std.proofs.lemmas.List.{take_all, take_more}
@@ -26,7 +26,7 @@ module _ {X : Type 0} (same : X → X → Bool) where
   last_marked k [] = refl
   last_marked k (x ∷ xs) = last_marked x xs
 
-  -- the mark at a place that isn't the last
+  -- the 1-bit at a place that isn't the last
   pub mark_inside : (xs : List X) (i : ℕ) (d : X) → i + 1 < length xs → get_or (last_marks same xs) i false ≡ not (same (get_or xs (i + 1) d) (get_or xs i d))
   mark_inside [] i d h = absurd (omega arith)
   mark_inside (x ∷ []) i d h = absurd (omega arith)
@@ -76,7 +76,7 @@ module _ {X : Type 0} (same : X → X → Bool) where
     group_at [] i d h = absurd (omega arith)
     group_at (x ∷ xs) i d h = group_at_from x xs i d h
 
-    -- as many marks as groups
+    -- as many 1-bits as groups
     count_step : (k x : X) (xs : List X) (b : Bool) → same x k ≡ b → (n : ℕ) → n ≡ length (dedup_from same x xs) → cond (not b) 1 0 + n ≡ length (cond b (dedup_from same k xs) (k ∷ dedup_from same x xs))
     count_step k x xs true e n h = let f = ap (λ y. length (dedup_from same y xs)) (exact x k e) in omega arith
     count_step k x xs false e n h = omega arith
@@ -96,7 +96,7 @@ last_is_marked same (x ∷ xs) h =
     let e : length (last_marks_from same x xs) - 1 ≡ length xs = omega (arith, length-last_marks_from same x xs) in
     ap (slice_get (last_marks_from same x xs)) e ∙ last_marked same x xs
 
--- a loop's step over marks
+-- a loop's step over 1-bits
 pub marks_more : {X : Type 0} (same : X → X → Bool) (xs : List X) (made : List Bool) (i : ℕ) (b : Bool) → i < length xs → b ≡ get_or (last_marks same xs) i false → made ≡ take i (last_marks same xs) → made ++ b ∷ [] ≡ take (i + 1) (last_marks same xs)
 marks_more same xs made i b h is front = (λ j. front j ++ is j ∷ []) ∙ sym (take_more (last_marks same xs) i false (omega (arith, length-last_marks same xs)))
 
@@ -122,7 +122,7 @@ module _ {X : Type 0} (same : X → X → Bool) (P : X → Type 0) where
   all_groups [] h i d lt = absurd (omega arith)
   all_groups (x ∷ xs) h i d lt = all_from x xs (h 0 x (omega arith)) (λ i d lt. h (suc i) d (omega arith)) i d lt
 
--- each mark's group is there
+-- each 1-bit's group is there
 module _ {X : Type 0} (same : X → X → Bool) (exact : (x y : X) → same x y ≡ true → x ≡ y) where
   pub group_within : (xs : List X) (i : ℕ) → i < length xs → marks_before (last_marks same xs) i < length (dedup same xs)
   group_within xs i h =
@@ -157,7 +157,7 @@ module _ {X : Type 0} (same : X → X → Bool) (exact : (x y : X) → same x y 
     linked_groups [] h i d lt = absurd (omega arith)
     linked_groups (x ∷ xs) h i d lt = linked_from x xs h i d lt
 
--- numbers that go up by at most one: each is the first and the marks before it
+-- numbers that go up by at most one: each is the first and the 1-bits before it
 module _ where
   step_by : (x y : ℕ) (b : Bool) → eqb y x ≡ b → x ≤ y → y ≤ x + 1 → y ≡ x + cond (not b) 1 0
   step_by x y true e low high = omega (arith, eqb-true y x e)

@@ -1,4 +1,4 @@
--- The rows of triples are exact.
+-- The checks of triples are exact.
 use Rattle.std.proofs.Common.{◌≡◌, ℕ, zero, suc, ◌+◌, ◌-◌, ◌<◌, ◌≤◌, ◌&&◌, Bool, true, false, List, length, get_or, slice_get, slice_index, eqb, ltb, leb, Option, Some, None, inl, inr, refl, sym, ap, subst, ◌∙◌, arith, add-one, cond}
 use Rattle.std.specs.Prelude.{codes, OnOk, Result, Ok, Err}
 use Rattle.hdt_wire.specs.declared.fault.Fault.{Fault}
@@ -26,7 +26,7 @@ use Rattle.hdt_wire.specs.Laws.ExactLeaves.{control_exact}
 use Rattle.hdt_triples.specs.Counting.{AreGrouped, AreTriples, Counts}
 use Rattle.hdt_triples.specs.Triples.{TripleParts, IsTriples, sequences_bitmap, fit_at, is_one, earlier, entry_row, pair_row, last_is, pairs_at, objects_at, triples_at}
 
--- ---- the order of triples, and the last marks
+-- ---- the order of triples, and the last 1-bits
 
 one_found : (value : Option (List ℕ)) → is_one value ≡ true → value ≡ Some (codes "1")
 one_found None e = absurd (cc)
@@ -44,7 +44,7 @@ mark_here marks i e =
 
 -- ---- numbers in groups
 
--- what the rows of an entry say
+-- what the checks of an entry say
 record EntryHolds (marks : List Bool) (xs : List ℕ) (count i : ℕ) : Type 0 where
   from : 1 ≤ slice_index xs i
   to : slice_index xs i ≤ count
@@ -179,7 +179,7 @@ fit_exact counts my mz ys zs = record {
       rw (t2, t3, t4, t5, t6, r6, r7) refl;
 }
 
--- what a reading of the rows shows where none fails
+-- what a reading of the checks shows where none fails
 pub fit_found : (counts : Counts) (my mz : Sequence Bool) (ys zs : Sequence ℕ) (r : Result (Unit {0}) Fault) → r ≡ fit_at counts my mz ys zs → OnOk r (AreTriples counts (sequences_bitmap my mz ys zs))
 fit_found counts my mz ys zs (Ok u) e = (fit_exact counts my mz ys zs).found u (sym e)
 fit_found counts my mz ys zs (Err f) e = tt

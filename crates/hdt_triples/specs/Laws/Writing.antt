@@ -1,5 +1,5 @@
 -- The four sequences of triples that can be written fit together, their triples by counting are those triples, and
--- their bytes are read again, whatever stands around them.
+-- their bytes are read back, whatever precedes and follows them.
 use Rattle.std.proofs.Common.{◌≡◌, ℕ, ◌+◌, ◌<◌, ◌≤◌, ◌^◌, ◌&&◌, Bool, true, false, nat_eq, List, [], ◌∷◌, ◌++◌, length, get_or, map, codes, Some, inl, inr, refl, ap, sym, ◌∙◌, subst, arith, eqb, not}
 use Rattle.std.proofs.lemmas.Bool.{cases_lt, and_parts, eqb-true, eq-eqb, eqb-false}
 use Rattle.std.proofs.lemmas.List.{get_or-map, get_or_past, length-map, get_or_default, same_lists}
@@ -191,7 +191,7 @@ module _ (ts : List Triple) (can : AreWritable ts) where
       let size = length-last_marks pair_eq (all_pairs ts) ∙ size_is in
       (omega (arith, many_predicates, here), omega (arith, many_predicates, each, most, size))
 
-  -- there are marks of both kinds
+  -- there are 1-bits of both kinds
   pub some_marks : (0 < length f.my) × (0 < length f.mz)
   some_marks = let m = marked in let pairs = pairs_few in let size = many_objects in let some = can.some in (omega (arith, m.pairs, pairs.0), omega (arith, m.triples, size, some))
 
