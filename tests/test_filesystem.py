@@ -902,7 +902,7 @@ def wanted_of(name: str, closed_ones: set[int], descriptors: int | None) -> Resu
     if opens and descriptors == 3 or 0 in closed_ones and name in ("answer", "stdin"):
         out, err, status = b"", b"hdt: reading failed\n", 3
     elif name == "stdin":
-        out, err, status = b"", b"hdt: fault 2 BadMagic at 0\n", 1
+        out, err, status = b"", b"hdt: fault 4 NotHdt at 0\n", 1
     elif 1 in closed_ones:
         out, err, status = b"", b"hdt: writing failed\n", 3
     return Result(status, out, b"" if 2 in closed_ones else err)
