@@ -891,8 +891,8 @@ def touched(name: str, closed_ones: set[int], descriptors: int | None, folder: s
     names_of = {"FILE": "three.hdt", "IN": "three.nt", "OUT": "out/new.hdt"}
     words = [f"{folder}/{names_of[word]}" if word in names_of else word for word in TOUCHING[name][0]]
     closing = " ".join(CLOSED[it] for it in sorted(closed_ones))
-    limit = "" if descriptors is None else f"ulimit -n {descriptors}; "
-    return run(["sh", "-c", f'{limit}exec "$0" "$@" {closing}', *before, *words], stdin=b"? ? ?\n")
+    limit = [] if descriptors is None else ["prlimit", f"--nofile={descriptors}:{descriptors}", "--"]
+    return run(["sh", "-c", f'exec "$0" "$@" {closing}', *limit, *before, *words], stdin=b"? ? ?\n")
 
 
 def wanted_of(name: str, closed_ones: set[int], descriptors: int | None) -> Result:
