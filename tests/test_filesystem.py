@@ -891,8 +891,8 @@ def touched(name: str, closed_ones: set[int], descriptors: int | None, folder: s
     names_of = {"FILE": "three.hdt", "IN": "three.nt", "OUT": "out/new.hdt"}
     words = [f"{folder}/{names_of[word]}" if word in names_of else word for word in TOUCHING[name][0]]
     closing = " ".join(CLOSED[it] for it in sorted(closed_ones))
-    limit = "" if descriptors is None else f"ulimit -n {descriptors}; "
-    return run(["sh", "-c", f'{limit}exec "$0" "$@" {closing}', *before, *words], stdin=b"? ? ?\n")
+    limit = [] if descriptors is None else ["prlimit", f"--nofile={descriptors}:{descriptors}", "--"]
+    return run(["sh", "-c", f'exec "$0" "$@" {closing}', *limit, *before, *words], stdin=b"? ? ?\n")
 
 
 def wanted_of(name: str, closed_ones: set[int], descriptors: int | None) -> Result:
@@ -902,7 +902,7 @@ def wanted_of(name: str, closed_ones: set[int], descriptors: int | None) -> Resu
     if opens and descriptors == 3 or 0 in closed_ones and name in ("answer", "stdin"):
         out, err, status = b"", b"hdt: reading failed\n", 3
     elif name == "stdin":
-        out, err, status = b"", b"hdt: fault 2 BadMagic at 0\n", 1
+        out, err, status = b"", b"hdt: fault 4 NotHdt at 0\n", 1
     elif 1 in closed_ones:
         out, err, status = b"", b"hdt: writing failed\n", 3
     return Result(status, out, b"" if 2 in closed_ones else err)

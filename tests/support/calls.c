@@ -35,7 +35,8 @@ __attribute__((constructor)) static void begin(void) {
 // Notes a call, and tells whether it fails.
 static int fails(const char *what, int mode) {
     char line[64];
-    int length = mode < 0 ? snprintf(line, sizeof line, "%s\n", what) : snprintf(line, sizeof line, "%s %o\n", what, mode);
+    int length = mode < 0 ? snprintf(line, sizeof line, "%s\n", what)
+                          : snprintf(line, sizeof line, "%s %o\n", what, mode);
     if (syscall(SYS_write, log_file, line, (size_t)length) != length) {
         _exit(125);
     }

@@ -21,9 +21,9 @@ fn is_input(path: &str) -> bool {
     matches!(path, "/dev/stdin" | "/dev/fd/0" | "/proc/self/fd/0")
 }
 
-/// The file under a number that is none of a standard stream. Where such a stream is closed, a file that is opened takes its
-/// number; it is moved, so that reading from or writing to the closed stream fails, and never meets the file. An error says that
-/// no number is free.
+/// The file under a number that is none of a standard stream. Where such a stream is closed, a file that is opened
+/// takes its number; it is moved, so that reading from or writing to the closed stream fails, and never meets the file.
+/// An error says that no number is free.
 pub fn apart<F: OpenFile + AsRawFd + Drop>(file: F) -> io::Result<F>
     ensures { IfOk result (λ file. IfSome (F.raw_fd file) (λ number. pos 3 ≤ℤ number)) }
 {
@@ -52,7 +52,8 @@ pub enum Source {
 }
 
 impl Source {
-    /// Opens a file. The paths of standard input open nothing: opened anew, a socket or the pipe of another user is refused.
+    /// Opens a file. The paths of standard input open nothing: opened anew, a socket or the pipe of another user is
+    /// refused.
     fn open(rt: &HostRuntime, path: &str) -> io::Result<Source> {
         if is_input(path) {
             return Ok(Source::Input(rt.stdin()));
@@ -133,8 +134,8 @@ pub fn is_one_file(rt: &HostRuntime, path: &str, other: &str) -> bool {
     }
 }
 
-/// Whether what is written to a path takes the place of what is read from another: both lead to one file that keeps bytes, or to
-/// one disk.
+/// Whether what is written to a path takes the place of what is read from another: both lead to one file that keeps
+/// bytes, or to one disk.
 pub fn takes_the_place(rt: &HostRuntime, out: &str, input: &str) -> bool {
     let keeps = match fs::metadata(rt, out) {
         Ok(there) => there.is_file() || there.file_type().is_block_device(),

@@ -94,8 +94,8 @@ fn permissions_of(rt: &HostRuntime, name: &str) -> io::Result<Option<Permissions
     }
 }
 
-/// The permissions of the file of this name; where there is none, those that a file for everyone gets in this folder, which the
-/// system tells of an empty one. That is removed.
+/// The permissions of the file of this name; where there is none, those that a file for everyone gets in this folder,
+/// which the system tells of an empty one. That is removed.
 fn usual_permissions(rt: &HostRuntime, name: &str) -> io::Result<Permissions> {
     if let Some(permissions) = permissions_of(rt, name)? {
         return Ok(permissions);
@@ -106,8 +106,8 @@ fn usual_permissions(rt: &HostRuntime, name: &str) -> io::Result<Permissions> {
     Ok(metadata?.permissions())
 }
 
-/// Lets those read and write a new file who may do so with the file of this name, which it is to replace, or as is usual where
-/// there is none.
+/// Lets those read and write a new file who may do so with the file of this name, which it is to replace, or as is
+/// usual where there is none.
 fn permit(rt: &HostRuntime, file: &File, name: &str, usual: Permissions) -> io::Result<()> {
     let permissions = permissions_of(rt, name)?.unwrap_or(usual);
     if file.metadata()?.permissions() == permissions {
@@ -131,8 +131,9 @@ fn filled<F: Write + OpenFile + Drop>(file: F, built: &[u8]) -> Result<F, ToolFa
     }
 }
 
-/// Writes a new file with what was made, and gives it the permissions and the name of the one that it replaces. Nobody else can
-/// open it before it is whole and on the disk; where the system stops between the last steps, it is too private, never too open.
+/// Writes a new file with what was made, and gives it the permissions and the name of the one that it replaces. Nobody
+/// else can open it before it is whole and on the disk; where the system stops between the last steps, it is too
+/// private, never too open.
 fn fill_and_rename(
     rt: &HostRuntime,
     file: File,
@@ -159,8 +160,8 @@ fn parts_of(path: &str) -> (&str, &str) {
     }
 }
 
-/// Goes into a folder, and creates a new file there, to take the place of the one of this name: the permissions that it gets
-/// where none is there in the end, the file, and its own name.
+/// Goes into a folder, and creates a new file there, to take the place of the one of this name: the permissions that it
+/// gets where none is there in the end, the file, and its own name.
 fn begin(rt: &HostRuntime, folder: &str, name: &str) -> io::Result<(Permissions, File, String)> {
     env::set_current_dir(rt, folder)?;
     let usual = usual_permissions(rt, name)?;

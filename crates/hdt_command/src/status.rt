@@ -331,8 +331,8 @@ fn writes_over_its_input(rt: &HostRuntime, asked: &Call, path: &str) -> bool
     }
 }
 
-/// Does what a request that makes a file asks for, and tells how it ended. What would be written over its input is refused
-/// before anything is read.
+/// Does what a request that makes a file asks for, and tells how it ended. What would be written over its input is
+/// refused before anything is read.
 fn stored(rt: &HostRuntime, asked: &Call, path: &str) -> u8
     requires { MakesFile asked.now.request.action }
     ensures { IsStatusOf asked.now.request.action result }
@@ -448,8 +448,9 @@ fn answered(rt: &HostRuntime, asked: Result<Call, UsageFault>) -> u8
     }
 }
 
-/// Does what the words ask for, and tells how it ended: 0 done, 1 a fault of the input, 2 words that are none, or a `build` that is
-/// to write over its input, 3 reading or writing failed, 4 out of memory. It costs what [`run`](crate::run) costs.
+/// Does what the words ask for, and tells how it ended: 0 done, 1 a fault of the input, 2 words that are none, or a
+/// `build` that is to write over its input, 3 reading or writing failed, 4 out of memory. It costs what
+/// [`run`](crate::run) costs.
 pub fn status_of(rt: &HostRuntime, words: io::Result<Vec<String>>) -> u8
     ensures given { IfOk words (λ words. Ends (map string_bytes words.items) result) }
     ensures memory { IfErr words (λ error. error_kind error ≡ ErrorKind.OutOfMemory → result ≡ 4) }
