@@ -15,16 +15,16 @@ use hdt_seq::Steps;
 use std::alloc::Global;
 
 /// The answer where there is none.
-const ABSENT: u64 = 18_446_744_073_709_551_615;
+pub(crate) const ABSENT: u64 = 18_446_744_073_709_551_615;
 
 /// The answer where memory was refused.
-const NO_MEMORY: u64 = 18_446_744_073_709_551_614;
+pub(crate) const NO_MEMORY: u64 = 18_446_744_073_709_551_614;
 
 /// The answer where the graph isn't open.
 pub(crate) const CLOSED: u64 = 18_446_744_073_709_551_613;
 
 /// The role that C names by a number.
-fn role_at(number: u32) -> Option<Role>
+pub(crate) fn role_at(number: u32) -> Option<Role>
     ensures { result ≡ role_by_number number }
 {
     match number {

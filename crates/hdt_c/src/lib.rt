@@ -6,7 +6,7 @@
 //! In reading order: `kept`, what the library made and C keeps, and `held`, `parts`, how it stands behind a pointer of C;
 //! `handle` and `taking`, a graph that is taken out of its handle, asked, and put back; `address`, `bytes` and `making`, bytes
 //! that are handed out and freed; `verdict`, `telling` and `report`, what is said of an input; then the exports: `verdict`,
-//! `opening`, `asking` (with `room`, the caller's), `finding`, `text`, `building`, `rewriting`, `making`.
+//! `opening`, `asking` (with `room`, the caller's), `strings`, `finding`, `text`, `building`, `rewriting`, `making`.
 #![tactic(auto)]
 
 mod address;
@@ -23,6 +23,7 @@ mod parts;
 mod report;
 mod rewriting;
 mod room;
+mod strings;
 mod taking;
 mod telling;
 mod text;

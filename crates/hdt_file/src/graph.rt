@@ -30,8 +30,9 @@ pub struct Graph<'a> {
 
 #[tactic(auto, unfolding(crate::specs::Views::graph_seen))]
 impl<'a> Graph<'a> {
-    ghost use Rattle.std.specs.Prelude.{◌∷◌, ◌↔◌, ◌≤◌, ◌+◌, [], Some, None, IsOk, OnErr, IsTrue};
+    ghost use Rattle.std.specs.Prelude.{◌∷◌, ◌↔◌, ◌≤◌, ◌+◌, ◌*◌, [], Some, None, IsOk, OnErr, IsTrue};
     ghost use Rattle.hdt_front.specs.Numbering.{place};
+    ghost use Rattle.hdt_dict.specs.Many.{AppendsAll, AreNumbers, AscendTo};
     ghost use Rattle.hdt_dict.specs.Numbered.{numbered, AppendsString};
     ghost use Rattle.hdt_triples.specs.Uses.{Uses};
     ghost use Rattle.hdt_file.specs.Graph.{IsGraph};
@@ -155,5 +156,32 @@ impl<'a> Graph<'a> {
         ensures more { steps.old ≤ steps.new }
     {
         self.dictionary.string_of(role, n, out, steps)
+    }
+
+    /// Appends the strings of many numbers of a role, from 1, one after another, and to `ends` where each of them ends, in
+    /// bytes from the start of `out`: true; or false where one of the numbers is that of no string, which is the first one
+    /// that is 0 or above [`count`](Graph::count), with `out` and `ends` unchanged. Where memory is refused, both are as they were.
+    ///
+    /// Each string takes at most as many looks as [`string_of`](Graph::string_of). Where the numbers ascend, repeats
+    /// allowed, each block is unfolded once: all strings together take at most as many looks as the last number.
+    #[tactic(auto, unfolding(crate::specs::Views::graph_seen, crate::specs::PartsViews::graph_parts))]
+    pub fn strings_of(
+        &self,
+        alloc: Global,
+        role: Role,
+        numbers: &[u64],
+        out: &mut Vec<u8>,
+        ends: &mut Vec<u64>,
+        steps: &mut Steps,
+    ) -> Result<bool, AllocError>
+        ensures ok { IfOk result (λ all. AppendsAll (strings_in (graph_seen self.now).dictionary role) numbers.now all out.old.items out.new.items ends.old.items ends.new.items) }
+        ensures err { OnErr result ((out.new.items ≡ out.old.items) × (ends.new.items ≡ ends.old.items)) }
+        ensures cost { steps.new ≤ steps.old + length numbers.now * role_block (dictionary_in (graph_parts self.now)) role }
+        ensures once { (n : ℕ) → AscendTo numbers.now n → steps.new ≤ steps.old + n }
+        ensures more { steps.old ≤ steps.new }
+        ensures absent { (AreNumbers (strings_in (graph_seen self.now).dictionary role) numbers.now → ⊥) → IsOk result }
+    {
+        self.dictionary
+            .strings_of(alloc, role, numbers, out, ends, steps)
     }
 }
