@@ -6,7 +6,8 @@
  *
  * Who owns what.
  * - The bytes that you pass are yours, and a call reads them while it runs. hdt_open alone keeps their address: keep them
- *   where they are, unchanged, until hdt_close returned.
+ *   where they are, unchanged, until hdt_close returned. Bytes of a mapped file change with the file: where that is cut, the
+ *   next look ends the process (SIGBUS). So replace a file in use by a rename, or read it into memory.
  * - An hdt_graph and an hdt_bytes are your storage; begin each with HDT_GRAPH_INIT or HDT_BYTES_INIT, or all bytes zero. Don't
  *   copy one, don't write its fields, and give it to one call at a time (another thread may use it behind a lock). What
  *   they point to is the library's until hdt_close or hdt_free.
@@ -132,8 +133,18 @@ uint64_t hdt_count(hdt_graph *graph, uint32_t role);
 uint64_t hdt_number(hdt_graph *graph, uint32_t role, const uint8_t *string, size_t len);
 
 /* The string of a role with the number, from 1: how many bytes it has. Its first bytes are put into out, and no zero byte
- * behind them: all, or the `room` that fit (0 to ask for the length alone). HDT_ABSENT (no such role or number), HDT_NO_MEMORY, HDT_CLOSED; then out is as it was. */
+ * behind them: all, or the `room` that fit (0 to ask for the length alone). Each call unfolds the string from the head of its
+ * block; hdt_strings gives many. HDT_ABSENT (no such role or number), HDT_NO_MEMORY, HDT_CLOSED; then out is as it was. */
 uint64_t hdt_string(hdt_graph *graph, uint32_t role, uint64_t number, uint8_t *out, size_t room);
+
+/* The strings of a role with these numbers, from 1, in their order: out has them one after another, with no zero byte between,
+ * and the answer is how many bytes that is. Where each of them ends, in bytes from the start of out, is put into ends: all, or
+ * the `room` that fit (`count` for all). HDT_ABSENT (no such role, or no such number among them, whose first one is 0 or
+ * above hdt_count), HDT_NO_MEMORY, HDT_CLOSED; then out has nothing and ends is as it was. Numbers that ascend, repeats
+ * allowed, take time in proportion to the strings up to the last of them at most, as each block of strings is unfolded once;
+ * in any other order each may unfold its block, as hdt_string does: so sort them. */
+uint64_t hdt_strings(hdt_graph *graph, uint32_t role, const uint64_t *numbers, size_t count, hdt_bytes *out, uint64_t *ends,
+                     size_t room);
 
 /* The header of the file, N-Triples that nobody looked at: how many bytes it has. Its first bytes are put into out, as by
  * hdt_string. HDT_CLOSED. */

@@ -98,9 +98,50 @@ static void look_up(hdt_graph *graph, uint32_t role, uint64_t number) {
     let_go(&longer);
 }
 
+/* The strings of many numbers, which ascend or descend, against hdt_string; and numbers that no string has. */
+static void strings_of(hdt_graph *graph, uint32_t role, uint64_t count) {
+    const uint64_t bad[] = {0, count + 1, UINT64_MAX};
+    uint64_t most = count < 300 ? count : 300, i, turn, start;
+    uint64_t *numbers = malloc((most + 1) * sizeof *numbers), *ends = malloc((most + 2) * sizeof *ends);
+    hdt_bytes out = HDT_BYTES_INIT;
+    long before = live;
+    for (turn = 0; turn < 2; turn++) {
+        for (i = 0; i < most; i++) {
+            numbers[i] = (turn ? most - 1 - i : i) * count / most + 1;
+        }
+        numbers[most] = numbers[most - 1]; /* one of them twice */
+        ends[most + 1] = 7;
+        CHECK(hdt_strings(graph, role, numbers, most + 1, &out, ends, most + 1) == ends[most]);
+        CHECK(out.len == ends[most] && out.state == 1 && ends[most + 1] == 7);
+        for (i = 0, start = 0; i <= most; start = ends[i++]) {
+            guarded room;
+            if (!CHECK(start <= ends[i] && ends[i] <= out.len)) {
+                break;
+            }
+            room = guard(ends[i] - start);
+            CHECK(hdt_string(graph, role, numbers[i], room.at, room.len) == room.len && memcmp(room.at, out.at + start, room.len) == 0);
+            let_go(&room);
+        }
+    }
+    ends[0] = ends[1] = 7;
+    CHECK(hdt_strings(graph, role, numbers, most + 1, &out, ends, 1) == out.len && ends[1] == 7);
+    CHECK(hdt_strings(graph, role, numbers, most + 1, &out, ends + 1, 0) == out.len && ends[1] == 7);
+    ends[0] = 7;
+    for (i = 0; i < 3; i++) {
+        numbers[most / 2] = bad[i];
+        CHECK(hdt_strings(graph, role, numbers, most + 1, &out, ends, most + 1) == HDT_ABSENT && has_nothing(&out) && ends[0] == 7);
+        CHECK(hdt_strings(graph, role, numbers, 0, &out, ends, most + 1) == 0 && out.len == 0 && ends[0] == 7);
+    }
+    hdt_free(&out);
+    CHECK(live == before);
+    free(numbers);
+    free(ends);
+}
+
 static void look_ups(hdt_graph *graph, const hdt_verdict *verdict) {
     uint8_t out[2] = {0xAA, 0xAA};
-    uint64_t most = 150, wanted[3], role, number;
+    uint64_t most = 150, wanted[3], role, number, one = 1, end = 7;
+    hdt_bytes made = HDT_BYTES_INIT;
     wanted[0] = verdict->counts[1] + verdict->counts[2];
     wanted[1] = verdict->counts[3];
     wanted[2] = verdict->counts[1] + verdict->counts[4];
@@ -113,6 +154,7 @@ static void look_ups(hdt_graph *graph, const hdt_verdict *verdict) {
         }
         if (wanted[role] > 0) {
             look_up(graph, (uint32_t)role, wanted[role]);
+            strings_of(graph, (uint32_t)role, wanted[role]);
         }
         CHECK(hdt_string(graph, (uint32_t)role, 0, out, 2) == HDT_ABSENT);
         CHECK(hdt_string(graph, (uint32_t)role, wanted[role] + 1, out, 2) == HDT_ABSENT);
@@ -123,6 +165,8 @@ static void look_ups(hdt_graph *graph, const hdt_verdict *verdict) {
         CHECK(hdt_count(graph, none) == HDT_ABSENT);
         CHECK(hdt_number(graph, none, out, 1) == HDT_ABSENT);
         CHECK(hdt_string(graph, none, 1, out, 2) == HDT_ABSENT);
+        CHECK(hdt_strings(graph, none, &one, 1, &made, &end, 1) == HDT_ABSENT && hdt_strings(graph, none, &one, 0, &made, &end, 1) == HDT_ABSENT);
+        CHECK(has_nothing(&made) && end == 7);
     }
     CHECK(out[0] == 0xAA && out[1] == 0xAA);
 }
@@ -308,7 +352,7 @@ static void remake(hdt_graph *graph, const guarded *file, const hdt_verdict *ver
 
 /* Every call on a closed graph. */
 static void closed(hdt_graph *graph) {
-    uint64_t out[1][3] = {{7, 7, 7}};
+    uint64_t out[1][3] = {{7, 7, 7}}, number = 1, end = 7;
     uint8_t room = 0xAA;
     hdt_telling telling;
     hdt_report report;
@@ -319,6 +363,8 @@ static void closed(hdt_graph *graph) {
     CHECK(hdt_number(graph, 0, &room, 1) == HDT_CLOSED && hdt_number(graph, 3, &room, 1) == HDT_CLOSED);
     CHECK(hdt_string(graph, 0, 1, &room, 1) == HDT_CLOSED && hdt_string(graph, 3, 0, &room, 1) == HDT_CLOSED);
     CHECK(hdt_header(graph, &room, 1) == HDT_CLOSED && room == 0xAA);
+    hdt_build((const uint8_t *)"<u:s> <u:p> <u:o> .", 19, base, sizeof base - 1, 16, &made, &report);
+    CHECK(hdt_strings(graph, 0, &number, 1, &made, &end, 1) == HDT_CLOSED && has_nothing(&made) && end == 7 && live == before);
     CHECK(find(graph, &any, 0, out, 1) == HDT_CLOSED && out[0][0] == 7 && hdt_matching(graph, GIVEN(&any)) == HDT_CLOSED);
     hdt_build((const uint8_t *)"<u:s> <u:p> <u:o> .", 19, base, sizeof base - 1, 16, &made, &report);
     CHECK(report.reason == HDT_DONE && live > before);
@@ -377,6 +423,15 @@ static int call_string(const job *it) {
     uint8_t room[8] = {0xAA};
     uint64_t len = hdt_string(it->graph, HDT_PREDICATE, 1, room, sizeof room);
     return len == HDT_NO_MEMORY ? (room[0] == 0xAA ? TOLD : WRONG) : len < HDT_CLOSED ? AMPLE : WRONG;
+}
+
+static int call_strings(const job *it) {
+    const uint64_t number = 1;
+    hdt_bytes made = HDT_BYTES_INIT;
+    uint64_t end = 7, len = hdt_strings(it->graph, HDT_PREDICATE, &number, 1, &made, &end, 1);
+    int answer = len == HDT_NO_MEMORY ? (has_nothing(&made) && end == 7 ? TOLD : WRONG) : len == made.len && end == len ? AMPLE : WRONG;
+    hdt_free(&made);
+    return answer;
 }
 
 static int call_number(const job *it) { return hdt_number(it->graph, HDT_PREDICATE, it->given.at[1], it->given.len[1]) == 1 ? AMPLE : WRONG; }
@@ -466,6 +521,7 @@ static void refuse(const guarded *file, const hdt_verdict *verdict) {
         refuse_each("find", call_find, &it);
     }
     refuse_each("string", call_string, &it);
+    refuse_each("strings", call_strings, &it);
     refuse_each("header", call_header, &it);
     hdt_text(&graph, GIVEN(&any), &it.document, &telling);
     refuse_each("text", call_text, &it);

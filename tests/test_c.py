@@ -172,6 +172,10 @@ WRONG = {
                         "uint64_t k = RIGHT(g, r, s, n); return k == HDT_ABSENT ? 0 : k;"),
     "hdt_string": Wrong("uint64_t", "hdt_graph *g, uint32_t r, uint64_t k, uint8_t *out, size_t room",
                         "uint64_t n = RIGHT(g, r, k, out, room); if (n < room) out[n] = 0; return n;"),
+    "hdt_strings": Wrong("uint64_t", "hdt_graph *g, uint32_t r, const uint64_t *k, size_t n, hdt_bytes *out, "
+                                     "uint64_t *ends, size_t room",
+                         "uint64_t len = RIGHT(g, r, k, n, out, ends, room); "
+                         "if (n > 1 && room > 1 && len < HDT_CLOSED) ends[0] = ends[1]; return len;"),
     "hdt_header": Wrong("uint64_t", "hdt_graph *g, uint8_t *out, size_t room",
                         "uint64_t n = RIGHT(g, out, room); return n < HDT_CLOSED && n > room ? room : n;"),
     "hdt_find": Wrong("uint64_t", f"hdt_graph *g, {PATTERN}, uint64_t skip, uint64_t (*out)[3], size_t room",

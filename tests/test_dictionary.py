@@ -2,6 +2,8 @@
 
 from __future__ import annotations
 
+from itertools import accumulate
+
 import pytest
 from hypothesis import example, given
 from hypothesis import strategies as st
@@ -55,6 +57,11 @@ def prefixes_of(dictionary: Dictionary, role: int) -> list[int]:
     return dictionary.shared.prefixes + (dictionary.subjects if role == 0 else dictionary.objects).prefixes
 
 
+def laid(before: bytes, strings: list[bytes]) -> Answer:
+    """The answer of `dictionary_strings_of` where these strings are there: all bytes, and the ends in them."""
+    return ok(True, before + b"".join(strings), *accumulate([len(before), *map(len, strings)]))
+
+
 def requests_and_answers(dictionary: Dictionary, at: int, end: int,
                          others: list[bytes]) -> list[tuple[Request, Answer]]:
     """Requests about a dictionary with the answers of the reference: each string and ID of each role, and others."""
@@ -74,6 +81,10 @@ def requests_and_answers(dictionary: Dictionary, at: int, end: int,
             *((("dictionary_string_of", at, role, n, b"before"), ok(True, b"before" + string))
               for n, string in enumerate(strings, 1)),
             *((("dictionary_string_of", at, role, n, b"before"), ok(False, b"before")) for n in (0, count + 1, MAX)),
+            *((("dictionary_strings_of", at, role, b"before", *ids), laid(b"before", [strings[n - 1] for n in ids]))
+              for ids in ([], [*range(1, count + 1)], [*range(count, 0, -1)] * 2, [n for n in range(1, count + 1, 3)] * 2)),
+            *((("dictionary_strings_of", at, role, b"before", *range(1, count + 1), n), ok(False, b"before", 6))
+              for n in (0, count + 1, MAX)),
             *((("dictionary_block", at, role, n), ok(block))
               for n, block in enumerate(blocks_of(dictionary, role), 1)),
             *((("dictionary_block", at, role, n), ok(b"")) for n in (0, count + 1, MAX)),
@@ -325,6 +336,9 @@ def test_many_strings_in_each_section(probe: Probe) -> None:
     look_up(probe, data + b"$HDT", [(0, 70_000, b"069999"), (2, 1, b"070000"), (2, 140_000, b"209999"),
                                     (1, 70_000, b"279999")])
     for role, strings in enumerate([subjects, predicates, objects]):
+        for ids in (range(1, len(strings) + 1), range(len(strings), 0, -7_001)):
+            answer = laid(b"", [strings[n - 1] for n in ids])
+            assert (probe.ask("dictionary_strings_of", AT, role, b"", *ids) == answer) is True, "other strings"
         walked = probe.ask("dictionary_strings", AT, role)
         assert walked[1::2] == tuple(map(str, range(1, len(strings) + 1)))
         assert walked[2::2] == tuple(string.hex() for string in strings)

@@ -198,10 +198,12 @@ APPENDING = {
     "dictionary_string_of": 4, "put_dictionary": 1, "put_lent_dictionary": 1, "put_written_dictionary": 1,
     "put_triples": 1, "parse_string": 2, "put_string": 2, "put_term": 2, "layout_string_of": 3,
 }
+# Words that append to an output and tell ends in it, that of the output before first: the argument that is that output.
+WITH_ENDS = {"dictionary_strings_of": 3, "strings_of": 2}
 # Words that answer values one by one until memory runs out.
 WALKING = {
     "counted_read", "section_walk", "section_walk_kept", "section_cursor", "section_cursor_compared", "arena",
-    "arena_of", "dictionary_strings", "dictionary_strings_kept", "strings", "layout_strings",
+    "arena_of", "dictionary_strings", "dictionary_strings_kept", "strings", "layout_strings", "section_seek",
 }
 # Words that answer several values, each of which alone may be empty, or be missing.
 EMPTY = {"section_strings"}
@@ -250,6 +252,9 @@ def are_right(word: str, request: Request, values: list[str], ample: list[str]) 
     """Whether the values of an answer that reports that memory ran out are right, by those in ample memory."""
     if word in APPENDING:
         return values == [spelled(request[APPENDING[word]])]
+    if word in WITH_ENDS:
+        before = spelled(request[WITH_ENDS[word]])
+        return values == [before, str(len(bytes.fromhex(before)))]
     if word == "string_of":
         return values == [spelled(request[3]), ample[-1]]
     if word in RUNNING:

@@ -48,13 +48,16 @@ def requests_and_answers(section: Section, at: int, end: int, others: list[bytes
         (("section_walk_kept", at), ok(*kept, None, 0)),
         (("section_string", at, 0, b""), REFUSED),
         (("section_string", at, count + 1, b""), REFUSED),
+        (("section_seek", at, count + 1), REFUSED),
         (("section_block", at, count + 1), REFUSED),
         (("section_head", at, section.blocks), REFUSED),
         *((("section_head", at, block), ok(strings[block * section.block_size])) for block in range(section.blocks)),
         *((("section_block", at, i + 1), ok(section.block_of(i), offsets[i])) for i in range(count)),
     ]
     if count:
+        numbers = [*range(1, count + 1), *range(count, 0, -1), *range(1, count + 1, 2), count, count]
         pairs += [(("section_place_of", at, *strings), ok(*range(1, count + 1))),
+                  (("section_seek", at, *numbers), ok(b"", *(strings[n - 1] for n in numbers))),
                   (("section_strings", at, *range(count, 0, -1)), ok(*reversed(strings))),
                   (("section_string", at, count, b"before"), ok(b"before" + strings[-1]))]
     for other in [*absent[:2], *strings[:1]]:
@@ -355,10 +358,12 @@ def test_large(probe: Probe, large: list[bytes], block_size: int) -> None:
     numbers = 1, 5_001, 140_000, 140_001
     requests: list[Request] = [
         ("file", written), ("section_read", 0), ("section_strings", 0, *numbers), ("section_walk", 0),
+        ("section_seek", 0, *numbers, *reversed(numbers)),
         ("section_place_of", 0, *(large[n - 1] for n in numbers), b"139999x"), ("section_cursor", 0, b"139999x")]
-    _, read, strings, walked, places, passed = probe.send(*requests)
+    _, read, strings, walked, sought, places, passed = probe.send(*requests)
     assert read == ok(140_001, -(-140_001 // block_size), len(written))
     assert strings == ok(*(large[n - 1] for n in numbers))
+    assert sought == ok(b"", *(large[n - 1] for n in (*numbers, *reversed(numbers))))
     assert places == ok(*numbers, None)
     assert walked[2::2] == tuple(string.hex() for string in large)
     assert passed[1::2] == walked[2::2]

@@ -14,16 +14,18 @@ label (`_:b`), a literal with its quotes and without escapes, followed by nothin
 gives N-Triples. A role is `"subject"`, `"predicate"` or `"object"`; another one raises ValueError. The strings of a
 role are numbered from 1.
 
-Files are mapped, not copied: a file must stay as it is while a graph of it is open or a call looks at it. Exceptions:
-`Fault` (the file is none), `LineFault` (the text isn't N-Triples), `NoTriples`, `NotATerm`, all of them ValueError;
+Files of 64 MiB and more are mapped, not read (`open` says more): such a file must stay as it is while a graph of it is
+open or a call looks at it. Exceptions: `Fault` (the file is none), `LineFault` (the text isn't N-Triples), `NoTriples`, `NotATerm`, all of them ValueError;
 MemoryError; OSError of files. After an exception a graph is as it was.
 """
 
 from __future__ import annotations
 
+import array
 import ctypes
 import errno
 import io
+import itertools
 import mmap
 import operator
 import os
@@ -31,7 +33,7 @@ import secrets
 import stat
 import struct
 import threading
-from collections.abc import Iterator
+from collections.abc import Iterable, Iterator
 from typing import Any, Literal, NamedTuple, Optional, Union
 
 from hdt import _library
@@ -46,7 +48,8 @@ Role = Literal["subject", "predicate", "object"]
 _ROLES = ("subject", "predicate", "object")
 _FIRST_BYTES = 256  # room for a string; it grows where one needs more
 _FIRST_MATCHES = 64
-_KNOWN = 512  # strings of a role that a search remembers
+_MAPPED = 64 * 1024 * 1024  # bytes: files of this size and more are mapped
+_PORTION = 4_096  # triples whose strings a search looks up at once
 
 
 class Counts(NamedTuple):
@@ -103,11 +106,15 @@ def _counts(answer: Any) -> Counts:
     raise Fault(answer.reason, answer.place)
 
 
-def _data(path: Path, copy: bool = False) -> Any:
-    """The bytes of a file: mapped, or read if `copy` says so or it can't be mapped, as a pipe or an empty file."""
+def _data(path: Path, copy: Optional[bool] = None) -> Any:
+    """The bytes of a file: read if `copy` says so or it can't be mapped, as a pipe or an empty file, else mapped.
+
+    Where `copy` is None, files under 64 MiB are read.
+    """
     with io.open(path, "rb") as file:
         there = os.fstat(file.fileno())
-        if not copy and stat.S_ISREG(there.st_mode) and there.st_size:
+        copied = there.st_size < _MAPPED if copy is None else copy
+        if not copied and stat.S_ISREG(there.st_mode) and there.st_size:
             return mmap.mmap(file.fileno(), 0, access=mmap.ACCESS_READ)
         return file.read()
 
@@ -227,12 +234,13 @@ def rewrite(in_path: Path, out_path: Path, block_size: int = 16) -> Counts:
     return counts
 
 
-def open(path: Path, copy: bool = False) -> Graph:
+def open(path: Path, copy: Optional[bool] = None) -> Graph:
     """Open a file for searches: use it in a `with` statement, or call `close`.
 
-    The whole file is validated first. Raises Fault as `verify` does. The file is mapped and must not change while the
-    graph is open: one that is cut or overwritten in place ends the process by a signal (SIGBUS). To replace a file in
-    use, write a new one and rename it, as `build` does; or open it with `copy`, which reads it into memory.
+    The whole file is validated first. Raises Fault as `verify` does. A file under 64 MiB is read into memory, and a
+    larger one mapped, which processes share; `copy=True` reads any, `copy=False` maps any. A mapped file must not change
+    while the graph is open: one that is cut or overwritten in place ends the process by a signal (SIGBUS). To replace a
+    file in use, write a new one and rename it, as `build` does.
     """
     return Graph(_data(path, copy))
 
@@ -342,6 +350,33 @@ class Graph:
             raise IndexError(f"there is no {role} {n}")
         return string.decode()
 
+    def strings(self, role: Role, ids: Iterable[int]) -> list[str]:
+        """The terms of a role with these numbers, in their order, as dictionary strings.
+
+        Raises IndexError where one of them isn't 1 to `count(role)`. It is one call of the library, which unfolds each
+        block of strings once where the numbers ascend: so sort many of them.
+        """
+        numbers = [operator.index(number) for number in ids]
+        strings = self._strings(_role(role), numbers)
+        if strings is None:
+            last = self.count(role)
+            raise IndexError(f"there is no {role} {next(number for number in numbers if not 1 <= number <= last)}")
+        return strings
+
+    def _strings(self, role: int, numbers: list[int]) -> Optional[list[str]]:
+        """The strings of these numbers; None where one of them is that of no string."""
+        try:
+            ids = array.array("Q", numbers)
+        except OverflowError:
+            ids = array.array("Q", [0])
+        ends = array.array("Q", bytes(8 * len(ids)))
+        with Made() as made:
+            given, places = ids.buffer_info()[0], ends.buffer_info()[0]
+            if self._asked(library.hdt_strings, role, given, len(ids), made, places, len(ends)) is None:
+                return None
+            text = bytes(made.view())
+        return [text[start:end].decode() for start, end in zip(itertools.chain((0,), ends), ends)]
+
     def matching(self, s: Optional[str] = None, p: Optional[str] = None, o: Optional[str] = None) -> int:
         """How many triples `find` gives. The terms are dictionary strings; None is any."""
         return self._asked(library.hdt_matching, *_pattern(s, p, o)) or 0
@@ -376,22 +411,23 @@ class Graph:
         """Iterate over the triples that have each given term, in the order of the file, each once.
 
         Terms are dictionary strings, both the given ones and those of the triples; None matches any. It keeps up to 24
-        bytes for each triple that it has given, and some strings.
+        bytes for each triple that it has given, and the strings of a portion of the triples: at most 4,096 of them, or a
+        64th as many as the graph has strings.
         """
         return self._strings_of(self.find_numbers(s, p, o))
 
     def _strings_of(self, triples: Iterator[tuple[int, int, int]]) -> Iterator[tuple[str, str, str]]:
-        known: list[dict[int, str]] = [{}, {}, {}]
-        for numbers in triples:
-            triple = []
-            for role, number in enumerate(numbers):
-                strings = known[role]
-                if number not in strings:
-                    if len(strings) == _KNOWN:
-                        strings.clear()
-                    strings[number] = (self._put(library.hdt_string, role, number) or b"").decode()
-                triple.append(strings[number])
-            yield triple[0], triple[1], triple[2]
+        # (each portion may walk over all strings: so it grows until those are few for each of its triples)
+        most, portion = max(_PORTION, sum(self._counts[1:]) // 64), _FIRST_MATCHES
+        while found := list(itertools.islice(triples, portion)):
+            roles = [self._known(role, numbers) for role, numbers in enumerate(zip(*found))]
+            yield from zip(*(map(known.__getitem__, numbers) for known, numbers in zip(roles, zip(*found))))
+            portion = min(2 * portion, most)
+
+    def _known(self, role: int, numbers: tuple[int, ...]) -> dict[int, str]:
+        """The strings of these numbers of a role, which are all there."""
+        ids = sorted(set(numbers))
+        return dict(zip(ids, self._strings(role, ids) or []))
 
     def __iter__(self) -> Iterator[tuple[str, str, str]]:
         return self.find()

@@ -120,6 +120,7 @@ def _load() -> Any:
         ("hdt_count", [graph, role], number),
         ("hdt_number", [graph, role, ctypes.c_char_p, size], number),
         ("hdt_string", [graph, role, number, room, size], number),
+        ("hdt_strings", [graph, role, room, size, made, room, size], number),
         ("hdt_header", [graph, room, size], number),
         ("hdt_find", [graph, *pattern, number, room, size], number),
         ("hdt_matching", [graph, *pattern], number),

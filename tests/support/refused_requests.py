@@ -134,6 +134,7 @@ def section() -> Iterator[Request]:
     yield "section_string", 0, 7, b""
     yield "section_string", 0, len(STRINGS), BEFORE
     yield "section_strings", 0, 1, 2, 9, len(STRINGS)
+    yield "section_seek", 0, 1, 2, 9, len(STRINGS), 3
     yield "section_place_of", 0, *STRINGS[::5], b"http://a/x"
     yield "section_head", 0, 1
     yield "section_block", 0, 7
@@ -174,6 +175,7 @@ def section_of_long_strings() -> Iterator[Request]:
     yield "file", reference.write_section(strings, 3)
     yield "section_string", 0, 2, b""
     yield "section_strings", 0, 1, 3
+    yield "section_seek", 0, 1, 3, 2
     yield "section_place_of", 0, strings[2]
     yield "section_walk", 0
     yield "section_walk_kept", 0
@@ -191,6 +193,7 @@ def section_of_many_strings() -> Iterator[Request]:
     yield "file", reference.write_section(strings, 20_000)
     yield "section_read", 0
     yield "section_strings", 0, 1, 2, 20_000
+    yield "section_seek", 0, 1, 2, 20_000
     yield "section_place_of", 0, strings[0], strings[-1], strings[10_000] + b"x"
     for word in ("put_section", "write_section_agreeing"):
         yield word, BEFORE, 16, *strings[:300]
@@ -212,6 +215,8 @@ def dictionary() -> Iterator[Request]:
         yield "dictionary_string_of", 0, role, len(ROLES[role]), b""
         yield "dictionary_string_of", 0, role, 2, BEFORE
         yield "dictionary_string_of", 0, role, 1_000, BEFORE
+        yield "dictionary_strings_of", 0, role, BEFORE, *range(1, len(ROLES[role]) + 1), 2
+        yield "dictionary_strings_of", 0, role, b"", 1, 1_000
         yield "dictionary_block", 0, role, 1
         yield "dictionary_strings", 0, role
         yield "dictionary_strings_kept", 0, role
@@ -238,6 +243,7 @@ def large_dictionary() -> Iterator[Request]:
     yield "dictionary_number_of", 0, 2, objects[0], objects[-1], b"h" + LARGE, b"o" + LARGE
     yield "dictionary_string_of", 0, 2, 20_002, b""
     yield "dictionary_string_of", 0, 0, 1, LARGE
+    yield "dictionary_strings_of", 0, 2, LARGE, 2, 20_002, 1
     yield "dictionary_strings", 0, 0
     yield "split", 1, 1, 2, LARGE, b"p", LARGE, LARGE + b"y"
     for word in ("put_dictionary", "put_lent_dictionary", "put_written_dictionary"):
@@ -462,6 +468,7 @@ def long_strings() -> Iterator[Request]:
     yield from [(word,) for word in ("open", "open_tight", "verify", "verify_tight", "layout")]
     yield "strings", 0
     yield "string_of", 0, 3, BEFORE
+    yield "strings_of", 0, BEFORE, 1, 3, 2
     yield "graph_text", *ANY
     yield "layout_text", *ANY
     yield "write_graph", 1_000, "-", *ANY

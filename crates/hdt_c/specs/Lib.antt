@@ -3,6 +3,7 @@ pub mod Building
 pub mod Bytes
 pub mod Handle
 pub mod Held
+pub mod Many
 pub mod Rewriting
 pub mod Room
 pub mod Texts

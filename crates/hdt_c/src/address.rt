@@ -1,11 +1,11 @@
-//! Where C reads bytes.
+//! Addresses that C reads.
 ghost use Rattle.std.specs.Prelude.{◌≡◌};
 ghost use Rattle.std.specs.Vec.{vec_ptr};
 ghost use denote.RawPtr.{null_ptr};
 
 use std::ptr::null;
 
-/// The address of bytes that C may read, or null. It owns nothing.
+/// The address of bytes that C may read, or null. It doesn't own them.
 #[repr(C)]
 #[derive(Drop)]
 pub struct Address {
@@ -13,7 +13,7 @@ pub struct Address {
 }
 
 impl Address {
-    /// No address.
+    /// The null pointer.
     pub(crate) fn none() -> Address
         ensures { result.at ≡ null_ptr }
     {

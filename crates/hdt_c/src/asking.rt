@@ -1,4 +1,4 @@
-//! Asking a graph for counts, numbers and strings.
+//! Counts, IDs and strings of a graph.
 ghost use Rattle.std.specs.Prelude.{◌≡◌, Some, length};
 ghost use Rattle.hdt_file.specs.Views.{graph_seen};
 ghost use Rattle.hdt_c.specs.Answers.{AnswersNumber, IsNumberIn, PutsOut, closed, count_in, role_by_number, string_numbered};
@@ -14,17 +14,17 @@ use hdt_file::Graph;
 use hdt_seq::Steps;
 use std::alloc::Global;
 
-/// The answer where there is none.
-const ABSENT: u64 = 18_446_744_073_709_551_615;
+/// `HDT_ABSENT`.
+pub(crate) const ABSENT: u64 = 18_446_744_073_709_551_615;
 
-/// The answer where memory was refused.
-const NO_MEMORY: u64 = 18_446_744_073_709_551_614;
+/// `HDT_NO_MEMORY`.
+pub(crate) const NO_MEMORY: u64 = 18_446_744_073_709_551_614;
 
-/// The answer where the graph isn't open.
+/// `HDT_CLOSED`.
 pub(crate) const CLOSED: u64 = 18_446_744_073_709_551_613;
 
-/// The role that C names by a number.
-fn role_at(number: u32) -> Option<Role>
+/// The role with a number of c/hdt.h.
+pub(crate) fn role_at(number: u32) -> Option<Role>
     ensures { result ≡ role_by_number number }
 {
     match number {
@@ -35,7 +35,7 @@ fn role_at(number: u32) -> Option<Role>
     }
 }
 
-/// How many triples there are.
+/// `hdt_len`: the number of triples.
 #[unsafe(no_mangle)]
 pub extern "C" fn hdt_len(alloc: Global, graph: &mut HdtGraph) -> u64
     ensures exact { OfGraph graph.old (λ g. result ≡ length g.triples) }
@@ -52,7 +52,7 @@ pub extern "C" fn hdt_len(alloc: Global, graph: &mut HdtGraph) -> u64
     }
 }
 
-/// How many strings a role has.
+/// `hdt_count`: the number of strings of a role.
 fn count_in(graph: &Graph<'static>, role: u32) -> u64
     ensures { result ≡ count_in (graph_seen graph.now) (role_by_number role) }
 {
@@ -62,7 +62,7 @@ fn count_in(graph: &Graph<'static>, role: u32) -> u64
     }
 }
 
-/// How many strings a role has.
+/// `hdt_count`: the number of strings of a role.
 #[unsafe(no_mangle)]
 pub extern "C" fn hdt_count(alloc: Global, graph: &mut HdtGraph, role: u32) -> u64
     ensures exact { OfGraph graph.old (λ g. result ≡ count_in g (role_by_number role)) }
@@ -79,7 +79,7 @@ pub extern "C" fn hdt_count(alloc: Global, graph: &mut HdtGraph, role: u32) -> u
     }
 }
 
-/// The number of a string in a role.
+/// The ID of a string in a role.
 fn number_in(graph: &Graph<'static>, role: Role, string: &[u8]) -> u64
     ensures { IsNumberIn (strings_in (graph_seen graph.now).dictionary role) string.now result }
 {
@@ -89,7 +89,7 @@ fn number_in(graph: &Graph<'static>, role: Role, string: &[u8]) -> u64
     }
 }
 
-/// The same of a role that C names.
+/// The same for a role by its number.
 fn number_of(graph: &Graph<'static>, role: u32, string: &[u8]) -> u64
     ensures { AnswersNumber (graph_seen graph.now) (role_by_number role) string.now result }
 {
@@ -99,7 +99,7 @@ fn number_of(graph: &Graph<'static>, role: u32, string: &[u8]) -> u64
     }
 }
 
-/// The number of a string in a role, from 1.
+/// `hdt_number`: the ID of a string in a role, from 1.
 #[unsafe(no_mangle)]
 pub extern "C" fn hdt_number(alloc: Global, graph: &mut HdtGraph, role: u32, string: &[u8]) -> u64
     ensures exact { OfGraph graph.old (λ g. AnswersNumber g (role_by_number role) string.now result) }
@@ -116,7 +116,7 @@ pub extern "C" fn hdt_number(alloc: Global, graph: &mut HdtGraph, role: u32, str
     }
 }
 
-/// Puts a string into room.
+/// Puts a string into a buffer of the caller.
 fn put_string(alloc: Global, graph: &Graph<'static>, role: u32, number: u64, room: &mut [u8]) -> u64
     ensures { PutsOut (string_numbered (graph_seen graph.now) (role_by_number role) number) result room.old room.new }
 {
@@ -134,7 +134,8 @@ fn put_string(alloc: Global, graph: &Graph<'static>, role: u32, number: u64, roo
     }
 }
 
-/// The string of a role with a number, from 1: its length, and as many of its bytes as fit.
+/// `hdt_string`: the string of a role with an ID, from 1. Returns its length, and puts as many of its bytes into the
+/// buffer as fit.
 #[unsafe(no_mangle)]
 pub extern "C" fn hdt_string(
     alloc: Global,
@@ -157,7 +158,7 @@ pub extern "C" fn hdt_string(
     }
 }
 
-/// Puts the header body into room.
+/// Puts the header body into a buffer of the caller.
 fn put_header(graph: &Graph<'static>, room: &mut [u8]) -> u64
     ensures len { result ≡ length (graph_seen graph.now).header }
     ensures put { room.new ≡ laid_over (graph_seen graph.now).header room.old }
@@ -167,7 +168,7 @@ fn put_header(graph: &Graph<'static>, room: &mut [u8]) -> u64
     header.len() as u64
 }
 
-/// The header body: its length, and as many of its bytes as fit.
+/// `hdt_header`: the header body. Returns its length, and puts as many of its bytes into the buffer as fit.
 #[unsafe(no_mangle)]
 pub extern "C" fn hdt_header(alloc: Global, graph: &mut HdtGraph, out: &mut [u8]) -> u64
     ensures exact { OfGraph graph.old (λ g. (result ≡ length g.header) × (out.new ≡ laid_over g.header out.old)) }

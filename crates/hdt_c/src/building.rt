@@ -1,4 +1,4 @@
-//! Building a file of N-Triples.
+//! Building a file from N-Triples.
 ghost use Rattle.std.specs.Prelude.{◌≡◌, IfOk, IfErr};
 ghost use Rattle.hdt_c.specs.Building.{BuildsText, HasBuildFault, TellsBuilt, built, report_for, report_of_fault};
 
@@ -12,7 +12,7 @@ use std::alloc::Global;
 /// The reason for a document without triples.
 const NO_TRIPLES: u32 = 251;
 
-/// A reason that has no line.
+/// A report with a reason but no line.
 fn for_reason(reason: u32) -> HdtReport
     ensures { result ≡ report_for reason }
 {
@@ -42,7 +42,7 @@ fn built(report: Report) -> HdtReport
     }
 }
 
-/// What is told of a fault.
+/// The report of an error.
 fn told(fault: BuildFault) -> HdtReport
     ensures { result ≡ report_of_fault fault }
 {
@@ -59,7 +59,7 @@ fn told(fault: BuildFault) -> HdtReport
     }
 }
 
-/// The canonical file of a text's graph.
+/// The canonical file of a document's graph.
 fn file_of(
     alloc: Global,
     text: &[u8],
@@ -79,7 +79,7 @@ fn file_of(
     }
 }
 
-/// Builds a file of N-Triples.
+/// `hdt_build`: builds a file from N-Triples.
 #[unsafe(no_mangle)]
 pub extern "C" fn hdt_build(
     alloc: Global,

@@ -15,21 +15,21 @@ use hdt_seq::Steps;
 use hdt_triples::{Matches, Pattern};
 use std::alloc::Global;
 
-/// A part of what is searched: any, or a string.
+/// A string of a pattern, or any.
 pub(crate) fn part(has: u32, string: &[u8]) -> Option<&[u8]>
     ensures { result ≡ part_if_given has string.entry }
 {
     if has == 0 { None } else { Some(string) }
 }
 
-/// The pattern of what is searched.
+/// The pattern of three strings or any.
 pub(crate) fn pattern_of(graph: &Graph<'static>, given: [Option<&[u8]>; 3]) -> Option<Pattern>
     ensures { AreMatches (graph_seen graph.now) given.entry (chosen (graph_seen graph.now) result) }
 {
     graph.pattern(given, &mut Steps::new())
 }
 
-/// Leaves out the first matches.
+/// Skips the first matches.
 #[tactic(auto, using(crate::proofs::Dropping::drop_one))]
 fn skipped(found: Matches<'_>, skip: u64) -> Matches<'_>
     ensures { left_of result ≡ drop skip (left_of found.entry) }
@@ -45,7 +45,7 @@ fn skipped(found: Matches<'_>, skip: u64) -> Matches<'_>
     matches
 }
 
-/// Puts matches into room: as many as fit, and how many those are.
+/// Puts as many matches into a buffer as fit, and returns their number.
 fn put_matches(found: Matches<'_>, room: &mut [[u64; 3]]) -> u64
     ensures count { result ≡ length (take (length room.old) (left_of found.entry)) }
     ensures put { room.new ≡ laid_over (map numbers (left_of found.entry)) room.old }
@@ -62,7 +62,7 @@ fn put_matches(found: Matches<'_>, room: &mut [[u64; 3]]) -> u64
     count as u64
 }
 
-/// The matches of what is searched.
+/// The matches of a pattern.
 fn found<'g>(graph: &'g Graph<'static>, given: [Option<&[u8]>; 3]) -> Matches<'g>
     ensures are { AreMatches (graph_seen graph.now) given.entry (left_of result) }
     ensures fits { length (left_of result) < 2 ^ 64 }
@@ -70,7 +70,7 @@ fn found<'g>(graph: &'g Graph<'static>, given: [Option<&[u8]>; 3]) -> Matches<'g
     graph.find(given, &mut Steps::new())
 }
 
-/// Puts the matches after the first ones into room.
+/// Puts the matches after the skipped ones into a buffer.
 fn find_into(
     graph: &Graph<'static>,
     given: [Option<&[u8]>; 3],
@@ -92,7 +92,7 @@ fn count_matches(graph: &Graph<'static>, given: [Option<&[u8]>; 3]) -> u64
     }
 }
 
-/// The triples that match, after the first ones, as numbers: as many as fit.
+/// `hdt_find`: puts the matches after the first `skip` ones into the buffer, as IDs: as many as fit.
 #[unsafe(no_mangle)]
 pub extern "C" fn hdt_find(
     alloc: Global,

@@ -1,14 +1,14 @@
-//! The handle of a graph.
+//! Handles of graphs.
 ghost use Rattle.std.specs.Prelude.{◌≡◌, true};
 ghost use Rattle.hdt_c.specs.Inside.Kept.{is_graph};
 
 use crate::held::Held;
 
-/// A graph as C has it, zeroed before it is opened: `hdt_graph`.
+/// `hdt_graph`: a graph, or zeros before it is opened.
 #[repr(C)]
 #[derive(Drop)]
 pub struct HdtGraph {
-    /// 1 where the graph is open.
+    /// 1 if the graph is open.
     pub(crate) state: u64,
     pub(crate) held: Held,
     ghost is_open: { state ≡ 1 → is_graph held.value ≡ true },

@@ -1,4 +1,4 @@
-//! What C keeps, behind a pointer.
+//! A pointer of C to a value of the library.
 ghost use Rattle.std.specs.Prelude.{◌≡◌, Option, Some, None, IsSome};
 ghost use Rattle.hdt_c.specs.declared.kept.Kept.{Kept};
 ghost use Rattle.hdt_c.specs.Held.{held_coded, held_owns};
@@ -9,7 +9,7 @@ use std::alloc::Global;
 use std::marker::Model;
 use std::ptr::null_mut;
 
-/// A kept value, or none, as C has it: nothing but its address.
+/// A pointer to a value of the library, or null.
 #[repr(C)]
 #[derive(Drop)]
 pub struct Held {
@@ -23,7 +23,7 @@ impl Model for Held {
 }
 
 impl Held {
-    /// Nothing is kept.
+    /// The null pointer.
     pub(crate) fn none(alloc: Global) -> Held
         ensures { result.value ≡ None }
     {
@@ -33,7 +33,7 @@ impl Held {
         }
     }
 
-    /// Keeps what a box has.
+    /// The pointer to what a box has.
     pub(crate) fn of_parts(parts: Parts<Kept, Global>) -> Held
         ensures { result.value ≡ Some parts.value }
     {
@@ -44,7 +44,7 @@ impl Held {
         }
     }
 
-    /// Gives back what is kept.
+    /// The box of a pointer, which is null then.
     pub(crate) fn into_parts(self) -> Parts<Kept, Global>
         requires { IsSome self.value }
         ensures { Some result.value ≡ self.value }

@@ -1,10 +1,10 @@
-//! What the library made and C keeps.
+//! Values of the library that C keeps.
 
-/// What stands behind a handle of C.
+/// The value of a handle.
 #[derive(Drop)]
 pub enum Kept {
-    /// A graph that was opened.
+    /// An open graph.
     Graph(hdt_file::Graph<'static>),
-    /// Bytes that were made.
+    /// Bytes that the library made.
     Bytes(Vec<u8>),
 }

@@ -1,12 +1,13 @@
-//! The engine for C, as a static library: `c/hdt.h` says what each call takes and answers.
+//! The engine for C, as a static library: `c/hdt.h` documents each call.
 //!
-//! The layer's promise: an export answers what the engine's own call answers, at the border's types. A graph that is asked is
-//! left as it was; one that isn't open is told; bytes that are handed out stand where the handle says, until they are freed.
+//! What this crate promises: a call of C returns what the engine's own call returns, in the types of C. A graph is
+//! unchanged by a call that uses it; one that isn't open is reported; bytes that the library makes are where the handle
+//! says, until they are freed.
 //!
 //! In reading order: `kept`, what the library made and C keeps, and `held`, `parts`, how it stands behind a pointer of C;
 //! `handle` and `taking`, a graph that is taken out of its handle, asked, and put back; `address`, `bytes` and `making`, bytes
 //! that are handed out and freed; `verdict`, `telling` and `report`, what is said of an input; then the exports: `verdict`,
-//! `opening`, `asking` (with `room`, the caller's), `finding`, `text`, `building`, `rewriting`, `making`.
+//! `opening`, `asking` (with `room`, the caller's), `strings`, `finding`, `text`, `building`, `rewriting`, `making`.
 #![tactic(auto)]
 
 mod address;
@@ -23,6 +24,7 @@ mod parts;
 mod report;
 mod rewriting;
 mod room;
+mod strings;
 mod taking;
 mod telling;
 mod text;

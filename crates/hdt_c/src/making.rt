@@ -1,4 +1,4 @@
-//! Handing bytes to C, and freeing them.
+//! Giving bytes to C, and freeing them.
 ghost use Rattle.std.specs.Prelude.{IfOk, OnErr, OnOk};
 ghost use Rattle.hdt_c.specs.Bytes.{Are, AreNone};
 
@@ -11,7 +11,7 @@ use std::alloc::{AllocError, Global};
 use std::mem::replace;
 
 impl HdtBytes {
-    /// No bytes.
+    /// A handle of no bytes.
     fn none(alloc: Global) -> HdtBytes
         ensures { AreNone result }
     {
@@ -23,7 +23,7 @@ impl HdtBytes {
         }
     }
 
-    /// The bytes of a vector.
+    /// A handle of the bytes of a vector.
     fn of(alloc: Global, bytes: Vec<u8>) -> Result<HdtBytes, AllocError>
         ensures { IfOk result (λ made. Are made bytes.items) }
     {
@@ -40,7 +40,7 @@ impl HdtBytes {
         }
     }
 
-    /// Frees the bytes, and leaves none.
+    /// Frees the bytes.
     pub(crate) fn free(&mut self, alloc: Global)
         ensures { AreNone self.new }
     {
@@ -55,7 +55,7 @@ impl HdtBytes {
         }
     }
 
-    /// Puts the bytes of a vector in place of those that there are; where memory is refused there are none.
+    /// Replaces the bytes by those of a vector; if memory runs out there are none.
     pub(crate) fn put(&mut self, alloc: Global, bytes: Vec<u8>) -> Result<(), AllocError>
         ensures ok { OnOk result (Are self.new bytes.items) }
         ensures err { OnErr result (AreNone self.new) }
@@ -66,7 +66,7 @@ impl HdtBytes {
     }
 }
 
-/// Frees bytes, where there are some, and zeroes them.
+/// `hdt_free`: frees the bytes of a handle, if there are some, and zeroes it.
 #[unsafe(no_mangle)]
 pub extern "C" fn hdt_free(alloc: Global, bytes: &mut HdtBytes)
     ensures { AreNone bytes.new }

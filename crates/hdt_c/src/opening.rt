@@ -14,10 +14,10 @@ use crate::verdict::{HdtVerdict, for_reason, told};
 use hdt_file::{Graph, OpenFault, open};
 use std::alloc::Global;
 
-/// The reason for a graph that is open already.
+/// The reason of a graph that is open already.
 const IS_OPEN: u32 = 254;
 
-/// How many triples there are, and strings in each section.
+/// The number of triples, and of strings in each section.
 fn lens(graph: &Graph<'static>) -> [u64; 5]
     ensures { result ≡ lens_of (graph_seen graph.now) }
 {
@@ -25,7 +25,7 @@ fn lens(graph: &Graph<'static>) -> [u64; 5]
     [graph.len(), shared, subjects, predicates, objects]
 }
 
-/// Opens a file, and puts its graph into a handle that is closed.
+/// Opens a file, and puts its graph into a closed handle.
 fn open_into(
     alloc: Global,
     bytes: &'static [u8],
@@ -46,7 +46,7 @@ fn open_into(
     }
 }
 
-/// Opens a file.
+/// `hdt_open`: opens a file.
 #[unsafe(no_mangle)]
 pub extern "C" fn hdt_open(
     alloc: Global,
@@ -54,11 +54,11 @@ pub extern "C" fn hdt_open(
     graph: &mut HdtGraph,
     verdict: &mut HdtVerdict,
 )
-    // The verdict on the bytes, or memory was refused.
+    // The verdict is that on the bytes, or memory ran out.
     ensures told { IsClosed graph.old → TellsVerdict verdict.new (graph_in bytes.now) }
-    // A graph that is open already is refused, and stays.
+    // A graph that is open already is reported, and unchanged.
     ensures refused { IsOpen graph.old → verdict.new ≡ verdict_for 254 }
-    // Reason 0: the graph is open, and holds what the bytes lay out. Any other: it is as it was.
+    // Reason 0: the graph is open, and is that of the bytes. Any other: it is unchanged.
     ensures opened { verdict.new.reason ≡ 0 → IsOpened bytes.now graph.new }
     ensures left { verdict.new.reason ≢ 0 → graph.new ≡ graph.old }
 {
@@ -72,7 +72,7 @@ pub extern "C" fn hdt_open(
     }
 }
 
-/// Closes a graph, and frees what it grew.
+/// `hdt_close`: closes a graph, and frees its indexes.
 #[unsafe(no_mangle)]
 pub extern "C" fn hdt_close(alloc: Global, graph: &mut HdtGraph)
     ensures { IsClosed graph.new }

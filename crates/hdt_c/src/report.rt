@@ -1,16 +1,16 @@
-//! What is said of a text that a file is built of.
+//! Reports of a build.
 
-/// What is said of a text that a file is built of: `hdt_report`.
+/// `hdt_report`: the result of a build.
 #[repr(C)]
 #[derive(Clone, Copy)]
 pub struct HdtReport {
-    /// 0 where the file was built; 1 to 9 the number of the fault's reason; 251 where there are no triples; 252 where the
-    /// options can't be taken; 255 where memory was refused.
+    /// 0: built; 1 to 9: the number of the error's reason; 251: no triples; 252: the options are not valid; 255: out of
+    /// memory.
     pub reason: u32,
-    /// The line of the fault, from 1; 0 where there is none.
+    /// The line of the error, from 1; 0 if there is none.
     pub line: u64,
-    /// The column of the fault, from 1; 0 where there is none.
+    /// The column of the error, from 1; 0 if there is none.
     pub column: u64,
-    /// Triples, then strings: shared, subjects, predicates, objects; zeros where the reason isn't 0.
+    /// The number of triples, then of strings: shared, subjects, predicates, objects; zeros if the reason isn't 0.
     pub counts: [u64; 5],
 }

@@ -8,7 +8,7 @@ use hdt_build::{Options, Report, RewriteFault, rewrite_bytes};
 use hdt_file::open;
 use std::alloc::Global;
 
-/// The verdict on a file that was rewritten.
+/// The verdict of a file that was rewritten.
 fn rewritten(report: Report) -> HdtVerdict
     ensures { result ≡ rewritten report }
 {
@@ -25,7 +25,7 @@ fn rewritten(report: Report) -> HdtVerdict
     }
 }
 
-/// The canonical file of what the bytes lay out.
+/// The canonical file of the graph of a file.
 fn file_of(alloc: Global, bytes: &[u8], block_size: u32) -> Result<(Vec<u8>, Report), HdtVerdict>
     ensures ok { IfOk result (λ made. IsAgain bytes.now block_size made.0.items made.1) }
     ensures err { IfErr result (RefusesRewriting bytes.now block_size) }
@@ -45,7 +45,7 @@ fn file_of(alloc: Global, bytes: &[u8], block_size: u32) -> Result<(Vec<u8>, Rep
     }
 }
 
-/// Rewrites a file as the canonical one of the same graph.
+/// `hdt_rewrite`: rewrites a file as the canonical one of the same graph.
 #[unsafe(no_mangle)]
 pub extern "C" fn hdt_rewrite(
     alloc: Global,

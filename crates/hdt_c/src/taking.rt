@@ -11,7 +11,7 @@ use std::alloc::Global;
 use std::mem::replace;
 
 impl HdtGraph {
-    /// A handle that isn't open.
+    /// A closed handle.
     fn closed(alloc: Global) -> HdtGraph
         ensures { result.state ≡ 0 }
     {
@@ -21,7 +21,7 @@ impl HdtGraph {
         }
     }
 
-    /// Takes the graph out, and leaves the handle closed; None where it is closed, which it stays.
+    /// Takes the graph out and leaves the handle closed, or returns `None` if it is.
     pub(crate) fn take(&mut self, alloc: Global) -> Option<Box<Kept, Global>>
         ensures taken { IfSome result (λ b. (self.old.state ≡ 1) × (self.old.held.value ≡ Some b.value) × (is_graph (Some b.value) ≡ true)) }
         ensures open { self.old.state ≡ 1 → IsSome result }
@@ -47,7 +47,7 @@ impl HdtGraph {
     }
 }
 
-/// The graph that was taken out.
+/// The graph of a handle, for one call.
 pub(crate) fn opened(taken: &Box<Kept, Global>) -> &hdt_file::Graph<'static>
     requires { is_graph (Some taken.now.value) ≡ true }
     ensures { taken.now.value ≡ kept.Graph result.now }

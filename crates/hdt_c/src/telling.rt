@@ -1,13 +1,13 @@
-//! What is said of a text.
+//! Results of making a text.
 
-/// What is said of the text of a graph: `hdt_telling`.
+/// `hdt_telling`: the result of making the text of a graph.
 #[repr(C)]
 #[derive(Clone, Copy)]
 pub struct HdtTelling {
-    /// 0 where it was made; 250 where a string is no term; 253 where the graph isn't open; 255 where memory was refused.
+    /// 0: made; 250: a string is not a term; 253: the graph isn't open; 255: out of memory.
     pub reason: u32,
     /// The role of the string, else 0.
     pub role: u32,
-    /// The number of the string, else 0.
+    /// The ID of the string, else 0.
     pub number: u64,
 }

@@ -16,13 +16,13 @@ use hdt_dict::Role;
 use hdt_file::{DumpFault, Graph, graph_text};
 use std::alloc::Global;
 
-/// The reason for a string that is no term.
+/// The reason of a string that is not a term.
 const NOT_A_TERM: u32 = 250;
 
-/// The reason for a graph that isn't open.
+/// The reason of a graph that isn't open.
 const IS_CLOSED: u32 = 253;
 
-/// A reason that has no string.
+/// A result with a reason but no string.
 fn for_reason(reason: u32) -> HdtTelling
     ensures { result ≡ telling_for reason }
 {
@@ -33,7 +33,7 @@ fn for_reason(reason: u32) -> HdtTelling
     }
 }
 
-/// The number by which C names a role.
+/// The number of a role in c/hdt.h.
 fn role_number(role: Role) -> u32
     ensures { result ≡ role_number role }
 {
@@ -44,7 +44,7 @@ fn role_number(role: Role) -> u32
     }
 }
 
-/// What is told of a fault.
+/// The result of an error.
 fn told(fault: DumpFault) -> HdtTelling
     ensures { result ≡ telling_of_fault fault }
 {
@@ -91,7 +91,7 @@ fn put_text(
     }
 }
 
-/// The text of the triples that match.
+/// `hdt_text`: the text of the triples that match.
 #[unsafe(no_mangle)]
 pub extern "C" fn hdt_text(
     alloc: Global,

@@ -1,4 +1,4 @@
-//! Verifying.
+//! Verifying a file.
 ghost use Rattle.std.specs.Prelude.{◌≡◌, IsOk};
 ghost use Rattle.hdt_file.specs.File.{graph_in};
 ghost use Rattle.hdt_c.specs.Told.{TellsVerdict, verdict_for, verdict_of_result};
@@ -6,22 +6,21 @@ ghost use Rattle.hdt_c.specs.Told.{TellsVerdict, verdict_for, verdict_of_result}
 use hdt_file::{OpenFault, verify};
 use std::alloc::Global;
 
-/// The reason for want of memory.
+/// The reason of running out of memory.
 pub(crate) const OUT_OF_MEMORY: u32 = 255;
 
-/// The reason for options that can't be taken.
+/// The reason of options that are not valid.
 pub(crate) const BAD_OPTIONS: u32 = 252;
 
-/// What is said of a file: `hdt_verdict`.
+/// `hdt_verdict`: the result of verifying a file.
 #[repr(C)]
 #[derive(Clone, Copy)]
 pub struct HdtVerdict {
-    /// 0 where it is a file; 1 to 33 the number of its first fault's reason; 255 where memory was refused; or another
-    /// of c/hdt.h.
+    /// 0: valid; 1 to 33: the number of the first error's reason; 255: out of memory; or another one of c/hdt.h.
     pub reason: u32,
-    /// The place of the fault, in bytes; 0 where there is none.
+    /// The byte offset of the error; 0 if there is none.
     pub place: u64,
-    /// Triples, then strings: shared, subjects, predicates, objects; zeros where the reason isn't 0.
+    /// The number of triples, then of strings: shared, subjects, predicates, objects; zeros if the reason isn't 0.
     pub counts: [u64; 5],
 }
 
@@ -45,7 +44,7 @@ pub(crate) fn told(got: Result<[u64; 5], OpenFault>) -> HdtVerdict
     }
 }
 
-/// A verdict of a reason alone.
+/// A verdict of only a reason.
 pub(crate) fn for_reason(reason: u32) -> HdtVerdict
     ensures { result ≡ verdict_for reason }
 {
@@ -56,10 +55,10 @@ pub(crate) fn for_reason(reason: u32) -> HdtVerdict
     }
 }
 
-/// Verifies a file.
+/// `hdt_verify`: verifies a file.
 #[unsafe(no_mangle)]
 pub extern "C" fn hdt_verify(alloc: Global, bytes: &[u8], verdict: &mut HdtVerdict)
-    // That on what the bytes read as, or memory was refused.
+    // It is that on the bytes, or memory ran out.
     ensures { TellsVerdict verdict.new (graph_in bytes.now) }
 {
     *verdict = told(verify(alloc, bytes));

@@ -1,4 +1,4 @@
-//! What a command on a file prints of it.
+//! What commands on a file print.
 ghost use Rattle.hdt_command.specs.declared.request.Asking.{Asking};
 ghost use Rattle.std.specs.Prelude.{◌≡◌, [], ◌≢◌, ◌⊎◌, IfOk, IfErr, OnOk};
 ghost use Rattle.std.specs.Io.KnownBytes.{Appends};
@@ -22,7 +22,7 @@ use hdt_wire::Counted;
 use std::alloc::Global;
 use std::io::Write;
 
-/// Prints the text of `strings`, in pieces.
+/// Prints what `strings` prints, in pieces.
 pub fn print_strings_of<W: Write>(
     alloc: Global,
     bytes: &[u8],
@@ -103,7 +103,7 @@ fn tight_verdict_of(alloc: Global, bytes: &[u8]) -> Result<Vec<u8>, ToolFault>
     Ok(verdict(alloc, lens)?)
 }
 
-/// The text of `answer` where nothing is asked.
+/// The text of `answer` without requests.
 fn nothing_of(alloc: Global, bytes: &[u8]) -> Result<Vec<u8>, ToolFault>
     ensures ok { IfOk result (λ text. Opens bytes.now (λ _. text.items ≡ [])) }
     ensures err { IfErr result (λ e. (asking : Asking) → IsTold (Action.Answer asking) bytes.now e) }
@@ -112,14 +112,14 @@ fn nothing_of(alloc: Global, bytes: &[u8]) -> Result<Vec<u8>, ToolFault>
     Ok(Vec::new(alloc))
 }
 
-/// What `find` prints where neither a count is asked for nor a part.
+/// What `find` prints without `--count` and `--most`.
 fn form_of(numbers: bool) -> Form
     ensures { result ≡ form_of numbers }
 {
     if numbers { Form::Numbers } else { Form::Lines }
 }
 
-/// What a command that makes no file prints of one, whole.
+/// The text of a command that makes no file.
 pub fn answer(alloc: Global, query: Query<'_>, bytes: &[u8]) -> Result<Vec<u8>, ToolFault>
     ensures ok { IfOk result (λ text. Prints (query_action query.entry) bytes.now text.items) }
     ensures err { IfErr result (λ e. IsTold (query_action query.entry) bytes.now e) }

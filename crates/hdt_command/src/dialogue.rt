@@ -1,4 +1,4 @@
-//! Requests that are answered one by one over a graph.
+//! Answering requests over a graph, one by one.
 ghost use Rattle.std.specs.Prelude.{◌≡◌, ◌≢◌, ◌+◌, ◌-◌, ◌<◌, ◌≤◌, ◌⊎◌, ◌∷◌, [], ◌++◌, ◌||◌, ℕ, List, Option, None, Some, Ok, true, false, length, option_map, if◌then◌else◌, IfOk, IfErr, OnOk, OnErr, IsErrOf, take};
 ghost use Rattle.hdt_wire.specs.Counted.{inner, failures};
 ghost use Rattle.hdt_terms.specs.Documents.{AreLines, FaultBehind};
@@ -27,7 +27,7 @@ use hdt_wire::{Counted, cut_on_error};
 use std::alloc::{AllocError, Global};
 use std::io::{Read, Write};
 
-/// What a line asks for, by terms or by dictionary strings, whose strings then stand in the buffers.
+/// Reads a request, of terms or of dictionary strings, into the buffers.
 fn read_line(
     raw: bool,
     text: &[u8],
@@ -43,14 +43,14 @@ fn read_line(
     read_request(text, subject, predicate, object)
 }
 
-/// The string, where it is given.
+/// The string, if it is given.
 fn given_part(given: bool, string: &[u8]) -> Option<&[u8]>
     ensures { option_map (λ x. x.now) result ≡ (if given then Some string.now else None) }
 {
     if given { Some(string) } else { None }
 }
 
-/// The pattern of the numbers of the strings that are given, where each is in its role.
+/// The pattern with the IDs of the strings that are given, if each is one of its role.
 fn asked_pattern(
     graph: &Graph<'_>,
     given: [bool; 3],
@@ -68,7 +68,7 @@ fn asked_pattern(
     graph.pattern(lent, &mut Steps::new())
 }
 
-/// The answer of a line with a fault.
+/// The answer to a line with an error.
 fn fault_answer(alloc: Global, line: u64, fault: TermFault) -> Result<Vec<u8>, AllocError>
     ensures { IfOk result (λ answer. answer.items ≡ ended (fault_comment line fault)) }
 {
@@ -79,7 +79,7 @@ fn fault_answer(alloc: Global, line: u64, fault: TermFault) -> Result<Vec<u8>, A
     Ok(text.into_bytes())
 }
 
-/// The answer that tells a string that is no term.
+/// The answer that reports a string that is not a term.
 fn no_term_answer(alloc: Global, role: Role, number: u64) -> Result<Vec<u8>, AllocError>
     ensures { IfOk result (λ answer. answer.items ≡ ended (no_term_comment role number)) }
 {
@@ -88,7 +88,8 @@ fn no_term_answer(alloc: Global, role: Role, number: u64) -> Result<Vec<u8>, All
     Ok(text.into_bytes())
 }
 
-/// Appends the answer of a pattern, or of nothing: whether it tells a string that is no term. At an error `out` is as it was.
+/// Appends the answer to a pattern, or the empty one without a pattern. Returns whether it reports a string that is not
+/// a term. After an error `out` is unchanged.
 fn found_answer(
     alloc: Global,
     graph: &Graph<'_>,
@@ -126,7 +127,7 @@ fn found_answer(
     }
 }
 
-/// Appends the answer of a line, which has this number: whether it is a fault. At an error `out` is as it was.
+/// Appends the answer to a line with this number. Returns whether it is an error. After an error `out` is unchanged.
 fn line_answer(
     alloc: Global,
     graph: &Graph<'_>,
@@ -160,10 +161,10 @@ fn line_answer(
     }
 }
 
-/// More bytes than any input has.
+/// A limit that no input exceeds.
 const MOST_BYTES: u64 = 9_223_372_036_854_775_807;
 
-/// The next line of a run, where there is one.
+/// The next line, if there is one.
 fn next_line<R: Read>(
     lines: &mut Lines,
     input: &mut Counted<R>,
@@ -194,13 +195,13 @@ fn either(one: bool, other: bool) -> bool
     one || other
 }
 
-/// How many bytes of answers are kept at most before they are written.
+/// The number of bytes of pending answers from which on they are written.
 const PIECE: usize = 65_536;
 
-/// How many bytes what is kept has room for at most from answer to answer: what a long one took is given back.
+/// The greatest capacity that is kept from answer to answer: the memory of a long one is freed.
 const ROOM: usize = 262_144;
 
-/// Writes the answers that are kept, the last of so many bytes: then none is.
+/// Writes the pending answers, which are the last of `count` bytes.
 fn write_kept<W: Write>(
     kept: &mut Vec<u8>,
     count: u64,
@@ -225,8 +226,9 @@ fn write_kept<W: Write>(
     }
 }
 
-/// Counts the answer that stands behind a place, the last of those that are kept, and writes all of them where no more are to come or
-/// they are many: how many bytes the answers have with it. So many that no number counts them end as want of memory, without the last.
+/// Adds the newest answer, which begins at `start`, to the number of bytes, and writes the pending answers if no
+/// request is pending or they exceed 64 KiB. If the number exceeds 64 bits it drops the newest answer and fails with
+/// `OutOfMemory`.
 fn settle<W: Write>(
     start: usize,
     more: bool,
@@ -256,16 +258,15 @@ fn settle<W: Write>(
     Ok(end)
 }
 
-/// Answers the requests of a reader, line by line up to its end. An answer is written before more is read: at once, or with those of
-/// other requests that are held already, up to 64 KiB of them, behind which it is made. It tells whether one of the answers is a fault.
-/// Memory is that of the longest request and of the longest answer, which is made whole as
-/// [`append_graph_text`](hdt_file::append_graph_text) makes it, of what a [`Speller`] keeps, and of these 64 KiB; the time of a request
-/// is that of its search and its text.
+/// Answers the requests of a reader, line by line up to its end. Returns whether one of the answers is an error.
+/// Answers are written before more is read: at once, or together with those of other requests that were read already,
+/// up to 64 KiB. Memory is that of the longest request and the longest answer, of what a [`Speller`] keeps, and of
+/// these 64 KiB; the time of a request is that of its search and its text.
 ///
 /// # Errors
 ///
-/// [`ToolFault::Read`] where the reader failed, [`ToolFault::Write`] where the writer did, [`ToolFault::Input`] where there are
-/// more bytes than [`Lines`] takes, and [`ToolFault::OutOfMemory`]; what was answered before stays whole.
+/// [`ToolFault::Read`] if the reader failed, [`ToolFault::Write`] if the writer did, [`ToolFault::Input`] if there are
+/// more bytes than [`Lines`] takes, and [`ToolFault::OutOfMemory`]. Earlier answers are written completely.
 pub fn answer_requests<R: Read, W: Write>(
     alloc: Global,
     graph: &Graph<'_>,
@@ -273,11 +274,12 @@ pub fn answer_requests<R: Read, W: Write>(
     input: &mut Counted<R>,
     out: &mut Counted<W>,
 ) -> Result<bool, ToolFault>
-    // The writer has gained the answers of all lines of the input, in order, and whether one is a fault is told.
+    // The answers to all lines of the input were written, in order, and whether one is an error is returned.
     ensures ok { IfOk result (AnswersInput (graph_seen graph.now) asking (R.remaining (inner input.old)) (W.contents (inner out.old)) (W.contents (inner out.new))) }
     ensures writer_well { OnOk result (failures out.new ≡ failures out.old) }
-    // It has gained whole answers of the lines before, or of the writer's failure exactly the first n bytes of the answers.
-    // Where a line can't be read, want of memory aside, they are the answers of all lines that came whole, and the fault stands behind these.
+    // The complete answers to earlier lines were written, or exactly the first n bytes of the answers if the writer
+    // failed. If a line can't be read, running out of memory aside, these are the answers to all complete lines, and
+    // the error is after them.
     ensures stopped { IfErr result (AnswersSome (graph_seen graph.now) asking (R.remaining (inner input.old)) (R.remaining (inner input.new))
         (W.contents (inner out.old)) (W.contents (inner out.new)) (failures out.old) (failures out.new)) }
     ensures read { IsErrOf result ToolFault.Read → failures input.new ≡ failures input.old + 1 }

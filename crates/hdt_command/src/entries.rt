@@ -1,4 +1,4 @@
-//! The entries that `clap` states for a command.
+//! Reading the arguments that `clap` has parsed.
 ghost use Rattle.std.specs.Prelude.{◌≡◌, ◌≢◌, ℕ, List, [], IfOk, IfErr, IsSome, MatchOption, Some, codes, option_map, string_bytes};
 ghost use Rattle.clap.specs.Words.{first_of, one_of, found_of, rows_of};
 ghost use Rattle.hdt_build.specs.declared.options.Options.{Options};
@@ -15,35 +15,35 @@ use hdt_dict::Role;
 use hdt_terms::{LineReason, TermFault, parse_string};
 use std::alloc::Global;
 
-/// The fault of a word that `clap` does not state.
+/// The error of an argument that `clap` does not give.
 pub fn missing(alloc: Global) -> UsageFault
     ensures { ComesWithout ⊥ result }
 {
     UsageFault::text(alloc, "error: a word is missing")
 }
 
-/// The text of a word, if it has one.
+/// The text of an argument, if it has one.
 fn word_at<'m>(matches: &ArgMatches<'m>, id: &str) -> Option<&'m str>
     ensures { option_map (λ text. text.now) result ≡ first_of id.now (rows_of (found_of matches.now)) }
 {
     matches.get_str(id)
 }
 
-/// The number that a word states, if it states one.
+/// The number of an argument, if it is one.
 fn number_in<'m>(matches: &ArgMatches<'m>, id: &str) -> Option<u64>
     ensures { StatesNumberOrNone (one_of id.now (rows_of (found_of matches.now))) result }
 {
     matches.get_one(id)
 }
 
-/// Whether a flag is among the words.
+/// Whether a flag is given.
 pub fn flag_at<'m>(matches: &ArgMatches<'m>, id: &str) -> bool
     ensures { StatesFlag (one_of id.now (rows_of (found_of matches.now))) result }
 {
     matches.get_flag(id)
 }
 
-/// The text of a word.
+/// The text of an argument.
 pub fn text_at<'m>(alloc: Global, matches: &ArgMatches<'m>, id: &str) -> Result<String, UsageFault>
     ensures ok { IfOk result (λ text. first_of id.now (rows_of (found_of matches.now)) ≡ Some (string_bytes text)) }
     ensures refused { IfErr result (ComesWithout (IsSome (first_of id.now (rows_of (found_of matches.now))))) }
@@ -54,7 +54,7 @@ pub fn text_at<'m>(alloc: Global, matches: &ArgMatches<'m>, id: &str) -> Result<
     }
 }
 
-/// The role of the word ROLE.
+/// The role of the argument ROLE.
 pub fn role_at<'m>(alloc: Global, matches: &ArgMatches<'m>) -> Result<Role, UsageFault>
     ensures ok { IfOk result (λ role. first_of (codes "ROLE") (rows_of (found_of matches.now)) ≡ Some (role_name role)) }
     ensures refused { IfErr result (ComesWithout ((role : Role) × (first_of (codes "ROLE") (rows_of (found_of matches.now)) ≡ Some (role_name role)))) }
@@ -67,7 +67,7 @@ pub fn role_at<'m>(alloc: Global, matches: &ArgMatches<'m>) -> Result<Role, Usag
     }
 }
 
-/// The number of the word N.
+/// The number of the argument N.
 pub fn number_at<'m>(alloc: Global, matches: &ArgMatches<'m>) -> Result<u64, UsageFault>
     ensures ok { IfOk result (λ n. StatesNumber 64 (one_of (codes "N") (rows_of (found_of matches.now))) n) }
     ensures refused { IfErr result (ComesWithout ((n : ℕ) × StatesNumber 64 (one_of (codes "N") (rows_of (found_of matches.now))) n)) }
@@ -90,7 +90,7 @@ pub fn block_size_at<'m>(alloc: Global, matches: &ArgMatches<'m>) -> Result<u32,
     }
 }
 
-/// The options of `build`: those that are given, or the ones that stand for them.
+/// The options of `build`, as given or by default.
 pub fn options_at<'m>(alloc: Global, matches: &ArgMatches<'m>) -> Result<Options, UsageFault>
     ensures ok { IfOk result (λ options. StatesOptions (rows_of (found_of matches.now)) options) }
     ensures refused { IfErr result (ComesWithout ((options : Options) × StatesOptions (rows_of (found_of matches.now)) options)) }
@@ -102,7 +102,7 @@ pub fn options_at<'m>(alloc: Global, matches: &ArgMatches<'m>) -> Result<Options
     })
 }
 
-/// What `verify` asks for, by `--tight`.
+/// The command `verify`, by `--tight`.
 pub fn verify_at<'m>(matches: &ArgMatches<'m>) -> Action
     ensures { AsksAction (codes "verify") (rows_of (found_of matches.now)) result }
 {
@@ -112,7 +112,7 @@ pub fn verify_at<'m>(matches: &ArgMatches<'m>) -> Action
     Action::Verify
 }
 
-/// The fault of a word that was read as a term.
+/// The error of an argument that is not a term.
 fn term_fault(word: Word, fault: TermFault) -> UsageFault
     ensures { TellsTerm word fault result }
 {
@@ -122,7 +122,7 @@ fn term_fault(word: Word, fault: TermFault) -> UsageFault
     }
 }
 
-/// The dictionary string that a text gives: itself where it is taken as it is, else that of the term that it spells.
+/// The dictionary string of a text: the text itself if it is `raw`, else that of the term that it is.
 fn string_of(alloc: Global, word: Word, text: &[u8], raw: bool) -> Result<Vec<u8>, UsageFault>
     ensures ok { IfOk result (λ x. IsStringOf raw text.now x.items) }
     ensures refused { IfErr result (ComesWithoutOr (Unit {0}) (IsFaultOfWord word raw text.now)) }
@@ -137,7 +137,7 @@ fn string_of(alloc: Global, word: Word, text: &[u8], raw: bool) -> Result<Vec<u8
     }
 }
 
-/// The dictionary string that the word TERM gives: itself with `--raw`, else that of the term that it spells.
+/// The dictionary string of the argument TERM: the text itself with `--raw`, else that of the term that it is.
 pub fn string_at<'m>(alloc: Global, matches: &ArgMatches<'m>) -> Result<Vec<u8>, UsageFault>
     ensures ok { IfOk result (λ x. StatesString (one_of (codes "raw") (rows_of (found_of matches.now)))
         (first_of (codes "TERM") (rows_of (found_of matches.now))) x.items) }
@@ -151,7 +151,7 @@ pub fn string_at<'m>(alloc: Global, matches: &ArgMatches<'m>) -> Result<Vec<u8>,
     }
 }
 
-/// The dictionary string that a text gives, or none where it is `?`.
+/// The dictionary string of a text, or `None` if it is `?`.
 fn part_of(alloc: Global, word: Word, text: &str, raw: bool) -> Result<Option<Vec<u8>>, UsageFault>
     ensures ok { IfOk result (λ part. MatchOption part (text.now ≡ codes "?") (λ x. (text.now ≢ codes "?") × IsStringOf raw text.now x.items)) }
     ensures refused { IfErr result (ComesWithoutOr (Unit {0}) (λ other fault. (text.now ≢ codes "?") × IsFaultOfWord word raw text.now other fault)) }
@@ -162,8 +162,8 @@ fn part_of(alloc: Global, word: Word, text: &str, raw: bool) -> Result<Option<Ve
     Ok(Some(string_of(alloc, word, text.as_bytes(), raw)?))
 }
 
-/// The dictionary string that the word S, P or O gives: none where it is `?`, itself with `--raw`, else that of the term that
-/// it spells.
+/// The dictionary string of the argument S, P or O: `None` if it is `?`, the text itself with `--raw`, else that of the
+/// term that it is.
 fn part_at<'m>(
     alloc: Global,
     matches: &ArgMatches<'m>,
@@ -193,7 +193,7 @@ fn form_at<'m>(matches: &ArgMatches<'m>) -> Form
     Form::Lines
 }
 
-/// The command that `find` is by its strings, its form and the number that it goes up to.
+/// The command `find`, by its strings, its form and its limit.
 fn found_action(given: [Option<Vec<u8>>; 3], form: Form, most: Option<u64>) -> Action
     ensures { IsFinding given form most result }
 {
@@ -210,7 +210,7 @@ fn found_action(given: [Option<Vec<u8>>; 3], form: Form, most: Option<u64>) -> A
     }
 }
 
-/// What `find` asks for: S, P and O are read in turn.
+/// The command `find`: S, P and O are read in turn.
 pub fn find_at<'m>(alloc: Global, matches: &ArgMatches<'m>) -> Result<Action, UsageFault>
     ensures ok { IfOk result (AsksAction (codes "find") (rows_of (found_of matches.now))) }
     ensures refused { IfErr result (ComesWithoutOr ((action : Action) × AsksAction (codes "find") (rows_of (found_of matches.now)) action)
@@ -224,7 +224,7 @@ pub fn find_at<'m>(alloc: Global, matches: &ArgMatches<'m>) -> Result<Action, Us
     Ok(found_action(given, form_at(matches), most))
 }
 
-/// What `answer` asks for.
+/// The command `answer`.
 pub fn answer_at<'m>(matches: &ArgMatches<'m>) -> Action
     ensures { AsksAction (codes "answer") (rows_of (found_of matches.now)) result }
 {

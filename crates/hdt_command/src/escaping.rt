@@ -1,10 +1,10 @@
-//! Texts and strings as they print on one line.
+//! Escaping texts so that they are one line.
 ghost use Rattle.std.specs.Prelude.{◌≡◌, ◌++◌, OnOk};
 ghost use Rattle.hdt_command.specs.Escaping.{escaped_byte, escaped};
 
 use std::alloc::AllocError;
 
-/// Appends what a byte of a text prints as.
+/// Appends a byte of a text, or its escape.
 fn put_escaped_byte(byte: u8, out: &mut Vec<u8>) -> Result<(), AllocError>
     ensures { OnOk result (out.new.items ≡ out.old.items ++ escaped_byte byte) }
 {

@@ -1,4 +1,4 @@
-//! What can go wrong: with a command line, and with a command.
+//! The errors of a command line, and of a command.
 ghost use Rattle.std.specs.Prelude.{◌≡◌, ◌≢◌, ◌⊎◌};
 ghost use Rattle.std.specs.IoError.{error_kind};
 ghost use Rattle.hdt_command.specs.declared.fault.UsageFault.TheVariants.{OutOfMemory as usage_memory};
@@ -15,7 +15,7 @@ use std::alloc::{AllocError, Global};
 use std::io::{self, ErrorKind};
 use thiserror::Error;
 
-/// A word of a command line that is an N-Triples term.
+/// An argument that is an N-Triples term.
 #[derive(Clone, Copy, Debug, PartialEq, Eq)]
 pub enum Word {
     /// The TERM of `number`.
@@ -31,7 +31,7 @@ pub enum Word {
 impl Word {
     ghost use Rattle.hdt_command.specs.Lines.{word_name};
 
-    /// The word's name in the help.
+    /// The argument's name in the help.
     pub fn name(self) -> &'static str
         ensures { result.now ≡ word_name self }
     {
@@ -44,28 +44,28 @@ impl Word {
     }
 }
 
-/// Why a command line gives no request.
+/// Why a command line is not a request.
 #[derive(Debug, Drop)]
 pub enum UsageFault {
-    /// The words are wrong; the text says how, without a line feed at its end.
+    /// The arguments are wrong; the text says how, without a line feed at its end.
     Usage(String),
-    /// Help or the version was asked for; the text is that, without a line feed at its end.
+    /// Help or the version was asked for; this is its text, without a line feed at its end.
     Help(String),
-    /// A word is no N-Triples term.
+    /// An argument is not an N-Triples term.
     Word {
-        /// Which word.
+        /// Which argument.
         word: Word,
-        /// What is wrong with it, and in which column of it; never want of memory.
+        /// What is wrong with it, and in which of its columns; never `OutOfMemory`.
         fault: TermFault,
     },
-    /// Memory was refused.
+    /// Memory ran out.
     OutOfMemory,
 }
 
 impl UsageFault {
     ghost use Rattle.hdt_command.specs.Words.{SaysUsage};
 
-    /// The fault of a command line with this text.
+    /// The error of a command line with this text.
     pub fn text(alloc: Global, text: &str) -> UsageFault
         ensures { SaysUsage text.now result }
     {
@@ -84,43 +84,44 @@ impl From<AllocError> for UsageFault {
     }
 }
 
-/// Why a command stopped. The program prints the lines of [`crate::lines::fault_line`], never the texts here.
+/// Why a command stopped. The program prints the lines of [`crate::lines::fault_line`], not the texts here.
 #[derive(Clone, Copy, Debug, PartialEq, Eq, Error)]
 pub enum ToolFault {
-    /// The input has a fault.
+    /// The input is not a valid file.
     #[error("the file has a fault: {0}")]
     File(Fault),
-    /// The input is no N-Triples document. The reason is never a failure of the reader or want of memory: those are faults of
-    /// their own here.
+    /// The input is not an N-Triples document. The reason is never that the reader failed or memory ran out: these are
+    /// errors of their own.
     #[error("the input has a fault: {0}")]
     Input(LineFault),
-    /// The input is a document without triples, of which no file is built.
+    /// The input is a document without triples.
     #[error("no triples")]
     NoTriples,
     /// The role has no such string.
     #[error("no such term")]
     NoSuchTerm,
-    /// The role has no string with such a number.
+    /// The role has no string with this ID.
     #[error("no such number")]
     NoSuchNumber,
-    /// The string of this role with this number, from 1, is no term of the role, so the triple has no N-Triples line.
+    /// The string of this role with this ID, from 1, is not a term that the role allows, so its triples have no line of
+    /// N-Triples.
     #[error("a string that is not a term: {0:?} {1}")]
     NotATerm(Role, u64),
-    /// The block size or the base is not one that a file can be built with, or the block size not one to rewrite it with.
+    /// The block size or the base is not valid.
     #[error("bad options")]
     BadOptions,
-    /// The reader failed, or the file could not be opened.
+    /// Reading failed, or the file could not be opened.
     #[error("reading failed")]
     Read,
-    /// The writer failed after it had taken so many bytes.
+    /// Writing failed after this number of bytes.
     #[error("writing failed after {0} bytes")]
     Write(u64),
-    /// Memory was refused.
+    /// Memory ran out.
     #[error("out of memory")]
     OutOfMemory,
 }
 
-/// The fault of a file that the system refused: want of memory where the error says so, else the other.
+/// The error of a file that the system could not open or change: `OutOfMemory` if that is its kind, else the other one.
 pub fn file_fault(error: &io::Error, other: ToolFault) -> ToolFault
     ensures memory { error_kind error.now ≡ ErrorKind.OutOfMemory → result ≡ ToolFault.OutOfMemory }
     ensures other { error_kind error.now ≢ ErrorKind.OutOfMemory → result ≡ other }
@@ -132,7 +133,7 @@ pub fn file_fault(error: &io::Error, other: ToolFault) -> ToolFault
     other
 }
 
-/// The fault of a line of the input, or of the reader, or want of memory.
+/// The error of a line of the input, of the reader, or of running out of memory.
 pub fn line_fault(fault: LineFault) -> ToolFault
     ensures value { result ≡ line_fault_of fault }
     ensures stop { IsStopFor fault result }

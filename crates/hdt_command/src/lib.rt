@@ -1,10 +1,11 @@
 //! What the command `hdt` does: reads its words, does what they ask for, prints one line of what went wrong, and tells the status
 //! that the program ends with. hdt_tool is that program, one call of `process_status`.
 //!
-//! The layer's promise: what `run`, `run_in`, `answer_file` and `answer_requests` print is the stated function of the input, and a
-//! fault that is told is the one that stands in it; `status_of` calls them over files and streams, and its clauses say the status.
+//! What this crate promises: what `run`, `run_in`, `answer_file` and `answer_requests` print is a stated function of
+//! the input, and an error that they return is its first one; `status_of` calls them over files and streams, and its
+//! contract says the status.
 //!
-//! A function that says nothing of its cost takes time and memory in proportion to the words or the fault that it is given.
+//! Functions that state no cost take linear time and memory in the arguments or the error that they are given.
 //!
 //! In reading order: `request` and `fault`, what is asked for and what can go wrong; `entries` and `words`, how the words of a
 //! command line ask for it, by hdt_usage's table for `clap`; `escaping`, `printed_head`, `printed_verdict`, `printed_strings`,

@@ -5,8 +5,8 @@ ghost use Rattle.hdt_command.specs.BuiltText.{built_line, counts_line, rewritten
 use hdt_build::Report;
 use std::alloc::{AllocError, Global};
 
-/// The line of a word and six counts: triples, the strings of the sections shared, subjects, predicates, objects, and the
-/// file's bytes.
+/// The line of a word and six counts: triples, the strings of the sections shared, subjects, predicates, objects, and
+/// the bytes of the file.
 fn counts_line(alloc: Global, word: &str, report: &Report) -> Result<Vec<u8>, AllocError>
     ensures { IfOk result (λ text. text.items ≡ counts_line word.now report.now) }
 {

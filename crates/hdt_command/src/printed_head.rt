@@ -19,7 +19,7 @@ fn put_line(label: &str, text: &[u8], out: &mut Vec<u8>) -> Result<(), AllocErro
     Ok(out.push(b'\n')?)
 }
 
-/// Appends the two lines of a block: its name with its format text, and its property text.
+/// Appends the two lines of control information: its name with the format, and the properties.
 fn put_block(name: &str, block: &Control<'_>, out: &mut Vec<u8>) -> Result<(), AllocError>
     ensures { OnOk result (out.new.items ≡ out.old.items ++ block_lines name.now (block_of block.now)) }
 {
@@ -27,7 +27,7 @@ fn put_block(name: &str, block: &Control<'_>, out: &mut Vec<u8>) -> Result<(), A
     put_line("properties", block.properties(), out)
 }
 
-/// The text that `hdt head` prints of a head: five lines, and the header body as it is.
+/// The text of `hdt head`: five lines, and the header body, unescaped.
 #[tactic(auto, using(std::proofs::Common::append_assoc), unfolding(crate::specs::HeadText::head_text))]
 pub fn head_text(alloc: Global, head: &Head<'_>) -> Result<Vec<u8>, AllocError>
     ensures { IfOk result (λ text. text.items ≡ head_text (parts_of head.now)) }

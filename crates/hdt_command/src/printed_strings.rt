@@ -1,4 +1,4 @@
-//! What the commands on the strings of a role print.
+//! What `hdt strings`, `hdt string` and `hdt number` print.
 ghost use Rattle.std.specs.Prelude.{◌≡◌, ◌+◌, ◌∷◌, ◌++◌, ◌≢◌, ◌⊎◌, ℕ, List, [], OnOk, IfOk, IfErr, None, Some, length};
 ghost use Rattle.std.specs.Fmt.{decimal};
 ghost use Rattle.std.specs.Io.KnownBytes.{Appends};
@@ -19,7 +19,7 @@ use hdt_wire::{Counted, put_decimal};
 use std::alloc::{AllocError, Global};
 use std::io::Write;
 
-/// Appends a string's line: its number, a tab, the string.
+/// Appends the line of a string: its ID, a tab, the string.
 fn put_string_line(number: u64, string: &[u8], out: &mut Vec<u8>) -> Result<(), AllocError>
     ensures { OnOk result (out.new.items ≡ out.old.items ++ string_line number string.now) }
 {
@@ -29,11 +29,11 @@ fn put_string_line(number: u64, string: &[u8], out: &mut Vec<u8>) -> Result<(), 
     Ok(out.push(b'\n')?)
 }
 
-/// How many bytes of lines are kept before they are written.
+/// The number of bytes from which on lines are written.
 const PIECE: usize = 65_536;
 
-/// Writes a piece of a text behind so many bytes of it: how many bytes of the text are written then. A text of more bytes than a
-/// number counts ends as want of memory.
+/// Writes a piece of a text, of which `count` bytes are written already; returns the new count. It fails with
+/// `OutOfMemory` if that exceeds 64 bits.
 pub fn write_piece<W: Write>(
     piece: &[u8],
     written: u64,
@@ -54,13 +54,13 @@ pub fn write_piece<W: Write>(
     }
 }
 
-/// Writes the lines that are kept, where they fill a piece, so that none is kept: how many bytes are written then.
+/// Writes the pending lines, if they fill a piece; returns the number of bytes that are written then.
 fn write_full<W: Write>(
     text: &mut Vec<u8>,
     written: u64,
     out: &mut Counted<W>,
 ) -> Result<u64, ToolFault>
-    // What is written is taken from the front of what is kept.
+    // What is written is the front of what was pending.
     ensures ok { IfOk result (λ n. (part : List ℕ) × (n ≡ written + length part) × (text.old.items ≡ part ++ text.new.items)
         × Appends (W.contents (inner out.old)) (W.contents (inner out.new)) part) }
     ensures well { OnOk result (failures out.new ≡ failures out.old) }
@@ -75,7 +75,7 @@ fn write_full<W: Write>(
     Ok(written)
 }
 
-/// Prints the lines of all strings of a role, in pieces: kept is at most a piece beside the line of one string.
+/// Prints the lines of all strings of a role, in pieces. It keeps at most a piece and the line of one string.
 pub fn print_strings<W: Write>(
     alloc: Global,
     layout: &Layout<'_>,
@@ -85,7 +85,7 @@ pub fn print_strings<W: Write>(
     ensures ok { OnOk result (Appends (W.contents (inner out.old)) (W.contents (inner out.new))
         (string_lines 1 (strings_in (layout_seen layout.now).dictionary role))) }
     ensures well { OnOk result (failures out.new ≡ failures out.old) }
-    // The writer failed behind a beginning of the lines, or memory was refused behind one.
+    // The writer failed, or memory ran out, after the first bytes of the lines.
     ensures cut { IfErr result (λ e. IsCut e (string_lines 1 (strings_in (layout_seen layout.now).dictionary role))
         (W.contents (inner out.old)) (W.contents (inner out.new)) (failures out.old) (failures out.new)) }
 {
@@ -100,7 +100,7 @@ pub fn print_strings<W: Write>(
     Ok(())
 }
 
-/// The line of the string of a role that has this number.
+/// The line of the string of a role with an ID.
 pub fn string_text(
     alloc: Global,
     layout: &Layout<'_>,
@@ -121,14 +121,14 @@ pub fn string_text(
     Ok(text)
 }
 
-/// The line with a number.
+/// The line of a number.
 pub fn number_line(alloc: Global, number: u64) -> Result<Vec<u8>, AllocError>
     ensures { IfOk result (λ text. text.items ≡ decimal number ++ 10 ∷ []) }
 {
     Ok(format!(in alloc; "{number}\n")?.into_bytes())
 }
 
-/// The line of a string's number in a role.
+/// The line of the ID of a string in a role.
 pub fn number_text(
     alloc: Global,
     layout: &Layout<'_>,

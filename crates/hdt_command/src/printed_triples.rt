@@ -17,7 +17,7 @@ use hdt_triples::{Matches, Pattern};
 use hdt_wire::{cut_on_error, put_decimal};
 use std::alloc::{AllocError, Global};
 
-/// Appends the line of a triple's numbers; an `Err` may leave a beginning of it behind.
+/// Appends the line of a triple's IDs; an error may leave its first bytes.
 #[tactic(auto, using(std::proofs::Common::append_assoc))]
 fn put_numbers(triple: (u64, u64, u64), out: &mut Vec<u8>) -> Result<(), AllocError>
     ensures ok { OnOk result (out.new.items ≡ out.old.items ++ numbers_line triple) }
@@ -32,7 +32,7 @@ fn put_numbers(triple: (u64, u64, u64), out: &mut Vec<u8>) -> Result<(), AllocEr
     Ok(out.push(b'\n')?)
 }
 
-/// Appends the lines of the numbers of matches, or of at most so many of the first; an `Err` may leave a beginning of them behind.
+/// Appends the lines of the IDs of matches, or of the first ones; an error may leave their first bytes.
 fn append_numbers(
     found: Matches<'_>,
     most: Option<u64>,
@@ -54,7 +54,7 @@ fn append_numbers(
     Ok(())
 }
 
-/// The lines of the numbers of the matches of a pattern, or of nothing.
+/// The lines of the IDs of the matches of a pattern, or nothing without a pattern.
 fn numbers_text(
     alloc: Global,
     layout: &Layout<'_>,
@@ -80,7 +80,7 @@ fn count_of(layout: &Layout<'_>, pattern: Option<Pattern>, most: Option<u64>) ->
     layout.matching_up_to(pattern, most.unwrap_or(u64::MAX), &mut Steps::new())
 }
 
-/// The pattern of the numbers of the strings that are given, where each is in its role.
+/// The pattern with the IDs of the strings that are given, if each is one of its role.
 fn pattern_of(layout: &Layout<'_>, given: &[Option<Vec<u8>>; 3]) -> Option<Pattern>
     ensures { Finds (layout_seen layout.now) given.now (chosen (layout_seen layout.now) result) }
 {
@@ -89,8 +89,8 @@ fn pattern_of(layout: &Layout<'_>, given: &[Option<Vec<u8>>; 3]) -> Option<Patte
     layout.pattern(lent, &mut Steps::new())
 }
 
-/// The text of the matches of a pattern in a file, or of nothing, or of at most so many of the first: in N-Triples, their
-/// numbers, or how many they are. All triples are walked over.
+/// The text of the matches of a pattern in a file, or of the first ones, or nothing without a pattern: in N-Triples,
+/// their IDs, or their number. All triples are scanned.
 fn layout_triples_text(
     alloc: Global,
     layout: &Layout<'_>,
@@ -108,8 +108,8 @@ fn layout_triples_text(
     }
 }
 
-/// The text of the triples that have the strings that are given, or of at most so many of the first: in N-Triples, their
-/// numbers, or how many they are.
+/// The text of the triples that have the strings that are given, or of the first ones: in N-Triples, their IDs, or
+/// their number.
 pub fn triples_text(
     alloc: Global,
     layout: &Layout<'_>,
@@ -134,7 +134,8 @@ fn graph_count(graph: &Graph<'_>, pattern: Option<Pattern>, most: Option<u64>) -
     graph.matching_up_to(pattern, most.unwrap_or(u64::MAX), &mut Steps::new())
 }
 
-/// Appends the lines of the numbers of the matches of a pattern in a graph, or of nothing; at an error `out` is as it was.
+/// Appends the lines of the IDs of the matches of a pattern in a graph, or nothing without a pattern; after an error
+/// `out` is unchanged.
 fn append_graph_numbers(
     graph: &Graph<'_>,
     pattern: Option<Pattern>,
@@ -152,9 +153,9 @@ fn append_graph_numbers(
     cut_on_error(appended, start, out)
 }
 
-/// Appends the text of the matches of a pattern in a graph, or of nothing, or of at most so many of the first: in N-Triples,
-/// their numbers, or how many they are. The directories and lists of the graph bound the search; the speller keeps terms of
-/// this graph for the texts behind this one. At an error `out` is as it was.
+/// Appends the text of the matches of a pattern in a graph, or of the first ones, or nothing without a pattern: in
+/// N-Triples, their IDs, or their number. It uses the indexes of the graph; the speller keeps terms of it for later
+/// texts. After an error `out` is unchanged.
 pub fn append_graph_triples(
     alloc: Global,
     graph: &Graph<'_>,

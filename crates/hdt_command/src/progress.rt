@@ -1,4 +1,4 @@
-//! How far the reading of the input has come, told as it goes on.
+//! Reporting the progress of reading.
 ghost use Rattle.std.specs.Prelude.{◌≡◌, IfOk, string_bytes};
 ghost use Rattle.hdt_command.specs.Inside.ProgressText.{progress_line};
 
@@ -6,27 +6,27 @@ use hdt_wire::Counted;
 use std::alloc::{AllocError, Global};
 use std::io::{self, Read, Write};
 
-/// How many bytes are read from one line to the next, at least.
+/// The least number of bytes from one line to the next.
 const STEP: u64 = 16 << 20;
 
-/// How many lines are told at most where the size is known, beside the last.
+/// The greatest number of lines if the size is known, besides the last one.
 const LINES: u64 = 100;
 
-/// A reader that tells a writer how many bytes it has read: now and then, and at its end. Without a writer it tells nothing. A
-/// line that can't be made or written is passed over.
+/// A reader that reports to a writer how many bytes it has read, now and then and at the end. Without a writer it
+/// reports nothing. Lines that can't be made or written are dropped.
 #[derive(Drop)]
 pub struct Watched<R: Read, W: Write> {
     alloc: Global,
     input: R,
     told: Option<Counted<W>>,
-    /// How many bytes there are, where that is known.
+    /// The number of bytes of the input, if it is known.
     size: Option<u64>,
     read: u64,
-    /// How many bytes are read when the next line is told.
+    /// The number of bytes at which the next line is due.
     next: u64,
 }
 
-/// The line of so many bytes that were read, and of how many they are.
+/// The line of the number of bytes that were read, and of the input's, if that is known.
 fn line_of(alloc: Global, read: u64, size: Option<u64>) -> Result<String, AllocError>
     ensures { IfOk result (λ line. string_bytes line ≡ progress_line read size) }
 {
@@ -37,7 +37,7 @@ fn line_of(alloc: Global, read: u64, size: Option<u64>) -> Result<String, AllocE
 }
 
 impl<R: Read, W: Write + Drop> Watched<R, W> {
-    /// A reader of `input`, which has so many bytes where that is known, that tells `told`.
+    /// A reader of `input`, which has `size` bytes if that is known, that reports to `told`.
     pub fn new(alloc: Global, input: R, told: Option<W>, size: Option<u64>) -> Watched<R, W>
         ensures { result.input ≡ input }
     {
@@ -51,14 +51,14 @@ impl<R: Read, W: Write + Drop> Watched<R, W> {
         }
     }
 
-    /// How many bytes there are, where that is known.
+    /// The number of bytes of the input, if it is known.
     pub fn size(&self) -> Option<u64>
         ensures { result ≡ self.now.size }
     {
         self.size
     }
 
-    /// Tells how far it has come.
+    /// Reports the number of bytes so far.
     fn tell(&mut self)
         ensures { self.new.input ≡ self.old.input }
     {
@@ -72,7 +72,8 @@ impl<R: Read, W: Write + Drop> Watched<R, W> {
         }
     }
 
-    /// Counts bytes that were read, of so much room, and tells where it is time; behind the last nothing is told.
+    /// Counts bytes that were read into a buffer of size `room`, and reports if a line is due. Nothing is reported
+    /// after the end.
     fn count(&mut self, bytes: usize, room: usize)
         ensures { self.new.input ≡ self.old.input }
     {
@@ -91,7 +92,7 @@ impl<R: Read, W: Write + Drop> Read for Watched<R, W> {
     ghost use Rattle.std.specs.Io.{ReadsAtMost};
     ghost use Rattle.std.specs.Io.KnownBytes.{ReadConsumes};
 
-    // It gives the bytes of its input.
+    // It reads the bytes of its input.
     ghost remaining = { λ s. R.remaining s.input };
 
     fn read(&mut self, buf: &mut [u8]) -> io::Result<usize>

@@ -1,27 +1,27 @@
-//! What a command line asks for.
+//! Requests of a command line.
 
 use hdt_build::Options;
 use hdt_dict::Role;
 
-/// What is printed of the triples that are found.
+/// The form in which triples are printed.
 #[derive(Clone, Copy, Debug, Drop)]
 pub enum Form {
-    /// Their lines in N-Triples.
+    /// N-Triples.
     Lines,
-    /// A line for each with its numbers.
+    /// A line for each triple, with its IDs.
     Numbers,
-    /// One line with how many they are.
+    /// One line with their number.
     Count,
 }
 
-/// What is printed of the answers to requests, and how these are written.
+/// The options of `answer`.
 #[derive(Clone, Copy, Debug, Drop)]
 pub struct Asking {
-    /// What is printed of the triples that a request finds.
+    /// The form in which the triples of a request are printed.
     pub form: Form,
     /// How many are taken at most; all where there is none.
     pub most: Option<u64>,
-    /// Whether requests are of dictionary strings, in place of terms.
+    /// Whether requests are of dictionary strings instead of terms.
     pub raw: bool,
 }
 
@@ -32,22 +32,22 @@ pub enum Action {
     Head,
     /// Verifies a file.
     Verify,
-    /// Verifies a file, of which triples use each string in its role.
+    /// Verifies a file that must be tight.
     VerifyTight,
-    /// Prints all strings of a role with their numbers.
+    /// Prints all strings of a role with their IDs.
     Strings(Role),
-    /// Prints the string of a role that has this number, from 1.
+    /// Prints the string of a role with this ID, from 1.
     Nth(Role, u64),
-    /// Prints the number of this dictionary string in a role.
+    /// Prints the ID of this dictionary string in a role.
     Number(Role, Vec<u8>),
     /// Prints the triples that have these dictionary strings.
     Find {
         /// The strings of subject, predicate and object; any where there is none.
         given: [Option<Vec<u8>>; 3],
-        /// Whether the triples' numbers are printed, in place of N-Triples.
+        /// Whether IDs are printed instead of N-Triples.
         numbers: bool,
     },
-    /// Prints the triples that have these dictionary strings, or how many they are; at most so many of the first.
+    /// Prints the triples that have these dictionary strings, or their number; all or only the first ones.
     Search {
         /// The strings of subject, predicate and object; any where there is none.
         given: [Option<Vec<u8>>; 3],
@@ -56,30 +56,30 @@ pub enum Action {
         /// How many are taken at most; all where there is none.
         most: Option<u64>,
     },
-    /// Answers requests over a file. Of the file alone nothing is printed.
+    /// Answers requests over a file.
     Answer(Asking),
-    /// Builds a file of an N-Triples document, and prints its numbers.
+    /// Builds a file from an N-Triples document, and prints its counts.
     Build(Options),
-    /// Writes a file again as the canonical file of its triples, in blocks of so many strings, and prints its numbers.
+    /// Writes the canonical file of a file's triples, with this block size, and prints its counts.
     Rewrite(u32),
 }
 
-/// A command and the files that it works on.
+/// A command and its files.
 #[derive(Debug, Drop)]
 pub struct Request {
     /// The command.
     pub action: Action,
     /// The path of the file that is read.
     pub file: String,
-    /// The path of the file that is written, where the command writes one.
+    /// The path of the file that is written, if the command writes one.
     pub out: Option<String>,
 }
 
-/// A request, and how it is to be fulfilled.
+/// A request, and whether its progress is reported.
 #[derive(Debug, Drop)]
 pub struct Call {
-    /// What is asked for.
+    /// The request.
     pub request: Request,
-    /// Whether it is told how far the reading of the input has come.
+    /// Whether the progress of reading is reported.
     pub progress: bool,
 }

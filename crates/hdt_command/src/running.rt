@@ -1,5 +1,5 @@
-//! The engine of all commands: reads all the input, makes its output whole, and only then writes it. `strings` writes in pieces,
-//! and `answer` answer by answer.
+//! All commands, from a reader to a writer: they read all input, make their output, and only then write it. `strings`
+//! writes in pieces, `answer` answer by answer.
 ghost use Rattle.std.specs.Prelude.{◌≡◌, ◌≢◌, ◌<◌, ◌++◌, ◌+◌, ◌↔◌, ◌⊎◌, ℕ, List, IfOk, IfErr, OnOk, OnErr, IsErrOf, length, take};
 ghost use Rattle.std.specs.Io.KnownBytes.{Appends};
 ghost use Rattle.hdt_wire.specs.Counted.{inner, failures};
@@ -22,10 +22,10 @@ use hdt_wire::{Counted, Failed};
 use std::alloc::Global;
 use std::io::{Read, Write};
 
-/// How many bytes are asked for at a time.
+/// The number of bytes of a read.
 const BUFFER: usize = 65_536;
 
-/// Reads all there is, into room for so many bytes, which grows where there are more.
+/// Reads to the end of the input, into a vector with this capacity at first.
 fn read_all<R: Read>(
     alloc: Global,
     input: &mut Counted<R>,
@@ -48,7 +48,7 @@ fn read_all<R: Read>(
     }
 }
 
-/// What a command that makes no file prints of the input.
+/// The text of a command that makes no file.
 #[tactic(auto, using(crate::proofs::Told::told_all, crate::proofs::Told::not_read, crate::proofs::Told::of_file, crate::proofs::Making::reads_file))]
 fn file_text<R: Read>(
     alloc: Global,
@@ -68,7 +68,7 @@ fn file_text<R: Read>(
     answer(alloc, query, bytes.as_slice())
 }
 
-/// What `build` prints of the input; the file that is built of it is appended to `made`.
+/// The text of `build`; the file is appended to `made`.
 fn built_text<R: Read>(
     alloc: Global,
     options: &Options,
@@ -92,7 +92,7 @@ fn built_text<R: Read>(
     Ok(text)
 }
 
-/// What `rewrite` prints of a file; the file that it makes of it is appended to `made`.
+/// The text of `rewrite` for the bytes of a file; the new file is appended to `made`.
 fn rewritten_of(
     alloc: Global,
     block_size: u32,
@@ -114,7 +114,7 @@ fn rewritten_of(
     Ok(text)
 }
 
-/// What `rewrite` prints of the input; the file that it makes of it is appended to `made`.
+/// The text of `rewrite`; the file is appended to `made`.
 fn rewritten_text<R: Read>(
     alloc: Global,
     block_size: u32,
@@ -135,7 +135,7 @@ fn rewritten_text<R: Read>(
     rewritten_of(alloc, block_size, bytes.as_slice(), made)
 }
 
-/// What a command other than `strings` prints of the input; the file that it makes is appended to `made`.
+/// The text of a command other than `strings`; the file that it makes is appended to `made`.
 fn text_of<R: Read>(
     alloc: Global,
     whole: Whole<'_>,
@@ -161,7 +161,7 @@ fn text_of<R: Read>(
     }
 }
 
-/// Does what a command other than `strings` does: its text is written once it is whole.
+/// Runs a command other than `strings`: its text is written once it is complete.
 fn print_whole<R: Read, W: Write>(
     alloc: Global,
     whole: Whole<'_>,
@@ -196,7 +196,7 @@ fn print_whole<R: Read, W: Write>(
     }
 }
 
-/// Does what `strings` does: the lines of the strings of a role are written in pieces.
+/// Runs `strings`: the lines are written in pieces.
 fn print_role<R: Read, W: Write>(
     alloc: Global,
     role: Role,
@@ -222,17 +222,16 @@ fn print_role<R: Read, W: Write>(
     print_strings_of(alloc, bytes.as_slice(), role, out)
 }
 
-/// Does what the request asks for: reads the input to its end, and writes the command's text to `out`. The file that `build` or
-/// `rewrite` makes is appended to `made`; the other commands leave that as it is. Opens no file: the input is that of
+/// Runs a request: reads the input to its end, and writes the command's text to `out`. The file that `build` or
+/// `rewrite` makes is appended to `made`, which other commands leave unchanged. It opens no file: `input` is that of
 /// `request.file`.
 ///
-/// It keeps the input, and the text before its first byte is written, but for `strings`, which prints in pieces; the time is that of
-/// the call that it stands on: [`verify`](hdt_file::verify), [`graph_text`](hdt_file::graph_text), [`build`](hdt_build::build) and
-/// others.
+/// It keeps the input, and the text until it is written; `strings` writes in pieces. Time is that of the call of the
+/// engine: [`verify`](hdt_file::verify), [`graph_text`](hdt_file::graph_text), [`build`](hdt_build::build) and others.
 ///
 /// # Errors
 ///
-/// [`ToolFault`] tells them: reading, writing or memory failed, or the fault that stands in the input.
+/// [`ToolFault`]: reading, writing or memory failed, or the first error of the input.
 pub fn run<R: Read, W: Write>(
     alloc: Global,
     request: &Request,
@@ -240,26 +239,26 @@ pub fn run<R: Read, W: Write>(
     out: &mut Counted<W>,
     made: &mut Vec<u8>,
 ) -> Result<(), ToolFault>
-    // The writer has gained the command's text of what the reader had left, all of it, and what was made the file that the command makes.
+    // The command's text of the whole input was written, and the file that it makes was appended to `made`.
     ensures ok { OnOk result (Answers request.now.action (R.remaining (inner input.old)) (R.remaining (inner input.new))
         (W.contents (inner out.old)) (W.contents (inner out.new)) made.old.items made.new.items) }
-    // A fault of the file is the one that stands in the input, and so is one of a document, a look-up without an answer has none
-    // in it, and a string that is no term is the first of what is to be printed. Bad options are told by `build` and `rewrite`
-    // alone, by `rewrite` only of an input that is a layout, and of a block size that is not written.
+    // An error of a file or a document is the first one of the input; a look-up without a result has none in it; a
+    // string that is not a term is the first one of what is to be printed. BadOptions is returned only by `build`, and
+    // by `rewrite` of an input that is a layout, if the block size is not valid.
     ensures told { IfErr result (Tells request.now.action (R.remaining (inner input.old)) (R.remaining (inner input.new))) }
-    // Those of `build` are told exactly where they are so, and then nothing was read.
+    // `build` returns it exactly if the options are not valid, and then nothing was read.
     ensures bad { IfBuild request.now.action (λ options. IsErrOf result ToolFault.BadOptions ↔ (AreRight options → ⊥)) }
     ensures unread { IfBuild request.now.action (λ options. IsErrOf result ToolFault.BadOptions → input.new ≡ input.old) }
-    // The reader failed in this call, once; at every other answer it has not failed.
+    // The reader failed in this call, once; at any other result it has not failed.
     ensures read { IsErrOf result ToolFault.Read → failures input.new ≡ failures input.old + 1 }
     ensures reader_well { OnOk result (failures input.new ≡ failures input.old) }
     ensures reader_told { IfErr result (λ e. e ≢ ToolFault.Read → failures input.new ≡ failures input.old) }
-    // The writer failed in this call, and has gained exactly the first n bytes of the text.
+    // The writer failed in this call, once, after exactly the first n bytes of the text.
     ensures write { IfErr result (λ e. (n : ℕ) → e ≡ ToolFault.Write n → (failures out.new ≡ failures out.old + 1)
         × Begins request.now.action (R.remaining (inner input.old)) (R.remaining (inner input.new))
         (W.contents (inner out.old)) (W.contents (inner out.new)) n) }
-    // At Ok it has not failed, and at any other fault nothing was written, but that `strings` has printed a beginning of its text
-    // where memory was refused in the midst of it.
+    // Without an error it has not failed, and at any other error nothing was written, except the first bytes of the
+    // text of `strings` if memory ran out.
     ensures writer_well { OnOk result (failures out.new ≡ failures out.old) }
     ensures unwritten { IfErr result (λ e. ((n : ℕ) → e ≢ ToolFault.Write n) → (out.new ≡ out.old) ⊎ ((e ≡ ToolFault.OutOfMemory)
         × Halts request.now.action (R.remaining (inner input.old)) (R.remaining (inner input.new))
@@ -269,7 +268,7 @@ pub fn run<R: Read, W: Write>(
     run_in(alloc, request, input, 0, out, made)
 }
 
-/// Does the same with room for so many bytes of the input: as many as there are, where that is known. It costs and answers what [`run`] does.
+/// Runs a request as [`run`] does, with this capacity for the input at first: its length, if that is known.
 pub fn run_in<R: Read, W: Write>(
     alloc: Global,
     request: &Request,
@@ -301,12 +300,12 @@ pub fn run_in<R: Read, W: Write>(
     }
 }
 
-/// Answers the requests of a reader over a file, which is read to its end first, and tells whether one of the answers is a fault.
-/// It keeps the file and its lists, and takes what [`answer_requests`] takes beside opening it.
+/// Reads a file to its end, and answers the requests of another reader over it. Returns whether one of the answers is
+/// an error. It keeps the file and its indexes; time is that of opening it and of [`answer_requests`].
 ///
 /// # Errors
 ///
-/// Those of [`answer_requests`], and the fault of the file.
+/// Those of [`answer_requests`], and the first error of the file.
 pub fn answer_file<F: Read, R: Read, W: Write>(
     alloc: Global,
     asking: Asking,
@@ -315,18 +314,18 @@ pub fn answer_file<F: Read, R: Read, W: Write>(
     input: &mut Counted<R>,
     out: &mut Counted<W>,
 ) -> Result<bool, ToolFault>
-    // The file is a layout, and the writer has gained the answers of the requests over its graph.
+    // The file is a layout, and the answers to the requests over its graph were written.
     ensures ok { IfOk result (λ faulty. ReadsWith (F.remaining (inner file.old)) (F.remaining (inner file.new)) (λ bytes. Opens bytes (λ graph.
         AnswersInput graph asking (R.remaining (inner input.old)) (W.contents (inner out.old)) (W.contents (inner out.new)) faulty))) }
     ensures writer_well { OnOk result (failures out.new ≡ failures out.old) }
-    // Where a failed read is told, one of the two readers failed in this call, once.
+    // If reading failed, one of the two readers failed in this call, once.
     ensures read { IsErrOf result ToolFault.Read → failures file.new + failures input.new ≡ failures file.old + failures input.old + 1 }
-    // What stops it stops the reading of the file, with nothing read of the requests and nothing written, or the answers.
+    // It stopped in reading the file, with no request read and nothing written, or in the answers.
     ensures stopped { IfErr result (λ e. (Tells (Action.Answer asking) (F.remaining (inner file.old)) (F.remaining (inner file.new)) e × (input.new ≡ input.old) × (out.new ≡ out.old))
         ⊎ ReadsWith (F.remaining (inner file.old)) (F.remaining (inner file.new)) (λ bytes. Opens bytes (λ graph.
         AnswersSome graph asking (R.remaining (inner input.old)) (R.remaining (inner input.new)) (W.contents (inner out.old)) (W.contents (inner out.new))
         (failures out.old) (failures out.new) e))) }
-    // A failed write is told only among the answers: the writer failed in this call, and has gained exactly the first n bytes of them.
+    // Writing failed only in the answers: the writer failed in this call, once, after exactly their first n bytes.
     ensures write { IfErr result (λ e. (n : ℕ) → e ≡ ToolFault.Write n → ReadsWith (F.remaining (inner file.old)) (F.remaining (inner file.new)) (λ bytes. Opens bytes (λ graph.
         AnswersSome graph asking (R.remaining (inner input.old)) (R.remaining (inner input.new)) (W.contents (inner out.old)) (W.contents (inner out.new))
         (failures out.old) (failures out.new) e))) }

@@ -1,4 +1,4 @@
-//! Commands by how they print: in pieces, or a text that is made whole before it is written.
+//! Commands by how they print: in pieces, or a complete text.
 ghost use Rattle.std.specs.Prelude.{◌≡◌};
 ghost use Rattle.hdt_command.specs.Whole.{printing_action};
 
@@ -6,7 +6,7 @@ use crate::request::{Action, Asking, Form};
 use hdt_build::Options;
 use hdt_dict::Role;
 
-/// A command that makes a text of the file that it reads, and nothing else.
+/// A command that prints a complete text and makes no file.
 #[derive(Clone, Copy, Drop)]
 pub enum Query<'a> {
     /// As [`Action::Head`].
@@ -23,7 +23,7 @@ pub enum Query<'a> {
     Find {
         /// The strings of subject, predicate and object; any where there is none.
         given: &'a [Option<Vec<u8>>; 3],
-        /// Whether the triples' numbers are printed, in place of N-Triples.
+        /// Whether IDs are printed instead of N-Triples.
         numbers: bool,
     },
     /// As [`Action::Search`].
@@ -39,7 +39,7 @@ pub enum Query<'a> {
     Answer(Asking),
 }
 
-/// A command whose text is made whole before it is written.
+/// A command that prints a complete text.
 #[derive(Clone, Copy, Drop)]
 pub enum Whole<'a> {
     /// As [`Action::Build`].
@@ -55,7 +55,7 @@ pub enum Whole<'a> {
 pub enum Printing<'a> {
     /// As [`Action::Strings`]: in pieces.
     Pieces(Role),
-    /// A text that is made whole.
+    /// A complete text.
     Whole(Whole<'a>),
 }
 

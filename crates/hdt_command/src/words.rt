@@ -1,4 +1,4 @@
-//! The command line of `hdt`.
+//! Parsing the command line of `hdt`.
 ghost use Rattle.std.specs.Prelude.{◌≡◌, IfOk, IfErr, codes, map};
 ghost use Rattle.clap.specs.Words.{found_of, one_of, rows_of, kind_of};
 ghost use Rattle.hdt_command.specs.Answer.{HasOut};
@@ -24,7 +24,7 @@ fn text_of(alloc: Global, error: &Error) -> Result<String, AllocError> {
     String::from_str(alloc, text.as_str().trim_end())
 }
 
-/// The fault of a refused command line.
+/// The error of a command line.
 fn refusal(alloc: Global, error: &Error) -> UsageFault
     ensures { TellsKind (kind_of error.now) result }
 {
@@ -38,7 +38,7 @@ fn refusal(alloc: Global, error: &Error) -> UsageFault
     }
 }
 
-/// The command that a name with its entries asks for.
+/// The command on a file with this name and these arguments.
 fn action_of<'m>(alloc: Global, name: &str, matches: &ArgMatches<'m>) -> Result<Action, UsageFault>
     ensures ok { IfOk result (AsksAction name.now (rows_of (found_of matches.now))) }
     ensures refused { IfErr result (ComesWithoutOr ((action : Action) × AsksAction name.now (rows_of (found_of matches.now)) action)
@@ -60,7 +60,7 @@ fn action_of<'m>(alloc: Global, name: &str, matches: &ArgMatches<'m>) -> Result<
     }
 }
 
-/// What a command on a file with its words asks for.
+/// The request of a command on a file.
 fn file_request<'m>(
     alloc: Global,
     name: &str,
@@ -77,7 +77,7 @@ fn file_request<'m>(
     })
 }
 
-/// What a command that makes a file makes, by its name with its entries.
+/// The command that makes a file with this name and these arguments.
 fn making_of<'m>(alloc: Global, name: &str, matches: &ArgMatches<'m>) -> Result<Action, UsageFault>
     ensures ok { IfOk result (AsksToMake name.now (rows_of (found_of matches.now))) }
     ensures refused { IfErr result (ComesWithout ((action : Action) × AsksToMake name.now (rows_of (found_of matches.now)) action)) }
@@ -89,7 +89,7 @@ fn making_of<'m>(alloc: Global, name: &str, matches: &ArgMatches<'m>) -> Result<
     }
 }
 
-/// What a command that makes a file asks for with its words.
+/// The request of a command that makes a file.
 fn making_request<'m>(
     alloc: Global,
     name: &str,
@@ -105,7 +105,7 @@ fn making_request<'m>(
     })
 }
 
-/// What a command with its words asks for.
+/// The request of a command.
 fn request_of<'m>(
     alloc: Global,
     name: &str,
@@ -121,7 +121,7 @@ fn request_of<'m>(
     }
 }
 
-/// What a command with its words asks for, and how.
+/// The request of a command, and whether its progress is reported.
 fn asked_of<'m>(alloc: Global, name: &str, matches: &ArgMatches<'m>) -> Result<Call, UsageFault>
     ensures ok { IfOk result (λ asked. AsksFor name.now (rows_of (found_of matches.now)) asked.request) }
     ensures progress { IfOk result (λ asked. StatesFlag (one_of (codes "progress") (rows_of (found_of matches.now))) asked.progress) }
@@ -134,7 +134,7 @@ fn asked_of<'m>(alloc: Global, name: &str, matches: &ArgMatches<'m>) -> Result<C
     })
 }
 
-/// Reads a command line by the table of commands.
+/// Parses a command line by the table of commands.
 fn parse_with<'a>(
     alloc: Global,
     roles: &'a [&'a str],
@@ -155,26 +155,27 @@ fn parse_with<'a>(
     }
 }
 
-/// The words for the roles.
+/// The names of the roles.
 const ROLES: [&str; 3] = ["subject", "predicate", "object"];
 
-/// Reads a command line, the program's name first. [`UsageFault`] tells why words are none, or asks for help.
+/// Parses a command line, beginning with the program's name. [`UsageFault`] says why it is not a request, or that help
+/// was asked for.
 #[tactic(auto, using(crate::proofs::Refused::so))]
 pub fn parse_words<'a>(alloc: Global, words: &'a [&'a str]) -> Result<Request, UsageFault>
-    // The request is the one that the words want, by what `clap` states of them under the table of commands.
+    // The request is that of the arguments, by the contract of `clap` with the table of commands.
     ensures ok { IfOk result (Wants (map (λ word. word.now) words.now)) }
-    // `build` and `rewrite` come with the path of the file that they make, and no other command does.
+    // `build` and `rewrite` have the path of the file that they make, and no other command has.
     ensures out { IfOk result HasOut }
-    // Help and the version are given only where `clap` may give them; a fault of a term is told where it stands in TERM, or in the first of S, P and
-    // O that is not fine; other words are refused only where they want no request.
+    // Help and the version are returned only if `clap` may return them; an error of a term is that of TERM, or of the
+    // first of S, P and O that has one; other arguments are refused only if they are no request.
     ensures refused { IfErr result (IsRefused (map (λ word. word.now) words.now)) }
 {
     Ok(parse_all_words(alloc, words)?.request)
 }
 
-/// Reads a command line, the program's name first, as [`parse_words`] does, with `--progress`, and with its errors.
+/// Parses a command line as [`parse_words`] does, with `--progress`.
 pub fn parse_all_words<'a>(alloc: Global, words: &'a [&'a str]) -> Result<Call, UsageFault>
-    // The words want the request, and `--progress` stands among them exactly where it is told.
+    // The request is that of the arguments, and `--progress` is returned exactly if it is among them.
     ensures ok { IfOk result (WantsSo (map (λ word. word.now) words.now)) }
     ensures out { IfOk result (λ asked. HasOut asked.request) }
     ensures refused { IfErr result (IsRefused (map (λ word. word.now) words.now)) }

@@ -1,4 +1,4 @@
-//! The rows after the four sections: no string stands in two of shared, subjects and objects.
+//! The checks after the four sections: no string is in two of shared, subjects and objects.
 ghost use Rattle.std.specs.Prelude.{◌≡◌, ◌||◌, ◌++◌, IfOk};
 ghost use Rattle.hdt_wire.specs.Rows.{Gives};
 ghost use Rattle.hdt_front.specs.Faults.{read_fault_of};
@@ -12,7 +12,7 @@ use hdt_front::{Cursor, ReadFault, Section};
 use hdt_wire::{Fault, Reason};
 use std::alloc::{AllocError, Global};
 
-/// The row of a string that was met in another section.
+/// The check of the first string that is in another section, if there is one.
 fn none_met(met: Option<usize>) -> Result<(), Fault>
     ensures { result ≡ none_met met }
 {
@@ -25,7 +25,7 @@ fn none_met(met: Option<usize>) -> Result<(), Fault>
     }
 }
 
-/// The place of the first subject that is shared.
+/// The offset of the first string of subjects that is in shared.
 fn shared_subject(
     alloc: Global,
     shared: &Section<'_>,
@@ -38,7 +38,7 @@ fn shared_subject(
     first_in(&mut list, &mut other)
 }
 
-/// The place of the first object that is shared or a subject.
+/// The offset of the first string of objects that is in shared or in subjects.
 fn other_object(
     alloc: Global,
     shared: &Section<'_>,
@@ -53,7 +53,7 @@ fn other_object(
     first_in_two(&mut list, &mut one, &mut two)
 }
 
-/// No string of subjects is in shared.
+/// Checks that no string of subjects is in shared.
 #[tactic(auto, using(crate::proofs::Rows::shared_rows))]
 pub(crate) fn check_subjects(
     alloc: Global,
@@ -68,7 +68,7 @@ pub(crate) fn check_subjects(
     }
 }
 
-/// No string of objects is in shared or in subjects.
+/// Checks that no string of objects is in shared or in subjects.
 #[tactic(auto, using(crate::proofs::Rows::other_rows))]
 pub(crate) fn check_objects(
     alloc: Global,

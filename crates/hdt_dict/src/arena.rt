@@ -1,4 +1,4 @@
-//! An arena: byte strings, kept one after another in one vector.
+//! A list of byte strings in one vector.
 ghost use Rattle.std.specs.Prelude.{◌≡◌, ◌<◌, ◌≤◌, ◌++◌, ◌∷◌, [], ℕ, List, map, length, slice_index_or, IfOk, OnOk, OnErr};
 ghost use Rattle.std.specs.List.{slice_range};
 ghost use Rattle.hdt_dict.specs.Arena.{arena_texts, AreTextStarts};
@@ -6,7 +6,7 @@ ghost use Rattle.hdt_dict.specs.Arena.{arena_texts, AreTextStarts};
 use std::alloc::{AllocError, Global};
 use std::marker::Model;
 
-/// A list of byte strings, which stand one after another in one vector. Contracts see it as the list of them.
+/// A list of byte strings, concatenated in one vector. Contracts see the list.
 ///
 /// ```text
 /// let mut arena = Arena::new(alloc)?;
@@ -16,11 +16,11 @@ use std::marker::Model;
 #[derive(Drop)]
 pub struct Arena {
     bytes: Vec<u8>,
-    /// Where each string begins, and where the last one ends.
+    /// The index at which each string begins, and at which the last one ends.
     starts: Vec<usize>,
 }
 
-/// The bytes from one place up to another.
+/// The bytes from one index up to another.
 fn part(bytes: &[u8], from: usize, end: usize) -> &[u8]
     requires ascend { from ≤ end }
     requires within { end ≤ length bytes.now }
@@ -38,14 +38,14 @@ impl Model for Arena {
 }
 
 impl Arena {
-    /// An arena without strings. It takes the memory of one place.
+    /// Returns an arena without strings. It allocates 8 bytes.
     pub fn new(alloc: Global) -> Result<Arena, AllocError>
         ensures { IfOk result (λ made. made ≡ []) }
     {
         Arena::with_room(alloc, 0, 0)
     }
 
-    /// An arena without strings, with room for so many strings of so many bytes together, which are allocated at once.
+    /// Returns an arena without strings, with capacity for so many strings of so many bytes in all.
     pub fn with_room(alloc: Global, strings: usize, bytes: usize) -> Result<Arena, AllocError>
         ensures { IfOk result (λ made. made ≡ []) }
     {
@@ -55,7 +55,7 @@ impl Arena {
         Ok(Arena { bytes, starts })
     }
 
-    /// An arena of bytes that were put one after another, with the place where each string begins and the last one ends.
+    /// Returns an arena of concatenated strings, given the index at which each begins, and at which the last one ends.
     pub fn of(bytes: Vec<u8>, starts: Vec<usize>) -> Arena
         requires { AreTextStarts bytes.items starts.items }
         ensures { result ≡ arena_texts bytes.items starts.items }
@@ -63,14 +63,14 @@ impl Arena {
         Arena { bytes, starts }
     }
 
-    /// How many strings there are.
+    /// Returns the number of strings.
     pub fn len(&self) -> usize
         ensures { result ≡ length self.now }
     {
         self.starts.len() - 1
     }
 
-    /// The string at a place, from 0.
+    /// Returns the string at an index, from 0.
     pub fn get(&self, at: usize) -> &[u8]
         requires { at < length self.now }
         ensures { result.now ≡ slice_index_or self.now at [] }
@@ -80,7 +80,7 @@ impl Arena {
         part(self.bytes.as_slice(), from, end)
     }
 
-    /// Puts a string at the end. Where memory is refused, the arena is as it was.
+    /// Appends a string. If memory runs out, the arena is unchanged.
     pub fn push(&mut self, text: &[u8]) -> Result<(), AllocError>
         ensures ok { OnOk result (self.new ≡ self.old ++ text.now ∷ []) }
         ensures err { OnErr result (self.new ≡ self.old) }
@@ -91,7 +91,7 @@ impl Arena {
         Ok(())
     }
 
-    /// All strings, each lent where it stands.
+    /// Returns all strings, borrowed. Linear time and memory in their number.
     pub fn slices(&self, alloc: Global) -> Result<Vec<&[u8]>, AllocError>
         ensures { IfOk result (λ made. map (λ x. x.now) made.items ≡ self.now) }
     {

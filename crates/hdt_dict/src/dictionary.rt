@@ -1,4 +1,4 @@
-//! A dictionary that was read: four sections, and the numbers of their strings by role.
+//! A dictionary that was read: four sections, and look-ups by role.
 ghost use Rattle.std.specs.Prelude.{◌≡◌, ◌<◌, ◌≤◌, ◌+◌, ◌-◌, ◌^◌, ◌↔◌, ◌++◌, ◌∷◌, [], ℕ, length, Ok, Err, Some, None, IsOk, OnErr, IfOk};
 ghost use Rattle.hdt_wire.specs.Rows.{Gives};
 ghost use Rattle.hdt_wire.specs.declared.fault.Fault.{Fault as FaultIs};
@@ -18,7 +18,7 @@ use hdt_seq::Steps;
 use hdt_wire::{Kind, Role, read_control};
 use std::alloc::{AllocError, Global};
 
-/// A dictionary that was read: it borrows the input, in which its strings are searched as they lie, and owns nothing.
+/// A dictionary that was read. It borrows the input, in which its strings are searched, and owns nothing.
 ///
 /// ```text
 /// let (dictionary, end) = Dictionary::read(alloc, bytes, at)?;
@@ -41,7 +41,7 @@ impl<'a> Dictionary<'a> {
     ghost use Rattle.hdt_dict.specs.Looks.{role_looks, role_block};
     ghost use Rattle.hdt_dict.specs.Views.{dictionary_of, role_string_bytes};
 
-    /// Reads by rows.
+    /// Reads a dictionary, check by check.
     #[tactic(auto, unfolding(crate::specs::Dictionary::dictionary_at, crate::specs::Dictionary::rows_above_strings, crate::specs::Views::dictionary_of, hdt_front::specs::Strings::section_of, hdt_wire::specs::Control::block_of))]
     fn read_rows(
         alloc: Global,
@@ -70,26 +70,28 @@ impl<'a> Dictionary<'a> {
         Ok((dictionary, end))
     }
 
-    /// Reads the dictionary at a place, in bytes from 0, and answers it with the place after it. Bytes may follow it.
+    /// Reads the dictionary at a byte offset, from 0. Returns it with the offset after it. More bytes may follow.
     ///
-    /// It costs time in proportion to the dictionary's bytes: each string is unfolded once to check its section, and
-    /// once more to look for strings that stand in two sections. Two strings are kept at a time, or three.
+    /// Linear time in the bytes: each string is decoded once to check its section, and once more to find strings that
+    /// are in two sections. At most three strings are held at a time, and nothing when it returns.
     ///
-    /// Faults, in the order of the rows: those of the control block, those of the sections shared, subjects, predicates
-    /// and objects, then `SectionsOverlap` at the first string of subjects that is in shared, or else at the first
-    /// string of objects that is in shared or in subjects.
+    /// # Errors
+    ///
+    /// The first of these, in this order: those of the control information, those of the sections shared, subjects,
+    /// predicates and objects, then `SectionsOverlap` at the first string of subjects that is in shared, else at the
+    /// first string of objects that is in shared or in subjects. Or [`ReadFault::OutOfMemory`].
     pub fn read(
         alloc: Global,
         bytes: &'a [u8],
         at: usize,
     ) -> Result<(Dictionary<'a>, usize), ReadFault>
-        // What is read stands there.
+        // What is returned is encoded there.
         ensures found { IfOk result (λ r. IsDictionary (dictionary_of r.0) bytes.now at) }
-        // What stands there is read, unless memory ran out.
+        // Whatever is encoded there is returned, unless memory ran out.
         ensures only { (d : DictionaryParts) → IsDictionary d bytes.now at → Gives read_fault_of (λ r. dictionary_of r.0) result (Ok d) }
-        // Otherwise it is the one fault that stands.
+        // Otherwise it is the first error.
         ensures exact { Gives read_fault_of (λ r. dictionary_of r.0) result (dictionary_at bytes.now at) }
-        // A fault that stands above all strings is answered without memory.
+        // An error before the first string is found without allocating.
         ensures without_memory { (f : FaultIs) → rows_above_strings bytes.now at ≡ Err f → result ≡ Err (FaultOf f) }
         ensures next { IfOk result (λ r. r.1 ≡ (dictionary_of r.0).objects.end) }
         // A role has at most as many strings as the input has bytes.
@@ -99,8 +101,8 @@ impl<'a> Dictionary<'a> {
         Dictionary::read_rows(alloc, bytes, at)
     }
 
-    /// The law that each section has strings, UTF-8 without zero bytes, which ascend, and that no string stands in two of
-    /// shared, subjects and objects.
+    /// The law that the strings of each section are UTF-8 without zero bytes and ascend, and that no string is in two
+    /// of shared, subjects and objects.
     #[tactic(auto, unfolding(crate::specs::Views::dictionary_of, hdt_front::specs::Strings::section_of))]
     pub fn are_sections(&self)
         ensures shared { AreStrings (dictionary_of self.now).shared.strings }
@@ -117,7 +119,7 @@ impl<'a> Dictionary<'a> {
         self.objects.are_strings();
     }
 
-    /// How many strings each section has: shared, subjects, predicates, objects.
+    /// Returns the number of strings of each section: shared, subjects, predicates, objects.
     #[tactic(auto, unfolding(crate::specs::Views::dictionary_of, hdt_front::specs::Strings::section_of))]
     pub fn section_lens(&self) -> [u64; 4]
         ensures { result ≡ length (dictionary_of self.now).shared.strings ∷ length (dictionary_of self.now).subjects.strings ∷ length (dictionary_of self.now).predicates.strings ∷ length (dictionary_of self.now).objects.strings ∷ [] }
@@ -130,7 +132,7 @@ impl<'a> Dictionary<'a> {
         ]
     }
 
-    /// How many strings a role has.
+    /// Returns the number of strings of a role. Their IDs are 1 to this number.
     #[tactic(auto, unfolding(crate::specs::Views::dictionary_of, hdt_front::specs::Strings::section_of))]
     pub fn count(&self, role: Role) -> u64
         ensures { result ≡ length (strings_in (sections_of (dictionary_of self.now)) role) }
@@ -142,7 +144,7 @@ impl<'a> Dictionary<'a> {
         }
     }
 
-    /// Looks for a string in the sections of a role.
+    /// Searches a string in the sections of a role.
     #[tactic(auto, unfolding(crate::specs::Views::dictionary_of, crate::specs::Looks::role_looks, hdt_front::specs::Strings::section_of))]
     fn place_in(&self, role: Role, x: &[u8], steps: &mut Steps) -> Option<u64>
         ensures place { result ≡ place (strings_in (sections_of (dictionary_of self.now)) role) x.now }
@@ -157,11 +159,11 @@ impl<'a> Dictionary<'a> {
         }
     }
 
-    /// The number of a string in a role, from 1; None where the role has no such string.
+    /// Returns the ID of a string in a role, from 1, or `None` if the role has no such string.
     ///
-    /// Each section of the role is searched by halving its blocks, and then through one block. It takes no memory.
+    /// In each section of the role: a binary search over its blocks, then a scan of one block.
     pub fn number_of(&self, role: Role, x: &[u8], steps: &mut Steps) -> Option<u64>
-        // It is n exactly where the string is number n.
+        // It is n exactly if n is the ID of the string.
         ensures exact { (n : ℕ) → (result ≡ Some n) ↔ (numbered (strings_in (sections_of (dictionary_of self.now)) role) n ≡ Some x.now) }
         ensures place { result ≡ place (strings_in (sections_of (dictionary_of self.now)) role) x.now }
         ensures cost { steps.new ≤ steps.old + role_looks (dictionary_of self.now) role }
@@ -170,10 +172,10 @@ impl<'a> Dictionary<'a> {
         self.place_in(role, x, steps)
     }
 
-    /// Appends string n of a role, numbers from 1: true; or false where there is none, with `out` unchanged. Where
-    /// memory is refused, `out` is as it was.
+    /// Appends the string of a role with ID n, from 1, and returns true; or returns false if there is none, with `out`
+    /// unchanged. If memory runs out, `out` is unchanged.
     ///
-    /// It unfolds the string from the head of its block.
+    /// It decodes the block of the string up to the string.
     #[tactic(auto, unfolding(crate::specs::Views::dictionary_of, crate::specs::Looks::role_block, hdt_front::specs::Strings::section_of))]
     pub fn string_of(
         &self,
@@ -195,8 +197,8 @@ impl<'a> Dictionary<'a> {
         }
     }
 
-    /// The packed bytes of the block of string n of a role, numbers from 1, lent from the input: looking the string up needs
-    /// no others of it. Where there is no such string there are none. It takes two looks, and no memory.
+    /// Returns the front-coded bytes of the block of the string of a role with ID n, from 1, borrowed from the input:
+    /// decoding the string needs no others. None if there is no such string. Two memory accesses.
     #[tactic(auto, unfolding(crate::specs::Views::role_string_bytes))]
     pub fn block(&self, role: Role, n: u64) -> &'a [u8]
         ensures { result.now ≡ role_string_bytes self.now role n }
@@ -208,9 +210,8 @@ impl<'a> Dictionary<'a> {
         }
     }
 
-    /// The place of string n of a section, in bytes from the start of the input: the place that faults name. Sections
-    /// count from 0 in their order in the file (shared, subjects, predicates, objects), strings from 1; the caller
-    /// shows that both are there. It goes through one block at most, and takes no memory.
+    /// Returns the byte offset of string n, from 1, of a section in the input, as errors report it. Sections count from
+    /// 0 in the order of the file: shared, subjects, predicates, objects. It scans at most one block.
     #[tactic(auto, unfolding(crate::specs::Views::dictionary_of, hdt_front::specs::Strings::section_of))]
     pub fn string_start(&self, section: usize, n: u64) -> u64
         requires section { section < 4 }

@@ -1,10 +1,10 @@
-//! The dictionary of an HDT file (HDT format version 1): four sections of front-coded strings, which number the
-//! strings of each role.
+//! The dictionary of an HDT file (HDT format version 1): four sections of front-coded strings, which give the strings
+//! of each role their IDs.
 //!
-//! The layer's promise: numbers and strings of a role are inverse, no string stands in two of shared, subjects and
-//! objects, and a role has at most as many strings as the input has bytes.
+//! What this crate promises: look-ups by ID and by string are inverse in each role, no string is in two of shared,
+//! subjects and objects, and a role has at most as many strings as the input has bytes.
 //!
-//! A function that says nothing of its cost takes constant time and no memory; laws do nothing when they are called.
+//! Functions that state no cost take constant time and allocate nothing. Laws do nothing when called.
 //!
 //! ```text
 //! let (dictionary, end) = Dictionary::read(alloc, bytes, at)?;
@@ -15,10 +15,9 @@
 //! }
 //! ```
 //!
-//! A dictionary is read by [`Dictionary::read`], and written by [`split`] and [`put_dictionary`], or string by string by
-//! four [`SectionWriter`]s and [`put_written_dictionary`]. Contracts see it as
-//! its four sections with their places, by `dictionary_of` of specs/, and a role as the list of its strings, `terms`. An
-//! [`Arena`] keeps many strings in one vector.
+//! [`Dictionary::read`] reads a dictionary; [`split`] and [`put_dictionary`] write one, or four [`SectionWriter`]s,
+//! string by string, and [`put_written_dictionary`]. Contracts see its four sections with their offsets, by
+//! `dictionary_of` of specs/, and a role as the list of its strings. An [`Arena`] keeps many strings in one vector.
 #![tactic(auto)]
 
 mod apart;

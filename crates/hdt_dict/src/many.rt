@@ -45,6 +45,7 @@ fn append_next(
     ensures cost { steps.new ≤ steps.old + max (block_size first.old.section) (block_size second.old.section) }
     ensures near { (before : ℕ) → StandAt first.old second.old before → before ≤ n → steps.new + before ≤ steps.old + n }
     ensures stand { OnOk result ((before : ℕ) → StandAt first.old second.old before → before ≤ n → StandAt first.new second.new n) }
+    ensures more { steps.old ≤ steps.new }
 {
     if n <= many {
         first.seek(n, steps)?;
@@ -70,6 +71,7 @@ fn append_all<'a>(
     ensures places { OnErr result (Keeps ends.old.items ends.new.items) }
     ensures cost { steps.new ≤ steps.old + length numbers.now * max (block_size first.now) (block_size second.now) }
     ensures once { (n : ℕ) → AscendTo numbers.now n → steps.new ≤ steps.old + n }
+    ensures more { steps.old ≤ steps.new }
 {
     let mut in_first = Seeker::new(alloc, first);
     let mut in_second = Seeker::new(alloc, second);
@@ -102,6 +104,7 @@ fn append_whole<'a>(
     ensures err { OnErr result ((out.new.items ≡ out.old.items) × (ends.new.items ≡ ends.old.items)) }
     ensures cost { steps.new ≤ steps.old + length numbers.now * max (block_size first.now) (block_size second.now) }
     ensures once { (n : ℕ) → AscendTo numbers.now n → steps.new ≤ steps.old + n }
+    ensures more { steps.old ≤ steps.new }
 {
     let start = out.len();
     let listed = ends.len();
@@ -125,6 +128,7 @@ fn strings_in_one(
     ensures err { OnErr result ((out.new.items ≡ out.old.items) × (ends.new.items ≡ ends.old.items)) }
     ensures cost { steps.new ≤ steps.old + length numbers.now * block_size section.now }
     ensures once { (n : ℕ) → AscendTo numbers.now n → steps.new ≤ steps.old + n }
+    ensures more { steps.old ≤ steps.new }
     ensures absent { (AreNumbers (strings_of section.now) numbers.now → ⊥) → IsOk result }
 {
     if !are_numbers(numbers, section.len()) {
@@ -150,6 +154,7 @@ fn strings_in_two(
     ensures err { OnErr result ((out.new.items ≡ out.old.items) × (ends.new.items ≡ ends.old.items)) }
     ensures cost { steps.new ≤ steps.old + length numbers.now * max (block_size first.now) (block_size second.now) }
     ensures once { (n : ℕ) → AscendTo numbers.now n → steps.new ≤ steps.old + n }
+    ensures more { steps.old ≤ steps.new }
     ensures absent { (AreNumbers (strings_of first.now ++ strings_of second.now) numbers.now → ⊥) → IsOk result }
 {
     if !are_numbers(numbers, first.len() + second.len()) {
@@ -181,6 +186,7 @@ impl<'a> Dictionary<'a> {
         ensures err { OnErr result ((out.new.items ≡ out.old.items) × (ends.new.items ≡ ends.old.items)) }
         ensures cost { steps.new ≤ steps.old + length numbers.now * role_block (dictionary_of self.now) role }
         ensures once { (n : ℕ) → AscendTo numbers.now n → steps.new ≤ steps.old + n }
+        ensures more { steps.old ≤ steps.new }
         ensures absent { (AreNumbers (strings_in (sections_of (dictionary_of self.now)) role) numbers.now → ⊥) → IsOk result }
     {
         match role {

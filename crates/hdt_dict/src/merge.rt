@@ -1,4 +1,4 @@
-//! Two ascending lists of strings, walked side by side.
+//! Merging two ascending lists of strings.
 ghost use Rattle.std.specs.Prelude.{◌≡◌, ◌⊎◌, ◌+◌, ◌<◌, ◌≤◌, [], ℕ, length, slice_index_or, IfOk, not, true, false};
 ghost use Rattle.std.specs.declared.cmp.Ordering.TheVariants.{Less, Equal, Greater};
 ghost use Rattle.std.specs.List.{filter};
@@ -10,8 +10,8 @@ ghost use Rattle.hdt_front.specs.Order.{IsAscending};
 use std::alloc::{AllocError, Global};
 use std::cmp::Ordering;
 
-/// Which of two ascending lists has the next string, where the first has i strings before it and the second j: Less the
-/// first, Greater the second, Equal both.
+/// Which of two ascending lists has the next string, after i strings of the first and j of the second: `Less` the
+/// first, `Greater` the second, `Equal` both.
 fn next_of(xs: &[&[u8]], i: usize, ys: &[&[u8]], j: usize) -> Ordering
     requires some { (i < length xs.now) ⊎ (j < length ys.now) }
     requires xs_ascending { IsAscending (lent_texts xs.now) }
@@ -31,17 +31,17 @@ fn next_of(xs: &[&[u8]], i: usize, ys: &[&[u8]], j: usize) -> Ordering
     xs[i].cmp(ys[j])
 }
 
-/// What two ascending lists have in common.
+/// Two ascending lists, divided.
 pub(crate) struct Merged<'a> {
-    /// The strings that both have.
+    /// The strings of both lists.
     pub both: Vec<&'a [u8]>,
-    /// Those of the first alone.
+    /// Those of the first list only.
     pub first: Vec<&'a [u8]>,
-    /// Those of the second alone.
+    /// Those of the second list only.
     pub second: Vec<&'a [u8]>,
 }
 
-/// Merges two ascending lists of strings, by one walk along both.
+/// Merges two ascending lists of strings. Linear time.
 pub(crate) fn merge<'a>(
     alloc: Global,
     xs: &[&'a [u8]],

@@ -1,4 +1,4 @@
-//! Strings that stand in two sections, found by walking the sections side by side.
+//! Finding strings that are in two sections, by merging the sections.
 ghost use Rattle.std.specs.Prelude.{◌≡◌, ◌||◌, List, Bool, ℕ, OnOk, IfOk};
 ghost use Rattle.hdt_dict.specs.Inside.Overlap.{is_string_of, first_place, not_less, Lies, Turns};
 ghost use Rattle.hdt_front.specs.Walking.{PlacedAscend};
@@ -7,9 +7,9 @@ use hdt_front::Cursor;
 use std::alloc::AllocError;
 use std::cmp::Ordering;
 
-/// How the string that a cursor stands on lies to another one, and how far they agree, after one of the two gave way to
-/// a string that keeps so many bytes of it. Where it keeps more than agreed, nothing changes; else the two are compared
-/// from there on: only with bytes that stand in its piece.
+/// Updates the comparison of a cursor's string with another one, and the length of their longest common prefix, after
+/// one of the two advanced to a string whose entry shares `kept` bytes with it. If that is more than the prefix,
+/// nothing changes; else the two are compared from there on.
 fn turned(cursor: &Cursor<'_>, x: &[u8], kept: usize, lie: (Ordering, usize)) -> (Ordering, usize)
     requires { Turns kept lie cursor.now x.now }
     ensures { Lies result cursor.now x.now }
@@ -20,8 +20,8 @@ fn turned(cursor: &Cursor<'_>, x: &[u8], kept: usize, lie: (Ordering, usize)) ->
     cursor.compared(x, kept)
 }
 
-/// Passes the strings that are less than another one, and answers how the one that comes next lies to it. Each piece is
-/// compared once at most.
+/// Skips the strings that are less than another one, and compares the next one with it. Each entry is compared at most
+/// once.
 fn reaches(
     cursor: &mut Cursor<'_>,
     x: &[u8],
@@ -40,7 +40,7 @@ fn reaches(
     Ok(lie)
 }
 
-/// The place of the first string of a list that is in another one.
+/// The offset of the first string of a section that is in another one.
 pub(crate) fn first_in(
     list: &mut Cursor<'_>,
     other: &mut Cursor<'_>,
@@ -61,7 +61,7 @@ pub(crate) fn first_in(
     Ok(None)
 }
 
-/// The place of the first string of a list that is in one of two others.
+/// The offset of the first string of a section that is in one of two others.
 pub(crate) fn first_in_two(
     list: &mut Cursor<'_>,
     one: &mut Cursor<'_>,

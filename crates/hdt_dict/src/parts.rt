@@ -1,4 +1,4 @@
-//! The strings of three roles, parted into the four sections of a dictionary.
+//! Dividing the strings of three roles into the four sections of a dictionary.
 ghost use Rattle.std.specs.Prelude.{◌≡◌, IfOk};
 ghost use Rattle.hdt_front.specs.Canonical.{lent_texts, texts};
 ghost use Rattle.hdt_dict.specs.Split.{IsSplit, lists_of, lent_lists_of};
@@ -8,35 +8,34 @@ use crate::sorted::ascending_strings;
 use hdt_front::lent_strings;
 use std::alloc::{AllocError, Global};
 
-/// The strings of a dictionary's four sections.
+/// The strings of the four sections of a dictionary.
 #[derive(Drop)]
 pub struct Parts {
     /// The strings that are both subjects and objects.
     pub shared: Vec<Vec<u8>>,
-    /// The subjects that are no objects.
+    /// The subjects that are not objects.
     pub subjects: Vec<Vec<u8>>,
     /// The predicates.
     pub predicates: Vec<Vec<u8>>,
-    /// The objects that are no subjects.
+    /// The objects that are not subjects.
     pub objects: Vec<Vec<u8>>,
 }
 
-/// The same, with strings that are kept elsewhere.
+/// The strings of the four sections of a dictionary, borrowed.
 #[derive(Drop)]
 pub struct LentParts<'a> {
     /// The strings that are both subjects and objects.
     pub shared: Vec<&'a [u8]>,
-    /// The subjects that are no objects.
+    /// The subjects that are not objects.
     pub subjects: Vec<&'a [u8]>,
     /// The predicates.
     pub predicates: Vec<&'a [u8]>,
-    /// The objects that are no subjects.
+    /// The objects that are not subjects.
     pub objects: Vec<&'a [u8]>,
 }
 
-/// Parts the strings of three roles, in any order and with repeats, into the four sections. No string is copied.
-///
-/// It costs a sort of each list and one walk along both of subjects and objects.
+/// Divides the strings of three roles, in any order and with duplicates, into the four sections, without copying them.
+/// It sorts each list, and merges those of subjects and objects.
 #[tactic(auto, unfolding(crate::specs::Split::lent_lists_of))]
 pub fn split_lent<'a>(
     alloc: Global,
@@ -62,7 +61,7 @@ pub fn split_lent<'a>(
     })
 }
 
-/// Lent strings, copied into vectors.
+/// Copies borrowed strings into vectors.
 fn copied(alloc: Global, list: &[&[u8]]) -> Result<Vec<Vec<u8>>, AllocError>
     ensures { IfOk result (λ made. texts made.items ≡ lent_texts list.now) }
 {
@@ -73,8 +72,8 @@ fn copied(alloc: Global, list: &[&[u8]]) -> Result<Vec<Vec<u8>>, AllocError>
     Ok(made)
 }
 
-/// Parts the strings of three roles, in any order and with repeats, into the four sections of a dictionary. Time is
-/// that of sorting the strings; memory is that of the list that is answered and of the strings in it.
+/// Divides the strings of three roles, in any order and with duplicates, into the four sections of a dictionary. Time
+/// is that of sorting the strings; memory that of the result.
 ///
 /// ```text
 /// let parts = split(alloc, &subjects, &predicates, &objects)?;

@@ -1,4 +1,4 @@
-//! The strings of a role, given one after another.
+//! An iteration over the strings of a role.
 ghost use Rattle.std.specs.Prelude.{◌≡◌, ◌≤◌, [], IsOk, OnOk, OnErr, IfOk};
 ghost use Rattle.hdt_front.specs.Searching.{agreed};
 ghost use Rattle.hdt_dict.specs.Dictionary.{strings_in, sections_of};
@@ -11,7 +11,7 @@ use hdt_wire::Role;
 use std::alloc::{AllocError, Global};
 use std::marker::Model;
 
-/// The strings of a role that are still to come, in the order of their numbers, each unfolded once from the one before.
+/// An iteration over the strings of a role in the order of their IDs, each decoded once, over the previous one.
 ///
 /// ```text
 /// let mut strings = dictionary.strings(alloc, Role::Subject);
@@ -45,7 +45,7 @@ impl<'a> Strings<'a> {
     ghost use Rattle.hdt_front.specs.Strings.{strings_of};
     ghost use Rattle.hdt_dict.specs.Following.{following};
 
-    /// A walk before the first string of a section, which goes on with another one.
+    /// An iteration over the strings of a section, and then those of another one.
     #[tactic(auto, using(crate::proofs::Steps::starts))]
     fn over(alloc: Global, first: &Section<'a>, then: Option<Section<'a>>) -> Strings<'a>
         requires { length (strings_of first.now ++ following then) < 2 ^ 64 }
@@ -59,15 +59,14 @@ impl<'a> Strings<'a> {
         }
     }
 
-    /// The string that was given last; none yet: empty.
+    /// Returns the last string, or nothing if there is none yet.
     pub fn last(&self) -> &[u8]
         ensures { result.now ≡ self.now.last }
     {
         self.walk.last()
     }
 
-    /// Unfolds the next string, and answers its number; at the end None, which takes no memory. Where memory is refused,
-    /// nothing moves.
+    /// Decodes the next string and returns its ID, or `None` at the end. If memory runs out, nothing changes.
     pub fn next(&mut self) -> Result<Option<u64>, AllocError>
         ensures number { IfOk result (λ r. r ≡ next_number self.old self.old.ahead) }
         ensures ok { OnOk result (self.new ≡ stepped self.old) }
@@ -78,9 +77,9 @@ impl<'a> Strings<'a> {
         Ok(number)
     }
 
-    /// Unfolds the next string as [`next`](Strings::next), and answers with its number how many bytes at its front it keeps
-    /// of the string that was given before: it agrees with that so far at least. At the end, and where a section begins, that
-    /// is 0. Time is in proportion to the bytes that it doesn't keep.
+    /// Decodes the next string as [`next`](Strings::next) does, and returns also how many bytes its entry shares with
+    /// the previous string: a lower bound of their common prefix. That is 0 at the end, and where a section begins.
+    /// Linear time in the bytes that it doesn't share.
     pub fn next_kept(&mut self) -> Result<(Option<u64>, usize), AllocError>
         ensures number { IfOk result (λ r. r.0 ≡ next_number self.old self.old.ahead) }
         ensures kept { IfOk result (λ r. r.1 ≤ agreed self.old.last self.new.last) }
@@ -110,7 +109,7 @@ impl<'a> Strings<'a> {
 }
 
 impl<'a> Dictionary<'a> {
-    /// The strings of a role, to be given one after another in the order of their numbers. It takes no memory yet.
+    /// Returns an iteration over the strings of a role, in the order of their IDs. It allocates nothing yet.
     #[tactic(auto, unfolding(crate::specs::Views::dictionary_of, hdt_front::specs::Strings::section_of))]
     pub fn strings(&self, alloc: Global, role: Role) -> Strings<'a>
         ensures { result ≡ record { given = 0; last = []; ahead = strings_in (sections_of (dictionary_of self.now)) role } }

@@ -1,4 +1,4 @@
-//! Writing a dictionary, in its canonical form.
+//! Writing a dictionary in canonical form.
 ghost use Rattle.std.specs.Prelude.{◌≡◌, ◌≤◌, ◌++◌, length, OnOk, OnErr};
 ghost use Rattle.hdt_wire.specs.Control.{Keeps};
 ghost use Rattle.hdt_dict.specs.Dictionary.{IsDictionary, FourLists};
@@ -10,7 +10,7 @@ use hdt_front::{SectionWriter, lent_strings, put_lent_section};
 use hdt_wire::{Kind, cut_on_error, put_control};
 use std::alloc::{AllocError, Global};
 
-/// Appends a dictionary; an `Err` may leave a beginning of it behind.
+/// Appends a dictionary; an error may leave its first bytes.
 #[tactic(auto, using(crate::specs::Laws::Writing::mapping_no_zero), unfolding(crate::specs::Writing::canonical_dictionary, crate::specs::Split::lent_lists_of))]
 fn append_dictionary(
     alloc: Global,
@@ -31,7 +31,7 @@ fn append_dictionary(
     Ok(())
 }
 
-/// Appends the canonical dictionary of lent strings, as [`put_dictionary`] does.
+/// Appends the canonical dictionary of borrowed strings, as [`put_dictionary`] does.
 pub fn put_lent_dictionary(
     alloc: Global,
     parts: &LentParts<'_>,
@@ -49,12 +49,12 @@ pub fn put_lent_dictionary(
     cut_on_error(appended, start, out)
 }
 
-/// Appends the canonical dictionary of four sections: the control block with the property `mapping=1;`, and the
-/// sections shared, subjects, predicates and objects, each in blocks of so many strings with the longest common
-/// prefixes. Where memory is refused, `out` is as it was.
+/// Appends the canonical dictionary of four sections: control information with the property `mapping=1;`, and the
+/// sections shared, subjects, predicates and objects, with so many strings a block and the longest shared prefixes. If
+/// memory runs out, `out` is unchanged. Linear time.
 ///
-/// The caller shows that each list strictly ascends and holds UTF-8 strings without zero bytes, and that no string
-/// stands in two of shared, subjects and objects: what `split` gives of such strings.
+/// The strings of each list must be UTF-8 without zero bytes and strictly ascend, and none may be in two of shared,
+/// subjects and objects: as [`split`](crate::split) returns them.
 #[tactic(auto, unfolding(crate::specs::Split::lent_lists_of, crate::specs::Split::lists_of))]
 pub fn put_dictionary(
     alloc: Global,
@@ -65,7 +65,7 @@ pub fn put_dictionary(
     requires sections { AreSections (lists_of parts.now) }
     requires block { 1 ≤ block_size }
     ensures ok { OnOk result (out.new.items ≡ out.old.items ++ canonical_dictionary block_size (lists_of parts.now)) }
-    // What was written stands there, and is read again.
+    // It is read back.
     ensures dictionary { OnOk result (IsDictionary (canonical_dictionary_parts block_size (lists_of parts.now) (length out.old.items)) out.new.items (length out.old.items)) }
     ensures err { OnErr result (out.new.items ≡ out.old.items) }
 {
@@ -78,7 +78,7 @@ pub fn put_dictionary(
     put_lent_dictionary(alloc, &lent, block_size, out)
 }
 
-/// Appends a dictionary of sections in work; an `Err` may leave a beginning of it behind.
+/// Appends a dictionary of section writers; an error may leave its first bytes.
 #[tactic(auto, using(crate::specs::Laws::Writing::mapping_no_zero))]
 fn append_written(
     shared: SectionWriter,
@@ -101,7 +101,7 @@ fn append_written(
 }
 
 /// Appends the canonical dictionary of four sections that were written string by string, as [`put_dictionary`] does.
-/// Their blocks are of one size. Each writer is let go once its section stands.
+/// They must have the same block size. Each writer is freed once its section is written.
 pub fn put_written_dictionary(
     shared: SectionWriter,
     subjects: SectionWriter,

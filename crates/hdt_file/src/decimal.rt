@@ -4,7 +4,7 @@ ghost use Rattle.std.specs.Char.{digit_value};
 ghost use Rattle.std.specs.Option.{SomeIff};
 ghost use Rattle.hdt_file.specs.Decimal.{decimal_number};
 
-/// The value after one more digit; none where the byte is no digit or the value would not be below 2^64.
+/// The value after one more digit, or `None` if the byte is not a digit or the value would be 2^64 or more.
 fn with_digit(value: u64, byte: u8) -> Option<u64>
     ensures { SomeIff result ((digit_value byte < 10) × (value * 10 + digit_value byte < 2 ^ 64)) (value * 10 + digit_value byte) }
 {
@@ -14,7 +14,7 @@ fn with_digit(value: u64, byte: u8) -> Option<u64>
     value.checked_mul(10)?.checked_add(u64::from(byte - b'0'))
 }
 
-/// The number below 2^64 that the text spells in decimal: one digit or more, leading zeros allowed.
+/// The decimal number of a text, below 2^64: one digit or more, leading zeros allowed.
 pub fn decimal(text: &[u8]) -> Option<u64>
     ensures { result ≡ decimal_number text.now }
 {

@@ -1,4 +1,4 @@
-//! The front of a file: its head, and the dictionary after it.
+//! Reading the head of a file and its dictionary.
 ghost use Rattle.std.specs.Prelude.{◌≡◌, ◌≤◌, ℕ, List, ◌<◌, ◌^◌, length, Ok, IfOk};
 ghost use Rattle.hdt_wire.specs.Rows.{Gives, IsBytes};
 ghost use Rattle.hdt_wire.specs.Exact.{Exactly};
@@ -13,7 +13,7 @@ use crate::head::{Head, read_head};
 use hdt_dict::Dictionary;
 use std::alloc::Global;
 
-/// Reads by rows.
+/// Reads head and dictionary, check by check.
 #[tactic(auto, unfolding(crate::specs::Dictionary::dictionary_after_head))]
 fn read_rows<'a>(
     alloc: Global,
@@ -28,11 +28,14 @@ fn read_rows<'a>(
     Ok((head, dictionary, end))
 }
 
-/// Reads the head at the front of a file and the dictionary after it, and answers them with the place after the
-/// dictionary. What follows isn't looked at.
+/// Reads the head of a file and its dictionary. Returns them with the byte offset after the dictionary. What follows is
+/// not read.
 ///
-/// It costs time in proportion to the bytes up to that place. Faults, in the order of the rows: those of `read_head`,
-/// then those of `Dictionary::read` at the head's end.
+/// Linear time in the bytes up to that offset.
+///
+/// # Errors
+///
+/// Those of [`read_head`](crate::read_head), then those of `Dictionary::read`.
 ///
 /// ```text
 /// let (head, dictionary, end) = read_dictionary(alloc, bytes)?;
@@ -42,11 +45,11 @@ pub fn read_dictionary<'a>(
     alloc: Global,
     bytes: &'a [u8],
 ) -> Result<(Head<'a>, Dictionary<'a>, usize), OpenFault>
-    // What is read stands at the front.
+    // What is returned is encoded at the start of the file.
     ensures found { IfOk result (λ r. IsHeadAndDictionary (described r) bytes.now) }
-    // What stands there is read, unless memory ran out.
+    // Whatever is encoded there is returned, unless memory ran out.
     ensures only { (front : HeadAndDictionary) → IsHeadAndDictionary front bytes.now → Gives open_fault_of described result (Ok front) }
-    // Otherwise it is the one fault that stands.
+    // Otherwise it is the first error.
     ensures exact { Gives open_fault_of described result (dictionary_after_head bytes.now) }
     ensures next { IfOk result (λ r. r.2 ≡ (dictionary_of r.1).objects.end) }
     // A role has at most as many strings as the input has bytes.
@@ -55,7 +58,7 @@ pub fn read_dictionary<'a>(
     read_rows(alloc, bytes)
 }
 
-/// The rows of the front of a file answer exactly what stands there.
+/// The checks of head and dictionary give exactly those that are encoded at the start of the file.
 pub fn fronts_are_exact()
     ensures { (bytes : List ℕ) → IsBytes bytes → length bytes < 2 ^ 64 → Exactly (dictionary_after_head bytes) (λ front. IsHeadAndDictionary front bytes) }
 {}

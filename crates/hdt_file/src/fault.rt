@@ -1,4 +1,4 @@
-//! Why a file could not be opened, or its text not be written.
+//! The errors of opening a file, and of writing its text.
 ghost use Rattle.std.specs.Prelude.{◌≡◌};
 ghost use Rattle.hdt_file.specs.Faults.{of_part};
 ghost use Rattle.hdt_file.specs.declared.fault.OpenFault.TheVariants as opens;
@@ -9,14 +9,13 @@ use hdt_front::ReadFault;
 use std::alloc::{AllocError, AllocFailed};
 use thiserror::Error;
 
-/// Why a file, or the front of one, could not be opened.
+/// Why a file, or its dictionary, could not be read.
 #[derive(Clone, Copy, Debug, PartialEq, Eq, Error)]
 pub enum OpenFault {
-    /// The file has this fault, and the first of all that it has: it is not a file of the format, or not one that is
-    /// taken here. Another try gives the same answer.
+    /// The file is not valid: this is its first error. Reading it again gives the same result.
     #[error("the file has a fault: {0}")]
     Fault(hdt_wire::Fault),
-    /// Memory was refused; nothing is said of the file. With more memory the call may be made again.
+    /// Memory ran out; nothing is known of the file. With more memory the call can be repeated.
     #[error("out of memory")]
     OutOfMemory,
 }
@@ -40,17 +39,17 @@ impl From<ReadFault> for OpenFault {
     }
 }
 
-/// Why the text of a graph's triples was not written, or not whole.
+/// Why the text of a graph's triples was not written, or not completely.
 #[derive(Clone, Copy, Debug, PartialEq, Eq, Error)]
 pub enum DumpFault {
-    /// The string of this role with this number, from 1, is no term of the role: the first such string of the first such
-    /// triple, in the order subject, predicate, object. Nothing was written.
+    /// The string of this role with this ID, from 1, is not a term that the role allows: the first such string of the
+    /// first such triple, in the order subject, predicate, object. Nothing was written.
     #[error("a string that is not a term: {0:?} {1}")]
     NotATerm(Role, u64),
-    /// The writer failed after it had taken so many bytes of the text.
+    /// The writer failed after this number of bytes of the text.
     #[error("writing failed after {0} bytes")]
     Write(u64),
-    /// Memory was refused, and nothing was written. With more memory the call may be made again.
+    /// Memory ran out, and nothing was written. With more memory the call can be repeated.
     #[error("out of memory")]
     OutOfMemory,
 }

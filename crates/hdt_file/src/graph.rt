@@ -11,8 +11,8 @@ use hdt_seq::Steps;
 use hdt_triples::ListedTriples;
 use std::alloc::{AllocError, Global};
 
-/// A file that was opened: it borrows the input, and answers by it. Beside the input it keeps the directories and the
-/// lists of its triples, and nothing else. `crates/example` is a program that uses it.
+/// An open file. It borrows the input, and keeps only the indexes of its triples: [`Graph::held`] numbers of 8 bytes.
+/// `crates/example` is a program that uses it.
 ///
 /// ```text
 /// let graph = open(alloc, bytes)?;
@@ -30,8 +30,9 @@ pub struct Graph<'a> {
 
 #[tactic(auto, unfolding(crate::specs::Views::graph_seen))]
 impl<'a> Graph<'a> {
-    ghost use Rattle.std.specs.Prelude.{◌∷◌, ◌↔◌, ◌≤◌, ◌+◌, [], Some, None, IsOk, OnErr, IsTrue};
+    ghost use Rattle.std.specs.Prelude.{◌∷◌, ◌↔◌, ◌≤◌, ◌+◌, ◌*◌, [], Some, None, IsOk, OnErr, IsTrue};
     ghost use Rattle.hdt_front.specs.Numbering.{place};
+    ghost use Rattle.hdt_dict.specs.Many.{AppendsAll, AreNumbers, AscendTo};
     ghost use Rattle.hdt_dict.specs.Numbered.{numbered, AppendsString};
     ghost use Rattle.hdt_triples.specs.Uses.{Uses};
     ghost use Rattle.hdt_file.specs.Graph.{IsGraph};
@@ -42,9 +43,9 @@ impl<'a> Graph<'a> {
     ghost use Rattle.hdt_file.specs.Views.{graph_seen};
     ghost use Rattle.hdt_dict.specs.Dictionary.{strings_in};
 
-    /// The law that this is a graph: sections of ascending UTF-8 strings without zero bytes, no string in two of shared,
-    /// subjects and objects, and at least one triple; the triples strictly ascend, and each number is that of a string of its
-    /// role.
+    /// The law that this is a graph: the strings of each section are UTF-8 without zero bytes and ascend, no string is
+    /// in two of shared, subjects and objects, there is at least one triple, the triples strictly ascend, and each ID
+    /// is that of a string of its role.
     #[tactic(auto, unfolding(crate::specs::Views::graph_seen))]
     pub fn is_graph(&self)
         ensures { IsGraph (graph_seen self.now) }
@@ -52,14 +53,14 @@ impl<'a> Graph<'a> {
         self.dictionary.are_sections();
     }
 
-    /// The header body: triples about the file, as N-Triples, which are not looked at. It is lent from the input.
+    /// Returns the header body, borrowed from the input: N-Triples about the file, which are not parsed.
     pub fn header(&self) -> &'a [u8]
         ensures { result.now ≡ (graph_seen self.now).header }
     {
         self.head.body()
     }
 
-    /// The same file without the directories and the lists.
+    /// Returns the same file without indexes.
     #[tactic(auto, unfolding(crate::specs::Views::graph_seen, crate::specs::LayoutView::layout_seen, crate::specs::PartsViews::graph_parts, crate::specs::PartsViews::layout_parts))]
     pub fn layout(&self) -> Layout<'a>
         ensures seen { layout_seen result ≡ graph_seen self.now }
@@ -72,14 +73,14 @@ impl<'a> Graph<'a> {
         }
     }
 
-    /// How many triples there are.
+    /// Returns the number of triples.
     pub fn len(&self) -> u64
         ensures { result ≡ length (graph_seen self.now).triples }
     {
         self.triples.triples().len()
     }
 
-    /// How many strings each section has: shared, subjects, predicates, objects.
+    /// Returns the number of strings of each section: shared, subjects, predicates, objects.
     #[tactic(auto, unfolding(crate::specs::Views::graph_seen, hdt_dict::specs::Views::dictionary_of))]
     pub fn section_lens(&self) -> [u64; 4]
         ensures { result ≡ length (graph_seen self.now).dictionary.shared ∷ length (graph_seen self.now).dictionary.subjects ∷ length (graph_seen self.now).dictionary.predicates ∷ length (graph_seen self.now).dictionary.objects ∷ [] }
@@ -87,7 +88,7 @@ impl<'a> Graph<'a> {
         self.dictionary.section_lens()
     }
 
-    /// How many numbers of 8 bytes the graph keeps beside the input.
+    /// Returns how many numbers of 8 bytes the graph keeps beside the input.
     #[tactic(auto, unfolding(crate::specs::PartsViews::graph_parts))]
     pub fn held(&self) -> u128
         ensures { result ≡ held_by (graph_parts self.now) }
@@ -104,22 +105,21 @@ impl<'a> Graph<'a> {
         triples.held()
     }
 
-    /// How many strings a role has.
+    /// Returns the number of strings of a role. Their IDs are 1 to this number.
     pub fn count(&self, role: Role) -> u64
         ensures { result ≡ length (strings_in (graph_seen self.now).dictionary role) }
     {
         self.dictionary.count(role)
     }
 
-    /// A walk over the strings of a role in the order of their numbers, each unfolded once.
+    /// Returns an iteration over the strings of a role, in the order of their IDs, each decoded once.
     pub fn strings(&self, alloc: Global, role: Role) -> Strings<'a>
         ensures { result ≡ record { given = 0; last = []; ahead = strings_in (graph_seen self.now).dictionary role } }
     {
         self.dictionary.strings(alloc, role)
     }
 
-    /// Whether a triple has the number n, from 1, in the role: one that no string of the role has isn't used. It takes two
-    /// looks at most, and no memory.
+    /// Returns whether a triple has the ID n, from 1, in the role. At most two steps.
     pub fn uses(&self, role: Role, n: u64, steps: &mut Steps) -> bool
         ensures exact { IsTrue result ↔ Uses (graph_seen self.now).triples role n }
         ensures cost { steps.new ≤ steps.old + 2 }
@@ -127,8 +127,8 @@ impl<'a> Graph<'a> {
         self.triples.uses(role, n, steps)
     }
 
-    /// The number of a string in a role, from 1; None where the role has no such string. It takes no memory, and
-    /// halves the blocks of the role's sections.
+    /// Returns the ID of a string in a role, from 1, or `None` if the role has no such string. A binary search over the
+    /// blocks of the role's sections, then a scan of a block.
     #[tactic(auto, unfolding(crate::specs::Views::graph_seen, crate::specs::PartsViews::graph_parts))]
     pub fn number_of(&self, role: Role, x: &[u8], steps: &mut Steps) -> Option<u64>
         ensures exact { (n : ℕ) → (result ≡ Some n) ↔ (numbered (strings_in (graph_seen self.now).dictionary role) n ≡ Some x.now) }
@@ -138,8 +138,8 @@ impl<'a> Graph<'a> {
         self.dictionary.number_of(role, x, steps)
     }
 
-    /// Appends string n of a role, numbers from 1: true; or false where there is none, with `out` unchanged. Where
-    /// memory is refused, `out` is as it was. It unfolds the string from the head of its block.
+    /// Appends the string of a role with ID n, from 1, and returns true; or returns false if there is none, with `out`
+    /// unchanged. If memory runs out, `out` is unchanged. It decodes the block of the string up to the string.
     #[tactic(auto, unfolding(crate::specs::Views::graph_seen, crate::specs::PartsViews::graph_parts))]
     pub fn string_of(
         &self,
@@ -155,5 +155,32 @@ impl<'a> Graph<'a> {
         ensures more { steps.old ≤ steps.new }
     {
         self.dictionary.string_of(role, n, out, steps)
+    }
+
+    /// Appends the strings of many numbers of a role, from 1, one after another, and to `ends` where each of them ends, in
+    /// bytes from the start of `out`: true; or false where one of the numbers is that of no string, which is the first one
+    /// that is 0 or above [`count`](Graph::count), with `out` and `ends` unchanged. Where memory is refused, both are as they were.
+    ///
+    /// Each string takes at most as many looks as [`string_of`](Graph::string_of). Where the numbers ascend, repeats
+    /// allowed, each block is unfolded once: all strings together take at most as many looks as the last number.
+    #[tactic(auto, unfolding(crate::specs::Views::graph_seen, crate::specs::PartsViews::graph_parts))]
+    pub fn strings_of(
+        &self,
+        alloc: Global,
+        role: Role,
+        numbers: &[u64],
+        out: &mut Vec<u8>,
+        ends: &mut Vec<u64>,
+        steps: &mut Steps,
+    ) -> Result<bool, AllocError>
+        ensures ok { IfOk result (λ all. AppendsAll (strings_in (graph_seen self.now).dictionary role) numbers.now all out.old.items out.new.items ends.old.items ends.new.items) }
+        ensures err { OnErr result ((out.new.items ≡ out.old.items) × (ends.new.items ≡ ends.old.items)) }
+        ensures cost { steps.new ≤ steps.old + length numbers.now * role_block (dictionary_in (graph_parts self.now)) role }
+        ensures once { (n : ℕ) → AscendTo numbers.now n → steps.new ≤ steps.old + n }
+        ensures more { steps.old ≤ steps.new }
+        ensures absent { (AreNumbers (strings_in (graph_seen self.now).dictionary role) numbers.now → ⊥) → IsOk result }
+    {
+        self.dictionary
+            .strings_of(alloc, role, numbers, out, ends, steps)
     }
 }

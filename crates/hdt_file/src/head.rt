@@ -1,4 +1,4 @@
-//! The head of a file: the global block, the header block and the header body.
+//! The head of a file: global control information, that of the header, and the header body.
 ghost use Rattle.std.specs.Prelude.{◌≡◌, ℕ, List, ◌<◌, ◌^◌, length, Ok, IfOk};
 ghost use Rattle.hdt_wire.specs.Rows.{Reads, IsBytes};
 ghost use Rattle.hdt_wire.specs.Control.{block_of};
@@ -7,7 +7,7 @@ ghost use Rattle.hdt_file.specs.Head.{HeadParts, parts_of, length_in, body_lengt
 use crate::decimal::decimal;
 use hdt_wire::{Control, Fault, Kind, Reason, bytes_at, property, read_control};
 
-/// The head of a file that was read: its blocks and its body are lent from the input.
+/// The head of a file that was read. It borrows from the input.
 #[derive(Clone, Copy)]
 pub struct Head<'a> {
     global: Control<'a>,
@@ -22,28 +22,28 @@ impl<'a> Head<'a> {
     ghost use Rattle.hdt_wire.specs.Control.{block_of};
     ghost use Rattle.hdt_file.specs.Head.{parts_of};
 
-    /// The control block of the whole file.
+    /// Returns the global control information.
     pub fn global(&self) -> Control<'a>
         ensures { block_of result ≡ (parts_of self.now).global }
     {
         self.global
     }
 
-    /// The control block of the header.
+    /// Returns the control information of the header.
     pub fn header(&self) -> Control<'a>
         ensures { block_of result ≡ (parts_of self.now).header }
     {
         self.header
     }
 
-    /// The header body: triples about the file, as N-Triples, which are not looked at here.
+    /// Returns the header body: N-Triples about the file, which are not parsed.
     pub fn body(&self) -> &'a [u8]
         ensures { result.now ≡ (parts_of self.now).body }
     {
         self.body
     }
 
-    /// The place after the header body, in bytes from the start of the input.
+    /// Returns the byte offset after the header body in the input.
     pub fn end(&self) -> usize
         ensures { result ≡ (parts_of self.now).end }
     {
@@ -51,7 +51,7 @@ impl<'a> Head<'a> {
     }
 }
 
-/// The length that a header's property text states.
+/// The value of the property `length` of a header.
 #[tactic(auto, unfolding(crate::specs::Head::length_in))]
 fn length_in(properties: &[u8]) -> Option<u64>
     ensures { result ≡ length_in properties.now }
@@ -59,7 +59,7 @@ fn length_in(properties: &[u8]) -> Option<u64>
     decimal(property(properties, b"length")?)
 }
 
-/// How many bytes the body has, by the header's property `length`.
+/// The length of the header body in bytes, by the property `length`.
 fn body_length(header: &Control<'_>) -> Result<u64, Fault>
     ensures { result ≡ body_length (block_of header.now) }
 {
@@ -69,7 +69,7 @@ fn body_length(header: &Control<'_>) -> Result<u64, Fault>
     })
 }
 
-/// Reads by rows.
+/// Reads the head, check by check.
 #[tactic(auto, unfolding(crate::specs::Head::head_at_start, crate::specs::Head::parts_of))]
 fn read_rows<'a>(bytes: &'a [u8]) -> Result<Head<'a>, Fault>
     ensures exact { Reads parts_of result (head_at_start bytes.now) }
@@ -86,23 +86,25 @@ fn read_rows<'a>(bytes: &'a [u8]) -> Result<Head<'a>, Fault>
     })
 }
 
-/// Reads the head at the front of a file. What follows the header body is not looked at.
+/// Reads the head of a file. What follows the header body is not read. Linear time in the control information.
 ///
-/// Faults, in the order of the rows: those of the global block, those of the header block, `HeaderLength` at the
-/// start of the header's property text where its property `length` is no decimal number below 2^64, `Truncated` at
-/// the start of the body where fewer bytes are left.
+/// # Errors
+///
+/// The first of these, in this order: those of the global control information, those of the header's, `HeaderLength` at
+/// the offset of the header's properties if `length` is not a decimal number below 2^64, `Truncated` at the offset of
+/// the body if there are fewer bytes.
 pub fn read_head<'a>(bytes: &'a [u8]) -> Result<Head<'a>, Fault>
-    // What is read stands at the front, spelled so.
+    // What is returned is encoded at the start of the file.
     ensures found { IfOk result (λ head. IsHead (parts_of head) bytes.now) }
-    // What is spelled so and stands there is read.
+    // Whatever is encoded there is returned.
     ensures only { (head : HeadParts) → IsHead head bytes.now → Reads parts_of result (Ok head) }
-    // Otherwise it is the one fault that stands.
+    // Otherwise it is the first error.
     ensures exact { Reads parts_of result (head_at_start bytes.now) }
 {
     read_rows(bytes)
 }
 
-/// Bytes, fewer than 2^64, have at most one head at their front.
+/// Fewer than 2^64 bytes have at most one head at their start.
 pub fn one_head()
     ensures { (bytes : List ℕ) (a b : HeadParts) → IsBytes bytes → length bytes < 2 ^ 64
         → IsHead a bytes → IsHead b bytes → a ≡ b }

@@ -1,4 +1,4 @@
-//! A whole file as it lies in its bytes, with nothing kept beside them.
+//! A file without indexes.
 ghost use Rattle.std.specs.Prelude.{◌≡◌, ℕ, length, IfOk, Ok};
 ghost use Rattle.hdt_dict.specs.Views.{dictionary_of};
 ghost use Rattle.hdt_triples.specs.CountsView.{counts_seen};
@@ -14,9 +14,9 @@ use hdt_triples::{Counts, Matches, Pattern, Triples};
 use hdt_wire::{Reason, demand};
 use std::alloc::{AllocError, Global};
 
-/// A file that was read, as it lies in its bytes: it borrows the input and keeps nothing beside it, so it is copied for
-/// nothing. It answers what a [`crate::Graph`] answers; a search walks over all triples. For one look at a file it is the
-/// faster way, as nothing is grown; who searches often opens the file ([`crate::open`]).
+/// A file that was read, without indexes. It borrows the input and keeps nothing else, so copies are cheap. Its calls
+/// return the same as those of a [`crate::Graph`], but a search scans all triples. For a single request this is faster,
+/// as no index is built; for more, open the file ([`crate::open`]).
 ///
 /// ```text
 /// let layout = Layout::read(alloc, bytes)?;
@@ -31,7 +31,7 @@ pub struct Layout<'a> {
     ghost roles: { roles_of triples ≡ counts_in (dictionary_of dictionary) },
 }
 
-/// How many strings each role of a dictionary has.
+/// The number of strings of each role of a dictionary.
 fn counts_in(dictionary: &Dictionary<'_>) -> Counts
     ensures { counts_seen result ≡ counts_in (dictionary_of dictionary.now) }
 {
@@ -61,7 +61,7 @@ impl<'a> Layout<'a> {
     ghost use Rattle.hdt_file.specs.Views.{lens_of};
     ghost use Rattle.hdt_dict.specs.Dictionary.{strings_in};
 
-    /// Reads by rows.
+    /// Reads a file, check by check.
     #[tactic(auto, unfolding(crate::specs::Laws::Parts::parts_rows, crate::specs::PartsViews::layout_parts))]
     fn read_rows(alloc: Global, bytes: &'a [u8]) -> Result<Layout<'a>, OpenFault>
         ensures { Gives open_fault_of layout_parts result (parts_rows bytes.now) }
@@ -76,22 +76,21 @@ impl<'a> Layout<'a> {
         })
     }
 
-    /// Reads a whole file: what its bytes lay out, or the first fault that stands in them, as [`crate::open`] does. It
-    /// reads the bytes once, from front to back, in time in proportion to them, and grows nothing that stays.
+    /// Reads a file, or returns its first error, as [`crate::open`] does. Linear time in the bytes; it keeps nothing.
     pub fn read(alloc: Global, bytes: &'a [u8]) -> Result<Layout<'a>, OpenFault>
-        // The bytes are a layout of the graph that is answered.
+        // The bytes are a layout of the graph that is returned.
         ensures found { IfOk result (λ layout. IsLayout bytes.now (layout_seen layout)) }
-        // The graph of any layout of these bytes is answered, unless memory ran out.
+        // If the bytes are a layout of a graph, it is returned, unless memory ran out.
         ensures only { (graph : GraphParts) → IsLayout bytes.now graph → Gives open_fault_of layout_seen result (Ok graph) }
-        // Otherwise it is the one fault that stands.
+        // Otherwise it is the first error.
         ensures exact { Gives open_fault_of layout_seen result (graph_in bytes.now) }
-        // Its parts lie where the bytes have them.
+        // Its parts are those of the bytes.
         ensures parts { Gives open_fault_of layout_parts result (parts_in bytes.now) }
     {
         Layout::read_rows(alloc, bytes)
     }
 
-    /// How many triples there are, and how many strings each section has: shared, subjects, predicates, objects.
+    /// Returns the number of triples, and of the strings of each section: shared, subjects, predicates, objects.
     #[tactic(auto, unfolding(crate::specs::LayoutView::layout_seen, hdt_dict::specs::Views::dictionary_of))]
     pub fn lens(&self) -> [u64; 5]
         ensures { result ≡ lens_of (layout_seen self.now) }
@@ -100,29 +99,29 @@ impl<'a> Layout<'a> {
         [self.triples.len(), shared, subjects, predicates, objects]
     }
 
-    /// The header body: triples about the file, as N-Triples, which are not looked at. It is lent from the input.
+    /// Returns the header body, borrowed from the input: N-Triples about the file, which are not parsed.
     pub fn header(&self) -> &'a [u8]
         ensures { result.now ≡ (layout_seen self.now).header }
     {
         self.head.body()
     }
 
-    /// How many strings a role has.
+    /// Returns the number of strings of a role. Their IDs are 1 to this number.
     pub fn count(&self, role: Role) -> u64
         ensures { result ≡ length (strings_in (layout_seen self.now).dictionary role) }
     {
         self.dictionary.count(role)
     }
 
-    /// A walk over the strings of a role in the order of their numbers, each unfolded once.
+    /// Returns an iteration over the strings of a role, in the order of their IDs, each decoded once.
     pub fn strings(&self, alloc: Global, role: Role) -> Strings<'a>
         ensures { result ≡ record { given = 0; last = []; ahead = strings_in (layout_seen self.now).dictionary role } }
     {
         self.dictionary.strings(alloc, role)
     }
 
-    /// The number of a string in a role, from 1; None where the role has no such string. It takes no memory, and
-    /// halves the blocks of the role's sections.
+    /// Returns the ID of a string in a role, from 1, or `None` if the role has no such string. A binary search over the
+    /// blocks of the role's sections, then a scan of a block.
     #[tactic(auto, unfolding(crate::specs::LayoutView::layout_seen, crate::specs::PartsViews::layout_parts))]
     pub fn number_of(&self, role: Role, x: &[u8], steps: &mut Steps) -> Option<u64>
         ensures exact { (n : ℕ) → (result ≡ Some n) ↔ (numbered (strings_in (layout_seen self.now).dictionary role) n ≡ Some x.now) }
@@ -132,8 +131,8 @@ impl<'a> Layout<'a> {
         self.dictionary.number_of(role, x, steps)
     }
 
-    /// Appends string n of a role, numbers from 1: true; or false where there is none, with `out` unchanged. Where
-    /// memory is refused, `out` is as it was. It unfolds the string from the head of its block.
+    /// Appends the string of a role with ID n, from 1, and returns true; or returns false if there is none, with `out`
+    /// unchanged. If memory runs out, `out` is unchanged. It decodes the block of the string up to the string.
     #[tactic(auto, unfolding(crate::specs::LayoutView::layout_seen, crate::specs::PartsViews::layout_parts))]
     pub fn string_of(
         &self,
@@ -151,7 +150,7 @@ impl<'a> Layout<'a> {
         self.dictionary.string_of(role, n, out, steps)
     }
 
-    /// The number of a string in a role, or any where none is given; None where the role has no such string.
+    /// The ID of a string in a role, or any if no string is given; `None` if the role has no such string.
     fn part(&self, role: Role, given: Option<&[u8]>, steps: &mut Steps) -> Option<Option<u64>>
         ensures exact { (n : Option ℕ) → (result ≡ Some n) ↔ IsPart (strings_in (layout_seen self.now).dictionary role) given.entry n }
         ensures cost { steps.new ≤ steps.old + part_looks (dictionary_in (layout_parts self.now)) role given.entry }
@@ -163,10 +162,10 @@ impl<'a> Layout<'a> {
         }
     }
 
-    /// The pattern of the numbers of strings: subject, predicate, object, each in its role; None where one of them isn't
-    /// a string of its role. Each is looked up once, and it takes no memory.
+    /// Returns the pattern with the IDs of the strings that are given, each in its role, or `None` if one of them is
+    /// not a string of its role. Each is looked up once.
     pub fn pattern(&self, given: [Option<&[u8]>; 3], steps: &mut Steps) -> Option<Pattern>
-        // It is p exactly where p has the numbers of the strings that are given.
+        // It is p exactly if p has the IDs of the strings that are given.
         ensures exact { (p : Pattern) → (result ≡ Some p) ↔ IsPattern (layout_seen self.now) given.entry p }
         ensures cost { steps.new ≤ steps.old + given_looks (dictionary_in (layout_parts self.now)) given.entry }
         ensures more { steps.old ≤ steps.new }
@@ -179,8 +178,8 @@ impl<'a> Layout<'a> {
         })
     }
 
-    /// The triples that agree with each number that the pattern gives: exactly those, once each, in the order of the
-    /// file's triples. It takes no memory, and walks over all triples, with four looks a triple at most.
+    /// Finds the matches of a pattern: exactly the triples with each ID that is given, once each, in the order of the
+    /// file. It scans all triples, in at most four steps each, and allocates nothing.
     pub fn search(&self, pattern: Pattern) -> Matches<'a>
         ensures items { left_of result ≡ matches pattern (layout_seen self.now).triples }
         ensures fits { length (left_of result) < 2 ^ 64 }
@@ -202,8 +201,8 @@ impl<'a> Layout<'a> {
         self.triples.matching_up_to(pattern, most, steps)
     }
 
-    /// How many triples agree with each number that the pattern gives: as many as [`Layout::search`] gives. It takes no
-    /// memory, and walks over all triples, with four looks a triple at most; where nothing is given it takes none.
+    /// Returns the number of matches of a pattern. It scans all triples, in at most four steps each, unless nothing is
+    /// given, and allocates nothing.
     #[tactic(auto, unfolding(crate::specs::LayoutView::layout_seen, crate::specs::PartsViews::layout_parts))]
     pub fn matching(&self, pattern: Pattern, steps: &mut Steps) -> u64
         ensures is { result ≡ length (matches pattern (layout_seen self.now).triples) }

@@ -1,10 +1,10 @@
-//! An HDT file (HDT format version 1), from its first byte on: the head (the global block, the header block and the
-//! header body), the dictionary, the triples, and nothing after them.
+//! HDT files (HDT format version 1): the head (global control information, that of the header, and the header body),
+//! the dictionary, the triples, and nothing after them.
 //!
-//! The layer's promise: what is read is what the bytes spell, and only that is read; else the one fault that stands
-//! in the file is answered, with its place.
+//! What this crate promises: `open` returns the graph of a file if its bytes are a layout of one, else the first error
+//! with its byte offset. Look-ups and searches return exactly what the graph has.
 //!
-//! A function that says nothing of its cost takes constant time and no memory; laws do nothing when they are called.
+//! Functions that state no cost take constant time and allocate nothing. Laws do nothing when called.
 //!
 //! ```text
 //! let (head, dictionary, end) = read_dictionary(alloc, bytes)?;
@@ -17,7 +17,7 @@
 //!     // each triple of that subject, in order
 //! }
 //!
-//! // one look at a file, for which nothing is grown
+//! // a single request, for which no index is built
 //! let layout = Layout::read(alloc, bytes)?;
 //! let text = layout_text(alloc, &layout, layout.pattern([Some(b"http://a/"), None, None], &mut Steps::new()))?;
 //! ```

@@ -1,4 +1,4 @@
-//! Searching a graph, by numbers and by strings.
+//! Searching a graph, by IDs and by strings.
 ghost use Rattle.std.specs.Prelude.{◌≡◌, ◌↔◌, ◌≤◌, ◌<◌, ◌+◌, ◌-◌, ◌^◌, [], Some, filter, length, min};
 ghost use Rattle.hdt_triples.specs.Bounds.{counting_steps, most_steps, short_counting_steps, short_steps};
 ghost use Rattle.hdt_triples.specs.Left.{left_of, limit_of, short_limit_of};
@@ -16,12 +16,12 @@ use hdt_triples::{Matches, Pattern};
 
 #[tactic(auto, unfolding(crate::specs::Views::graph_seen, crate::specs::PartsViews::graph_parts))]
 impl<'a> Graph<'a> {
-    /// The triples that agree with each number that the pattern gives: exactly those, once each, in the order of the
-    /// file's triples. It takes no memory, and few steps: those of the table.
+    /// Finds the matches of a pattern: exactly the triples with each ID that is given, once each, in the order of the
+    /// file. Its steps are at most those of the table; it allocates nothing.
     pub fn search(&self, pattern: Pattern) -> Matches<'_>
         ensures items { left_of result ≡ matches pattern (graph_seen self.now).triples }
         ensures fits { length (left_of result) < 2 ^ 64 }
-        // The steps of this call and of all its items are at most the table's number.
+        // The steps of this call and of all its items are at most those of the table.
         ensures few { limit_of result ≡ most_steps (bitmap_in (graph_parts self.now)) pattern }
         // And they are at most that of the table of the shorter lists.
         ensures short { short_limit_of result ≤ short_steps (bitmap_in (graph_parts self.now)) pattern }
@@ -56,10 +56,10 @@ impl<'a> Graph<'a> {
         self.triples.matching(pattern, steps)
     }
 
-    /// The pattern of the numbers of strings: subject, predicate, object, each in its role; None where one of them isn't
-    /// a string of its role. Each is looked up once, and it takes no memory.
+    /// Returns the pattern with the IDs of the strings that are given, each in its role, or `None` if one of them is
+    /// not a string of its role. Each is looked up once.
     pub fn pattern(&self, given: [Option<&[u8]>; 3], steps: &mut Steps) -> Option<Pattern>
-        // It is p exactly where p has the numbers of the strings that are given.
+        // It is p exactly if p has the IDs of the strings that are given.
         ensures exact { (p : Pattern) → (result ≡ Some p) ↔ IsPattern (graph_seen self.now) given.entry p }
         ensures cost { steps.new ≤ steps.old + given_looks (dictionary_in (graph_parts self.now)) given.entry }
         ensures more { steps.old ≤ steps.new }
@@ -67,19 +67,20 @@ impl<'a> Graph<'a> {
         self.layout().pattern(given, steps)
     }
 
-    /// The triples that have each string that is given in its role, as [`Graph::search`] gives them; none where a string
-    /// isn't in its role. It takes no memory.
+    /// Finds the triples that have each string that is given in its role, as [`Graph::search`] does; there are none if
+    /// a string is not one of its role. It allocates nothing.
     #[tactic(auto, unfolding(crate::specs::Views::graph_seen, crate::specs::PartsViews::graph_parts, hdt_triples::specs::Left::left_of, hdt_triples::specs::Left::limit_of, hdt_triples::specs::Left::short_limit_of))]
     pub fn find(&self, given: [Option<&[u8]>; 3], steps: &mut Steps) -> Matches<'_>
-        // As triples of strings: exactly those of the denoted graph that have each given string in its role, in order.
+        // As string triples: exactly those of the denoted graph that have each given string in its role, in order.
         ensures answers { denoted (graph_seen self.now) (left_of result) ≡ filter (is_wanted given.entry) (denoted (graph_seen self.now) (graph_seen self.now).triples) }
         // The matches of the pattern of the strings.
         ensures items { (p : Pattern) → IsPattern (graph_seen self.now) given.entry p → left_of result ≡ matches p (graph_seen self.now).triples }
-        // Where a string isn't in its role there are none.
+        // If a string is not one of its role there are none.
         ensures none { ((p : Pattern) → IsPattern (graph_seen self.now) given.entry p → ⊥) → left_of result ≡ [] }
         ensures fits { length (left_of result) < 2 ^ 64 }
         ensures cost { steps.new ≤ steps.old + given_looks (dictionary_in (graph_parts self.now)) given.entry }
-        // The steps of the items are at most the table's number, apart from those of the look-ups; none where there are none.
+        // The steps of the items are at most those of the table, apart from those of the look-ups; none if there are
+        // none.
         ensures few { (p : Pattern) → IsPattern (graph_seen self.now) given.entry p → limit_of result ≡ most_steps (bitmap_in (graph_parts self.now)) p }
         ensures short { (p : Pattern) → IsPattern (graph_seen self.now) given.entry p → short_limit_of result ≤ short_steps (bitmap_in (graph_parts self.now)) p }
         ensures idle { ((p : Pattern) → IsPattern (graph_seen self.now) given.entry p → ⊥) → limit_of result ≡ 0 }

@@ -1,4 +1,4 @@
-//! The strings of a graph as terms of N-Triples.
+//! Writing the strings of a graph as terms of N-Triples.
 ghost use Rattle.std.specs.Prelude.{◌≡◌, ◌↔◌, ◌++◌, ◌∷◌, [], None, Some, IfErr, IfOk, OnOk, OnErr, IsErrOf, IfSome, IsTrue};
 ghost use Rattle.std.specs.List.{All};
 ghost use Rattle.hdt_terms.specs.Strings.{kind_of};
@@ -21,7 +21,7 @@ use hdt_terms::{Kind, StringFault, put_string};
 use hdt_wire::cut_on_error;
 use std::alloc::{AllocError, Global};
 
-/// Whether a term of this kind can have the role: an IRI or a blank node as subject, an IRI as predicate, any as object.
+/// Whether a role allows terms of this kind: IRIs and blank nodes as subjects, IRIs as predicates, all as objects.
 fn fits(role: Role, kind: Kind) -> bool
     ensures { (term : Term) → kind ≡ kind_of term → IsTrue result ↔ FitsRole role term }
 {
@@ -45,8 +45,7 @@ fn append_behind(role: Role, out: &mut Vec<u8>) -> Result<(), AllocError>
     }
 }
 
-/// Appends the piece of a line that the string is in the role, its term and what follows it, straight from its bytes. After an
-/// error `out` is as it was.
+/// Appends what a string of the role is in a line: its term and what follows it. After an error `out` is unchanged.
 pub fn put_role_piece(role: Role, string: &[u8], out: &mut Vec<u8>) -> Result<(), StringFault>
     ensures ok { OnOk result (AppendsPiece role string.now out.old.items out.new.items) }
     ensures none { IsErrOf result StringFaultOf.NotATerm → HasNoTerm role string.now }
@@ -62,7 +61,7 @@ pub fn put_role_piece(role: Role, string: &[u8], out: &mut Vec<u8>) -> Result<()
     Ok(cut_on_error(appended, len, out)?)
 }
 
-/// Appends the piece of a line that string n of a role is. `string` is a buffer for the string. After an error `out` is as it was.
+/// Appends what string n of a role is in a line. `string` is a buffer. After an error `out` is unchanged.
 fn append_spelled(
     layout: &Layout<'_>,
     role: Role,
@@ -83,15 +82,14 @@ fn append_spelled(
     }
 }
 
-/// What a string of a role is in a line, a term with what follows it there, spelled once for the lines after it that have the
-/// same string in this role.
+/// The last string of a role as it is in a line: its term and what follows it, kept for lines with the same string.
 #[derive(Drop)]
 struct Spelled {
     number: Option<u64>,
     text: Vec<u8>,
 }
 
-/// The bytes that a buffer for a term or a string has at first: most have no more.
+/// The capacity of a buffer for a term or a string at first: most are not longer.
 const TERM: usize = 128;
 
 impl Spelled {
@@ -104,7 +102,7 @@ impl Spelled {
         })
     }
 
-    /// Spells string n of a role, where the last one was another.
+    /// Makes string n of a role the last one, unless it is.
     fn spell(
         &mut self,
         layout: &Layout<'_>,
@@ -127,7 +125,7 @@ impl Spelled {
         Ok(())
     }
 
-    /// Appends what string n of a role is in a line, as it was spelled where the last one was the same.
+    /// Appends what string n of a role is in a line, as kept if it is the last one.
     fn put(
         &mut self,
         layout: &Layout<'_>,
@@ -147,7 +145,7 @@ impl Spelled {
         Ok(out.extend_from_slice(&self.text)?)
     }
 
-    /// Takes over the term of string n.
+    /// Copies the term of string n.
     fn take(&mut self, n: u64, text: &[u8]) -> Result<(), AllocError>
         ensures number { OnOk result (self.new.number ≡ Some n) }
         ensures text { OnOk result (self.new.text.items ≡ text.now) }
@@ -161,18 +159,18 @@ impl Spelled {
     }
 }
 
-/// For how many predicates a speller keeps the terms.
+/// The number of predicates whose terms a speller keeps.
 const KEPT: usize = 256;
 
-/// The bytes that a term has at most that is kept.
+/// The greatest length of a term that is kept.
 const SHORT: usize = 256;
 
-/// The place of predicate n among those that are kept.
+/// The index of predicate n among those that are kept.
 fn place_of(n: u64) -> usize {
     (n % KEPT as u64) as usize
 }
 
-/// The term of predicate n, where it is kept.
+/// The term of predicate n, if it is kept.
 fn kept_term(kept: &[Spelled], n: u64) -> Option<&[u8]>
     ensures { (g : GraphParts) → All (KeepsPredicate g) kept.now → IfSome result (λ text. KeepsTerm g Predicate (Some n) text.now) }
 {
@@ -184,7 +182,7 @@ fn kept_term(kept: &[Spelled], n: u64) -> Option<&[u8]>
     }
 }
 
-/// Keeps the term of predicate n, where it is short and no other has its place: what is kept stays.
+/// Keeps the term of predicate n, if it is short and no other predicate has its index. What is kept stays.
 fn keep(kept: &mut Vec<Spelled>, n: u64, text: &[u8]) -> Result<(), AllocError>
     ensures { (g : GraphParts) → All (KeepsPredicate g) kept.old.items → KeepsTerm g Predicate (Some n) text.now → All (KeepsPredicate g) kept.new.items }
 {
@@ -195,7 +193,7 @@ fn keep(kept: &mut Vec<Spelled>, n: u64, text: &[u8]) -> Result<(), AllocError>
     Ok(())
 }
 
-/// Places for terms of predicates.
+/// Slots for terms of predicates.
 fn places(alloc: Global, count: usize) -> Result<Vec<Spelled>, AllocError>
     ensures { IfOk result (λ kept. (g : GraphParts) → All (KeepsPredicate g) kept.items) }
 {
@@ -206,8 +204,8 @@ fn places(alloc: Global, count: usize) -> Result<Vec<Spelled>, AllocError>
     Ok(kept)
 }
 
-/// Spells the triples of one graph, one line after another: a string that was unfolded, the last term of each role, and
-/// terms of predicates; an object is kept once it comes again, by the number of the last one.
+/// What is kept from line to line of one graph's N-Triples: a decoded string, the last term of each role, and terms of
+/// predicates. An object is kept once it is repeated.
 #[derive(Drop)]
 pub struct Speller {
     string: Vec<u8>,
@@ -219,7 +217,7 @@ pub struct Speller {
 }
 
 impl Speller {
-    /// A speller that has spelled nothing, with so many places for predicates.
+    /// A speller that keeps nothing yet, with so many slots for predicates.
     fn with_places(alloc: Global, count: usize) -> Result<Speller, AllocError>
         ensures { IfOk result (λ s. (g : GraphParts) → KeepsTerms g s) }
     {
@@ -233,28 +231,28 @@ impl Speller {
         })
     }
 
-    /// A speller for one answer, which keeps the last terms alone.
+    /// A speller for one text, which keeps only the last terms.
     pub(crate) fn new(alloc: Global) -> Result<Speller, AllocError>
         ensures { IfOk result (λ s. (g : GraphParts) → KeepsTerms g s) }
     {
         Speller::with_places(alloc, 0)
     }
 
-    /// A speller for many answers of one graph, by [`append_graph_text`](crate::append_graph_text). From answer to answer it
-    /// keeps the longest string and the longest term of each role that it has met, and the terms of 256 predicates of at most
-    /// 256 bytes each, the first ones that it met.
+    /// Returns a speller for many texts of one graph ([`append_graph_text`](crate::append_graph_text)). It keeps
+    /// buffers as long as the longest string and the longest term of each role so far, and the terms of up to 256
+    /// predicates, of at most 256 bytes each.
     pub fn keeping(alloc: Global) -> Result<Speller, AllocError>
         ensures { IfOk result (λ s. (g : GraphParts) → KeepsTerms g s) }
     {
         Speller::with_places(alloc, KEPT)
     }
 
-    /// Whether the term of predicate n is kept: then it is not unfolded.
+    /// Whether the term of predicate n is kept: then it is not decoded.
     pub(crate) fn keeps(&self, n: u64) -> bool {
         kept_term(&self.kept, n).is_some()
     }
 
-    /// Appends what predicate n is in a line: as it is kept, or else as it was spelled where the last one was the same.
+    /// Appends what predicate n is in a line, as kept.
     fn put_predicate(
         &mut self,
         layout: &Layout<'_>,
@@ -275,7 +273,7 @@ impl Speller {
         Ok(keep(&mut self.kept, n, &self.predicate.text)?)
     }
 
-    /// Appends what object n is in a line. Most come once: so one that does is not kept.
+    /// Appends what object n is in a line. Most occur once, so only repeated ones are kept.
     fn put_object(
         &mut self,
         layout: &Layout<'_>,
@@ -298,7 +296,7 @@ impl Speller {
     }
 }
 
-/// Appends the line of a triple. An `Err` may leave a beginning of it behind.
+/// Appends the line of a triple. An error may leave its first bytes.
 pub fn append_line(
     layout: &Layout<'_>,
     triple: (u64, u64, u64),

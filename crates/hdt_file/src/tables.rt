@@ -1,4 +1,4 @@
-//! The strings that triples have as pieces of lines, each made once: what many lines are put together of.
+//! Many lines of N-Triples from tables that have each string once, as it is in a line.
 ghost use Rattle.std.specs.Prelude.{◌≡◌, ◌++◌, ℕ, List, map, IfOk, IfErr, OnOk};
 ghost use Rattle.hdt_file.specs.File.{GraphParts};
 ghost use Rattle.hdt_wire.specs.Control.{Keeps};
@@ -15,8 +15,8 @@ use hdt_dict::{Arena, Role};
 use hdt_terms::StringFault;
 use std::alloc::{AllocError, Global};
 
-/// What the strings of each role are in a line, in the order of their numbers: a term with what follows it there, or
-/// nothing where a string is no term of its role, or none that is asked for.
+/// What the strings of each role are in a line, in the order of their IDs: the term and what follows it, or nothing if
+/// the string is not a term that the role allows, or is not needed.
 #[derive(Drop)]
 pub struct Tables {
     subjects: Arena,
@@ -24,7 +24,7 @@ pub struct Tables {
     objects: Arena,
 }
 
-/// Appends the piece of a line that a string is in its role, or nothing where it is no term of it.
+/// Appends what a string of a role is in a line, or nothing if it is not a term that the role allows.
 fn put_piece(role: Role, string: &[u8], out: &mut Vec<u8>) -> Result<(), AllocError>
     ensures { OnOk result (GrowsByPiece role string.now out.old.items out.new.items) }
 {
@@ -35,7 +35,7 @@ fn put_piece(role: Role, string: &[u8], out: &mut Vec<u8>) -> Result<(), AllocEr
     }
 }
 
-/// The number that a triple has in a role.
+/// The ID of a triple in a role.
 fn number_in(role: Role, triple: (u64, u64, u64)) -> u64
     ensures { result ≡ part role triple }
 {
@@ -46,7 +46,7 @@ fn number_in(role: Role, triple: (u64, u64, u64)) -> u64
     }
 }
 
-/// Marks the numbers that triples have in a role, up to the count of its strings.
+/// Marks the IDs that triples have in a role.
 fn marks_of(
     alloc: Global,
     count: u64,
@@ -65,7 +65,7 @@ fn marks_of(
     Ok(marks)
 }
 
-/// Whether a number is marked; one that has no mark counts as marked.
+/// Whether an ID is marked; an ID out of range counts as marked.
 fn is_marked(marks: &[bool], number: u64) -> bool
     ensures { result ≡ is_marked marks.now number }
 {
@@ -75,7 +75,7 @@ fn is_marked(marks: &[bool], number: u64) -> bool
     }
 }
 
-/// Appends the piece of a string whose number is marked, and nothing for another one.
+/// Appends what a string is in a line, if its ID is marked.
 fn put_marked(marked: bool, role: Role, string: &[u8], out: &mut Vec<u8>) -> Result<(), AllocError>
     ensures { OnOk result (GrowsByMarked marked role string.now out.old.items out.new.items) }
 {
@@ -85,8 +85,8 @@ fn put_marked(marked: bool, role: Role, string: &[u8], out: &mut Vec<u8>) -> Res
     Ok(())
 }
 
-/// The pieces of the strings of a role whose numbers are marked, each made once. The walk to them unfolds each string over
-/// the one before.
+/// The table of the strings of a role whose IDs are marked. Each string of the role is decoded once, over the previous
+/// one.
 fn pieces_of(
     alloc: Global,
     layout: &Layout<'_>,
@@ -106,7 +106,7 @@ fn pieces_of(
     Ok(Arena::of(bytes, starts))
 }
 
-/// The pieces of the strings that triples have in a role.
+/// The table of the strings that triples have in a role.
 fn pieces_for(
     alloc: Global,
     layout: &Layout<'_>,
@@ -119,7 +119,7 @@ fn pieces_for(
     Ok(pieces_of(alloc, layout, role, &marks)?)
 }
 
-/// The pieces of the strings that triples have: in time in proportion to the dictionary, these strings and the triples.
+/// The tables of the strings that triples have. Linear time in the dictionary, these strings and the triples.
 pub fn tables_of(
     alloc: Global,
     layout: &Layout<'_>,
@@ -134,7 +134,7 @@ pub fn tables_of(
     })
 }
 
-/// The piece of string n, from 1, or nothing.
+/// The entry of string n, from 1, or nothing.
 fn piece_in(pieces: &Arena, n: u64) -> &[u8]
     ensures { result.now ≡ piece_in pieces.now n }
 {
@@ -144,7 +144,7 @@ fn piece_in(pieces: &Arena, n: u64) -> &[u8]
     pieces.get((n - 1) as usize)
 }
 
-/// How many bytes the lines of triples have together, up to one with a string that is no term.
+/// The length of the lines of triples together, up to one with a string that is not a term.
 pub fn bytes_of_lines(tables: &Tables, triples: &[(u64, u64, u64)]) -> usize {
     let mut bytes: usize = 0;
     for (subject, predicate, object) in triples {
@@ -162,7 +162,7 @@ pub fn bytes_of_lines(tables: &Tables, triples: &[(u64, u64, u64)]) -> usize {
     bytes
 }
 
-/// Appends a piece; nothing is that of a string that is no term. What was there stays.
+/// Appends an entry, which is empty for a string that is not a term. After an error `out` is unchanged.
 fn append_piece(role: Role, n: u64, piece: &[u8], out: &mut Vec<u8>) -> Result<(), DumpFault>
     ensures ok { OnOk result ((string : List ℕ) → IsLinePiece role string piece.now → AppendsPiece role string out.old.items out.new.items) }
     ensures err { IfErr result (λ e. (string : List ℕ) → IsLinePiece role string piece.now → TellsString role n string e) }
@@ -174,7 +174,7 @@ fn append_piece(role: Role, n: u64, piece: &[u8], out: &mut Vec<u8>) -> Result<(
     Ok(out.extend_from_slice(piece)?)
 }
 
-/// Appends the line of a triple, whose object's piece was found. What was there stays; an `Err` may leave a beginning of the line.
+/// Appends the line of a triple, given the entry of its object. An error may leave the first bytes of the line.
 fn append_line_of(
     tables: &Tables,
     triple: (u64, u64, u64),
@@ -192,7 +192,7 @@ fn append_line_of(
     Ok(())
 }
 
-/// The pieces of the objects of triples. They lie anywhere, and none of their bytes is looked at yet.
+/// The entries of the objects of triples, without reading their bytes.
 fn objects_of<'t>(
     alloc: Global,
     tables: &'t Tables,
@@ -207,8 +207,8 @@ fn objects_of<'t>(
     Ok(made)
 }
 
-/// How many bytes pieces have that neither begin nor end with zero, as none does: so the first and the last byte of each are
-/// looked at, one piece soon after another, and they wait for memory together.
+/// The length of all entries that neither begin nor end with a zero byte, as none does: this prefetches the first and
+/// the last byte of each, as the loads don't depend on each other.
 fn looked_at(pieces: &[&[u8]]) -> usize {
     let mut bytes: usize = 0;
     for piece in pieces {
@@ -219,8 +219,8 @@ fn looked_at(pieces: &[&[u8]]) -> usize {
     bytes
 }
 
-/// Appends the lines of triples. Where the objects' pieces begin is found for all of them first, then all are looked at, and then
-/// they are copied. What was there stays; an `Err` may leave some of the lines.
+/// Appends the lines of triples: the entries of all objects are found, then prefetched, then copied. An error may leave
+/// some of the lines.
 pub fn append_lines(
     alloc: Global,
     tables: &Tables,

@@ -25,10 +25,10 @@ use hdt_wire::{Counted, cut_on_error};
 use std::alloc::{AllocError, Global};
 use std::io::Write;
 
-/// The triples that a list has room for at first.
+/// The capacity of a list of triples at first.
 const LISTED: usize = 16;
 
-/// The matches, or at most so many of the first, in a list.
+/// A list of the matches, or of the first ones.
 fn listed(
     alloc: Global,
     found: Matches<'_>,
@@ -50,10 +50,10 @@ fn listed(
     Ok(triples)
 }
 
-/// How many bytes of blocks may be read for each string of the dictionary, before one walk along all strings is cheaper.
+/// The number of bytes of blocks a string of the dictionary from which on decoding all strings once is cheaper.
 const READ_FOR_A_STRING: u64 = 32;
 
-/// A string's number with the length of its block, which the triple before may have told.
+/// The ID of a string with the length of its block, which is known if the previous triple has the same string.
 fn with_len(dictionary: &Dictionary<'_>, role: Role, number: u64, last: (u64, u64)) -> (u64, u64) {
     if number == last.0 {
         return last;
@@ -61,8 +61,8 @@ fn with_len(dictionary: &Dictionary<'_>, role: Role, number: u64, last: (u64, u6
     (number, dictionary.block(role, number).len() as u64)
 }
 
-/// The blocks of the objects of triples, where looking up all strings one by one reads fewer bytes than a walk along the
-/// dictionary takes time for. Predicates that the speller keeps are not looked up.
+/// The blocks of the objects of triples, if looking up each string is cheaper than decoding the whole dictionary once.
+/// Predicates that the speller keeps are not looked up.
 fn few_blocks<'a>(
     alloc: Global,
     layout: &Layout<'a>,
@@ -100,14 +100,14 @@ fn few_blocks<'a>(
     Ok(Some(blocks))
 }
 
-/// How far apart bytes are looked at.
+/// The distance between bytes that are prefetched.
 const APART: usize = 64;
 
-/// How many bytes of a block are looked at. A string that lies behind them is reached by a walk that fetches what comes next by
-/// itself; one that lies before them would wait for more than it needs.
+/// The number of bytes of a block that are prefetched. A string after them is reached by a scan, for which the
+/// processor prefetches by itself; a string before them would wait for more than it needs.
 const FRONT: usize = 4_096;
 
-/// The byte of a block at a place, or its last one.
+/// The byte of a block at an index, or its last one.
 #[inline(always)]
 fn byte_near(block: &[u8], place: usize) -> usize
     requires { 0 < length block.now }
@@ -116,8 +116,8 @@ fn byte_near(block: &[u8], place: usize) -> usize
     usize::from(block[place.min(block.len() - 1)])
 }
 
-/// The sum of the bytes of a block that are looked at: one of each line of memory, wherever the lines begin. A block of the usual size
-/// has no more lines than are looked at with no question how many it has, which is not to be foreseen.
+/// The sum of the prefetched bytes of a block: one of each cache line. The first loads are unconditional, to avoid an
+/// unpredictable branch on the number of lines.
 fn looked_at(block: &[u8]) -> usize {
     let front = block.split_at(block.len().min(FRONT)).0;
     if front.is_empty() {
@@ -134,8 +134,7 @@ fn looked_at(block: &[u8]) -> usize {
     sum
 }
 
-/// The same of several blocks. They lie anywhere: so all are looked at, one soon after another and with no test of what is
-/// there, and wait for memory together.
+/// The same of several blocks: the loads don't depend on each other, so they overlap.
 fn all_looked_at(blocks: &[&[u8]]) -> usize {
     let mut sum: usize = 0;
     for block in blocks {
@@ -144,13 +143,13 @@ fn all_looked_at(blocks: &[&[u8]]) -> usize {
     sum
 }
 
-/// The bytes that a text has room for at first, for each line.
+/// The capacity of a text at first, for each line.
 const LINE: usize = 160;
 
-/// For how many lines it has room at first, at most.
+/// The greatest number of lines for which it has capacity at first.
 const LINES: usize = 64;
 
-/// Appends the text of triples, each string of which is looked up: for few of them. An `Err` may leave some lines behind.
+/// Appends the text of triples, looking up each of their strings: for few triples. An error may leave some lines.
 fn append_looked_up(
     layout: &Layout<'_>,
     triples: &[(u64, u64, u64)],
@@ -169,10 +168,10 @@ fn append_looked_up(
     Ok(())
 }
 
-/// How many triples' lines are made at a time.
+/// The number of triples whose lines are made at a time.
 const BLOCK: usize = 64;
 
-/// The same by tables in which the strings of the triples were spelled once: for many of them.
+/// The same by tables that have each string of the triples once: for many triples.
 fn append_tabled(
     alloc: Global,
     layout: &Layout<'_>,
@@ -194,8 +193,8 @@ fn append_tabled(
     Ok(())
 }
 
-/// Appends the text of triples in time in proportion to the dictionary, these triples and the text, whatever the blocks are. An
-/// `Err` may leave some lines behind.
+/// Appends the text of triples. Linear time in the dictionary, the triples and the text, whatever the blocks. An error
+/// may leave some lines.
 fn append_triples(
     alloc: Global,
     layout: &Layout<'_>,
@@ -212,13 +211,13 @@ fn append_triples(
     let Some(blocks) = few_blocks(alloc, layout, triples, speller)? else {
         return append_tabled(alloc, layout, triples, out);
     };
-    // (The sum says nothing: that it is used makes the blocks be looked at.)
+    // (The sum means nothing; its use keeps the loads.)
     let lines = all_looked_at(&blocks).min(triples.len()).min(LINES);
     out.reserve(lines * LINE)?;
     append_looked_up(layout, triples, speller, out)
 }
 
-/// Appends the text of matches, or of at most so many of the first. After an error `out` is as it was.
+/// Appends the text of matches, or of the first ones. After an error `out` is unchanged.
 fn append_found(
     alloc: Global,
     layout: &Layout<'_>,
@@ -240,7 +239,7 @@ fn append_found(
     cut_on_error(appended, start, out)
 }
 
-/// The text of matches, or of at most so many of the first.
+/// The text of matches, or of the first ones.
 fn found_text(
     alloc: Global,
     layout: &Layout<'_>,
@@ -263,8 +262,8 @@ fn found_text(
     Ok(text)
 }
 
-/// The text of the matches of a pattern with a subject: its triples are found by directories of the marks, which are counted
-/// in words; without the memory for these, by a walk.
+/// The text of the matches of a pattern with a subject: its triples are found by rank/select indexes, or by a scan if
+/// there is no memory for these.
 #[tactic(auto, unfolding(crate::specs::LayoutView::layout_seen))]
 fn indexed_text(
     alloc: Global,
@@ -281,18 +280,16 @@ fn indexed_text(
     }
 }
 
-/// The N-Triples text of the matches of a pattern, or of nothing: a line a triple, in order.
+/// Returns the N-Triples text of the matches of a pattern, or nothing without a pattern: one line a triple, in order.
 ///
-/// Each match costs the unfolding of one block of objects, and the front of its line where it is not that of the match
-/// before. Where so much would be read again that a walk along the dictionary is cheaper, each string of the matches is
-/// spelled once on such a walk, and a line costs the copying of its bytes. So the time is in proportion to the dictionary,
-/// the matches and the text at most, however the strings are folded, and the memory to the matches and the text, with a
-/// byte for each string of the dictionary.
+/// For each match it decodes the blocks of its strings; if that costs more than decoding the whole dictionary once, it
+/// does that, and copies what it needs. So time is linear in the dictionary, the matches and the text, however the
+/// strings are front-coded; memory is that of the matches and the text, with a byte for each string of the dictionary.
 ///
 /// # Errors
 ///
-/// [`DumpFault::NotATerm`] tells the first string of the first match that is no term of its role, in the order subject,
-/// predicate, object; [`DumpFault::OutOfMemory`] comes only where memory was refused.
+/// [`DumpFault::NotATerm`] with the first string of the first match that is not a term that its role allows, in the
+/// order subject, predicate, object; [`DumpFault::OutOfMemory`] only if memory ran out.
 pub fn graph_text(
     alloc: Global,
     graph: &Graph<'_>,
@@ -304,8 +301,8 @@ pub fn graph_text(
     graph_text_up_to(alloc, graph, pattern, None)
 }
 
-/// The text of at most so many of the first matches, or of all of them: [`graph_text`] says what is answered of these. The
-/// matches behind them are not looked for.
+/// Returns the text of the first `most` matches, or of all of them, as [`graph_text`] does. Later matches are not
+/// searched.
 pub fn graph_text_up_to(
     alloc: Global,
     graph: &Graph<'_>,
@@ -321,9 +318,9 @@ pub fn graph_text_up_to(
     }
 }
 
-/// Appends the same text by a speller that has spelled nothing yet, or texts of this graph alone: who asks for many texts keeps
-/// one for all, and predicates that it keeps are unfolded once. [`Speller::keeping`] says how much it keeps; after an error it
-/// is as good as before, and `out` is as it was.
+/// Appends the same text, using a speller that is new or was used only for this graph: one speller for many texts
+/// decodes frequent predicates only once. [`Speller::keeping`] says how much it keeps. After an error it can still be
+/// used, and `out` is unchanged.
 pub fn append_graph_text(
     alloc: Global,
     graph: &Graph<'_>,
@@ -332,7 +329,7 @@ pub fn append_graph_text(
     speller: &mut Speller,
     out: &mut Vec<u8>,
 ) -> Result<(), DumpFault>
-    // What the speller keeps is of this graph, before and after.
+    // The speller keeps terms of this graph only, before and after.
     requires { KeepsTerms (graph_seen graph.now) speller.old }
     ensures kept { KeepsTerms (graph_seen graph.now) speller.new }
     ensures ok { OnOk result (AppendsText (graph_seen graph.now) (limited most (chosen (graph_seen graph.now) pattern)) out.old.items out.new.items) }
@@ -352,7 +349,7 @@ pub fn append_graph_text(
     )
 }
 
-/// The same of a layout, all of whose triples are walked over: [`graph_text`] says what is answered.
+/// Returns the text of a layout's matches, as [`graph_text`] does. It scans all triples.
 pub fn layout_text(
     alloc: Global,
     layout: &Layout<'_>,
@@ -364,7 +361,7 @@ pub fn layout_text(
     layout_text_up_to(alloc, layout, pattern, None)
 }
 
-/// The same of a layout: [`graph_text_up_to`] says what is answered.
+/// Returns the text of a layout's first matches, as [`graph_text_up_to`] does. It scans the triples.
 pub fn layout_text_up_to(
     alloc: Global,
     layout: &Layout<'_>,
@@ -381,13 +378,12 @@ pub fn layout_text_up_to(
     }
 }
 
-/// Writes the N-Triples text of the matches of a pattern, or of nothing, as [`graph_text`] gives it: it is made whole in
-/// memory before its first byte is written. The answer is its length in bytes.
+/// Writes the text of [`graph_text`], once it is complete in memory. Returns its length in bytes.
 ///
 /// # Errors
 ///
-/// Those of [`graph_text`], with nothing written; [`DumpFault::Write`] tells how many bytes went out before the writer
-/// failed.
+/// Those of [`graph_text`], with nothing written; [`DumpFault::Write`] with the number of bytes that were written
+/// before the writer failed.
 ///
 /// ```text
 /// let mut out = Counted::new(file);
@@ -400,15 +396,16 @@ pub fn write_graph<W: Write>(
     pattern: Option<Pattern>,
     out: &mut Counted<W>,
 ) -> Result<u64, DumpFault>
-    // The writer has gained the text, as long as is answered, and has not failed.
+    // The text, of the length that is returned, was written, and the writer has not failed.
     ensures ok { IfOk result (WritesText (graph_seen graph.now) (chosen (graph_seen graph.now) pattern) (W.contents (inner out.old)) (W.contents (inner out.new))) }
     ensures well { IsOk result → failures out.new ≡ failures out.old }
-    // The first string of the first triple that is no term of its role, in the order subject, predicate, object.
+    // The first string of the first triple that is not a term that its role allows, in the order subject, predicate,
+    // object.
     ensures first { IfErr result (λ e. (role : Role) (n : ℕ) → e ≡ DumpFault.NotATerm role n → IsFirstIn (graph_seen graph.now) (chosen (graph_seen graph.now) pattern) role n) }
-    // The writer failed in this call, and has gained exactly the first n bytes of the text.
+    // The writer failed in this call, once, after exactly the first n bytes of the text.
     ensures write { IfErr result (λ e. (n : ℕ) → e ≡ DumpFault.Write n → (failures out.new ≡ failures out.old + 1)
         × WritesPart (graph_seen graph.now) (chosen (graph_seen graph.now) pattern) (W.contents (inner out.old)) (W.contents (inner out.new)) n) }
-    // At any other fault nothing was written.
+    // At any other error nothing was written.
     ensures unwritten { IfErr result (λ e. ((n : ℕ) → e ≢ DumpFault.Write n) → out.new ≡ out.old) }
 {
     let text = graph_text(alloc, graph, pattern)?;

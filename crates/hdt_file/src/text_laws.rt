@@ -1,4 +1,4 @@
-//! Laws of the text of a graph: functions with nothing in them, whose clauses other crates cite.
+//! Laws of the text of a graph: empty functions whose contracts other crates use.
 ghost use Rattle.std.specs.Prelude.{◌≡◌, ℕ, List, map};
 ghost use Rattle.std.specs.List.{AllByRecursion};
 ghost use Rattle.hdt_terms.specs.Lines.{Document};
@@ -11,7 +11,7 @@ ghost use Rattle.hdt_file.specs.Text.{IsFirstIn, IsTextOf};
 
 use hdt_terms::{one_string, written_within_a_line};
 
-/// Triples have one text at most, and one first string at most that is no term of its role, and never both.
+/// Triples have either one text, or one first string that is not a term that its role allows.
 pub fn one_text()
     ensures text { (triples : List StringTriple) (a b : List ℕ) → IsTextOf triples a → IsTextOf triples b → a ≡ b }
     ensures first { (g : GraphParts) (ts : List Triple) (role other : Role) (m n : ℕ) →

@@ -8,7 +8,7 @@ use hdt_triples::{Matches, Pattern};
 
 /// The words, each with the count of its arguments.
 pub const WORDS: &str =
-    "search 3+ matching_up_to 4+ find_strings 3 pattern 3 number_of 1+ string_of 3 uses_of 1+ strings 1";
+    "search 3+ matching_up_to 4+ find_strings 3 pattern 3 number_of 1+ string_of 3 strings_of 2+ uses_of 1+ strings 1";
 
 /// Answers a request of one of these words.
 pub fn answer(word: &str, ask: &mut Ask<'_>, say: &mut Say) -> bool {
@@ -19,6 +19,7 @@ pub fn answer(word: &str, ask: &mut Ask<'_>, say: &mut Say) -> bool {
         "pattern" => say_pattern_of(ask, say),
         "number_of" => say_number_of(ask, say),
         "string_of" => say_string_of(ask, say),
+        "strings_of" => say_all_of(ask, say),
         "uses_of" => say_uses_of(ask, say),
         "strings" => say_strings_of(ask, say),
         _ => return false,
@@ -156,6 +157,29 @@ fn say_string_of(ask: &mut Ask<'_>, say: &mut Say) {
     }
     say.bytes(&string);
     say.truth(graph.uses(role, number, &mut Steps::new()))
+}
+
+/// Whether there are all these strings, the bytes with them, and the ends behind that of the bytes before.
+fn say_all_of(ask: &mut Ask<'_>, say: &mut Say) {
+    let Some(graph) = graph_of(ask, say) else {
+        return;
+    };
+    let role = ask.role();
+    let mut bytes = ask.bytes();
+    let numbers = ask.numbers();
+    let mut ends = Vec::new(ask.alloc);
+    if ends.push(bytes.len() as u64).is_err() {
+        return say.no_memory();
+    }
+    let steps = &mut Steps::new();
+    match graph.strings_of(ask.alloc, role, &numbers, &mut bytes, &mut ends, steps) {
+        Ok(are_there) => say.truth(are_there),
+        Err(_) => say.no_memory(),
+    }
+    say.bytes(&bytes);
+    for end in &ends {
+        say.number(*end);
+    }
 }
 
 /// For each number of a role, whether a triple uses it.

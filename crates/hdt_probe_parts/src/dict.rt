@@ -10,7 +10,7 @@ use hdt_seq::Steps;
 
 /// The words, each with the count of its arguments.
 pub const WORDS: &str =
-    "dictionary 1 dictionary_number_of 2+ dictionary_string_of 4 dictionary_block 3 dictionary_string_start 3 dictionary_strings 2 dictionary_strings_kept 2";
+    "dictionary 1 dictionary_number_of 2+ dictionary_string_of 4 dictionary_strings_of 3+ dictionary_block 3 dictionary_string_start 3 dictionary_strings 2 dictionary_strings_kept 2";
 
 /// Answers a request of one of these words.
 pub fn answer(word: &str, ask: &mut Ask<'_>, say: &mut Say) -> bool {
@@ -18,6 +18,7 @@ pub fn answer(word: &str, ask: &mut Ask<'_>, say: &mut Say) -> bool {
         "dictionary" => say_dictionary(ask, say),
         "dictionary_number_of" => say_number_of(ask, say),
         "dictionary_string_of" => say_string_of(ask, say),
+        "dictionary_strings_of" => say_strings_of(ask, say),
         "dictionary_block" => say_block(ask, say),
         "dictionary_string_start" => say_string_start(ask, say),
         "dictionary_strings" => say_strings(ask, say),
@@ -76,6 +77,29 @@ fn say_string_of(ask: &mut Ask<'_>, say: &mut Say) {
         Err(_) => say.no_memory(),
     }
     say.bytes(&string)
+}
+
+/// Whether there are all these strings, the bytes with them, and the ends behind that of the bytes before.
+fn say_strings_of(ask: &mut Ask<'_>, say: &mut Say) {
+    let Some((dictionary, _)) = dictionary_at(ask, say) else {
+        return;
+    };
+    let role = ask.role();
+    let mut bytes = ask.bytes();
+    let numbers = ask.numbers();
+    let mut ends = Vec::new(ask.alloc);
+    if ends.push(bytes.len() as u64).is_err() {
+        return say.no_memory();
+    }
+    let steps = &mut Steps::new();
+    match dictionary.strings_of(ask.alloc, role, &numbers, &mut bytes, &mut ends, steps) {
+        Ok(are_there) => say.truth(are_there),
+        Err(_) => say.no_memory(),
+    }
+    say.bytes(&bytes);
+    for end in &ends {
+        say.number(*end);
+    }
 }
 
 fn say_block(ask: &mut Ask<'_>, say: &mut Say) {

@@ -1,12 +1,13 @@
 //! Calls of hdt_front: walks and cursors over the strings of a section.
 
 use crate::front::section_at;
-use hdt_front::{Cursor, Walk};
+use hdt_front::{Cursor, Seeker, Walk};
 use hdt_probe::{Ask, Say};
+use hdt_seq::Steps;
 
 /// The words, each with the count of its arguments.
 pub const WORDS: &str =
-    "section_walk 1 section_walk_kept 1 section_cursor 2 section_cursor_compared 3";
+    "section_walk 1 section_walk_kept 1 section_cursor 2 section_cursor_compared 3 section_seek 1+";
 
 /// Answers a request of one of these words.
 pub fn answer(word: &str, ask: &mut Ask<'_>, say: &mut Say) -> bool {
@@ -14,10 +15,29 @@ pub fn answer(word: &str, ask: &mut Ask<'_>, say: &mut Say) -> bool {
         "section_walk" => say_section_walk(ask, say),
         "section_walk_kept" => say_section_walk_kept(ask, say),
         "section_cursor" => say_section_cursor(ask, say),
+        "section_seek" => say_section_seek(ask, say),
         "section_cursor_compared" => say_section_cursor_compared(ask, say),
         _ => return false,
     }
     true
+}
+
+/// The string of each number, by one seeker.
+fn say_section_seek(ask: &mut Ask<'_>, say: &mut Say) {
+    let Some((section, _)) = section_at(ask, say) else {
+        return;
+    };
+    let mut seeker = Seeker::new(ask.alloc, &section);
+    say.bytes(seeker.last());
+    for n in &ask.numbers() {
+        if *n == 0 || *n > section.len() {
+            return say.refused();
+        }
+        match seeker.seek(*n, &mut Steps::new()) {
+            Ok(()) => say.bytes(seeker.last()),
+            Err(_) => return say.no_memory(),
+        }
+    }
 }
 
 /// All strings in order, each behind its offset.

@@ -1,4 +1,4 @@
-use Rattle.std.proofs.Common.{◌≡◌, ◌≤◌, ◌<◌, ◌+◌, ◌-◌, ◌++◌, ◌∷◌, [], ℕ, List, length, max, slice_index, slice_index_or, append_assoc, ap, sym, ◌∙◌, arith, subst}
+use Rattle.std.proofs.Common.{◌≡◌, ◌-◌, ◌++◌, [], ℕ, List, length, max, slice_index, slice_index_or, append_assoc, ap, sym, ◌∙◌, arith, subst}
 use Rattle.std.proofs.lemmas.List.{append-nil}
 use Rattle.hdt_front.specs.Strings.{strings_of, block_size}
 use Rattle.hdt_front.specs.Seeking.{Seeking}
@@ -19,6 +19,7 @@ loop-at-init c = record {
     record { in_first = λ h. (ap (λ (w : Seeking). w.at) c.new-in_first.ensures, ap (λ (w : Seeking). w.at) c.new-in_second.ensures); in_second = λ h. absurd (omega (arith, h)) },
     omega arith,
   );
+  more = omega arith;
 }
 
 pub returns-in_err-append_next-clause-err : goal.returns-in_err-append_next-clause-err
@@ -77,6 +78,7 @@ loop-at-preserved c =
             subst (λ k. StandAt c.append_next.new.first c.append_next.new.second k) (sym (before_next c.args.numbers.now l.at)) (c.in_ok-append_next.ensures.stand _ o.0 here.0),
             omega (arith, c.append_next.ensures.near _ o.0 here.0, o.1, before_next c.args.numbers.now l.at),
           );
+      more = omega (arith, l.invariant.more, c.append_next.ensures.more);
     }
 
 pub returns-clause-once : goal.returns-clause-once

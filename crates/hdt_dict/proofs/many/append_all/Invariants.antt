@@ -13,4 +13,5 @@ invariant-loop-at l = record {
   places : l.ends.items ≡ l.fn.ends.items ++ ends_from (length l.fn.out.items) (strings_at (strings_of l.first ++ strings_of l.second) (take l.at l.numbers));
   cost : l.steps ≤ l.fn.steps + l.at * max (block_size l.first) (block_size l.second);
   once : (n : ℕ) → AscendTo l.numbers n → StandAt l.in_first l.in_second (slice_index (0 ∷ l.numbers) l.at) × (l.steps ≤ l.fn.steps + slice_index (0 ∷ l.numbers) l.at);
+  more : l.fn.steps ≤ l.steps;
 }

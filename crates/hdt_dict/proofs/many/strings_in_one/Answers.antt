@@ -1,4 +1,4 @@
-use Rattle.std.proofs.Common.{◌≡◌, ◌≤◌, ◌++◌, List, ℕ, length, length-append, slice_index, ap, sym, ◌∙◌, arith, refl, subst}
+use Rattle.std.proofs.Common.{List, ℕ, length-append, arith, refl, subst}
 use Rattle.hdt_front.specs.Strings.{strings_of}
 use Rattle.hdt_dict.specs.Many.{AppendsStrings, AreNumbers}
 use Rattle.hdt_dict.proofs.OneAfterAnother.{in_first}

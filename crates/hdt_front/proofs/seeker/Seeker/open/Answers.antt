@@ -1,4 +1,4 @@
-use Rattle.std.proofs.Common.{◌≡◌, ◌<◌, ◌+◌, ◌*◌, ◌∙◌, ap, sym, subst, ℕ, arith}
+use Rattle.std.proofs.Common.{◌<◌, ◌*◌, ◌∙◌, sym, subst, arith}
 use Rattle.hdt_front.specs.Seeking.{Seeking}
 use Rattle.hdt_front.specs.Strings.{blocks_of}
 use Rattle.hdt_front.proofs.Seeking.{head_within, string_before}

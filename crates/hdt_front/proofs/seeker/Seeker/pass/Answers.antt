@@ -1,4 +1,4 @@
-use Rattle.std.proofs.Common.{◌≡◌, ◌<◌, ◌≤◌, ◌+◌, ◌-◌, ◌∙◌, ap, sym, subst, length, get_or, [], ℕ, List, arith}
+use Rattle.std.proofs.Common.{◌≡◌, ◌<◌, ◌+◌, ◌-◌, ◌∙◌, ap, sym, subst, length, get_or, [], ℕ, List, arith}
 use Rattle.hdt_front.specs.Unfolding.{is_head}
 use Rattle.hdt_front.specs.Seeking.{Seeking, standing}
 use Rattle.hdt_front.specs.Strings.{strings_of}
