@@ -1,4 +1,4 @@
--- What comes next of two ascending lists that are walked side by side.
+-- What comes next of two ascending lists that are merged.
 use Rattle.std.proofs.Common.{◌≡◌, ◌≢◌, ℕ, ◌+◌, ◌<◌, ◌≤◌, ◌⊎◌, true, false, List, [], length, get_or, below_more, refl, ap, sym, ◌∙◌, inl, inr, arith, eq-or-lt_of_le}
 use Rattle.std.specs.declared.cmp.Ordering.{Ordering}
 use Rattle.std.specs.declared.cmp.Ordering.TheVariants.{Less, Equal, Greater}

@@ -1,4 +1,4 @@
--- One step of a walk over the strings of a role.
+-- One step of an iteration over the strings of a role.
 use Rattle.std.proofs.Common.{◌≡◌, ℕ, ◌+◌, ◌≤◌, Bool, true, false, not, List, [], ◌∷◌, ◌++◌, length, Option, Some, None, refl, sym, ap, ◌∙◌, subst, arith, append-nil}
 use Rattle.std.specs.Prelude.{is_some}
 use Rattle.hdt_front.specs.declared.section.Section.{Section}
@@ -36,7 +36,7 @@ front_kept_by : (w : Way) (ps : List Placed) (k : ℕ) → k ≤ first_agreed ps
 front_kept_by w [] k h = omega (arith, h)
 front_kept_by w (p ∷ ps) k h = agree_back k p.string w.last h
 
--- the next string keeps so much of the one before
+-- the next string keeps so much of the previous one
 pub front_kept : (w v : Way) (k : ℕ) → k ≤ first_agreed w.ahead w.last → v ≡ further w → k ≤ agreed w.last v.last
 front_kept w v k h e = subst (λ (v : Way). k ≤ agreed w.last v.last) (sym e) (front_kept_by w w.ahead k h)
 

@@ -1,5 +1,5 @@
--- The dictionary (HDT submission, dictionary; rdfhdt.org, "HDT binary format", Four Sections): a control block, then
--- the sections of shared strings, subjects, predicates and objects. No string stands in two of shared, subjects and
+-- The dictionary (HDT submission, dictionary; rdfhdt.org, "HDT binary format", Four Sections): control information, then
+-- the sections of shared strings, subjects, predicates and objects. No string is in two of shared, subjects and
 -- objects.
 use Rattle.std.specs.Prelude.{ℕ, zero, suc, not, List, [], ◌++◌, length, slice_index_or, Result, Ok}
 use Rattle.std.specs.List.{Contains}
@@ -14,7 +14,7 @@ use Rattle.hdt_dict.specs.Strings.{has}
 use Rattle.hdt_wire.specs.declared.role.Role.{Role}
 use Rattle.hdt_wire.specs.declared.role.Role.TheVariants.{Subject, Predicate, Object}
 
--- what a dictionary says: its four sections, with their places
+-- a dictionary: its four sections, with their offsets
 pub record DictionaryParts : Type 0 where
   pub shared : SectionParts
   pub subjects : SectionParts
@@ -45,11 +45,11 @@ section_number d (suc zero) = d.subjects
 section_number d (suc (suc zero)) = d.predicates
 section_number d (suc (suc (suc i))) = d.objects
 
--- no string stands in both
+-- no string is in both
 abbrev pub AreApart : List (List ℕ) → List (List ℕ) → Type 0
 AreApart xs ys = (x : List ℕ) → Contains xs x → Contains ys x → ⊥
 
--- the dictionary stands at the place: a control block with some properties, and the sections, one after another
+-- the dictionary is encoded at the offset: control information with some properties, and the sections, one after another
 pub record IsDictionary (d : DictionaryParts) (bytes : List ℕ) (at : ℕ) : Type 0 where
   pub control : Block
   pub block : IsBlock kinds.Dictionary control bytes at
@@ -61,7 +61,7 @@ pub record IsDictionary (d : DictionaryParts) (bytes : List ℕ) (at : ℕ) : Ty
   pub shared_objects : AreApart d.shared.strings d.objects.strings
   pub subjects_objects : AreApart d.subjects.strings d.objects.strings
 
--- ---- the rows
+-- ---- the checks
 
 -- string i of a section isn't among the others
 unfoldable pub apart_row : List (List ℕ) → SectionParts → ℕ → Result (Unit {0}) Fault
@@ -71,7 +71,7 @@ apart_row others s i = demand (not (has others (slice_index_or s.strings i [])))
 abbrev pub apart_at : List (List ℕ) → SectionParts → Result (Unit {0}) Fault
 apart_at others s = rows_from (apart_row others s) 0 (length s.strings)
 
--- the rows of a dictionary, from top to bottom: the dictionary, or the fault that stands
+-- the checks of a dictionary in turn: the dictionary, or the first error
 unfoldable pub dictionary_at : List ℕ → ℕ → Result DictionaryParts Fault
 dictionary_at bytes at = do
   control ← control_at kinds.Dictionary bytes at

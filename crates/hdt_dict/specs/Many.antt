@@ -25,6 +25,6 @@ abbrev pub AppendsAll : List (List ℕ) → List ℕ → Bool → List ℕ → L
 AppendsAll xs numbers true old new ends after = AreNumbers xs numbers × AppendsStrings (strings_at xs numbers) old new ends after
 AppendsAll xs numbers false old new ends after = (AreNumbers xs numbers → ⊥) × (new ≡ old) × (after ≡ ends)
 
--- each number is at least the one before it, and at most n
+-- each number is at least the previous one, and at most n
 abbrev pub AscendTo : List ℕ → ℕ → Type 0
 AscendTo numbers n = (i : ℕ) → i < length numbers → (slice_index (0 ∷ numbers) i ≤ slice_index numbers i) × (slice_index numbers i ≤ n)

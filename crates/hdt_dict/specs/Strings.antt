@@ -6,11 +6,11 @@ use Rattle.hdt_front.specs.Order.{string_cmp}
 use Rattle.std.specs.Str.{bytes_eq}
 use Rattle.std.specs.Borrow.{Bor}
 
--- a lent string, a `&[u8]`
+-- a borrowed string, a `&[u8]`
 abbrev pub Lent : Type 0
 Lent = Bor (List ℕ)
 
--- what a place past the end of a list of lent strings holds
+-- what a place past the end of a list of borrowed strings holds
 abbrev pub nothing : Lent
 nothing = record { ref_ptr = (0, 0); now = [] }
 

@@ -1,4 +1,4 @@
--- What a `Dictionary` stands for.
+-- The view of a `Dictionary`.
 use Rattle.std.specs.Prelude.{ℕ, ◌-◌, ◌&&◌, nat_le, cond, length, List, []}
 use Rattle.hdt_front.specs.Strings.{strings_of, section_of, packed_block}
 use Rattle.hdt_front.specs.declared.section.Section.{Section}
@@ -7,13 +7,13 @@ use Rattle.hdt_wire.specs.declared.role.Role.TheVariants.{Subject, Predicate, Ob
 use Rattle.hdt_dict.specs.declared.dictionary.Dictionary.{Dictionary}
 use Rattle.hdt_dict.specs.Dictionary.{DictionaryParts}
 
--- a `Dictionary`, without where it lies in memory
+-- a `Dictionary`, without its addresses
 unfoldable pub dictionary_of : Dictionary → DictionaryParts
 dictionary_of d = record { shared = section_of d.shared; subjects = section_of d.subjects; predicates = section_of d.predicates; objects = section_of d.objects }
 
 -- ---- what looking a string up reads
 
--- the packed bytes of the block of string n, from 1; where there is no such string, none
+-- the front-coded bytes of the block of string n, from 1; where there is no such string, none
 abbrev pub string_bytes : Section → ℕ → List ℕ
 string_bytes s n = cond (nat_le 1 n && nat_le n (length (strings_of s))) (packed_block s (n - 1)) []
 

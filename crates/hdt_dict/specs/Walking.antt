@@ -1,7 +1,7 @@
 -- The strings of a role, given one after another.
 use Rattle.std.specs.Prelude.{ℕ, ◌+◌, List, [], ◌∷◌, Option, Some, None}
 
--- how far a walk has come: how many strings were given, which is the number of the last one; the last one; and
+-- the state of an iteration: the number of strings so far, which is the ID of the last one; the last one; and
 -- those still to come
 pub record Progress : Type 0 where
   pub given : ℕ

@@ -21,11 +21,11 @@ pub record AreSections (d : FourLists) : Type 0 where
 abbrev pub mapping : List ℕ
 mapping = codes "mapping=1;"
 
--- the canonical bytes of a dictionary in blocks of b: a control block and four canonical sections
+-- the canonical bytes of a dictionary in blocks of b: control information and four canonical sections
 unfoldable pub canonical_dictionary : ℕ → FourLists → List ℕ
 canonical_dictionary b d = control kinds.Dictionary mapping ++ (canonical b d.shared ++ (canonical b d.subjects ++ (canonical b d.predicates ++ canonical b d.objects)))
 
--- what they say where they stand
+-- what they encode at an offset
 unfoldable pub canonical_dictionary_parts : ℕ → FourLists → ℕ → DictionaryParts
 canonical_dictionary_parts b d at =
     let a : ℕ = at + length (control kinds.Dictionary mapping) in

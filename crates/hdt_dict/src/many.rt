@@ -1,4 +1,4 @@
-//! The strings of many numbers at once.
+//! Many strings at once.
 ghost use Rattle.std.specs.Prelude.{◌≡◌, ◌<◌, ◌≤◌, ◌+◌, ◌-◌, ◌*◌, ◌++◌, ◌^◌, [], ℕ, true, false, length, max, slice_index_or, slice_index, IsOk, IfOk, OnOk, OnErr};
 ghost use Rattle.hdt_wire.specs.Control.{Keeps};
 ghost use Rattle.hdt_front.specs.Strings.{strings_of, block_size};
@@ -14,7 +14,7 @@ use hdt_seq::Steps;
 use hdt_wire::{Role, cut_on_error};
 use std::alloc::{AllocError, Global};
 
-/// Whether each of the numbers is that of one of so many strings, from 1.
+/// Whether each number is an ID of so many strings, from 1.
 fn are_numbers(numbers: &[u64], count: u64) -> bool
     ensures yes { result ≡ true → (i : ℕ) → i < length numbers.now → (1 ≤ slice_index numbers.now i) × (slice_index numbers.now i ≤ count) }
     ensures no { result ≡ false → ((i : ℕ) → i < length numbers.now → (1 ≤ slice_index numbers.now i) × (slice_index numbers.now i ≤ count)) → ⊥ }
@@ -27,7 +27,7 @@ fn are_numbers(numbers: &[u64], count: u64) -> bool
     true
 }
 
-/// Appends string n of two sections, one after the other, the first of which has so many strings.
+/// Appends the string with ID n of two sections, one after the other, the first of which has `many` strings.
 fn append_next(
     first: &mut Seeker<'_>,
     second: &mut Seeker<'_>,
@@ -55,7 +55,8 @@ fn append_next(
     out.extend_from_slice(second.last())
 }
 
-/// Appends the strings of numbers of two sections, one after the other, and where they end. An `Err` may leave some behind.
+/// Appends the strings of two sections, one after the other, with these IDs, and where each ends. An error may leave
+/// some of them.
 fn append_all<'a>(
     alloc: Global,
     first: &Section<'a>,
@@ -89,7 +90,7 @@ fn append_all<'a>(
     Ok(())
 }
 
-/// The same; where memory is refused, `out` and `ends` are as they were.
+/// The same; if memory runs out, `out` and `ends` are unchanged.
 fn append_whole<'a>(
     alloc: Global,
     first: &Section<'a>,
@@ -115,7 +116,7 @@ fn append_whole<'a>(
     cut_on_error(appended, start, out)
 }
 
-/// Appends the strings of numbers of a section, if each number has one.
+/// Appends the strings of a section with these IDs, if each has one.
 fn strings_in_one(
     alloc: Global,
     section: &Section<'_>,
@@ -134,7 +135,7 @@ fn strings_in_one(
     if !are_numbers(numbers, section.len()) {
         return Ok(false);
     }
-    // (no number goes on to the second section)
+    // (no ID is one of the second section)
     append_whole(alloc, section, section, numbers, out, ends, steps)?;
     Ok(true)
 }
@@ -165,13 +166,12 @@ fn strings_in_two(
 }
 
 impl<'a> Dictionary<'a> {
-    /// Appends the strings of many numbers of a role, from 1, one after another, and to `ends` where each of them ends, in
-    /// bytes from the start of `out`: true; or false where one of the numbers is that of no string, which is the first
-    /// one that is 0 or above [`count`](Dictionary::count), with `out` and `ends` unchanged. Where memory is refused, both
-    /// are as they were.
+    /// Appends the strings of a role with these IDs, from 1, to `out`, and the byte offset in `out` at which each ends
+    /// to `ends`. Returns true; or false if one of the IDs is 0 or greater than [`count`](Dictionary::count), with
+    /// `out` and `ends` unchanged. If memory runs out, both are unchanged.
     ///
-    /// Each string takes at most as many looks as [`string_of`](Dictionary::string_of). Where the numbers ascend, repeats
-    /// allowed, each block is unfolded once: all strings together take at most as many looks as the last number.
+    /// Each string takes at most as many steps as [`string_of`](Dictionary::string_of). If the IDs ascend (duplicates
+    /// allowed), each block is decoded once, and all strings together take at most as many steps as the last ID.
     #[tactic(auto, unfolding(crate::specs::Views::dictionary_of, crate::specs::Looks::role_block, hdt_front::specs::Strings::section_of))]
     pub fn strings_of(
         &self,

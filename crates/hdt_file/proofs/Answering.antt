@@ -257,7 +257,7 @@ same_triple g is t u ht hu same =
     let o = same_number (strings_in g.dictionary Object) (role_once g is Object) t.2 u.2 ht.2 hu.2 (ap (λ (x : StringTriple). x.2) same) in
     triple_is t u s p o
 
--- what stands at a place of a mapped list is of what stands there
+-- what stands at a place of a mapped list is of what is there
 mapped : (g : GraphParts) (ts : List Triple) (i : ℕ) (x : StringTriple) → slice_get (denoted g ts) i ≡ Some x → (t : Triple) × (slice_get ts i ≡ Some t) × (strings_for g t ≡ x)
 mapped g [] i x h = absurd (cc)
 mapped g (t ∷ ts) zero x h = (t, refl, some_is (strings_for g t) x h)

@@ -1,4 +1,4 @@
--- The rows of the front of a file are exact: what they answer stands there, and what stands there they answer.
+-- The checks of the front of a file are exact: what they give is encoded there, and what is encoded there they give.
 use Rattle.std.proofs.Common.{ℕ, ◌^◌, ◌<◌, List, length, refl}
 use Rattle.hdt_wire.specs.Rows.{IsBytes}
 use Rattle.hdt_wire.specs.Laws.Row.{bound}

@@ -1,4 +1,4 @@
--- The rows of a file are exact; a file is of one graph, and every input is one or has one fault.
+-- The checks of a file are exact; a file is of one graph, and every input is one or has one error.
 use Rattle.std.proofs.Common.{◌≡◌, ◌⊎◌, ℕ, ◌<◌, ◌^◌, List, length, eqb, true, Ok, refl, ap}
 use Rattle.std.proofs.lemmas.Bool.{eqb-true}
 use Rattle.std.proofs.lemmas.Bool.Decides.{Decides-eqb}
@@ -36,7 +36,7 @@ file_exact bytes fits small = record {
       rw (r1, r2, t1) refl;
 }
 
--- the rows give the graph of the layout
+-- the checks give the graph of the layout
 pub layout_exact : (bytes : List ℕ) → IsBytes bytes → length bytes < 2 ^ 64 → Exactly (graph_in bytes) (IsLayout bytes)
 unfolding graph_in
 layout_exact bytes fits small =
@@ -54,6 +54,6 @@ file_alone bytes a b fits small p q = one_value (file_at_start bytes) (λ (file 
 pub layout_alone : (bytes : List ℕ) (g h : GraphParts) → IsBytes bytes → length bytes < 2 ^ 64 → IsLayout bytes g → IsLayout bytes h → g ≡ h
 layout_alone bytes g h fits small p q = one_value (graph_in bytes) (IsLayout bytes) g h (layout_exact bytes fits small) p q
 
--- bytes are one layout, or one fault stands in them
+-- bytes are one layout, or one error stands in them
 pub layout_or_fault : (bytes : List ℕ) → IsBytes bytes → length bytes < 2 ^ 64 → OneValue (graph_in bytes) (IsLayout bytes) ⊎ OneFault (graph_in bytes) (IsLayout bytes)
 layout_or_fault bytes fits small = value_or_fault (graph_in bytes) (IsLayout bytes) (layout_exact bytes fits small)

@@ -94,9 +94,9 @@ pieces_behind g ts tables n h = record {
 pub stands : (role : Role) (string p q : List ℕ) → p ≡ q → IsLinePiece role string q → IsLinePiece role string p
 stands role string p q e h = subst (IsLinePiece role string) (sym e) h
 
--- ---- marks
+-- ---- 1-bits
 
--- a mark more leaves those that are there, and marks its number; a number past the marks counts as marked
+-- a 1-bit more leaves those that are there, and 1-bits its number; a number past the 1-bits counts as marked
 pub more_marked : (marks : List Bool) (number n : ℕ) → is_marked marks n ≡ true → is_marked (set marks number true) n ≡ true
 more_marked [] number n h = h
 more_marked (x ∷ xs) zero zero h = refl
@@ -114,7 +114,7 @@ past_marks [] n h = refl
 past_marks (x ∷ xs) zero h = absurd (omega (arith, h))
 past_marks (x ∷ xs) (suc n) h = past_marks xs n (omega (arith, h))
 
--- the piece that stands at the place of a triple, where each triple's stands at its place
+-- the piece that is encoded at the offset of a triple, where each triple's stands at its place
 pub found_at : {B : Type 0} (now : B → List ℕ) (piece : Triple → List ℕ) (pieces : List B) (ts : List Triple) (i : ℕ) (b : B) (t : Triple) → map now pieces ≡ map piece ts → i < length ts
     → b ≡ get_or pieces i b → now b ≡ piece (get_or ts i t)
 found_at now piece pieces ts i b t e below read =

@@ -1,4 +1,4 @@
--- The rows of a tight file are exact: those of its strings hold where triples use each of them, and only there.
+-- The checks of a tight file are exact: those of its strings hold where triples use each of them, and only there.
 use Rattle.std.proofs.Common.{◌≡◌, ◌∙◌, ℕ, ◌+◌, ◌-◌, ◌<◌, ◌≤◌, ◌^◌, ◌&&◌, ◌⊎◌, inl, inr, Bool, true, false, List, length, Result, Ok, Err, refl, ap, sym, subst, arith}
 use Rattle.std.proofs.lemmas.Bool.{cases_lt}
 use Rattle.std.proofs.lemmas.List.{length-append}
@@ -131,7 +131,7 @@ tight_exact bytes fits small =
 pub tight_or_fault : (bytes : List ℕ) → IsBytes bytes → length bytes < 2 ^ 64 → OneValue (tight_in bytes) (IsTightLayout bytes) ⊎ OneFault (tight_in bytes) (IsTightLayout bytes)
 tight_or_fault bytes fits small = value_or_fault (tight_in bytes) (IsTightLayout bytes) (tight_exact bytes fits small)
 
--- a fault of a file stands in tight reading too
+-- an error of a file stands in tight reading too
 
 same_fault : (r : Result FileParts Fault) (f : Fault) → (r >>= λ file. Ok (graph_of file)) ≡ Err f → (r >>= λ file. strings_used file.dictionary (triples_of (bitmap_of file.triples)) >>= λ _. Ok (graph_of file)) ≡ Err f
 same_fault (Ok file) f h = absurd (cc)

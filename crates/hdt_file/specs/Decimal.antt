@@ -4,7 +4,7 @@ use Rattle.std.specs.Char.{is_digit}
 use Rattle.std.specs.List.{list_all}
 use Rattle.std.specs.Str.Parse.{IsNumeral, digits_value}
 
--- the text spells the number: one digit or more, and the number is the one that they write; zeros may lead
+-- the text encodes the number: one digit or more, and the number is the one that they write; zeros may lead
 pub record Decimal (text : List ℕ) (v : ℕ) : Type 0 where
   pub digits : IsNumeral 10 text
   pub value : digits_value 10 text ≡ v
@@ -12,6 +12,6 @@ pub record Decimal (text : List ℕ) (v : ℕ) : Type 0 where
 abbrev pub is_numeral : List ℕ → Bool
 is_numeral text = nat_lt 0 (length text) && list_all (λ c. is_digit c 10) text
 
--- the number below 2 ^ 64 that the text spells
+-- the number below 2 ^ 64 that the text encodes
 unfoldable pub decimal_number : List ℕ → Option ℕ
 decimal_number text = if is_numeral text && nat_lt (digits_value 10 text) (2 ^ 64) then Some (digits_value 10 text) else None

@@ -22,7 +22,7 @@ pub record IsHeadAndDictionary (front : HeadAndDictionary) (bytes : List ℕ) : 
   pub head : IsHead front.head bytes
   pub dictionary : IsDictionary front.dictionary bytes front.head.end
 
--- the rows, from top to bottom: the head and the dictionary, or the fault that stands
+-- the checks, from top to bottom: the head and the dictionary, or the first error
 unfoldable pub dictionary_after_head : List ℕ → Result HeadAndDictionary Fault
 dictionary_after_head bytes = do
   head ← head_at_start bytes

@@ -6,7 +6,7 @@ use Rattle.hdt_front.specs.declared.fault.ReadFault.TheVariants as reads
 use Rattle.hdt_file.specs.declared.fault.OpenFault.{OpenFault}
 use Rattle.hdt_file.specs.declared.fault.OpenFault.TheVariants as opens
 
--- the fault that an error is, where it is one; want of memory is none
+-- the error of the file, if it is one; running out of memory is none
 abbrev pub open_fault_of : OpenFault → Option Fault
 open_fault_of opens.OutOfMemory = None
 open_fault_of (opens.Fault f) = Some f

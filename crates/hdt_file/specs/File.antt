@@ -32,7 +32,7 @@ pub record IsFile (file : FileParts) (bytes : List ℕ) : Type 0 where
   pub triples : IsTriples (counts_in file.dictionary) file.triples bytes file.dictionary.objects.end
   pub end : file.triples.zs.end ≡ length bytes
 
--- the rows of a file, from top to bottom: the file, or the fault that stands
+-- the checks of a file in turn: the file, or the first error
 unfoldable pub file_at_start : List ℕ → Result FileParts Fault
 file_at_start bytes = do
   front ← dictionary_after_head bytes
@@ -57,7 +57,7 @@ pub record IsLayout (bytes : List ℕ) (graph : GraphParts) : Type 0 where
   pub is : IsFile file bytes
   pub of : graph_of file ≡ graph
 
--- the graph of the bytes, or the fault that stands in them: the first row that fails
+-- the graph of the bytes, or the first error in them: the first check that fails
 unfoldable pub graph_in : List ℕ → Result GraphParts Fault
 graph_in bytes = do
   file ← file_at_start bytes

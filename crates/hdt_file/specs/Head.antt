@@ -12,18 +12,18 @@ use Rattle.hdt_wire.specs.Property.{property_value}
 use Rattle.hdt_file.specs.declared.head.Head.{Head}
 use Rattle.hdt_file.specs.Decimal.{Decimal, decimal_number}
 
--- what a head says: its blocks, the header body, and the place after it
+-- what a head says: its blocks, the header body, and the offset after it
 pub record HeadParts : Type 0 where
   pub global : Block
   pub header : Block
   pub body : List ℕ
   pub end : ℕ
 
--- a `Head`, without where it lies in memory
+-- a `Head`, without its addresses
 unfoldable pub parts_of : Head → HeadParts
 parts_of h = record { global = block_of h.global; header = block_of h.header; body = h.body.now; end = h.end }
 
--- the property `length` of the text spells the number
+-- the property `length` of the text encodes the number
 abbrev pub StatesLength : List ℕ → ℕ → Type 0
 StatesLength properties n = IsSomeAnd (property_value properties (codes "length")) (λ text. Decimal text n)
 
@@ -38,11 +38,11 @@ pub record IsHead (head : HeadParts) (bytes : List ℕ) : Type 0 where
 unfoldable pub length_in : List ℕ → Option ℕ
 length_in properties = option_and_then decimal_number (property_value properties (codes "length"))
 
--- the row of the property `length`
+-- the check of the property `length`
 abbrev pub body_length : Block → Result ℕ Fault
 body_length header = ok_or (length_in header.properties) (record { place = header.properties_at; reason = HeaderLength })
 
--- the rows of a head, from top to bottom: the head, or the fault that stands
+-- the checks of a head in turn: the head, or the first error
 unfoldable pub head_at_start : List ℕ → Result HeadParts Fault
 head_at_start bytes = do
   global ← control_at Global bytes 0

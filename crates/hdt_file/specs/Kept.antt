@@ -1,4 +1,4 @@
--- What a speller keeps of the lines that it has spelled.
+-- What a speller keeps of the lines that it has encoded.
 use Rattle.std.specs.Prelude.{ℕ, ⊤, List, [], Option, None, Some}
 use Rattle.std.specs.List.{All}
 use Rattle.hdt_wire.specs.declared.role.Role.{Role}

@@ -22,14 +22,14 @@ dictionary_in p = p.0.dictionary
 abbrev pub bitmap_in : Parts → BitmapTriples
 bitmap_in p = p.1
 
--- how many numbers of 8 bytes the directories and the lists of the triples take
+-- how many numbers of 8 bytes the rank/select indexes and the lists of the triples take
 abbrev pub held_by : Parts → ℕ
 held_by p = directories_held (bitmap_in p) + lists_held (counts_in (dictionary_in p)) (bitmap_in p)
 
 abbrev pub parts_from : FileParts → Parts
 parts_from file = (record { head = file.head; dictionary = file.dictionary }, bitmap_of file.triples)
 
--- the parts of the bytes, or the fault that stands in them
+-- the parts of the bytes, or the first error in them
 abbrev pub parts_in : List ℕ → Result Parts Fault
 parts_in bytes = seen parts_from (file_at_start bytes)
 
@@ -37,13 +37,13 @@ parts_in bytes = seen parts_from (file_at_start bytes)
 abbrev pub graph_from : Parts → GraphParts
 graph_from p = record { header = p.0.head.body; dictionary = sections_of p.0.dictionary; triples = triples_of p.1 }
 
--- the rows of the strings of a tight file, after those of its parts
+-- the checks of the strings of a tight file, after those of its parts
 unfoldable pub tight_from : Parts → Result GraphParts Fault
 tight_from p = do
   _ ← strings_used p.0.dictionary (triples_of p.1)
   Ok (graph_from p)
 
--- the rows of a tight file by its parts
+-- the checks of a tight file by its parts
 unfoldable pub tight_rows : List ℕ → Result GraphParts Fault
 tight_rows bytes = do
   p ← parts_in bytes

@@ -25,7 +25,7 @@ pub record IsTightLayout (bytes : List ℕ) (graph : GraphParts) : Type 0 where
   pub layout : IsLayout bytes graph
   pub tight : IsTight graph
 
--- ---- the rows
+-- ---- the checks
 
 -- the number of a section, from 0
 abbrev pub part_number : Part → ℕ
@@ -46,11 +46,11 @@ is_used d ts parts.Subjects n = uses ts Subject (length d.shared.strings + n)
 is_used d ts parts.Predicates n = uses ts Predicate n
 is_used d ts parts.Objects n = uses ts Object (length d.shared.strings + n)
 
--- the row of string i of a section, from 0
+-- the check of string i of a section, from 0
 unfoldable pub used_row : DictionaryParts → List Triple → Part → ℕ → Result (Unit {0}) Fault
 used_row d ts part i = demand (is_used d ts part (i + 1)) (string_place (section_of_part d part) i) Unused
 
--- the rows of all strings of a section
+-- the checks of all strings of a section
 abbrev pub section_used : DictionaryParts → List Triple → Part → Result (Unit {0}) Fault
 section_used d ts part = rows_from (used_row d ts part) 0 (length (section_of_part d part).strings)
 
@@ -62,7 +62,7 @@ strings_used d ts = do
   _ ← section_used d ts parts.Predicates
   section_used d ts parts.Objects
 
--- the rows of a tight file, from top to bottom, those of its strings after all others: its graph, or the fault that stands
+-- the checks of a tight file, in turn, those of its strings after all others: its graph, or the first error
 unfoldable pub tight_in : List ℕ → Result GraphParts Fault
 tight_in bytes = do
   file ← file_at_start bytes

@@ -157,12 +157,12 @@ impl<'a> Graph<'a> {
         self.dictionary.string_of(role, n, out, steps)
     }
 
-    /// Appends the strings of many numbers of a role, from 1, one after another, and to `ends` where each of them ends, in
-    /// bytes from the start of `out`: true; or false where one of the numbers is that of no string, which is the first one
-    /// that is 0 or above [`count`](Graph::count), with `out` and `ends` unchanged. Where memory is refused, both are as they were.
+    /// Appends the strings of a role with these IDs, from 1, to `out`, and the byte offset in `out` at which each ends
+    /// to `ends`. Returns true; or false if one of the IDs is 0 or greater than [`count`](Graph::count), with `out` and
+    /// `ends` unchanged. If memory runs out, both are unchanged.
     ///
-    /// Each string takes at most as many looks as [`string_of`](Graph::string_of). Where the numbers ascend, repeats
-    /// allowed, each block is unfolded once: all strings together take at most as many looks as the last number.
+    /// Each string takes at most as many steps as [`string_of`](Graph::string_of). If the IDs ascend (duplicates
+    /// allowed), each block is decoded once, and all strings together take at most as many steps as the last ID.
     #[tactic(auto, unfolding(crate::specs::Views::graph_seen, crate::specs::PartsViews::graph_parts))]
     pub fn strings_of(
         &self,

@@ -29,9 +29,8 @@ impl<'a> Graph<'a> {
         self.triples.find(pattern)
     }
 
-    /// How many triples agree with each number that the pattern gives, or `most` where they are more: so `most` = 1 tells
-    /// whether there is one. The steps are those of [`Graph::matching`]; where matches add up, no more of them are looked at
-    /// than `most`. It takes no memory.
+    /// Returns the number of matches of a pattern, but at most `most`: with 1, whether there is one. Its steps are
+    /// those of [`Graph::matching`]; where matches are counted one by one, it stops at `most`. It allocates nothing.
     pub fn matching_up_to(&self, pattern: Pattern, most: u64, steps: &mut Steps) -> u64
         ensures is { result ≡ min most (length (matches pattern (graph_seen self.now).triples)) }
         // The steps are at most the table's number, and that of the table of the shorter lists.
@@ -42,10 +41,9 @@ impl<'a> Graph<'a> {
         self.triples.matching_up_to(pattern, most, steps)
     }
 
-    /// How many triples agree with each number that the pattern gives: as many as [`Graph::search`] gives. Where nothing is
-    /// given, a subject, a subject with a predicate, or an object alone, the directories and lists tell it in steps that
-    /// don't grow with the matches; with a subject and an object they grow with the digits of the object's count. They are
-    /// those of the table. It takes no memory.
+    /// Returns the number of matches of a pattern. If nothing is given, or a subject, a subject and a predicate, or
+    /// only an object, its steps don't grow with the matches; with a subject and an object they grow with the logarithm
+    /// of the object's triples. They are at most those of the table. It allocates nothing.
     pub fn matching(&self, pattern: Pattern, steps: &mut Steps) -> u64
         ensures is { result ≡ length (matches pattern (graph_seen self.now).triples) }
         // The steps are at most the table's number, and that of the table of the shorter lists.

@@ -35,7 +35,7 @@ rest_step true true not_both o p n m i k rest fits = absurd (not_both refl refl)
 rest_step lt false not_both o p n m i k rest fits = absurd (omega (arith, fits))
 rest_step false true not_both o p n m i k rest fits = let r = rest (omega (arith, fits)) in (r.0, omega (arith, r.1))
 
--- a next string that keeps more of the last one than that agrees with the sought one is less than it too
+-- a next string that keeps more of the last one than that agrees with the searched one is less than it too
 pub kept_less : (k : ℕ) (last sought text : List ℕ) → order last sought ≡ Less → k ≤ length last → agreed last sought < k
     → (order (take k last ++ text) sought ≡ Less) × (agreed (take k last ++ text) sought ≡ agreed last sought)
 kept_less zero last sought text less fits more = absurd (omega (arith, more))
@@ -45,7 +45,7 @@ kept_less (suc k) (b ∷ last) (c ∷ sought) text less fits more =
     kept_step (nat_lt b c) (nat_eq b c) (apart b c) (order last sought) (order (take k last ++ text) sought) (agreed last sought) (agreed (take k last ++ text) sought) k
     (λ h i. kept_less k last sought text h (omega (arith, fits)) i) less more
 
--- where it keeps no more than agrees, what is stored is compared with the rest of the sought one
+-- where it keeps no more than agrees, what is stored is compared with the rest of the searched one
 pub rest_decides : (k : ℕ) (last sought text : List ℕ) → k ≤ agreed last sought
     → (order (take k last ++ text) sought ≡ order text (drop k sought)) × (agreed (take k last ++ text) sought ≡ k + agreed text (drop k sought))
 rest_decides zero last sought text fits = (refl, omega arith)
@@ -167,7 +167,7 @@ drop_decides (suc k) (x ∷ a) (y ∷ b) fits =
 itself : (b : ℕ) → nat_eq b b ≡ true
 itself b = grind (arith, nat_tests)
 
--- a string agrees with the one before it as far as it keeps that
+-- a string agrees with the previous one as far as it keeps that
 pub keeps_agree : (k : ℕ) (last text : List ℕ) → k ≤ length last → k ≤ agreed (take k last ++ text) last
 keeps_agree zero last text fits = omega arith
 keeps_agree (suc k) [] text fits = absurd (omega (arith, fits))

@@ -1,4 +1,4 @@
--- How far strings agree with a sought one that stand between two others.
+-- How far strings agree with a searched one that stand between two others.
 use Rattle.std.proofs.Common.{◌≡◌, ℕ, zero, suc, ◌+◌, ◌-◌, ◌*◌, ◌<◌, ◌≤◌, min, List, [], ◌∷◌, length, get_or, refl, arith, Bool, true, false, nat_eq, nat_lt, cond, Ordering, inl, inr, ◌⊎◌}
 use Rattle.std.proofs.Math.Nat.{mul-le-mul_left}
 use Rattle.std.proofs.lemmas.Bool.Decides.{nat_tests}
@@ -46,7 +46,7 @@ same_over p q r s a b c d = grind (arith, nat_tests)
 same_same : (p q s : ℕ) → nat_eq p q ≡ true → nat_eq p s ≡ true → nat_eq s q ≡ false → ⊥
 same_same p q s a b c = grind (arith, nat_tests)
 
--- a string between two others agrees with a sought one as far as both of these do
+-- a string between two others agrees with a searched one as far as both of these do
 between : (k : ℕ) (a b c x : List ℕ) → string_cmp a b ≡ Less → string_cmp b c ≡ Less → k ≤ agreed a x → k ≤ agreed c x → k ≤ agreed b x
 between zero a b c x l u h i = omega arith
 between (suc k) [] b c x l u h i = absurd (omega (arith, h))

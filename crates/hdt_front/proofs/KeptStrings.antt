@@ -17,7 +17,7 @@ use Rattle.hdt_front.specs.Canonical.{piece_of, pieces_from, starts_from, packed
 use Rattle.hdt_front.specs.Laws.Canonical.{many_pieces, enough_bytes, folded, canonical_stands}
 use Rattle.hdt_front.specs.InWork.{heads_from, AreKept}
 
--- ---- strings are unfolded from their pieces
+-- ---- strings are decoded from their entries
 
 unfolds_pieces : (b i : ℕ) (last : List ℕ) (strings pieces : List (List ℕ)) → ArePieces b i last strings pieces → All HasNoZero strings → unfolded b (length strings) i last (concat pieces) ≡ strings
 unfolding ArePieces unfolded

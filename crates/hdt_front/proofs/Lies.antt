@@ -1,4 +1,4 @@
--- How heads and other pieces lie in a section whose rows hold.
+-- How heads and other entries lie in a section whose checks hold.
 use Rattle.std.proofs.Common.{◌≡◌, ℕ, zero, suc, ◌+◌, ◌-◌, ◌*◌, ◌/◌, ◌<◌, ◌≤◌, ◌++◌, ◌||◌, Bool, true, false, cond, List, [], length, take, drop, get_or, Ok, refl, sym, ap, ◌∙◌, arith, subst, eq-eqb, eqb, add-one, zero-add, Ordering}
 use Rattle.std.proofs.Math.Nat.{mul-div_left, mul-mod_left, div-eq_of_lt, div-zero, mul-le-mul_left, le-div_iff_mul-le}
 use Rattle.std.proofs.lemmas.Nat.{mod-mul-add}
@@ -60,7 +60,7 @@ head_lies p n q bytes size some h e =
       after = ap (λ k. rest_at p.block k bytes) (add-one (q * p.block)) ∙ row.3 ∙ ap (λ r. drop (zero_in r + 1) r) here;
     }
 
--- a piece that isn't a head
+-- an entry that isn't a head
 pub record PieceLies (b i : ℕ) (bytes rest : List ℕ) (strings : List (List ℕ)) : Type 0 where
   pub fits : kept false rest ≤ length (get_or strings (i - 1) [])
   pub string : get_or strings i [] ≡ take (kept false rest) (get_or strings (i - 1) []) ++ text_of false rest

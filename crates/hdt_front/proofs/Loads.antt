@@ -133,7 +133,7 @@ load_runs test d i n r z room few fits so_far found f lanes all =
       stop = λ h. omega (arith, counted, front.stop (omega (arith, counted, h)), behind);
     }
 
--- behind bytes that are no zero byte the first zero byte is sought
+-- behind bytes that are no zero byte the first zero byte is searched
 pub zero_behind : (i : ℕ) (x : List ℕ) → i ≤ zero_in x → i + zero_in (drop i x) ≡ zero_in x
 zero_behind i x h = behind_runs (λ b. not (nat_eq b 0)) i x h
 

@@ -1,4 +1,4 @@
--- The usual piece: its text is ASCII, and its first byte decides the order.
+-- The usual entry: its text is ASCII, and its first byte decides the order.
 use Rattle.std.proofs.Common.{◌≡◌, ℕ, zero, suc, ◌+◌, ◌-◌, ◌%◌, ◌<◌, ◌≤◌, ◌++◌, ◌||◌, Bool, true, false, List, length, take, drop, get_or, Ok, refl, sym, ap, subst, ◌∙◌, arith, eqb, nat_le, nat_lt, le-leb, lt-ltb, length-drop, length-take-le, add-zero}
 use Rattle.std.proofs.lemmas.Bool.Decides.{nat_tests}
 use Rattle.std.specs.Ordering.{is_lt}
@@ -26,7 +26,7 @@ later_is before text kept fits some less =
     ∙ first_decides (drop kept before) text (omega (arith, fits, length-drop kept before)) some (λ e. omega (arith, e, first, less))
     ∙ lt-ltb _ _ (omega (arith, first, less))
 
--- what was seen of a piece makes it the usual one
+-- what was seen of an entry makes it the usual one
 plain_is : (before rest : List ℕ) (kept len : ℕ) → is_utf8 before ≡ true → 0 < length rest → 128 ≤ get_or rest 0 0 → get_or rest 0 0 < 256 → kept ≡ get_or rest 0 0 - 128
     → kept < length before → len ≤ plain_in (drop 1 rest) → len < length (drop 1 rest) → get_or (drop 1 rest) len 0 ≡ 0 → get_or before kept 0 < get_or (drop 1 rest) 0 0
     → IsPlainPiece before rest kept len
@@ -59,7 +59,7 @@ opens : (p : Packing) (i : ℕ) (before rest : List ℕ) (kept len : ℕ) → is
 unfolding opened_at
 opens p i before rest kept len head h = let number = h.number in rw (head, number) refl
 
--- its rows hold
+-- its checks hold
 pub plain_row : (p : Packing) (i : ℕ) (before rest : List ℕ) (kept len : ℕ) → (i % p.block ≡ 0 → ⊥) → IsPlainPiece before rest kept len
     → string_row p i before rest ≡ Ok (take kept before ++ take len (drop 1 rest), drop (len + 1) (drop 1 rest))
 unfolding string_row

@@ -19,7 +19,7 @@ pub head_within : (s : Section) (q : ℕ) → q < blocks_of s → q * s.packed.b
 unfolding blocks_of
 head_within s q h = head_inside s.packed.count s.packed.block q (some_block s.packed.count s.packed.block q h) h
 
--- string i, counted from 0, is the one before string i + 1
+-- string i, counted from 0, is the previous one string i + 1
 pub string_before : (s : Section) (i : ℕ) → i < s.packed.count → get_or (strings_of s) i [] ≡ before_at s.packed.block (i + 1) s.packed.bytes.now
 unfolding strings_of
 string_before s i h =

@@ -1,4 +1,4 @@
--- A string unfolded from the head of its block.
+-- A string decoded from the first string of its block.
 use Rattle.std.proofs.Common.{◌≡◌, ℕ, zero, suc, ◌+◌, ◌-◌, ◌*◌, ◌/◌, ◌%◌, ◌<◌, ◌≤◌, ◌++◌, Bool, true, false, nat_eq, eqb, List, [], length, take, get_or, drop, Ok, Result, sym, ap, ◌∙◌, arith, subst, eq-eqb, add-zero, append_assoc, length-drop, length-take-le}
 use Rattle.std.proofs.Math.Nat.{mul-mod_left}
 use Rattle.std.proofs.lemmas.Nat.{mod-mul-add, div-add-mod', le-div}
@@ -70,7 +70,7 @@ block_inside n b i some h =
 pub block_within : (n b q many : ℕ) → 1 ≤ b → 0 < many → q * b + many ≤ n → q < (n + (b - 1)) / b
 block_within n b q many some few h = let k : q + 1 ≤ (n + (b - 1)) / b = le-div (q + 1) (n + (b - 1)) b some (omega (arith, h, some, few)) in omega (arith, k)
 
--- the last of the pieces is string i
+-- the last of the entries is string i
 pub string_whole : (b n i : ℕ) (bytes : List ℕ) → i < n → so_far b (i / b) (i % b + 1) bytes ≡ get_or (unfolded b n 0 [] bytes) i []
 string_whole b n i bytes h =
     let two : i % b + 1 ≡ suc (i % b) = omega arith in
@@ -99,7 +99,7 @@ copied at n run room bytes few in_room in_bytes =
     ∙ ap (take (at + run)) whole ∙ ap (λ m. take m (take at room ++ part)) size ∙ take-append-add (take at room) part run
     ∙ ap (λ l. take at room ++ l) (take-take run n bytes few)
 
--- the head of a block is the rest of its first string
+-- the first string of a block is the rest of its first string
 pub head_stands : (p : Packing) (n q : ℕ) (bytes room left : List ℕ) → 0 < p.block → q * p.block < n → strings_at p n 0 [] bytes ≡ Ok tt → left ≡ rest_at p.block (q * p.block) bytes
     → StandsSoFar p.block q 1 bytes room 0 left
 unfolding kept text_from text_of after_piece
@@ -123,7 +123,7 @@ stands_on b q k bytes room grown left at run s part within made =
       after = drop-drop (rest + 1) run left ∙ ap (λ n. drop n left) behind ∙ s.after;
     }
 
--- a string that stands whole, and the number of one byte at the front of the next one's piece: so much of it stands
+-- a string that stands whole, and the number of one byte at the front of the next one's entry: so much of it stands
 pub next_stands : (p : Packing) (n q k : ℕ) (bytes room left : List ℕ) (at m : ℕ) → StandsSoFar p.block q k bytes room at left → zero_in left ≡ 0 → 0 < k → k < p.block → q * p.block + k < n
     → strings_at p n 0 [] bytes ≡ Ok tt → vbyte_at (drop 1 left) 0 ≡ Ok (m, 1) → StandsSoFar p.block q (k + 1) bytes room m (drop 2 left)
 unfolding kept text_from text_of after_piece

@@ -1,4 +1,4 @@
--- What stands where the rows of strings hold, string by string.
+-- What stands where the checks of strings hold, string by string.
 use Rattle.std.specs.Prelude.{◌≡◌, ℕ, zero, suc, ◌+◌, ◌-◌, ◌*◌, ◌/◌, ◌<◌, ◌≤◌, ◌==◌, ◌||◌, ◌++◌, true, false, List, [], length, take, drop, get_or, Ok}
 use Rattle.std.specs.Str.{is_utf8}
 use Rattle.hdt_wire.specs.Rows.{zero_in}
@@ -6,7 +6,7 @@ use Rattle.hdt_wire.specs.VByte.{vbyte_at}
 use Rattle.hdt_front.specs.Unfolding.{is_head, kept, text_from, string_of_piece, after_piece, read_or}
 use Rattle.hdt_front.specs.StringRows.{Packing, precedes}
 
--- where piece i begins
+-- where entry i begins
 unfoldable pub rest_at : ℕ → ℕ → List ℕ → List ℕ
 rest_at b zero bytes = bytes
 rest_at b (suc i) bytes = after_piece (is_head b i) (rest_at b i bytes)
@@ -16,7 +16,7 @@ unfoldable pub before_at : ℕ → ℕ → List ℕ → List ℕ
 before_at b zero bytes = []
 before_at b (suc i) bytes = string_of_piece (is_head b i) (before_at b i bytes) (rest_at b i bytes)
 
--- the string before piece k of block q; before the head none
+-- the string before entry k of block q; before the head none
 abbrev pub so_far : ℕ → ℕ → ℕ → List ℕ → List ℕ
 so_far b q zero bytes = []
 so_far b q (suc k) bytes = before_at b (q * b + suc k) bytes

@@ -4,7 +4,7 @@ use Rattle.hdt_wire.specs.declared.fault.Fault.{Fault}
 use Rattle.hdt_front.specs.declared.fault.ReadFault.{ReadFault}
 use Rattle.hdt_front.specs.declared.fault.ReadFault.TheVariants as faults
 
--- the fault that an error is, where it is one; want of memory is none
+-- the error of the file, if it is one; running out of memory is none
 abbrev pub read_fault_of : ReadFault → Option Fault
 read_fault_of faults.OutOfMemory = None
 read_fault_of (faults.Fault f) = Some f

@@ -15,12 +15,12 @@ pub record SectionInWork : Type 0 where
 abbrev pub last_string : SectionInWork → List ℕ
 last_string w = before w.strings (length w.strings)
 
--- where the blocks of pieces begin, the first piece number i at a place
+-- where the blocks of entries begin, the first entry number i at a place
 unfoldable pub heads_from : ℕ → ℕ → ℕ → List (List ℕ) → List ℕ
 heads_from b i at [] = []
 heads_from b i at (piece ∷ pieces) = cond (is_head b i) (at ∷ []) [] ++ heads_from b (i + 1) (at + length piece) pieces
 
--- the strings are kept as the last one, where the blocks begin, and the packed bytes
+-- the strings are kept as the last one, where the blocks begin, and the front-coded bytes
 pub record AreKept (b : ℕ) (strings : List (List ℕ)) (text heads bytes : List ℕ) : Type 0 where
   pub block : 1 ≤ b
   pub fits : b < 2 ^ 32

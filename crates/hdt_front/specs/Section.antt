@@ -1,6 +1,6 @@
 -- Dictionary sections (rdfhdt.org, "HDT binary format", Plain Front Coding): the type byte 2, three numbers, their
--- 8-bit code, the starts of the blocks as a number sequence, and the packed bytes, into which the strings are folded,
--- with their 32-bit code.
+-- CRC-8, the block offsets as a log sequence, and the front-coded bytes, into which the strings are coded,
+-- with their CRC-32C.
 use Rattle.std.specs.Prelude.{◌≡◌, ℕ, zero, suc, ◌+◌, ◌-◌, ◌*◌, ◌/◌, ◌<◌, ◌==◌, ◌||◌, ◌⊎◌, not, Bool, nat_lt, nat_le, List, [], ◌∷◌, ◌++◌, length, slice_index, slice_index_or, slice_range, take, true, Result, Ok}
 use Rattle.std.specs.List.{concat}
 use Rattle.std.specs.Str.{IsUtf8}
@@ -21,7 +21,7 @@ use Rattle.hdt_front.specs.Order.{IsAscending}
 use Rattle.hdt_front.specs.Folding.{IsPiece}
 use Rattle.hdt_front.specs.StringRows.{Packing, strings_at}
 
--- what a section says: its strings, how they are folded and where, and the place after the section
+-- a section: its strings, how they are front-coded and where, and the offset after the section
 pub record SectionParts : Type 0 where
   pub strings : List (List ℕ)
   pub block_size : ℕ
@@ -33,8 +33,8 @@ pub record SectionParts : Type 0 where
 abbrev pub before : List (List ℕ) → ℕ → List ℕ
 before strings i = slice_index_or ([] ∷ strings) i []
 
--- the strings are folded into the packed bytes, one piece a string: at the head of a block the string, else what is
--- behind a front that the string before has too; each with a zero byte. The starts are the places of the heads, and
+-- the strings are front-coded into the front-coded bytes, one entry a string: the string if it is the first of its block, else what is
+-- behind a front that the string before has too; each with a zero byte. The block offsets are the places of the first strings of blocks, and
 -- the end.
 pub record AreFolded (block_size : ℕ) (strings : List (List ℕ)) (packed starts : List ℕ) : Type 0 where
   pub pieces : List (List ℕ)
@@ -50,14 +50,14 @@ pub record AreStrings (strings : List (List ℕ)) : Type 0 where
   pub no_zero : (i : ℕ) → i < length strings → HasNoZero (slice_index_or strings i [])
   pub ascend : IsAscending strings
 
--- so many starts have n strings in blocks: one a block, and the end; without strings none, or the one start 0
+-- so many block offsets have n strings in blocks: one a block, and the end; without strings none, or the one block offset 0
 abbrev pub HasStarts : ℕ → ℕ → List ℕ → Type 0
 HasStarts zero block_size starts = (starts ≡ []) ⊎ (starts ≡ 0 ∷ [])
 HasStarts (suc n) block_size starts = length starts ≡ (suc n + (block_size - 1)) / block_size + 1
 
--- the section stands at the place, row by row
+-- the section is encoded at the offset, check by check
 pub record IsSection (s : SectionParts) (bytes : List ℕ) (at : ℕ) : Type 0 where
-  -- where its numbers and its starts lie
+  -- the offsets of its numbers and its block offsets
   pub size_place : ℕ
   pub block_place : ℕ
   pub code_place : ℕ
@@ -70,7 +70,7 @@ pub record IsSection (s : SectionParts) (bytes : List ℕ) (at : ℕ) : Type 0 w
   pub block : IsNumber s.block_size bytes block_place code_place
   pub code : Stands bytes code_place (code8 (slice_range bytes at code_place) ∷ []) starts_place
   pub some : 0 < length s.strings → 0 < s.block_size
-  -- the starts of the blocks, and the packed bytes with their code
+  -- the block offsets, and the front-coded bytes with their code
   pub starts_stand : IsNumberSequence starts bytes starts_place
   pub started : HasStarts (length s.strings) s.block_size starts.items
   pub place : s.packed_place ≡ starts.end
@@ -79,11 +79,11 @@ pub record IsSection (s : SectionParts) (bytes : List ℕ) (at : ℕ) : Type 0 w
   pub folded : AreFolded s.block_size s.strings s.packed starts.items
   pub strings : AreStrings s.strings
 
--- the place of string i, counted from 0: where its piece begins
+-- the place of string i, counted from 0: where its entry begins
 unfoldable pub string_place : SectionParts → ℕ → ℕ
 string_place s i = s.packed_place + (length s.packed - length (rest_at s.block_size i s.packed))
 
--- ---- the rows
+-- ---- the checks
 
 abbrev pub starts_counted : ℕ → ℕ → ℕ → Bool
 starts_counted zero block_size count = nat_le count 1
@@ -92,8 +92,8 @@ starts_counted (suc n) block_size count = count == (suc n + (block_size - 1)) / 
 abbrev pub packing_with : Sequence ℕ → ℕ → ℕ → Packing
 packing_with starts block_size size = record { block = block_size; base = starts.end; size = size; starts = starts.items; starts_at = starts.places }
 
--- what stands above the rows of the strings: how many there are, in blocks of how many, the starts of the blocks,
--- the packed bytes, and the place after the section
+-- what stands above the checks of the strings: how many there are, the block size, the block offsets,
+-- the front-coded bytes, and the offset after the section
 pub record PackedParts : Type 0 where
   pub count : ℕ
   pub block_size : ℕ
@@ -101,7 +101,7 @@ pub record PackedParts : Type 0 where
   pub packed : List ℕ
   pub end : ℕ
 
--- what the head of a section says: how many strings, packed into how many bytes, in blocks of how many, and the place
+-- the head of a section: the number of strings and of their bytes, the block size, and the place
 -- of the starts
 pub record SectionHeadParts : Type 0 where
   pub count : ℕ
@@ -109,7 +109,7 @@ pub record SectionHeadParts : Type 0 where
   pub block_size : ℕ
   pub starts_place : ℕ
 
--- the rows of the head, from top to bottom
+-- the checks of the head, in turn
 unfoldable pub head_at : List ℕ → ℕ → Result SectionHeadParts Fault
 head_at bytes at = do
   kind ← byte_at bytes at
@@ -122,7 +122,7 @@ head_at bytes at = do
   _ ← demand (not (count.0 == 0) || size.0 == 0) count.1 PackedLength
   Ok (record { count = count.0; size = size.0; block_size = block.0; starts_place = start })
 
--- the rows above those of the strings, from top to bottom
+-- the checks above those of the strings, in turn
 unfoldable pub packed_parts_at : List ℕ → ℕ → Result PackedParts Fault
 packed_parts_at bytes at = do
   head ← head_at bytes at
@@ -132,7 +132,7 @@ packed_parts_at bytes at = do
   packed ← packed_at (8 * head.size) bytes starts.end
   Ok (record { count = head.count; block_size = head.block_size; starts = starts; packed = packed.0; end = packed.1 })
 
--- the section that packed bytes unfold to
+-- the section that front-coded bytes decode to
 abbrev pub unfolded_section : PackedParts → SectionParts
 unfolded_section p = record {
   strings = unfolded p.block_size p.count 0 [] p.packed;
@@ -142,7 +142,7 @@ unfolded_section p = record {
   end = p.end;
 }
 
--- the rows of a section, from top to bottom: the section, or the fault that stands
+-- the checks of a section in turn: the section, or the first error
 unfoldable pub section_at : List ℕ → ℕ → Result SectionParts Fault
 section_at bytes at = do
   parts ← packed_parts_at bytes at

@@ -10,7 +10,7 @@ use Rattle.hdt_front.specs.Section.{HasStarts, AreFolded, AreStrings}
 abbrev pub section_head : ℕ → ℕ → ℕ → List ℕ
 section_head count size block_size = 2 ∷ (vbyte count ++ (vbyte size ++ vbyte block_size))
 
--- the canonical bytes of a section, but for how its strings are folded
+-- the canonical bytes of a section, but for how its strings are front-coded
 abbrev pub section_spelling : ℕ → ℕ → List ℕ → List ℕ → List ℕ
 section_spelling count block_size starts packed =
     let head = section_head count (length packed) block_size in

@@ -1,4 +1,4 @@
--- The rows of the strings of a section.
+-- The checks of the strings of a section.
 use Rattle.std.specs.Prelude.{ℕ, zero, suc, ◌+◌, ◌-◌, ◌/◌, ◌==◌, ◌||◌, Bool, nat_le, nat_lt, List, ◌++◌, length, take, drop, get_or, Result, Ok, Err, if◌then◌else◌}
 use Rattle.std.specs.Str.{is_utf8}
 use Rattle.std.specs.Ordering.{is_lt}
@@ -11,7 +11,7 @@ use Rattle.hdt_seq.specs.Sequence.{Places, place_of_entry}
 use Rattle.hdt_front.specs.Order.{string_cmp}
 use Rattle.hdt_front.specs.Unfolding.{is_head}
 
--- how strings lie: the block size, the place and size of the packed bytes, the stored starts and where these lie
+-- how strings lie: the block size, the place and size of the front-coded bytes, the stored block offsets and where these lie
 pub record Packing : Type 0 where
   pub block : ℕ
   pub base : ℕ
@@ -19,11 +19,11 @@ pub record Packing : Type 0 where
   pub starts : List ℕ
   pub starts_at : Places
 
--- the place in the input of what is left of the packed bytes
+-- the place in the input of what is left of the front-coded bytes
 abbrev pub place_at : Packing → List ℕ → ℕ
 place_at p rest = p.base + (p.size - length rest)
 
--- a number has to end within the packed bytes
+-- a number has to end within the front-coded bytes
 abbrev pub packed_reason : Reason → Reason
 packed_reason Truncated = PackedLength
 packed_reason r = r
@@ -42,13 +42,13 @@ opened_at p i rest =
 abbrev pub precedes : List ℕ → List ℕ → Bool
 precedes x y = is_lt (string_cmp x y)
 
--- the last rows of a string at a place: it is UTF-8, and it follows the one before
+-- the last checks of a string at a place: it is UTF-8, and it follows the previous one
 abbrev pub unfolded_rows : Bool → Bool → ℕ → Result (Unit {0}) Fault
 unfolded_rows valid later place = do
   _ ← demand valid place NotUtf8
   demand later place StringsNotAscending
 
--- string i, and the bytes after its piece
+-- string i, and the bytes after its entry
 unfoldable pub string_row : Packing → ℕ → List ℕ → List ℕ → Result (List ℕ × List ℕ) Fault
 string_row p i before rest = do
   front ← opened_at p i rest

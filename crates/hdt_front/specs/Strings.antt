@@ -28,10 +28,10 @@ block_size s = s.packed.block
 unfoldable pub blocks_of : Section → ℕ
 blocks_of s = (s.packed.count + (s.packed.block - 1)) / s.packed.block
 
--- where block q begins among the packed bytes
+-- where block q begins among the front-coded bytes
 abbrev pub block_start : Section → ℕ → ℕ
 block_start s q = get_or (numbers_of s.packed.starts) q 0
 
--- the packed bytes of the block of string i, counted from 0: from its head to the next one, or to the end
+-- the front-coded bytes of the block of string i, counted from 0: from its head to the next one, or to the end
 unfoldable pub packed_block : Section → ℕ → List ℕ
 packed_block s i = take (block_start s (i / s.packed.block + 1) - block_start s (i / s.packed.block)) (drop (block_start s (i / s.packed.block)) s.packed.bytes.now)

@@ -1,4 +1,4 @@
--- The strings of a section, in order, each with its place.
+-- The strings of a section, in order, each with its offset.
 use Rattle.std.specs.Prelude.{◌≡◌, true, ℕ, zero, suc, ◌+◌, List, [], ◌∷◌, map, nat_eq, Option, Some, None}
 use Rattle.std.specs.declared.cmp.Ordering.{Ordering}
 use Rattle.std.specs.declared.cmp.Ordering.TheVariants.{Greater}
@@ -32,7 +32,7 @@ abbrev pub PlacedAscend : List Placed → Type 0
 PlacedAscend [] = Unit {0}
 PlacedAscend (p ∷ ps) = After p.string ps
 
--- what a walk has: the string that it unfolded last, and those still to come
+-- what an iteration has: the last string, and those still to come
 pub record Way : Type 0 where
   pub last : List ℕ
   pub ahead : List Placed
@@ -60,7 +60,7 @@ abbrev pub first_string : List Placed → Option (List ℕ)
 first_string [] = None
 first_string (p ∷ ps) = Some p.string
 
--- how the first string lies to another one; the end lies after all
+-- how the first string compares with another one; the end is greater than all
 abbrev pub first_order : List Placed → List ℕ → Ordering
 first_order [] x = Greater
 first_order (p ∷ ps) x = string_cmp p.string x

@@ -1,4 +1,4 @@
-//! A seeker over the strings of a section: it goes to the string of any number.
+//! A cursor that goes to any string of a section.
 ghost use Rattle.std.specs.Prelude.{◌≡◌, ◌≤◌, ◌<◌, ◌+◌, ◌-◌, ◌*◌, ◌/◌, [], length, OnOk, OnErr};
 ghost use Rattle.hdt_front.specs.Strings.{strings_of, blocks_of, block_size};
 ghost use Rattle.hdt_front.specs.Seeking.{standing, head_before};
@@ -10,9 +10,8 @@ use hdt_seq::Steps;
 use std::alloc::{AllocError, Global};
 use std::marker::Model;
 
-/// A seeker over the strings of a section, which stands on one of them. It goes to a later string of the same block from
-/// where it stands, and to any other one from the head of its block: so who asks for ascending numbers has each block
-/// unfolded once.
+/// A cursor that goes to any string of a section: to a later string of the same block from the current one, to any
+/// other string from the first one of its block. So ascending IDs decode each block once.
 ///
 /// ```text
 /// let mut seeker = Seeker::new(alloc, &section);
@@ -44,7 +43,7 @@ impl<'a> Model for Seeker<'a> {
 }
 
 impl<'a> Seeker<'a> {
-    /// A seeker that stands before the first string.
+    /// Returns a cursor before the first string. It allocates nothing yet.
     pub fn new(alloc: Global, section: &Section<'a>) -> Seeker<'a>
         ensures { result ≡ record { section = section.now; at = 0; last = [] } }
     {
@@ -56,14 +55,14 @@ impl<'a> Seeker<'a> {
         }
     }
 
-    /// The string where it stands; before the first one: empty.
+    /// Returns the current string, or nothing before the first one.
     pub fn last(&self) -> &[u8]
         ensures { result.now ≡ self.now.last }
     {
         &self.last
     }
 
-    /// Goes to the head of a block. Where memory is refused, nothing moves.
+    /// Goes to the first string of a block. If memory runs out, nothing changes.
     fn open(&mut self, block: u64, steps: &mut Steps) -> Result<(), AllocError>
         requires { block < blocks_of self.old.section }
         ensures ok { OnOk result (self.new ≡ standing self.old.section (block * block_size self.old.section + 1)) }
@@ -78,7 +77,7 @@ impl<'a> Seeker<'a> {
         Ok(())
     }
 
-    /// Goes on to the next string. Where memory is refused, nothing moves.
+    /// Goes to the next string. If memory runs out, nothing changes.
     fn pass(&mut self, steps: &mut Steps) -> Result<(), AllocError>
         requires { self.old.at < length (strings_of self.old.section) }
         ensures ok { OnOk result (self.new ≡ standing self.old.section (self.old.at + 1)) }
@@ -94,7 +93,7 @@ impl<'a> Seeker<'a> {
         Ok(())
     }
 
-    /// Goes to the head of the block of string n, unless it stands in front of string n, or on it, and in that block.
+    /// Goes to the first string of the block of string n, unless it is in that block and not after string n.
     fn approach(&mut self, n: u64, steps: &mut Steps) -> Result<(), AllocError>
         requires from_one { 1 ≤ n }
         requires within { n ≤ length (strings_of self.old.section) }
@@ -115,9 +114,8 @@ impl<'a> Seeker<'a> {
         Ok(())
     }
 
-    /// Goes to string n, counted from 1; the caller shows that there is one. It takes at most as many looks as the block
-    /// size; and where it doesn't stand behind string n, one at most for each string from there on. Where memory is
-    /// refused, it may stand elsewhere than before.
+    /// Goes to the string with ID n, from 1. At most as many steps as the block size; and, if it is not after string n,
+    /// at most one for each string from there on. If memory runs out, the current string may have changed.
     pub fn seek(&mut self, n: u64, steps: &mut Steps) -> Result<(), AllocError>
         requires from_one { 1 ≤ n }
         requires within { n ≤ length (strings_of self.old.section) }

@@ -1,4 +1,4 @@
--- Lines without a triple, one after another, up to a triple, a fault or the end.
+-- Lines without a triple, one after another, up to a triple, an error or the end.
 use Rattle.std.proofs.Common.{◌≡◌, ℕ, true, false, List, [], ◌∷◌, ◌++◌, ◌+◌, take, Option, None, Some, Ok, inl, inr, sym, refl, subst}
 use Rattle.hdt_terms.specs.declared.fault.LineFault.{LineFault}
 use Rattle.hdt_terms.specs.declared.triple.Triple.{Triple}

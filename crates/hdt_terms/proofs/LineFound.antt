@@ -1,4 +1,4 @@
--- What is read of a line is spelled there.
+-- What is read of a line is encoded there.
 use Rattle.std.proofs.Common.{◌≡◌, ℕ, true, false, eqb, List, [], ◌∷◌, ◌++◌, Option, Some, Result, Ok, Err, refl, ap, subst, ◌∙◌, inl, inr}
 use Rattle.std.specs.Prelude.{IsUtf8}
 use Rattle.std.proofs.lemmas.Bool.{eqb-true}
@@ -162,7 +162,7 @@ line_found text triple utf8 e = (utf8, triple_found text triple utf8 (located_ok
 pub line_is : (text : List ℕ) (x : Option Triple) → line_in text ≡ Ok x → Line text x
 line_is = line_read Line line_triple_at (λ text utf8 b. (utf8, bare_found text b)) (λ text triple utf8 b e. (utf8, triple_found text triple utf8 e))
 
--- ---- the fault of a line
+-- ---- the error of a line
 
 pub line_fault : (text : List ℕ) (fault : TermFault) → IsUtf8 text → is_bare text ≡ false → line_triple text ≡ Err fault → line_in text ≡ Err fault
 unfolding unless_bare line_triple

@@ -1,4 +1,4 @@
--- What is spelled in a request is read.
+-- What is encoded in a request is read.
 use Rattle.std.proofs.Common.{◌≡◌, ℕ, false, List, [], ◌∷◌, ◌++◌, Option, None, Some, Ok, sym, refl, ap, subst, ◌∙◌, inl, inr, arith}
 use Rattle.std.specs.Str.{chars}
 use Rattle.hdt_wire.specs.declared.role.Role.{Role}

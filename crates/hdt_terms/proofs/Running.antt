@@ -1,4 +1,4 @@
--- A whole run: what was taken grows line by line, up to the document or the fault.
+-- A whole run: what was taken grows line by line, up to the document or the error.
 use Rattle.std.proofs.Common.{◌≡◌, ℕ, Bool, true, false, List, [], ◌∷◌, ◌++◌, length, ◌+◌, ◌<◌, arith, Option, None, Some, eqb, inl, inr, sym, refl, ap, subst, ◌∙◌, append_assoc, append-nil, zero-add}
 use Rattle.std.proofs.lemmas.Bool.{ne_eqb}
 use Rattle.std.proofs.lemmas.List.Elements.{filter_map-append}
@@ -83,7 +83,7 @@ document_rest limit s new all mid after triples r t =
     (r.triples_are ∙ sym (append-nil (triples_of_lines r.lines)) ∙ ap (λ l. triples_of_lines r.lines ++ l) (sym t.3.no_triples) ∙ sym (triples-append r.lines t.3.lines)
     ∙ sym (append-nil (triples_of_lines (r.lines ++ t.3.lines))) ∙ sym (triples-append (r.lines ++ t.3.lines) (None ∷ [])))
 
--- a fault behind what was taken
+-- an error behind what was taken
 pub fault_behind : (fault : LineFault) (limit : ℕ) (s : State) (all mid given : Option (List ℕ)) (triples : List Triple) → Ran limit s all mid triples → FaultIsAhead fault s mid given
     → FaultInDocument fault limit all given
 fault_behind fault limit s all mid given triples r st =
@@ -102,7 +102,7 @@ fault_behind fault limit s all mid given triples r st =
           (subst (λ k. StandsInLine fault.reason fault.column (s.taken + length st.front) k st.rest given) r.takes.limit st.fault_is);
     }
 
--- ---- want of memory
+-- ---- running out of memory
 
 triple_some : (text : List ℕ) (triple : Triple) → SpelledTriple text triple → 0 < length text
 triple_some text triple h =

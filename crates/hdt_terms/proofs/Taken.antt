@@ -1,4 +1,4 @@
--- What one line takes from what is left of the input, and the faults of a line.
+-- What one line takes from what is left of the input, and the errors of a line.
 use Rattle.std.proofs.Common.{◌≡◌, ℕ, ◌+◌, ◌-◌, ◌<◌, ◌≤◌, Bool, true, false, cond, List, [], ◌∷◌, ◌++◌, length, take, drop, get_or, Option, None, Some, Ok, Err, inl, inr, sym, refl, ap, subst, ◌∙◌, arith, append_assoc, append-nil, take-append-drop}
 use Rattle.std.proofs.lemmas.Bool.{lt-ltb, le-ltb}
 use Rattle.std.proofs.lemmas.List.{length-take-le, length-drop, take_more}
@@ -128,7 +128,7 @@ line_taken old h n given given' grew front within going =
 
 -- ---- what is held grew, and nothing was taken
 
--- ---- faults
+-- ---- errors
 
 -- a read that fails, or that gives too much
 pub stands_unread : (r : LineReason) (held new : List ℕ) (given given' : Option (List ℕ)) (taken limit : ℕ) → taken ≤ limit → Filled (Err r) held new given given' (limit - taken)
@@ -169,7 +169,7 @@ next_unread TooLong held new given given' taken limit le p = stands_unread TooLo
 next_unread OutOfMemory held new given given' taken limit le p = tt
 next_unread other held new given given' taken limit le p = absurd p
 
--- the fault of a line that is not bare
+-- the error of a line that is not bare
 pub stands_in_triple : (r : LineReason) (column taken limit : ℕ) (before given : Option (List ℕ)) (text : List ℕ) → IsUtf8 text → is_bare text ≡ false → NoEnd text → WholeLine taken limit before text
     → FaultOfTriple r column text → StandsInLine r column taken limit before given
 stands_in_triple Syntax column taken limit before given text utf8 some no_end w f = (text, no_end, line_fault text _ utf8 some f, w)
@@ -182,7 +182,7 @@ stands_in_triple OutOfMemory column taken limit before given text utf8 some no_e
 stands_in_triple Read column taken limit before given text utf8 some no_end w f = absurd f
 stands_in_triple TooLong column taken limit before given text utf8 some no_end w f = absurd f
 
--- lines without a triple, and then the line of the fault
+-- lines without a triple, and then the line of the error
 pub stands_behind : (fault : LineFault) (old s : State) (before mid given : Option (List ℕ)) (front : List ℕ) → Takes old s before mid front → BareLines front → fault.line ≡ s.ends + 1
     → StandsInLine fault.reason fault.column s.taken s.limit mid given → FaultIsAhead fault old before given
 stands_behind fault old s before mid given front t bare line h = record {

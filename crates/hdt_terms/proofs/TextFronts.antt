@@ -152,7 +152,7 @@ front_last most old taken read new before given given' front p none end others i
       p.3,
     )
 
--- ---- faults
+-- ---- errors
 
 module _ (most : ℕ) (old taken : State) (before given given' : Option (List ℕ)) (front held : List ℕ) (p : Passing most old taken before (left taken given) front) (none : taken.held ≡ []) where
   given_up_to : Consumes before given p.0

@@ -1,4 +1,4 @@
--- A whole run over an input: its triples, or its fault.
+-- A whole run over an input: its triples, or its error.
 use Rattle.std.specs.Prelude.{◌≡◌, ℕ, ◌+◌, ◌≤◌, ◌==◌, if◌then◌else◌, Bool, false, List, [], ◌∷◌, ◌++◌, length, Option, None, Some, ⊤}
 use Rattle.std.specs.Io.KnownBytes.{Consumes}
 use Rattle.hdt_terms.specs.declared.fault.LineFault.{LineFault}
@@ -13,8 +13,8 @@ abbrev pub IsDocument : ℕ → Option (List ℕ) → List Triple → Type 0
 IsDocument limit None triples = ⊤
 IsDocument limit (Some bytes) triples = Document bytes triples × (length bytes ≤ limit)
 
--- The fault stands in the input: behind lines, each with its end, and counted from the input's first line; given is what
--- the reader still gives after the fault.
+-- The error stands in the input: behind lines, each with its end, and counted from the input's first line; given is what
+-- the reader still gives after the error.
 pub record FaultInDocument (fault : LineFault) (limit : ℕ) (input given : Option (List ℕ)) : Type 0 where
   pub front : List ℕ
   pub lines : List (Option Triple)
@@ -57,8 +57,8 @@ pub record RanTexts (limit : ℕ) (s : State) (input left : Option (List ℕ)) (
   pub takes : Takes (start limit) s input left front
   pub lines_are : (rest : List ℕ) → numbered_lines false 0 (front ++ rest) ≡ lines ++ numbered_lines s.after_cr s.ends rest
 
--- The fault stands in the input at the line behind these lines, which are all that the input has with their ends before it; given
--- is what the reader still gives after the fault.
+-- The error stands in the input at the line behind these lines, which are all that the input has with their ends before it; given
+-- is what the reader still gives after the error.
 pub record FaultBehind (fault : LineFault) (limit : ℕ) (input given : Option (List ℕ)) (lines : List (ℕ × List ℕ)) : Type 0 where
   pub front : List ℕ
   pub left : Option (List ℕ)

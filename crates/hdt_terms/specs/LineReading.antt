@@ -1,4 +1,4 @@
--- Reading a line from left to right, with the first row that fails: the table of faults in docs/NTRIPLES.md.
+-- Reading a line from left to right, with the first check that fails: the table of errors in docs/NTRIPLES.md.
 use Rattle.std.specs.Prelude.{◌≡◌, ℕ, Bool, true, ◌||◌, ◌⊎◌, List, [], ◌∷◌, length, Option, None, Some, Result, Ok, Err, ◌==◌, if◌then◌else◌}
 use Rattle.hdt_terms.specs.declared.fault.LineReason.TheVariants.{Syntax}
 use Rattle.hdt_terms.specs.declared.fault.Stop.{Stop}
@@ -62,7 +62,7 @@ abbrev pub located : {A : Type 0} → List ℕ → Result A Stop → Result A Te
 located text (Ok x) = Ok x
 located text (Err stop) = Err (fault_at (length text) stop.left stop.reason)
 
--- the triple of a line that is UTF-8 and not bare, or its fault
+-- the triple of a line that is UTF-8 and not bare, or its error
 unfoldable pub line_triple : List ℕ → Result Triple TermFault
 line_triple text = located text (line_triple_at text)
 
@@ -70,15 +70,15 @@ abbrev pub as_line : {A : Type 0} → Result A TermFault → Result (Option A) T
 as_line (Ok x) = Ok (Some x)
 as_line (Err fault) = Err fault
 
--- nothing where the line is bare, or what reading it gives, or the fault that stands in it
+-- nothing where the line is bare, or what reading it gives, or the first error in it
 unfoldable pub unless_bare : {A : Type 0} → List ℕ → Result A Stop → Result (Option A) TermFault
 unless_bare text read = checked text (if is_bare text then Ok None else as_line (located text read))
 
--- The line's triple if it has one, or the fault that stands in it.
+-- The line's triple if it has one, or the first error in it.
 abbrev pub line_in : List ℕ → Result (Option Triple) TermFault
 line_in text = unless_bare text (line_triple_at text)
 
--- The text is no line, and this is its fault.
+-- The text is no line, and this is its error.
 abbrev pub LineFaultStands : List ℕ → TermFault → Type 0
 LineFaultStands text fault = line_in text ≡ Err fault
 

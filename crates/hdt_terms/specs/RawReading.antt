@@ -81,7 +81,7 @@ raw_request_at bytes =
     raw_at behind_p >>= λ o.
     nothing_at o.1 >>= λ _. Ok (record { s = s.0; p = p.0; o = o.0 })
 
--- What the line asks for if it isn't bare, or the fault that stands in it.
+-- What the line asks for if it isn't bare, or the first error in it.
 abbrev pub raw_request_in : List ℕ → Result (Option RawAsked) TermFault
 raw_request_in text = unless_bare text (raw_request_at text)
 
@@ -101,7 +101,7 @@ abbrev pub FillsRaw : {X : Type 0} → List ℕ → List ℕ → List ℕ → Re
 FillsRaw s p o (Ok done) read = read ≡ Ok (record { s = s; p = p; o = o })
 FillsRaw s p o (Err e) read = Fails e read
 
--- What a line asks for, with its strings in the buffers: nothing where it is bare, or its fault, unless memory ran out.
+-- What a line asks for, with its strings in the buffers: nothing where it is bare, or its error, unless memory ran out.
 abbrev pub HoldsRaw : List ℕ → List ℕ → List ℕ → Result (Option (List Bool)) TermFault → Result (Option RawAsked) TermFault → Type 0
 HoldsRaw s p o (Ok None) read = read ≡ Ok None
 HoldsRaw s p o (Ok (Some given)) read = (asked : RawAsked) × (read ≡ Ok (Some asked)) × AreRaw asked given s p o

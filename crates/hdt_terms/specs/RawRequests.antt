@@ -8,7 +8,7 @@ use Rattle.hdt_terms.specs.RawReading.{RawAsked, raw_letter}
 abbrev pub SpelledByte : List ℕ → ℕ → Type 0
 SpelledByte text b = ((text ≡ b ∷ []) × (b ≢ 9) × (b ≢ 92)) ⊎ ((e : ℕ) × (text ≡ 92 ∷ e ∷ []) × (raw_letter e ≡ Some b))
 
--- the text spells the string, byte by byte
+-- the text encodes the string, byte by byte
 abbrev pub SpelledRaw : List ℕ → List ℕ → Type 0
 SpelledRaw text [] = text ≡ []
 SpelledRaw text (b ∷ bs) = (first : List ℕ) × (rest : List ℕ) × (text ≡ first ++ rest) × SpelledByte first b × SpelledRaw rest bs

@@ -1,4 +1,4 @@
--- Reading a request from left to right, with the first row that fails: rows as those of a line, but that a word may be ?.
+-- Reading a request from left to right, with the first check that fails: checks as those of a line, but that a word may be ?.
 use Rattle.std.specs.Prelude.{◌≡◌, ℕ, Bool, true, false, ◌⊎◌, List, [], ◌∷◌, Option, None, Some, Result, Ok, Err, ◌==◌, if◌then◌else◌}
 use Rattle.hdt_terms.specs.declared.fault.LineReason.TheVariants.{Syntax}
 use Rattle.hdt_terms.specs.declared.fault.Stop.{Stop}
@@ -42,11 +42,11 @@ request_at bytes =
     part_at Object p.1 >>= λ o.
     stop_at o.1 >>= λ _. Ok (record { s = s.0; p = p.0; o = o.0 })
 
--- What the line asks for if it isn't bare, or the fault that stands in it.
+-- What the line asks for if it isn't bare, or the first error in it.
 abbrev pub request_in : List ℕ → Result (Option Asked) TermFault
 request_in text = unless_bare text (request_at text)
 
--- The text is no line of a request, and this is its fault.
+-- The text is no line of a request, and this is its error.
 abbrev pub RequestFaultStands : List ℕ → TermFault → Type 0
 RequestFaultStands text fault = request_in text ≡ Err fault
 
@@ -79,7 +79,7 @@ abbrev pub FillsAsked : List ℕ → List ℕ → List ℕ → Result (List Bool
 FillsAsked s p o (Ok given) read = (asked : Asked) × (read ≡ Ok asked) × AreGiven asked given s p o
 FillsAsked s p o (Err e) read = Fails e read
 
--- What a line asks for, with its strings in the buffers: nothing where it is bare, or its fault, unless memory ran out.
+-- What a line asks for, with its strings in the buffers: nothing where it is bare, or its error, unless memory ran out.
 abbrev pub HoldsRequest : List ℕ → List ℕ → List ℕ → Result (Option (List Bool)) TermFault → Result (Option Asked) TermFault → Type 0
 HoldsRequest s p o (Ok None) read = read ≡ Ok None
 HoldsRequest s p o (Ok (Some given)) read = (asked : Asked) × (read ≡ Ok (Some asked)) × AreGiven asked given s p o

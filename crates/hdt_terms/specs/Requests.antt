@@ -15,7 +15,7 @@ pub record Asked : Type 0 where
 abbrev pub whole_triple : Triple → Asked
 whole_triple triple = record { s = Some triple.s; p = Some triple.p; o = Some triple.o }
 
--- ? for any, or the spelling of a term of which this holds
+-- ? for any, or the encoding of a term of which this holds
 abbrev pub SpelledPart : (Term → Type 0) → List ℕ → Option Term → Type 0
 SpelledPart IsOf text None = text ≡ 63 ∷ []
 SpelledPart IsOf text (Some term) = Spelled text term × IsOf term

@@ -1,4 +1,4 @@
--- What a reader of lines takes from what is left of its input, and the faults that stand there.
+-- What a reader of lines takes from what is left of its input, and the errors that are there.
 use Rattle.std.specs.Prelude.{◌≡◌, ℕ, ◌+◌, ◌<◌, ◌≤◌, Bool, true, false, List, [], ◌∷◌, ◌++◌, length, slice_index, take, drop, nat_lt, if◌then◌else◌, Option, None, Some, Result, Ok, Err, ◌⊎◌, IsUtf8}
 use Rattle.std.specs.Io.KnownBytes.{Consumes, IsAtEnd, prepend_known}
 use Rattle.hdt_terms.specs.declared.fault.LineFault.{LineFault}
@@ -20,7 +20,7 @@ pub record State : Type 0 where
   pub after_cr : Bool
   -- how many bytes the input may have
   pub limit : ℕ
-  -- whether the input has ended, and the fault that was answered
+  -- whether the input has ended, and the error that was answered
   pub ended : Bool
   pub failed : Option LineFault
 
@@ -60,7 +60,7 @@ OneLine bytes x new after = (text : List ℕ) × Line text x × NoEnd text
     × (((e : ℕ) × (is_end e ≡ true) × (bytes ≡ text ++ e ∷ []) × (new.ended ≡ false))
     ⊎ ((bytes ≡ text) × (new.ended ≡ true) × (new.held ≡ []) × IsAtEnd after))
 
--- ---- faults
+-- ---- errors
 
 -- What is left begins with this text, and its end or the input's end follows within the limit.
 abbrev pub WholeLine : ℕ → ℕ → Option (List ℕ) → List ℕ → Type 0
@@ -68,7 +68,7 @@ WholeLine taken limit before text = (after : Option (List ℕ))
     × (((e : ℕ) × (is_end e ≡ true) × Consumes before after (text ++ e ∷ []) × (taken + length text < limit))
     ⊎ (Consumes before after text × IsAtEnd after × (taken + length text ≤ limit)))
 
--- a whole line in which the first row that fails has this reason and column
+-- a whole line in which the first check that fails has this reason and column
 abbrev pub StandsInText : LineReason → ℕ → ℕ → ℕ → Option (List ℕ) → Type 0
 StandsInText reason column taken limit before = (text : List ℕ) × NoEnd text × LineFaultStands text (record { column = column; reason = reason }) × WholeLine taken limit before text
 
@@ -80,7 +80,7 @@ Unended taken limit before given = (text : List ℕ) × NoEnd text × Consumes b
 abbrev pub HasUnbare : ℕ → ℕ → Option (List ℕ) → Type 0
 HasUnbare taken limit before = (text : List ℕ) × NoEnd text × (is_bare text ≡ false) × WholeLine taken limit before text
 
--- The fault of the line that begins after so many bytes; given is what the reader still gives after the fault. Read: what
+-- The error of the line that begins after so many bytes; given is what the reader still gives after the error. Read: what
 -- the reader gave ends in a piece without an end. TooLong: the line has no end within the limit, and more follows.
 -- OutOfMemory: the line's end was not read yet, or the line is whole and not bare.
 abbrev pub StandsInLine : LineReason → ℕ → ℕ → ℕ → Option (List ℕ) → Option (List ℕ) → Type 0
@@ -89,7 +89,7 @@ StandsInLine TooLong column taken limit before given = (column ≡ 0) × ((text 
 StandsInLine OutOfMemory column taken limit before given = (column ≡ 0) × (Unended taken limit before given ⊎ HasUnbare taken limit before)
 StandsInLine reason column taken limit before given = StandsInText reason column taken limit before
 
--- Lines without a triple, and then the line of the fault, counted on from what was taken.
+-- Lines without a triple, and then the line of the error, counted on from what was taken.
 pub record FaultIsAhead (fault : LineFault) (old : State) (before given : Option (List ℕ)) : Type 0 where
   pub front : List ℕ
   pub rest : Option (List ℕ)
@@ -112,7 +112,7 @@ TakesTriple old new before after triple = (front : List ℕ) × (bytes : List �
 abbrev pub TakesRest : State → State → Option (List ℕ) → Option (List ℕ) → Type 0
 TakesRest old new before after = (front : List ℕ) × (last : List ℕ) × Takes old new before after (front ++ last) × BareLines front × Line last None × NoEnd last × (new.ended ≡ true) × (new.held ≡ []) × IsAtEnd after
 
--- The next triple, the end, or the fault that stands.
+-- The next triple, the end, or the first error.
 abbrev pub TakesNext : Result (Option Triple) LineFault → State → State → Option (List ℕ) → Option (List ℕ) → Option (List ℕ) → Type 0
 TakesNext (Ok None) old new before after given = TakesRest old new before after
 TakesNext (Ok (Some triple)) old new before after given = TakesTriple old new before after triple
@@ -139,26 +139,26 @@ pub record Ready (n : ℕ) (s : State) (given : Option (List ℕ)) : Type 0 wher
   pub triple : is_bare (take n s.held) ≡ false
   pub going : s.ended ≡ false
 
--- lines without a triple are taken, up to a line with one, the end or a fault
+-- lines without a triple are taken, up to a line with one, the end or an error
 abbrev pub FindsLine : Result (Option ℕ) LineFault → State → State → Option (List ℕ) → Option (List ℕ) → Option (List ℕ) → Type 0
 FindsLine (Ok None) old new before after given = TakesRest old new before after
 FindsLine (Ok (Some n)) old new before after given = (front : List ℕ) × Takes old new before after front × BareLines front × Ready n new given
 FindsLine (Err fault) old new before after given = FaultIsAhead fault old before given
 
--- what is said of the text of a line: whether it is bare, or its fault
+-- what is said of the text of a line: whether it is bare, or its error
 abbrev pub Looked : Result Bool LineFault → State → List ℕ → Type 0
 Looked (Ok true) s text = Line text None
 Looked (Ok false) s text = IsUtf8 text × (is_bare text ≡ false)
 Looked (Err fault) s text = (fault.line ≡ s.ends + 1) × (fault.reason ≡ NotUtf8) × LineFaultStands text (record { column = fault.column; reason = NotUtf8 })
 
--- the fault of a line that is not bare, or want of memory
+-- the error of a line that is not bare, or running out of memory
 abbrev pub FaultOfTriple : LineReason → ℕ → List ℕ → Type 0
 FaultOfTriple OutOfMemory column text = column ≡ 0
 FaultOfTriple Read column text = ⊥
 FaultOfTriple TooLong column text = ⊥
 FaultOfTriple reason column text = line_triple text ≡ Err (record { column = column; reason = reason })
 
--- the triple of a line that is not bare, or its fault
+-- the triple of a line that is not bare, or its error
 abbrev pub Parsed : Result Triple LineFault → State → List ℕ → Type 0
 Parsed (Ok triple) s text = line_triple text ≡ Ok triple
 Parsed (Err fault) s text = (fault.line ≡ s.ends + 1) × FaultOfTriple fault.reason fault.column text

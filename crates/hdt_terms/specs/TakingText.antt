@@ -29,7 +29,7 @@ StandsUnread TooLong taken limit before given = StandsInLine TooLong 0 taken lim
 StandsUnread OutOfMemory taken limit before given = Unit {0}
 StandsUnread reason taken limit before given = ⊥
 
--- the fault of the next line
+-- the error of the next line
 pub record StandsNext (fault : LineFault) (old : State) (before given : Option (List ℕ)) : Type 0 where
   pub line : fault.line ≡ old.ends + 1
   pub column : fault.column ≡ 0

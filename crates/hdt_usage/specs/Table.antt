@@ -21,11 +21,11 @@ role_name Subject = codes "subject"
 role_name Predicate = codes "predicate"
 role_name Object = codes "object"
 
--- a list of words that is lent to `clap`
+-- a list of words that is borrowed to `clap`
 abbrev pub Names : Type 0
 Names = Bor (List (Bor Text))
 
--- the words for the roles, lent
+-- the words for the roles, borrowed
 abbrev pub AreRoles : Names → Type 0
 AreRoles names = map (λ name. name.now) names.now ≡ role_name Subject ∷ role_name Predicate ∷ role_name Object ∷ []
 

@@ -1,4 +1,4 @@
--- Two ascending lists, walked side by side: what is passed, and what comes next.
+-- Two ascending lists, merged: what is passed, and what comes next.
 use Rattle.std.specs.Prelude.{◌≡◌, ℕ, ◌+◌, ◌<◌, ◌≤◌, List, [], length, slice_index_or, true, false}
 use Rattle.hdt_dict.specs.Strings.{FirstBelow, has}
 

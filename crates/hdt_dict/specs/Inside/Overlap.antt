@@ -1,4 +1,4 @@
--- Strings that stand in two sections, as they are looked for along both.
+-- Strings that are in two sections, as a merge finds them.
 use Rattle.std.specs.Prelude.{◌≡◌, ◌<◌, ◌≤◌, ℕ, List, [], ◌∷◌, Bool, cond, Option, Some, None, Result, Ok, Err}
 use Rattle.std.specs.Ordering.{is_eq}
 use Rattle.std.specs.declared.cmp.Ordering.{Ordering}
@@ -16,7 +16,7 @@ abbrev pub first_place : (List ℕ → Bool) → List Placed → Option ℕ
 first_place test [] = None
 first_place test (p ∷ ps) = cond (test p.string) (Some p.place) (first_place test ps)
 
--- the row of a string that was met in another section
+-- the check of a string that was met in another section
 abbrev pub none_met : Option ℕ → Result (Unit {0}) Fault
 none_met None = Ok tt
 none_met (Some place) = Err (record { place = place; reason = SectionsOverlap })
@@ -30,7 +30,7 @@ not_less x (p ∷ ps) = cond (precedes p.string x) (not_less x ps) (p ∷ ps)
 abbrev pub is_first : List ℕ → List Placed → Bool
 is_first x items = is_eq (first_order items x)
 
--- how the first string lies to another one, and how far they agree
+-- how the first string compares with another one, and the length of their longest common prefix
 abbrev pub Lies : Ordering × ℕ → List Placed → List ℕ → Type 0
 Lies lie items x = (lie.0 ≡ first_order items x) × (lie.1 ≡ first_agreed items x)
 

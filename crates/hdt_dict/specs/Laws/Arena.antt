@@ -14,7 +14,7 @@ pub text_is : (bytes starts : List ℕ) (i : ℕ) → i + 1 < length starts → 
 unfolding arena_texts
 text_is bytes starts i below = get_or-map-range_with_len (arena_text bytes starts) 0 (length starts - 1) i i [] (omega arith) (omega arith)
 
--- no bytes and the one start 0 are no strings
+-- no bytes and the one block offset 0 are no strings
 pub none : arena_texts [] (0 ∷ []) ≡ []
 unfolding arena_texts
 none = refl

@@ -1,4 +1,4 @@
--- The rows of a dictionary are exact: what they answer stands there, and what stands there they answer.
+-- The checks of a dictionary are exact: what they give is encoded there, and what is encoded there they give.
 use Rattle.std.proofs.Common.{◌≡◌, ℕ, Bool, true, false, not, List, [], ◌++◌, length, get_or, inl, inr, refl, sym, subst, ◌∙◌}
 use Rattle.std.specs.List.{Contains}
 use Rattle.std.proofs.lemmas.List.{get_or_default}

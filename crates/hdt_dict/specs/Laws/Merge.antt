@@ -1,4 +1,4 @@
--- The walk along two ascending lists: what lies below a place, whether a string stands there, and the step to the next string.
+-- Merging two ascending lists: what is below a place, whether a string is there, and the step to the next string.
 use Rattle.std.proofs.Common.{◌≡◌, ◌≢◌, ℕ, ◌+◌, ◌<◌, ◌≤◌, Bool, true, false, cond, not, List, [], ◌∷◌, ◌++◌, length, get_or, take, refl, ap, sym, ◌∙◌, inl, inr, arith}
 use Rattle.std.specs.declared.cmp.Ordering.{Ordering}
 use Rattle.std.specs.declared.cmp.Ordering.TheVariants.{Less, Equal, Greater}

@@ -17,7 +17,7 @@ use Rattle.hdt_file.specs.declared.tables.Tables.{Tables}
 abbrev pub IsLinePiece : Role → List ℕ → List ℕ → Type 0
 IsLinePiece role string piece = ((term : Term) × IsTermOf role string term × (piece ≡ line_piece role term)) ⊎ ((piece ≡ []) × HasNoTerm role string)
 
--- whether a number is marked; one that has no mark counts as marked
+-- whether a number is marked; one that has no 1-bit counts as marked
 abbrev pub is_marked : List Bool → ℕ → Bool
 is_marked marks n = slice_index_or marks n true
 

@@ -1,4 +1,4 @@
--- The rows of a file as code runs them, which keeps the sequences of the triples alone.
+-- The checks of a file as code runs them, which keeps the sequences of the triples alone.
 use Rattle.std.proofs.Common.{◌≡◌, ℕ, Bool, List, length, eqb, true, false, Result, Ok, Err, refl}
 use Rattle.hdt_wire.specs.declared.fault.Fault.{Fault}
 use Rattle.hdt_wire.specs.declared.fault.Reason.TheVariants.{TrailingBytes}

@@ -1,4 +1,4 @@
--- Laws of how far strings agree, and of the order that this decides, which crates above cite.
+-- Laws of how far strings agree, and of the order that this decides, which other crates use.
 use Rattle.std.proofs.Common.{◌≡◌, ℕ, zero, suc, ◌+◌, ◌<◌, ◌≤◌, Bool, true, false, cond, nat_eq, nat_lt, List, [], ◌∷◌, length, refl, sym, ap, ◌∙◌, subst, arith, Ordering}
 use Rattle.std.specs.declared.cmp.Ordering.TheVariants.{Less, Equal, Greater}
 use Rattle.std.specs.Ordering.{ordering_then}
@@ -48,7 +48,7 @@ pub itself_agrees : (x : List ℕ) → agreed x x ≡ length x
 itself_agrees [] = refl
 itself_agrees (a ∷ x) = omega (arith, itself_agrees x, ap (λ (t : Bool). cond t (1 + agreed x x) 0) (equal_bytes a a refl))
 
--- ---- a string that keeps more than agreed lies as the one before
+-- ---- a string that keeps more than agreed lies as the previous one
 
 turn_step : (lt eq : Bool) (o p : Ordering) (n m k : ℕ) → (n < k → (p ≡ o) × (m ≡ n)) → cond eq (1 + n) 0 < suc k → (both lt eq p ≡ both lt eq o) × (cond eq (1 + m) 0 ≡ cond eq (1 + n) 0)
 turn_step true true o p n m k rest more = let r = rest (omega (arith, more)) in (refl, ap (λ x. 1 + x) r.1)

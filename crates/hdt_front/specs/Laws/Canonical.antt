@@ -1,4 +1,4 @@
--- The canonical bytes of a section are a section where they stand.
+-- The canonical bytes of a section are those of a section.
 use Rattle.std.proofs.Common.{◌≡◌, ◌≢◌, ℕ, zero, suc, ◌+◌, ◌-◌, ◌*◌, ◌/◌, ◌%◌, ◌<◌, ◌≤◌, ◌^◌, Bool, true, false, cond, List, [], ◌∷◌, ◌++◌, length, take, drop, get_or, nat_eq, min, inr, refl, sym, ap, subst, ◌∙◌, arith, Ok, length-append, length-drop, eqb-true, append_assoc}
 use Rattle.std.specs.List.{concat, common_prefix_len}
 use Rattle.std.proofs.Math.Nat.{mod-lt, div-eq_of_lt, mul-le-mul_left}
@@ -23,7 +23,7 @@ use Rattle.hdt_front.specs.SectionWriting.{CanBeWritten, section_head}
 use Rattle.hdt_front.specs.Laws.SectionWriting.{section_stands}
 use Rattle.hdt_front.specs.Canonical.{piece_of, pieces_from, starts_from, packed_of, starts_of, canonical, canonical_parts}
 
--- ---- pieces
+-- ---- entries
 
 agree_step : (e : Bool) (x y n : ℕ) (xs ys : List ℕ) → (e ≡ true → x ≡ y) → take n xs ≡ take n ys → take (cond e (1 + n) 0) (x ∷ xs) ≡ take (cond e (1 + n) 0) (y ∷ ys)
 agree_step true x y n xs ys same rest =
@@ -50,7 +50,7 @@ piece_is false before string small = record {
   is = refl;
 }
 
--- a string is no longer than the one before it and its piece
+-- a string is no longer than the previous one and its entry
 longer : (h : Bool) (before string : List ℕ) → length string + 1 ≤ length before + length (piece_of h before string)
 unfolding piece_of
 longer true before string = omega (arith, length-append string (0 ∷ []))
@@ -58,7 +58,7 @@ longer false before string =
     let k : ℕ = common_prefix_len nat_eq before string in
     omega (arith, (common_prefix_len-le nat_eq before string).0, length-append (vbyte k) (drop k string ++ 0 ∷ []), length-append (drop k string) (0 ∷ []), length-drop k string)
 
--- a piece has a byte at least
+-- an entry has a byte at least
 some_byte : (h : Bool) (before string : List ℕ) → 1 ≤ length (piece_of h before string)
 unfolding piece_of
 some_byte true before string = omega (arith, length-append string (0 ∷ []))
@@ -83,7 +83,7 @@ unfolding pieces_from
 many_pieces b i before [] = refl
 many_pieces b i before (s ∷ strings) = ap suc (many_pieces b (i + 1) s strings)
 
--- each piece takes a byte
+-- each entry takes a byte
 pub enough_bytes : (b i : ℕ) (before : List ℕ) (strings : List (List ℕ)) → length strings ≤ length (concat (pieces_from b i before strings))
 unfolding pieces_from
 enough_bytes b i before [] = omega arith
@@ -240,7 +240,7 @@ canonical_stands b strings bytes at end some low are small h =
       end = e;
     }) bytes at) h.end_is (section_stands strings b (starts_of b strings) (packed_of b strings) bytes at end (can_stand b strings some low are short) h)
 
--- they are read again, whatever stands before and after them
+-- they are read back, whatever precedes and follows them
 pub canonical_again : (b : ℕ) (strings : List (List ℕ)) (before after : List ℕ) → 1 ≤ b → b < 2 ^ 64 → AreStrings strings
     → IsBytes (before ++ canonical b strings ++ after) → length (before ++ canonical b strings ++ after) < 2 ^ 64
     → section_at (before ++ canonical b strings ++ after) (length before) ≡ Ok (canonical_parts b strings (length before))

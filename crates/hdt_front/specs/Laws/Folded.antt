@@ -7,19 +7,19 @@ use Rattle.hdt_front.specs.StringRows.{precedes}
 use Rattle.hdt_front.specs.Folding.{IsPiece}
 use Rattle.hdt_front.specs.Unfolding.{is_head}
 
--- piece by piece
+-- entry by entry
 unfoldable pub ArePieces : ℕ → ℕ → List ℕ → List (List ℕ) → List (List ℕ) → Type 0
 ArePieces b i before [] [] = Unit {0}
 ArePieces b i before [] (piece ∷ pieces) = ⊥
 ArePieces b i before (string ∷ strings) [] = ⊥
 ArePieces b i before (string ∷ strings) (piece ∷ pieces) = IsPiece (is_head b i) before string piece × ArePieces b (i + 1) string strings pieces
 
--- each start is the place of the first piece of its block, and the last one is the end
+-- each block offset is the place of the first entry of its block, and the last one is the end
 unfoldable pub AreBlockStarts : ℕ → ℕ → ℕ → List (List ℕ) → List ℕ → Type 0
 AreBlockStarts b i at [] starts = 0 < i → get_or starts ((i + (b - 1)) / b) 0 ≡ at
 AreBlockStarts b i at (piece ∷ pieces) starts = (is_head b i ≡ true → get_or starts (i / b) 0 ≡ at) × AreBlockStarts b (i + 1) (at + length piece) pieces starts
 
--- strings from number i on, folded after the string before, and their starts
+-- strings from number i on, front-coded after the string before, and their block offsets
 pub record Folded (b i at : ℕ) (before : List ℕ) (strings : List (List ℕ)) (bytes starts : List ℕ) : Type 0 where
   pub pieces : List (List ℕ)
   pub each : ArePieces b i before strings pieces
@@ -30,7 +30,7 @@ unfoldable pub NoZero : List ℕ → Type 0
 NoZero [] = Unit {0}
 NoZero (c ∷ cs) = (nat_eq c 0 ≡ false) × NoZero cs
 
--- strings that are UTF-8 without a zero byte, each after the one before, the first of them number i
+-- strings that are UTF-8 without a zero byte, each after the previous one, the first of them number i
 unfoldable pub Ascending : ℕ → List ℕ → List (List ℕ) → Type 0
 Ascending i before [] = Unit {0}
 Ascending i before (string ∷ strings) = (is_utf8 string ≡ true) × NoZero string × ((nat_eq i 0 || precedes before string) ≡ true) × Ascending (i + 1) string strings

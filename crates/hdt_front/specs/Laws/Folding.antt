@@ -18,7 +18,7 @@ use Rattle.hdt_front.specs.Folding.{IsPiece}
 use Rattle.hdt_front.specs.Laws.Folded.{ArePieces, AreBlockStarts, Folded, NoZero, Ascending}
 use Rattle.hdt_front.specs.Section.{before, AreFolded, AreStrings}
 
--- ---- pieces
+-- ---- entries
 
 lengths : (b i : ℕ) (last : List ℕ) (strings pieces : List (List ℕ)) → ArePieces b i last strings pieces → length pieces ≡ length strings
 unfolding ArePieces

@@ -17,7 +17,7 @@ step p m i before rest e =
     let h = row_holds p i before rest y ey in
     (h.0, sym (ap (λ (z : List ℕ × List ℕ). strings_at p m (i + 1) z.0 z.1) h.1) ∙ more))
 
--- the rows from string i on
+-- the checks from string i on
 pub walked : (p : Packing) (n i : ℕ) (bytes : List ℕ) → i ≤ n → strings_at p n 0 [] bytes ≡ Ok tt → strings_at p (n - i) i (before_at p.block i bytes) (rest_at p.block i bytes) ≡ Ok tt
 unfolding before_at rest_at
 walked p n zero bytes h e = let same : n - 0 ≡ n = omega arith in ap (λ k. strings_at p k 0 [] bytes) same ∙ e

@@ -7,7 +7,7 @@ use Rattle.hdt_front.specs.Packed.{packing_of}
 use Rattle.hdt_front.specs.Laws.StringSteps.{length-unfolded, few}
 use Rattle.hdt_front.specs.Strings.{strings_of}
 
--- how many strings there are
+-- the number of strings
 pub count_is : (s : Section) → length (strings_of s) ≡ s.packed.count
 unfolding strings_of
 count_is s = length-unfolded s.packed.block s.packed.count 0 [] s.packed.bytes.now

@@ -1,4 +1,4 @@
--- Where strings stand folded, the rows hold, and they read these strings.
+-- Where strings are front-coded, the checks hold, and they read these strings.
 use Rattle.std.proofs.Common.{◌≡◌, ℕ, zero, suc, ◌+◌, ◌-◌, ◌/◌, ◌<◌, ◌≤◌, ◌++◌, ◌||◌, Bool, true, false, not, cond, List, [], ◌∷◌, length, take, drop, get_or, Result, Ok, refl, sym, ap, ◌∙◌, arith, subst, eqb, nat_le, nat_lt, eq-eqb, le-leb, lt-ltb, length-append, append_assoc}
 use Rattle.std.specs.Prelude.{if◌then◌else◌}
 use Rattle.std.specs.List.{concat}
