@@ -189,9 +189,8 @@ impl<'a> Layout<'a> {
         self.triples.find(pattern)
     }
 
-    /// How many triples agree with each number that the pattern gives, or `most` where they are more. It takes no memory,
-    /// and walks over the triples, with four looks a triple at most, until `most` are counted; where nothing is given it
-    /// takes no look.
+    /// Returns the number of matches of a pattern, but at most `most`. It scans the triples, in at most four steps each,
+    /// until `most` are counted, unless nothing is given, and allocates nothing.
     #[tactic(auto, unfolding(crate::specs::LayoutView::layout_seen, crate::specs::PartsViews::layout_parts))]
     pub fn matching_up_to(&self, pattern: Pattern, most: u64, steps: &mut Steps) -> u64
         ensures is { result ≡ min most (length (matches pattern (layout_seen self.now).triples)) }
