@@ -183,16 +183,13 @@ def one_object(count: int) -> bytes:
     return b"<u:s> <u:q> <u:o> .\n" + b"".join(b"<u:s%07d> <u:p> <u:o> .\n" % i for i in range(count))
 
 
-# Requests whose answer is short although one of the lists that could give it is as long as the file: how the file
-# is made, the options, the request, and the answer.
+# Requests whose answer is short although a list that it could be found by is as long as the file: how the file is made,
+# the options, the request, and the answer.
 SHORT_ANSWERS: dict[str, tuple[Callable[[int], bytes], list[str], bytes, bytes]] = {
     "a subject with an object": (one_subject, [], b'<u:s> ? "0000000"\n', b'<u:s> <u:p> "0000000" .\n\n'),
     "a predicate with an object": (one_object, [], b"? <u:q> <u:o>\n", b"<u:s> <u:q> <u:o> .\n\n"),
     "a count of one subject of many": (one_object, ["--count"], b"<u:s> ? <u:o>\n", b"1\n\n"),
     "a count of a subject with an object": (one_subject, ["--count"], b'<u:s> ? "0000000"\n', b"1\n\n"),
-    "some of a predicate's": (one_object, ["--count", "--most", "3"], b"? <u:p> ?\n", b"3\n\n"),
-    "some of a predicate's with an object": (
-        one_object, ["--count", "--most", "3"], b"? <u:p> <u:o>\n", b"3\n\n"),
 }
 
 

@@ -77,7 +77,8 @@ fn count_of(layout: &Layout<'_>, pattern: Option<Pattern>, most: Option<u64>) ->
     let Some(pattern) = pattern else {
         return 0;
     };
-    layout.matching_up_to(pattern, most.unwrap_or(u64::MAX), &mut Steps::new())
+    let count = layout.matching(pattern, &mut Steps::new());
+    count.min(most.unwrap_or(u64::MAX))
 }
 
 /// The pattern with the IDs of the strings that are given, if each is one of its role.
@@ -131,7 +132,8 @@ fn graph_count(graph: &Graph<'_>, pattern: Option<Pattern>, most: Option<u64>) -
     let Some(pattern) = pattern else {
         return 0;
     };
-    graph.matching_up_to(pattern, most.unwrap_or(u64::MAX), &mut Steps::new())
+    let found = graph.matching(pattern, &mut Steps::new());
+    found.min(most.unwrap_or(u64::MAX))
 }
 
 /// Appends the lines of the IDs of the matches of a pattern in a graph, or nothing without a pattern; after an error
