@@ -366,16 +366,18 @@ class Graph:
     def _strings(self, role: int, numbers: list[int]) -> Optional[list[str]]:
         """The strings of these numbers; None where one of them is that of no string."""
         try:
-            ids = array.array("Q", numbers)
+            ids = array.array("Q", [*numbers, 0])  # (one more than there are, as an empty array has no address)
         except OverflowError:
-            ids = array.array("Q", [0])
+            ids = array.array("Q", [0, 0])
+        count = len(ids) - 1
         ends = array.array("Q", bytes(8 * len(ids)))
+        given, places = ids.buffer_info()[0], ends.buffer_info()[0]
         with Made() as made:
-            given, places = ids.buffer_info()[0], ends.buffer_info()[0]
-            if self._asked(library.hdt_strings, role, given, len(ids), made, places, len(ends)) is None:
+            if self._asked(library.hdt_strings, role, given, count, made, places, count) is None:
                 return None
             text = bytes(made.view())
-        return [text[start:end].decode() for start, end in zip(itertools.chain((0,), ends), ends)]
+        ends.pop()
+        return [text[start:end].decode() for start, end in zip([0, *ends], ends)]
 
     def matching(self, s: Optional[str] = None, p: Optional[str] = None, o: Optional[str] = None) -> int:
         """How many triples `find` gives. The terms are dictionary strings; None is any."""
