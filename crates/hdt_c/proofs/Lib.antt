@@ -1,3 +1,3 @@
 mod AsBox
 mod Dropping
-pub mod WithoutStrings
+pub mod Answering
