@@ -82,7 +82,7 @@ def requests_and_answers(dictionary: Dictionary, at: int, end: int,
               for n, string in enumerate(strings, 1)),
             *((("dictionary_string_of", at, role, n, b"before"), ok(False, b"before")) for n in (0, count + 1, MAX)),
             *((("dictionary_strings_of", at, role, b"before", *ids), laid(b"before", [strings[n - 1] for n in ids]))
-              for ids in ([], [*range(1, count + 1)], [*range(count, 0, -1)] * 2, [n for n in range(1, count + 1, 3)] * 2)),
+              for ids in ([], [*range(1, count + 1)], [*range(count, 0, -1)] * 2, [*range(1, count + 1, 3)] * 2)),
             *((("dictionary_strings_of", at, role, b"before", *range(1, count + 1), n), ok(False, b"before", 6))
               for n in (0, count + 1, MAX)),
             *((("dictionary_block", at, role, n), ok(block))

@@ -3,7 +3,7 @@
 from __future__ import annotations
 
 from collections.abc import Iterable, Sequence
-from itertools import product
+from itertools import accumulate, product
 from typing import NamedTuple, Optional
 
 import pytest
@@ -137,10 +137,11 @@ def assert_looks_up(probe: Probe, data: bytes, strings: Sequence[Sequence[bytes]
                 there = 1 <= n <= len(row)
                 expected[f"{prefix}string_of", role, n, b"y"] = ok(
                     there, b"y" + (row[n - 1] if there else b""), *([] if prefix else [n in used]))
-        ids = [*range(1, len(row) + 1), *range(len(row), 0, -1)]
-        texts = [row[n - 1] for n in ids]
-        expected[("strings_of", role, b"y", *ids)] = ok(True, b"y" + b"".join(texts), *accumulate([1, *map(len, texts)]))
-        expected[("strings_of", role, b"y", *ids, len(row) + 1)] = ok(False, b"y", 1)
+        many = [*range(1, len(row) + 1), *range(len(row), 0, -1)]
+        texts = [row[n - 1] for n in many]
+        ends = accumulate([1, *map(len, texts)])
+        expected[("strings_of", role, b"y", *many)] = ok(True, b"y" + b"".join(texts), *ends)
+        expected[("strings_of", role, b"y", *many, len(row) + 1)] = ok(False, b"y", 1)
         expected[("uses_of", role, *asked)] = ok(*(n in used for n in asked))
     answers = probe.send(("file", data), *expected)[1:]
     assert dict(zip(expected, answers)) == expected

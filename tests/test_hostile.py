@@ -9,12 +9,14 @@ from __future__ import annotations
 
 from collections.abc import Callable
 from pathlib import Path
+from time import process_time
 
 import pytest
 
 from reference.hdt import long_prefixes, loose_prefixes
 from support.built import PROGRAM
 from support.program import Result, hdt, run
+from support.python_package import hdt as hdt_package
 from support.timing import is_linear, measure, timed
 
 Counts = tuple[int, int, int, int, int]
@@ -67,6 +69,22 @@ FAMILIES: dict[str, Family] = {
     "unused strings of long prefixes": lambda scale: loose_prefixes(20_000 * scale, 500 * scale),
     "one huge block": lambda scale: long_prefixes(2, 0, 6_250 * scale),
 }
+
+
+def test_python_finds_in_one_block(tmp_path: Path) -> None:
+    """Python gives the triples of a file whose strings are all in one block in linear time."""
+    counts = {}
+    for scale in SCALES:
+        data, counts[scale] = FAMILIES["one huge block"](scale)
+        (tmp_path / f"{scale}.hdt").write_bytes(data)
+
+    def seconds(scale: int) -> float:
+        began = process_time()
+        with hdt_package.open(tmp_path / f"{scale}.hdt") as graph:
+            assert sum(1 for _ in graph) == counts[scale][0]
+        return process_time() - began
+
+    check_linear(seconds)
 
 
 def rewritten(counts: Counts, out: Path) -> Result:

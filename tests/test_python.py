@@ -90,6 +90,12 @@ def check_strings(graph: hdt.Graph, role: hdt.Role) -> None:
     for n in (0, -1, len(strings) + 1, 2**64, 2**64 + 1, -(2**64) + 1):
         with pytest.raises(IndexError):
             graph.string(role, n)
+    ids = [*range(1, len(strings) + 1), *range(len(strings), 0, -1)]
+    assert graph.strings(role, iter(ids)) == strings + strings[::-1]
+    assert graph.strings(role, []) == []
+    for n in (0, -1, len(strings) + 1, 2**64, -(2**64) + 1):
+        with pytest.raises(IndexError, match=f"there is no {role} {n}$"):
+            graph.strings(role, [*ids, n, 0])
     absent = ("u:none", "", "\0", "\ud800", strings[0] + "\0", strings[0] + "x")
     assert {term: graph.number(role, term) for term in absent} == dict.fromkeys(absent)
 
@@ -195,10 +201,10 @@ def test_header() -> None:
         assert graph.header.count(b"\n") == 2
 
 
-@pytest.mark.parametrize("call", ["count", "string", "number"])
+@pytest.mark.parametrize("call", ["count", "string", "strings", "number"])
 def test_wrong_roles(call: str) -> None:
     """An unknown role is a ValueError."""
-    arguments: dict[str, tuple[Any, ...]] = {"count": (), "string": (1,), "number": ("u:a",)}
+    arguments: dict[str, tuple[Any, ...]] = {"count": (), "string": (1,), "strings": ([1],), "number": ("u:a",)}
     with hdt.open(THREE) as graph, pytest.raises(ValueError, match="no such role: 'verb'"):
         getattr(graph, call)("verb", *arguments[call])
 
@@ -355,6 +361,9 @@ CLOSED_CALLS: dict[str, Callable[[hdt.Graph], object]] = {
     "count": lambda graph: graph.count("subject"),
     "string": lambda graph: graph.string("subject", 1),
     "string 0": lambda graph: graph.string("subject", 0),
+    "strings": lambda graph: graph.strings("subject", [1]),
+    "no strings": lambda graph: graph.strings("subject", []),
+    "strings 0": lambda graph: graph.strings("subject", [0]),
     "number": lambda graph: graph.number("subject", "u:a"),
     "matching": lambda graph: graph.matching(),
     "in": lambda graph: ("u:a", "u:p", "u:b") in graph,
@@ -391,6 +400,8 @@ WRONG_TYPES: dict[str, Callable[[Any], object]] = {
     "a term that is None": lambda graph: graph.number("object", None),
     "a term that is a number": lambda graph: graph.text(3),
     "an ID with a fraction": lambda graph: graph.string("object", 1.0),
+    "IDs with a fraction": lambda graph: graph.strings("object", [1, 2.0]),
+    "an ID for IDs": lambda graph: graph.strings("object", 1),
 }
 
 
@@ -453,8 +464,10 @@ def test_files_are_given_back() -> None:
 
     before = held()
     for _ in range(50):
-        with hdt.open(THREE) as graph:
+        with hdt.open(THREE, copy=False) as graph:
             assert held()[1] == before[1] + 1
+        with hdt.open(THREE) as graph:
+            assert held() == before
         hdt.open(THREE)
         hdt.verify(THREE)
     del graph
@@ -622,11 +635,12 @@ def test_graph_is_not_copied(made: Callable[[Any], Any]) -> None:
         assert len(list(graph)) == 3
 
 
-def test_opened_as_a_copy(tmp_path: Path) -> None:
-    """A file that was read into memory may be cut or overwritten while it is open."""
+@pytest.mark.parametrize("copied", [True, None])
+def test_opened_as_a_copy(copied: Optional[bool], tmp_path: Path) -> None:
+    """A file that was read into memory, as a small one is, may be cut or overwritten while it is open."""
     path = tmp_path / "own.hdt"
     path.write_bytes(THREE.read_bytes())
-    with hdt.open(path, copy=True) as graph:
+    with hdt.open(path, copy=copied) as graph:
         os.truncate(path, 0)
         assert sorted(graph) == [("u:a", "u:p", "u:b"), ("u:a", "u:q", '"x"'), ("u:b", "u:p", "u:a")]
 
@@ -710,6 +724,7 @@ def test_large_strings(role: hdt.Role, large: Large) -> None:
     strings = [large.graph.string(role, n) for n in chosen]
     assert [large.graph.number(role, string) for string in strings] == chosen
     assert len(set(strings)) == len(chosen)
+    assert large.graph.strings(role, chosen) == strings
 
 
 def run_threads(count: int, work: Callable[[int], None]) -> list[threading.Thread]:

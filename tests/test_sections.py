@@ -48,7 +48,7 @@ def requests_and_answers(section: Section, at: int, end: int, others: list[bytes
         (("section_walk_kept", at), ok(*kept, None, 0)),
         (("section_string", at, 0, b""), REFUSED),
         (("section_string", at, count + 1, b""), REFUSED),
-        (("section_seek", at, count + 1), REFUSED),
+        (("section_seek", at, count + 1), (*REFUSED, "")),
         (("section_block", at, count + 1), REFUSED),
         (("section_head", at, section.blocks), REFUSED),
         *((("section_head", at, block), ok(strings[block * section.block_size])) for block in range(section.blocks)),

@@ -15,8 +15,8 @@ gives N-Triples. A role is `"subject"`, `"predicate"` or `"object"`; another one
 role are numbered from 1.
 
 Files of 64 MiB and more are mapped, not read (`open` says more): such a file must stay as it is while a graph of it is
-open or a call looks at it. Exceptions: `Fault` (the file is none), `LineFault` (the text isn't N-Triples), `NoTriples`, `NotATerm`, all of them ValueError;
-MemoryError; OSError of files. After an exception a graph is as it was.
+open or a call looks at it. Exceptions: `Fault` (the file is none), `LineFault` (the text isn't N-Triples), `NoTriples`,
+`NotATerm`, all of them ValueError; MemoryError; OSError of files. After an exception a graph is as it was.
 """
 
 from __future__ import annotations
@@ -49,7 +49,8 @@ _ROLES = ("subject", "predicate", "object")
 _FIRST_BYTES = 256  # room for a string; it grows where one needs more
 _FIRST_MATCHES = 64
 _MAPPED = 64 * 1024 * 1024  # bytes: files of this size and more are mapped
-_PORTION = 4_096  # triples whose strings a search looks up at once
+_FEW = 4  # the first triples of a search, whose strings are looked up one by one
+_PORTION = 4_096  # triples whose strings are looked up at once, at most, or more in large graphs
 
 
 class Counts(NamedTuple):
@@ -238,9 +239,9 @@ def open(path: Path, copy: Optional[bool] = None) -> Graph:
     """Open a file for searches: use it in a `with` statement, or call `close`.
 
     The whole file is validated first. Raises Fault as `verify` does. A file under 64 MiB is read into memory, and a
-    larger one mapped, which processes share; `copy=True` reads any, `copy=False` maps any. A mapped file must not change
-    while the graph is open: one that is cut or overwritten in place ends the process by a signal (SIGBUS). To replace a
-    file in use, write a new one and rename it, as `build` does.
+    larger one is mapped, which processes share; `copy=True` reads any, `copy=False` maps any. A mapped file must not
+    change while the graph is open: one that is cut or overwritten in place ends the process by a signal (SIGBUS). To
+    replace a file in use, write a new one and rename it, as `build` does.
     """
     return Graph(_data(path, copy))
 
@@ -360,22 +361,24 @@ class Graph:
         strings = self._strings(_role(role), numbers)
         if strings is None:
             last = self.count(role)
-            raise IndexError(f"there is no {role} {next(number for number in numbers if not 1 <= number <= last)}")
+            raise IndexError(f"there is no {role} {next(n for n in numbers if not 1 <= n <= last)}")
         return strings
 
     def _strings(self, role: int, numbers: list[int]) -> Optional[list[str]]:
         """The strings of these numbers; None where one of them is that of no string."""
         try:
-            ids = array.array("Q", numbers)
+            ids = array.array("Q", [*numbers, 0])  # (one more than there are, as an empty array has no address)
         except OverflowError:
-            ids = array.array("Q", [0])
+            ids = array.array("Q", [0, 0])
+        count = len(ids) - 1
         ends = array.array("Q", bytes(8 * len(ids)))
+        given, places = ids.buffer_info()[0], ends.buffer_info()[0]
         with Made() as made:
-            given, places = ids.buffer_info()[0], ends.buffer_info()[0]
-            if self._asked(library.hdt_strings, role, given, len(ids), made, places, len(ends)) is None:
+            if self._asked(library.hdt_strings, role, given, count, made, places, count) is None:
                 return None
             text = bytes(made.view())
-        return [text[start:end].decode() for start, end in zip(itertools.chain((0,), ends), ends)]
+        ends.pop()
+        return [text[start:end].decode() for start, end in zip([0, *ends], ends)]
 
     def matching(self, s: Optional[str] = None, p: Optional[str] = None, o: Optional[str] = None) -> int:
         """How many triples `find` gives. The terms are dictionary strings; None is any."""
@@ -411,18 +414,26 @@ class Graph:
         """Iterate over the triples that have each given term, in the order of the file, each once.
 
         Terms are dictionary strings, both the given ones and those of the triples; None matches any. It keeps up to 24
-        bytes for each triple that it has given, and the strings of a portion of the triples: at most 4,096 of them, or a
-        64th as many as the graph has strings.
+        bytes for each triple that it has given, and the strings of a portion of the triples: of at most 4,096, or of a
+        64th as many as the graph has strings. Time is linear in these triples and the graph's strings.
         """
         return self._strings_of(self.find_numbers(s, p, o))
 
     def _strings_of(self, triples: Iterator[tuple[int, int, int]]) -> Iterator[tuple[str, str, str]]:
         # (each portion may walk over all strings: so it grows until those are few for each of its triples)
-        most, portion = max(_PORTION, sum(self._counts[1:]) // 64), _FIRST_MATCHES
+        most, portion = max(_PORTION, sum(self._counts[1:]) // 64), _FEW
         while found := list(itertools.islice(triples, portion)):
-            roles = [self._known(role, numbers) for role, numbers in enumerate(zip(*found))]
-            yield from zip(*(map(known.__getitem__, numbers) for known, numbers in zip(roles, zip(*found))))
-            portion = min(2 * portion, most)
+            if portion == _FEW:
+                yield from [(self._term(0, s), self._term(1, p), self._term(2, o)) for s, p, o in found]
+            else:
+                roles = list(zip(*found))
+                known = [self._known(role, numbers) for role, numbers in enumerate(roles)]
+                yield from zip(*(map(strings.__getitem__, numbers) for strings, numbers in zip(known, roles)))
+            portion = min(4 * portion, most)
+
+    def _term(self, role: int, number: int) -> str:
+        """The string of a number of a role, which is there."""
+        return (self._put(library.hdt_string, role, number) or b"").decode()
 
     def _known(self, role: int, numbers: tuple[int, ...]) -> dict[int, str]:
         """The strings of these numbers of a role, which are all there."""

@@ -1,2 +1,3 @@
 mod AsBox
 mod Dropping
+pub mod Answering

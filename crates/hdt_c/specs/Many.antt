@@ -3,7 +3,7 @@ use Rattle.std.specs.Prelude.{◌≡◌, ◌⊎◌, ℕ, List, [], length, Optio
 use Rattle.std.specs.List.{concat}
 use Rattle.hdt_wire.specs.declared.role.Role.{Role}
 use Rattle.hdt_dict.specs.Dictionary.{strings_in}
-use Rattle.hdt_dict.specs.Many.{AreNumbers, ends_from, strings_at}
+use Rattle.hdt_dict.specs.Many.{AreNumbers, ends_from, strings_by_number}
 use Rattle.hdt_file.specs.File.{GraphParts}
 use Rattle.hdt_c.specs.Answers.{absent, no_memory}
 use Rattle.hdt_c.specs.Bytes.{Are, AreNone}
@@ -18,7 +18,7 @@ AreThere g (Some role) numbers = AreNumbers (strings_in g.dictionary role) numbe
 -- these strings
 abbrev pub strings_numbered : GraphParts → Option Role → List ℕ → List (List ℕ)
 strings_numbered g None numbers = []
-strings_numbered g (Some role) numbers = strings_at (strings_in g.dictionary role) numbers
+strings_numbered g (Some role) numbers = strings_by_number (strings_in g.dictionary role) numbers
 
 -- the bytes are strings, one after another, and their length is the answer; the places where they end were put into room
 pub record PutsStrings (strings : List (List ℕ)) (answer : ℕ) (out : HdtBytes) (old new : List ℕ) : Type 0 where

@@ -5,17 +5,17 @@ use Rattle.std.specs.Prelude.{Result, Ok, Err, OnErr}
 use Rattle.hdt_wire.specs.Control.{Keeps}
 use Rattle.std.proofs.lemmas.List.{take_more, map-append, append-nil, get_or_append_left, take-append-le}
 use Rattle.std.proofs.lemmas.List.Folds.{concat-append}
-use Rattle.hdt_dict.specs.Many.{AscendTo, ends_from, strings_at}
+use Rattle.hdt_dict.specs.Many.{AscendTo, ends_from, strings_by_number}
 
 -- one string more
-pub strings_more : (xs : List (List ℕ)) (ns : List ℕ) (i : ℕ) → i < length ns → strings_at xs (take (i + 1) ns) ≡ strings_at xs (take i ns) ++ slice_index_or xs (slice_index ns i - 1) [] ∷ []
-strings_more xs ns i h = ap (strings_at xs) (take_more ns i 0 h) ∙ map-append (λ n. slice_index_or xs (n - 1) []) (take i ns) (slice_index ns i ∷ [])
+pub strings_more : (xs : List (List ℕ)) (ns : List ℕ) (i : ℕ) → i < length ns → strings_by_number xs (take (i + 1) ns) ≡ strings_by_number xs (take i ns) ++ slice_index_or xs (slice_index ns i - 1) [] ∷ []
+strings_more xs ns i h = ap (strings_by_number xs) (take_more ns i 0 h) ∙ map-append (λ n. slice_index_or xs (n - 1) []) (take i ns) (slice_index ns i ∷ [])
 
-pub texts_more : (xs : List (List ℕ)) (ns : List ℕ) (i : ℕ) (old out new : List ℕ) → i < length ns → out ≡ old ++ concat (strings_at xs (take i ns)) → new ≡ out ++ slice_index_or xs (slice_index ns i - 1) []
-    → new ≡ old ++ concat (strings_at xs (take (i + 1) ns))
+pub texts_more : (xs : List (List ℕ)) (ns : List ℕ) (i : ℕ) (old out new : List ℕ) → i < length ns → out ≡ old ++ concat (strings_by_number xs (take i ns)) → new ≡ out ++ slice_index_or xs (slice_index ns i - 1) []
+    → new ≡ old ++ concat (strings_by_number xs (take (i + 1) ns))
 texts_more xs ns i old out new h e f =
     let s : List ℕ = slice_index_or xs (slice_index ns i - 1) [] in
-    let before : List (List ℕ) = strings_at xs (take i ns) in
+    let before : List (List ℕ) = strings_by_number xs (take i ns) in
     f ∙ ap (λ l. l ++ s) e ∙ append_assoc old (concat before) s
     ∙ ap (λ l. old ++ l) (ap (λ l. concat before ++ l) (sym (append-nil s)) ∙ sym (concat-append before (s ∷ [])) ∙ ap concat (sym (strings_more xs ns i h)))
 
@@ -26,13 +26,13 @@ ends_push at (x ∷ xs) s =
     let whole : at + length x + length (concat (xs ++ s ∷ [])) ≡ at + length (x ++ concat (xs ++ s ∷ [])) = omega (arith, length-append x (concat (xs ++ s ∷ []))) in
     ap (λ l. (at + length x) ∷ l) (ends_push (at + length x) xs s ∙ ap (λ (n : ℕ). ends_from (at + length x) xs ++ n ∷ []) whole)
 
-pub ends_more : (xs : List (List ℕ)) (ns : List ℕ) (i n : ℕ) (old new ends after more : List ℕ) → i < length ns → new ≡ old ++ concat (strings_at xs (take (i + 1) ns)) → n ≡ length new
-    → after ≡ ends ++ ends_from (length old) (strings_at xs (take i ns)) → more ≡ after ++ n ∷ [] → more ≡ ends ++ ends_from (length old) (strings_at xs (take (i + 1) ns))
+pub ends_more : (xs : List (List ℕ)) (ns : List ℕ) (i n : ℕ) (old new ends after more : List ℕ) → i < length ns → new ≡ old ++ concat (strings_by_number xs (take (i + 1) ns)) → n ≡ length new
+    → after ≡ ends ++ ends_from (length old) (strings_by_number xs (take i ns)) → more ≡ after ++ n ∷ [] → more ≡ ends ++ ends_from (length old) (strings_by_number xs (take (i + 1) ns))
 ends_more xs ns i n old new ends after more h e size f g =
     let s : List ℕ = slice_index_or xs (slice_index ns i - 1) [] in
-    let before : List (List ℕ) = strings_at xs (take i ns) in
+    let before : List (List ℕ) = strings_by_number xs (take i ns) in
     let place : n ≡ length old + length (concat (before ++ s ∷ [])) =
-    size ∙ ap length e ∙ length-append old (concat (strings_at xs (take (i + 1) ns))) ∙ ap (λ l. length old + length (concat l)) (strings_more xs ns i h) in
+    size ∙ ap length e ∙ length-append old (concat (strings_by_number xs (take (i + 1) ns))) ∙ ap (λ l. length old + length (concat l)) (strings_more xs ns i h) in
     g ∙ ap (λ l. l ++ n ∷ []) f ∙ append_assoc ends (ends_from (length old) before) (n ∷ [])
     ∙ ap (λ l. ends ++ l) (ap (λ (n : ℕ). ends_from (length old) before ++ n ∷ []) place ∙ sym (ends_push (length old) before s) ∙ ap (ends_from (length old)) (sym (strings_more xs ns i h)))
 
@@ -48,11 +48,11 @@ pub one_more : (i m : ℕ) → (i + 1) * m ≡ i * m + m
 one_more i m = grind arith
 
 -- strings of the first of two lists
-pub in_first : (xs ys : List (List ℕ)) (ns : List ℕ) → ((i : ℕ) → i < length ns → (1 ≤ slice_index ns i) × (slice_index ns i ≤ length xs)) → strings_at (xs ++ ys) ns ≡ strings_at xs ns
+pub in_first : (xs ys : List (List ℕ)) (ns : List ℕ) → ((i : ℕ) → i < length ns → (1 ≤ slice_index ns i) × (slice_index ns i ≤ length xs)) → strings_by_number (xs ++ ys) ns ≡ strings_by_number xs ns
 in_first xs ys [] h = refl
 in_first xs ys (n ∷ ns) h =
     let k = h 0 (omega arith) in
-    ap (λ (s : List ℕ). s ∷ strings_at (xs ++ ys) ns) (get_or_append_left xs ys [] (n - 1) (omega (arith, k.0, k.1)))
+    ap (λ (s : List ℕ). s ∷ strings_by_number (xs ++ ys) ns) (get_or_append_left xs ys [] (n - 1) (omega (arith, k.0, k.1)))
     ∙ ap (λ l. slice_index_or xs (n - 1) [] ∷ l) (in_first xs ys ns (λ i lt. h (suc i) (omega (arith, lt))))
 
 -- after an error something may be left behind what was there

@@ -7,8 +7,8 @@ abbrev pub AreNumbers : List (List ℕ) → List ℕ → Type 0
 AreNumbers xs numbers = (i : ℕ) → i < length numbers → (1 ≤ slice_index numbers i) × (slice_index numbers i ≤ length xs)
 
 -- their strings, in the order of the numbers
-abbrev pub strings_at : List (List ℕ) → List ℕ → List (List ℕ)
-strings_at xs numbers = map (λ n. slice_index_or xs (n - 1) []) numbers
+abbrev pub strings_by_number : List (List ℕ) → List ℕ → List (List ℕ)
+strings_by_number xs numbers = map (λ n. slice_index_or xs (n - 1) []) numbers
 
 -- where each string ends, as they stand one after another from a place on
 unfoldable pub ends_from : ℕ → List (List ℕ) → List ℕ
@@ -22,7 +22,7 @@ pub record AppendsStrings (xs : List (List ℕ)) (old new ends after : List ℕ)
 
 -- the strings of the numbers were appended; or one of these is that of no string, and nothing was
 abbrev pub AppendsAll : List (List ℕ) → List ℕ → Bool → List ℕ → List ℕ → List ℕ → List ℕ → Type 0
-AppendsAll xs numbers true old new ends after = AreNumbers xs numbers × AppendsStrings (strings_at xs numbers) old new ends after
+AppendsAll xs numbers true old new ends after = AreNumbers xs numbers × AppendsStrings (strings_by_number xs numbers) old new ends after
 AppendsAll xs numbers false old new ends after = (AreNumbers xs numbers → ⊥) × (new ≡ old) × (after ≡ ends)
 
 -- each number is at least the previous one, and at most n

@@ -5,7 +5,7 @@ ghost use Rattle.hdt_front.specs.Strings.{strings_of, block_size};
 ghost use Rattle.hdt_dict.specs.Dictionary.{strings_in, sections_of};
 ghost use Rattle.hdt_dict.specs.Inside.Seeking.{StandAt};
 ghost use Rattle.hdt_dict.specs.Looks.{role_block};
-ghost use Rattle.hdt_dict.specs.Many.{AppendsAll, AppendsStrings, AreNumbers, AscendTo, strings_at};
+ghost use Rattle.hdt_dict.specs.Many.{AppendsAll, AppendsStrings, AreNumbers, AscendTo, strings_by_number};
 ghost use Rattle.hdt_dict.specs.Views.{dictionary_of};
 
 use crate::dictionary::Dictionary;
@@ -67,7 +67,7 @@ fn append_all<'a>(
     steps: &mut Steps,
 ) -> Result<(), AllocError>
     requires { AreNumbers (strings_of first.now ++ strings_of second.now) numbers.now }
-    ensures ok { OnOk result (AppendsStrings (strings_at (strings_of first.now ++ strings_of second.now) numbers.now) out.old.items out.new.items ends.old.items ends.new.items) }
+    ensures ok { OnOk result (AppendsStrings (strings_by_number (strings_of first.now ++ strings_of second.now) numbers.now) out.old.items out.new.items ends.old.items ends.new.items) }
     ensures err { OnErr result (Keeps out.old.items out.new.items) }
     ensures places { OnErr result (Keeps ends.old.items ends.new.items) }
     ensures cost { steps.new ≤ steps.old + length numbers.now * max (block_size first.now) (block_size second.now) }
@@ -101,7 +101,7 @@ fn append_whole<'a>(
     steps: &mut Steps,
 ) -> Result<(), AllocError>
     requires { AreNumbers (strings_of first.now ++ strings_of second.now) numbers.now }
-    ensures ok { OnOk result (AppendsStrings (strings_at (strings_of first.now ++ strings_of second.now) numbers.now) out.old.items out.new.items ends.old.items ends.new.items) }
+    ensures ok { OnOk result (AppendsStrings (strings_by_number (strings_of first.now ++ strings_of second.now) numbers.now) out.old.items out.new.items ends.old.items ends.new.items) }
     ensures err { OnErr result ((out.new.items ≡ out.old.items) × (ends.new.items ≡ ends.old.items)) }
     ensures cost { steps.new ≤ steps.old + length numbers.now * max (block_size first.now) (block_size second.now) }
     ensures once { (n : ℕ) → AscendTo numbers.now n → steps.new ≤ steps.old + n }
