@@ -9,7 +9,7 @@ ghost use Rattle.hdt_file.specs.TextWriting.{chosen, limited};
 ghost use Rattle.hdt_file.specs.Views.{graph_seen};
 ghost use Rattle.std.specs.Io.KnownBytes.{Appends};
 ghost use Rattle.hdt_command.specs.Answer.{FailsAfter};
-ghost use Rattle.hdt_command.specs.Dialogue.{AnswersFound, AnswersInput, AnswersLine, AnswersSome, Gone, ReadsWanted, ended, fault_comment, given_of, lines_left, most_bytes, no_term_comment, wanted_in};
+ghost use Rattle.hdt_command.specs.Dialogue.{AnswersFound, AnswersInput, AnswersLine, AnswersSome, Gone, ReadsWanted, asked_in, ended, fault_comment, given_of, lines_left, most_bytes, no_term_comment, wanted_in};
 ghost use Rattle.hdt_command.specs.TriplesText.{FindsStrings};
 
 use crate::fault::{ToolFault, line_fault};
@@ -41,6 +41,25 @@ fn read_line(
         return read_raw_request(text, subject, predicate, object);
     }
     read_request(text, subject, predicate, object)
+}
+
+/// The same, or that the line is longer than a request may be.
+fn read_within(
+    asking: Asking,
+    text: &[u8],
+    subject: &mut Vec<u8>,
+    predicate: &mut Vec<u8>,
+    object: &mut Vec<u8>,
+) -> Result<Option<[bool; 3]>, TermFault>
+    ensures { ReadsWanted result subject.new.items predicate.new.items object.new.items (asked_in asking text.now) }
+{
+    if text.len() > asking.longest as usize {
+        return Err(TermFault {
+            column: 0,
+            reason: LineReason::TooLong,
+        });
+    }
+    read_line(asking.raw, text, subject, predicate, object)
 }
 
 /// The string, where it is given.
@@ -144,7 +163,7 @@ fn line_answer(
     ensures ok { IfOk result (λ fault. (answer : List ℕ) × AnswersLine (graph_seen graph.now) asking (line, text.now) fault answer × (out.new.items ≡ out.old.items ++ answer)) }
     ensures left { OnErr result (out.new.items ≡ out.old.items) }
 {
-    match read_line(asking.raw, text, subject, predicate, object) {
+    match read_within(asking, text, subject, predicate, object) {
         Ok(None) => Ok(false),
         Ok(Some(given)) => {
             let pattern = asked_pattern(graph, given, subject, predicate, object);
@@ -163,15 +182,16 @@ fn line_answer(
 /// More bytes than any input has.
 const MOST_BYTES: u64 = 9_223_372_036_854_775_807;
 
-/// The next line of a run, where there is one.
+/// The next line of a run, where there is one; of a line that is longer than a request may be only so much as shows that.
 fn next_line<R: Read>(
     lines: &mut Lines,
+    longest: u32,
     input: &mut Counted<R>,
     text: &mut Vec<u8>,
 ) -> Result<bool, LineFault>
     requires { lines.old.failed ≡ None }
     ensures more { (all : Option (List ℕ)) (done : List (ℕ × List ℕ)) → Gone lines.old all (left lines.old (R.remaining (inner input.old))) done → result ≡ Ok true →
-        Gone lines.new all (left lines.new (R.remaining (inner input.new))) (done ++ (line_number lines.new, text.new.items) ∷ []) }
+        (line : List ℕ) × (text.new.items ≡ take (longest + 1) line) × Gone lines.new all (left lines.new (R.remaining (inner input.new))) (done ++ (line_number lines.new, line) ∷ []) }
     ensures all { (all : Option (List ℕ)) (done : List (ℕ × List ℕ)) → Gone lines.old all (left lines.old (R.remaining (inner input.old))) done → result ≡ Ok false →
         AreLines most_bytes all done }
     ensures fault { (all : Option (List ℕ)) (done : List (ℕ × List ℕ)) → Gone lines.old all (left lines.old (R.remaining (inner input.old))) done →
@@ -184,7 +204,7 @@ fn next_line<R: Read>(
     ensures unread { HoldsLine lines.old → input.new ≡ input.old }
 {
     run_of_texts();
-    lines.next_text(input, text)
+    lines.next_front(longest as usize + 1, input, text)
 }
 
 /// Whether one of two holds.
@@ -258,9 +278,10 @@ fn settle<W: Write>(
 
 /// Answers the requests of a reader, line by line up to its end. An answer is written before more is read: at once, or with those of
 /// other requests that are held already, up to 64 KiB of them, behind which it is made. It tells whether one of the answers is a fault.
-/// Memory is that of the longest request and of the longest answer, which is made whole as
-/// [`append_graph_text`](hdt_file::append_graph_text) makes it, of what a [`Speller`] keeps, and of these 64 KiB; the time of a request
-/// is that of its search and its text.
+/// A line of more bytes than a request may have, be it a comment or blank, is answered by that fault and passed over, in time in
+/// proportion to it. Memory is that of the longest request within that bound and of the longest answer, which is made whole as
+/// [`append_graph_text`](hdt_file::append_graph_text) makes it, of what a [`Speller`] keeps, of 64 KiB of the input and of these 64 KiB;
+/// the time of a request is that of its search and its text.
 ///
 /// # Errors
 ///
@@ -295,7 +316,7 @@ pub fn answer_requests<R: Read, W: Write>(
     let mut count = 0;
     let mut faulty = false;
     'lines: loop {
-        match next_line(&mut lines, input, &mut text) {
+        match next_line(&mut lines, asking.longest, input, &mut text) {
             Ok(true) => {}
             Ok(false) => {
                 write_kept(&mut kept, count, out)?;
