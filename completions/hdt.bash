@@ -10,7 +10,8 @@ _hdt() {
     case $command in
     verify) options+=" --tight --progress" ;;
     number) options+=" --raw" ;;
-    find | answer) options+=" --raw --numbers --count --most" ;;
+    find) options+=" --raw --numbers --count --most" ;;
+    answer) options+=" --raw --numbers --count --most --longest-request" ;;
     build) options+=" --base --block-size --progress" ;;
     rewrite) options+=" --block-size --progress" ;;
     help) options=$commands ;;

@@ -19,6 +19,7 @@ complete -c hdt -n "__fish_seen_subcommand_from number find answer" -l raw -d "T
 complete -c hdt -n "__fish_seen_subcommand_from find answer" -l numbers -d "Print the numbers of each triple"
 complete -c hdt -n "__fish_seen_subcommand_from find answer" -l count -d "Print how many there are"
 complete -c hdt -n "__fish_seen_subcommand_from find answer" -l most -x -d "Take the first triples alone"
+complete -c hdt -n "__fish_seen_subcommand_from answer" -l longest-request -x -d "How many bytes a line of the requests has at most"
 complete -c hdt -n "__fish_seen_subcommand_from build" -l base -x -d "The IRI that stands for the file"
 complete -c hdt -n "__fish_seen_subcommand_from verify build rewrite" -l progress -d "Tell on standard error how many bytes were read"
 complete -c hdt -n "__fish_seen_subcommand_from build rewrite" -l block-size -x -d "How many strings stand in a block"

@@ -219,6 +219,8 @@ def test_files_that_cannot_be_opened(tmp_path: Path, file: str, wanted: Result) 
 REFUSED_WORDS: dict[str, list[Word]] = {
     "no file": [],
     "a value that is no number": ["--most", "x", THREE],
+    "a longest request that is no number": ["--longest-request", "-1", THREE],
+    "a longest request of more than 32 bits": ["--longest-request", "4294967296", THREE],
     "an unknown option": [THREE, "--tight"],
     "a second word": [THREE, "? ? ?"],
 }
@@ -292,6 +294,79 @@ def test_long_requests(many: Path) -> None:
     assert hdt("answer", "--count", many, stdin=requests) == wanted
 
 
+# ---- requests that are longer than they may be
+
+
+def too_long(line: int) -> bytes:
+    """The answer to a line that is longer than a request may be."""
+    return f"# line {line} column 0: 9 TooLong\n\n".encode()
+
+
+BOUNDED = b"<u:b> ? ?"
+# A line of one byte more than the request above, and what it is.
+LONGER = {"a request": b"<u:b> ? ?.", "a comment": b"# 34567890", "a blank line": b" " * 10, "no UTF-8": b"\xff" * 10,
+          "an error": b"x" * 10}
+
+
+@pytest.mark.parametrize("step", [1, 3, 1 << 16])
+@pytest.mark.parametrize("end", [b"\n", b"\r\n", b"\r", b""], ids=["LF", "CR LF", "CR", "the end of the input"])
+@pytest.mark.parametrize("line", LONGER.values(), ids=LONGER)
+def test_longest_request(line: bytes, end: bytes, step: int) -> None:
+    """A line of as many bytes as a request may have is answered; one of a byte more is too long, whatever it is."""
+    whole = BOUNDED + b"\n" + line + end
+    wanted = Result(1, THIRD + b"\n" + too_long(2), b"")
+    assert piped(whole, step, "answer", THREE, "--longest-request", "9") == wanted
+    if end:
+        wanted = Result(1, too_long(1) + THIRD + b"\n", b"")
+        assert piped(line + end + BOUNDED, step, "answer", THREE, "--longest-request", "9") == wanted
+
+
+def test_longest_request_by_strings() -> None:
+    """With --raw the bytes of a line count as they stand in it, escapes and tabs too."""
+    requests = b"u:b\t?\t?\nu:b\t?\tu:c\nu:\\\\\t?\t?\n"
+    wanted = Result(1, b"1\n\n" + too_long(2) + b"0\n\n", b"")
+    assert hdt("answer", "--raw", "--count", THREE, "--longest-request", "8", stdin=requests) == wanted
+
+
+def test_no_request_of_a_byte() -> None:
+    """Where a request may have no byte each line that has one is too long, and empty lines have no answer."""
+    assert hdt("answer", THREE, "--longest-request", "0", stdin=b"\n?\n\r\n") == Result(1, too_long(2), b"")
+
+
+@pytest.mark.parametrize("length, wanted", [(2**20, b"0\n\n"), (2**20 + 1, too_long(1))])
+def test_longest_request_by_default(length: int, wanted: bytes) -> None:
+    """A line may have 1,048,576 bytes where nothing else is said."""
+    request = b'? ? "' + b"b" * (length - 6) + b'"'
+    assert hdt("answer", "--count", THREE, stdin=request + b"\n") == Result(int(length > 2**20), wanted, b"")
+
+
+@pytest.mark.parametrize("megabytes", [25, 400])
+def test_huge_request(megabytes: int) -> None:
+    """A line of 400 MB in an address space of 64 MB: it is passed over, and the next request is answered."""
+    line = b"x" * 1_000_000
+    pieces = [*[line] * megabytes, b"\n", BOUNDED]
+    limited = [PROGRAM, "answer", THREE]
+    wanted = Result(1, too_long(1) + THIRD + b"\n", b"")
+    with subprocess.Popen(["sh", "-c", 'ulimit -v 65536; exec "$@"', "sh", *map(str, limited)], stdin=subprocess.PIPE,
+                          stdout=subprocess.PIPE, stderr=subprocess.PIPE) as program:
+        assert program.stdin is not None and program.stdout is not None and program.stderr is not None
+        for piece in pieces:
+            program.stdin.write(piece)
+        program.stdin.close()
+        assert Result(program.wait(60), program.stdout.read(), program.stderr.read()) == wanted
+
+
+# After how many bytes the reader fails: before the long line, in it before and behind the bound, and behind its end.
+@pytest.mark.parametrize("fails, wanted", [(10, THIRD + b"\n"), (15, THIRD + b"\n"), (40, THIRD + b"\n"),
+                                           (61, THIRD + b"\n" + too_long(2))])
+def test_reader_that_fails_in_a_long_request(probe: Probe, fails: int, wanted: bytes) -> None:
+    """A reader that fails in a line that is passed over ends the answers; they are those of the lines before."""
+    requests = BOUNDED + b"\n" + b"x" * 50 + b"\n? ? ?"
+    answer = probe.on(THREE.read_bytes(), "answer_requests", LINES_FORM, "-", 0, 9, 3, fails, ALL, "-", requests)
+    assert answer == ("reading", "failed", wanted.hex())
+    assert probe.ask("reads")[3:5] == ("0", "0")
+
+
 @pytest.mark.parametrize("lines, column", [(254, 255), (255, 256), (65_534, 65_535), (65_535, 65_536), (70_000, 255)])
 def test_lines_and_columns_beyond_8_and_16_bits(lines: int, column: int) -> None:
     """The line and the column of an error are counted beyond 8 and 16 bits."""
@@ -305,12 +380,14 @@ def test_lines_and_columns_beyond_8_and_16_bits(lines: int, column: int) -> None
 REQUESTS = b"? ? <u:b>\n\n# c\nx\n? <u:p> ?\n<u:z> ? ?"
 ANSWERS = FIRST + b"\n# line 4 column 1: 1 Syntax\n\n" + FIRST + THIRD + b"\n\n"
 LINES_FORM, IDS_FORM = 0, 1
+LONGEST = 2**20
 ALL = 2**64 - 1
 
 
 def answered(probe: Probe, step: int, fails: int | str, taken: int, calls: int | str) -> tuple[str, ...]:
     """The probe's answer to these requests over the three triples, by a reader and a writer."""
-    return probe.on(THREE.read_bytes(), "answer_requests", LINES_FORM, "-", 0, step, fails, taken, calls, REQUESTS)
+    asking: list[Argument] = ["answer_requests", LINES_FORM, "-", 0, LONGEST]
+    return probe.on(THREE.read_bytes(), *asking, step, fails, taken, calls, REQUESTS)
 
 
 @pytest.mark.parametrize("step", [1, 2, 5, 7, 9, 50, 200, ALL])
@@ -338,8 +415,8 @@ def test_writer_that_fails(probe: Probe, length: int) -> None:
 def test_equal_requests(probe: Probe) -> None:
     """A thousand equal requests, as lines and as IDs of the first triple by strings."""
     data = THREE.read_bytes()
-    terms = probe.on(data, "answer_requests", LINES_FORM, "-", 0, ALL, "-", ALL, "-", b"? ? <u:b>\n" * 1_000)
-    strings = probe.on(data, "answer_requests", IDS_FORM, 1, 1, ALL, "-", ALL, "-", b"u:a\t?\t?\n" * 1_000)
+    terms = probe.on(data, "answer_requests", LINES_FORM, "-", 0, LONGEST, ALL, "-", ALL, "-", b"? ? <u:b>\n" * 1_000)
+    strings = probe.on(data, "answer_requests", IDS_FORM, 1, 1, LONGEST, ALL, "-", ALL, "-", b"u:a\t?\t?\n" * 1_000)
     assert terms == ("ok", "false", ((FIRST + b"\n") * 1_000).hex())
     assert strings == ("ok", "false", (b"1 1 2\n\n" * 1_000).hex())
 
@@ -401,11 +478,15 @@ FORMS: list[list[str]] = [[], ["--numbers"], ["--count"]]
 
 
 def answers_to(requests: bytes, raw: bool, find: Callable[[Pattern], Result],
-               fails: int | None = None) -> tuple[bytes, bool, bool]:
+               fails: int | None = None, longest: int = LONGEST) -> tuple[bytes, bool, bool]:
     """The answers to lines, whether one is an error, and whether the reader failed, once it had given `fails` bytes."""
     answers, is_error = b"", False
     try:
         for number, line in ntriples.lines(requests, fails=fails):
+            if len(line) > longest:
+                is_error = True
+                answers += too_long(number)
+                continue
             try:
                 asked = ntriples.parse_raw_request(line) if raw else ntriples.parse_request(line)
             except ntriples.TermError as error:
@@ -475,21 +556,26 @@ raw_inputs = st.tuples(st.just(False), inputs(term_requests())) | st.tuples(st.j
 
 @settings(max_examples=settings.default.max_examples // 2)
 @given(graphs, raw_inputs, st.booleans(), st.integers(0, 2), mosts, st.integers(1, 50), st.none() | st.integers(0, 120),
-       st.integers(1, 50), st.none() | st.integers(0, 200))
-@example(THREE_TRIPLES, (False, [(REQUESTS, b"\n")]), False, 0, None, 3, 17, ALL, None)
+       st.integers(1, 50), st.none() | st.integers(0, 200), st.just(LONGEST) | st.integers(0, 20))
+@example(THREE_TRIPLES, (False, [(REQUESTS, b"\n")]), False, 0, None, 3, 17, ALL, None, LONGEST)
+@example(THREE_TRIPLES, (False, [(REQUESTS, b"\n")]), False, 0, None, 3, 21, ALL, None, 8)
 def test_any_reader_and_writer(probe: Probe, triples: list[Triple], given_lines: tuple[bool, list[tuple[bytes, bytes]]],
                                ended: bool, form: int, most: int | None, step: int, fails: int | None, taken: int,
-                               limit: int | None) -> None:
+                               limit: int | None, longest: int) -> None:
     """Readers and writers of pieces that fail anywhere: what came whole is answered, up to what the writer takes."""
     raw, requests = given_lines[0], joined(given_lines[1], ended)
     graph = Graph(triples)
-    answers, is_error, fails_first = answers_to(requests, raw, lambda asked: graph.results(asked, most)[form], fails)
+
+    def find(asked: Pattern) -> Result:
+        return graph.results(asked, most)[form]
+
+    answers, is_error, fails_first = answers_to(requests, raw, find, fails, longest)
     wanted: tuple[str, ...] = ("ok", str(is_error).lower(), answers.hex())
     if limit is not None and limit < len(answers):
         wanted = ("written", str(limit), answers[:limit].hex())
     elif fails_first:
         wanted = ("reading", "failed", answers.hex())
-    asking: list[Argument] = [form, "-" if most is None else most, int(raw)]
+    asking: list[Argument] = [form, "-" if most is None else most, int(raw), longest]
     reader: list[Argument] = [step, "-" if fails is None else fails]
     writer: list[Argument] = [taken, "-" if limit is None else f"@{limit}"]
     seen = probe.send(("file", graph.data), ["answer_requests", *asking, *reader, *writer, requests],
@@ -504,7 +590,7 @@ def test_any_file_that_cannot_be_read(probe: Probe, triples: list[Triple], fails
     """Where the file cannot be read to its end there are no answers, and no request is read."""
     data = Graph(triples).data
     fails = min(fails, len(data))
-    asked: list[Argument] = ["answer_file", 0, "-", 0, room, step, fails, 1, "-", 1, "-", b"? ? ?\n"]
+    asked: list[Argument] = ["answer_file", 0, "-", 0, LONGEST, room, step, fails, 1, "-", 1, "-", b"? ? ?\n"]
     answer, reads, writes = probe.send(("file", data), asked, ["reads"], ["writes"])[1:]
     assert (answer, reads[1], writes[1]) == (("reading", "failed", ""), "0", "0")
 

@@ -263,6 +263,28 @@ def test_strings_of_one_hash(tmp_path: Path) -> None:
     assert is_linear(measured, 32, 0.004), measured
 
 
+def literals(count: int, length: int) -> bytes:
+    """A document of so many literals of so many equal bytes, but for their ends."""
+    return b"".join(b'<u:s> <u:p> "%b%d" .\n' % (b"x" * length, i) for i in range(count))
+
+
+def unlike_literals(count: int, length: int) -> bytes:
+    """The same, but for their fronts: they share nothing."""
+    return b"".join(b'<u:s> <u:p> "%05d%b" .\n' % (i, b"x" * length) for i in range(count))
+
+
+@pytest.mark.parametrize("count", [1, 40, 63, 64])
+def test_few_long_strings(tmp_path: Path, count: int) -> None:
+    """Few long strings with one beginning take at most thrice the time of as many bytes in 10,000 that share nothing."""
+    commands: list[list[Word]] = []
+    for name, data in ("few", literals(count, 16_000_000 // count)), ("many", unlike_literals(10_000, 1_600)):
+        (tmp_path / name).write_bytes(data)
+        commands.append([PROGRAM, "build", tmp_path / name, tmp_path / f"{name}.hdt"])
+    few, many = commands
+    measured = measure(lambda: cpu_seconds(many), lambda: cpu_seconds(few), 3, 0.004)
+    assert is_linear(measured, 3, 0.004), measured
+
+
 # ---- the program: errors
 
 def failed(status: int, message: str) -> Result:

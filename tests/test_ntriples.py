@@ -72,12 +72,13 @@ def held_lines(data: bytes, limit: Optional[int], step: int, fails: Optional[int
         yield Line(number, text, start <= given, b"\n" in rest or b"\r" in rest)
 
 
-def texts_answer(data: bytes, limit: Optional[int], step: int, fails: Optional[int]) -> Answer:
-    """Each line by its number, its text, and whether the next line is held; then the end or the error."""
+def texts_answer(data: bytes, limit: Optional[int], step: int, fails: Optional[int],
+                 most: Optional[int] = None) -> Answer:
+    """Each line by its number, its first `most` bytes, and whether the next line is held; then the end or the error."""
     values: list[Argument] = []
     try:
         for line in held_lines(data, limit, step, fails):
-            values += [line.number, line.text, line.holds_next]
+            values += [line.number, line.text[:most], line.holds_next]
     except LineError as error:
         return ok(*values, *ending(error))
     return ok(*values, "end")
@@ -131,6 +132,8 @@ def document_cases(data: bytes, limit: Optional[int], step: int, fails: Optional
         (("line_triples", *arguments), answer),
         (("line_strings", *arguments), answer),
         (("line_texts", *arguments), texts_answer(data, limit, step, fails)),
+        *((("line_fronts", *arguments, most), texts_answer(data, limit, step, fails, most))
+          for most in (0, 3, 2**64 - 1)),
         (("document", *arguments), document_answer(data, limit, fails)),
     ]
 
@@ -483,6 +486,15 @@ def test_held_lines(probe: Probe, data: bytes, step: int, held: str) -> None:
     answer = probe.on(data, "line_texts", 1_000_000, step, "-")
     assert answer[3:-1:3] == tuple(held.split())
     assert answer == texts_answer(data, 1_000_000, step, None)
+
+
+@pytest.mark.parametrize("most", [0, 1, 1_000, 139_999, 140_000, 140_001])
+@pytest.mark.parametrize("step", [1_000, 65_536, 1_000_000])
+def test_fronts_of_large_texts(probe: Probe, step: int, most: int) -> None:
+    """The front of a line that is longer than the buffer, up to its last byte; no more is left of it."""
+    answer = probe.on(b"a\n" + LARGE + b"\r\nc", "line_fronts", 1_000_000, step, "-", most)
+    seen = [token for at, token in enumerate(answer[1:]) if at % 3 != 2]
+    assert seen == ["1", b"a"[:most].hex(), "2", LARGE[:most].hex(), "2", "", "3", b"c"[:most].hex(), "end"]
 
 
 @pytest.mark.parametrize("length, step", [(140_000, 1_000), (140_000, 1_000_000), (1_100_000, ALL)])

@@ -209,7 +209,7 @@ WALKING = {
 EMPTY = {"section_strings"}
 MISSING = {"line_triples", "line_calls", "document"}
 # Words that end with the name, the line and the column of an error.
-ENDING = {"line_triples", "line_strings", "line_texts"}
+ENDING = {"line_triples", "line_strings", "line_texts", "line_fronts"}
 # Words whose last value is what a writer took.
 WRITING = {"build", "rewrite", "write_graph", "answer_requests", "answer_file"}
 # Words whose last two values are what a writer took, and what was made; and the argument that it was before.

@@ -348,6 +348,7 @@ def lines() -> Iterator[Request]:
         yield word, LIMIT, 3, "-"
         yield word, 60, 7, "-"
         yield word, LIMIT, 7, 50
+    yield "line_fronts", LIMIT, 7, "-", 30
     for request in (b"<u:a> ? ?", b'? ? "x"@en # all', b"? <u:p> _:b", b"? ? rel", b"? ?", b"", b"# none"):
         yield "request", request
     for request in (b"u:a\t?\t?", b"\t\t", b"? ? ?", b"u:a"):
@@ -367,6 +368,7 @@ def large_lines() -> Iterator[Request]:
     yield "file", numbered(100) + b'<u:a> <u:p> "' + LARGE + b'" .\n'
     yield "line_strings", LIMIT, 4_096, "-"
     yield "line_texts", LIMIT, 1_000, "-"
+    yield "line_fronts", LIMIT, 1_000, "-", 90_000
     yield "line_strings", 1_000, 4_096, "-"
 
 
@@ -579,17 +581,21 @@ def command_lines() -> Iterator[Request]:
     yield "run_made", BEFORE, *READER, 5, 2, *words_of(["rewrite", "f", "g"])
 
 
+LONGEST = 1 << 20
+
+
 def dialogues() -> Iterator[Request]:
     """Requests that are answered, and the lines of errors."""
     yield "file", OF_THREE
     for form in range(3):
-        yield "answer_requests", form, "-", 0, *READER, *WRITER, DIALOGUE
-        yield "answer_requests", form, 1, 1, *READER, *WRITER, b"u:a\t?\t?\n?\t?\tu:z\n"
+        yield "answer_requests", form, "-", 0, LONGEST, *READER, *WRITER, DIALOGUE
+        yield "answer_requests", form, 1, 1, LONGEST, *READER, *WRITER, b"u:a\t?\t?\n?\t?\tu:z\n"
     for fails in ("0", "2", "9", "3:interrupted", "@40:zero"):
-        yield "answer_requests", 0, "-", 0, *READER, 5, fails, DIALOGUE
+        yield "answer_requests", 0, "-", 0, LONGEST, *READER, 5, fails, DIALOGUE
     for fails in ("0", "20", "30", "20:interrupted", "20:zero"):
-        yield "answer_requests", 0, "-", 0, 7, fails, *WRITER, DIALOGUE
-    yield "answer_file", 0, "-", 0, 100, *READER, *READER, *WRITER, DIALOGUE
+        yield "answer_requests", 0, "-", 0, LONGEST, 7, fails, *WRITER, DIALOGUE
+    yield "answer_requests", 0, "-", 0, 5, *READER, *WRITER, DIALOGUE
+    yield "answer_file", 0, "-", 0, LONGEST, 100, *READER, *READER, *WRITER, DIALOGUE
     yield "fault_line", "file", 34, 2 ** 64 - 1
     yield "fault_line", "input", 4, 2, 13
     for fault in ("no_triples", "no_such_term", "no_such_number", "bad_options", "read", "memory"):
@@ -608,7 +614,7 @@ def large_command() -> Iterator[Request]:
     yield "file", of_document(numbered(1_000))
     for line in (("verify", "f"), ("strings", "f", "object"), ("dump", "f"), ("rewrite", "f", "g")):
         yield "run", 4_096, "-", 1_000, "-", *words_of(line)
-    yield "answer_requests", 0, "-", 0, 4_096, "-", 1_000, "-", b"<http://a/1> ? ?\n" * 100
+    yield "answer_requests", 0, "-", 0, LONGEST, 4_096, "-", 1_000, "-", b"<http://a/1> ? ?\n" * 100
     yield "file", b'<u:a> <u:p> "' + LARGE + b'" .\n'
     yield "run_made", BEFORE, 4_096, "-", 1_000, "-", *words_of(["build", "f", "g"])
 

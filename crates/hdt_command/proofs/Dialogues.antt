@@ -2,13 +2,15 @@
 use Rattle.std.proofs.Common.{◌≡◌, ◌≢◌, ℕ, Bool, true, false, cond, ◌||◌, ◌⊎◌, ◌+◌, ◌-◌, List, [], ◌∷◌, ◌++◌, length, Option, None, Some, Result, Ok, Err, refl, sym, ap, subst, ◌∙◌, inl, inr, arith, map, get_or, append_assoc, append-nil, take}
 use Rattle.std.proofs.Math.Bool.{or-false, or_assoc}
 use Rattle.std.proofs.Math.Seq.{take-append-add, take-append_seam}
-use Rattle.std.proofs.lemmas.List.{length-append}
+use Rattle.std.proofs.lemmas.Bool.{cases_lt, lt-ltb}
+use Rattle.std.proofs.lemmas.List.{length-append, length-take-le, take_all}
 use Rattle.hdt_terms.specs.Documents.{AreLines, RanTexts, FaultBehind}
 use Rattle.hdt_terms.specs.Taking.{State, start, left, line_number}
-use Rattle.hdt_terms.specs.TakingText.{TakesText, AnswersText, StandsNext, StandsUnread}
+use Rattle.hdt_terms.specs.TakingText.{AnswersFront, TakesFront, TakesText, StandsNext, StandsUnread}
 use Rattle.hdt_terms.specs.declared.fault.LineFault.{LineFault}
 use Rattle.hdt_terms.specs.declared.fault.LineReason.{LineReason}
 use Rattle.hdt_terms.specs.declared.fault.LineReason.TheVariants as reasons
+use Rattle.hdt_terms.specs.declared.fault.TermFault.{TermFault}
 use Rattle.hdt_command.specs.Answer.{FailsAfter}
 use Rattle.hdt_command.specs.declared.fault.ToolFault.{ToolFault}
 use Rattle.hdt_command.specs.declared.fault.ToolFault.TheVariants.{Input, Read, Write, OutOfMemory}
@@ -18,7 +20,7 @@ use Rattle.hdt_dict.specs.Strings.{Lent}
 use Rattle.std.proofs.KnownBytes.{Appends-nil, Appends-trans}
 use Rattle.hdt_file.specs.File.{GraphParts}
 use Rattle.hdt_command.specs.declared.request.Asking.{Asking}
-use Rattle.hdt_command.specs.Dialogue.{AnswersLine, AnswersLines, AnswersSome, AreSome, Gone, IsBehind, IsStopFor, IsStopped, given_of, most_bytes}
+use Rattle.hdt_command.specs.Dialogue.{AnswersLine, AnswersLines, AnswersRead, AnswersSome, AreSome, Gone, IsBehind, IsStopFor, IsStopped, Wanted, asked_in, given_of, most_bytes}
 
 -- one more answer
 pub lines_on : (g : GraphParts) (asking : Asking) (lines : List (ℕ × List ℕ)) (line : ℕ × List ℕ) (faulty one : Bool) (text answer : List ℕ) → AnswersLines g asking lines faulty text → AnswersLine g asking line one answer
@@ -35,6 +37,21 @@ lines_on g asking (first ∷ lines) line faulty one text answer h a = (
   ap (λ b. b || one) h.6 ∙ or_assoc h.0 h.2 one,
   ap (λ t. t ++ answer) h.7 ∙ append_assoc h.1 h.3 answer,
 )
+
+-- the front of a line that shows whether it is too long has the answer of the line
+front_asked : (asking : Asking) (front line : List ℕ) → front ≡ take (asking.longest + 1) line → asked_in asking front ≡ asked_in asking line
+front_asked asking front line is =
+    elim (cases_lt asking.longest (length line)) [
+      | inl long ↦
+          let len : length front ≡ asking.longest + 1 = ap length is ∙ length-take-le (asking.longest + 1) line (omega (arith, long)) in
+          rw (lt-ltb asking.longest (length front) (omega (arith, len)), lt-ltb asking.longest (length line) long) refl
+      | inr short ↦ ap (asked_in asking) (is ∙ take_all (asking.longest + 1) line (omega (arith, short)))
+    ]
+
+pub front_answered : (g : GraphParts) (asking : Asking) (n : ℕ) (front line : List ℕ) (faulty : Bool) (answer : List ℕ) → front ≡ take (asking.longest + 1) line
+    → AnswersLine g asking (n, front) faulty answer → AnswersLine g asking (n, line) faulty answer
+front_answered g asking n front line faulty answer is h =
+    subst (λ (r : Result (Option Wanted) TermFault). AnswersRead g asking n r faulty answer) (front_asked asking front line is) h
 
 -- what is left of a run
 pub gone_some : (s : State) (input mid : Option (List ℕ)) (lines : List (ℕ × List ℕ)) → Gone s input mid lines → AreSome input lines
@@ -56,16 +73,16 @@ gone_on goes_on last s new input mid after lines text going t (inl h) =
     bool_case new.ended (λ e. inr (e, last most_bytes s new input mid after lines text h.1 t e)) (λ e. inl (e, goes_on most_bytes s new input mid after lines text h.1 t e))
 gone_on goes_on last s new input mid after lines text going t (inr h) = absurd (cc (h.0, going))
 
--- a text that was told
-pub taken_text : (r : Result Bool LineFault) (text : List ℕ) (s new : State) (mid after given : Option (List ℕ)) → r ≡ Ok true → AnswersText r text s new mid after given → TakesText s new mid after text
-taken_text (Ok true) text s new mid after given e h = h
-taken_text (Ok false) text s new mid after given e h = absurd h
-taken_text (Err fault) text s new mid after given e h = absurd cc
+-- a line that was told
+pub taken_front : (r : Result Bool LineFault) (most : ℕ) (front : List ℕ) (s new : State) (mid after given : Option (List ℕ)) → r ≡ Ok true → AnswersFront r most front s new mid after given → TakesFront most s new mid after front
+taken_front (Ok true) most front s new mid after given e h = h
+taken_front (Ok false) most front s new mid after given e h = absurd h
+taken_front (Err fault) most front s new mid after given e h = absurd cc
 
 -- a fault that was told
-pub taken_fault : (r : Result Bool LineFault) (text : List ℕ) (s new : State) (mid after given : Option (List ℕ)) → AnswersText r text s new mid after given → IfErr r (λ f. StandsNext f s mid given)
-taken_fault (Ok told) text s new mid after given h = tt
-taken_fault (Err fault) text s new mid after given h = h
+pub taken_fault : (r : Result Bool LineFault) (most : ℕ) (front : List ℕ) (s new : State) (mid after given : Option (List ℕ)) → AnswersFront r most front s new mid after given → IfErr r (λ f. StandsNext f s mid given)
+taken_fault (Ok told) most front s new mid after given h = tt
+taken_fault (Err fault) most front s new mid after given h = h
 
 pub ended_fault : (P : LineFault → Type 0) (r : Result Bool LineFault) → r ≡ Ok false → IfErr r P
 ended_fault P (Ok told) e = tt

@@ -1,5 +1,5 @@
 -- What `answer` answers: to each line of its requests, and to all of them.
-use Rattle.std.specs.Prelude.{◌≡◌, ◌≢◌, ◌+◌, ◌^◌, ◌-◌, ℕ, Bool, true, false, ◌||◌, ◌⊎◌, List, [], ◌∷◌, ◌++◌, if◌then◌else◌, Option, None, Some, Result, Ok, Err, codes, option_map}
+use Rattle.std.specs.Prelude.{◌≡◌, ◌≢◌, ◌+◌, ◌^◌, ◌-◌, ℕ, Bool, true, false, nat_lt, length, ◌||◌, ◌⊎◌, List, [], ◌∷◌, ◌++◌, if◌then◌else◌, Option, None, Some, Result, Ok, Err, codes, option_map}
 use Rattle.std.specs.Fmt.{decimal}
 use Rattle.std.specs.Io.KnownBytes.{Appends}
 use Rattle.hdt_wire.specs.declared.role.Role.{Role}
@@ -53,6 +53,14 @@ abbrev pub wanted_in : Bool → List ℕ → Result (Option Wanted) TermFault
 wanted_in false text = as_wanted terms_wanted (request_in text)
 wanted_in true text = as_wanted raw_wanted (raw_request_in text)
 
+-- the fault of a line that is longer than a request may be
+abbrev pub too_long : TermFault
+too_long = record { column = 0; reason = reasons.TooLong }
+
+-- what a line asks for, or that it has more bytes than a request may have
+abbrev pub asked_in : Asking → List ℕ → Result (Option Wanted) TermFault
+asked_in asking text = if nat_lt asking.longest (length text) then Err too_long else wanted_in asking.raw text
+
 -- these of three strings are given
 abbrev pub given_of : List Bool → List ℕ → List ℕ → List ℕ → Wanted
 given_of [] s p o = []
@@ -102,7 +110,7 @@ AnswersRead g asking n (Err fault) faulty answer = (faulty ≡ true) × (answer 
 
 -- The answer of a numbered line.
 abbrev pub AnswersLine : GraphParts → Asking → ℕ × List ℕ → Bool → List ℕ → Type 0
-AnswersLine g asking line faulty answer = AnswersRead g asking line.0 (wanted_in asking.raw line.1) faulty answer
+AnswersLine g asking line faulty answer = AnswersRead g asking line.0 (asked_in asking line.1) faulty answer
 
 -- The answers of lines one behind the other, and whether one is a fault.
 abbrev pub AnswersLines : GraphParts → Asking → List (ℕ × List ℕ) → Bool → List ℕ → Type 0

@@ -103,12 +103,13 @@ AsksDump name given numbers = (name ≡ codes "dump") × (given ≡ None ∷ Non
 abbrev pub AsksVerify : Text → List Row → Bool → Type 0
 AsksVerify name rows tight = (name ≡ codes "verify") × StatesFlag (one_of (codes "tight") rows) tight
 
--- `answer` asks for requests in the form and up to the number that its options state, of dictionary strings by `--raw`
+-- `answer` asks for requests in the form and up to the numbers that its options state, of dictionary strings by `--raw`
 pub record AsksAnswer (name : Text) (rows : List Row) (asking : Asking) : Type 0 where
   pub named : name ≡ codes "answer"
   pub form_is : StatesForm rows asking.form
   pub most_is : StatesNumberOrNone (one_of (codes "most") rows) asking.most
   pub raw_is : StatesFlag (one_of (codes "raw") rows) asking.raw
+  pub longest_is : StatesNumber 32 (one_of (codes "longest-request") rows) asking.longest
 
 -- the command's name, with the entries that it takes
 abbrev pub AsksAction : Text → List Row → Action → Type 0

@@ -9,7 +9,7 @@ ghost use Rattle.hdt_file.specs.TextWriting.{chosen, limited};
 ghost use Rattle.hdt_file.specs.Views.{graph_seen};
 ghost use Rattle.std.specs.Io.KnownBytes.{Appends};
 ghost use Rattle.hdt_command.specs.Answer.{FailsAfter};
-ghost use Rattle.hdt_command.specs.Dialogue.{AnswersFound, AnswersInput, AnswersLine, AnswersSome, Gone, ReadsWanted, ended, fault_comment, given_of, lines_left, most_bytes, no_term_comment, wanted_in};
+ghost use Rattle.hdt_command.specs.Dialogue.{AnswersFound, AnswersInput, AnswersLine, AnswersSome, Gone, ReadsWanted, asked_in, ended, fault_comment, given_of, lines_left, most_bytes, no_term_comment, wanted_in};
 ghost use Rattle.hdt_command.specs.TriplesText.{FindsStrings};
 
 use crate::fault::{ToolFault, line_fault};
@@ -41,6 +41,25 @@ fn read_line(
         return read_raw_request(text, subject, predicate, object);
     }
     read_request(text, subject, predicate, object)
+}
+
+/// Reads a request, or fails with `TooLong` if the line is longer than the longest request.
+fn read_within(
+    asking: Asking,
+    text: &[u8],
+    subject: &mut Vec<u8>,
+    predicate: &mut Vec<u8>,
+    object: &mut Vec<u8>,
+) -> Result<Option<[bool; 3]>, TermFault>
+    ensures { ReadsWanted result subject.new.items predicate.new.items object.new.items (asked_in asking text.now) }
+{
+    if text.len() > asking.longest as usize {
+        return Err(TermFault {
+            column: 0,
+            reason: LineReason::TooLong,
+        });
+    }
+    read_line(asking.raw, text, subject, predicate, object)
 }
 
 /// The string, if it is given.
@@ -145,7 +164,7 @@ fn line_answer(
     ensures ok { IfOk result (λ fault. (answer : List ℕ) × AnswersLine (graph_seen graph.now) asking (line, text.now) fault answer × (out.new.items ≡ out.old.items ++ answer)) }
     ensures left { OnErr result (out.new.items ≡ out.old.items) }
 {
-    match read_line(asking.raw, text, subject, predicate, object) {
+    match read_within(asking, text, subject, predicate, object) {
         Ok(None) => Ok(false),
         Ok(Some(given)) => {
             let pattern = asked_pattern(graph, given, subject, predicate, object);
@@ -164,15 +183,16 @@ fn line_answer(
 /// A limit that no input exceeds.
 const MOST_BYTES: u64 = 9_223_372_036_854_775_807;
 
-/// The next line, if there is one.
+/// The next line, if there is one; of a line that is longer than the longest request only one byte more than that.
 fn next_line<R: Read>(
     lines: &mut Lines,
+    longest: u32,
     input: &mut Counted<R>,
     text: &mut Vec<u8>,
 ) -> Result<bool, LineFault>
     requires { lines.old.failed ≡ None }
     ensures more { (all : Option (List ℕ)) (done : List (ℕ × List ℕ)) → Gone lines.old all (left lines.old (R.remaining (inner input.old))) done → result ≡ Ok true →
-        Gone lines.new all (left lines.new (R.remaining (inner input.new))) (done ++ (line_number lines.new, text.new.items) ∷ []) }
+        (line : List ℕ) × (text.new.items ≡ take (longest + 1) line) × Gone lines.new all (left lines.new (R.remaining (inner input.new))) (done ++ (line_number lines.new, line) ∷ []) }
     ensures all { (all : Option (List ℕ)) (done : List (ℕ × List ℕ)) → Gone lines.old all (left lines.old (R.remaining (inner input.old))) done → result ≡ Ok false →
         AreLines most_bytes all done }
     ensures fault { (all : Option (List ℕ)) (done : List (ℕ × List ℕ)) → Gone lines.old all (left lines.old (R.remaining (inner input.old))) done →
@@ -185,7 +205,7 @@ fn next_line<R: Read>(
     ensures unread { HoldsLine lines.old → input.new ≡ input.old }
 {
     run_of_texts();
-    lines.next_text(input, text)
+    lines.next_front(longest as usize + 1, input, text)
 }
 
 /// Whether one of two holds.
@@ -260,8 +280,10 @@ fn settle<W: Write>(
 
 /// Answers the requests of a reader, line by line up to its end. Returns whether one of the answers is an error.
 /// Answers are written before more is read: at once, or together with those of other requests that were read already,
-/// up to 64 KiB. Memory is that of the longest request and the longest answer, of what a [`Speller`] keeps, and of
-/// these 64 KiB; the time of a request is that of its search and its text.
+/// up to 64 KiB. A line that is longer than the longest request, also a comment or a blank one, is answered by that
+/// error and skipped, in linear time. Memory is that of the longest request within that bound and of the longest answer,
+/// of what a [`Speller`] keeps, of 64 KiB of the input and of these 64 KiB; the time of a request is that of its search
+/// and its text.
 ///
 /// # Errors
 ///
@@ -297,7 +319,7 @@ pub fn answer_requests<R: Read, W: Write>(
     let mut count = 0;
     let mut faulty = false;
     'lines: loop {
-        match next_line(&mut lines, input, &mut text) {
+        match next_line(&mut lines, asking.longest, input, &mut text) {
             Ok(true) => {}
             Ok(false) => {
                 write_kept(&mut kept, count, out)?;

@@ -78,16 +78,24 @@ pub fn number_at<'m>(alloc: Global, matches: &ArgMatches<'m>) -> Result<u64, Usa
     }
 }
 
+/// The number below 2^32 that an option states.
+fn small_number_at<'m>(alloc: Global, matches: &ArgMatches<'m>, id: &str) -> Result<u32, UsageFault>
+    ensures ok { IfOk result (λ n. StatesNumber 32 (one_of id.now (rows_of (found_of matches.now))) n) }
+    ensures refused { IfErr result (ComesWithout ((n : ℕ) × StatesNumber 32 (one_of id.now (rows_of (found_of matches.now))) n)) }
+{
+    match number_in(matches, id) {
+        Some(number) if number < 1 << 32 => Ok(number as u32),
+        Some(_) => Err(missing(alloc)),
+        None => Err(missing(alloc)),
+    }
+}
+
 /// The number of the option `--block-size`.
 pub fn block_size_at<'m>(alloc: Global, matches: &ArgMatches<'m>) -> Result<u32, UsageFault>
     ensures ok { IfOk result (λ n. StatesNumber 32 (one_of (codes "block-size") (rows_of (found_of matches.now))) n) }
     ensures refused { IfErr result (ComesWithout ((n : ℕ) × StatesNumber 32 (one_of (codes "block-size") (rows_of (found_of matches.now))) n)) }
 {
-    match number_in(matches, "block-size") {
-        Some(number) if number < 1 << 32 => Ok(number as u32),
-        Some(_) => Err(missing(alloc)),
-        None => Err(missing(alloc)),
-    }
+    small_number_at(alloc, matches, "block-size")
 }
 
 /// The options of `build`, as given or by default.
@@ -225,12 +233,14 @@ pub fn find_at<'m>(alloc: Global, matches: &ArgMatches<'m>) -> Result<Action, Us
 }
 
 /// The command `answer`.
-pub fn answer_at<'m>(matches: &ArgMatches<'m>) -> Action
-    ensures { AsksAction (codes "answer") (rows_of (found_of matches.now)) result }
+pub fn answer_at<'m>(alloc: Global, matches: &ArgMatches<'m>) -> Result<Action, UsageFault>
+    ensures ok { IfOk result (AsksAction (codes "answer") (rows_of (found_of matches.now))) }
+    ensures refused { IfErr result (ComesWithout ((n : ℕ) × StatesNumber 32 (one_of (codes "longest-request") (rows_of (found_of matches.now))) n)) }
 {
-    Action::Answer(Asking {
+    Ok(Action::Answer(Asking {
         form: form_at(matches),
         most: number_in(matches, "most"),
         raw: flag_at(matches, "raw"),
-    })
+        longest: small_number_at(alloc, matches, "longest-request")?,
+    }))
 }

@@ -51,7 +51,7 @@ fn action_of<'m>(alloc: Global, name: &str, matches: &ArgMatches<'m>) -> Result<
         "string" => Ok(Action::Nth(role_at(alloc, matches)?, number_at(alloc, matches)?)),
         "number" => Ok(Action::Number(role_at(alloc, matches)?, string_at(alloc, matches)?)),
         "find" => find_at(alloc, matches),
-        "answer" => Ok(answer_at(matches)),
+        "answer" => answer_at(alloc, matches),
         "dump" => Ok(Action::Find {
             given: [None, None, None],
             numbers: false,

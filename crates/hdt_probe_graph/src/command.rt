@@ -75,7 +75,8 @@ fn say_asking(asking: Asking, say: &mut Say) {
     say.word("answer");
     say.number(form_number(asking.form));
     say.maybe(asking.most);
-    say.number(u64::from(asking.raw))
+    say.number(u64::from(asking.raw));
+    say.number(u64::from(asking.longest))
 }
 
 fn say_options(options: &Options, say: &mut Say) {

@@ -118,6 +118,7 @@ fn asking_of(ask: &mut Ask<'_>) -> Asking {
         form,
         most: ask.maybe(),
         raw: ask.truth(),
+        longest: ask.number32(),
     }
 }
 

@@ -7,7 +7,7 @@ use hdt_terms::{LineFault, Lines, Triple, read_document};
 use hdt_wire::Counted;
 
 /// The words, each with the count of its arguments.
-pub const WORDS: &str = "line_triples 3 line_strings 3 line_texts 3 line_calls 4+ document 3";
+pub const WORDS: &str = "line_triples 3 line_strings 3 line_texts 3 line_fronts 4 line_calls 4+ document 3";
 
 /// Answers a request of one of these words.
 pub fn answer(word: &str, ask: &mut Ask<'_>, say: &mut Say) -> bool {
@@ -15,6 +15,7 @@ pub fn answer(word: &str, ask: &mut Ask<'_>, say: &mut Say) -> bool {
         "line_triples" => say_line_triples(ask, say),
         "line_strings" => say_line_strings(ask, say),
         "line_texts" => say_line_texts(ask, say),
+        "line_fronts" => say_line_fronts(ask, say),
         "line_calls" => say_line_calls(ask, say),
         "document" => say_document(ask, say),
         _ => return false,
@@ -155,6 +156,31 @@ fn say_line_texts(ask: &mut Ask<'_>, say: &mut Say) {
             Err(fault) => Err(fault),
         };
         let again = lines.next_text(&mut input, &mut text);
+        say_end(end, again, say);
+        break;
+    }
+    let _left = say.read(input);
+}
+
+fn say_line_fronts(ask: &mut Ask<'_>, say: &mut Say) {
+    let Some((mut lines, mut input)) = lines_of(ask, say) else {
+        return;
+    };
+    let most = ask.size();
+    let mut front = filled(ask);
+    for _ in 0..u64::MAX {
+        let end = match lines.next_front(most, &mut input, &mut front) {
+            Ok(true) => {
+                say_text(&lines, &front, say);
+                continue;
+            }
+            Ok(false) => Ok(()),
+            Err(fault) => Err(fault),
+        };
+        if !front.is_empty() {
+            say.word("left");
+        }
+        let again = lines.next_front(most, &mut input, &mut front);
         say_end(end, again, say);
         break;
     }

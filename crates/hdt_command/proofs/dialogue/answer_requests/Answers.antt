@@ -4,7 +4,7 @@ use Rattle.std.proofs.lemmas.List.{length-append}
 use Rattle.std.proofs.lemmas.Result.{err_from_is_err_and}
 use Rattle.hdt_wire.specs.Counted.{inner}
 use Rattle.hdt_terms.specs.Taking.{line_number}
-use Rattle.hdt_command.proofs.Dialogues.{begun, cut_answer, cut_kept, gained_all, gained_answer, gained_on, gone_some, kept_or_held, lines_on, nothing_answered, refused_behind, unread_line}
+use Rattle.hdt_command.proofs.Dialogues.{begun, cut_answer, cut_kept, front_answered, gained_all, gained_answer, gained_on, gone_some, kept_or_held, lines_on, nothing_answered, refused_behind, unread_line}
 use Rattle.hdt_command.proofs.dialogue.answer_requests.Goals as goal
 
 pub returns-in_err-lines-clause-stopped : goal.returns-in_err-lines-clause-stopped
@@ -60,8 +60,9 @@ returns-in_err-count-in-Ok-clause-stopped g c =
     let inv = c.lines.invariant in
     let more = c.next_line.ensures.more _ inv.0 inv.2 (c.in-Ok-true.is ∙ ap Ok c.in-Ok-true.field-0-test) in
     let this = rw (c.line_number-line.ensures, c.deref.ensures.value) at c.in-Ok.ensures.ok in
-    rw (p.1, p.2) (cut_answer _ _ _ _ _ _ _ inv.0 (line_number c.next_line.new.lines, c.next_line.new.text.items) c.lines.faulty c.in-Ok.is_fault inv.1 c.lines.kept.items this.0 c.line_answer.new.out.items c.len-start.result c.lines.count _ _ _
-    c.in_err-count-in-Ok.field-0.0 (gone_some _ _ _ _ inv.2) (gone_some _ _ _ _ more) inv.3 this.1 inv.4 this.2 (c.len-start.ensures ∙ c.lines.kept.ok.0) inv.5 inv.6 c.in_err-count-in-Ok.ensures.err)
+    let whole = front_answered _ c.args.asking (line_number c.next_line.new.lines) _ more.0 c.in-Ok.is_fault this.0 more.1 this.1 in
+    rw (p.1, p.2) (cut_answer _ _ _ _ _ _ _ inv.0 (line_number c.next_line.new.lines, more.0) c.lines.faulty c.in-Ok.is_fault inv.1 c.lines.kept.items this.0 c.line_answer.new.out.items c.len-start.result c.lines.count _ _ _
+    c.in_err-count-in-Ok.field-0.0 (gone_some _ _ _ _ inv.2) (gone_some _ _ _ _ more.2) inv.3 whole inv.4 this.2 (c.len-start.ensures ∙ c.lines.kept.ok.0) inv.5 inv.6 c.in_err-count-in-Ok.ensures.err)
 
 pub lines-preserved : goal.lines-preserved
 lines-preserved g c =
@@ -69,11 +70,12 @@ lines-preserved g c =
     let more = c.next_line.ensures.more _ inv.0 inv.2 (c.in-Ok-true.is ∙ ap Ok c.in-Ok-true.field-0-test) in
     let this = rw (c.line_number-line.ensures, c.deref.ensures.value) at c.in-Ok.ensures.ok in
     let answer = this.0 in
-    let line : ℕ × List ℕ = (line_number c.next_line.new.lines, c.next_line.new.text.items) in (
+    let whole = front_answered _ c.args.asking (line_number c.next_line.new.lines) _ more.0 c.in-Ok.is_fault answer more.1 this.1 in
+    let line : ℕ × List ℕ = (line_number c.next_line.new.lines, more.0) in (
       inv.0 ++ line ∷ [],
       inv.1 ++ answer,
-      more,
-      rw c.either-faulty.ensures (lines_on _ _ inv.0 line c.lines.faulty c.in-Ok.is_fault inv.1 answer inv.3 this.1),
+      more.2,
+      rw c.either-faulty.ensures (lines_on _ _ inv.0 line c.lines.faulty c.in-Ok.is_fault inv.1 answer inv.3 whole),
       gained_on _ _ _ (inv.1 ++ answer) _ _ (gained_answer _ _ inv.1 c.lines.kept.items answer _ inv.4 this.2) c.in_ok-count-in-Ok.ensures.ok,
       omega (arith, c.in_ok-count-in-Ok.ensures.count, inv.5, length-append inv.1 answer, ap length this.2, length-append c.lines.kept.items answer),
       c.in_ok-count-in-Ok.ensures.well ∙ inv.6,

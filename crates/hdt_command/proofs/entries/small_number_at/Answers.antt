@@ -2,7 +2,7 @@ use Rattle.std.proofs.Common.{ℕ, Option, None, Some, arith}
 use Rattle.clap.specs.Words.{Text}
 use Rattle.hdt_command.specs.Words.{StatesNumber}
 use Rattle.hdt_command.proofs.Stated.{without}
-use Rattle.hdt_command.proofs.entries.block_size_at.Goals as goal
+use Rattle.hdt_command.proofs.entries.small_number_at.Goals as goal
 
 wider : (o : Option Text) (n : ℕ) → StatesNumber 32 o n → StatesNumber 64 o n
 wider None n h = h
