@@ -275,7 +275,7 @@ def unlike_literals(count: int, length: int) -> bytes:
 
 @pytest.mark.parametrize("count", [1, 40, 63, 64])
 def test_few_long_strings(tmp_path: Path, count: int) -> None:
-    """Few long strings with one beginning take at most thrice the time of as many bytes in 10,000 that share nothing."""
+    """Few long strings with one beginning take at most thrice the time of as many bytes that share nothing."""
     commands: list[list[Word]] = []
     for name, data in ("few", literals(count, 16_000_000 // count)), ("many", unlike_literals(10_000, 1_600)):
         (tmp_path / name).write_bytes(data)

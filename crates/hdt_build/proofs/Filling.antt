@@ -18,7 +18,7 @@ module _ (xs : List (List ℕ)) (up : IsAscending xs) (keeps : ℕ → Type 0) (
   abbrev text : ℕ → List ℕ
   text k = get_or xs k []
 
-  -- what was written where the walk stands at i: the one run of two is all that is ahead
+  -- what was written where the iteration stands at i: the one run of two is all that is ahead
   abbrev pub Filled : ℕ → List (List ℕ) → List ℕ → Type 0
   Filled i strings after = InWork keeps text (Ahead i (length xs) (length xs) (length xs)) count strings before after
 

@@ -19,7 +19,7 @@ none_built one options bytes made report h none =
     let some : 0 < length h.graph = h.built.file.some in
     omega (arith, some, ap length (h.read.strings ∙ ap (λ (ts : List Triple). map term_strings ts) same))
 
--- a fault that is told is this, or that the reader failed, or want of memory
+-- an error that is told is this, or that the reader failed, or running out of memory
 pub none_told : (apart : (text : List ℕ) (x : Option Triple) (fault : TermFault) → Line text x → LineFaultStands text fault → ⊥) (bytes : List ℕ) (after : Option (List ℕ)) (e : BuildFault) → TellsBuildFault (Some bytes) after e → Document bytes [] → length bytes ≤ most
     → (e ≡ faults.NoTriples) ⊎ ((e ≡ faults.OutOfMemory) ⊎ ReadFailed e)
 none_told apart bytes after (faults.Line fault) h none short = inr (inr (⊎_elim (λ read. read) (λ memory. absurd (h.1 memory)) (no_fault apart bytes [] fault most after none short h.0)))

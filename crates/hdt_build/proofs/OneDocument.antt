@@ -1,4 +1,4 @@
--- An input is one document at most, and a document has no fault.
+-- An input is one document at most, and a document has no error.
 use Rattle.std.proofs.Common.{◌≡◌, ℕ, ◌+◌, ◌<◌, ◌≤◌, true, false, List, [], ◌∷◌, ◌++◌, length, Option, None, Some, ◌⊎◌, inl, inr, refl, sym, ap, subst, ◌∙◌, append_assoc, append-nil, arith}
 use Rattle.std.specs.Io.KnownBytes.{Consumes, IsAtEnd}
 use Rattle.std.proofs.lemmas.List.{length-append}
@@ -101,7 +101,7 @@ line_behind (z ∷ xs) (v ∷ ys) front text tail front' last' y h n w h' n' l' 
     let parts = cut h.0 (h.2 ++ tail) h'.0 (h'.2 ++ last') h.1 h'.1 h.5 h.4 h'.5 h'.4 both in
     line_behind xs ys h.2 text tail h'.2 last' y h.7 n w h'.7 n' l' parts.1
 
--- ---- a document has no fault
+-- ---- a document has no error
 
 module _ (apart : (text : List ℕ) (x : Option Triple) (fault : TermFault) → Line text x → LineFaultStands text fault → ⊥) where
   in_text : (bytes front r : List ℕ) (ts : List Triple) (xs : List (Option Triple)) (reason : LineReason) (column taken limit : ℕ) → Document bytes ts → EndedLines xs front → bytes ≡ front ++ r
@@ -141,7 +141,7 @@ module _ (apart : (text : List ℕ) (x : Option Triple) (fault : TermFault) → 
   behind_front bytes ts fault limit front xs None given p short ended took h = absurd took
   behind_front bytes ts fault limit front xs (Some r) given p short ended took h = by_reason bytes front r ts xs fault.reason fault.column limit given p short ended took h
 
-  -- a fault of a document tells of the reader or of memory
+  -- an error of a document tells of the reader or of memory
   pub no_fault : (bytes : List ℕ) (ts : List Triple) (fault : LineFault) (limit : ℕ) (given : Option (List ℕ)) → Document bytes ts → length bytes ≤ limit → FaultInDocument fault limit (Some bytes) given
       → (fault.reason ≡ reasons.Read) ⊎ (fault.reason ≡ reasons.OutOfMemory)
   no_fault bytes ts fault limit given p short h = behind_front bytes ts fault limit h.front h.lines h.rest given p short h.ended h.consumed h.fault_is

@@ -130,7 +130,7 @@ empty_map (t ∷ ts) e = absurd cc
 pub no_triples : (input : Option (List ℕ)) (graph : List StringTriple) → IsGraphIn input graph → graph ≡ [] → IsDocument most input []
 no_triples input graph h none = subst (IsDocument most input) (empty_map h.triples (sym h.strings ∙ none)) h.document
 
--- a fault that doesn't tell of the reader comes of a fault that doesn't
+-- an error that doesn't tell of the reader comes of an error that doesn't
 pub not_read : (fault : LineFault) (told : BuildFault) → IsToldAs fault told → (ReadFailed told → ⊥) → fault.reason ≢ Read
 not_read fault told (inl memory) unread e = absurd cc
 not_read fault told (inr line) unread e = unread (subst ReadFailed (sym line.1) e)

@@ -1,4 +1,4 @@
--- The graph of an N-Triples document, and the faults of one.
+-- The graph of an N-Triples document, and the errors of one.
 use Rattle.std.specs.Prelude.{◌≡◌, ◌≢◌, ◌⊎◌, ℕ, List, [], map, Option, ⊤}
 use Rattle.std.specs.List.{All}
 use Rattle.hdt_dict.specs.Texts.{IsDictionaryString}
@@ -32,7 +32,7 @@ pub record AreTexts (graph : List StringTriple) : Type 0 where
   pub predicates_are : All IsDictionaryString (predicates_of graph)
   pub objects_are : All IsDictionaryString (objects_of graph)
 
--- what a fault tells of the input before the call and after it, where the options are right
+-- what an error tells of the input before the call and after it, where the options are right
 abbrev pub TellsBuildFault : Option (List ℕ) → Option (List ℕ) → BuildFault → Type 0
 TellsBuildFault before after (faults.Line fault) = FaultInDocument fault most before after × (fault.reason ≢ OutOfMemory)
 TellsBuildFault before after faults.NoTriples = IsDocument most before []
@@ -40,11 +40,11 @@ TellsBuildFault before after faults.BadOptions = ⊥
 TellsBuildFault before after faults.OutOfMemory = ⊤
 TellsBuildFault before after (faults.Write n) = ⊥
 
--- the fault of a document, as a builder tells it
+-- the error of a document, as a builder tells it
 abbrev pub IsToldAs : LineFault → BuildFault → Type 0
 IsToldAs fault told = ((fault.reason ≡ OutOfMemory) × (told ≡ faults.OutOfMemory)) ⊎ ((fault.reason ≢ OutOfMemory) × (told ≡ faults.Line fault))
 
--- the fault tells that the reader failed
+-- the error tells that the reader failed
 abbrev pub ReadFailed : BuildFault → Type 0
 ReadFailed (faults.Line fault) = fault.reason ≡ Read
 ReadFailed faults.NoTriples = ⊥

@@ -30,7 +30,7 @@ built r = record { reason = 0; line = 0; column = 0; counts = report_counts r }
 abbrev pub report_for : ℕ → HdtReport
 report_for n = record { reason = n; line = 0; column = 0; counts = no_counts }
 
--- what is told of a fault
+-- what is told of an error
 abbrev pub report_of_fault : BuildFault → HdtReport
 report_of_fault (faults.Line fault) = record { reason = line_reason_number fault.reason; line = fault.line; column = fault.column; counts = no_counts }
 report_of_fault faults.NoTriples = report_for 251
@@ -50,12 +50,12 @@ pub record AreBad (base : List ℕ) (b : ℕ) : Type 0 where
   pub given : AreGivenOptions base b options
   pub bad : AreRight options → ⊥
 
--- the text has the fault
+-- the text has the error
 pub record InText (text : List ℕ) (fault : BuildFault) : Type 0 where
   pub after : Option (List ℕ)
   pub told : TellsBuildFault (Some text) after fault
 
--- the text or the options have the fault; want of memory says nothing of them
+-- the text or the options have the error; running out of memory says nothing of them
 abbrev pub HasBuildFault : List ℕ → List ℕ → ℕ → BuildFault → Type 0
 HasBuildFault text base b faults.BadOptions = AreBad base b
 HasBuildFault text base b faults.OutOfMemory = ⊤
@@ -69,7 +69,7 @@ pub record BuildsBytes (text base : List ℕ) (b : ℕ) (out : HdtBytes) (told_i
   pub made : Are out bytes
   pub told : told_is ≡ built report
 
--- there are no bytes, for a fault
+-- there are no bytes, for an error
 pub record FailsToBuild (text base : List ℕ) (b : ℕ) (out : HdtBytes) (told_is : HdtReport) : Type 0 where
   pub fault : BuildFault
   pub stands : HasBuildFault text base b fault

@@ -21,7 +21,7 @@ pub record IsAgain (bytes : List ℕ) (b : ℕ) (new : List ℕ) (report : Repor
   pub layout : IsLayout bytes graph
   pub is : IsRewritten b graph new report
 
--- the verdict on bytes that can't be rewritten: their fault, or that the block size can't be taken, or want of memory
+-- the verdict on bytes that can't be rewritten: their error, or that the block size can't be taken, or running out of memory
 abbrev pub RefusesRewriting : List ℕ → ℕ → HdtVerdict → Type 0
 RefusesRewriting bytes b v = ((fault : Fault) × (graph_in bytes ≡ Err fault) × (v ≡ verdict_on (Err fault))) ⊎ (((IsBlockSize b → ⊥) × (v ≡ verdict_for 252)) ⊎ (v ≡ verdict_for 255))
 

@@ -24,7 +24,7 @@ role_number Subject = 0
 role_number Predicate = 1
 role_number Object = 2
 
--- what is told of a fault
+-- what is told of an error
 abbrev pub telling_of_fault : DumpFault → HdtTelling
 telling_of_fault (faults.NotATerm role n) = record { reason = 250; role = role_number role; number = n }
 telling_of_fault (faults.Write n) = telling_for 255
@@ -42,7 +42,7 @@ pub record IsNoTerm (g : GraphParts) (given : List (Option Lent)) (role : Role) 
   pub are : AreMatches g given found
   pub first : IsFirstIn g found role n
 
--- the matches have the fault; want of memory says nothing of them
+-- the matches have the error; running out of memory says nothing of them
 abbrev pub HasTextFault : GraphParts → List (Option Lent) → DumpFault → Type 0
 HasTextFault g given (faults.NotATerm role n) = IsNoTerm g given role n
 HasTextFault g given (faults.Write n) = ⊥
@@ -55,7 +55,7 @@ pub record PrintsBytes (g : GraphParts) (given : List (Option Lent)) (out : HdtB
   pub bytes : Are out text
   pub told : telling ≡ telling_for 0
 
--- there are no bytes, for a fault
+-- there are no bytes, for an error
 pub record FailsToPrint (g : GraphParts) (given : List (Option Lent)) (out : HdtBytes) (telling : HdtTelling) : Type 0 where
   pub fault : DumpFault
   pub stands : HasTextFault g given fault

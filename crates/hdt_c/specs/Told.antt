@@ -16,7 +16,7 @@ no_counts = 0 ∷ 0 ∷ 0 ∷ 0 ∷ 0 ∷ []
 abbrev pub verdict_for : ℕ → HdtVerdict
 verdict_for n = record { reason = n; place = 0; counts = no_counts }
 
--- of a file: its counts, or the number and the place of its fault
+-- of a file: its counts, or the number and the place of its error
 abbrev pub verdict_on : Result GraphParts Fault → HdtVerdict
 verdict_on (Ok graph) = record { reason = 0; place = 0; counts = lens_of graph }
 verdict_on (Err fault) = record { reason = reason_number fault.reason; place = fault.place; counts = no_counts }

@@ -79,7 +79,7 @@ taken_front (Ok true) most front s new mid after given e h = h
 taken_front (Ok false) most front s new mid after given e h = absurd h
 taken_front (Err fault) most front s new mid after given e h = absurd cc
 
--- a fault that was told
+-- an error that was told
 pub taken_fault : (r : Result Bool LineFault) (most : ℕ) (front : List ℕ) (s new : State) (mid after given : Option (List ℕ)) → AnswersFront r most front s new mid after given → IfErr r (λ f. StandsNext f s mid given)
 taken_fault (Ok told) most front s new mid after given h = tt
 taken_fault (Err fault) most front s new mid after given h = h
@@ -97,7 +97,7 @@ stopped_by fault Read text a b f h is same gained = (same, gained)
 stopped_by fault OutOfMemory text a b f h is same gained = (same, gained)
 stopped_by fault e text a b f h is same gained = absurd is
 
--- of these reasons one alone is a fault of the input
+-- of these reasons one alone is an error of the input
 too_long : (reason : LineReason) (taken : ℕ) (before given : Option (List ℕ)) → StandsUnread reason taken most_bytes before given → reason ≢ reasons.Read → reason ≢ reasons.OutOfMemory → reason ≡ reasons.TooLong
 too_long reasons.Read taken before given h read memory = absurd (read refl)
 too_long reasons.OutOfMemory taken before given h read memory = absurd (memory refl)

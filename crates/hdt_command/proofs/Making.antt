@@ -14,7 +14,7 @@ use Rattle.hdt_command.specs.declared.whole.Query.TheVariants as query
 use Rattle.hdt_command.specs.Answer.{IfBuild, Makes, Performs, Prints, ReadsFile, ReadsWith}
 use Rattle.hdt_command.specs.Faults.{build_fault_of, told_of_reason}
 
--- a fault that doesn't tell of the reader comes of a fault of the builder that doesn't
+-- an error that doesn't tell of the reader comes of an error of the builder that doesn't
 pub not_failed : (fault : BuildFault) → build_fault_of fault ≢ Read → ReadFailed fault → ⊥
 not_failed (building.Line fault) not h = not (ap (told_of_reason fault) h)
 not_failed fault not h = h

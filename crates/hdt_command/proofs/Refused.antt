@@ -44,7 +44,7 @@ told_by names words e (Usage text) (inr among) k = (
 told_by names words e (Word word fault) h k = absurd k
 told_by names words e OutOfMemory h k = tt
 
--- a fault that is told, by the words for the roles
+-- an error that is told, by the words for the roles
 with : (names : Names) → AreRoles names → (words : List Text) (fault : UsageFault) → IsRefusedBy names words fault → IsRefused words fault
 with names roles words OutOfMemory h = tt
 with names roles words fault h = record { names = names; roles = roles; refused = h }

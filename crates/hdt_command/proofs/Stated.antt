@@ -20,7 +20,7 @@ use Rattle.hdt_command.specs.Lines.{word_name}
 some_is : (a b : Text) → Some a ≡ Some b → a ≡ b
 some_is a b e = cc
 
--- a fault that comes only where a fact fails, or of a word, said of another fact that needs it and of another such fault
+-- an error that comes only where a fact fails, or of a word, said of another fact that needs it and of another such error
 pub or_or : (P W : Type 0) (Q Z : TermWord → TermFault → Type 0) (r : UsageFault) → (W → P) → ((word : TermWord) (fault : TermFault) → Q word fault → Z word fault) → ComesWithoutOr P Q r → ComesWithoutOr W Z r
 or_or P W Q Z (Help said) f g h = absurd h
 or_or P W Q Z (Usage said) f g h = λ w. h (f w)
@@ -33,7 +33,7 @@ without_or P W Q r f h = or_or P W (λ _ _. ⊥) Q r f (λ word fault none. absu
 pub without : (P W : Type 0) (r : UsageFault) → (W → P) → ComesWithout P r → ComesWithout W r
 without P W r f h = without_or P W (λ _ _. ⊥) r f h
 
--- a fault of the term that a text was to spell
+-- an error of the term that a text was to spell
 pub told_term : (word : TermWord) (text : List ℕ) (raw : Bool) (fault : TermFault) (r : UsageFault) → raw ≡ false → TellsTerm word fault r → (fault ≡ out_of_memory) ⊎ FaultIn text fault
     → ComesWithoutOr (Unit {0}) (IsFaultOfWord word raw text) r
 told_term word text raw fault (Word other told) unused k (inl e) = absurd (k.2 (ap (λ (f : TermFault). f.reason) e))
@@ -41,7 +41,7 @@ told_term word text raw fault (Word other told) unused k (inr f) = (k.0, unused,
 told_term word text raw fault OutOfMemory unused k h = tt
 told_term word text raw fault r unused k h = absurd k
 
--- the fault of a word stands in its entry
+-- the error of a word stands in its entry
 in_entry : (word : TermWord) (rows : List Row) (text : List ℕ) (flag : Bool) (other : TermWord) (fault : TermFault) → (IsUsed (one_of (codes "raw") rows) → flag ≡ true)
     → first_of (word_name word) rows ≡ Some text → IsFaultOfWord word flag text other fault → IsMisspelt rows word fault
 in_entry word rows text flag other fault on is h =

@@ -13,12 +13,12 @@ use Rattle.hdt_command.specs.Lines.{fault_status}
 use Rattle.hdt_command.specs.Status.{Ends, IsCommandStatus, IsRefusalStatus, IsStatusOf}
 use Rattle.hdt_command.proofs.Refused.{so}
 
--- a fault that is not the writer's, or one that is
+-- an error that is not the writer's, or one that is
 by_writer : {A B : Type 0} (fault : ToolFault) → (((n : ℕ) → fault ≢ Write n) → A) → ((n : ℕ) → fault ≡ Write n → B) → A ⊎ B
 by_writer (Write m) other write = inr (write m refl)
 by_writer fault other write = inl (other (λ n is. absurd cc))
 
--- a command's status, also where memory for the line of its fault was refused
+-- a command's status, also where memory for the line of its error was refused
 pub command_status : (outcome : Result (Unit {0}) ToolFault) (status : ℕ)
     → MatchResult outcome (λ _. status ≡ 0) (λ fault. (status ≡ fault_status fault) ⊎ (status ≡ 4)) → IsCommandStatus status
 command_status (Ok done) status h = inl h
@@ -32,13 +32,13 @@ answers_status (Ok false) status h = inl h
 answers_status (Err fault) status (inl h) = inr (fault, h)
 answers_status (Err fault) status (inr h) = inr (OutOfMemory, h)
 
--- no fault ends with 0
+-- no error ends with 0
 not_done : (fault : ToolFault) (status : ℕ) → (status ≡ fault_status fault) ⊎ (status ≡ 4) → status ≡ 0 → ⊥
 not_done (File fault) status (inl h) is = absurd cc
 not_done fault status (inl h) is = absurd cc
 not_done fault status (inr h) is = absurd cc
 
--- where the status of answers is 0, all were given and none is a fault
+-- where the status of answers is 0, all were given and none is an error
 abbrev IsAnswersStatus : Result Bool ToolFault → ℕ → Type 0
 IsAnswersStatus outcome status = MatchResult outcome (λ faulty. status ≡ cond faulty 1 0) (λ fault. (status ≡ fault_status fault) ⊎ (status ≡ 4))
 
@@ -47,7 +47,7 @@ answers_done P (Ok true) status of ok is = absurd cc
 answers_done P (Ok false) status of ok is = ok
 answers_done P (Err fault) status of ok is = absurd (not_done fault status of is)
 
--- else one is a fault, or a fault stopped them
+-- else one is an error, or an error stopped them
 pub answers_stopped : {A : Type 0} (P : Bool → Type 0) (Q : ToolFault → Type 0) (outcome : Result Bool ToolFault) (status : ℕ) → IsAnswersStatus outcome status → IfOk outcome P → IfErr outcome (λ e. A ⊎ Q e) → status ≢ 0
     → A ⊎ (((status ≡ 1) × P true) ⊎ ((e : ToolFault) × ((status ≡ fault_status e) ⊎ (status ≡ 4)) × Q e))
 answers_stopped P Q (Ok true) status of ok err not = inr (inl (of, ok))
@@ -85,7 +85,7 @@ pub stopped : {A B C : Type 0} (outcome : Result (Unit {0}) ToolFault) (status :
 stopped (Ok done) status of unwritten write not = absurd (not of)
 stopped (Err fault) status of unwritten write not = joined (by_writer fault unwritten write)
 
--- a fault that goes to memory is told as it is, or as want of memory
+-- an error that goes to memory is told as it is, or as running out of memory
 pub told_in_memory : (action : Action) (before : Option (List ℕ)) (fault told : ToolFault) → ((n : ℕ) → fault ≡ Write n → told ≡ OutOfMemory) → (((n : ℕ) → fault ≢ Write n) → told ≡ fault)
     → Reports action before fault → Reports action before told
 told_in_memory action before fault told memory other h =

@@ -17,7 +17,7 @@ three (x ∷ y ∷ []) a b c n = absurd (omega arith)
 three (x ∷ y ∷ z ∷ []) a b c n = refl
 three (x ∷ y ∷ z ∷ w ∷ rest) a b c n = absurd (omega arith)
 
--- a string, lent
+-- a string, borrowed
 pub lent_part : (a : Option (Vec ℕ Global)) (x : Option Lent) → MatchOption a (x ≡ None) (λ v. IsSomeAnd x (λ y. (y.now ≡ v.items) × (length y.now ≡ vec_len v)))
     → option_map (λ s. s.now) x ≡ option_map (λ v. v.items) a
 lent_part None x h = ap (option_map (λ s. s.now)) h

@@ -82,7 +82,7 @@ MakesFile action = ⊥
 abbrev pub HasOut : Request → Type 0
 HasOut request = MatchOption request.out (ReadsFile request.action) (λ path. MakesFile request.action)
 
--- a fault of these input bytes that a command on a file answers: `head` looks at the head alone, the others at the whole file,
+-- an error of these input bytes that a command on a file answers: `head` reads only the head, the others at the whole file,
 -- and `verify --tight` also at whether triples use its strings
 abbrev pub HasFault : Action → List ℕ → Fault → Type 0
 HasFault Head bytes fault = head_at_start bytes ≡ Err fault
@@ -121,7 +121,7 @@ IsTold action bytes BadOptions = HasBadBlocks action bytes
 IsTold action bytes OutOfMemory = Unit {0}
 IsTold action bytes fault = ⊥
 
--- a fault that a command that reads a file alone tells before it writes
+-- an error that a command that reads a file alone tells before it writes
 abbrev pub IsOfFile : ToolFault → Type 0
 IsOfFile (Input fault) = ⊥
 IsOfFile NoTriples = ⊥
@@ -179,7 +179,7 @@ TellsBadOptions (Build options) before after = AreRight options → ⊥
 TellsBadOptions (Rewrite b) before after = ReadsWith before after (HasBadBlocks (Rewrite b))
 TellsBadOptions action before after = ⊥
 
--- a fault of the file is the one that stands in the input, and so is one of a document, a look-up without an answer has none in
+-- an error of the file is the one that stands in the input, and so is one of a document, a look-up without an answer has none in
 -- it, and a string that is no term is the first of what is to be printed
 abbrev pub Tells : Action → Option (List ℕ) → Option (List ℕ) → ToolFault → Type 0
 Tells action before after (Input fault) = TellsDocument action before after (building.Line fault) × (fault.reason ≢ reasons.Read)
@@ -262,12 +262,12 @@ pub record Breaks (action : Action) (before written_before written_after : Optio
   pub after : Option (List ℕ)
   pub halts : Halts action before after written_before written_after failed_before failed_after
 
--- a fault is told of what the reader had left
+-- an error is told of what the reader had left
 pub record Reports (action : Action) (before : Option (List ℕ)) (fault : ToolFault) : Type 0 where
   pub after : Option (List ℕ)
   pub tells : Tells action before after fault
 
--- the input has a fault, no triples, no answer to the look-up, or a string that is no term
+-- the input has an error, no triples, no answer to the look-up, or a string that is no term
 pub record Faults (action : Action) (before : Option (List ℕ)) : Type 0 where
   pub fault : ToolFault
   pub status : fault_status fault ≡ 1

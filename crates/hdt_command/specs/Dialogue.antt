@@ -48,12 +48,12 @@ as_wanted strings (Ok None) = Ok None
 as_wanted strings (Ok (Some asked)) = Ok (Some (strings asked))
 as_wanted strings (Err fault) = Err fault
 
--- what a line asks for, by terms or by dictionary strings: nothing where it is bare, or the fault that stands in it
+-- what a line asks for, by terms or by dictionary strings: nothing where it is bare, or the first error in it
 abbrev pub wanted_in : Bool → List ℕ → Result (Option Wanted) TermFault
 wanted_in false text = as_wanted terms_wanted (request_in text)
 wanted_in true text = as_wanted raw_wanted (raw_request_in text)
 
--- the fault of a line that is longer than a request may be
+-- the error of a line that is longer than a request may be
 abbrev pub too_long : TermFault
 too_long = record { column = 0; reason = reasons.TooLong }
 
@@ -76,7 +76,7 @@ ReadsWanted (Err fault) s p o read = (fault ≡ out_of_memory) ⊎ (read ≡ Err
 
 -- ---- the answer of a line
 
--- the line of a fault, which is a comment
+-- the line of an error, which is a comment
 abbrev pub fault_comment : ℕ → TermFault → List ℕ
 fault_comment line fault = codes "# line " ++ decimal line ++ codes " column " ++ decimal fault.column ++ codes ": "
     ++ decimal (line_reason_number fault.reason) ++ codes " " ++ line_reason_name fault.reason ++ codes "\n"
@@ -89,7 +89,7 @@ no_term_comment role n = codes "# " ++ role_name role ++ codes " " ++ decimal n 
 abbrev pub ended : List ℕ → List ℕ
 ended text = text ++ 10 ∷ []
 
--- an answer without a fault: the text of the triples
+-- an answer without an error: the text of the triples
 abbrev pub AnswersTriples : Form → GraphParts → List Triple → List ℕ → Type 0
 AnswersTriples form g found answer = (text : List ℕ) × PrintsTriples form g found text × (answer ≡ ended text)
 
@@ -97,12 +97,12 @@ AnswersTriples form g found answer = (text : List ℕ) × PrintsTriples form g f
 abbrev pub TellsNoTerm : Form → GraphParts → List Triple → List ℕ → Type 0
 TellsNoTerm form g found answer = (role : Role) × (n : ℕ) × (form ≡ Lines) × IsFirstIn g found role n × (answer ≡ ended (no_term_comment role n))
 
--- the answer of the triples that were found, and whether it is a fault
+-- the answer of the triples that were found, and whether it is an error
 abbrev pub AnswersFound : Form → GraphParts → List Triple → Bool → List ℕ → Type 0
 AnswersFound form g found false answer = AnswersTriples form g found answer
 AnswersFound form g found true answer = TellsNoTerm form g found answer
 
--- the answer of what was read of line n: none where it is bare, its fault, or the first of what the strings find
+-- the answer of what was read of line n: none where it is bare, its error, or the first of what the strings find
 abbrev pub AnswersRead : GraphParts → Asking → ℕ → Result (Option Wanted) TermFault → Bool → List ℕ → Type 0
 AnswersRead g asking n (Ok None) faulty answer = (faulty ≡ false) × (answer ≡ [])
 AnswersRead g asking n (Ok (Some wanted)) faulty answer = (found : List Triple) × FindsStrings g wanted found × AnswersFound asking.form g (limited asking.most found) faulty answer
@@ -112,7 +112,7 @@ AnswersRead g asking n (Err fault) faulty answer = (faulty ≡ true) × (answer 
 abbrev pub AnswersLine : GraphParts → Asking → ℕ × List ℕ → Bool → List ℕ → Type 0
 AnswersLine g asking line faulty answer = AnswersRead g asking line.0 (asked_in asking line.1) faulty answer
 
--- The answers of lines one behind the other, and whether one is a fault.
+-- The answers of lines one behind the other, and whether one is an error.
 abbrev pub AnswersLines : GraphParts → Asking → List (ℕ × List ℕ) → Bool → List ℕ → Type 0
 AnswersLines g asking [] faulty answers = (faulty ≡ false) × (answers ≡ [])
 AnswersLines g asking (line ∷ lines) faulty answers = (first : Bool) × (answer : List ℕ) × (others : Bool) × (more : List ℕ)
@@ -166,7 +166,7 @@ IsBehind Read input given lines = (line : ℕ) × FaultBehind (record { line = l
 IsBehind (Input fault) input given lines = (fault.reason ≡ reasons.TooLong) × FaultBehind fault most_bytes input given lines
 IsBehind fault input given lines = Unit {0}
 
--- answering stopped with the fault behind answers of lines of the input
+-- answering stopped with the error behind answers of lines of the input
 pub record AnswersSome (g : GraphParts) (asking : Asking) (input given written_before written_after : Option (List ℕ)) (failed_before failed_after : ℕ) (fault : ToolFault) : Type 0 where
   pub lines : List (ℕ × List ℕ)
   pub are : AreSome input lines
@@ -183,7 +183,7 @@ pub record Converses (asking : Asking) (file input written_before written_after 
   pub after : Option (List ℕ)
   pub answers : ReadsWith file after (λ bytes. Opens bytes (λ graph. AnswersInput graph asking input written_before written_after faulty))
 
--- the file is a layout, and answering over its graph stopped with the fault behind answers of lines of the requests
+-- the file is a layout, and answering over its graph stopped with the error behind answers of lines of the requests
 pub record ConversesSome (asking : Asking) (file input given written_before written_after : Option (List ℕ)) (failed_before failed_after : ℕ) (fault : ToolFault) : Type 0 where
   pub after : Option (List ℕ)
   pub answers : ReadsWith file after (λ bytes. Opens bytes (λ graph. AnswersSome graph asking input given written_before written_after failed_before failed_after fault))

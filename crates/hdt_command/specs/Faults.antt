@@ -1,4 +1,4 @@
--- The faults of a command that come from the faults of opening a file, of making the text of a graph, and of building or
+-- The errors of a command that come from the errors of opening a file, of making the text of a graph, and of building or
 -- rewriting a file.
 use Rattle.hdt_build.specs.declared.fault.BuildFault.{BuildFault}
 use Rattle.hdt_build.specs.declared.fault.BuildFault.TheVariants as building
@@ -23,7 +23,7 @@ dump_fault_of (dumping.NotATerm role n) = NotATerm role n
 dump_fault_of (dumping.Write n) = Write n
 dump_fault_of dumping.OutOfMemory = OutOfMemory
 
--- a reader that failed is told without the line that it failed in, and so is want of memory
+-- a reader that failed is told without the line that it failed in, and so is running out of memory
 abbrev pub told_of_reason : LineFault → LineReason → ToolFault
 told_of_reason fault reasons.Read = Read
 told_of_reason fault reasons.OutOfMemory = OutOfMemory

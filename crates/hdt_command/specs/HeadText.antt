@@ -9,7 +9,7 @@ use Rattle.hdt_command.specs.Escaping.{escaped}
 abbrev pub labelled_line : List ℕ → List ℕ → List ℕ
 labelled_line label text = label ++ 32 ∷ escaped text ++ 10 ∷ []
 
--- the two lines of a control block
+-- the two lines of control information
 abbrev pub block_lines : List ℕ → Block → List ℕ
 block_lines name block = labelled_line name block.format ++ labelled_line (codes "properties") block.properties
 

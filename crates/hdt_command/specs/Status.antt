@@ -10,7 +10,7 @@ use Rattle.hdt_command.specs.declared.fault.ToolFault.{ToolFault}
 use Rattle.hdt_command.specs.declared.fault.UsageFault.{UsageFault}
 use Rattle.hdt_command.specs.declared.fault.UsageFault.TheVariants as usage
 
--- a command was done, or it stopped with a fault
+-- a command was done, or it stopped with an error
 abbrev pub IsCommandStatus : ℕ → Type 0
 IsCommandStatus status = (status ≡ 0) ⊎ ((fault : ToolFault) × (status ≡ fault_status fault))
 

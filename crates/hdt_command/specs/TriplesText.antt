@@ -24,7 +24,7 @@ use Rattle.hdt_command.specs.declared.fault.ToolFault.TheVariants.{NotATerm, Out
 abbrev pub Given : Type 0
 Given = List (Option (Vec ℕ Global))
 
--- the same strings, lent from somewhere
+-- the same strings, borrowed from somewhere
 abbrev pub AreLent : Given → List (Option Lent) → Type 0
 AreLent given lent = map (option_map (λ x. x.now)) lent ≡ map (option_map (λ x. x.items)) given
 
@@ -89,7 +89,7 @@ PrintsFound g given form most text = FindsWith g given (λ found. PrintsTriples 
 abbrev pub LacksTermIn : GraphParts → Given → Form → Option ℕ → Role → ℕ → Type 0
 LacksTermIn g given form most role n = (form ≡ Lines) × FindsWith g given (λ found. IsFirstIn g (limited most found) role n)
 
--- why these triples do not print: a string that is no term, or want of memory
+-- why these triples do not print: a string that is no term, or running out of memory
 abbrev pub TellsFound : GraphParts → Given → Form → Option ℕ → ToolFault → Type 0
 TellsFound g given form most (NotATerm role n) = LacksTermIn g given form most role n
 TellsFound g given form most OutOfMemory = Unit {0}

@@ -28,7 +28,7 @@ use Rattle.hdt_command.specs.TriplesText.{Given, form_of}
 
 -- ---- entries
 
--- the word spells the number in decimal, with so many bits at most
+-- the word encodes the number in decimal, with so many bits at most
 abbrev pub SpellsNumber : ℕ → Text → ℕ → Type 0
 SpellsNumber bits text n = IsNumeral 10 (without_leading_plus text) × (digits_value 10 (without_leading_plus text) < 2 ^ bits)
     × (n ≡ digits_value 10 (without_leading_plus text))
@@ -48,7 +48,7 @@ IsUsed entry = entry ≡ Some (codes "true")
 abbrev pub IsUnused : Option Text → Type 0
 IsUnused entry = entry ≡ Some (codes "false")
 
--- with `--raw` the bytes are the text itself, else the string of the term that it spells
+-- with `--raw` the bytes are the text itself, else the string of the term that it encodes
 abbrev pub StatesString : Option Text → Option Text → List ℕ → Type 0
 StatesString raw entry x = IsSomeAnd entry (λ text. (IsUsed raw → x ≡ text) × (IsUnused raw → SpellsString text [] x))
 
@@ -166,7 +166,7 @@ pub record WantsBy (names : Names) (words : List Text) (request : Request) : Typ
   pub taken : refusals names words ≡ []
   pub asked : Asks (subcommand_of (table names) words) request
 
--- the same by the words for the roles, lent from somewhere
+-- the same by the words for the roles, borrowed from somewhere
 pub record Wants (words : List Text) (request : Request) : Type 0 where
   pub names : Names
   pub roles : AreRoles names
@@ -179,9 +179,9 @@ pub record WantsSo (words : List Text) (asked : Call) : Type 0 where
   pub wanted : WantsBy names words asked.request
   pub progress : IsSomeAnd (subcommand_of (table names) words) (λ command. StatesFlag (one_of (codes "progress") command.1) asked.progress)
 
--- ---- faults
+-- ---- errors
 
--- the word is not taken as it is, and this fault stands in it
+-- the word is not taken as it is, and this error stands in it
 abbrev pub IsMisspelt : List Row → TermWord → TermFault → Type 0
 IsMisspelt rows word fault = (IsUsed (one_of (codes "raw") rows) → ⊥) × IsSomeAnd (first_of (word_name word) rows) (λ text. FaultIn text fault)
 
@@ -193,7 +193,7 @@ IsMisspeltPart rows word fault = (first_of (word_name word) rows ≢ Some (codes
 abbrev pub IsFine : List Row → TermWord → Type 0
 IsFine rows word = (x : Option (Vec ℕ Global)) × StatesWord rows word x
 
--- the fault stands in TERM of `number`, or in the first of S, P and O of `find` that is not fine
+-- the error stands in TERM of `number`, or in the first of S, P and O of `find` that is not fine
 abbrev pub Misspells : Text → List Row → TermWord → TermFault → Type 0
 Misspells name rows Term fault = (name ≡ codes "number") × IsMisspelt rows Term fault
 Misspells name rows Subject fault = (name ≡ codes "find") × IsMisspeltPart rows Subject fault
@@ -207,7 +207,7 @@ MisspellsIn entered word fault = IsSomeAnd entered (λ command. Misspells comman
 abbrev pub IsShown : ErrorKind → Type 0
 IsShown k = (k ≡ kind.DisplayHelp) ⊎ (k ≡ kind.DisplayVersion)
 
--- help and the version are given only where `clap` may give them; a word that is no term is told with the fault that stands in it; other words
+-- help and the version are given only where `clap` may give them; a word that is no term is told with the first error in it; other words
 -- are refused only where they want no request
 abbrev pub IsRefusedBy : Names → List Text → UsageFault → Type 0
 IsRefusedBy names words (Help text) = IsAmong kind.DisplayHelp (refusals names words) ⊎ IsAmong kind.DisplayVersion (refusals names words)
@@ -216,7 +216,7 @@ IsRefusedBy names words (Usage text) = (refusals names words ≢ kind.DisplayHel
 IsRefusedBy names words (Word word fault) = (refusals names words ≡ []) × MisspellsIn (subcommand_of (table names) words) word fault
 IsRefusedBy names words OutOfMemory = Unit {0}
 
--- the same by the words for the roles, lent from somewhere
+-- the same by the words for the roles, borrowed from somewhere
 pub record IsRefusedWith (words : List Text) (fault : UsageFault) : Type 0 where
   pub names : Names
   pub roles : AreRoles names
@@ -234,34 +234,34 @@ SaysUsage said (Usage text) = string_bytes text ≡ said
 SaysUsage said OutOfMemory = Unit {0}
 SaysUsage said fault = ⊥
 
--- the fault of an error of `clap`
+-- the error of an error of `clap`
 abbrev pub TellsKind : ErrorKind → UsageFault → Type 0
 TellsKind k (Help text) = IsShown k
 TellsKind k (Usage text) = (IsShown k → ⊥) × (k ≢ kind.OutOfMemory)
 TellsKind k (Word word fault) = ⊥
 TellsKind k OutOfMemory = Unit {0}
 
--- a fault that comes only where the fact fails, or the fault of a word of which this is so, and is no help
+-- an error that comes only where the fact fails, or the error of a word of which this is so, and is no help
 abbrev pub ComesWithoutOr : Type 0 → (TermWord → TermFault → Type 0) → UsageFault → Type 0
 ComesWithoutOr P Q (Help text) = ⊥
 ComesWithoutOr P Q (Usage text) = P → ⊥
 ComesWithoutOr P Q (Word word fault) = Q word fault
 ComesWithoutOr P Q OutOfMemory = Unit {0}
 
--- the same, and no fault of a word
+-- the same, and no error of a word
 abbrev pub ComesWithout : Type 0 → UsageFault → Type 0
 ComesWithout P fault = ComesWithoutOr P (λ word fault. ⊥) fault
 
--- the fault of a word that was read as a term
+-- the error of a word that was read as a term
 abbrev pub TellsTerm : TermWord → TermFault → UsageFault → Type 0
 TellsTerm word fault (Word other told) = (other ≡ word) × (told ≡ fault) × (fault.reason ≢ line.OutOfMemory)
 TellsTerm word fault OutOfMemory = fault.reason ≡ line.OutOfMemory
 TellsTerm word fault other = ⊥
 
--- what is read of a text: itself where it is taken as it is, else the string of the term that it spells
+-- what is read of a text: itself where it is taken as it is, else the string of the term that it encodes
 abbrev pub IsStringOf : Bool → Text → List ℕ → Type 0
 IsStringOf raw text x = (raw ≡ true → x ≡ text) × (raw ≡ false → SpellsString text [] x)
 
--- the word is told, its text is not taken as it is, and this fault stands in it
+-- the word is told, its text is not taken as it is, and this error stands in it
 abbrev pub IsFaultOfWord : TermWord → Bool → Text → TermWord → TermFault → Type 0
 IsFaultOfWord word raw text other fault = (other ≡ word) × (raw ≡ false) × FaultIn text fault

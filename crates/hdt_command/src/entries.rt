@@ -78,7 +78,7 @@ pub fn number_at<'m>(alloc: Global, matches: &ArgMatches<'m>) -> Result<u64, Usa
     }
 }
 
-/// The number below 2^32 that an option states.
+/// The number of an option, below 2^32.
 fn small_number_at<'m>(alloc: Global, matches: &ArgMatches<'m>, id: &str) -> Result<u32, UsageFault>
     ensures ok { IfOk result (λ n. StatesNumber 32 (one_of id.now (rows_of (found_of matches.now))) n) }
     ensures refused { IfErr result (ComesWithout ((n : ℕ) × StatesNumber 32 (one_of id.now (rows_of (found_of matches.now))) n)) }

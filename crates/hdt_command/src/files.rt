@@ -1,4 +1,4 @@
-//! The files of a command: how they are opened, and which paths lead to one file.
+//! Opening the files of a command, and whether two paths lead to the same file.
 ghost use Rattle.std.specs.Prelude.{◌≡◌, ◌↔◌, ◌≤ℤ◌, pos, IfOk, IfSome, IsTrue};
 
 use crate::progress::Watched;
@@ -7,13 +7,13 @@ use std::io::{self, ErrorKind, Read, Stderr, Stdin};
 use std::os::fd::AsRawFd;
 use std::os::unix::fs::{FileTypeExt, MetadataExt};
 
-/// Where the system shows the file that is standard input.
+/// The path of standard input.
 const INPUT: &str = "/proc/self/fd/0";
 
-/// Where it shows the one that is standard output.
+/// The path of standard output.
 pub const OUTPUT: &str = "/proc/self/fd/1";
 
-/// Where it shows the one that is standard error.
+/// The path of standard error.
 pub const ERRORS: &str = "/proc/self/fd/2";
 
 /// Whether a path is that of standard input.
@@ -21,9 +21,9 @@ fn is_input(path: &str) -> bool {
     matches!(path, "/dev/stdin" | "/dev/fd/0" | "/proc/self/fd/0")
 }
 
-/// The file under a number that is none of a standard stream. Where such a stream is closed, a file that is opened
-/// takes its number; it is moved, so that reading from or writing to the closed stream fails, and never meets the file.
-/// An error says that no number is free.
+/// The file under a descriptor that is not that of a standard stream. If such a stream is closed, a file that is opened
+/// gets its descriptor; it is moved, so that reading from or writing to the closed stream fails and never uses the
+/// file. Fails if no descriptor is free.
 pub fn apart<F: OpenFile + AsRawFd + Drop>(file: F) -> io::Result<F>
     ensures { IfOk result (λ file. IfSome (F.raw_fd file) (λ number. pos 3 ≤ℤ number)) }
 {
@@ -37,23 +37,23 @@ pub fn apart<F: OpenFile + AsRawFd + Drop>(file: F) -> io::Result<F>
     Err(io::Error::from(ErrorKind::Other))
 }
 
-/// A file that is opened to be written, empty, or made.
+/// Opens a file to be written, which is truncated or created.
 pub fn create(rt: &HostRuntime, path: &str) -> io::Result<File> {
     apart(File::create(rt, path)?)
 }
 
-/// What is read: a file that was opened, or standard input.
+/// What a command reads: a file, or standard input.
 #[derive(Drop)]
 pub enum Source {
     /// A file.
     File(File),
-    /// Standard input, from where it stands.
+    /// Standard input, from its current position.
     Input(Stdin),
 }
 
 impl Source {
-    /// Opens a file. The paths of standard input open nothing: opened anew, a socket or the pipe of another user is
-    /// refused.
+    /// Opens a file. The paths of standard input are not opened again, as that fails for a socket or another user's
+    /// pipe.
     fn open(rt: &HostRuntime, path: &str) -> io::Result<Source> {
         if is_input(path) {
             return Ok(Source::Input(rt.stdin()));
@@ -61,7 +61,7 @@ impl Source {
         Ok(Source::File(apart(File::open(rt, path)?)?))
     }
 
-    /// How many bytes the file has, where it is a regular one.
+    /// The length of the file in bytes, if it is a regular one.
     fn size(&self, rt: &HostRuntime) -> Option<u64> {
         let metadata = match self {
             Source::File(file) => file.metadata(),
@@ -83,7 +83,7 @@ impl Read for Source {
     }
 }
 
-/// Opens the file that is read. Where progress is asked for, the standard error is told of it.
+/// Opens the file that is read; its progress is reported to standard error, if that is asked for.
 pub fn opened(rt: &HostRuntime, path: &str, progress: bool) -> io::Result<Watched<Source, Stderr>> {
     let source = Source::open(rt, path)?;
     let size = source.size(rt);
@@ -91,7 +91,7 @@ pub fn opened(rt: &HostRuntime, path: &str, progress: bool) -> io::Result<Watche
     Ok(Watched::new(rt.alloc(), source, told, size))
 }
 
-/// Room for all that is to be read, where that is known.
+/// The capacity for all that is read, if it is known.
 pub fn room_for(input: &io::Result<Watched<Source, Stderr>>) -> usize {
     match input {
         Ok(input) => input.size().unwrap_or(0) as usize,
@@ -99,17 +99,17 @@ pub fn room_for(input: &io::Result<Watched<Source, Stderr>>) -> usize {
     }
 }
 
-/// What the system knows a file by.
+/// The identity of a file in the system.
 #[derive(Clone, Copy)]
 pub struct Identity {
-    /// The number of the device that has the file.
+    /// The number of its device.
     pub device: u64,
-    /// The file's number there.
+    /// Its inode.
     pub inode: u64,
 }
 
 impl Identity {
-    /// That of the file that a path leads to, behind links too.
+    /// The identity of the file that a path leads to, through links.
     fn at(rt: &HostRuntime, path: &str) -> io::Result<Identity> {
         let metadata = fs::metadata(rt, path)?;
         Ok(Identity {
@@ -118,7 +118,7 @@ impl Identity {
         })
     }
 
-    /// Whether it is that of the same file.
+    /// Whether both are the same file.
     pub fn is(self, other: Identity) -> bool
         ensures { IsTrue result ↔ ((self.device ≡ other.device) × (self.inode ≡ other.inode)) }
     {
@@ -126,7 +126,7 @@ impl Identity {
     }
 }
 
-/// Whether two paths lead to one file, pipe or device.
+/// Whether two paths lead to the same file, pipe or device.
 pub fn is_one_file(rt: &HostRuntime, path: &str, other: &str) -> bool {
     match (Identity::at(rt, path), Identity::at(rt, other)) {
         (Ok(one), Ok(two)) => one.is(two),
@@ -134,8 +134,8 @@ pub fn is_one_file(rt: &HostRuntime, path: &str, other: &str) -> bool {
     }
 }
 
-/// Whether what is written to a path takes the place of what is read from another: both lead to one file that keeps
-/// bytes, or to one disk.
+/// Whether writing to a path would overwrite what is read from another one: both lead to the same regular file or block
+/// device.
 pub fn takes_the_place(rt: &HostRuntime, out: &str, input: &str) -> bool {
     let keeps = match fs::metadata(rt, out) {
         Ok(there) => there.is_file() || there.file_type().is_block_device(),

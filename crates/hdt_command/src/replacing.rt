@@ -1,5 +1,4 @@
-//! Files that are replaced whole: what stands at a path is what it was until a new file, written beside it and handed to the
-//! disk, takes its name.
+//! Atomic replacement of a file: a new file in the same folder is written, synced, and then renamed.
 ghost use Rattle.std.specs.Prelude.{◌≡◌, ◌≤◌, ℕ, length, IfOk, IfErr};
 ghost use Rattle.std.specs.Io.KnownBytes.{Appends};
 ghost use Rattle.hdt_command.specs.Answer.{IsUnfilled};
@@ -16,16 +15,16 @@ use std::path::PathBuf;
 use std::random::RandomSource;
 use std::time::{SystemTime, UNIX_EPOCH};
 
-/// How many names for a new file are tried, each by chance: one that is taken is rare.
+/// The number of random names that are tried for a new file.
 const NAMES: u64 = 1000;
 
-/// The permissions of a new file while it is written: nobody but its owner can open it.
+/// The permissions of a new file while it is written: only its owner can open it.
 const PRIVATE: u32 = 0o600;
 
-/// Those of a file that is for everyone, of which the system takes what the process's mask, or the folder, denies.
+/// The permissions of a file for everyone, from which the system removes those that the umask, or the folder, denies.
 const PUBLIC: u32 = 0o666;
 
-/// The path of the regular file itself that a link leads to, if it does.
+/// The path of the regular file that a link leads to, if it does.
 fn linked_path<R: Files>(files: &R, alloc: Global, path: &str) -> io::Result<Option<PathBuf>> {
     match fs::metadata(files, path) {
         Ok(there) if there.is_file() => Ok(Some(files.canonicalize(alloc, path)?)),
@@ -33,9 +32,9 @@ fn linked_path<R: Files>(files: &R, alloc: Global, path: &str) -> io::Result<Opt
     }
 }
 
-/// The path at which a new file can take the place of what is there: a regular file, also behind a link, or nothing. None where
-/// something else is there, as a device, a pipe or a folder, or a link that leads to nothing. (What is at a path is no value that a
-/// clause could speak of: tests/test_filesystem.py checks it.)
+/// The path of a file that can be replaced: of a regular file, also through a link, or of nothing. `None` if something
+/// else is there, as a device, a pipe, a folder, or a link to nothing. (No contract can say what is at a path:
+/// tests/test_filesystem.py checks it.)
 pub fn replaced_path<R: Files>(
     files: &R,
     alloc: Global,
@@ -48,7 +47,7 @@ pub fn replaced_path<R: Files>(
     }
 }
 
-/// A number by the clock.
+/// A number from the clock.
 fn clock_number(rt: &HostRuntime) -> u64 {
     match SystemTime::now(rt).map(|now| now.duration_since(UNIX_EPOCH)) {
         Ok(Ok(since)) => since
@@ -59,7 +58,7 @@ fn clock_number(rt: &HostRuntime) -> u64 {
     }
 }
 
-/// A number that nobody can guess; where the system has none, one by the clock.
+/// A random number from the system, or one from the clock if that has none.
 fn number_by_chance(rt: &HostRuntime) -> u64 {
     let mut bytes = [0u8; 8];
     match rt.fill_bytes(&mut bytes) {
@@ -68,7 +67,7 @@ fn number_by_chance(rt: &HostRuntime) -> u64 {
     }
 }
 
-/// A new file in the folder that the process is in, under a name that was not there, and that name.
+/// A new file in the current folder, with a name that was not there, and that name.
 fn create_new(rt: &HostRuntime, mode: u32) -> io::Result<(File, String)> {
     let mut options = OpenOptions::new();
     options.write(true).create_new(true);
@@ -85,7 +84,7 @@ fn create_new(rt: &HostRuntime, mode: u32) -> io::Result<(File, String)> {
     Err(io::Error::from(ErrorKind::AlreadyExists))
 }
 
-/// The permissions of the file of this name, if one is there.
+/// The permissions of the file of this name, if there is one.
 fn permissions_of(rt: &HostRuntime, name: &str) -> io::Result<Option<Permissions>> {
     match fs::metadata(rt, name) {
         Ok(there) => Ok(Some(there.permissions())),
@@ -94,8 +93,8 @@ fn permissions_of(rt: &HostRuntime, name: &str) -> io::Result<Option<Permissions
     }
 }
 
-/// The permissions of the file of this name; where there is none, those that a file for everyone gets in this folder,
-/// which the system tells of an empty one. That is removed.
+/// The permissions of the file of this name; if there is none, those that a file for everyone gets in this folder: an
+/// empty one is created to find out, and removed.
 fn usual_permissions(rt: &HostRuntime, name: &str) -> io::Result<Permissions> {
     if let Some(permissions) = permissions_of(rt, name)? {
         return Ok(permissions);
@@ -106,8 +105,7 @@ fn usual_permissions(rt: &HostRuntime, name: &str) -> io::Result<Permissions> {
     Ok(metadata?.permissions())
 }
 
-/// Lets those read and write a new file who may do so with the file of this name, which it is to replace, or as is
-/// usual where there is none.
+/// Gives a new file the permissions of the file of this name, which it replaces, or the usual ones if there is none.
 fn permit(rt: &HostRuntime, file: &File, name: &str, usual: Permissions) -> io::Result<()> {
     let permissions = permissions_of(rt, name)?.unwrap_or(usual);
     if file.metadata()?.permissions() == permissions {
@@ -116,7 +114,7 @@ fn permit(rt: &HostRuntime, file: &File, name: &str, usual: Permissions) -> io::
     file.set_permissions(permissions)
 }
 
-/// Writes what was made to a new file, and hands it to the disk.
+/// Writes the bytes to a new file, and syncs it.
 fn filled<F: Write + OpenFile + Drop>(file: F, built: &[u8]) -> Result<F, ToolFault>
     // The file has gained what was made.
     ensures whole { IfOk result (λ whole. Appends (F.contents file) (F.contents whole) built.now) }
@@ -131,9 +129,9 @@ fn filled<F: Write + OpenFile + Drop>(file: F, built: &[u8]) -> Result<F, ToolFa
     }
 }
 
-/// Writes a new file with what was made, and gives it the permissions and the name of the one that it replaces. Nobody
-/// else can open it before it is whole and on the disk; where the system stops between the last steps, it is too
-/// private, never too open.
+/// Writes the bytes to a new file, and gives it the permissions and the name of the one that it replaces. No other user
+/// can open it before it is complete and synced; if the system stops between the last steps, it is too private, never
+/// too open.
 fn fill_and_rename(
     rt: &HostRuntime,
     file: File,
@@ -151,7 +149,7 @@ fn fill_and_rename(
     fs::rename(rt, new, name).map_err(|_| ToolFault::Write(built.len() as u64))
 }
 
-/// The folder of a path, and the name that stands behind it.
+/// The folder of a path, and the name in it.
 fn parts_of(path: &str) -> (&str, &str) {
     match path.rsplit_once('/') {
         Some(("", name)) => ("/", name),
@@ -160,8 +158,8 @@ fn parts_of(path: &str) -> (&str, &str) {
     }
 }
 
-/// Goes into a folder, and creates a new file there, to take the place of the one of this name: the permissions that it
-/// gets where none is there in the end, the file, and its own name.
+/// Changes into a folder, and creates a new file there to replace the one of this name. Returns the permissions that it
+/// gets if there is none in the end, the file, and its name.
 fn begin(rt: &HostRuntime, folder: &str, name: &str) -> io::Result<(Permissions, File, String)> {
     env::set_current_dir(rt, folder)?;
     let usual = usual_permissions(rt, name)?;
@@ -169,9 +167,10 @@ fn begin(rt: &HostRuntime, folder: &str, name: &str) -> io::Result<(Permissions,
     Ok((usual, file, new))
 }
 
-/// Puts a file with what was made at a path, in place of a regular file that is there, with its permissions: at a fault that
-/// file is what it was, and the new one is removed. The process goes into the folder, so that a path as long as the system takes
-/// leaves room for the name of the new file. (No clause can say what the file system then has: tests check it.)
+/// Replaces the regular file at a path, if there is one, by a file with these bytes and the same permissions. After an
+/// error that file is unchanged, and the new one is removed. The process changes into the folder, so that a path of the
+/// greatest length leaves room for the name of the new file. (No contract can say what the file system has then: tests
+/// check it.)
 pub fn replace(rt: &HostRuntime, path: &PathBuf, built: &[u8]) -> Result<(), ToolFault>
     // Memory was refused, or writing failed, behind no more bytes than there are.
     ensures fault { IfErr result (IsUnfilled built.now) }

@@ -23,7 +23,7 @@ pub struct Asking {
     pub most: Option<u64>,
     /// Whether requests are of dictionary strings instead of terms.
     pub raw: bool,
-    /// How many bytes a line of the requests has at most, without its end.
+    /// The greatest length of a request line in bytes, without its end.
     pub longest: u32,
 }
 

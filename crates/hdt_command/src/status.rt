@@ -1,10 +1,10 @@
-//! What the program is: reads its words, does what they ask for, prints one line of what went wrong to the standard error, and
-//! tells the status that it ends with.
+//! The program: reads its arguments, runs the command, prints one line to standard error if something went wrong, and
+//! returns the exit status.
 //!
 //! | status | case |
 //! |---|---|
 //! | 0 | done, or help was asked for |
-//! | 1 | the input has a fault |
+//! | 1 | the input is not valid |
 //! | 2 | the command line is wrong, or `build` is to write over its input |
 //! | 3 | reading or writing failed |
 //! | 4 | out of memory |
@@ -39,7 +39,7 @@ const ONE_FILE: &str = "error: IN and OUT are the same file
 
 For more information, try '--help'.";
 
-/// Prints a line to the standard error; where that fails, the status alone tells.
+/// Prints a line to standard error; if that fails, only the status tells.
 fn complain(rt: &HostRuntime, status: u8, line: &str) -> u8
     ensures { result ≡ status }
 {
@@ -47,7 +47,7 @@ fn complain(rt: &HostRuntime, status: u8, line: &str) -> u8
     status
 }
 
-/// Prints the line of a fault. Without the memory for it, the line is that of want of memory.
+/// Prints the line of an error, or that of running out of memory if there is no memory for it.
 fn report(rt: &HostRuntime, line: Result<(u8, String), AllocError>) -> u8
     ensures { MatchResult line (λ said. result ≡ said.0) (λ _. result ≡ 4) }
 {
@@ -57,7 +57,7 @@ fn report(rt: &HostRuntime, line: Result<(u8, String), AllocError>) -> u8
     }
 }
 
-/// The status of a printing to the standard output; where it failed, the standard error tells.
+/// The status of printing to standard output; a failure is reported to standard error.
 fn printed(rt: &HostRuntime, outcome: io::Result<()>) -> u8
     ensures { MatchResult outcome (λ _. result ≡ 0) (λ _. result ≡ 3) }
 {
@@ -67,7 +67,7 @@ fn printed(rt: &HostRuntime, outcome: io::Result<()>) -> u8
     }
 }
 
-/// The status of a command that was done; a fault is told by its line.
+/// The status of a command; an error is reported by its line.
 pub fn done(rt: &HostRuntime, outcome: Result<(), ToolFault>) -> u8
     ensures { MatchResult outcome (λ _. result ≡ 0) (λ fault. (result ≡ fault_status fault) ⊎ (result ≡ 4)) }
 {
@@ -77,7 +77,7 @@ pub fn done(rt: &HostRuntime, outcome: Result<(), ToolFault>) -> u8
     }
 }
 
-/// The words, lent.
+/// The arguments, borrowed.
 fn lent<'a>(alloc: Global, words: &'a [String]) -> Result<Vec<&'a str>, AllocError>
     ensures { IfOk result (λ texts. map (λ text. text.now) texts.items ≡ map string_bytes words.now) }
 {
@@ -88,7 +88,7 @@ fn lent<'a>(alloc: Global, words: &'a [String]) -> Result<Vec<&'a str>, AllocErr
     Ok(texts)
 }
 
-/// What the words of the command line ask for.
+/// The request of a command line.
 fn asked_of(alloc: Global, words: &[String]) -> Result<Call, UsageFault>
     ensures ok { IfOk result (WantsSo (map string_bytes words.now)) }
     ensures out { IfOk result (λ asked. HasOut asked.request) }
@@ -98,8 +98,8 @@ fn asked_of(alloc: Global, words: &[String]) -> Result<Call, UsageFault>
     parse_all_words(alloc, texts.as_slice())
 }
 
-/// The words of the command line, each, where they could be had; an error of theirs is passed on, and want of memory is one.
-/// (`collect` would pass over a refused reservation.)
+/// The arguments of the process, if the system gave them; its error is passed on, and running out of memory is one.
+/// (`collect` would ignore a failed reservation.)
 pub fn words_of(alloc: Global, given: io::Result<Args>) -> io::Result<Vec<String>>
     ensures ok { IfOk result (λ words. MatchResult given (λ args. words.items ≡ into_iter_items args) (λ _. ⊥)) }
     ensures memory { IfErr result (λ error. IfOk given (λ _. error_kind error ≡ ErrorKind.OutOfMemory)) }
@@ -113,7 +113,7 @@ pub fn words_of(alloc: Global, given: io::Result<Args>) -> io::Result<Vec<String
     Ok(words)
 }
 
-/// What the words of the command line ask for, where they could be had.
+/// The request of the process's arguments, if the system gave them.
 fn asked(alloc: Global, words: io::Result<Vec<String>>) -> Result<Call, UsageFault>
     ensures ok { IfOk result (λ asked. MatchResult words (λ words. WantsSo (map string_bytes words.items) asked) (λ _. ⊥)) }
     ensures out { IfOk result (λ asked. HasOut asked.request) }
@@ -128,7 +128,7 @@ fn asked(alloc: Global, words: io::Result<Vec<String>>) -> Result<Call, UsageFau
     }
 }
 
-/// Does what a request asks for, from its file, as it was opened, to a writer; the file that it makes is appended to `made`.
+/// Runs a request, from its file, as it was opened, to a writer; the file that it makes is appended to `made`.
 fn perform<R: Read + Drop, W: Write>(
     alloc: Global,
     request: &Request,
@@ -163,7 +163,7 @@ fn perform<R: Read + Drop, W: Write>(
     run_in(alloc, request, &mut input, room, out, made)
 }
 
-/// Does what a request that makes no file asks for, and tells how it ended.
+/// Runs a request that makes no file, and returns the status.
 fn performed<R: Read + Drop, W: Write>(
     rt: &HostRuntime,
     request: &Request,
@@ -189,7 +189,7 @@ fn performed<R: Read + Drop, W: Write>(
     done(rt, perform(rt.alloc(), request, file, room, out, &mut made))
 }
 
-/// The fault of a command whose text goes to memory: a failure to write is want of it.
+/// The error of a command whose text goes to memory: a failed write means that memory ran out.
 fn in_memory(fault: ToolFault) -> ToolFault
     ensures memory { (n : ℕ) → fault ≡ ToolFault.Write n → result ≡ ToolFault.OutOfMemory }
     ensures other { ((n : ℕ) → fault ≢ ToolFault.Write n) → result ≡ fault }
@@ -200,8 +200,8 @@ fn in_memory(fault: ToolFault) -> ToolFault
     }
 }
 
-/// Makes the file that a request asks for, from its input, as it was opened: appends it to `built`, and answers the line that is
-/// told of it.
+/// Makes the file of a request, from its input, as it was opened: appends it to `built`, and returns the line that is
+/// printed.
 fn made_of<R: Read + Drop>(
     alloc: Global,
     request: &Request,
@@ -225,7 +225,7 @@ fn made_of<R: Read + Drop>(
     }
 }
 
-/// The file to be written, as it was created.
+/// The file that is written, as it was created.
 fn created<F: Write>(file: io::Result<F>) -> Result<Counted<F>, ToolFault>
     ensures ok { IfOk result (λ counted. file ≡ Ok (inner counted)) }
     ensures memory { IfErr file (λ e. error_kind e ≡ ErrorKind.OutOfMemory → result ≡ Err ToolFault.OutOfMemory) }
@@ -245,7 +245,7 @@ fn print_line<W: Write>(out: &mut Counted<W>, line: &[u8]) -> Result<(), ToolFau
     out.write_all(line).map_err(ToolFault::Write)
 }
 
-/// Writes what was made to its file, and then the line to a writer.
+/// Writes the bytes to their file, and then the line to a writer.
 fn store<F: Write, W: Write>(
     file: &mut Counted<F>,
     built: &[u8],
@@ -269,8 +269,8 @@ fn store<F: Write, W: Write>(
     print_line(out, line)
 }
 
-/// Prints what was made to the standard output, where nothing else is to stand, and its line to the standard error, unless that is
-/// the same file.
+/// Prints the bytes, and nothing else, to standard output, and the line to standard error, unless that is the same
+/// file.
 fn print_built(rt: &HostRuntime, built: &[u8], line: &[u8]) -> Result<(), ToolFault> {
     let mut out = Counted::new(io::writer(rt));
     let mut errors = Counted::new(rt.stderr());
@@ -282,7 +282,8 @@ fn print_built(rt: &HostRuntime, built: &[u8], line: &[u8]) -> Result<(), ToolFa
     store(&mut out, built, &mut errors, line)
 }
 
-/// Puts what was made at a path: a regular file is replaced whole, into anything else it is written. Then it prints the line.
+/// Writes the bytes to a path: a regular file is replaced, anything else is opened and written. Then it prints the
+/// line.
 fn put_at(rt: &HostRuntime, path: &str, built: &[u8], line: &[u8]) -> Result<(), ToolFault> {
     let mut out = Counted::new(io::writer(rt));
     let replaced = replaced_path(rt, rt.alloc(), path);
@@ -294,8 +295,8 @@ fn put_at(rt: &HostRuntime, path: &str, built: &[u8], line: &[u8]) -> Result<(),
     store(&mut file, built, &mut out, line)
 }
 
-/// Does what a request that makes a file asks for: that file is put at its path only where the whole of it was made, and the line
-/// of its numbers is printed last. Where its path leads to what standard output is, it is printed there.
+/// Runs a request that makes a file: it is written to its path only once it is complete, and the line with its counts
+/// is printed last. If its path leads to standard output, it is printed there.
 fn build_to(rt: &HostRuntime, asked: &Call, path: &str) -> Result<(), ToolFault>
     requires { MakesFile asked.now.request.action }
 {
@@ -311,7 +312,7 @@ fn build_to(rt: &HostRuntime, asked: &Call, path: &str) -> Result<(), ToolFault>
     put_at(rt, path, &built, &line)
 }
 
-/// Tells why the words ask for nothing: help on the standard output, a fault on the standard error.
+/// Reports why the arguments are no request: help to standard output, an error to standard error.
 fn refuse(rt: &HostRuntime, fault: UsageFault) -> u8
     ensures { IsRefusalStatus fault result }
 {
@@ -321,7 +322,7 @@ fn refuse(rt: &HostRuntime, fault: UsageFault) -> u8
     }
 }
 
-/// Whether `build` is asked to write over the document that it reads, which would be lost. (`rewrite` keeps the graph.)
+/// Whether `build` would overwrite the document that it reads, which would be lost. (`rewrite` keeps the graph.)
 fn writes_over_its_input(rt: &HostRuntime, asked: &Call, path: &str) -> bool
     ensures { result ≡ true → IsBuild asked.now.request.action }
 {
@@ -331,8 +332,8 @@ fn writes_over_its_input(rt: &HostRuntime, asked: &Call, path: &str) -> bool
     }
 }
 
-/// Does what a request that makes a file asks for, and tells how it ended. What would be written over its input is
-/// refused before anything is read.
+/// Runs a request that makes a file, and returns the status. A `build` that would overwrite its input is refused before
+/// anything is read.
 fn stored(rt: &HostRuntime, asked: &Call, path: &str) -> u8
     requires { MakesFile asked.now.request.action }
     ensures { IsStatusOf asked.now.request.action result }
@@ -343,7 +344,7 @@ fn stored(rt: &HostRuntime, asked: &Call, path: &str) -> u8
     done(rt, build_to(rt, asked, path))
 }
 
-/// The status of answers, by whether one was a fault; what stopped them is told by its line.
+/// The status of answers, by whether one was an error; what stopped them is reported by its line.
 fn answers_status(rt: &HostRuntime, outcome: Result<bool, ToolFault>) -> u8
     ensures { MatchResult outcome (λ faulty. result ≡ (if faulty then 1 else 0)) (λ fault. (result ≡ fault_status fault) ⊎ (result ≡ 4)) }
 {
@@ -353,7 +354,7 @@ fn answers_status(rt: &HostRuntime, outcome: Result<bool, ToolFault>) -> u8
     }
 }
 
-/// Answers the requests of a reader over a file, as it was opened, and tells whether one of the answers is a fault.
+/// Answers the requests of a reader over a file, as it was opened, and returns whether one of the answers is an error.
 fn converse<F: Read + Drop, R: Read, W: Write>(
     alloc: Global,
     asking: Asking,
@@ -381,7 +382,7 @@ fn converse<F: Read + Drop, R: Read, W: Write>(
     answer_file(alloc, asking, &mut file, room, input, out)
 }
 
-/// Answers the requests of a reader over a file, as it was opened, and tells how that ended.
+/// Answers the requests of a reader over a file, as it was opened, and returns the status.
 fn conversed<F: Read + Drop, R: Read, W: Write>(
     rt: &HostRuntime,
     asking: Asking,
@@ -407,7 +408,7 @@ fn conversed<F: Read + Drop, R: Read, W: Write>(
     answers_status(rt, converse(rt.alloc(), asking, file, room, input, out))
 }
 
-/// Answers the requests of the standard input over a file on the standard output, and tells how that ended.
+/// Answers the requests of standard input over a file on standard output, and returns the status.
 fn conversed_over(rt: &HostRuntime, path: &str, asking: Asking) -> u8
     ensures { IsCommandStatus result }
 {
@@ -418,7 +419,7 @@ fn conversed_over(rt: &HostRuntime, path: &str, asking: Asking) -> u8
     conversed(rt, asking, file, room, &mut input, &mut out)
 }
 
-/// Does what a request asks for, and tells how it ended.
+/// Runs a request, and returns the status.
 fn fulfilled(rt: &HostRuntime, asked: &Call) -> u8
     requires { HasOut asked.now.request }
     ensures { IsStatusOf asked.now.request.action result }
@@ -437,7 +438,7 @@ fn fulfilled(rt: &HostRuntime, asked: &Call) -> u8
     }
 }
 
-/// Does what was asked for, or tells why nothing was.
+/// Runs a request, or reports why there is none.
 fn answered(rt: &HostRuntime, asked: Result<Call, UsageFault>) -> u8
     requires { IfOk asked (λ asked. HasOut asked.request) }
     ensures { MatchResult asked (λ asked. IsStatusOf asked.request.action result) (λ fault. IsRefusalStatus fault result) }
@@ -448,8 +449,8 @@ fn answered(rt: &HostRuntime, asked: Result<Call, UsageFault>) -> u8
     }
 }
 
-/// Does what the words ask for, and tells how it ended: 0 done, 1 a fault of the input, 2 words that are none, or a
-/// `build` that is to write over its input, 3 reading or writing failed, 4 out of memory. It costs what
+/// Runs the request of the arguments, and returns the exit status: 0 done, 1 the input is not valid, 2 a usage error,
+/// or a `build` that would overwrite its input, 3 reading or writing failed, 4 out of memory. It costs what
 /// [`run`](crate::run) costs.
 pub fn status_of(rt: &HostRuntime, words: io::Result<Vec<String>>) -> u8
     ensures given { IfOk words (λ words. Ends (map string_bytes words.items) result) }

@@ -68,7 +68,7 @@ pub record StandsBehind (all : List (List ℕ)) (n : ℕ) (w : Progress) : Type 
   pub given : w.given ≡ n
   pub last : w.last ≡ term_numbered all n
 
--- what a run has unfolded: the string at its place, which is kept
+-- what a run has decoded: the string at its place, which is kept
 pub record IsHere (g : GraphParts) (part : Part) (run : Run) : Type 0 where
   pub given : run.strings.given ≡ run.at + 1
   pub last : run.strings.last ≡ string_of g (role_of part) (run.at + 1)
@@ -91,7 +91,7 @@ pub record IsRunFrom (g : GraphParts) (part : Part) (from : ℕ) (run : Run) : T
 abbrev pub Agrees : List ℕ → Run → Type 0
 Agrees last run = run.at < run.end → run.same ≡ agreed last run.strings.last
 
--- what the strings of two runs agree with the last one tells how they lie to each other, and how far they agree
+-- what the strings of two runs agree with the last one tells how they lie to each other, and how long their common prefix is
 pub record Tell (one two : Run) : Type 0 where
   pub first : two.same < one.same → (string_cmp one.strings.last two.strings.last ≡ Less) × (agreed one.strings.last two.strings.last ≡ two.same)
   pub second : one.same < two.same → (string_cmp one.strings.last two.strings.last ≡ Greater) × (agreed one.strings.last two.strings.last ≡ one.same)
