@@ -208,6 +208,9 @@ SHORT_ANSWERS: dict[str, tuple[Callable[[int], bytes], list[str], bytes, bytes]]
     "a predicate with an object": (one_object, [], b"? <u:q> <u:o>\n", b"<u:s> <u:q> <u:o> .\n\n"),
     "a count of one subject of many": (one_object, ["--count"], b"<u:s> ? <u:o>\n", b"1\n\n"),
     "a count of a subject with an object": (one_subject, ["--count"], b'<u:s> ? "0000000"\n', b"1\n\n"),
+    "some of a predicate's": (one_object, ["--count", "--most", "3"], b"? <u:p> ?\n", b"3\n\n"),
+    "some of a predicate's with an object": (
+        one_object, ["--count", "--most", "3"], b"? <u:p> <u:o>\n", b"3\n\n"),
 }
 
 

@@ -77,8 +77,11 @@ fn count_of(layout: &Layout<'_>, pattern: Option<Pattern>, most: Option<u64>) ->
     let Some(pattern) = pattern else {
         return 0;
     };
-    let count = layout.matching(pattern, &mut Steps::new());
-    count.min(most.unwrap_or(u64::MAX))
+    let mut steps = Steps::new();
+    match most {
+        None => layout.matching(pattern, &mut steps),
+        Some(most) => layout.matching_up_to(pattern, most, &mut steps),
+    }
 }
 
 /// The pattern with the IDs of the strings that are given, if each is one of its role.
@@ -132,8 +135,11 @@ fn graph_count(graph: &Graph<'_>, pattern: Option<Pattern>, most: Option<u64>) -
     let Some(pattern) = pattern else {
         return 0;
     };
-    let found = graph.matching(pattern, &mut Steps::new());
-    found.min(most.unwrap_or(u64::MAX))
+    let mut steps = Steps::new();
+    match most {
+        None => graph.matching(pattern, &mut steps),
+        Some(most) => graph.matching_up_to(pattern, most, &mut steps),
+    }
 }
 
 /// Appends the lines of the IDs of the matches of a pattern in a graph, or nothing without a pattern; after an error
