@@ -7,7 +7,8 @@ use hdt_terms::{LineFault, Lines, Triple, read_document};
 use hdt_wire::Counted;
 
 /// The words, each with the count of its arguments.
-pub const WORDS: &str = "line_triples 3 line_strings 3 line_texts 3 line_fronts 4 line_calls 4+ document 3";
+pub const WORDS: &str =
+    "line_triples 3 line_strings 3 line_texts 3 line_fronts 4 line_calls 4+ document 3";
 
 /// Answers a request of one of these words.
 pub fn answer(word: &str, ask: &mut Ask<'_>, say: &mut Say) -> bool {
