@@ -58,7 +58,7 @@ def assert_finds(probe: Probe, data: bytes, ids: Sequence[Triple], patterns: Ite
         answer = probe.on(data, f"{prefix}search", *arguments)
         assert list(zip(asked, split_by_pattern(answer))) == wanted, f"{prefix}search"
         for most in (0, 1, 2, MAX):
-            answer = probe.on(data, f"{prefix}matching_up_to", most, *arguments)
+            answer = probe.on(data, f"{prefix}search_count", most, *arguments)
             assert answer == ok(*(min(most, len(expected[pattern])) for pattern in asked)), (prefix, most)
 
 

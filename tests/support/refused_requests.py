@@ -407,7 +407,7 @@ def searching() -> Iterator[Request]:
     yield "file", OF_THREE
     for word in ("search", "layout_search", "graph_layout_search"):
         yield word, *ANY, 1, "-", "-", "-", 1, "-", "-", "-", 1, 1, 1, "-", 1, "-", 2, "-", 1, 2, 1, 1, 2
-    for word in ("matching_up_to", "layout_matching_up_to", "graph_layout_matching_up_to"):
+    for word in ("search_count", "layout_search_count", "graph_layout_search_count"):
         yield word, 1, *ANY, 1, "-", "-", "-", 1, "-", "-", "-", 1, "-", 1, 2
     for word in ("pattern", "layout_pattern", "graph_layout_pattern", "find_strings"):
         yield word, b"u:a", "-", "-"

@@ -8,13 +8,13 @@ use hdt_triples::{Matches, Pattern};
 
 /// The words, each with the count of its arguments.
 pub const WORDS: &str =
-    "search 3+ matching_up_to 4+ find_strings 3 pattern 3 number_of 1+ string_of 3 strings_of 2+ uses_of 1+ strings 1";
+    "search 3+ search_count 4+ find_strings 3 pattern 3 number_of 1+ string_of 3 strings_of 2+ uses_of 1+ strings 1";
 
 /// Answers a request of one of these words.
 pub fn answer(word: &str, ask: &mut Ask<'_>, say: &mut Say) -> bool {
     match word {
         "search" => say_search(ask, say),
-        "matching_up_to" => say_matching_up_to(ask, say),
+        "search_count" => say_matching_up_to(ask, say),
         "find_strings" => say_find_strings(ask, say),
         "pattern" => say_pattern_of(ask, say),
         "number_of" => say_number_of(ask, say),

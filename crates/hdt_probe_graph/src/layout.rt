@@ -8,15 +8,15 @@ use hdt_seq::Steps;
 
 /// The words, each with the count of its arguments.
 pub const WORDS: &str =
-    "layout_search 3+ graph_layout_search 3+ layout_matching_up_to 4+ graph_layout_matching_up_to 4+ layout_pattern 3 graph_layout_pattern 3 layout_number_of 1+ layout_string_of 3 layout_strings 1";
+    "layout_search 3+ graph_layout_search 3+ layout_search_count 4+ graph_layout_search_count 4+ layout_pattern 3 graph_layout_pattern 3 layout_number_of 1+ layout_string_of 3 layout_strings 1";
 
 /// Answers a request of one of these words.
 pub fn answer(word: &str, ask: &mut Ask<'_>, say: &mut Say) -> bool {
     match word {
         "layout_search" => say_layout_search(ask, say),
         "graph_layout_search" => say_graph_layout_search(ask, say),
-        "layout_matching_up_to" => say_layout_matching_up_to(ask, say),
-        "graph_layout_matching_up_to" => say_graph_layout_matching_up_to(ask, say),
+        "layout_search_count" => say_layout_matching_up_to(ask, say),
+        "graph_layout_search_count" => say_graph_layout_matching_up_to(ask, say),
         "layout_pattern" => say_layout_pattern(ask, say),
         "graph_layout_pattern" => say_graph_layout_pattern(ask, say),
         "layout_number_of" => say_number_of(ask, say),
