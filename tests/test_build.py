@@ -379,12 +379,6 @@ def test_pipe(folder: Path) -> None:
     assert difference((folder / "out.hdt").read_bytes(), canonical_file(THREE)) == ""
 
 
-def test_over_its_input(folder: Path) -> None:
-    """A file that replaces its own document."""
-    assert hdt("build", "good.nt", "good.nt", cwd=folder) == printed("built", THREE, len(canonical_file(THREE)))
-    assert difference((folder / "good.nt").read_bytes(), canonical_file(THREE)) == ""
-
-
 # ---- the calls: worked rows
 
 def built(triples: list[Strings], base: bytes, block_size: int) -> Answer:

@@ -772,9 +772,9 @@ REQUESTS: list[tuple[str, str]] = [
     ("build --base= --block-size=0 a.hdt b.hdt", f"{A} {B} build 0 "),
     ("rewrite a.hdt b.hdt", f"{A} {B} rewrite 16"),
     ("rewrite --block-size 65535 a.hdt b.hdt", f"{A} {B} rewrite 65535"),
-    ("answer a.hdt", f"{A} none answer 0 none 0"),
-    ("answer --raw --numbers --most 7 a.hdt", f"{A} none answer 1 7 1"),
-    ("answer --count --numbers a.hdt", f"{A} none answer 2 none 0"),
+    ("answer a.hdt", f"{A} none answer 0 none 0 1048576"),
+    ("answer --raw --numbers --most 7 a.hdt", f"{A} none answer 1 7 1 1048576"),
+    ("answer --count --numbers --longest-request 4294967295 a.hdt", f"{A} none answer 2 none 0 4294967295"),
 ]
 
 

@@ -719,14 +719,14 @@ def test_contracts(tmp_path: Path) -> None:
         file.parent.mkdir(parents=True)
     library.write_text(OLD_LIBRARY)
     definitions.write_text("-- below ten\nabbrev pub Small : ℕ → Type 0\nSmall n = n < 10\n")
-    git = ["git", "-C", tmp_path, "-c", "user.name=a", "-c", "user.email=a@example.org"]
-    for words in (["init", "-q"], ["add", "-A"], ["commit", "-qm", "old"]):
-        subprocess.run([*git, *words], check=True)
+    git = ["git", "-C", str(tmp_path), "-c", "user.name=a", "-c", "user.email=a@example.org"]
+    for command in (["init", "-q"], ["add", "-A"], ["commit", "-qm", "old"]):
+        subprocess.run([*git, *command], check=True)
     library.write_text(NEW_LIBRARY)
     definitions.write_text("-- below nine\nabbrev pub Small : ℕ → Type 0\nSmall n = n < 9\n")
     names = tmp_path / "names"
     names.write_text("b bee\n")
-    words = [sys.executable, "-B", "-c", CONTRACTS, tmp_path, "HEAD", "--names", names]
+    words = [sys.executable, "-B", "-c", CONTRACTS, str(tmp_path), "HEAD", "--names", str(names)]
     status, out, err = run([*words, "--definitions"], cwd=TOP)
     found = [it for it in out.decode().splitlines() if not it.startswith("    ")]
     assert (status, err, found) == (
