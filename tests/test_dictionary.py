@@ -19,7 +19,7 @@ Lists = tuple[list[bytes], list[bytes], list[bytes], list[bytes]]
 # Where the dictionary of the sample file v1.hdt begins.
 AT = 218
 
-WRITERS = "put_dictionary", "put_lent_dictionary", "put_written_dictionary"
+WRITERS = "put_dictionary", "put_written_dictionary"
 
 
 def counted(lists: list[list[bytes]]) -> list[Argument]:
@@ -189,8 +189,7 @@ def split_answer(lists: Lists | hdt.Parts) -> Answer:
 def test_splits(probe: Probe, given_lists: list[list[bytes]], lists: Lists) -> None:
     """Strings of three roles, in any order and with repeats, and the sections that they make."""
     assert tuple(hdt.split(*given_lists)) == lists
-    for word in "split", "split_lent":
-        assert probe.ask(word, *counted(given_lists)) == split_answer(lists), word
+    assert probe.ask("split", *counted(given_lists)) == split_answer(lists)
 
 
 SUBJECTS = [b"abc", b"b", b"ab", b"a", b"abc"]
@@ -224,16 +223,9 @@ def test_any_strings(probe: Probe, subjects: list[bytes], predicates: list[bytes
     lists = [subjects + both, predicates, both + objects]
     parts = hdt.split(*lists)
     written = before + write_dictionary(*parts, Style(block_size))
-    answers = probe.send(("split", *counted(lists)), ("split_lent", *counted(lists)),
-                         *by_each_writer(before, block_size, lists))
-    assert answers == [split_answer(parts)] * 2 + [ok(written)] * 3
+    answers = probe.send(("split", *counted(lists)), *by_each_writer(before, block_size, lists))
+    assert answers == [split_answer(parts)] + [ok(written)] * len(WRITERS)
     check(probe, written + behind, len(before), subjects)
-
-
-@given(st.lists(STRING | st.binary(max_size=3), max_size=12))
-def test_ascending_strings(probe: Probe, strings: list[bytes]) -> None:
-    """The strings of a list, each once, in ascending order."""
-    assert probe.ask("ascending_strings", *strings) == ok(*sorted(set(strings)))
 
 
 @st.composite
@@ -287,7 +279,7 @@ def test_what_dictionaries_hold(probe: Probe, strings: list[bytes], block_size: 
     for lists in [strings, none, none], [none, strings, none], [none, none, strings]:
         answers = probe.send(*by_each_writer(b"", block_size, lists))
         written = ok(write_dictionary(*hdt.split(*lists), Style(block_size))) if fit else REFUSED
-        assert answers == [written] * 3
+        assert answers == [written] * len(WRITERS)
 
 
 # Arenas
@@ -295,14 +287,14 @@ def test_what_dictionaries_hold(probe: Probe, strings: list[bytes], block_size: 
 def test_arena_of_many_strings(probe: Probe) -> None:
     """30,000 strings and an empty one, in an arena that grows; and an arena without strings."""
     strings = [b"%c%c%c%c" % (0, 0, i >> 8, i & 255) for i in range(30_000)] + [b""]
-    assert probe.ask("arena", 0, 0, *strings) == ok(len(strings), *strings, *strings)
+    assert probe.ask("arena", 0, 0, *strings) == ok(len(strings), *strings)
     assert probe.ask("arena", 0, 0) == ok(0)
 
 
 @given(st.lists(st.binary(max_size=20), max_size=20), st.integers(0, 30), st.integers(0, 300))
 def test_arena(probe: Probe, strings: list[bytes], room: int, room_of_bytes: int) -> None:
     """Any strings, with any room at first; and an arena of strings that are put one behind another before."""
-    answer = ok(len(strings), *strings, *strings)
+    answer = ok(len(strings), *strings)
     assert probe.send(("arena", room, room_of_bytes, *strings), ("arena_of", *strings)) == [answer, answer]
 
 
@@ -330,7 +322,7 @@ def test_many_strings_in_each_section(probe: Probe) -> None:
     """70,000 subjects and predicates and 140,000 objects in blocks of 70,000: the ends of the roles, and walks."""
     all_of = numerals(280_000)
     subjects, objects, predicates = all_of[:70_000], all_of[70_000:210_000], all_of[210_000:]
-    answer = probe.ask("put_lent_dictionary", bytes(AT), 70_000, *counted([subjects, predicates, objects]))
+    answer = probe.ask("put_dictionary", bytes(AT), 70_000, *counted([subjects, predicates, objects]))
     data = bytes(AT) + write_dictionary([], subjects, predicates, objects, Style(70_000))
     assert answer == ok(data)
     look_up(probe, data + b"$HDT", [(0, 70_000, b"069999"), (2, 1, b"070000"), (2, 140_000, b"209999"),
@@ -342,7 +334,7 @@ def test_many_strings_in_each_section(probe: Probe) -> None:
         walked = probe.ask("dictionary_strings", AT, role)
         assert walked[1::2] == tuple(map(str, range(1, len(strings) + 1)))
         assert walked[2::2] == tuple(string.hex() for string in strings)
-    assert probe.ask("arena", 0, 0, *all_of) == ok(len(all_of), *all_of, *all_of)
+    assert probe.ask("arena", 0, 0, *all_of) == ok(len(all_of), *all_of)
 
 
 def test_errors_of_large_dictionaries(probe: Probe) -> None:
@@ -393,7 +385,7 @@ def test_large_roles(probe: Probe) -> None:
     fourth = all_of[2::4]
     lists = [all_of[::-1], fourth, fourth]
     data = bytes(AT) + write_dictionary(*hdt.split(*lists), Style(16)) + b"$HDT"
-    assert probe.ask("put_lent_dictionary", bytes(AT), 16, *counted(lists)) == ok(data[:-4])
+    assert probe.ask("put_dictionary", bytes(AT), 16, *counted(lists)) == ok(data[:-4])
     answer = probe.on(data, "dictionary", AT)
     assert answer == ok(len(data) - 4, 25_000, 75_000, 25_000, 0, 100_000, 25_000, 25_000)
     look_up(probe, data, [(0, 1, b"00002"), (0, 25_001, b"00000"), (2, 25_000, b"99998")])

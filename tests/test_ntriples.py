@@ -40,14 +40,6 @@ def triples_answer(data: bytes, limit: Optional[int] = None, fails: Optional[int
     return ok(*(string for triple in found for string in triple_strings(triple)), *ending(error))
 
 
-def document_answer(data: bytes, limit: Optional[int] = None, fails: Optional[int] = None) -> Answer:
-    """The triples of a document as dictionary strings, or its error."""
-    found, error = read_document(data, limit, fails)
-    if error is not None:
-        return error_answer(error)
-    return ok(*(string for triple in found for string in triple_strings(triple)))
-
-
 class Line(NamedTuple):
     """A line of a document: its number, its text, whether it has an end, and whether the next one is then held."""
 
@@ -134,7 +126,6 @@ def document_cases(data: bytes, limit: Optional[int], step: int, fails: Optional
         (("line_texts", *arguments), texts_answer(data, limit, step, fails)),
         *((("line_fronts", *arguments, most), texts_answer(data, limit, step, fails, most))
           for most in (0, 3, 2**64 - 1)),
-        (("document", *arguments), document_answer(data, limit, fails)),
     ]
 
 
@@ -299,7 +290,6 @@ def test_readers_that_fail_after_each_byte(probe: Probe, limit: int) -> None:
         for how in "", ":interrupted":
             answer = triples_answer(THREE, limit, fails)
             cases += [((word, limit, step, f"{fails}{how}"), answer) for word in WORDS for step in (1, 7, ALL)]
-            cases.append((("document", limit, 7, f"{fails}{how}"), document_answer(THREE, limit, fails)))
     assert answered(probe, cases) == cases
 
 
@@ -317,7 +307,6 @@ def test_whole_documents(probe: Probe, step: int) -> None:
     """All triples of a document at once, within the greatest limit, one of its length, and one byte less."""
     cases: list[Case] = [(("file", THREE), ok())]
     for limit in GREATEST, 58, 57:
-        cases.append((("document", limit, step, "-"), document_answer(THREE, limit)))
         cases.append((("line_triples", limit, step, "-"), triples_answer(THREE, limit)))
     assert answered(probe, cases) == cases
     assert text_of(triples_answer(THREE, 58)) == THREE_READ
@@ -345,15 +334,14 @@ def large_cases(data: bytes, limit: int, steps: list[int], fails: Optional[int] 
     """What both calls answer for a large document."""
     answer = triples_answer(data, limit, fails)
     cases: list[Case] = [((word, *reader(limit, step, fails)), answer) for step in steps for word in WORDS]
-    whole = ("document", *reader(limit, steps[0], fails)), document_answer(data, limit, fails)
-    return [(("file", data), ok()), *cases, whole]
+    return [(("file", data), ok()), *cases]
 
 
 def test_many_triples(probe: Probe) -> None:
     """6,000 triples at once."""
     cases = large_cases(THREE * 2_000, GREATEST, [ALL])
     assert shortened(answered(probe, cases)) == shortened(cases)
-    assert len(cases[-1][1]) == 1 + 3 * 6_000
+    assert len(cases[-1][1]) == 2 + 3 * 6_000
 
 
 SPACES = b" " * 100_000

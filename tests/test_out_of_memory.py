@@ -194,8 +194,8 @@ CHUNK_BYTES, CHUNK_REQUESTS = 20_000, 12
 # Words that append to an output: the argument that is the output before. A call that fails leaves it as it was.
 APPENDING = {
     "put_vbyte": 1, "put_decimal": 1, "put_control": 3, "put_numbers": 1, "put_bits": 1, "put_section": 1,
-    "put_lent_section": 1, "write_section": 1, "write_section_agreeing": 1, "section_string": 3,
-    "dictionary_string_of": 4, "put_dictionary": 1, "put_lent_dictionary": 1, "put_written_dictionary": 1,
+    "write_section": 1, "write_section_agreeing": 1, "section_string": 3,
+    "dictionary_string_of": 4, "put_dictionary": 1, "put_written_dictionary": 1,
     "put_triples": 1, "parse_string": 2, "put_string": 2, "put_term": 2, "layout_string_of": 3,
 }
 # Words that append to an output and tell ends in it, that of the output before first: the argument that is that output.
@@ -207,7 +207,7 @@ WALKING = {
 }
 # Words that answer several values, each of which alone may be empty, or be missing.
 EMPTY = {"section_strings"}
-MISSING = {"line_triples", "line_calls", "document"}
+MISSING = {"line_triples", "line_calls"}
 # Words that end with the name, the line and the column of an error.
 ENDING = {"line_triples", "line_strings", "line_texts", "line_fronts"}
 # Words whose last value is what a writer took.

@@ -114,7 +114,7 @@ CANONICAL: list[tuple[str, int, list[bytes], bytes]] = [
 OTHERS = [b"", b"a", b"aa", b"aad", b"ab", b"b", b"abcd", b"s", b"s17", b"http://", b"http://a", b"u:z",
           b"\xF0\x9F\x98", b"a\0"]
 
-WRITERS = "put_section", "put_lent_section", "write_section", "write_section_agreeing"
+WRITERS = "put_section", "write_section", "write_section_agreeing"
 
 
 def by_each_writer(before: bytes, block_size: int, strings: list[bytes]) -> list[Request]:
@@ -271,7 +271,7 @@ def test_what_sections_hold(probe: Probe, strings: list[bytes]) -> None:
 
 def test_blocks_of_none_are_not_written(probe: Probe) -> None:
     """A block has at least one string."""
-    assert probe.send(*by_each_writer(b"", 0, [b"a"])) == [REFUSED] * 4
+    assert probe.send(*by_each_writer(b"", 0, [b"a"])) == [REFUSED] * len(WRITERS)
 
 
 @given(loose_sections(), AROUND, AROUND, st.lists(STRING, max_size=3))

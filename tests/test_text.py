@@ -24,8 +24,6 @@ IDS = [(1, 1, 2), (1, 2, 3), (2, 1, 1)]
 LINES = [b"<u:a> <u:p> <u:b> .\n", b"<u:a> <u:q> \"x\" .\n", b"<u:b> <u:p> <u:a> .\n"]
 ALL: Pattern = (None, None, None)
 
-# The calls for a graph and for a layout, which answer the same.
-BOTH = "graph", "layout"
 ROLES = "Subject", "Predicate", "Object"
 
 
@@ -42,7 +40,7 @@ def file_of(sections: Sections, ids: Sequence[Triple]) -> bytes:
 
 def answers_by_both(probe: Probe, data: bytes, patterns: Sequence[Pattern]) -> list[tuple[Answer, Answer]]:
     """The text of each pattern's matches, by a graph and by a layout."""
-    requests = [(f"{kind}_text", *pattern) for pattern in patterns for kind in BOTH]
+    requests = [it for pattern in patterns for it in (("graph_text", *pattern), ("layout_text", None, *pattern))]
     answers = probe.send(("file", data), *requests)[1:]
     return list(zip(answers[::2], answers[1::2]))
 
@@ -66,17 +64,17 @@ def test_part_of_every_pattern(probe: Probe, most: Optional[int]) -> None:
     """The first lines of each pattern's matches, at most so many."""
     patterns: list[Pattern] = [(s, p, o) for s, p, o in product(GIVEN, GIVEN, GIVEN)]
     probe.send(("file", THREE))
-    for kind in BOTH:
-        answers = probe.send(*((f"{kind}_text_up_to", most, *pattern) for pattern in patterns))
-        assert list(zip(patterns, answers)) == [
-            (pattern, ok(b"".join(LINES[IDS.index(triple)] for triple in model.matches(IDS, pattern)[:most])))
-            for pattern in patterns], kind
+    texts = [b"".join(LINES[IDS.index(triple)] for triple in model.matches(IDS, pattern)[:most]) for pattern in patterns]
+    answers = probe.send(*(("layout_text", most, *pattern) for pattern in patterns))
+    assert list(zip(patterns, answers)) == [(pattern, ok(text)) for pattern, text in zip(patterns, texts)]
+    answers = probe.send(*(("append_graph_text", b"", most, *pattern) for pattern in patterns))
+    assert list(zip(patterns, answers)) == [(pattern, ok("done", text)) for pattern, text in zip(patterns, texts)]
 
 
 def test_no_pattern(probe: Probe) -> None:
     """Where strings have no pattern, the text is empty."""
-    assert probe.on(THREE, "graph_text", "none") == probe.ask("layout_text", "none") == ok(b"")
-    assert probe.ask("graph_text_up_to", 1, "none") == probe.ask("layout_text_up_to", 1, "none") == ok(b"")
+    assert probe.on(THREE, "graph_text", "none") == ok(b"")
+    assert probe.ask("layout_text", None, "none") == probe.ask("layout_text", 1, "none") == ok(b"")
 
 
 def test_texts_by_one_speller(probe: Probe) -> None:
@@ -249,8 +247,9 @@ def test_text_is_that_of_the_reference(probe: Probe, graph: model.Written, patte
         ids = model.matches(graph.ids, asked)
         whole, first = text_of(file, ids), text_of(file, ids[:most])
         assert answers_by_both(probe, graph.data, [asked]) == [(whole, whole)]
-        answers = probe.send(*((f"{kind}_text_up_to", most, *asked) for kind in BOTH))
-        assert answers == [first, first]
+        assert probe.ask("layout_text", most, *asked) == first
+        appended = probe.ask("append_graph_text", b"", most, *asked)
+        assert appended == (ok("done", bytes.fromhex(first[1])) if first[0] == "ok" else (*first, ""))
         failing = probe.ask("write_graph", step, calls, *asked)
         text = bytes.fromhex(whole[1]) if whole[0] == "ok" else b""
         if whole[0] != "ok":

@@ -144,7 +144,7 @@ def section() -> Iterator[Request]:
     yield "section_cursor_compared", 0, 3, STRINGS[9]
     yield "are_strings", *STRINGS[1:]
     yield "are_strings", b"b", b"a"
-    for word in ("put_section", "put_lent_section", "write_section", "write_section_agreeing"):
+    for word in ("put_section", "write_section", "write_section_agreeing"):
         yield word, b"", 4, b"one"
         yield word, BEFORE, 4, *STRINGS
         yield word, BEFORE, 65_535, *STRINGS
@@ -183,7 +183,7 @@ def section_of_long_strings() -> Iterator[Request]:
     yield "section_cursor_compared", 0, 90_000, strings[1]
     yield "common_prefix", strings[1], strings[2]
     yield "compared_from", strings[1], strings[2], 50_000
-    for word in ("put_section", "put_lent_section", "write_section", "write_section_agreeing"):
+    for word in ("put_section", "write_section", "write_section_agreeing"):
         yield word, BEFORE, 3, *strings
 
 
@@ -221,10 +221,8 @@ def dictionary() -> Iterator[Request]:
         yield "dictionary_strings", 0, role
         yield "dictionary_strings_kept", 0, role
     yield "dictionary_string_start", 0, 3, 1
-    yield "ascending_strings", *together
-    for word in ("split", "split_lent"):
-        yield word, *counts, *together
-    for word in ("put_dictionary", "put_lent_dictionary", "put_written_dictionary"):
+    yield "split", *counts, *together
+    for word in ("put_dictionary", "put_written_dictionary"):
         yield word, b"", 16, 1, 1, 1, b"u:s", b"u:p", b"u:o"
         yield word, BEFORE, 3, *counts, *together
     yield "arena", 0, 0, *together
@@ -246,7 +244,7 @@ def large_dictionary() -> Iterator[Request]:
     yield "dictionary_strings_of", 0, 2, LARGE, 2, 20_002, 1
     yield "dictionary_strings", 0, 0
     yield "split", 1, 1, 2, LARGE, b"p", LARGE, LARGE + b"y"
-    for word in ("put_dictionary", "put_lent_dictionary", "put_written_dictionary"):
+    for word in ("put_dictionary", "put_written_dictionary"):
         yield word, BEFORE, 16, 1, 1, 2, LARGE, b"p", LARGE, LARGE + b"y"
     yield "arena", 0, 0, LARGE, b"", LARGE
 
@@ -343,7 +341,7 @@ LIMIT, LARGE_CUT = 1 << 20, 90_000
 def lines() -> Iterator[Request]:
     """Lines of documents and of requests: in any pieces, cut off, and by readers that fail."""
     yield "file", DOCUMENT
-    for word in ("line_triples", "line_strings", "line_texts", "document"):
+    for word in ("line_triples", "line_strings", "line_texts"):
         yield word, LIMIT, 1 << 20, "-"
         yield word, LIMIT, 3, "-"
         yield word, 60, 7, "-"
@@ -356,10 +354,9 @@ def lines() -> Iterator[Request]:
     for fails in ("0", "20:interrupted", "45:zero"):
         yield "line_triples", LIMIT, 7, fails
         yield "line_strings", LIMIT, 7, fails
-        yield "document", LIMIT, "1/7", fails
     yield "line_calls", LIMIT, 7, "-", 0, 1, 2, 2, 1, 1, 0
     yield "file", b"<u:a> <u:p> <u:b> .\n<u:a> <u:p> <b> .\n"
-    for word in ("line_triples", "line_strings", "document"):
+    for word in ("line_triples", "line_strings"):
         yield word, LIMIT, 7, "-"
 
 
@@ -376,11 +373,10 @@ def whole_document() -> Iterator[Request]:
     """A document of 40 triples as terms, each of which is an allocation; and one cut off in a literal."""
     document = numbered(40)
     yield "file", document
-    yield "document", LIMIT, 4_096, "-"
     yield "line_triples", LIMIT, 4_096, "-"
     yield "file", document[-300:] + b'<u:a> <u:p> "' + LARGE + b'" .\n'
-    yield "document", LIMIT, 4_096, LARGE_CUT
-    yield "document", LIMIT, 4_096, "-"
+    yield "line_triples", LIMIT, 4_096, LARGE_CUT
+    yield "line_triples", LIMIT, 4_096, "-"
 
 
 OF_THREE = (SAMPLES / "three.hdt").read_bytes()
@@ -413,14 +409,13 @@ def searching() -> Iterator[Request]:
         yield word, b"u:a", "-", "-"
         yield word, "-", b"u:p", b"u:z"
         yield word, *ANY
-    for word in ("graph_text", "layout_text"):
-        yield word, "none"
-        yield word, *ANY
-        yield word, 1, "-", "-"
-    for word in ("graph_text_up_to", "layout_text_up_to"):
-        yield word, 2, *ANY
-        yield word, "-", *ANY
-        yield word, "-", "none"
+    yield "graph_text", "none"
+    yield "graph_text", *ANY
+    yield "graph_text", 1, "-", "-"
+    for most in (2, "-"):
+        yield "layout_text", most, *ANY
+        yield "layout_text", most, 1, "-", "-"
+        yield "layout_text", most, "none"
     yield "append_graph_text", BEFORE, 1, *ANY, "-", "-", 1, "-", 2, "none"
     yield "write_graph", *WRITER, "none"
     yield "write_graph", *WRITER, 1, "-", "-"
@@ -449,7 +444,7 @@ def errors_of_files() -> Iterator[Request]:
     yield "file", reference.graph([(b"u:a", b"rel", b"u:b"), (b"u:a", b"u:p", b'"x')]).data
     yield "graph_text", "none"
     yield "graph_text", *ANY
-    yield "layout_text", *ANY
+    yield "layout_text", "-", *ANY
     yield "append_graph_text", BEFORE, 1, *ANY, "-", *ANY
     yield "write_graph", *WRITER, *ANY
 
@@ -460,7 +455,7 @@ def large_graph() -> Iterator[Request]:
     yield from [(word,) for word in ("open", "open_tight", "verify", "verify_tight", "layout")]
     yield "search", 1, "-", "-", "-", "-", 1
     yield "find_strings", "-", "-", b"http://a/7"
-    yield "graph_text_up_to", 1_000, *ANY
+    yield "append_graph_text", BEFORE, 1_000, *ANY
     yield "write_graph", 1_000, "-", "-", 1, "-"
 
 
@@ -472,7 +467,7 @@ def long_strings() -> Iterator[Request]:
     yield "string_of", 0, 3, BEFORE
     yield "strings_of", 0, BEFORE, 1, 3, 2
     yield "graph_text", *ANY
-    yield "layout_text", *ANY
+    yield "layout_text", "-", *ANY
     yield "write_graph", 1_000, "-", *ANY
     yield "rewrite_bytes", 2, b"http://a/"
     yield "rewrite", 65_535, b"http://a/", 1_000, "-"

@@ -11,7 +11,7 @@ ghost use Rattle.hdt_command.specs.TriplesText.{AppendsTriples, Finds, PrintsFou
 use crate::fault::ToolFault;
 use crate::printed_strings::number_line;
 use crate::request::Form;
-use hdt_file::{DumpFault, Graph, Layout, Speller, append_graph_text, layout_text_up_to};
+use hdt_file::{DumpFault, Graph, Layout, Speller, append_graph_text, layout_text};
 use hdt_seq::Steps;
 use hdt_triples::{Matches, Pattern};
 use hdt_wire::{cut_on_error, put_decimal};
@@ -106,7 +106,7 @@ fn layout_triples_text(
     ensures err { IfErr result (TellsTriples form (layout_seen layout.now) (limited most (chosen (layout_seen layout.now) pattern))) }
 {
     match form {
-        Form::Lines => layout_text_up_to(alloc, layout, pattern, most),
+        Form::Lines => layout_text(alloc, layout, pattern, most),
         Form::Numbers => Ok(numbers_text(alloc, layout, pattern, most)?),
         Form::Count => Ok(number_line(alloc, count_of(layout, pattern, most))?),
     }

@@ -19,7 +19,7 @@ use hdt_build::{Options, build_bytes, rewrite_bytes};
 use hdt_dict::Role;
 use hdt_file::open;
 use hdt_wire::{Counted, Failed};
-use std::alloc::Global;
+use std::alloc::{AllocError, Global};
 use std::io::{Read, Write};
 
 /// The number of bytes of a read.
@@ -68,6 +68,19 @@ fn file_text<R: Read>(
     answer(alloc, query, bytes.as_slice())
 }
 
+/// Appends a file to `made`; if that is empty, the file takes its place and no byte is copied.
+fn append_file(file: Vec<u8>, made: &mut Vec<u8>) -> Result<(), AllocError>
+    ensures items { OnOk result (made.new.items ≡ made.old.items ++ file.items) }
+    ensures kept { OnErr result (made.new.items ≡ made.old.items) }
+{
+    if made.is_empty() {
+        *made = file;
+        return Ok(());
+    }
+    let mut file = file;
+    made.append(&mut file)
+}
+
 /// The text of `build`; the file is appended to `made`.
 fn built_text<R: Read>(
     alloc: Global,
@@ -86,9 +99,9 @@ fn built_text<R: Read>(
     ensures others { IfErr result (λ e. (n : ℕ) → e ≢ ToolFault.Write n) }
     ensures kept { OnErr result (made.new.items ≡ made.old.items) }
 {
-    let (mut bytes, report) = build_bytes(alloc, input, options)?;
+    let (bytes, report) = build_bytes(alloc, input, options)?;
     let text = built_line(alloc, &report)?;
-    made.append(&mut bytes)?;
+    append_file(bytes, made)?;
     Ok(text)
 }
 
@@ -108,9 +121,9 @@ fn rewritten_of(
         block_size,
         base: Vec::new(alloc),
     };
-    let (mut file, report) = rewrite_bytes(alloc, &graph, &options)?;
+    let (file, report) = rewrite_bytes(alloc, &graph, &options)?;
     let text = rewritten_line(alloc, &report)?;
-    made.append(&mut file)?;
+    append_file(file, made)?;
     Ok(text)
 }
 

@@ -90,15 +90,4 @@ impl Arena {
         self.starts.push(self.bytes.len())?;
         Ok(())
     }
-
-    /// Returns all strings, borrowed. Linear time and memory in their number.
-    pub fn slices(&self, alloc: Global) -> Result<Vec<&[u8]>, AllocError>
-        ensures { IfOk result (λ made. map (λ x. x.now) made.items ≡ self.now) }
-    {
-        let mut made = Vec::with_capacity(alloc, self.len())?;
-        for at in 0..self.len() {
-            made.push(self.get(at))?;
-        }
-        Ok(made)
-    }
 }

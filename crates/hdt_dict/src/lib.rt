@@ -40,7 +40,6 @@ pub use hdt_wire::Role;
 pub use laws::{
     dictionaries_are_exact, dictionary_is_read_again, one_dictionary, split_makes_sections,
 };
-pub use parts::{LentParts, Parts, split, split_lent};
-pub use sorted::ascending_strings;
+pub use parts::{Parts, split};
 pub use walk::Strings;
-pub use writing::{put_dictionary, put_lent_dictionary, put_written_dictionary};
+pub use writing::{put_dictionary, put_written_dictionary};

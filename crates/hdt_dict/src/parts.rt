@@ -23,7 +23,7 @@ pub struct Parts {
 
 /// The strings of the four sections of a dictionary, borrowed.
 #[derive(Drop)]
-pub struct LentParts<'a> {
+pub(crate) struct LentParts<'a> {
     /// The strings that are both subjects and objects.
     pub shared: Vec<&'a [u8]>,
     /// The subjects that are not objects.
@@ -37,7 +37,7 @@ pub struct LentParts<'a> {
 /// Divides the strings of three roles, in any order and with duplicates, into the four sections, without copying them.
 /// It sorts each list, and merges those of subjects and objects.
 #[tactic(auto, unfolding(crate::specs::Split::lent_lists_of))]
-pub fn split_lent<'a>(
+fn split_lent<'a>(
     alloc: Global,
     subjects: &[&'a [u8]],
     predicates: &[&'a [u8]],

@@ -15,7 +15,7 @@ fn listed<'a>(alloc: Global, list: &[&'a [u8]]) -> Result<Vec<&'a [u8]>, AllocEr
 
 /// Returns the distinct strings of a list in ascending order: by unsigned bytes, a prefix before longer strings. No
 /// string is copied; the cost is that of one sort.
-pub fn ascending_strings<'a>(alloc: Global, list: &[&'a [u8]]) -> Result<Vec<&'a [u8]>, AllocError>
+pub(crate) fn ascending_strings<'a>(alloc: Global, list: &[&'a [u8]]) -> Result<Vec<&'a [u8]>, AllocError>
     ensures ascending { IfOk result (λ made. IsAscending (lent_texts made.items)) }
     ensures same { IfOk result (λ made. SameMembers (lent_texts made.items) (lent_texts list.now)) }
 {

@@ -2,51 +2,33 @@
 ghost use Rattle.std.specs.Prelude.{◌≡◌, ◌≤◌, ◌++◌, length, OnOk, OnErr};
 ghost use Rattle.hdt_wire.specs.Control.{Keeps};
 ghost use Rattle.hdt_dict.specs.Dictionary.{IsDictionary, FourLists};
-ghost use Rattle.hdt_dict.specs.Split.{lists_of, lent_lists_of, lists_in_work};
+ghost use Rattle.hdt_dict.specs.Split.{lists_of, lists_in_work};
 ghost use Rattle.hdt_dict.specs.Writing.{AreSections, canonical_dictionary, canonical_dictionary_parts};
 
-use crate::parts::{LentParts, Parts};
-use hdt_front::{SectionWriter, lent_strings, put_lent_section};
+use crate::parts::Parts;
+use hdt_front::{SectionWriter, put_section};
 use hdt_wire::{Kind, cut_on_error, put_control};
 use std::alloc::{AllocError, Global};
 
 /// Appends a dictionary; an error may leave its first bytes.
-#[tactic(auto, using(crate::specs::Laws::Writing::mapping_no_zero), unfolding(crate::specs::Writing::canonical_dictionary, crate::specs::Split::lent_lists_of))]
+#[tactic(auto, using(crate::specs::Laws::Writing::mapping_no_zero), unfolding(crate::specs::Writing::canonical_dictionary, crate::specs::Split::lists_of))]
 fn append_dictionary(
     alloc: Global,
-    parts: &LentParts<'_>,
+    parts: &Parts,
     block_size: u32,
     out: &mut Vec<u8>,
 ) -> Result<(), AllocError>
-    requires sections { AreSections (lent_lists_of parts.now) }
+    requires sections { AreSections (lists_of parts.now) }
     requires block { 1 ≤ block_size }
-    ensures ok { OnOk result (out.new.items ≡ out.old.items ++ canonical_dictionary block_size (lent_lists_of parts.now)) }
+    ensures ok { OnOk result (out.new.items ≡ out.old.items ++ canonical_dictionary block_size (lists_of parts.now)) }
     ensures err { OnErr result (Keeps out.old.items out.new.items) }
 {
     put_control(Kind::Dictionary, b"mapping=1;", out)?;
-    put_lent_section(alloc, parts.shared.as_slice(), block_size, out)?;
-    put_lent_section(alloc, parts.subjects.as_slice(), block_size, out)?;
-    put_lent_section(alloc, parts.predicates.as_slice(), block_size, out)?;
-    put_lent_section(alloc, parts.objects.as_slice(), block_size, out)?;
+    put_section(alloc, parts.shared.as_slice(), block_size, out)?;
+    put_section(alloc, parts.subjects.as_slice(), block_size, out)?;
+    put_section(alloc, parts.predicates.as_slice(), block_size, out)?;
+    put_section(alloc, parts.objects.as_slice(), block_size, out)?;
     Ok(())
-}
-
-/// Appends the canonical dictionary of borrowed strings, as [`put_dictionary`] does.
-pub fn put_lent_dictionary(
-    alloc: Global,
-    parts: &LentParts<'_>,
-    block_size: u32,
-    out: &mut Vec<u8>,
-) -> Result<(), AllocError>
-    requires sections { AreSections (lent_lists_of parts.now) }
-    requires block { 1 ≤ block_size }
-    ensures ok { OnOk result (out.new.items ≡ out.old.items ++ canonical_dictionary block_size (lent_lists_of parts.now)) }
-    ensures dictionary { OnOk result (IsDictionary (canonical_dictionary_parts block_size (lent_lists_of parts.now) (length out.old.items)) out.new.items (length out.old.items)) }
-    ensures err { OnErr result (out.new.items ≡ out.old.items) }
-{
-    let start = out.len();
-    let appended = append_dictionary(alloc, parts, block_size, out);
-    cut_on_error(appended, start, out)
 }
 
 /// Appends the canonical dictionary of four sections: control information with the property `mapping=1;`, and the
@@ -55,7 +37,6 @@ pub fn put_lent_dictionary(
 ///
 /// The strings of each list must be UTF-8 without zero bytes and strictly ascend, and none may be in two of shared,
 /// subjects and objects: as [`split`](crate::split) returns them.
-#[tactic(auto, unfolding(crate::specs::Split::lent_lists_of, crate::specs::Split::lists_of))]
 pub fn put_dictionary(
     alloc: Global,
     parts: &Parts,
@@ -69,13 +50,9 @@ pub fn put_dictionary(
     ensures dictionary { OnOk result (IsDictionary (canonical_dictionary_parts block_size (lists_of parts.now) (length out.old.items)) out.new.items (length out.old.items)) }
     ensures err { OnErr result (out.new.items ≡ out.old.items) }
 {
-    let lent = LentParts {
-        shared: lent_strings(alloc, parts.shared.as_slice())?,
-        subjects: lent_strings(alloc, parts.subjects.as_slice())?,
-        predicates: lent_strings(alloc, parts.predicates.as_slice())?,
-        objects: lent_strings(alloc, parts.objects.as_slice())?,
-    };
-    put_lent_dictionary(alloc, &lent, block_size, out)
+    let start = out.len();
+    let appended = append_dictionary(alloc, parts, block_size, out);
+    cut_on_error(appended, start, out)
 }
 
 /// Appends a dictionary of section writers; an error may leave its first bytes.

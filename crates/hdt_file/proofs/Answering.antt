@@ -149,9 +149,6 @@ is_part xs (Some x) n within h = has_string xs n within ∙ ap Some (sym ((bytes
 
 -- ---- a triple
 
-in_role : (g : GraphParts) (t : Triple) → IsInRange (counts_of g.dictionary) t → IsFrom1 t.0 (length (strings_in g.dictionary Subject)) × IsFrom1 t.1 (length (strings_in g.dictionary Predicate)) × IsFrom1 t.2 (length (strings_in g.dictionary Object))
-in_role g t range = range
-
 triple_agrees : (g : GraphParts) → IsGraph g → (given : List (Option Lent)) (p : Pattern) → IsPattern g given p → (t : Triple) → IsInRange (counts_of g.dictionary) t → agrees p t ≡ is_wanted given (strings_for g t)
 triple_agrees g is given p wants t range =
     let s = part_agrees (strings_in g.dictionary Subject) (role_once g is Subject) (part_given given 0) p.s t.0 wants.subject range.0 in

@@ -43,11 +43,6 @@ pub no_term : (role : Role) (string piece : List ℕ) → length piece ≡ 0 →
 no_term role string piece e (inl h) = absurd (some_behind role (omega (arith, e, ap length h.2, length-append (written h.0) (behind role))))
 no_term role string piece e (inr h) = h.1
 
--- a piece of some bytes is that of a term
-pub piece_appended : (role : Role) (string piece old new : List ℕ) → (length piece ≡ 0 → ⊥) → IsLinePiece role string piece → new ≡ old ++ piece → AppendsPiece role string old new
-piece_appended role string piece old new some (inl h) e = record { term = h.0; is = h.1; grown = e ∙ ap (λ (x : List ℕ). old ++ x) h.2 }
-piece_appended role string piece old new some (inr h) e = absurd (some (ap length h.0))
-
 -- the piece of string n, where its number is marked; the numbers of the strings go on from m
 at_from : (role : Role) (marks : List Bool) (m : ℕ) (strings pieces : List (List ℕ)) (i : ℕ) → AreLinePieces role marks m strings pieces → is_marked marks (m + i) ≡ true
     → IsLinePiece role (unwrap_or (numbered strings (suc i)) []) (piece_in pieces (suc i))

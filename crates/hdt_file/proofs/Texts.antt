@@ -151,10 +151,6 @@ pub none_left : (ts : List Triple) → length ts ≡ 0 → ts ≡ []
 none_left [] h = refl
 none_left (t ∷ ts) h = absurd (omega (arith, h))
 
--- what is appended to nothing is the text
-pub whole_text : (g : GraphParts) (ts : List Triple) (text : List ℕ) → AppendsText g ts [] text → IsTextOf (denoted g ts) text
-whole_text g ts text a = subst (IsTextOf (denoted g ts)) (sym a.grown) a.is
-
 -- where nothing is asked for the text is empty
 pub nothing_asked : (g : GraphParts) (pattern : Option Pattern) (most : Option ℕ) (text : List ℕ) → ((p : Pattern) → pattern ≡ Some p → ⊥) → AppendsText g (limited most (chosen g pattern)) text text
 nothing_asked g (Some p) most text none = absurd (none p refl)

@@ -21,7 +21,7 @@ use std::alloc::{AllocError, Global};
 /// ```text
 /// let layout = Layout::read(alloc, bytes)?;
 /// let subjects = layout.count(Role::Subject);
-/// let text = layout_text(alloc, &layout, Some(pattern))?;
+/// let text = layout_text(alloc, &layout, Some(pattern), None)?;
 /// ```
 #[derive(Clone, Copy)]
 pub struct Layout<'a> {

@@ -19,7 +19,7 @@
 //!
 //! // a single request, for which no index is built
 //! let layout = Layout::read(alloc, bytes)?;
-//! let text = layout_text(alloc, &layout, layout.pattern([Some(b"http://a/"), None, None], &mut Steps::new()))?;
+//! let text = layout_text(alloc, &layout, layout.pattern([Some(b"http://a/"), None, None], &mut Steps::new()), None)?;
 //! ```
 #![tactic(auto)]
 
@@ -47,7 +47,7 @@ pub use opening::{layouts_are_graphs, one_layout, open, verify};
 pub use search_laws::{answers_are_the_wanted, denoted_once};
 pub use spelling::Speller;
 pub use text::{
-    append_graph_text, graph_text, graph_text_up_to, layout_text, layout_text_up_to, write_graph,
+    append_graph_text, graph_text, layout_text, write_graph,
 };
 pub use text_laws::{one_text, text_is_a_document};
 pub use tight::{one_tight_layout, open_tight, verify_tight};

@@ -298,27 +298,13 @@ pub fn graph_text(
     ensures ok { IfOk result (λ text. IsTextOf (denoted (graph_seen graph.now) (chosen (graph_seen graph.now) pattern)) text.items) }
     ensures err { IfErr result (TellsFirstIn (graph_seen graph.now) (chosen (graph_seen graph.now) pattern)) }
 {
-    graph_text_up_to(alloc, graph, pattern, None)
-}
-
-/// Returns the text of the first `most` matches, or of all of them, as [`graph_text`] does. Later matches are not
-/// searched.
-pub fn graph_text_up_to(
-    alloc: Global,
-    graph: &Graph<'_>,
-    pattern: Option<Pattern>,
-    most: Option<u64>,
-) -> Result<Vec<u8>, DumpFault>
-    ensures ok { IfOk result (λ text. IsTextOf (denoted (graph_seen graph.now) (limited most (chosen (graph_seen graph.now) pattern))) text.items) }
-    ensures err { IfErr result (TellsFirstIn (graph_seen graph.now) (limited most (chosen (graph_seen graph.now) pattern))) }
-{
     match pattern {
-        Some(pattern) => found_text(alloc, &graph.layout(), graph.search(pattern), most),
+        Some(pattern) => found_text(alloc, &graph.layout(), graph.search(pattern), None),
         None => Ok(Vec::new(alloc)),
     }
 }
 
-/// Appends the same text, using a speller that is new or was used only for this graph: one speller for many texts
+/// Appends the text of the first `most` matches, or of all of them, using a speller that is new or was used only for this graph: one speller for many texts
 /// decodes frequent predicates only once. [`Speller::keeping`] says how much it keeps. After an error it can still be
 /// used, and `out` is unchanged.
 pub fn append_graph_text(
@@ -349,20 +335,8 @@ pub fn append_graph_text(
     )
 }
 
-/// Returns the text of a layout's matches, as [`graph_text`] does. It scans all triples.
+/// Returns the text of the first `most` matches of a layout, or of all of them, as [`graph_text`] does. It scans the triples.
 pub fn layout_text(
-    alloc: Global,
-    layout: &Layout<'_>,
-    pattern: Option<Pattern>,
-) -> Result<Vec<u8>, DumpFault>
-    ensures ok { IfOk result (λ text. IsTextOf (denoted (layout_seen layout.now) (chosen (layout_seen layout.now) pattern)) text.items) }
-    ensures err { IfErr result (TellsFirstIn (layout_seen layout.now) (chosen (layout_seen layout.now) pattern)) }
-{
-    layout_text_up_to(alloc, layout, pattern, None)
-}
-
-/// Returns the text of a layout's first matches, as [`graph_text_up_to`] does. It scans the triples.
-pub fn layout_text_up_to(
     alloc: Global,
     layout: &Layout<'_>,
     pattern: Option<Pattern>,

@@ -54,4 +54,4 @@ pub use section::Section;
 pub use section_writer::SectionWriter;
 pub use seeker::Seeker;
 pub use walk::Walk;
-pub use writing::{lent_strings, put_lent_section, put_section};
+pub use writing::{lent_strings, put_section};

@@ -7,7 +7,7 @@ use crate::section_writer::SectionWriter;
 use std::alloc::{AllocError, Global};
 
 /// Appends the canonical section of borrowed strings, as [`put_section`].
-pub fn put_lent_section(
+fn put_lent_section(
     alloc: Global,
     strings: &[&[u8]],
     block_size: u32,

@@ -3,8 +3,7 @@
 use crate::faults::say_dump_fault;
 use crate::open::{graph_of, layout_of};
 use hdt_file::{
-    DumpFault, Graph, Speller, append_graph_text, graph_text, graph_text_up_to, layout_text,
-    layout_text_up_to, write_graph,
+    DumpFault, Graph, Speller, append_graph_text, graph_text, layout_text, write_graph,
 };
 use hdt_probe::{Ask, Say, role_number};
 use hdt_triples::Pattern;
@@ -12,15 +11,13 @@ use std::alloc::AllocError;
 
 /// The words, each with the count of its arguments.
 pub const WORDS: &str =
-    "graph_text 1+ layout_text 1+ graph_text_up_to 2+ layout_text_up_to 2+ append_graph_text 1+ write_graph 3+";
+    "graph_text 1+ layout_text 2+ append_graph_text 1+ write_graph 3+";
 
 /// Answers a request of one of these words.
 pub fn answer(word: &str, ask: &mut Ask<'_>, say: &mut Say) -> bool {
     match word {
         "graph_text" => say_graph_text(ask, say),
         "layout_text" => say_layout_text(ask, say),
-        "graph_text_up_to" => say_graph_text_up_to(ask, say),
-        "layout_text_up_to" => say_layout_text_up_to(ask, say),
         "append_graph_text" => say_append_graph_text(ask, say),
         "write_graph" => say_write_graph(ask, say),
         _ => return false,
@@ -53,24 +50,9 @@ fn say_graph_text(ask: &mut Ask<'_>, say: &mut Say) {
 
 fn say_layout_text(ask: &mut Ask<'_>, say: &mut Say) {
     if let Some(layout) = layout_of(ask, say) {
-        let pattern = whole_of(ask);
-        say_text(layout_text(ask.alloc, &layout, pattern), say)
-    }
-}
-
-fn say_graph_text_up_to(ask: &mut Ask<'_>, say: &mut Say) {
-    if let Some(graph) = graph_of(ask, say) {
         let most = ask.maybe();
         let pattern = whole_of(ask);
-        say_text(graph_text_up_to(ask.alloc, &graph, pattern, most), say)
-    }
-}
-
-fn say_layout_text_up_to(ask: &mut Ask<'_>, say: &mut Say) {
-    if let Some(layout) = layout_of(ask, say) {
-        let most = ask.maybe();
-        let pattern = whole_of(ask);
-        say_text(layout_text_up_to(ask.alloc, &layout, pattern, most), say)
+        say_text(layout_text(ask.alloc, &layout, pattern, most), say)
     }
 }
 

@@ -17,15 +17,11 @@ pub fn answer(word: &str, ask: &mut Ask<'_>, say: &mut Say) -> bool {
     true
 }
 
-/// How many strings an arena has, and its strings, one by one and lent together.
-fn say_strings(arena: &Arena, ask: &Ask<'_>, say: &mut Say) {
+/// The number of strings of an arena, and its strings.
+fn say_strings(arena: &Arena, say: &mut Say) {
     say.size(arena.len());
     for at in 0..arena.len() {
         say.bytes(arena.get(at));
-    }
-    match arena.slices(ask.alloc) {
-        Ok(slices) => say.strings(&slices),
-        Err(_) => say.no_memory(),
     }
 }
 
@@ -46,7 +42,7 @@ fn say_arena(ask: &mut Ask<'_>, say: &mut Say) {
             say.no_memory();
         }
     }
-    say_strings(&arena, ask, say)
+    say_strings(&arena, say)
 }
 
 /// An arena of strings that are put one behind another, and of where each begins.
@@ -64,7 +60,7 @@ fn arena_of(alloc: Global, strings: &[Vec<u8>]) -> Result<Arena, AllocError> {
 fn say_arena_of(ask: &mut Ask<'_>, say: &mut Say) {
     let strings = ask.strings(u64::MAX);
     match arena_of(ask.alloc, &strings) {
-        Ok(arena) => say_strings(&arena, ask, say),
+        Ok(arena) => say_strings(&arena, say),
         Err(AllocError) => say.no_memory(),
     }
 }

@@ -1,21 +1,18 @@
 //! Calls of hdt_front: sections that are written.
 
 use crate::wire::has_no_zero;
-use hdt_front::{
-    SectionWriter, are_strings, common_prefix, lent_strings, put_lent_section, put_section,
-};
+use hdt_front::{SectionWriter, are_strings, common_prefix, lent_strings, put_section};
 use hdt_probe::{Ask, Say};
 use std::alloc::{AllocError, Global};
 
 /// The words, each with the count of its arguments.
 pub const WORDS: &str =
-    "put_section 2+ put_lent_section 2+ write_section 2+ write_section_agreeing 2+ section_writer 1+";
+    "put_section 2+ write_section 2+ write_section_agreeing 2+ section_writer 1+";
 
 /// Answers a request of one of these words.
 pub fn answer(word: &str, ask: &mut Ask<'_>, say: &mut Say) -> bool {
     match word {
         "put_section" => say_put_section(ask, say),
-        "put_lent_section" => say_put_lent_section(ask, say),
         "write_section" => say_write_section(ask, say, false),
         "write_section_agreeing" => say_write_section(ask, say, true),
         "section_writer" => say_section_writer(ask, say),
@@ -35,20 +32,6 @@ fn say_put_section(ask: &mut Ask<'_>, say: &mut Say) {
         return say.refused();
     }
     let done = put_section(ask.alloc, &strings, block_size, &mut bytes);
-    say.appended(done, &bytes)
-}
-
-fn say_put_lent_section(ask: &mut Ask<'_>, say: &mut Say) {
-    let mut bytes = ask.bytes();
-    let block_size = ask.number32();
-    let strings = ask.strings(u64::MAX);
-    let Ok(lent) = lent_strings(ask.alloc, &strings) else {
-        return say.no_memory();
-    };
-    if block_size == 0 || !are_strings(&lent) {
-        return say.refused();
-    }
-    let done = put_lent_section(ask.alloc, &lent, block_size, &mut bytes);
     say.appended(done, &bytes)
 }
 

@@ -3,12 +3,12 @@
 use crate::faults::say_line_fault;
 use crate::terms::say_string_of;
 use hdt_probe::{Ask, Say, Source};
-use hdt_terms::{LineFault, Lines, Triple, read_document};
+use hdt_terms::{LineFault, Lines, Triple};
 use hdt_wire::Counted;
 
 /// The words, each with the count of its arguments.
 pub const WORDS: &str =
-    "line_triples 3 line_strings 3 line_texts 3 line_fronts 4 line_calls 4+ document 3";
+    "line_triples 3 line_strings 3 line_texts 3 line_fronts 4 line_calls 4+";
 
 /// Answers a request of one of these words.
 pub fn answer(word: &str, ask: &mut Ask<'_>, say: &mut Say) -> bool {
@@ -18,7 +18,6 @@ pub fn answer(word: &str, ask: &mut Ask<'_>, say: &mut Say) -> bool {
         "line_texts" => say_line_texts(ask, say),
         "line_fronts" => say_line_fronts(ask, say),
         "line_calls" => say_line_calls(ask, say),
-        "document" => say_document(ask, say),
         _ => return false,
     }
     true
@@ -148,7 +147,7 @@ fn say_line_texts(ask: &mut Ask<'_>, say: &mut Say) {
     };
     let mut text = filled(ask);
     for _ in 0..u64::MAX {
-        let end = match lines.next_text(&mut input, &mut text) {
+        let end = match lines.next_front(usize::MAX, &mut input, &mut text) {
             Ok(true) => {
                 say_text(&lines, &text, say);
                 continue;
@@ -156,7 +155,7 @@ fn say_line_texts(ask: &mut Ask<'_>, say: &mut Say) {
             Ok(false) => Ok(()),
             Err(fault) => Err(fault),
         };
-        let again = lines.next_text(&mut input, &mut text);
+        let again = lines.next_front(usize::MAX, &mut input, &mut text);
         say_end(end, again, say);
         break;
     }
@@ -229,7 +228,7 @@ fn say_next_strings(
     say.strings(&[&s, &p, &o])
 }
 
-/// One call of next_text, and what the buffer holds then.
+/// One call of next_front, and what the buffer holds then.
 fn say_next_text(
     lines: &mut Lines,
     input: &mut Counted<Source<'_>>,
@@ -237,7 +236,7 @@ fn say_next_text(
     say: &mut Say,
 ) {
     let mut text = filled(ask);
-    match lines.next_text(input, &mut text) {
+    match lines.next_front(usize::MAX, input, &mut text) {
         Ok(true) => say.word("text"),
         Ok(false) => say.word("end"),
         Err(fault) => {
@@ -262,23 +261,6 @@ fn say_line_calls(ask: &mut Ask<'_>, say: &mut Say) {
             1 => say_next_strings(&mut lines, &mut input, ask, say),
             _ => say_next_text(&mut lines, &mut input, ask, say),
         }
-    }
-    let _left = say.read(input);
-}
-
-fn say_document(ask: &mut Ask<'_>, say: &mut Say) {
-    let limit = ask.number();
-    if limit >= 1 << 63 {
-        return say.refused();
-    }
-    let mut input = ask.source(ask.file);
-    match read_document(ask.alloc, limit, &mut input) {
-        Ok(triples) => {
-            for triple in &triples {
-                say_triple(triple, ask, say);
-            }
-        }
-        Err(fault) => say_line_fault(fault, say),
     }
     let _left = say.read(input);
 }

@@ -4,13 +4,6 @@ use Rattle.hdt_seq.specs.Marks.{marks_before}
 use Rattle.hdt_seq.specs.Laws.Marks.{marks_past}
 use Rattle.hdt_seq.specs.Directory.{AreGroupCounts}
 
--- the group begins at the place less what is inside
-pub group_start : (counts : List ℕ) (bits : List Bool) (i : ℕ) → AreGroupCounts counts bits → i ≤ length bits
-    → (i / 512 < length counts) × (slice_index counts (i / 512) ≡ marks_before bits (i - i % 512))
-group_start counts bits i kept h =
-    let start : 512 * (i / 512) ≡ i - i % 512 = omega arith in
-    (omega (arith, kept.many), kept.each (i / 512) (omega arith) ∙ ap (marks_before bits) start)
-
 -- no more 1-bits past the end
 pub at_end : (bits : List Bool) (i j : ℕ) → (i ≡ j) ⊎ ((length bits ≤ i) × (length bits ≤ j)) → marks_before bits i ≡ marks_before bits j
 at_end bits i j (inl e) = ap (marks_before bits) e

@@ -119,22 +119,6 @@ triple_some text triple h =
       length-append h.before_stop tail,
     )
 
--- before anything is read
-pub memory_first : (fault : LineFault) (limit : ℕ) (all : Option (List ℕ)) → fault ≡ record { line = 1; column = 0; reason = OutOfMemory } → FaultInDocument fault limit all all
-memory_first fault limit all is = subst (λ (f : LineFault). FaultInDocument f limit all all) (sym is) (record {
-  front = [];
-  lines = [];
-  rest = all;
-  ended = refl;
-  consumed = kept all;
-  line = refl;
-  fault_is = (refl, inl ([], λ k d lt. absurd (omega (arith, lt)), kept all, omega arith));
-})
-  where
-    kept : (all : Option (List ℕ)) → Consumes all all []
-    kept None = tt
-    kept (Some x) = refl
-
 taken_first : (mid after : Option (List ℕ)) (a b : List ℕ) → Consumes mid after (a ++ b) → Consumes mid (prepend_known b after) a
 taken_first None after a b h = tt
 taken_first (Some x) None a b h = absurd h
@@ -177,9 +161,3 @@ module _ (s new : State) (mid after given : Option (List ℕ)) (triple : Triple)
     line = line_is;
     fault_is = (refl, inr (t.4.0, t.4.2, triple_not_bare t.4.0 triple t.4.1.1, whole));
   }
-
--- in that line
-pub memory_behind : (fault : LineFault) (limit : ℕ) (s new : State) (all mid after given : Option (List ℕ)) (triples : List Triple) (triple : Triple) → Ran limit s all mid triples → TakesTriple s new mid after triple
-    → fault ≡ record { line = line_number new; column = 0; reason = OutOfMemory } → FaultInDocument fault limit all given
-memory_behind fault limit s new all mid after given triples triple r t is =
-    fault_behind fault limit s all mid given triples r (subst (λ (f : LineFault). FaultIsAhead f s mid given) (sym is) (memory_stands s new mid after given triple t))

@@ -161,14 +161,6 @@ stands_unread TooLong held new given given' taken limit le p =
       ),
     )
 
--- the same of any next line
-pub next_unread : (r : LineReason) (held new : List ℕ) (given given' : Option (List ℕ)) (taken limit : ℕ) → taken ≤ limit → Filled (Err r) held new given given' (limit - taken)
-    → StandsUnread r taken limit (prepend_known held given) given'
-next_unread Read held new given given' taken limit le p = stands_unread Read held new given given' taken limit le p
-next_unread TooLong held new given given' taken limit le p = stands_unread TooLong held new given given' taken limit le p
-next_unread OutOfMemory held new given given' taken limit le p = tt
-next_unread other held new given given' taken limit le p = absurd p
-
 -- the error of a line that is not bare
 pub stands_in_triple : (r : LineReason) (column taken limit : ℕ) (before given : Option (List ℕ)) (text : List ℕ) → IsUtf8 text → is_bare text ≡ false → NoEnd text → WholeLine taken limit before text
     → FaultOfTriple r column text → StandsInLine r column taken limit before given
@@ -201,13 +193,6 @@ line_held : (s held new : State) (given given' : Option (List ℕ)) (n most : �
 line_held s held new given given' n most filled others within going is =
     subst (λ (t : State). LineTaken s t (take n held.held) (left s given) (left t given')) (sym (is ∙ ap (λ (x : State). take_line x n) others))
     (line_taken s held.held n given given' filled.0 filled.1 within going)
-
--- its text
-pub text_taken : (s held new : State) (given given' : Option (List ℕ)) (n most : ℕ) (text : List ℕ) → Filled (Ok n) s.held held.held given given' most → held ≡ record s { held = held.held }
-    → s.taken + length held.held ≤ s.limit → s.ended ≡ false → new ≡ take_line held n → text ≡ take n held.held → TakesText s new (left s given) (left new given') text
-text_taken s held new given given' n most text filled others within going is e =
-    subst (TakesText s new (left s given) (left new given')) (sym e)
-    (let t = line_held s held new given given' n most filled others within going is in (t.bytes, t.takes, t.is))
 
 module _ (a s held new : State) (before given given' : Option (List ℕ)) (n most : ℕ) (front : List ℕ) (takes : Takes a s before (left s given) front) (bare : BareLines front)
     (filled : Filled (Ok n) s.held held.held given given' most) (others : held ≡ record s { held = held.held }) (within : s.taken + length held.held ≤ s.limit) where

@@ -35,12 +35,6 @@ pub record StandsNext (fault : LineFault) (old : State) (before given : Option (
   pub column : fault.column ≡ 0
   pub fault_is : StandsUnread fault.reason old.taken old.limit before given
 
--- The text of the next line, or why it can't be had; a reader that has not ended has a next line.
-abbrev pub AnswersText : Result Bool LineFault → List ℕ → State → State → Option (List ℕ) → Option (List ℕ) → Option (List ℕ) → Type 0
-AnswersText (Ok true) text old new before after given = TakesText old new before after text
-AnswersText (Ok false) text old new before after given = ⊥
-AnswersText (Err fault) text old new before after given = StandsNext fault old before given
-
 -- The same of at most so many bytes of the front of its text.
 abbrev pub AnswersFront : Result Bool LineFault → ℕ → List ℕ → State → State → Option (List ℕ) → Option (List ℕ) → Option (List ℕ) → Type 0
 AnswersFront (Ok true) most front old new before after given = TakesFront most old new before after front

@@ -32,7 +32,6 @@
 mod buffer;
 mod chars;
 mod dictionary;
-mod document;
 mod encoding;
 mod fault;
 mod filling;
@@ -55,7 +54,6 @@ mod term;
 mod text;
 mod triple;
 
-pub use document::read_document;
 pub use fault::{LineFault, LineReason, StringFault, TermFault};
 pub use iri::is_iri;
 pub use laws::{

@@ -54,7 +54,7 @@ impl Model for Lines {
 
 impl Lines {
     ghost use Rattle.hdt_terms.specs.LineReading.{is_bare};
-    ghost use Rattle.hdt_terms.specs.TakingText.{TakesText, TakesFront, StandsNext, AnswersFront, AnswersText, NoText};
+    ghost use Rattle.hdt_terms.specs.TakingText.{TakesFront, StandsNext, AnswersFront, NoText};
     ghost use Rattle.hdt_terms.specs.Taking.{HoldsLine, State, start, left, line_number, take_of, take_line, Looked, Parsed, ParsedStrings, FindsLine, TakesNext, AnswersStrings, NoStrings};
 
     /// A reader of lines that has taken nothing. The input may have so many bytes at most: where it has more,
@@ -93,7 +93,7 @@ impl Lines {
         first_line(&mut self.held, most, input)
     }
 
-    /// Whether a line is held with its end: then the next call of [`Lines::next_text`] reads nothing, so it waits for no one. Time
+    /// Whether a line is held with its end: then the next call of [`Lines::next_front`] reads nothing, so it waits for no one. Time
     /// is in proportion to that line, or to what is held.
     pub fn holds_line(&self) -> bool
         ensures yes { result ≡ true → HoldsLine self.now }
@@ -391,82 +391,6 @@ impl Lines {
         }
     }
 
-    /// Takes the next line, and puts its text into the buffer, which is empty.
-    fn take_text<R: Read>(
-        &mut self,
-        input: &mut Counted<R>,
-        text: &mut Vec<u8>,
-    ) -> Result<(), LineFault>
-        requires going { self.old.ended ≡ false }
-        requires empty { text.old.items ≡ [] }
-        ensures does { OnOk result (TakesText self.old self.new (left self.old (R.remaining (inner input.old)))
-            (left self.new (R.remaining (inner input.new))) text.new.items) }
-        ensures fault { IfErr result (λ f. StandsNext f self.old (left self.old (R.remaining (inner input.old))) (R.remaining (inner input.new))) }
-        ensures none { OnErr result (text.new.items ≡ []) }
-        ensures unread { HoldsLine self.old → input.new ≡ input.old }
-        ensures count { OnOk result (failures input.new ≡ failures input.old) }
-        ensures failed { IfErr result (λ f. f.reason ≡ Read → failures input.new ≡ failures input.old + 1) }
-        ensures still { IfErr result (λ f. f.reason ≢ Read → failures input.new ≡ failures input.old) }
-    {
-        let (n, _) = match self.hold_line(input) {
-            Ok(found) => found,
-            Err(reason) => return Err(self.fault(0, reason)),
-        };
-        match text.extend_from_slice(&self.held.as_slice()[..n]) {
-            Ok(()) => {}
-            Err(AllocError) => return Err(self.fault(0, LineReason::OutOfMemory)),
-        }
-        self.take(n);
-        Ok(())
-    }
-
-    /// Whether there is a next line. Its text, without its end, then stands in the buffer, whatever it is; where there is none
-    /// the buffer is empty. The last line is what follows the last line end, and may be empty.
-    ///
-    /// # Errors
-    ///
-    /// [`LineReason::Read`] where the reader failed in this call, [`LineReason::TooLong`] where the input has more bytes than
-    /// the limit and the line has no end within it, [`LineReason::OutOfMemory`] only where memory was refused. The fault is
-    /// answered again by every later call, and nothing more is read.
-    pub fn next_text<R: Read>(
-        &mut self,
-        input: &mut Counted<R>,
-        text: &mut Vec<u8>,
-    ) -> Result<bool, LineFault>
-        // A fault is answered again, and nothing is read or taken.
-        ensures repeated { IfSome self.old.failed (λ f. (result ≡ Err f) × (self.new ≡ self.old) × (input.new ≡ input.old)) }
-        // So is the end.
-        ensures ended { self.old.failed ≡ None → self.old.ended ≡ true →
-            (result ≡ Ok false) × (self.new ≡ self.old) × (input.new ≡ input.old) }
-        // Until then the answer is that of what is left of the input.
-        ensures answers { self.old.failed ≡ None → self.old.ended ≡ false →
-            AnswersText result text.new.items self.old self.new (left self.old (R.remaining (inner input.old)))
-            (left self.new (R.remaining (inner input.new))) (R.remaining (inner input.new)) }
-        ensures none { NoText result text.new.items }
-        // Where a line is held with its end, nothing is read.
-        ensures unread { HoldsLine self.old → input.new ≡ input.old }
-        ensures fault { IfErr result (λ f. self.new.failed ≡ Some f) }
-        // The reader failed in this call at a fault that says so, and at no other answer.
-        ensures read { self.old.failed ≡ None → IfErr result (λ f. f.reason ≡ Read → failures input.new ≡ failures input.old + 1) }
-        ensures still { IfErr result (λ f. f.reason ≢ Read → failures input.new ≡ failures input.old) }
-        ensures count { OnOk result (failures input.new ≡ failures input.old) }
-    {
-        text.clear();
-        if let Some(fault) = self.failed {
-            return Err(fault);
-        }
-        if self.ended {
-            return Ok(false);
-        }
-        match self.take_text(input, text) {
-            Ok(()) => Ok(true),
-            Err(fault) => {
-                self.failed = Some(fault);
-                Err(fault)
-            }
-        }
-    }
-
     /// Notes that the input has ended.
     fn end(&mut self)
         ensures { self.new ≡ record self.old { ended = true } }
@@ -540,13 +464,16 @@ impl Lines {
         }
     }
 
-    /// Whether there is a next line, as [`Lines::next_text`]. At most so many bytes of its text, the first ones, then stand in the buffer;
-    /// the others are passed over. Time is in proportion to the line, memory to the bytes in the buffer: what is held of the input doesn't
-    /// grow, however long the line is.
+    /// Takes the next line, and returns whether there is one. The first bytes of its text, at most `most`, are then in the
+    /// buffer, whatever they are, without its line end; the others are passed over. If there is no line, the buffer is empty.
+    /// The last line is what follows the last line end, and may be empty. Linear time in the line; memory for the bytes in
+    /// the buffer: what is held of the input does not grow, however long the line is.
     ///
     /// # Errors
     ///
-    /// As [`Lines::next_text`].
+    /// [`LineReason::Read`] if the reader failed in this call; [`LineReason::TooLong`] if the input has more bytes than the
+    /// limit and the line has no end within it; [`LineReason::OutOfMemory`]. Later calls return the same error and read
+    /// nothing.
     pub fn next_front<R: Read>(
         &mut self,
         most: usize,

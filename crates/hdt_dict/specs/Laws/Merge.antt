@@ -19,11 +19,6 @@ use Rattle.hdt_front.specs.Canonical.{lent_texts}
 use Rattle.hdt_dict.specs.Strings.{Lent, has, FirstBelow}
 use Rattle.hdt_front.specs.Order.{IsAscending, string_cmp}
 
-pub Less-from_is_lt : (o : Ordering) → is_lt o ≡ true → o ≡ Less
-Less-from_is_lt Less h = refl
-Less-from_is_lt Equal h = cc
-Less-from_is_lt Greater h = cc
-
 pub not_Less : (o : Ordering) → is_lt o ≡ false → o ≢ Less
 not_Less Less h = λ e. cc
 not_Less Equal h = λ e. cc
@@ -69,12 +64,6 @@ pub below_or : (z x y : List ℕ) (o : Ordering) → string_cmp x y ≡ o → st
 below_or z x y Less e less up = nat_list_cmp_total.trans z x y less e
 below_or z x y Equal e less up = ap (string_cmp z) (sym (exact_bytes x y e)) ∙ less
 below_or z x y Greater e less up = absurd (up (nat_list_cmp_total.antisymm y x ∙ ap ordering_reverse e))
-
--- what is below a string is below one that isn't less
-pub passes_to : (ys : List (List ℕ)) (at : ℕ) (x y : List ℕ) → FirstBelow ys at x → at ≤ length ys → string_cmp y x ≢ Less → FirstBelow ys at y
-passes_to ys at x y below within up k lt =
-    let same = get_or_default ys k x y (omega arith) in
-    below_or (get_or ys k y) x y (string_cmp x y) refl (ap (λ z. string_cmp z x) (sym same) ∙ below k lt) up
 
 -- a loop's step: the string at i passes, and goes to the end of what was kept, or doesn't
 module _ (p : List ℕ → Bool) (vs ws : List Lent) (i : ℕ) (e : Lent) (below : i < length vs) (front : lent_texts ws ≡ filter p (take i (lent_texts vs))) where

@@ -52,23 +52,6 @@ little_small (b ∷ bs) (suc k) small fits =
 pub mod_less : (n j k : ℕ) → k ≤ j → n % 2 ^ j % 2 ^ k ≡ n % 2 ^ k
 mod_less n j k h = ap (λ m. n % 2 ^ m % 2 ^ k) (let e : j ≡ (j - k) + k = omega arith in e) ∙ mod-mod-pow n (j - k) k
 
--- the nine bytes from the first one on hold the bits whole
-pub bits_of_window : (bytes near : List ℕ) (w at first : ℕ) → IsBytes bytes → near ≡ take 9 (drop first bytes) → w ≤ 64
-    → first ≡ at / 8 → little near / 2 ^ (at % 8) % 2 ^ w ≡ little bytes / 2 ^ at % 2 ^ w
-bits_of_window bytes near w at first small near_is narrow first_is =
-    let s : ℕ = at % 8 in
-    let s_small : s < 8 = mod_below at 8 (omega arith) in
-    let joined : little near ≡ little bytes / 2 ^ (8 * first) % 2 ^ 72 =
-    ap little near_is ∙ little-take (drop first bytes) 9 (IsBytes-drop first bytes small) ∙ ap (λ n. n % 2 ^ 72) (little-drop bytes first small) in
-    let m : ℕ = little bytes / 2 ^ (8 * first) in
-    let split : 72 ≡ (72 - s) + s = omega arith in
-    let whole : 8 * first + s ≡ at = omega arith in
-    ap (λ n. n / 2 ^ s % 2 ^ w) (joined ∙ ap (λ n. m % 2 ^ n) split)
-    ∙ ap (λ n. n % 2 ^ w) (field_of m (72 - s) s)
-    ∙ mod_less (m / 2 ^ s) (72 - s) w (omega arith)
-    ∙ ap (λ n. n % 2 ^ w) (shr-shr (little bytes) (8 * first) s)
-    ∙ ap (λ n. little bytes / 2 ^ n % 2 ^ w) whole
-
 pub rest_whole : (first : ℕ) (bytes : List ℕ) → take (length bytes - first) (drop first bytes) ≡ drop first bytes
 rest_whole first bytes = grind (arith, common_steps)
 

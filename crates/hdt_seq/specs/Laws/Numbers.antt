@@ -19,13 +19,6 @@ pub numbers_get : (s : Numbers) (i : ℕ) → i < length (numbers_of s) → get_
 unfolding numbers_of
 numbers_get s i lt = get_or-entries s.packed.now s.width s.count i (omega (arith, length-entries s.packed.now s.width s.count, lt))
 
--- and below 2 ^ 64
-pub number_below : (s : Numbers) (i : ℕ) → i < length (numbers_of s) → get_or (numbers_of s) i 0 < 2 ^ 64
-number_below s i lt =
-    let small = entry_fits s.packed.now s.width i in
-    let most : 2 ^ s.width ≤ 2 ^ 64 = pow-le-pow_right (omega arith) s.narrow in
-    omega (arith, numbers_get s i lt, small, most)
-
 -- an entry begins within the packed bytes
 pub number_within : (s : Numbers) (i : ℕ) → i < length (numbers_of s) → s.width * i ≤ 8 * length s.packed.now
 number_within s i lt =

@@ -16,14 +16,6 @@ number_exact bytes at fits = record {
   only = λ x h. vbyte_only bytes at x.0 x.1 h.below h.spelled;
 }
 
--- so many bytes
-pub bytes_exact : (count : ℕ) (bytes : List ℕ) (at : ℕ) → Exactly (bytes_at count bytes at) (λ x. Stands bytes at x.0 x.1 × (length x.0 ≡ count))
-bytes_exact count bytes at = record { found = bytes_found count bytes at; only = λ x h. bytes_only count bytes at x.0 x.1 h.0 h.1 }
-
--- a text, which has no zero byte, and the zero byte that ends it
-pub text_exact : (bytes : List ℕ) (at : ℕ) → Exactly (text_at bytes at) (λ x. Stands bytes at (x.0 ++ 0 ∷ []) x.1 × All (λ b. b ≢ 0) x.0)
-text_exact bytes at = record { found = text_found bytes at; only = λ x h. text_only bytes at x.0 x.1 h.0 h.1 }
-
 block_is : (kind : Kind) (bytes : List ℕ) (at : ℕ) (block : Block) → IsBlock kind block bytes at → block_at kind block.properties at block.end ≡ block
 block_is kind bytes at block h =
     ap (λ (f : List ℕ). record { format = f; properties = block.properties; properties_at = (block_at kind block.properties at block.end).properties_at; end = block.end }) (sym h.format)

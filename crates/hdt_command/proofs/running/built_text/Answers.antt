@@ -11,5 +11,5 @@ pub returns-clause-ok : goal.returns-clause-ok
 returns-clause-ok g c = record {
   built = c.in_ok-bytes.bytes.items;
   yields = record { report = c.in_ok-bytes.report; file = c.in_ok-bytes.ensures.found; printed = c.in_ok-text.ensures };
-  made = c.in_ok-append.ensures.items;
+  made = c.in_ok-append_file.ensures.items;
 }

@@ -21,5 +21,5 @@ returns-clause-ok c = (
     file = c.in_ok-file.ensures.made;
     printed = c.in_ok-text.ensures;
   },
-  c.in_ok-append.ensures.items,
+  c.in_ok-append_file.ensures.items,
 )
