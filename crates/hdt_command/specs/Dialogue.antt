@@ -103,8 +103,8 @@ abbrev pub AnswersFound : Form → GraphParts → List Triple → Bool → List 
 AnswersFound form g found false answer = AnswersTriples form g found answer
 AnswersFound form g found true answer = TellsNoTerm form g found answer
 
--- The answer to the request in line n: empty for a blank line or a comment, a comment for an error, or the first
--- matches.
+-- The answer to the request in line n: empty for a blank line or a comment, a comment for an error, or the matches up
+-- to the limit.
 abbrev pub AnswersRead : GraphParts → Asking → ℕ → Result (Option Wanted) TermFault → Bool → List ℕ → Type 0
 AnswersRead g asking n (Ok None) faulty answer = (faulty ≡ false) × (answer ≡ [])
 AnswersRead g asking n (Ok (Some wanted)) faulty answer = (found : List Triple) × FindsStrings g wanted found × AnswersFound asking.form g (limited asking.most found) faulty answer
