@@ -1,9 +1,9 @@
 //! The command `hdt`: parses arguments, runs a command, prints one line if it fails, and returns the exit status. The
 //! program itself, hdt_tool, is one call of `process_status`.
 //!
-//! Contracts: the output of `run`, `run_in`, `answer_file` and `answer_requests` is a stated function of the input, and
-//! an error that they return is the first one in the input. `status_of` calls them over files and streams, and its
-//! contract states the exit status.
+//! Contracts: the output of `run`, `run_in`, `answer_file` and `answer_requests` is a stated function of the
+//! input, and an error that they return is the first one in the input. `status_of` calls them over files and streams,
+//! and its contract states the exit status.
 //!
 //! Functions that state no cost take time and memory linear in their arguments.
 //!

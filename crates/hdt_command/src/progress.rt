@@ -72,8 +72,8 @@ impl<R: Read, W: Write + Drop> Watched<R, W> {
         }
     }
 
-    /// Counts bytes read into a buffer of `room` bytes, and writes a line if one is due. After the end nothing more is
-    /// reported.
+    /// Counts bytes read into a buffer of `room` bytes, and writes a line if one is due. Nothing is reported
+    /// after the end.
     fn count(&mut self, bytes: usize, room: usize)
         ensures { self.new.input ≡ self.old.input }
     {

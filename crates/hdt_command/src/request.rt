@@ -62,7 +62,7 @@ pub enum Action {
     Answer(Asking),
     /// Builds an HDT file from an N-Triples document, and prints the counts of its parts.
     Build(Options),
-    /// Rewrites a file in canonical form with this block size, and prints the counts of its parts.
+    /// Writes the canonical file of a file's triples, with this block size, and prints the counts of its parts.
     Rewrite(u32),
 }
 

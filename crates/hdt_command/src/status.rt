@@ -200,7 +200,7 @@ fn in_memory(fault: ToolFault) -> ToolFault
     }
 }
 
-/// Makes the new file of `build` or `rewrite` from the result of opening its input: appends it to `built`, and returns
+/// Builds the new file of `build` or `rewrite` from the result of opening its input: appends it to `built`, and returns
 /// the output line.
 fn made_of<R: Read + Drop>(
     alloc: Global,
