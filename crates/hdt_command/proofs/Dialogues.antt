@@ -1,4 +1,4 @@
--- Answers one behind the other.
+-- Concatenated answers.
 use Rattle.std.proofs.Common.{◌≡◌, ◌≢◌, ℕ, Bool, true, false, cond, ◌||◌, ◌⊎◌, ◌+◌, ◌-◌, List, [], ◌∷◌, ◌++◌, length, Option, None, Some, Result, Ok, Err, refl, sym, ap, subst, ◌∙◌, inl, inr, arith, map, get_or, append_assoc, append-nil, take}
 use Rattle.std.proofs.Math.Bool.{or-false, or_assoc}
 use Rattle.std.proofs.Math.Seq.{take-append-add, take-append_seam}
@@ -22,7 +22,7 @@ use Rattle.hdt_file.specs.File.{GraphParts}
 use Rattle.hdt_command.specs.declared.request.Asking.{Asking}
 use Rattle.hdt_command.specs.Dialogue.{AnswersLine, AnswersLines, AnswersRead, AnswersSome, AreSome, Gone, IsBehind, IsStopFor, IsStopped, Wanted, asked_in, given_of, most_bytes}
 
--- one more answer
+-- One more line and its answer.
 pub lines_on : (g : GraphParts) (asking : Asking) (lines : List (ℕ × List ℕ)) (line : ℕ × List ℕ) (faulty one : Bool) (text answer : List ℕ) → AnswersLines g asking lines faulty text → AnswersLine g asking line one answer
     → AnswersLines g asking (lines ++ line ∷ []) (faulty || one) (text ++ answer)
 lines_on g asking [] line faulty one text answer h a =
@@ -38,7 +38,8 @@ lines_on g asking (first ∷ lines) line faulty one text answer h a = (
   ap (λ t. t ++ answer) h.7 ∙ append_assoc h.1 h.3 answer,
 )
 
--- the front of a line that shows whether it is too long has the answer of the line
+-- One byte more than the maximum length is enough to see that a line is too long: such a prefix has the answer of the
+-- line.
 front_asked : (asking : Asking) (front line : List ℕ) → front ≡ take (asking.longest + 1) line → asked_in asking front ≡ asked_in asking line
 front_asked asking front line is =
     elim (cases_lt asking.longest (length line)) [
@@ -53,7 +54,7 @@ pub front_answered : (g : GraphParts) (asking : Asking) (n : ℕ) (front line : 
 front_answered g asking n front line faulty answer is h =
     subst (λ (r : Result (Option Wanted) TermFault). AnswersRead g asking n r faulty answer) (front_asked asking front line is) h
 
--- what is left of a run
+-- Lines that have been read are the first lines of the input.
 pub gone_some : (s : State) (input mid : Option (List ℕ)) (lines : List (ℕ × List ℕ)) → Gone s input mid lines → AreSome input lines
 gone_some s input mid lines (inl h) = inl (s, mid, h.1)
 gone_some s input mid lines (inr h) = inr h.1
@@ -62,7 +63,7 @@ bool_case : {A : Type 0} (b : Bool) → (b ≡ true → A) → (b ≡ false → 
 bool_case true one other = one refl
 bool_case false one other = other refl
 
--- one line more was taken
+-- One more line is read.
 pub gone_on : (goes_on : (limit : ℕ) (s new : State) (input mid after : Option (List ℕ)) (lines : List (ℕ × List ℕ)) (text : List ℕ) → RanTexts limit s input mid lines → TakesText s new mid after text → new.ended ≡ false
     → RanTexts limit new input after (lines ++ (line_number new, text) ∷ []))
     → (last : (limit : ℕ) (s new : State) (input mid after : Option (List ℕ)) (lines : List (ℕ × List ℕ)) (text : List ℕ) → RanTexts limit s input mid lines → TakesText s new mid after text → new.ended ≡ true
@@ -73,13 +74,13 @@ gone_on goes_on last s new input mid after lines text going t (inl h) =
     bool_case new.ended (λ e. inr (e, last most_bytes s new input mid after lines text h.1 t e)) (λ e. inl (e, goes_on most_bytes s new input mid after lines text h.1 t e))
 gone_on goes_on last s new input mid after lines text going t (inr h) = absurd (cc (h.0, going))
 
--- a line that was told
+-- The result is a line.
 pub taken_front : (r : Result Bool LineFault) (most : ℕ) (front : List ℕ) (s new : State) (mid after given : Option (List ℕ)) → r ≡ Ok true → AnswersFront r most front s new mid after given → TakesFront most s new mid after front
 taken_front (Ok true) most front s new mid after given e h = h
 taken_front (Ok false) most front s new mid after given e h = absurd h
 taken_front (Err fault) most front s new mid after given e h = absurd cc
 
--- an error that was told
+-- The result is an error.
 pub taken_fault : (r : Result Bool LineFault) (most : ℕ) (front : List ℕ) (s new : State) (mid after given : Option (List ℕ)) → AnswersFront r most front s new mid after given → IfErr r (λ f. StandsNext f s mid given)
 taken_fault (Ok told) most front s new mid after given h = tt
 taken_fault (Err fault) most front s new mid after given h = h
@@ -88,16 +89,16 @@ pub ended_fault : (P : LineFault → Type 0) (r : Result Bool LineFault) → r �
 ended_fault P (Ok told) e = tt
 ended_fault P (Err fault) e = absurd cc
 
--- ---- what stopped the answers
+-- ---- errors that end the answers
 
--- a line that could not be read
+-- A line that could not be read.
 pub stopped_by : (fault : LineFault) (e : ToolFault) (text : List ℕ) (a b : Option (List ℕ)) (f h : ℕ) → IsStopFor fault e → h ≡ f → Appends a b text → IsStopped e text a b f h
 stopped_by fault (Input x) text a b f h is same gained = (same, gained)
 stopped_by fault Read text a b f h is same gained = (same, gained)
 stopped_by fault OutOfMemory text a b f h is same gained = (same, gained)
 stopped_by fault e text a b f h is same gained = absurd is
 
--- of these reasons one alone is an error of the input
+-- Of the errors of reading a line, only `TooLong` is an error of the input.
 too_long : (reason : LineReason) (taken : ℕ) (before given : Option (List ℕ)) → StandsUnread reason taken most_bytes before given → reason ≢ reasons.Read → reason ≢ reasons.OutOfMemory → reason ≡ reasons.TooLong
 too_long reasons.Read taken before given h read memory = absurd (read refl)
 too_long reasons.OutOfMemory taken before given h read memory = absurd (memory refl)
@@ -107,7 +108,7 @@ too_long reason taken before given h read memory = absurd h
 read_fault : (fault : LineFault) → fault.reason ≡ reasons.Read → fault.column ≡ 0 → fault ≡ record { line = fault.line; column = 0; reason = reasons.Read }
 read_fault fault is none = ap (λ k. record { line = fault.line; column = k; reason = fault.reason }) none ∙ ap (λ r. record { line = fault.line; column = 0; reason = r }) is
 
--- and it stands behind the lines that were answered
+-- The error occurs after the lines that were answered.
 pub stopped_behind : (fault : LineFault) (e : ToolFault) (input given : Option (List ℕ)) (lines : List (ℕ × List ℕ)) → IsStopFor fault e → FaultBehind fault most_bytes input given lines → IsBehind e input given lines
 stopped_behind fault (Input x) input given lines is h =
     (ap (λ f. f.reason) is.0 ∙ too_long fault.reason (length h.front) h.left given h.fault_is is.1 is.2, subst (λ f. FaultBehind f most_bytes input given lines) (sym is.0) h)
@@ -116,7 +117,7 @@ stopped_behind fault Read input given lines is h =
 stopped_behind fault OutOfMemory input given lines is h = tt
 stopped_behind fault e input given lines is h = absurd is
 
--- the writer fails behind m bytes of one more answer
+-- The writer fails after m bytes of one more answer.
 pub fails_on : (a b c : Option (List ℕ)) (text answer : List ℕ) (n m f g h : ℕ) → n ≡ length text → Appends a b text → g ≡ f → FailsAfter m answer b c g h → FailsAfter (n + m) (text ++ answer) a c f h
 fails_on a b c text answer n m f g h count one same fails = record {
   failed = fails.failed ∙ ap (λ k. k + 1) same;
@@ -124,16 +125,16 @@ fails_on a b c text answer n m f g h count one same fails = record {
   written = subst (Appends a c) (sym (ap (λ k. take (k + m) (text ++ answer)) count ∙ take-append-add text answer m)) (Appends-trans a b c text (take m answer) one fails.written);
 }
 
--- the writer has gained a text but for its end, which is kept
+-- The writer has gained the text except its end, which is pending.
 abbrev pub GainedButFor : Option (List ℕ) → Option (List ℕ) → List ℕ → List ℕ → Type 0
 GainedButFor a b text kept = (gone : List ℕ) × (text ≡ gone ++ kept) × Appends a b gone
 
--- one more answer is kept
+-- One more answer is pending.
 pub gained_answer : (a b : Option (List ℕ)) (text kept answer new : List ℕ) → GainedButFor a b text kept → new ≡ kept ++ answer → GainedButFor a b (text ++ answer) new
 gained_answer a b text kept answer new h one =
     (h.0, ap (λ t. t ++ answer) h.1 ∙ append_assoc h.0 kept answer ∙ ap (λ t. h.0 ++ t) (sym one), h.2)
 
--- the front of what was kept is written
+-- A prefix of the pending answers is written.
 pub gained_on : (a b c : Option (List ℕ)) (text kept new : List ℕ) → GainedButFor a b text kept → ((part : List ℕ) × (kept ≡ part ++ new) × Appends b c part) → GainedButFor a c text new
 gained_on a b c text kept new h one =
     (h.0 ++ one.0, h.1 ∙ ap (λ t. h.0 ++ t) one.1 ∙ sym (append_assoc h.0 one.0 new), Appends-trans a b c h.0 one.0 h.2 one.2)
@@ -141,7 +142,7 @@ gained_on a b c text kept new h one =
 pub gained_all : (a b c : Option (List ℕ)) (text kept : List ℕ) → GainedButFor a b text kept → Appends b c kept → Appends a c text
 gained_all a b c text kept h one = subst (Appends a c) (sym h.1) (Appends-trans a b c h.0 kept h.2 one)
 
--- answers of lines that were not written whole: the writer failed in what was kept
+-- The writer failed within the pending answers.
 pub cut_kept : (g : GraphParts) (asking : Asking) (input given a b c : Option (List ℕ)) (lines : List (ℕ × List ℕ)) (faulty : Bool) (text kept : List ℕ) (count f d h : ℕ) (e : ToolFault)
     → AreSome input lines → AnswersLines g asking lines faulty text → GainedButFor a b text kept → count ≡ length text → d ≡ f
     → ((m : ℕ) × (e ≡ Write (count - length kept + m)) × FailsAfter m kept b c d h) → AnswersSome g asking input given a c f h e
@@ -159,7 +160,7 @@ cut_kept g asking input given a b c lines faulty text kept count f d h e some al
           (subst (λ t. FailsAfter (count - length kept + cut.0) t a c f h) (sym gained.1) (fails_on a b c gained.0 kept (count - length kept) cut.0 f d h before gained.2 same cut.2));
     }
 
--- memory was refused behind whole answers
+-- Memory ran out after complete answers.
 pub refused_behind : (g : GraphParts) (asking : Asking) (input given a c : Option (List ℕ)) (lines : List (ℕ × List ℕ)) (faulty : Bool) (text : List ℕ) (f h : ℕ) (e : ToolFault)
     → AreSome input lines → AnswersLines g asking lines faulty text → Appends a c text → h ≡ f → e ≡ OutOfMemory → AnswersSome g asking input given a c f h e
 refused_behind g asking input given a c lines faulty text f h e some all gained same is = record {
@@ -172,7 +173,7 @@ refused_behind g asking input given a c lines faulty text f h e some all gained 
   stopped = subst (λ (t : ToolFault). IsStopped t text a c f h) (sym is) (same, gained);
 }
 
--- an answer behind those that were kept: it could not be counted, or the writer failed
+-- After one more answer, the count overflowed or the writer failed.
 pub cut_answer : (g : GraphParts) (asking : Asking) (input given a b c : Option (List ℕ)) (lines : List (ℕ × List ℕ)) (line : ℕ × List ℕ) (faulty one : Bool) (text kept answer new : List ℕ) (place count f d h : ℕ) (e : ToolFault)
     → AreSome input lines → AreSome input (lines ++ line ∷ []) → AnswersLines g asking lines faulty text → AnswersLine g asking line one answer → GainedButFor a b text kept → new ≡ kept ++ answer → place ≡ length kept → count ≡ length text → d ≡ f
     → ((e ≡ OutOfMemory) × (h ≡ d) × Appends b c (take place new)) ⊎ ((m : ℕ) × (e ≡ Write (count - place + m)) × FailsAfter m new b c d h)
@@ -185,12 +186,12 @@ cut_answer g asking input given a b c lines line faulty one text kept answer new
     cut_kept g asking input given a b c (lines ++ line ∷ []) (faulty || one) (text ++ answer) new (count + length answer) f d h e after (lines_on g asking lines line faulty one text answer all this)
     (gained_answer a b text kept answer new gained grown) (omega (arith, counted, length-append text answer)) same (cut.0, cut.1 ∙ ap (λ n. Write (n + cut.0)) ended, cut.2)
 
--- answers are kept only where a line is held
+-- Answers are pending only if a complete line is buffered.
 pub kept_or_held : {P : Type 0} (kept : List ℕ) (held : Bool) → (kept ≡ []) ⊎ (held ≡ true) → (held ≡ true → P) → (kept ≡ []) ⊎ P
 kept_or_held kept held (inl none) is = inl none
 kept_or_held kept held (inr e) is = inr (is e)
 
--- a line that could not be read, behind answers
+-- A line that could not be read, after the answers to earlier ones.
 pub unread_line : (g : GraphParts) (asking : Asking) (s : State) (input mid given written_before written_after : Option (List ℕ)) (lines : List (ℕ × List ℕ)) (faulty : Bool) (text : List ℕ) (failed_before failed_after : ℕ)
     (fault : LineFault) (e : ToolFault) → Gone s input mid lines → AnswersLines g asking lines faulty text → Appends written_before written_after text → failed_after ≡ failed_before → IsStopFor fault e
     → FaultBehind fault most_bytes input given lines → AnswersSome g asking input given written_before written_after failed_before failed_after e
@@ -204,7 +205,7 @@ unread_line g asking s input mid given written_before written_after lines faulty
   stopped = stopped_by fault e text written_before written_after failed_before failed_after is same gained;
 }
 
--- ---- the beginning
+-- ---- the initial state
 
 abbrev Begins : Type 0
 Begins = (limit : ℕ) (input : Option (List ℕ)) → RanTexts limit (start limit) input (left (start limit) input) []
@@ -224,7 +225,7 @@ pub begun : Begins → (s : State) (input : Option (List ℕ)) → s ≡ start m
 begun begins s input is =
     subst (λ (t : State). Gone t input (left t input) [] × (t.failed ≡ None)) (sym is) (inl (refl, begins most_bytes input), refl)
 
--- ---- the strings that are given
+-- ---- the given strings
 
 pub lent_given : (given : List Bool) (s p o : List ℕ) (x y z : Option Lent) (a b c : Bool) → length given ≡ 3 → option_map (λ t. t.now) x ≡ cond (get_or given 0 a) (Some s) None
     → option_map (λ t. t.now) y ≡ cond (get_or given 1 b) (Some p) None → option_map (λ t. t.now) z ≡ cond (get_or given 2 c) (Some o) None

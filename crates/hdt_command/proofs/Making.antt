@@ -1,4 +1,4 @@
--- What a command makes of its input, seen from each kind of command.
+-- The output and the new file of a run, by kind of command.
 use Rattle.std.proofs.Common.{◌≡◌, ◌≢◌, ◌++◌, ◌∙◌, ℕ, List, [], Option, refl, sym, ap, subst}
 use Rattle.std.proofs.lemmas.List.{append-nil}
 use Rattle.hdt_build.specs.Reading.{ReadFailed}
@@ -14,17 +14,17 @@ use Rattle.hdt_command.specs.declared.whole.Query.TheVariants as query
 use Rattle.hdt_command.specs.Answer.{IfBuild, Makes, Performs, Prints, ReadsFile, ReadsWith}
 use Rattle.hdt_command.specs.Faults.{build_fault_of, told_of_reason}
 
--- an error that doesn't tell of the reader comes of an error of the builder that doesn't
+-- If the command's error is not a read error, neither is that of the builder.
 pub not_failed : (fault : BuildFault) → build_fault_of fault ≢ Read → ReadFailed fault → ⊥
 not_failed (building.Line fault) not h = not (ap (told_of_reason fault) h)
 not_failed fault not h = h
 
--- a command that makes a text of its file reads that alone
+-- A query writes no file.
 pub reads_file : (q : Query) → ReadsFile (query_action q)
 reads_file query.Head = tt
 reads_file q = tt
 
--- a command on a file makes nothing
+-- A command that writes no file leaves `made` unchanged.
 pub nothing_built : (action : Action) → ReadsFile action → (before after : Option (List ℕ)) (text made : List ℕ) → ReadsWith before after (λ bytes. Prints action bytes text)
     → Makes action before after text made made
 nothing_built (Build options) is before after text made h = absurd is
@@ -41,7 +41,7 @@ nothing_lost action is before old new more h =
     let none = nothing_made action is before h.after h.answers.text [] more h.answers.makes in
     subst (λ (made : List ℕ). Performs action before old new [] made) none h
 
--- nor has it the options of `build`
+-- It has no options of `build`.
 pub no_options : (action : Action) (Holds : Options → Type 0) → ReadsFile action → IfBuild action Holds
 no_options (Build options) Holds is = absurd is
 no_options action Holds is = tt

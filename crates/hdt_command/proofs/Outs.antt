@@ -1,4 +1,4 @@
--- Which commands come with the path of a file that they make.
+-- Which commands have an output path.
 use Rattle.std.proofs.Common.{◌≡◌, List, Option, None, Some, inl, inr, string_bytes}
 use Rattle.std.specs.Prelude.{IsSomeAnd, MatchOption, option_map}
 use Rattle.std.specs.declared.alloc.Global.{Global}
@@ -36,6 +36,6 @@ entered : (command : Option (Text × List Row)) (request : Request) → Asks com
 entered None request h = absurd h
 entered (Some command) request h = asked command.0 command.1 request h
 
--- what words want comes with such a path where it makes a file
+-- A request of a command line has an output path exactly if its command writes a file.
 pub wanted_out : (words : List Text) (request : Request) → Wants words request → HasOut request
 wanted_out words request w = entered _ request w.wanted.asked

@@ -1,4 +1,4 @@
--- A text that is written in pieces: its first n bytes are written, and behind them stands what is kept.
+-- Writing a text in pieces: its first n bytes have been written, and the buffer holds the next ones.
 use Rattle.std.proofs.Common.{◌≡◌, ◌≤◌, ◌+◌, ◌++◌, ◌∙◌, ◌⊎◌, ◌≢◌, ℕ, List, [], Option, length, take, drop, refl, sym, ap, subst, arith, inl, inr}
 use Rattle.std.specs.Io.KnownBytes.{Appends}
 use Rattle.std.proofs.lemmas.List.{length-drop, length-append, take_at, drop_at, drop-drop, take-append-le}
@@ -14,20 +14,20 @@ use Rattle.hdt_command.specs.Answer.{AppendsSome, Begins, Consults, FailsAfter, 
 use Rattle.hdt_command.specs.StringsText.{string_lines}
 use Rattle.hdt_command.proofs.Told.{not_write}
 
--- the lines of the strings of a role are what `strings` prints
+-- The lines of a role's strings are the output of `strings`.
 pub all_lines : (role : Role) (before after : Option (List ℕ)) (bytes seen : List ℕ) → ReadsAll before after bytes → seen ≡ bytes → (graph : GraphParts) → IsLayout seen graph
     → ReadsWith before after (λ bytes. Prints (Strings role) bytes (string_lines 1 (strings_in graph.dictionary role)))
 all_lines role before after bytes seen read is graph stands =
     record { bytes = bytes; read = read; holds = record { graph = graph; stands = subst (λ (b : List ℕ). IsLayout b graph) is stands; holds = refl } }
 
--- a cut that is not the writer's
+-- An error other than a write error.
 memory_cut : (fault : ToolFault) (text : List ℕ) (a b : Option (List ℕ)) (f g : ℕ) → IsCut fault text a b f g → ((n : ℕ) → fault ≢ Write n)
     → (fault ≡ OutOfMemory) × (g ≡ f) × AppendsSome a b text
 memory_cut (Write n) text a b f g h none = absurd (none n refl)
 memory_cut OutOfMemory text a b f g h none = (refl, h.0, h.1)
 memory_cut fault text a b f g h none = absurd h
 
--- a part of what is kept is written
+-- A part of the buffer is written.
 pub more_within : (all part behind : List ℕ) (n : ℕ) → n ≤ length all → drop n all ≡ part ++ behind → n + length part ≤ length all
 more_within all part behind n h e = omega (arith, h, length-drop n all, ap length e, length-append part behind)
 
@@ -40,7 +40,7 @@ more_gained a b c all part behind n e one two =
 pub less_kept : (all part behind : List ℕ) (n : ℕ) → drop n all ≡ part ++ behind → drop (n + length part) all ≡ behind
 less_kept all part behind n e = sym (drop-drop (length part) n all) ∙ ap (drop (length part)) e ∙ drop_at part behind (length part) refl
 
--- the writer fails behind m bytes of it
+-- The writer fails after m bytes of that part.
 pub fails_behind : (a b c : Option (List ℕ)) (all part behind : List ℕ) (n m f g h : ℕ) → n ≤ length all → drop n all ≡ part ++ behind → Appends a b (take n all) → g ≡ f
     → FailsAfter m part b c g h → FailsAfter (n + m) all a c f h
 fails_behind a b c all part behind n m f g h within e one same fails =
@@ -52,7 +52,7 @@ fails_behind a b c all part behind n m f g h within e one same fails =
       written = subst (Appends a c) (sym whole) (Appends-trans a b c (take n all) (take m part) one fails.written);
     }
 
--- a piece that is not written cuts the text
+-- If a piece is not written, the text is incomplete.
 pub cut_by : {C : Type 0} (contents : C → Option (List ℕ)) (failed : C → ℕ) (fault : ToolFault) (start out new : C) (all part behind : List ℕ) (n : ℕ) → n ≤ length all → drop n all ≡ part ++ behind
     → Appends (contents start) (contents out) (take n all) → failed out ≡ failed start
     → ((fault ≡ OutOfMemory) × (new ≡ out)) ⊎ ((m : ℕ) × (fault ≡ Write (n + m)) × FailsAfter m part (contents out) (contents new) (failed out) (failed new))
@@ -66,7 +66,7 @@ cut_by contents failed fault start out new all part behind n within e one same (
     subst (λ (t : ToolFault). IsCut t all (contents start) (contents new) (failed start) (failed new)) (sym some.1)
     (fails_behind (contents start) (contents out) (contents new) all part behind n some.0 (failed start) (failed out) (failed new) within e one same some.2)
 
--- a run of `strings` whose text is cut
+-- A run of `strings` with incomplete output.
 pub role_writes : (role : Role) (before after : Option (List ℕ)) (bytes seen : List ℕ) (a b : Option (List ℕ)) (f g : ℕ) (fault : ToolFault) (Same : Type 0) → ReadsAll before after bytes → seen ≡ bytes
     → (IsTold (Strings role) seen fault × Same) ⊎ Consults seen role (λ strings. IsCut fault (string_lines 1 strings) a b f g)
     → (n : ℕ) → fault ≡ Write n → (g ≡ f + 1) × Begins (Strings role) before after a b n

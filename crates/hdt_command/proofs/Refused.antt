@@ -1,4 +1,4 @@
--- Which command lines are refused, from what `clap` states of its errors.
+-- Usage errors, derived from the contracts of `clap`.
 use Rattle.std.proofs.Common.{◌≡◌, List, [], ◌∷◌, true, Option, Some, Result, Ok, Err, codes, refl, sym, subst, inl, inr}
 use Rattle.std.specs.Prelude.{IfOk, IfErr, IsSomeAnd}
 use Rattle.clap.specs.Words.{App, Row, Text, HasKind, HasMatchesOf, IsAmong, fault_of, found_of, is_simple, is_simple_and_free, kind_of, matches_of, one_of, rows_of, subcommand_of, subcommand_rows_of}
@@ -13,7 +13,7 @@ use Rattle.hdt_command.specs.declared.request.Request.{Request}
 use Rattle.hdt_usage.specs.Table.{Names, AreRoles, table}
 use Rattle.hdt_command.specs.Words.{Asks, AsksFor, Misspells, MisspellsIn, StatesFlag, Wants, WantsSo, IsRefused, IsRefusedBy, TellsKind, ComesWithoutOr, refusals}
 
--- what `clap` says of the commands that were built, said of the table
+-- The errors of `clap` for the built commands are those for the table.
 pub taken : (names : Names) (app : App) (words : List Text) → app ≡ table names → (is_simple_and_free app ≡ true → fault_of app words ≡ []) → refusals names words ≡ []
 unfolding refusals
 taken names app words is h = (subst (λ (a : App). is_simple_and_free a ≡ true → fault_of a words ≡ []) is h) refl
@@ -22,7 +22,7 @@ pub refused_by : (names : Names) (app : App) (words : List Text) (e : Error) →
 unfolding refusals
 refused_by names app words e is h = (subst (λ (a : App). is_simple_and_free a ≡ true → HasKind (fault_of a words) e) is h) refl
 
--- what `clap` states of the words for the commands that were built, said of the table
+-- What `clap` finds for the built commands is what it finds for the table.
 pub stated : (names : Names) (app : App) (words : List Text) (m : ArgMatches) → app ≡ table names → HasMatchesOf app words m → subcommand_rows_of m ≡ subcommand_of (table names) words
 stated names app words m is h = (subst (λ (a : App). is_simple a ≡ true → (rows_of (found_of m) ≡ matches_of a words) × (subcommand_rows_of m ≡ subcommand_of a words)) is h refl).1
 
@@ -44,16 +44,16 @@ told_by names words e (Usage text) (inr among) k = (
 told_by names words e (Word word fault) h k = absurd k
 told_by names words e OutOfMemory h k = tt
 
--- an error that is told, by the words for the roles
+-- A usage error, with the names of the roles given.
 with : (names : Names) → AreRoles names → (words : List Text) (fault : UsageFault) → IsRefusedBy names words fault → IsRefused words fault
 with names roles words OutOfMemory h = tt
 with names roles words fault h = record { names = names; roles = roles; refused = h }
 
--- an error of `clap` is told by its kind
+-- A usage error for an error of `clap`.
 pub told : (names : Names) → AreRoles names → (words : List Text) (e : Error) (fault : UsageFault) → HasKind (refusals names words) e → TellsKind (kind_of e) fault → IsRefused words fault
 told names roles words e fault h k = with names roles words fault (told_by names words e fault h k)
 
--- the entries of the command that the words name ask for the request that the words want
+-- The command line gives the invocation that the command's arguments give.
 pub wanted : (names : Names) → AreRoles names → (words : List Text) (name : Text) (rows : List Row) (r : Result Call UsageFault) → refusals names words ≡ [] → subcommand_of (table names) words ≡ Some (name, rows)
     → IfOk r (λ asked. AsksFor name rows asked.request) → IfOk r (λ asked. StatesFlag (one_of (codes "progress") rows) asked.progress) → IfOk r (WantsSo words)
 wanted names roles words name rows (Ok asked) none is h flag = record {
@@ -64,7 +64,7 @@ wanted names roles words name rows (Ok asked) none is h flag = record {
 }
 wanted names roles words name rows (Err fault) none is h flag = tt
 
--- what the words want so, they want
+-- The request of an invocation is the request of the command line.
 pub so : (words : List Text) (asked : Call) → WantsSo words asked → Wants words asked.request
 so words asked w = record { names = w.names; roles = w.roles; wanted = w.wanted }
 

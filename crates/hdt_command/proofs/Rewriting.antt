@@ -1,4 +1,4 @@
--- What `rewrite` tells of its input, and where bad options are told.
+-- The errors of `rewrite`, and when options are not valid.
 use Rattle.std.proofs.Common.{◌≡◌, ◌≢◌, ◌↔◌, ℕ, List, Result, Ok, Err, ap, arith, refl}
 use Rattle.std.specs.Prelude.{IsErrOf}
 use Rattle.hdt_file.specs.File.{GraphParts, IsLayout}
@@ -12,29 +12,29 @@ use Rattle.hdt_command.specs.declared.request.Action.TheVariants.{Build, Rewrite
 use Rattle.hdt_command.specs.Answer.{IfBuild, IsTold}
 use Rattle.hdt_command.specs.Faults.{rewrite_fault_of}
 
--- a size of which it is not told that it is bad is one that is written
+-- A block size is valid if it is not invalid.
 pub size_written : (b : ℕ) → ((IsBlockSize b → ⊥) → ⊥) → IsBlockSize b
 size_written b h = grind arith
 
--- what is told where nothing is rewritten
+-- The error of `rewrite` is an error for the bytes.
 pub not_rewritten : (b : ℕ) (bytes : List ℕ) (graph : GraphParts) (fault : RewriteFault) → IsLayout bytes graph
     → (fault ≡ rewriting.BadOptions → IsBlockSize b → ⊥) → ((n : ℕ) → fault ≢ rewriting.Write n) → IsTold (Rewrite b) bytes (rewrite_fault_of fault)
 not_rewritten b bytes graph rewriting.BadOptions stands bad unwritten = record { graph = graph; stands = stands; holds = bad refl }
 not_rewritten b bytes graph rewriting.OutOfMemory stands bad unwritten = tt
 not_rewritten b bytes graph (rewriting.Write n) stands bad unwritten = absurd (unwritten n refl)
 
--- what is told of one answer of `build` is told of another
+-- An equivalence about `BadOptions` carries over from one result to another.
 pub still_bad : {T U : Type 0} (action : Action) (r : Result T ToolFault) (s : Result U ToolFault) → (IsErrOf r BadOptions → IsErrOf s BadOptions)
     → (IsErrOf s BadOptions → IsErrOf r BadOptions) → IfBuild action (λ options. IsErrOf r BadOptions ↔ (AreRight options → ⊥))
     → IfBuild action (λ options. IsErrOf s BadOptions ↔ (AreRight options → ⊥))
 still_bad (Build options) r s to from h = (λ e. h.0 (from e), λ bad. to (h.1 bad))
 still_bad action r s to from h = tt
 
--- the same error as another kind of answer
+-- The same error in a result of another type.
 pub same_error : {T U : Type 0} (a b : ToolFault) → IsErrOf {T = T} (Err a) b → IsErrOf {T = U} (Err a) b
 same_error {T} {U} a b e = let is : a ≡ b = cc in ap Err is
 
--- an answer that is no error, or that of a writer
+-- A success, or a write error.
 pub not_error : {T P : Type 0} (x : T) (e : ToolFault) → IsErrOf {T = T} (Ok x) e → P
 not_error {T} {P} x e is = absurd cc
 

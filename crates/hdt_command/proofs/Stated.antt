@@ -1,4 +1,4 @@
--- What the entries of a command state, and what lacks where they state nothing.
+-- What valid arguments give, and which usage errors are possible if they are not valid.
 use Rattle.std.proofs.Common.{◌≡◌, ℕ, Bool, true, false, List, Option, Some, codes, refl, sym, ap, subst, inl, inr, ◌⊎◌, ⊎_elim, ◌∙◌}
 use Rattle.std.specs.Prelude.{◌≢◌, IsSome, IsSomeAnd}
 use Rattle.std.specs.Str.{bytes_eq}
@@ -20,7 +20,7 @@ use Rattle.hdt_command.specs.Lines.{word_name}
 some_is : (a b : Text) → Some a ≡ Some b → a ≡ b
 some_is a b e = cc
 
--- an error that comes only where a fact fails, or of a word, said of another fact that needs it and of another such error
+-- An error that refutes P, or is one of Q, also refutes every W that implies P, or is one of every Z that contains Q.
 pub or_or : (P W : Type 0) (Q Z : TermWord → TermFault → Type 0) (r : UsageFault) → (W → P) → ((word : TermWord) (fault : TermFault) → Q word fault → Z word fault) → ComesWithoutOr P Q r → ComesWithoutOr W Z r
 or_or P W Q Z (Help said) f g h = absurd h
 or_or P W Q Z (Usage said) f g h = λ w. h (f w)
@@ -33,7 +33,7 @@ without_or P W Q r f h = or_or P W (λ _ _. ⊥) Q r f (λ word fault none. absu
 pub without : (P W : Type 0) (r : UsageFault) → (W → P) → ComesWithout P r → ComesWithout W r
 without P W r f h = without_or P W (λ _ _. ⊥) r f h
 
--- an error of the term that a text was to spell
+-- The error of parsing a text as a term.
 pub told_term : (word : TermWord) (text : List ℕ) (raw : Bool) (fault : TermFault) (r : UsageFault) → raw ≡ false → TellsTerm word fault r → (fault ≡ out_of_memory) ⊎ FaultIn text fault
     → ComesWithoutOr (Unit {0}) (IsFaultOfWord word raw text) r
 told_term word text raw fault (Word other told) unused k (inl e) = absurd (k.2 (ap (λ (f : TermFault). f.reason) e))
@@ -41,7 +41,7 @@ told_term word text raw fault (Word other told) unused k (inr f) = (k.0, unused,
 told_term word text raw fault OutOfMemory unused k h = tt
 told_term word text raw fault r unused k h = absurd k
 
--- the error of a word stands in its entry
+-- The error is one of the argument's entry.
 in_entry : (word : TermWord) (rows : List Row) (text : List ℕ) (flag : Bool) (other : TermWord) (fault : TermFault) → (IsUsed (one_of (codes "raw") rows) → flag ≡ true)
     → first_of (word_name word) rows ≡ Some text → IsFaultOfWord word flag text other fault → IsMisspelt rows word fault
 in_entry word rows text flag other fault on is h =
@@ -58,27 +58,27 @@ pub misspelt_part : (word : TermWord) (rows : List Row) (text : List ℕ) (flag 
 misspelt_part word rows text flag r on is h =
     or_or _ _ _ _ r (λ _. tt) (λ other fault f. (f.1.0, (λ any. f.0 (some_is _ _ (sym is ∙ any)), in_entry word rows text flag other fault on is f.1))) h
 
--- ---- what no action can be asked for without
+-- ---- what every action needs
 
--- two names that differ
+-- Two different names.
 differ : {P : Type 0} (name a b : Text) → name ≡ a → name ≡ b → bytes_eq a b ≡ false → P
 differ name a b p q apart = let same : bytes_eq a b ≡ true = (bytes_eq-Decides a b).1 (sym p ∙ q) in let bad : true ≡ false = sym same ∙ apart in absurd cc
 
 -- ---- `build` and `rewrite`
 
--- `build` asks for options
+-- `build` needs its options.
 pub options_needed : (name : Text) (rows : List Row) → name ≡ codes "build" → (a : Action) → AsksToMake name rows a → (options : Options) × StatesOptions rows options
 options_needed name rows is (action.Build options) h = (options, h.1)
 options_needed name rows is (action.Rewrite b) h = differ name _ _ is h.0 refl
 options_needed name rows is a h = absurd h
 
--- no command makes a file that has another name
+-- Only `build` and `rewrite` write a file.
 only_these : (name : Text) (rows : List Row) (a : Action) → name ≢ codes "build" → name ≢ codes "rewrite" → AsksToMake name rows a → ⊥
 only_these name rows (action.Build options) build rewrite h = build h.0
 only_these name rows (action.Rewrite b) build rewrite h = rewrite h.0
 only_these name rows a build rewrite h = h
 
--- no command on a file has the name of one that makes a file
+-- A command that writes no file is neither `build` nor `rewrite`.
 other_name : {P : Type 0} (name other : Text) → (name ≡ codes "build") ⊎ (name ≡ codes "rewrite") → name ≡ other → bytes_eq (codes "build") other ≡ false → bytes_eq (codes "rewrite") other ≡ false → P
 other_name name other (inl is) e build rewrite = differ name _ other is e build
 other_name name other (inr is) e build rewrite = differ name _ other is e rewrite
@@ -93,14 +93,14 @@ none_on_file name rows is (action.Rewrite b) h = h
 none_on_file name rows is (action.Find given numbers) (inr h) = other_name name _ is h.0 refl refl
 none_on_file name rows is a h = other_name name _ is h.0 refl refl
 
--- what is refused of a command that makes a file is refused of the whole table
+-- A usage error of `build` and `rewrite` is one of the command line.
 pub of_making : (name : Text) (rows : List Row) (r : UsageFault) → (name ≡ codes "build") ⊎ (name ≡ codes "rewrite")
     → ComesWithout ((request : Request) × AsksOfFiles name rows request) r
     → ComesWithoutOr ((request : Request) × AsksFor name rows request) (Misspells name rows) r
 of_making name rows r is h =
     without_or _ _ (Misspells name rows) r (λ w. (w.0, ⊎_elim (λ file. absurd (none_on_file name rows is w.0.action file.action)) (λ asks. asks) w.1)) h
 
--- and so is what is refused of a command on a file
+-- So is one of the other commands.
 pub of_others : (name : Text) (rows : List Row) (r : UsageFault) → name ≢ codes "build" → name ≢ codes "rewrite"
     → ComesWithoutOr ((request : Request) × AsksOfFile name rows request) (Misspells name rows) r
     → ComesWithoutOr ((request : Request) × AsksFor name rows request) (Misspells name rows) r

@@ -1,4 +1,4 @@
--- What a status says of the outcome that it was made of.
+-- What an exit status implies about the result that it was computed from.
 use Rattle.std.proofs.Common.{◌≡◌, ◌≢◌, ◌⊎◌, ⊎_elim, ◌∙◌, ap, ℕ, Bool, true, false, cond, Option, refl, inl, inr, subst, sym}
 use Rattle.std.specs.Prelude.{List, Result, Ok, Err, MatchResult, IfOk, IfErr, OnOk}
 use Rattle.clap.specs.Words.{Text}
@@ -13,32 +13,32 @@ use Rattle.hdt_command.specs.Lines.{fault_status}
 use Rattle.hdt_command.specs.Status.{Ends, IsCommandStatus, IsRefusalStatus, IsStatusOf}
 use Rattle.hdt_command.proofs.Refused.{so}
 
--- an error that is not the writer's, or one that is
+-- An error is a write error or another one.
 by_writer : {A B : Type 0} (fault : ToolFault) → (((n : ℕ) → fault ≢ Write n) → A) → ((n : ℕ) → fault ≡ Write n → B) → A ⊎ B
 by_writer (Write m) other write = inr (write m refl)
 by_writer fault other write = inl (other (λ n is. absurd cc))
 
--- a command's status, also where memory for the line of its error was refused
+-- The status of a command, also if memory for its error message ran out.
 pub command_status : (outcome : Result (Unit {0}) ToolFault) (status : ℕ)
     → MatchResult outcome (λ _. status ≡ 0) (λ fault. (status ≡ fault_status fault) ⊎ (status ≡ 4)) → IsCommandStatus status
 command_status (Ok done) status h = inl h
 command_status (Err fault) status (inl h) = inr (fault, h)
 command_status (Err fault) status (inr h) = inr (OutOfMemory, h)
 
--- the status of answers
+-- The status of `answer`.
 pub answers_status : (outcome : Result Bool ToolFault) (status : ℕ) → MatchResult outcome (λ faulty. status ≡ cond faulty 1 0) (λ fault. (status ≡ fault_status fault) ⊎ (status ≡ 4)) → IsCommandStatus status
 answers_status (Ok true) status h = inr (NoTriples, h)
 answers_status (Ok false) status h = inl h
 answers_status (Err fault) status (inl h) = inr (fault, h)
 answers_status (Err fault) status (inr h) = inr (OutOfMemory, h)
 
--- no error ends with 0
+-- No error has status 0.
 not_done : (fault : ToolFault) (status : ℕ) → (status ≡ fault_status fault) ⊎ (status ≡ 4) → status ≡ 0 → ⊥
 not_done (File fault) status (inl h) is = absurd cc
 not_done fault status (inl h) is = absurd cc
 not_done fault status (inr h) is = absurd cc
 
--- where the status of answers is 0, all were given and none is an error
+-- Status 0 of `answer`: all requests were answered, without an error.
 abbrev IsAnswersStatus : Result Bool ToolFault → ℕ → Type 0
 IsAnswersStatus outcome status = MatchResult outcome (λ faulty. status ≡ cond faulty 1 0) (λ fault. (status ≡ fault_status fault) ⊎ (status ≡ 4))
 
@@ -47,7 +47,7 @@ answers_done P (Ok true) status of ok is = absurd cc
 answers_done P (Ok false) status of ok is = ok
 answers_done P (Err fault) status of ok is = absurd (not_done fault status of is)
 
--- else one is an error, or an error stopped them
+-- Any other status: one of the answers is an error, or an error ended them.
 pub answers_stopped : {A : Type 0} (P : Bool → Type 0) (Q : ToolFault → Type 0) (outcome : Result Bool ToolFault) (status : ℕ) → IsAnswersStatus outcome status → IfOk outcome P → IfErr outcome (λ e. A ⊎ Q e) → status ≢ 0
     → A ⊎ (((status ≡ 1) × P true) ⊎ ((e : ToolFault) × ((status ≡ fault_status e) ⊎ (status ≡ 4)) × Q e))
 answers_stopped P Q (Ok true) status of ok err not = inr (inl (of, ok))
@@ -55,13 +55,13 @@ answers_stopped P Q (Ok false) status of ok err not = absurd (not of)
 answers_stopped P Q (Err fault) status of ok (inl a) not = inl a
 answers_stopped P Q (Err fault) status of ok (inr q) not = inr (inr (fault, of, q))
 
--- where the status is 0, what is so of a command that was done is so
+-- Status 0 implies what holds on success.
 pub if_done : {A T : Type 0} (P : T → Type 0) (outcome : Result T ToolFault) (status : ℕ) → MatchResult outcome P (λ fault. (status ≡ fault_status fault) ⊎ (status ≡ 4))
     → OnOk outcome A → status ≡ 0 → A
 if_done P (Ok done) status of ok is = ok
 if_done P (Err fault) status of ok is = absurd (not_done fault status of is)
 
--- with status 1 nothing was written
+-- Status 1 implies that nothing was written.
 first : {A C D : Type 0} → (D → ⊥) → A ⊎ (D × C) → A
 first not (inl a) = a
 first not (inr h) = absurd (not h.0)
@@ -74,7 +74,7 @@ still_at_1 A C (Err fault) status (inl h) unwritten is =
     let other : (e : ToolFault) → fault_status e ≢ 1 → fault ≢ e = λ e not same. not (sym (ap fault_status same) ∙ sym h ∙ is) in
     first (other OutOfMemory (λ e. cc)) (unwritten (λ n. other (Write n) (λ e. cc)))
 
--- where the status is not 0, nothing was written, or the writer failed, or memory was refused in the midst
+-- Any status but 0 implies that nothing was written, or the writer failed, or `strings` ran out of memory.
 joined : {A B C D : Type 0} → (A ⊎ (D × C)) ⊎ B → A ⊎ (B ⊎ C)
 joined (inl (inl a)) = inl a
 joined (inl (inr h)) = inr (inr h.1)
@@ -85,7 +85,7 @@ pub stopped : {A B C : Type 0} (outcome : Result (Unit {0}) ToolFault) (status :
 stopped (Ok done) status of unwritten write not = absurd (not of)
 stopped (Err fault) status of unwritten write not = joined (by_writer fault unwritten write)
 
--- an error that goes to memory is told as it is, or as running out of memory
+-- If the output goes to memory, a write error becomes out of memory, and other errors stay.
 pub told_in_memory : (action : Action) (before : Option (List ℕ)) (fault told : ToolFault) → ((n : ℕ) → fault ≡ Write n → told ≡ OutOfMemory) → (((n : ℕ) → fault ≢ Write n) → told ≡ fault)
     → Reports action before fault → Reports action before told
 told_in_memory action before fault told memory other h =
@@ -98,7 +98,7 @@ kept_in_memory outcome fault told kind is other not e =
     let same : fault ≡ kind = cc in
     other (λ n w. not n (sym same ∙ w)) ∙ same
 
--- the status of what the words ask for is one that the words end with
+-- The status of the invocation is one that the program may end with.
 pub ends : {X E : Type 0} (texts : X → List Text) (words : Result X E) (asked : Result Call UsageFault) (status : ℕ)
     → IfOk asked (λ asked. MatchResult words (λ w. WantsSo (texts w) asked) (λ _. ⊥)) → IfErr asked (λ fault. IfOk words (λ w. IsRefused (texts w) fault))
     → MatchResult asked (λ asked. IsStatusOf asked.request.action status) (λ fault. IsRefusalStatus fault status) → IfOk words (λ w. Ends (texts w) status)

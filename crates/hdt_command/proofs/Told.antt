@@ -1,4 +1,4 @@
--- What a command tells of its input, seen from the whole run.
+-- Errors for the bytes of a file as errors of the complete run.
 use Rattle.std.proofs.Common.{◌≡◌, ◌≢◌, ◌⊎◌, ℕ, Bool, List, Option, None, Some, sym, subst, inl, inr}
 use Rattle.std.specs.declared.alloc.Global.{Global}
 use Rattle.std.specs.declared.vec.Vec.{Vec}
@@ -14,17 +14,17 @@ use Rattle.hdt_dict.specs.Dictionary.{strings_in}
 use Rattle.hdt_command.specs.Answer.{HasBadBlocks, HasNoText, IsOfFile, IsTold, ReadsAll, ReadsFile, Tells, TellsBadOptions}
 use Rattle.hdt_command.specs.TriplesText.{Given, TellsFound, form_of}
 
--- a block size that is not written is told of the run
+-- A block size that is not valid.
 bad_blocks : (action : Action) (before after : Option (List ℕ)) (bytes : List ℕ) → ReadsAll before after bytes → HasBadBlocks action bytes → TellsBadOptions action before after
 bad_blocks (Rewrite b) before after bytes read h = record { bytes = bytes; read = read; holds = h }
 bad_blocks action before after bytes read h = absurd h
 
--- it is told by `rewrite` alone
+-- A command that writes no file has no block size.
 no_blocks : (action : Action) (bytes : List ℕ) → ReadsFile action → HasBadBlocks action bytes → ⊥
 no_blocks (Rewrite b) bytes is h = is
 no_blocks action bytes is h = h
 
--- what is told of the bytes that were read is told of the run
+-- An error for the bytes that were read is an error of the run.
 pub told_all : (action : Action) (before after : Option (List ℕ)) (bytes : List ℕ) (e : ToolFault) → ReadsAll before after bytes → IsTold action bytes e → Tells action before after e
 told_all action before after bytes (Input fault) read h = absurd h
 told_all action before after bytes NoTriples read h = absurd h
@@ -34,14 +34,14 @@ told_all action before after bytes (Write n) read h = absurd h
 told_all action before after bytes OutOfMemory read h = tt
 told_all action before after bytes fault read h = record { bytes = bytes; read = read; holds = h }
 
--- the answer of the bytes is never that of a reader or a writer
+-- An error for the bytes is never a read or write error.
 pub not_read : (action : Action) (bytes : List ℕ) (e : ToolFault) → IsTold action bytes e → e ≡ Read → ⊥
 not_read action bytes e h is = subst (IsTold action bytes) is h
 
 pub not_write : (action : Action) (bytes : List ℕ) (e : ToolFault) (n : ℕ) → IsTold action bytes e → e ≡ Write n → ⊥
 not_write action bytes e n h is = subst (IsTold action bytes) is h
 
--- a look-up without an answer
+-- A look-up without a result.
 pub no_number : (role : Role) (n : ℕ) (bytes : List ℕ) (graph : GraphParts) (e : ToolFault) → IsLayout bytes graph
     → (e ≡ OutOfMemory) ⊎ ((e ≡ NoSuchNumber) × (numbered (strings_in graph.dictionary role) n ≡ None)) → IsTold (Nth role n) bytes e
 no_number role n bytes graph e stands (inl is) = subst (λ (t : ToolFault). IsTold (Nth role n) bytes t) (sym is) tt
@@ -52,20 +52,20 @@ pub no_term : (role : Role) (x : Vec ℕ Global) (bytes : List ℕ) (graph : Gra
 no_term role x bytes graph e stands (inl is) = subst (λ (t : ToolFault). IsTold (Number role x) bytes t) (sym is) tt
 no_term role x bytes graph e stands (inr h) = subst (λ (t : ToolFault). IsTold (Number role x) bytes t) (sym h.0) (record { graph = graph; stands = stands; holds = h.1 })
 
--- triples that are not printed
+-- Triples that cannot be printed.
 pub no_text : (given : Given) (form : Form) (most : Option ℕ) (bytes : List ℕ) (graph : GraphParts) (e : ToolFault) → IsLayout bytes graph
     → TellsFound graph given form most e → IsTold (Search given form most) bytes e
 no_text given form most bytes graph (NotATerm role n) stands h = record { graph = graph; stands = stands; holds = h }
 no_text given form most bytes graph OutOfMemory stands h = tt
 no_text given form most bytes graph fault stands h = absurd h
 
--- nor by `find` with no number that it goes up to
+-- The same for `find` without a limit.
 pub no_find : (given : Given) (numbers : Bool) (form : Form) (bytes : List ℕ) (e : ToolFault) → form ≡ form_of numbers → IsTold (Search given form None) bytes e
     → IsTold (Find given numbers) bytes e
 no_find given numbers form bytes (NotATerm role n) is h = subst (λ (f : Form). HasNoText (Search given f None) bytes role n) is h
 no_find given numbers form bytes fault is h = h
 
--- it is one that a command that reads a file alone tells
+-- An error for the bytes of a command that writes no file is one that such a command may return.
 pub of_file : (action : Action) (bytes : List ℕ) (e : ToolFault) → ReadsFile action → IsTold action bytes e → IsOfFile e
 of_file action bytes (Input fault) is h = h
 of_file action bytes NoTriples is h = h

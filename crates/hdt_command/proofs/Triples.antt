@@ -1,4 +1,4 @@
--- The strings that find triples, and the lines of the triples' numbers.
+-- The strings of a search, and the ID lines of triples.
 use Rattle.std.proofs.Common.{◌≡◌, ◌≤◌, ℕ, List, [], ◌∷◌, ◌++◌, Option, None, Some, length, map, refl, sym, ap, ◌∙◌, append_assoc, arith, get_or, take}
 use Rattle.std.specs.Prelude.{IsSomeAnd, MatchOption, option_map, vec_len}
 use Rattle.std.specs.declared.alloc.Global.{Global}
@@ -9,7 +9,7 @@ use Rattle.hdt_dict.specs.Strings.{Lent}
 use Rattle.hdt_triples.specs.Counting.{Triple}
 use Rattle.hdt_command.specs.TriplesText.{Given, AreLent, numbers_line, numbers_lines}
 
--- an array of three is its elements
+-- An array of three elements.
 three : (given : Given) (a b c : Option (Vec ℕ Global)) → length given ≡ 3 → given ≡ get_or given 0 a ∷ get_or given 1 b ∷ get_or given 2 c ∷ []
 three [] a b c n = absurd (omega arith)
 three (x ∷ []) a b c n = absurd (omega arith)
@@ -17,7 +17,7 @@ three (x ∷ y ∷ []) a b c n = absurd (omega arith)
 three (x ∷ y ∷ z ∷ []) a b c n = refl
 three (x ∷ y ∷ z ∷ w ∷ rest) a b c n = absurd (omega arith)
 
--- a string, borrowed
+-- A string as a borrowed slice.
 pub lent_part : (a : Option (Vec ℕ Global)) (x : Option Lent) → MatchOption a (x ≡ None) (λ v. IsSomeAnd x (λ y. (y.now ≡ v.items) × (length y.now ≡ vec_len v)))
     → option_map (λ s. s.now) x ≡ option_map (λ v. v.items) a
 lent_part None x h = ap (option_map (λ s. s.now)) h
@@ -30,14 +30,14 @@ pub are_lent : (given : Given) (a b c : Option (Vec ℕ Global)) (x y z : Option
 are_lent given a b c x y z n one two last =
     let whole = ap (λ (xs : Given). map (option_map (λ v. v.items)) xs) (three given a b c n) in cc
 
--- a triple's line stands behind the text
+-- A triple's line is appended to the text.
 pub one_line : (text new all : List ℕ) (t : Triple) (left rest : List Triple) → left ≡ t ∷ rest → new ≡ text ++ numbers_line t → text ++ numbers_lines left ≡ all
     → new ++ numbers_lines rest ≡ all
 one_line text new all t left rest first is h =
     ap (λ (x : List ℕ). x ++ numbers_lines rest) is ∙ append_assoc text (numbers_line t) (numbers_lines rest)
     ∙ sym (ap (λ (ts : List Triple). text ++ numbers_lines ts) first) ∙ h
 
--- what began with a text still does with a line behind it
+-- Appending a line keeps a prefix.
 pub keeps_on : (old mid new line : List ℕ) → Keeps old mid → new ≡ mid ++ line → Keeps old new
 keeps_on old mid new line keeps grown =
     let within : length old ≤ length mid = omega (arith, ap length keeps, length-take (length old) mid) in

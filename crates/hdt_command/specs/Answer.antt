@@ -1,4 +1,5 @@
--- What a run of a command has done.
+-- What a run of a command does: its output, the file that it makes, and its errors. In these definitions `before` and
+-- `after` are what the reader still yields before and after the run.
 use Rattle.std.specs.Prelude.{◌≡◌, ◌≢◌, ◌<◌, ◌≤◌, ◌+◌, ℕ, List, [], ◌++◌, length, take, Option, None, Some, Err, MatchOption}
 use Rattle.std.specs.Io.KnownBytes.{Appends, Consumes, IsAtEnd}
 use Rattle.hdt_wire.specs.declared.fault.Fault.{Fault}
@@ -30,29 +31,30 @@ use Rattle.hdt_command.specs.StringsText.{string_lines, PrintsString, PrintsNumb
 use Rattle.hdt_command.specs.TriplesText.{LacksTermIn, PrintsFound, form_of}
 use Rattle.hdt_dict.specs.Dictionary.{strings_in}
 
--- a head stands at the front of the bytes, and it prints as the text
+-- The bytes begin with a valid head, and the text is the output of `head` for it.
 pub record PrintsHead (bytes text : List ℕ) : Type 0 where
   pub head : HeadParts
   pub stands : IsHead head bytes
   pub printed : text ≡ head_text head
 
--- the bytes are a layout of a graph, triples use all of its strings, and they print as the verdict on it
+-- The bytes are a valid encoding of a graph whose triples use all of its strings, and the text is the output of
+-- `verify`.
 pub record PrintsTightVerdict (bytes text : List ℕ) : Type 0 where
   pub graph : GraphParts
   pub stands : IsTightLayout bytes graph
   pub printed : text ≡ verdict (lens_of graph)
 
--- the bytes are a layout of a graph, and of it this holds
+-- The bytes are a valid encoding of a graph for which Holds is true.
 pub record Opens (bytes : List ℕ) (Holds : GraphParts → Type 0) : Type 0 where
   pub graph : GraphParts
   pub stands : IsLayout bytes graph
   pub holds : Holds graph
 
--- the bytes are a layout of a graph, and of the strings of the role this holds
+-- The bytes are a valid encoding of a graph, and Holds is true for the strings of the role.
 abbrev pub Consults : List ℕ → Role → (List (List ℕ) → Type 0) → Type 0
 Consults bytes role Holds = Opens bytes (λ graph. Holds (strings_in graph.dictionary role))
 
--- a command on a file prints the text of these input bytes
+-- The text is the output of a command for these input bytes, if it writes no file.
 abbrev pub Prints : Action → List ℕ → List ℕ → Type 0
 Prints Head bytes text = PrintsHead bytes text
 Prints Verify bytes text = Opens bytes (λ graph. text ≡ verdict (lens_of graph))
@@ -66,52 +68,52 @@ Prints (Answer asking) bytes text = Opens bytes (λ graph. text ≡ [])
 Prints (Build options) bytes text = ⊥
 Prints (Rewrite b) bytes text = ⊥
 
--- a command on a file, which reads it and makes none
+-- The command reads a file and writes none.
 abbrev pub ReadsFile : Action → Type 0
 ReadsFile (Build options) = ⊥
 ReadsFile (Rewrite b) = ⊥
 ReadsFile action = Unit {0}
 
--- a command that makes a file
+-- The command writes a file: `build` or `rewrite`.
 abbrev pub MakesFile : Action → Type 0
 MakesFile (Build options) = Unit {0}
 MakesFile (Rewrite b) = Unit {0}
 MakesFile action = ⊥
 
--- a command that makes a file comes with the path that it is written to, and no other command does
+-- A request has an output path exactly if its command writes a file.
 abbrev pub HasOut : Request → Type 0
 HasOut request = MatchOption request.out (ReadsFile request.action) (λ path. MakesFile request.action)
 
--- an error of these input bytes that a command on a file answers: `head` reads only the head, the others at the whole file,
--- and `verify --tight` also at whether triples use its strings
+-- The error is the first one in these bytes. `head` checks only the head, and `verify --tight` also that triples use
+-- all strings; the other commands check the complete file.
 abbrev pub HasFault : Action → List ℕ → Fault → Type 0
 HasFault Head bytes fault = head_at_start bytes ≡ Err fault
 HasFault VerifyTight bytes fault = tight_in bytes ≡ Err fault
 HasFault (Build options) bytes fault = ⊥
 HasFault action bytes fault = graph_in bytes ≡ Err fault
 
--- the role has no string with the number that is looked up
+-- The role has no string with the ID to look up.
 abbrev pub LacksNumber : Action → List ℕ → Type 0
 LacksNumber (Nth role n) bytes = Consults bytes role (λ strings. numbered strings n ≡ None)
 LacksNumber action bytes = ⊥
 
--- the role has no number for the string that is looked up
+-- The role has no ID for the string to look up.
 abbrev pub LacksTerm : Action → List ℕ → Type 0
 LacksTerm (Number role x) bytes = Consults bytes role (λ strings. (n : ℕ) → numbered strings n ≢ Some x.items)
 LacksTerm action bytes = ⊥
 
--- N-Triples are asked for, and the first string of them that is no term has this role and number
+-- The output format is N-Triples, and the first string to print that is not a term has this role and ID.
 abbrev pub HasNoText : Action → List ℕ → Role → ℕ → Type 0
 HasNoText (Find given numbers) bytes role n = Opens bytes (λ graph. LacksTermIn graph given (form_of numbers) None role n)
 HasNoText (Search given form most) bytes role n = Opens bytes (λ graph. LacksTermIn graph given form most role n)
 HasNoText action bytes role n = ⊥
 
--- the bytes are a layout, which is not to be written again in such blocks
+-- The bytes are valid, but the block size for `rewrite` is not.
 abbrev pub HasBadBlocks : Action → List ℕ → Type 0
 HasBadBlocks (Rewrite b) bytes = Opens bytes (λ graph. IsBlockSize b → ⊥)
 HasBadBlocks action bytes = ⊥
 
--- what a command on a file tells of these input bytes, where it prints nothing of them
+-- The error is one that a command may return for these input bytes.
 abbrev pub IsTold : Action → List ℕ → ToolFault → Type 0
 IsTold action bytes (File fault) = HasFault action bytes fault
 IsTold action bytes NoSuchNumber = LacksNumber action bytes
@@ -121,7 +123,7 @@ IsTold action bytes BadOptions = HasBadBlocks action bytes
 IsTold action bytes OutOfMemory = Unit {0}
 IsTold action bytes fault = ⊥
 
--- an error that a command that reads a file alone tells before it writes
+-- The error is one that a command that writes no file may return before it prints.
 abbrev pub IsOfFile : ToolFault → Type 0
 IsOfFile (Input fault) = ⊥
 IsOfFile NoTriples = ⊥
@@ -129,25 +131,26 @@ IsOfFile BadOptions = ⊥
 IsOfFile (Write n) = ⊥
 IsOfFile fault = Unit {0}
 
--- all that the reader had left are these bytes
+-- The reader has yielded exactly these bytes and is at its end.
 pub record ReadsAll (before after : Option (List ℕ)) (bytes : List ℕ) : Type 0 where
   pub read : Consumes before after bytes
   pub ended : IsAtEnd after
 
--- all that the reader had left was read, and this holds of it
+-- The reader has yielded bytes for which Holds is true, and is at its end.
 pub record ReadsWith (before after : Option (List ℕ)) (Holds : List ℕ → Type 0) : Type 0 where
   pub bytes : List ℕ
   pub read : ReadsAll before after bytes
   pub holds : Holds bytes
 
--- the input is a document, this file is built of it under the options, and the text tells the file's numbers
+-- The input is an N-Triples document, `built` is the file that `build` makes of it, and the text gives the file's
+-- counts.
 pub record BuildsFile (options : Options) (input : Option (List ℕ)) (text built : List ℕ) : Type 0 where
   pub report : Report
   pub file : Builds options input built report
   pub printed : text ≡ built_line report
 
--- the bytes are a layout of a graph, this is the canonical file of the triples that the graph denotes, with its header body, in
--- blocks of a size that is written, and the text tells the file's numbers
+-- The bytes are a valid encoding of a graph; `built` is the canonical file of its triples with its header body, in
+-- blocks of a valid size b; and the text gives the file's counts.
 pub record RewritesFile (b : ℕ) (bytes text built : List ℕ) : Type 0 where
   pub graph : GraphParts
   pub stands : IsLayout bytes graph
@@ -156,31 +159,31 @@ pub record RewritesFile (b : ℕ) (bytes text built : List ℕ) : Type 0 where
   pub file : IsRewritten b graph built report
   pub printed : text ≡ rewritten_line report
 
--- of what the reader had left a command prints this text, and makes these bytes: `build` and `rewrite` a file, and a command on a
--- file reads all of it and makes nothing
+-- The text is the command's output for the input, and `built` is the new file of `build` or `rewrite`. Other commands
+-- read the complete input and make no file.
 abbrev pub Yields : Action → Option (List ℕ) → Option (List ℕ) → List ℕ → List ℕ → Type 0
 Yields (Build options) before after text built = BuildsFile options before text built
 Yields (Rewrite b) before after text built = ReadsWith before after (λ bytes. RewritesFile b bytes text built)
 Yields action before after text built = ReadsWith before after (λ bytes. Prints action bytes text) × (built ≡ [])
 
--- what the builder tells of a document
+-- The error is one that the builder may return for the document.
 abbrev pub TellsDocument : Action → Option (List ℕ) → Option (List ℕ) → BuildFault → Type 0
 TellsDocument (Build options) before after fault = TellsOf before after fault
 TellsDocument action before after fault = ⊥
 
--- of the options of `build` this holds
+-- Holds is true for the options of `build`; other commands have none.
 abbrev pub IfBuild : Action → (Options → Type 0) → Type 0
 IfBuild (Build options) Holds = Holds options
 IfBuild action Holds = Unit {0}
 
--- the options can't be taken: `build` tells it whatever the input is, `rewrite` where the input is a layout
+-- The options are not valid. `build` checks them before it reads; `rewrite` checks them only if the input is valid.
 abbrev pub TellsBadOptions : Action → Option (List ℕ) → Option (List ℕ) → Type 0
 TellsBadOptions (Build options) before after = AreRight options → ⊥
 TellsBadOptions (Rewrite b) before after = ReadsWith before after (HasBadBlocks (Rewrite b))
 TellsBadOptions action before after = ⊥
 
--- an error of the file is the one that stands in the input, and so is one of a document, a look-up without an answer has none in
--- it, and a string that is no term is the first of what is to be printed
+-- The error is one that the command may return for the input: the first one of a file or a document, a look-up without
+-- a result, or the first string to print that is not a term. Errors of reading, writing and memory may always occur.
 abbrev pub Tells : Action → Option (List ℕ) → Option (List ℕ) → ToolFault → Type 0
 Tells action before after (Input fault) = TellsDocument action before after (building.Line fault) × (fault.reason ≢ reasons.Read)
 Tells action before after NoTriples = TellsDocument action before after building.NoTriples
@@ -190,19 +193,19 @@ Tells action before after (Write n) = Unit {0}
 Tells action before after OutOfMemory = Unit {0}
 Tells action before after fault = ReadsWith before after (λ bytes. IsTold action bytes fault)
 
--- of what the reader had left the command prints this text, and the file that it makes has been appended to what was made before
+-- The text is the command's output for the input, and the new file has been appended to `made`.
 pub record Makes (action : Action) (before after : Option (List ℕ)) (text made_before made_after : List ℕ) : Type 0 where
   pub built : List ℕ
   pub yields : Yields action before after text built
   pub made : made_after ≡ made_before ++ built
 
--- the writer has gained the command's text of what the reader had left, and what was made the file that the command makes
+-- The run succeeded: the writer has gained the command's output for the input, and `made` the new file.
 pub record Answers (action : Action) (before after written_before written_after : Option (List ℕ)) (made_before made_after : List ℕ) : Type 0 where
   pub text : List ℕ
   pub makes : Makes action before after text made_before made_after
   pub written : Appends written_before written_after text
 
--- the writer has gained the first n bytes of the command's text of what the reader had left
+-- The writer has gained exactly the first n bytes of the command's output for the input, which is longer.
 pub record Begins (action : Action) (before after written_before written_after : Option (List ℕ)) (n : ℕ) : Type 0 where
   pub text : List ℕ
   pub built : List ℕ
@@ -210,33 +213,33 @@ pub record Begins (action : Action) (before after written_before written_after :
   pub within : n < length text
   pub written : Appends written_before written_after (take n text)
 
--- ---- a file that was not made to its end
+-- ---- errors of replacing a file
 
--- memory was refused, or writing failed, behind no more bytes than there are
+-- Out of memory, or a write error after at most all of the bytes.
 abbrev pub IsUnfilled : List ℕ → ToolFault → Type 0
 IsUnfilled built OutOfMemory = Unit {0}
 IsUnfilled built (Write n) = n ≤ length built
 IsUnfilled built fault = ⊥
 
--- ---- a text that was not printed to its end
+-- ---- incomplete output
 
--- the writer failed, once, behind the first n bytes of the text
+-- The writer failed once, after exactly the first n bytes of the text.
 pub record FailsAfter (n : ℕ) (text : List ℕ) (written_before written_after : Option (List ℕ)) (failed_before failed_after : ℕ) : Type 0 where
   pub failed : failed_after ≡ failed_before + 1
   pub within : n < length text
   pub written : Appends written_before written_after (take n text)
 
--- the writer has gained a beginning of the text
+-- The writer has gained a prefix of the text.
 abbrev pub AppendsSome : Option (List ℕ) → Option (List ℕ) → List ℕ → Type 0
 AppendsSome written_before written_after text = (n : ℕ) × Appends written_before written_after (take n text)
 
--- a text that is printed in pieces was cut: the writer failed, or memory was refused behind a beginning of the text
+-- Writing the text in pieces failed: the writer failed, or memory ran out after a prefix of the text.
 abbrev pub IsCut : ToolFault → List ℕ → Option (List ℕ) → Option (List ℕ) → ℕ → ℕ → Type 0
 IsCut (Write n) text written_before written_after failed_before failed_after = FailsAfter n text written_before written_after failed_before failed_after
 IsCut OutOfMemory text written_before written_after failed_before failed_after = (failed_after ≡ failed_before) × AppendsSome written_before written_after text
 IsCut fault text written_before written_after failed_before failed_after = ⊥
 
--- in the midst of `strings`: the writer has gained a beginning of the command's text of what the reader had left, and has not failed
+-- `strings` ran out of memory: the writer has gained a prefix of its output for the input, and did not fail.
 pub record Halts (action : Action) (before after written_before written_after : Option (List ℕ)) (failed_before failed_after : ℕ) : Type 0 where
   pub role : Role
   pub asked : action ≡ Strings role
@@ -245,29 +248,29 @@ pub record Halts (action : Action) (before after written_before written_after : 
   pub well : failed_after ≡ failed_before
   pub written : AppendsSome written_before written_after text
 
--- ---- the same of a reader that is gone after the run
+-- ---- the same for a run that takes ownership of its reader, so that `after` is only known to exist
 
--- the writer has gained the command's text of what the reader had left, and what was made the file that the command makes
+-- The run succeeded: the writer has gained the command's output for the input, and `made` the new file.
 pub record Performs (action : Action) (before written_before written_after : Option (List ℕ)) (made_before made_after : List ℕ) : Type 0 where
   pub after : Option (List ℕ)
   pub answers : Answers action before after written_before written_after made_before made_after
 
--- the writer has gained the first n bytes of the command's text of what the reader had left
+-- The writer has gained exactly the first n bytes of the command's output for the input.
 pub record Stops (action : Action) (before written_before written_after : Option (List ℕ)) (n : ℕ) : Type 0 where
   pub after : Option (List ℕ)
   pub begins : Begins action before after written_before written_after n
 
--- in the midst of `strings`, with a beginning of its text of what the reader had left
+-- `strings` ran out of memory after a prefix of its output for the input.
 pub record Breaks (action : Action) (before written_before written_after : Option (List ℕ)) (failed_before failed_after : ℕ) : Type 0 where
   pub after : Option (List ℕ)
   pub halts : Halts action before after written_before written_after failed_before failed_after
 
--- an error is told of what the reader had left
+-- The error is one that the command may return for the input.
 pub record Reports (action : Action) (before : Option (List ℕ)) (fault : ToolFault) : Type 0 where
   pub after : Option (List ℕ)
   pub tells : Tells action before after fault
 
--- the input has an error, no triples, no answer to the look-up, or a string that is no term
+-- The command has an error of status 1 for the input.
 pub record Faults (action : Action) (before : Option (List ℕ)) : Type 0 where
   pub fault : ToolFault
   pub status : fault_status fault ≡ 1

@@ -1,8 +1,8 @@
--- How texts and strings print on one line.
+-- Escaping a text so that it fits on one line.
 use Rattle.std.specs.Prelude.{ℕ, ◌==◌, List, [], ◌∷◌, if◌then◌else◌}
 use Rattle.std.specs.List.{flat_map}
 
--- a backslash, a line feed and a carriage return print as `\\`, `\n` and `\r`
+-- Backslash, line feed and carriage return are escaped as `\\`, `\n` and `\r`.
 abbrev pub escaped_byte : ℕ → List ℕ
 escaped_byte b = if b == 92 then 92 ∷ 92 ∷ [] else (if b == 10 then 92 ∷ 110 ∷ [] else (if b == 13 then 92 ∷ 114 ∷ [] else b ∷ []))
 

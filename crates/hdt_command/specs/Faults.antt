@@ -1,5 +1,4 @@
--- The errors of a command that come from the errors of opening a file, of making the text of a graph, and of building or
--- rewriting a file.
+-- How the errors of the libraries become errors of a command.
 use Rattle.hdt_build.specs.declared.fault.BuildFault.{BuildFault}
 use Rattle.hdt_build.specs.declared.fault.BuildFault.TheVariants as building
 use Rattle.hdt_build.specs.declared.fault.RewriteFault.{RewriteFault}
@@ -23,7 +22,7 @@ dump_fault_of (dumping.NotATerm role n) = NotATerm role n
 dump_fault_of (dumping.Write n) = Write n
 dump_fault_of dumping.OutOfMemory = OutOfMemory
 
--- a reader that failed is told without the line that it failed in, and so is running out of memory
+-- A failed reader and lack of memory are errors of their own, without a line number.
 abbrev pub told_of_reason : LineFault → LineReason → ToolFault
 told_of_reason fault reasons.Read = Read
 told_of_reason fault reasons.OutOfMemory = OutOfMemory

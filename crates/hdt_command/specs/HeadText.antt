@@ -1,5 +1,4 @@
--- What `hdt head` prints: five lines, each a label, a space and a text, and a
--- line feed at its end; then the header body as it is.
+-- The output of `head`: five lines, each with a label, a space and an escaped text; then the header body, unescaped.
 use Rattle.std.specs.Prelude.{ℕ, List, [], ◌∷◌, ◌++◌, codes, length}
 use Rattle.std.specs.Fmt.{decimal}
 use Rattle.hdt_wire.specs.Control.{Block}
@@ -9,7 +8,7 @@ use Rattle.hdt_command.specs.Escaping.{escaped}
 abbrev pub labelled_line : List ℕ → List ℕ → List ℕ
 labelled_line label text = label ++ 32 ∷ escaped text ++ 10 ∷ []
 
--- the two lines of control information
+-- The two lines for control information.
 abbrev pub block_lines : List ℕ → Block → List ℕ
 block_lines name block = labelled_line name block.format ++ labelled_line (codes "properties") block.properties
 

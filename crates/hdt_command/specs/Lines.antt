@@ -1,4 +1,4 @@
--- The status that the program ends with, and the line that it prints to the standard error.
+-- The exit status and the error message for each error.
 use Rattle.std.specs.Prelude.{ℕ, List, ◌++◌, codes, string_bytes}
 use Rattle.std.specs.Fmt.{decimal}
 use Rattle.hdt_wire.specs.Fault.{reason_number, reason_name}
@@ -37,19 +37,19 @@ fault_line tool.Read = codes "hdt: reading failed"
 fault_line (tool.Write n) = codes "hdt: writing failed"
 fault_line tool.OutOfMemory = codes "hdt: out of memory"
 
--- the word of the command line
+-- The name of the argument in the help text.
 abbrev pub word_name : Word → List ℕ
 word_name Term = codes "TERM"
 word_name Subject = codes "S"
 word_name Predicate = codes "P"
 word_name Object = codes "O"
 
--- a word that isn't a term: the word, the column in it, the number and the name of the reason
+-- The message for an invalid term: the argument, the column, and the number and the name of the reason.
 abbrev pub word_line : Word → TermFault → List ℕ
 word_line word fault = codes "hdt: " ++ word_name word ++ codes " column " ++ decimal fault.column ++ codes ": "
     ++ decimal (line_reason_number fault.reason) ++ codes " " ++ line_reason_name fault.reason
 
--- help was asked for, so its text is no failure
+-- Help is printed with status 0, since it is no failure.
 abbrev pub usage_status : UsageFault → ℕ
 usage_status (usage.Usage text) = 2
 usage_status (usage.Help text) = 0

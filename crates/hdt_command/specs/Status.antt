@@ -1,4 +1,4 @@
--- The statuses that the program ends with, and what each says.
+-- The exit statuses of the program.
 use Rattle.std.specs.Prelude.{◌≡◌, ◌⊎◌, ℕ, List}
 use Rattle.clap.specs.Words.{Text}
 use Rattle.hdt_command.specs.Words.{IsRefused, Wants}
@@ -10,7 +10,7 @@ use Rattle.hdt_command.specs.declared.fault.ToolFault.{ToolFault}
 use Rattle.hdt_command.specs.declared.fault.UsageFault.{UsageFault}
 use Rattle.hdt_command.specs.declared.fault.UsageFault.TheVariants as usage
 
--- a command was done, or it stopped with an error
+-- The status of success, or of some error of a command.
 abbrev pub IsCommandStatus : ℕ → Type 0
 IsCommandStatus status = (status ≡ 0) ⊎ ((fault : ToolFault) × (status ≡ fault_status fault))
 
@@ -18,30 +18,30 @@ abbrev pub IsBuild : Action → Type 0
 IsBuild (Build options) = Unit {0}
 IsBuild action = ⊥
 
--- a command's status, or the words are told to be wrong since `build` is to write over its own input
+-- The status of a command, or 2 if `build` would overwrite its input.
 abbrev pub IsStatusOf : Action → ℕ → Type 0
 IsStatusOf action status = IsCommandStatus status ⊎ (IsBuild action × (status ≡ 2))
 
--- help ends with 0, or with 3 where it can't be printed; wrong words end with 2, or with 4 where memory for their line is
--- refused
+-- Help has status 0, or 3 if it cannot be printed. A usage error has status 2, or 4 if there is no memory for its
+-- message.
 abbrev pub IsRefusalStatus : UsageFault → ℕ → Type 0
 IsRefusalStatus (usage.Help text) status = (status ≡ 0) ⊎ (status ≡ 3)
 IsRefusalStatus (usage.Usage text) status = (status ≡ 2) ⊎ (status ≡ 4)
 IsRefusalStatus (usage.Word word fault) status = (status ≡ 2) ⊎ (status ≡ 4)
 IsRefusalStatus usage.OutOfMemory status = status ≡ 4
 
--- the words want a request, and the status is one of what it asks for
+-- The command line gives a request, and the status is one of its command.
 pub record EndsCommand (words : List Text) (status : ℕ) : Type 0 where
   pub request : Request
   pub wanted : Wants words request
   pub ends : IsStatusOf request.action status
 
--- the words are refused, and the status is that of the refusal
+-- The command line is refused, and the status is one of its error.
 pub record EndsRefusal (words : List Text) (status : ℕ) : Type 0 where
   pub fault : UsageFault
   pub refused : IsRefused words fault
   pub ends : IsRefusalStatus fault status
 
--- the program ends with the status
+-- The program may end with this status for this command line.
 abbrev pub Ends : List Text → ℕ → Type 0
 Ends words status = EndsCommand words status ⊎ EndsRefusal words status

@@ -1,4 +1,4 @@
--- What `find` and `dump` print: the triples that have the strings that are given, or any where none is.
+-- The output of `find` and `dump`: the triples with the given strings.
 use Rattle.std.specs.Prelude.{◌≡◌, ◌↔◌, ℕ, Bool, true, false, List, [], ◌∷◌, ◌++◌, Option, Some, map, length, option_map}
 use Rattle.std.specs.Fmt.{decimal}
 use Rattle.std.specs.List.{flat_map}
@@ -20,16 +20,16 @@ use Rattle.hdt_command.specs.declared.request.Form.TheVariants.{Lines, Numbers, 
 use Rattle.hdt_command.specs.declared.fault.ToolFault.{ToolFault}
 use Rattle.hdt_command.specs.declared.fault.ToolFault.TheVariants.{NotATerm, OutOfMemory}
 
--- the strings that are given for subject, predicate and object, each or none
+-- The strings for subject, predicate and object; none matches any.
 abbrev pub Given : Type 0
 Given = List (Option (Vec ℕ Global))
 
--- the same strings, borrowed from somewhere
+-- The same strings as borrowed slices.
 abbrev pub AreLent : Given → List (Option Lent) → Type 0
 AreLent given lent = map (option_map (λ x. x.now)) lent ≡ map (option_map (λ x. x.items)) given
 
--- the triples that strings find, each or none of subject, predicate and object: the matches of the pattern of their numbers, or none
--- where there is no such pattern
+-- The triples with these strings: the matches of the pattern of their IDs, or no triples if a string has no ID in its
+-- role.
 pub record FindsStrings (g : GraphParts) (strings : List (Option (List ℕ))) (found : List Triple) : Type 0 where
   pub lent : List (Option Lent)
   pub same : map (option_map (λ x. x.now)) lent ≡ strings
@@ -40,56 +40,56 @@ pub record FindsStrings (g : GraphParts) (strings : List (Option (List ℕ))) (f
 abbrev pub Finds : GraphParts → Given → List Triple → Type 0
 Finds g given found = FindsStrings g (map (option_map (λ x. x.items)) given) found
 
--- of the triples that the strings find this holds
+-- Holds is true for the triples with the given strings.
 pub record FindsWith (g : GraphParts) (given : Given) (Holds : List Triple → Type 0) : Type 0 where
   pub found : List Triple
   pub finds : Finds g given found
   pub holds : Holds found
 
--- the line of a triple's numbers: subject, predicate and object, with spaces between them
+-- A line with a triple's three IDs, separated by spaces.
 abbrev pub numbers_line : Triple → List ℕ
 numbers_line t = decimal t.0 ++ 32 ∷ (decimal t.1 ++ 32 ∷ (decimal t.2 ++ 10 ∷ []))
 
--- a line for each triple, in order
+-- One line per triple, in order.
 abbrev pub numbers_lines : List Triple → List ℕ
 numbers_lines found = flat_map numbers_line found
 
--- the line with how many there are
+-- A line with the number of triples.
 abbrev pub how_many_line : List Triple → List ℕ
 how_many_line found = decimal (length found) ++ 10 ∷ []
 
--- numbers or N-Triples, by a flag
+-- The output format with and without `--numbers`.
 abbrev pub form_of : Bool → Form
 form_of false = Lines
 form_of true = Numbers
 
--- triples print as the text: in N-Triples, as the lines of their numbers, or as how many they are
+-- The text of triples in an output format: N-Triples, lines of IDs, or a line with their number.
 abbrev pub PrintsTriples : Form → GraphParts → List Triple → List ℕ → Type 0
 PrintsTriples Lines g found text = IsTextOf (denoted g found) text
 PrintsTriples Numbers g found text = text ≡ numbers_lines found
 PrintsTriples Count g found text = text ≡ how_many_line found
 
--- the text has grown by what triples print as
+-- The text of the triples was appended.
 pub record AppendsTriples (form : Form) (g : GraphParts) (found : List Triple) (old new : List ℕ) : Type 0 where
   pub text : List ℕ
   pub prints : PrintsTriples form g found text
   pub grown : new ≡ old ++ text
 
--- why triples do not print
+-- The error is one that printing these triples may return.
 abbrev pub TellsTriples : Form → GraphParts → List Triple → DumpFault → Type 0
 TellsTriples form g found (dumping.NotATerm role n) = (form ≡ Lines) × IsFirstIn g found role n
 TellsTriples form g found (dumping.Write n) = ⊥
 TellsTriples form g found dumping.OutOfMemory = Unit {0}
 
--- the triples that the strings find, or at most so many of the first, print as the text
+-- The text of the triples with the given strings, up to a limit.
 abbrev pub PrintsFound : GraphParts → Given → Form → Option ℕ → List ℕ → Type 0
 PrintsFound g given form most text = FindsWith g given (λ found. PrintsTriples form g (limited most found) text)
 
--- in N-Triples: the first string of these triples that is no term has this role and number
+-- The output format is N-Triples, and the first string of these triples that is not a term has this role and ID.
 abbrev pub LacksTermIn : GraphParts → Given → Form → Option ℕ → Role → ℕ → Type 0
 LacksTermIn g given form most role n = (form ≡ Lines) × FindsWith g given (λ found. IsFirstIn g (limited most found) role n)
 
--- why these triples do not print: a string that is no term, or running out of memory
+-- The error is one that `find` may return for a valid file.
 abbrev pub TellsFound : GraphParts → Given → Form → Option ℕ → ToolFault → Type 0
 TellsFound g given form most (NotATerm role n) = LacksTermIn g given form most role n
 TellsFound g given form most OutOfMemory = Unit {0}

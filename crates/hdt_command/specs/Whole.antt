@@ -1,4 +1,4 @@
--- Commands by how they print.
+-- Commands by how they print: in pieces, or one complete text.
 use Rattle.hdt_command.specs.declared.request.Action.{Action}
 use Rattle.hdt_command.specs.declared.request.Action.TheVariants.{Head, Verify, VerifyTight, Strings, Nth, Number, Find, Search, Answer, Build, Rewrite}
 use Rattle.hdt_command.specs.declared.whole.Query.{Query}
@@ -8,7 +8,7 @@ use Rattle.hdt_command.specs.declared.whole.Whole.TheVariants as whole
 use Rattle.hdt_command.specs.declared.whole.Printing.{Printing}
 use Rattle.hdt_command.specs.declared.whole.Printing.TheVariants as printing
 
--- the command that makes a text of its file
+-- The action of a command that writes no file.
 abbrev pub query_action : Query → Action
 query_action query.Head = Head
 query_action query.Verify = Verify
@@ -19,13 +19,13 @@ query_action (query.Find given numbers) = Find given.now numbers
 query_action (query.Search given form most) = Search given.now form most
 query_action (query.Answer asking) = Answer asking
 
--- the command whose text is made whole
+-- The action of a command that prints one complete text.
 abbrev pub whole_action : Whole → Action
 whole_action (whole.Build options) = Build options.now
 whole_action (whole.Rewrite b) = Rewrite b
 whole_action (whole.Query query) = query_action query
 
--- the command that prints so
+-- The action of a command.
 abbrev pub printing_action : Printing → Action
 printing_action (printing.Pieces role) = Strings role
 printing_action (printing.Whole whole) = whole_action whole

@@ -1,4 +1,4 @@
-//! What commands on a file print.
+//! The output of each command that only reads a file.
 ghost use Rattle.hdt_command.specs.declared.request.Asking.{Asking};
 ghost use Rattle.std.specs.Prelude.{◌≡◌, [], ◌≢◌, ◌⊎◌, IfOk, IfErr, OnOk};
 ghost use Rattle.std.specs.Io.KnownBytes.{Appends};
@@ -22,7 +22,7 @@ use hdt_wire::Counted;
 use std::alloc::Global;
 use std::io::Write;
 
-/// Prints what `strings` prints, in pieces.
+/// Writes the output of `strings` in pieces.
 pub fn print_strings_of<W: Write>(
     alloc: Global,
     bytes: &[u8],
@@ -38,7 +38,7 @@ pub fn print_strings_of<W: Write>(
     print_strings(alloc, &layout, role, out)
 }
 
-/// The text of `string`.
+/// The output of `string`.
 fn string_of(alloc: Global, bytes: &[u8], role: Role, number: u64) -> Result<Vec<u8>, ToolFault>
     ensures ok { IfOk result (λ text. Consults bytes.now role (λ strings. PrintsString strings number text.items)) }
     ensures err { IfErr result (λ e. IsTold (Action.Nth role number) bytes.now e) }
@@ -47,7 +47,7 @@ fn string_of(alloc: Global, bytes: &[u8], role: Role, number: u64) -> Result<Vec
     string_text(alloc, &layout, role, number)
 }
 
-/// The text of `number`.
+/// The output of `number`.
 fn number_of(
     alloc: Global,
     bytes: &[u8],
@@ -61,7 +61,7 @@ fn number_of(
     number_text(alloc, &layout, role, string)
 }
 
-/// The text of `find`.
+/// The output of `find`.
 fn triples_of(
     alloc: Global,
     bytes: &[u8],
@@ -76,7 +76,7 @@ fn triples_of(
     triples_text(alloc, &layout, given, form, most)
 }
 
-/// The text of `head`.
+/// The output of `head`.
 fn head_of(alloc: Global, bytes: &[u8]) -> Result<Vec<u8>, ToolFault>
     ensures ok { IfOk result (λ text. PrintsHead bytes.now text.items) }
     ensures err { IfErr result (λ e. IsTold Action.Head bytes.now e) }
@@ -85,7 +85,7 @@ fn head_of(alloc: Global, bytes: &[u8]) -> Result<Vec<u8>, ToolFault>
     Ok(head_text(alloc, &head)?)
 }
 
-/// The text of `verify`.
+/// The output of `verify`.
 fn verdict_of(alloc: Global, bytes: &[u8]) -> Result<Vec<u8>, ToolFault>
     ensures ok { IfOk result (λ text. Prints Action.Verify bytes.now text.items) }
     ensures err { IfErr result (λ e. IsTold Action.Verify bytes.now e) }
@@ -94,7 +94,7 @@ fn verdict_of(alloc: Global, bytes: &[u8]) -> Result<Vec<u8>, ToolFault>
     Ok(verdict(alloc, lens)?)
 }
 
-/// The text of `verify --tight`.
+/// The output of `verify --tight`.
 fn tight_verdict_of(alloc: Global, bytes: &[u8]) -> Result<Vec<u8>, ToolFault>
     ensures ok { IfOk result (λ text. PrintsTightVerdict bytes.now text.items) }
     ensures err { IfErr result (λ e. IsTold Action.VerifyTight bytes.now e) }
@@ -103,7 +103,7 @@ fn tight_verdict_of(alloc: Global, bytes: &[u8]) -> Result<Vec<u8>, ToolFault>
     Ok(verdict(alloc, lens)?)
 }
 
-/// The text of `answer` without requests.
+/// The output of `answer` without requests: checks the file, and prints nothing.
 fn nothing_of(alloc: Global, bytes: &[u8]) -> Result<Vec<u8>, ToolFault>
     ensures ok { IfOk result (λ text. Opens bytes.now (λ _. text.items ≡ [])) }
     ensures err { IfErr result (λ e. (asking : Asking) → IsTold (Action.Answer asking) bytes.now e) }
@@ -112,14 +112,14 @@ fn nothing_of(alloc: Global, bytes: &[u8]) -> Result<Vec<u8>, ToolFault>
     Ok(Vec::new(alloc))
 }
 
-/// What `find` prints without `--count` and `--most`.
+/// The format of `find` without `--count`.
 fn form_of(numbers: bool) -> Form
     ensures { result ≡ form_of numbers }
 {
     if numbers { Form::Numbers } else { Form::Lines }
 }
 
-/// The text of a command that makes no file.
+/// The output of a command that writes no file.
 pub fn answer(alloc: Global, query: Query<'_>, bytes: &[u8]) -> Result<Vec<u8>, ToolFault>
     ensures ok { IfOk result (λ text. Prints (query_action query.entry) bytes.now text.items) }
     ensures err { IfErr result (λ e. IsTold (query_action query.entry) bytes.now e) }

@@ -1,4 +1,4 @@
-//! Answering requests over a graph, one by one.
+//! The requests of `answer`, served one by one over an open graph.
 ghost use Rattle.std.specs.Prelude.{◌≡◌, ◌≢◌, ◌+◌, ◌-◌, ◌<◌, ◌≤◌, ◌⊎◌, ◌∷◌, [], ◌++◌, ◌||◌, ℕ, List, Option, None, Some, Ok, true, false, length, option_map, if◌then◌else◌, IfOk, IfErr, OnOk, OnErr, IsErrOf, take};
 ghost use Rattle.hdt_wire.specs.Counted.{inner, failures};
 ghost use Rattle.hdt_terms.specs.Documents.{AreLines, FaultBehind};
@@ -27,7 +27,8 @@ use hdt_wire::{Counted, cut_on_error};
 use std::alloc::{AllocError, Global};
 use std::io::{Read, Write};
 
-/// Reads a request, of terms or of dictionary strings, into the buffers.
+/// Parses a request line, of N-Triples terms or of dictionary strings, into the buffers. Returns which of the three are
+/// given, or `None` for a blank line or a comment.
 fn read_line(
     raw: bool,
     text: &[u8],
@@ -43,7 +44,7 @@ fn read_line(
     read_request(text, subject, predicate, object)
 }
 
-/// Reads a request, or fails with `TooLong` if the line is longer than the longest request.
+/// Parses a request line, or fails with `TooLong` if it exceeds the maximum length.
 fn read_within(
     asking: Asking,
     text: &[u8],
@@ -69,7 +70,7 @@ fn given_part(given: bool, string: &[u8]) -> Option<&[u8]>
     if given { Some(string) } else { None }
 }
 
-/// The pattern with the IDs of the strings that are given, if each is one of its role.
+/// The pattern with the IDs of the given strings; `None` if one of them is not in its role.
 fn asked_pattern(
     graph: &Graph<'_>,
     given: [bool; 3],
@@ -87,7 +88,7 @@ fn asked_pattern(
     graph.pattern(lent, &mut Steps::new())
 }
 
-/// The answer to a line with an error.
+/// The answer to a line with an error: a comment line and an empty line.
 fn fault_answer(alloc: Global, line: u64, fault: TermFault) -> Result<Vec<u8>, AllocError>
     ensures { IfOk result (λ answer. answer.items ≡ ended (fault_comment line fault)) }
 {
@@ -98,7 +99,7 @@ fn fault_answer(alloc: Global, line: u64, fault: TermFault) -> Result<Vec<u8>, A
     Ok(text.into_bytes())
 }
 
-/// The answer that reports a string that is not a term.
+/// The answer that reports a string that is not a term: a comment line and an empty line.
 fn no_term_answer(alloc: Global, role: Role, number: u64) -> Result<Vec<u8>, AllocError>
     ensures { IfOk result (λ answer. answer.items ≡ ended (no_term_comment role number)) }
 {
@@ -107,8 +108,8 @@ fn no_term_answer(alloc: Global, role: Role, number: u64) -> Result<Vec<u8>, All
     Ok(text.into_bytes())
 }
 
-/// Appends the answer to a pattern, or the empty one without a pattern. Returns whether it reports a string that is not
-/// a term. After an error `out` is unchanged.
+/// Appends the answer for a pattern; it is empty without one. Returns whether it reports a string that is not a term.
+/// On error `out` is unchanged.
 fn found_answer(
     alloc: Global,
     graph: &Graph<'_>,
@@ -146,7 +147,7 @@ fn found_answer(
     }
 }
 
-/// Appends the answer to a line with this number. Returns whether it is an error. After an error `out` is unchanged.
+/// Appends the answer to a numbered line. Returns whether it is an error. On error `out` is unchanged.
 fn line_answer(
     alloc: Global,
     graph: &Graph<'_>,
@@ -180,10 +181,11 @@ fn line_answer(
     }
 }
 
-/// A limit that no input exceeds.
+/// A limit in bytes that no input exceeds.
 const MOST_BYTES: u64 = 9_223_372_036_854_775_807;
 
-/// The next line, if there is one; of a line that is longer than the longest request only one byte more than that.
+/// Reads the next line into `text`, and returns whether there is one. Of a line above the maximum length it keeps one
+/// byte more than the maximum, which is enough to detect it.
 fn next_line<R: Read>(
     lines: &mut Lines,
     longest: u32,
@@ -208,20 +210,20 @@ fn next_line<R: Read>(
     lines.next_front(longest as usize + 1, input, text)
 }
 
-/// Whether one of two holds.
+/// Whether at least one is true.
 fn either(one: bool, other: bool) -> bool
     ensures { result ≡ one || other }
 {
     one || other
 }
 
-/// The number of bytes of pending answers from which on they are written.
+/// Pending answers are flushed once they exceed this number of bytes.
 const PIECE: usize = 65_536;
 
-/// The greatest capacity that is kept from answer to answer: the memory of a long one is freed.
+/// A larger buffer is freed after it is flushed.
 const ROOM: usize = 262_144;
 
-/// Writes the pending answers, which are the last of `count` bytes.
+/// Writes the pending answers, which are the last of `count` bytes, and clears the buffer.
 fn write_kept<W: Write>(
     kept: &mut Vec<u8>,
     count: u64,
@@ -246,9 +248,8 @@ fn write_kept<W: Write>(
     }
 }
 
-/// Adds the newest answer, which begins at `start`, to the number of bytes, and writes the pending answers if no
-/// request is pending or they exceed 64 KiB. If the number exceeds 64 bits it drops the newest answer and fails with
-/// `OutOfMemory`.
+/// Adds the newest answer, from `start` on, to the total `count`, and flushes if no request is pending or 64 KiB are
+/// exceeded. If the total overflows 64 bits, drops that answer and fails with `OutOfMemory`.
 fn settle<W: Write>(
     start: usize,
     more: bool,
@@ -278,17 +279,19 @@ fn settle<W: Write>(
     Ok(end)
 }
 
-/// Answers the requests of a reader, line by line up to its end. Returns whether one of the answers is an error.
-/// Answers are written before more is read: at once, or together with those of other requests that were read already,
-/// up to 64 KiB. A line that is longer than the longest request, also a comment or a blank one, is answered by that
-/// error and skipped, in linear time. Memory is that of the longest request within that bound and of the longest answer,
-/// of what a [`Speller`] keeps, of 64 KiB of the input and of these 64 KiB; the time of a request is that of its search
-/// and its text.
+/// Reads requests, one per line, and writes an answer to each. Returns whether any answer is an error.
+///
+/// Answers are flushed before more input is read. Until then they are collected, up to 64 KiB, while complete requests
+/// are buffered. A line above the maximum length, also a comment or a blank line, is answered by `TooLong` and skipped
+/// in linear time.
+///
+/// Memory: the longest request and the longest answer, what a [`Speller`] keeps, and 64 KiB each of input and output.
+/// Time per request: that of its search and its text.
 ///
 /// # Errors
 ///
 /// [`ToolFault::Read`] if the reader failed, [`ToolFault::Write`] if the writer did, [`ToolFault::Input`] if there are
-/// more bytes than [`Lines`] takes, and [`ToolFault::OutOfMemory`]. Earlier answers are written completely.
+/// more bytes than [`Lines`] takes, and [`ToolFault::OutOfMemory`]. All earlier answers are written completely.
 pub fn answer_requests<R: Read, W: Write>(
     alloc: Global,
     graph: &Graph<'_>,
@@ -296,12 +299,11 @@ pub fn answer_requests<R: Read, W: Write>(
     input: &mut Counted<R>,
     out: &mut Counted<W>,
 ) -> Result<bool, ToolFault>
-    // The answers to all lines of the input were written, in order, and whether one is an error is returned.
+    // `out` has gained the answers to all lines, in order; the result is whether any of them is an error.
     ensures ok { IfOk result (AnswersInput (graph_seen graph.now) asking (R.remaining (inner input.old)) (W.contents (inner out.old)) (W.contents (inner out.new))) }
     ensures writer_well { OnOk result (failures out.new ≡ failures out.old) }
-    // The complete answers to earlier lines were written, or exactly the first n bytes of the answers if the writer
-    // failed. If a line can't be read, running out of memory aside, these are the answers to all complete lines, and
-    // the error is after them.
+    // `out` has gained the complete answers to earlier lines, or exactly the first n bytes of the answers if the writer
+    // failed. If a line cannot be read, other than for lack of memory, these are the answers to all lines before it.
     ensures stopped { IfErr result (AnswersSome (graph_seen graph.now) asking (R.remaining (inner input.old)) (R.remaining (inner input.new))
         (W.contents (inner out.old)) (W.contents (inner out.new)) (failures out.old) (failures out.new)) }
     ensures read { IsErrOf result ToolFault.Read → failures input.new ≡ failures input.old + 1 }

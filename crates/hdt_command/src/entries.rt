@@ -15,21 +15,21 @@ use hdt_dict::Role;
 use hdt_terms::{LineReason, TermFault, parse_string};
 use std::alloc::Global;
 
-/// The error of an argument that `clap` does not give.
+/// The error for a required argument without a valid value.
 pub fn missing(alloc: Global) -> UsageFault
     ensures { ComesWithout ⊥ result }
 {
     UsageFault::text(alloc, "error: a word is missing")
 }
 
-/// The text of an argument, if it has one.
+/// The text of an argument, if it is given.
 fn word_at<'m>(matches: &ArgMatches<'m>, id: &str) -> Option<&'m str>
     ensures { option_map (λ text. text.now) result ≡ first_of id.now (rows_of (found_of matches.now)) }
 {
     matches.get_str(id)
 }
 
-/// The number of an argument, if it is one.
+/// The value of an argument, if it is a decimal u64.
 fn number_in<'m>(matches: &ArgMatches<'m>, id: &str) -> Option<u64>
     ensures { StatesNumberOrNone (one_of id.now (rows_of (found_of matches.now))) result }
 {
@@ -43,7 +43,7 @@ pub fn flag_at<'m>(matches: &ArgMatches<'m>, id: &str) -> bool
     matches.get_flag(id)
 }
 
-/// The text of an argument.
+/// The text of a required argument.
 pub fn text_at<'m>(alloc: Global, matches: &ArgMatches<'m>, id: &str) -> Result<String, UsageFault>
     ensures ok { IfOk result (λ text. first_of id.now (rows_of (found_of matches.now)) ≡ Some (string_bytes text)) }
     ensures refused { IfErr result (ComesWithout (IsSome (first_of id.now (rows_of (found_of matches.now))))) }
@@ -54,7 +54,7 @@ pub fn text_at<'m>(alloc: Global, matches: &ArgMatches<'m>, id: &str) -> Result<
     }
 }
 
-/// The role of the argument ROLE.
+/// The role that the argument ROLE names.
 pub fn role_at<'m>(alloc: Global, matches: &ArgMatches<'m>) -> Result<Role, UsageFault>
     ensures ok { IfOk result (λ role. first_of (codes "ROLE") (rows_of (found_of matches.now)) ≡ Some (role_name role)) }
     ensures refused { IfErr result (ComesWithout ((role : Role) × (first_of (codes "ROLE") (rows_of (found_of matches.now)) ≡ Some (role_name role)))) }
@@ -67,7 +67,7 @@ pub fn role_at<'m>(alloc: Global, matches: &ArgMatches<'m>) -> Result<Role, Usag
     }
 }
 
-/// The number of the argument N.
+/// The ID in the argument N.
 pub fn number_at<'m>(alloc: Global, matches: &ArgMatches<'m>) -> Result<u64, UsageFault>
     ensures ok { IfOk result (λ n. StatesNumber 64 (one_of (codes "N") (rows_of (found_of matches.now))) n) }
     ensures refused { IfErr result (ComesWithout ((n : ℕ) × StatesNumber 64 (one_of (codes "N") (rows_of (found_of matches.now))) n)) }
@@ -78,7 +78,7 @@ pub fn number_at<'m>(alloc: Global, matches: &ArgMatches<'m>) -> Result<u64, Usa
     }
 }
 
-/// The number of an option, below 2^32.
+/// The value of a required option, a decimal u32.
 fn small_number_at<'m>(alloc: Global, matches: &ArgMatches<'m>, id: &str) -> Result<u32, UsageFault>
     ensures ok { IfOk result (λ n. StatesNumber 32 (one_of id.now (rows_of (found_of matches.now))) n) }
     ensures refused { IfErr result (ComesWithout ((n : ℕ) × StatesNumber 32 (one_of id.now (rows_of (found_of matches.now))) n)) }
@@ -90,7 +90,7 @@ fn small_number_at<'m>(alloc: Global, matches: &ArgMatches<'m>, id: &str) -> Res
     }
 }
 
-/// The number of the option `--block-size`.
+/// The value of `--block-size`.
 pub fn block_size_at<'m>(alloc: Global, matches: &ArgMatches<'m>) -> Result<u32, UsageFault>
     ensures ok { IfOk result (λ n. StatesNumber 32 (one_of (codes "block-size") (rows_of (found_of matches.now))) n) }
     ensures refused { IfErr result (ComesWithout ((n : ℕ) × StatesNumber 32 (one_of (codes "block-size") (rows_of (found_of matches.now))) n)) }
@@ -98,7 +98,7 @@ pub fn block_size_at<'m>(alloc: Global, matches: &ArgMatches<'m>) -> Result<u32,
     small_number_at(alloc, matches, "block-size")
 }
 
-/// The options of `build`, as given or by default.
+/// The options of `build`, given or by default.
 pub fn options_at<'m>(alloc: Global, matches: &ArgMatches<'m>) -> Result<Options, UsageFault>
     ensures ok { IfOk result (λ options. StatesOptions (rows_of (found_of matches.now)) options) }
     ensures refused { IfErr result (ComesWithout ((options : Options) × StatesOptions (rows_of (found_of matches.now)) options)) }
@@ -110,7 +110,7 @@ pub fn options_at<'m>(alloc: Global, matches: &ArgMatches<'m>) -> Result<Options
     })
 }
 
-/// The command `verify`, by `--tight`.
+/// The action of `verify`, with or without `--tight`.
 pub fn verify_at<'m>(matches: &ArgMatches<'m>) -> Action
     ensures { AsksAction (codes "verify") (rows_of (found_of matches.now)) result }
 {
@@ -120,7 +120,7 @@ pub fn verify_at<'m>(matches: &ArgMatches<'m>) -> Action
     Action::Verify
 }
 
-/// The error of an argument that is not a term.
+/// The error for an argument that is not a valid term.
 fn term_fault(word: Word, fault: TermFault) -> UsageFault
     ensures { TellsTerm word fault result }
 {
@@ -130,7 +130,7 @@ fn term_fault(word: Word, fault: TermFault) -> UsageFault
     }
 }
 
-/// The dictionary string of a text: the text itself if it is `raw`, else that of the term that it is.
+/// The dictionary string for a text: the text itself if `raw`, else the string of the N-Triples term that it spells.
 fn string_of(alloc: Global, word: Word, text: &[u8], raw: bool) -> Result<Vec<u8>, UsageFault>
     ensures ok { IfOk result (λ x. IsStringOf raw text.now x.items) }
     ensures refused { IfErr result (ComesWithoutOr (Unit {0}) (IsFaultOfWord word raw text.now)) }
@@ -145,7 +145,7 @@ fn string_of(alloc: Global, word: Word, text: &[u8], raw: bool) -> Result<Vec<u8
     }
 }
 
-/// The dictionary string of the argument TERM: the text itself with `--raw`, else that of the term that it is.
+/// The dictionary string for the argument TERM.
 pub fn string_at<'m>(alloc: Global, matches: &ArgMatches<'m>) -> Result<Vec<u8>, UsageFault>
     ensures ok { IfOk result (λ x. StatesString (one_of (codes "raw") (rows_of (found_of matches.now)))
         (first_of (codes "TERM") (rows_of (found_of matches.now))) x.items) }
@@ -159,7 +159,7 @@ pub fn string_at<'m>(alloc: Global, matches: &ArgMatches<'m>) -> Result<Vec<u8>,
     }
 }
 
-/// The dictionary string of a text, or `None` if it is `?`.
+/// The dictionary string for a text, or `None` if it is `?`.
 fn part_of(alloc: Global, word: Word, text: &str, raw: bool) -> Result<Option<Vec<u8>>, UsageFault>
     ensures ok { IfOk result (λ part. MatchOption part (text.now ≡ codes "?") (λ x. (text.now ≢ codes "?") × IsStringOf raw text.now x.items)) }
     ensures refused { IfErr result (ComesWithoutOr (Unit {0}) (λ other fault. (text.now ≢ codes "?") × IsFaultOfWord word raw text.now other fault)) }
@@ -170,8 +170,7 @@ fn part_of(alloc: Global, word: Word, text: &str, raw: bool) -> Result<Option<Ve
     Ok(Some(string_of(alloc, word, text.as_bytes(), raw)?))
 }
 
-/// The dictionary string of the argument S, P or O: `None` if it is `?`, the text itself with `--raw`, else that of the
-/// term that it is.
+/// The dictionary string for the argument S, P or O, or `None` if it is `?`.
 fn part_at<'m>(
     alloc: Global,
     matches: &ArgMatches<'m>,
@@ -188,7 +187,7 @@ fn part_at<'m>(
     }
 }
 
-/// What `find` prints, by `--count` and `--numbers`.
+/// The output format, by `--count` and `--numbers`.
 fn form_at<'m>(matches: &ArgMatches<'m>) -> Form
     ensures { StatesForm (rows_of (found_of matches.now)) result }
 {
@@ -201,7 +200,7 @@ fn form_at<'m>(matches: &ArgMatches<'m>) -> Form
     Form::Lines
 }
 
-/// The command `find`, by its strings, its form and its limit.
+/// The action of `find`: `Search` only if there is a count or a limit.
 fn found_action(given: [Option<Vec<u8>>; 3], form: Form, most: Option<u64>) -> Action
     ensures { IsFinding given form most result }
 {
@@ -218,7 +217,7 @@ fn found_action(given: [Option<Vec<u8>>; 3], form: Form, most: Option<u64>) -> A
     }
 }
 
-/// The command `find`: S, P and O are read in turn.
+/// The action of `find`. S, P and O are checked in this order.
 pub fn find_at<'m>(alloc: Global, matches: &ArgMatches<'m>) -> Result<Action, UsageFault>
     ensures ok { IfOk result (AsksAction (codes "find") (rows_of (found_of matches.now))) }
     ensures refused { IfErr result (ComesWithoutOr ((action : Action) × AsksAction (codes "find") (rows_of (found_of matches.now)) action)
@@ -232,7 +231,7 @@ pub fn find_at<'m>(alloc: Global, matches: &ArgMatches<'m>) -> Result<Action, Us
     Ok(found_action(given, form_at(matches), most))
 }
 
-/// The command `answer`.
+/// The action of `answer`.
 pub fn answer_at<'m>(alloc: Global, matches: &ArgMatches<'m>) -> Result<Action, UsageFault>
     ensures ok { IfOk result (AsksAction (codes "answer") (rows_of (found_of matches.now))) }
     ensures refused { IfErr result (ComesWithout ((n : ℕ) × StatesNumber 32 (one_of (codes "longest-request") (rows_of (found_of matches.now))) n)) }

@@ -1,10 +1,10 @@
-//! Escaping texts so that they are one line.
+//! Escaping a text so that it fits on one line.
 ghost use Rattle.std.specs.Prelude.{◌≡◌, ◌++◌, OnOk};
 ghost use Rattle.hdt_command.specs.Escaping.{escaped_byte, escaped};
 
 use std::alloc::AllocError;
 
-/// Appends a byte of a text, or its escape.
+/// Appends a byte, escaped if need be.
 fn put_escaped_byte(byte: u8, out: &mut Vec<u8>) -> Result<(), AllocError>
     ensures { OnOk result (out.new.items ≡ out.old.items ++ escaped_byte byte) }
 {
@@ -16,7 +16,7 @@ fn put_escaped_byte(byte: u8, out: &mut Vec<u8>) -> Result<(), AllocError>
     }
 }
 
-/// Appends a text with its backslashes, line feeds and carriage returns escaped.
+/// Appends a text, with backslash, line feed and carriage return escaped as `\\`, `\n` and `\r`.
 pub fn put_escaped(text: &[u8], out: &mut Vec<u8>) -> Result<(), AllocError>
     ensures { OnOk result (out.new.items ≡ out.old.items ++ escaped text.now) }
 {

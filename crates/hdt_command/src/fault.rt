@@ -1,4 +1,4 @@
-//! The errors of a command line, and of a command.
+//! The errors of a command line and of a command.
 ghost use Rattle.std.specs.Prelude.{◌≡◌, ◌≢◌, ◌⊎◌};
 ghost use Rattle.std.specs.IoError.{error_kind};
 ghost use Rattle.hdt_command.specs.declared.fault.UsageFault.TheVariants.{OutOfMemory as usage_memory};
@@ -15,7 +15,7 @@ use std::alloc::{AllocError, Global};
 use std::io::{self, ErrorKind};
 use thiserror::Error;
 
-/// An argument that is an N-Triples term.
+/// A command-line argument that is an N-Triples term.
 #[derive(Clone, Copy, Debug, PartialEq, Eq)]
 pub enum Word {
     /// The TERM of `number`.
@@ -31,7 +31,7 @@ pub enum Word {
 impl Word {
     ghost use Rattle.hdt_command.specs.Lines.{word_name};
 
-    /// The argument's name in the help.
+    /// The argument's name in the help text.
     pub fn name(self) -> &'static str
         ensures { result.now ≡ word_name self }
     {
@@ -47,15 +47,15 @@ impl Word {
 /// Why a command line is not a request.
 #[derive(Debug, Drop)]
 pub enum UsageFault {
-    /// The arguments are wrong; the text says how, without a line feed at its end.
+    /// The arguments are not valid. The message has no line feed at its end.
     Usage(String),
-    /// Help or the version was asked for; this is its text, without a line feed at its end.
+    /// Help or the version was requested. The text has no line feed at its end.
     Help(String),
     /// An argument is not an N-Triples term.
     Word {
         /// Which argument.
         word: Word,
-        /// What is wrong with it, and in which of its columns; never `OutOfMemory`.
+        /// What is wrong with it, and at which column; never `OutOfMemory`.
         fault: TermFault,
     },
     /// Memory ran out.
@@ -65,7 +65,7 @@ pub enum UsageFault {
 impl UsageFault {
     ghost use Rattle.hdt_command.specs.Words.{SaysUsage};
 
-    /// The error of a command line with this text.
+    /// A usage error with this message.
     pub fn text(alloc: Global, text: &str) -> UsageFault
         ensures { SaysUsage text.now result }
     {
@@ -84,17 +84,16 @@ impl From<AllocError> for UsageFault {
     }
 }
 
-/// Why a command stopped. The program prints the lines of [`crate::lines::fault_line`], not the texts here.
+/// Why a command failed. The program prints the lines of [`crate::lines::fault_line`], not the `Display` texts.
 #[derive(Clone, Copy, Debug, PartialEq, Eq, Error)]
 pub enum ToolFault {
-    /// The input is not a valid file.
+    /// The input is not a valid HDT file.
     #[error("the file has a fault: {0}")]
     File(Fault),
-    /// The input is not an N-Triples document. The reason is never that the reader failed or memory ran out: these are
-    /// errors of their own.
+    /// The input is not an N-Triples document. The reason is never `Read` or `OutOfMemory`, which are variants below.
     #[error("the input has a fault: {0}")]
     Input(LineFault),
-    /// The input is a document without triples.
+    /// The input is an N-Triples document without triples.
     #[error("no triples")]
     NoTriples,
     /// The role has no such string.
@@ -103,11 +102,11 @@ pub enum ToolFault {
     /// The role has no string with this ID.
     #[error("no such number")]
     NoSuchNumber,
-    /// The string of this role with this ID, from 1, is not a term that the role allows, so its triples have no line of
+    /// The string with this ID, from 1, is not a valid term in this role, so its triples cannot be written as
     /// N-Triples.
     #[error("a string that is not a term: {0:?} {1}")]
     NotATerm(Role, u64),
-    /// The block size or the base is not valid.
+    /// The block size or the base IRI is not valid.
     #[error("bad options")]
     BadOptions,
     /// Reading failed, or the file could not be opened.
@@ -121,7 +120,7 @@ pub enum ToolFault {
     OutOfMemory,
 }
 
-/// The error of a file that the system could not open or change: `OutOfMemory` if that is its kind, else the other one.
+/// The error for a failed file operation: `OutOfMemory` if the error is of that kind, else `other`.
 pub fn file_fault(error: &io::Error, other: ToolFault) -> ToolFault
     ensures memory { error_kind error.now ≡ ErrorKind.OutOfMemory → result ≡ ToolFault.OutOfMemory }
     ensures other { error_kind error.now ≢ ErrorKind.OutOfMemory → result ≡ other }
@@ -133,7 +132,7 @@ pub fn file_fault(error: &io::Error, other: ToolFault) -> ToolFault
     other
 }
 
-/// The error of a line of the input, of the reader, or of running out of memory.
+/// The error for a line that could not be read.
 pub fn line_fault(fault: LineFault) -> ToolFault
     ensures value { result ≡ line_fault_of fault }
     ensures stop { IsStopFor fault result }

@@ -1,4 +1,4 @@
-//! Opening the files of a command, and whether two paths lead to the same file.
+//! Opening files, and comparing paths by the file that they lead to.
 ghost use Rattle.std.specs.Prelude.{◌≡◌, ◌↔◌, ◌≤ℤ◌, pos, IfOk, IfSome, IsTrue};
 
 use crate::progress::Watched;
@@ -16,14 +16,13 @@ pub const OUTPUT: &str = "/proc/self/fd/1";
 /// The path of standard error.
 pub const ERRORS: &str = "/proc/self/fd/2";
 
-/// Whether a path is that of standard input.
+/// Whether a path names standard input.
 fn is_input(path: &str) -> bool {
     matches!(path, "/dev/stdin" | "/dev/fd/0" | "/proc/self/fd/0")
 }
 
-/// The file under a descriptor that is not that of a standard stream. If such a stream is closed, a file that is opened
-/// gets its descriptor; it is moved, so that reading from or writing to the closed stream fails and never uses the
-/// file. Fails if no descriptor is free.
+/// Moves a file to a descriptor above 2. If a standard stream is closed, the next open file gets its descriptor; reads
+/// and writes of that stream must fail instead of using the file. Fails if no descriptor is free.
 pub fn apart<F: OpenFile + AsRawFd + Drop>(file: F) -> io::Result<F>
     ensures { IfOk result (λ file. IfSome (F.raw_fd file) (λ number. pos 3 ≤ℤ number)) }
 {
@@ -37,12 +36,12 @@ pub fn apart<F: OpenFile + AsRawFd + Drop>(file: F) -> io::Result<F>
     Err(io::Error::from(ErrorKind::Other))
 }
 
-/// Opens a file to be written, which is truncated or created.
+/// Creates or truncates a file for writing.
 pub fn create(rt: &HostRuntime, path: &str) -> io::Result<File> {
     apart(File::create(rt, path)?)
 }
 
-/// What a command reads: a file, or standard input.
+/// The input of a command: a file, or standard input.
 #[derive(Drop)]
 pub enum Source {
     /// A file.
@@ -52,8 +51,8 @@ pub enum Source {
 }
 
 impl Source {
-    /// Opens a file. The paths of standard input are not opened again, as that fails for a socket or another user's
-    /// pipe.
+    /// Opens the file at a path. Standard input is used as it is: opening its path again fails for a socket, or for a
+    /// pipe of another user.
     fn open(rt: &HostRuntime, path: &str) -> io::Result<Source> {
         if is_input(path) {
             return Ok(Source::Input(rt.stdin()));
@@ -61,7 +60,7 @@ impl Source {
         Ok(Source::File(apart(File::open(rt, path)?)?))
     }
 
-    /// The length of the file in bytes, if it is a regular one.
+    /// The length in bytes, if this is a regular file.
     fn size(&self, rt: &HostRuntime) -> Option<u64> {
         let metadata = match self {
             Source::File(file) => file.metadata(),
@@ -83,7 +82,7 @@ impl Read for Source {
     }
 }
 
-/// Opens the file that is read; its progress is reported to standard error, if that is asked for.
+/// Opens the input, with progress reports to standard error if `progress`.
 pub fn opened(rt: &HostRuntime, path: &str, progress: bool) -> io::Result<Watched<Source, Stderr>> {
     let source = Source::open(rt, path)?;
     let size = source.size(rt);
@@ -91,7 +90,7 @@ pub fn opened(rt: &HostRuntime, path: &str, progress: bool) -> io::Result<Watche
     Ok(Watched::new(rt.alloc(), source, told, size))
 }
 
-/// The capacity for all that is read, if it is known.
+/// The length of the input in bytes, as the initial capacity of a buffer; 0 if it is unknown.
 pub fn room_for(input: &io::Result<Watched<Source, Stderr>>) -> usize {
     match input {
         Ok(input) => input.size().unwrap_or(0) as usize,
@@ -99,17 +98,17 @@ pub fn room_for(input: &io::Result<Watched<Source, Stderr>>) -> usize {
     }
 }
 
-/// The identity of a file in the system.
+/// The identity of a file on this system.
 #[derive(Clone, Copy)]
 pub struct Identity {
-    /// The number of its device.
+    /// The device number.
     pub device: u64,
-    /// Its inode.
+    /// The inode number on the device.
     pub inode: u64,
 }
 
 impl Identity {
-    /// The identity of the file that a path leads to, through links.
+    /// The identity of the file at a path, following links.
     fn at(rt: &HostRuntime, path: &str) -> io::Result<Identity> {
         let metadata = fs::metadata(rt, path)?;
         Ok(Identity {
@@ -118,7 +117,7 @@ impl Identity {
         })
     }
 
-    /// Whether both are the same file.
+    /// Whether both identify the same file.
     pub fn is(self, other: Identity) -> bool
         ensures { IsTrue result ↔ ((self.device ≡ other.device) × (self.inode ≡ other.inode)) }
     {
@@ -134,8 +133,7 @@ pub fn is_one_file(rt: &HostRuntime, path: &str, other: &str) -> bool {
     }
 }
 
-/// Whether writing to a path would overwrite what is read from another one: both lead to the same regular file or block
-/// device.
+/// Whether writing to `out` would overwrite `input`: both lead to the same regular file or block device.
 pub fn takes_the_place(rt: &HostRuntime, out: &str, input: &str) -> bool {
     let keeps = match fs::metadata(rt, out) {
         Ok(there) => there.is_file() || there.file_type().is_block_device(),

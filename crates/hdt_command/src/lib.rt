@@ -1,17 +1,21 @@
-//! What the command `hdt` does: reads its words, does what they ask for, prints one line of what went wrong, and tells the status
-//! that the program ends with. hdt_tool is that program, one call of `process_status`.
+//! The command `hdt`: parses arguments, runs a command, prints one line if it fails, and returns the exit status. The
+//! program itself, hdt_tool, is one call of `process_status`.
 //!
-//! What this crate promises: what `run`, `run_in`, `answer_file` and `answer_requests` print is a stated function of
-//! the input, and an error that they return is its first one; `status_of` calls them over files and streams, and its
-//! contract says the status.
+//! Contracts: the output of `run`, `run_in`, `answer_file` and `answer_requests` is a stated function of the
+//! input, and an error that they return is the first one in the input. `status_of` calls them over files and streams,
+//! and its contract states the exit status.
 //!
-//! Functions that state no cost take linear time and memory in the arguments or the error that they are given.
+//! Functions that state no cost take time and memory linear in their arguments.
 //!
-//! In reading order: `request` and `fault`, what is asked for and what can go wrong; `entries` and `words`, how the words of a
-//! command line ask for it, by hdt_usage's table for `clap`; `escaping`, `printed_head`, `printed_verdict`, `printed_strings`,
-//! `printed_triples` and `printed_built`, the texts; `whole` and `answer`, which text a command has; `dialogue`, requests that are
-//! answered one by one; `running`, all commands from a reader to a writer; `lines`, what is told of a fault; `progress`, `files`, `replacing` and
-//! `status`, the same with the files, the streams and the status of the program; `process`, all of it.
+//! Modules, in reading order:
+//!
+//! - `request` and `fault`: requests, and the errors of a command line and of a command;
+//! - `entries` and `words`: parsing a command line with `clap` and hdt_usage's table of commands;
+//! - `escaping` and the modules `printed_*`: output texts;
+//! - `whole` and `answer`: the output of each command that only reads; `dialogue`: requests over one graph;
+//! - `running`: all commands, from a reader to a writer;
+//! - `lines`: exit statuses and error messages;
+//! - `progress`, `files`, `replacing` and `status`: the same over files and streams; `process`: the process.
 #![tactic(auto)]
 
 mod answer;

@@ -1,4 +1,4 @@
-//! The exit statuses of the program, and the lines that it prints to standard error.
+//! Exit statuses, and the error messages on standard error.
 ghost use Rattle.std.specs.Prelude.{◌≡◌, ◌++◌, IfOk, string_bytes};
 ghost use Rattle.std.specs.Fmt.{decimal};
 ghost use Rattle.hdt_command.specs.Lines.{fault_status, fault_line, usage_status, usage_line, word_line};
@@ -10,7 +10,7 @@ use hdt_terms::{LineFault, TermFault};
 use hdt_wire::Fault;
 use std::alloc::{AllocError, Global};
 
-/// The line of an error of a file.
+/// The message for an error of an HDT file.
 fn file_line(alloc: Global, fault: Fault) -> Result<String, AllocError>
     ensures { IfOk result (λ line. string_bytes line ≡ fault_line (ToolFault.File fault)) }
 {
@@ -20,7 +20,7 @@ fn file_line(alloc: Global, fault: Fault) -> Result<String, AllocError>
     format!(in alloc; "hdt: fault {number} {name} at {place}")
 }
 
-/// The line of an error of an N-Triples document.
+/// The message for an error of an N-Triples document.
 fn input_line(alloc: Global, fault: LineFault) -> Result<String, AllocError>
     ensures { IfOk result (λ line. string_bytes line ≡ fault_line (ToolFault.Input fault)) }
 {
@@ -42,7 +42,7 @@ pub fn role_name(role: Role) -> &'static str
     }
 }
 
-/// The line of a string that is not a term.
+/// The message for a string that is not a term.
 fn string_line(alloc: Global, role: Role, number: u64) -> Result<String, AllocError>
     ensures { IfOk result (λ line. string_bytes line ≡ fault_line (ToolFault.NotATerm role number)) }
 {
@@ -50,7 +50,7 @@ fn string_line(alloc: Global, role: Role, number: u64) -> Result<String, AllocEr
     format!(in alloc; "hdt: {role} {number} is not a term")
 }
 
-/// The line of an argument that is not a term.
+/// The message for an argument that is not a term.
 fn word_line(alloc: Global, word: Word, fault: TermFault) -> Result<String, AllocError>
     ensures { IfOk result (λ line. string_bytes line ≡ word_line word fault) }
 {
@@ -61,7 +61,7 @@ fn word_line(alloc: Global, word: Word, fault: TermFault) -> Result<String, Allo
     format!(in alloc; "hdt: {word} column {column}: {number} {name}")
 }
 
-/// Returns the exit status of a command's error, and its line, without a line feed.
+/// The exit status and the message for a command's error, without a line feed.
 pub fn fault_line(alloc: Global, fault: &ToolFault) -> Result<(u8, String), AllocError>
     ensures status { IfOk result (λ said. said.0 ≡ fault_status fault.now) }
     ensures line { IfOk result (λ said. string_bytes said.1 ≡ fault_line fault.now) }
@@ -80,7 +80,7 @@ pub fn fault_line(alloc: Global, fault: &ToolFault) -> Result<(u8, String), Allo
     }
 }
 
-/// Returns the exit status of a command line's error, and its text, without a line feed at its end.
+/// The exit status and the message for a command line's error, without a line feed at its end.
 pub fn usage_line(alloc: Global, fault: &UsageFault) -> Result<(u8, String), AllocError>
     ensures status { IfOk result (λ said. said.0 ≡ usage_status fault.now) }
     ensures line { IfOk result (λ said. string_bytes said.1 ≡ usage_line fault.now) }

@@ -1,4 +1,4 @@
-//! What `hdt head` prints.
+//! The output of `head`.
 ghost use Rattle.std.specs.Prelude.{◌≡◌, ◌++◌, OnOk, IfOk};
 ghost use Rattle.hdt_wire.specs.Control.{block_of};
 ghost use Rattle.hdt_file.specs.Head.{parts_of};
@@ -9,7 +9,7 @@ use hdt_file::Head;
 use hdt_wire::Control;
 use std::alloc::{AllocError, Global};
 
-/// Appends a line: a label, a space and a text.
+/// Appends a line with a label, a space and an escaped text.
 fn put_line(label: &str, text: &[u8], out: &mut Vec<u8>) -> Result<(), AllocError>
     ensures { OnOk result (out.new.items ≡ out.old.items ++ labelled_line label.now text.now) }
 {
@@ -19,7 +19,7 @@ fn put_line(label: &str, text: &[u8], out: &mut Vec<u8>) -> Result<(), AllocErro
     Ok(out.push(b'\n')?)
 }
 
-/// Appends the two lines of control information: its name with the format, and the properties.
+/// Appends two lines for control information: its name and format, and its properties.
 fn put_block(name: &str, block: &Control<'_>, out: &mut Vec<u8>) -> Result<(), AllocError>
     ensures { OnOk result (out.new.items ≡ out.old.items ++ block_lines name.now (block_of block.now)) }
 {
@@ -27,7 +27,7 @@ fn put_block(name: &str, block: &Control<'_>, out: &mut Vec<u8>) -> Result<(), A
     put_line("properties", block.properties(), out)
 }
 
-/// The text of `hdt head`: five lines, and the header body, unescaped.
+/// The output of `head`: five lines, and then the header body, unescaped.
 #[tactic(auto, using(std::proofs::Common::append_assoc), unfolding(crate::specs::HeadText::head_text))]
 pub fn head_text(alloc: Global, head: &Head<'_>) -> Result<Vec<u8>, AllocError>
     ensures { IfOk result (λ text. text.items ≡ head_text (parts_of head.now)) }

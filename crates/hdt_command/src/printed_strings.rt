@@ -1,4 +1,4 @@
-//! What `hdt strings`, `hdt string` and `hdt number` print.
+//! The output of `strings`, `string` and `number`.
 ghost use Rattle.std.specs.Prelude.{◌≡◌, ◌+◌, ◌∷◌, ◌++◌, ◌≢◌, ◌⊎◌, ℕ, List, [], OnOk, IfOk, IfErr, None, Some, length};
 ghost use Rattle.std.specs.Fmt.{decimal};
 ghost use Rattle.std.specs.Io.KnownBytes.{Appends};
@@ -19,7 +19,7 @@ use hdt_wire::{Counted, put_decimal};
 use std::alloc::{AllocError, Global};
 use std::io::Write;
 
-/// Appends the line of a string: its ID, a tab, the string.
+/// Appends a line with a string's ID, a tab and the escaped string.
 fn put_string_line(number: u64, string: &[u8], out: &mut Vec<u8>) -> Result<(), AllocError>
     ensures { OnOk result (out.new.items ≡ out.old.items ++ string_line number string.now) }
 {
@@ -29,11 +29,11 @@ fn put_string_line(number: u64, string: &[u8], out: &mut Vec<u8>) -> Result<(), 
     Ok(out.push(b'\n')?)
 }
 
-/// The number of bytes from which on lines are written.
+/// Pending lines are written once they have this many bytes.
 const PIECE: usize = 65_536;
 
-/// Writes a piece of a text, of which `count` bytes are written already; returns the new count. It fails with
-/// `OutOfMemory` if that exceeds 64 bits.
+/// Writes a piece of a text of which `written` bytes have been written, and returns the new total. Fails with
+/// `OutOfMemory` if the total overflows 64 bits.
 pub fn write_piece<W: Write>(
     piece: &[u8],
     written: u64,
@@ -54,13 +54,13 @@ pub fn write_piece<W: Write>(
     }
 }
 
-/// Writes the pending lines, if they fill a piece; returns the number of bytes that are written then.
+/// Writes the pending lines if they fill a piece, and returns the new total of written bytes.
 fn write_full<W: Write>(
     text: &mut Vec<u8>,
     written: u64,
     out: &mut Counted<W>,
 ) -> Result<u64, ToolFault>
-    // What is written is the front of what was pending.
+    // What was written is a prefix of the pending lines.
     ensures ok { IfOk result (λ n. (part : List ℕ) × (n ≡ written + length part) × (text.old.items ≡ part ++ text.new.items)
         × Appends (W.contents (inner out.old)) (W.contents (inner out.new)) part) }
     ensures well { OnOk result (failures out.new ≡ failures out.old) }
@@ -75,7 +75,7 @@ fn write_full<W: Write>(
     Ok(written)
 }
 
-/// Prints the lines of all strings of a role, in pieces. It keeps at most a piece and the line of one string.
+/// Writes the lines of all strings of a role, in pieces. Memory: one piece and the line of one string.
 pub fn print_strings<W: Write>(
     alloc: Global,
     layout: &Layout<'_>,
@@ -85,7 +85,7 @@ pub fn print_strings<W: Write>(
     ensures ok { OnOk result (Appends (W.contents (inner out.old)) (W.contents (inner out.new))
         (string_lines 1 (strings_in (layout_seen layout.now).dictionary role))) }
     ensures well { OnOk result (failures out.new ≡ failures out.old) }
-    // The writer failed, or memory ran out, after the first bytes of the lines.
+    // The writer failed or memory ran out, after a prefix of the lines.
     ensures cut { IfErr result (λ e. IsCut e (string_lines 1 (strings_in (layout_seen layout.now).dictionary role))
         (W.contents (inner out.old)) (W.contents (inner out.new)) (failures out.old) (failures out.new)) }
 {
@@ -100,7 +100,7 @@ pub fn print_strings<W: Write>(
     Ok(())
 }
 
-/// The line of the string of a role with an ID.
+/// The line of the string with this ID in a role.
 pub fn string_text(
     alloc: Global,
     layout: &Layout<'_>,
@@ -121,14 +121,14 @@ pub fn string_text(
     Ok(text)
 }
 
-/// The line of a number.
+/// A line with a number.
 pub fn number_line(alloc: Global, number: u64) -> Result<Vec<u8>, AllocError>
     ensures { IfOk result (λ text. text.items ≡ decimal number ++ 10 ∷ []) }
 {
     Ok(format!(in alloc; "{number}\n")?.into_bytes())
 }
 
-/// The line of the ID of a string in a role.
+/// The line with the ID of a string in a role.
 pub fn number_text(
     alloc: Global,
     layout: &Layout<'_>,

@@ -1,4 +1,4 @@
-//! What `find` and `dump` print.
+//! The output of `find` and `dump`, and the triples in the answers of `answer`.
 ghost use Rattle.std.specs.Prelude.{◌≡◌, ◌<◌, ◌^◌, ◌++◌, ◌∷◌, [], OnOk, OnErr, IfOk, IfErr, length};
 ghost use Rattle.hdt_wire.specs.Control.{Keeps};
 ghost use Rattle.hdt_file.specs.TextWriting.{chosen, limited};
@@ -17,7 +17,7 @@ use hdt_triples::{Matches, Pattern};
 use hdt_wire::{cut_on_error, put_decimal};
 use std::alloc::{AllocError, Global};
 
-/// Appends the line of a triple's IDs; an error may leave its first bytes.
+/// Appends a line with the three IDs of a triple. An error may leave a prefix of it.
 #[tactic(auto, using(std::proofs::Common::append_assoc))]
 fn put_numbers(triple: (u64, u64, u64), out: &mut Vec<u8>) -> Result<(), AllocError>
     ensures ok { OnOk result (out.new.items ≡ out.old.items ++ numbers_line triple) }
@@ -32,7 +32,7 @@ fn put_numbers(triple: (u64, u64, u64), out: &mut Vec<u8>) -> Result<(), AllocEr
     Ok(out.push(b'\n')?)
 }
 
-/// Appends the lines of the IDs of matches, or of the first ones; an error may leave their first bytes.
+/// Appends the ID lines of matches, up to a limit. An error may leave a prefix of them.
 fn append_numbers(
     found: Matches<'_>,
     most: Option<u64>,
@@ -54,7 +54,7 @@ fn append_numbers(
     Ok(())
 }
 
-/// The lines of the IDs of the matches of a pattern, or nothing without a pattern.
+/// The ID lines of a pattern's matches; empty without a pattern.
 fn numbers_text(
     alloc: Global,
     layout: &Layout<'_>,
@@ -70,7 +70,7 @@ fn numbers_text(
     Ok(text)
 }
 
-/// How many matches a pattern has, or nothing, but at most so many.
+/// The number of a pattern's matches, up to a limit; 0 without a pattern.
 fn count_of(layout: &Layout<'_>, pattern: Option<Pattern>, most: Option<u64>) -> u64
     ensures { result ≡ length (limited most (chosen (layout_seen layout.now) pattern)) }
 {
@@ -84,7 +84,7 @@ fn count_of(layout: &Layout<'_>, pattern: Option<Pattern>, most: Option<u64>) ->
     }
 }
 
-/// The pattern with the IDs of the strings that are given, if each is one of its role.
+/// The pattern with the IDs of the given strings; `None` if one of them is not in its role.
 fn pattern_of(layout: &Layout<'_>, given: &[Option<Vec<u8>>; 3]) -> Option<Pattern>
     ensures { Finds (layout_seen layout.now) given.now (chosen (layout_seen layout.now) result) }
 {
@@ -93,8 +93,7 @@ fn pattern_of(layout: &Layout<'_>, given: &[Option<Vec<u8>>; 3]) -> Option<Patte
     layout.pattern(lent, &mut Steps::new())
 }
 
-/// The text of the matches of a pattern in a file, or of the first ones, or nothing without a pattern: in N-Triples,
-/// their IDs, or their number. All triples are scanned.
+/// The text of a pattern's matches, up to a limit and in any format; empty without a pattern. Scans all triples.
 fn layout_triples_text(
     alloc: Global,
     layout: &Layout<'_>,
@@ -112,8 +111,7 @@ fn layout_triples_text(
     }
 }
 
-/// The text of the triples that have the strings that are given, or of the first ones: in N-Triples, their IDs, or
-/// their number.
+/// The text of the triples with the given strings, up to a limit and in any format.
 pub fn triples_text(
     alloc: Global,
     layout: &Layout<'_>,
@@ -128,7 +126,7 @@ pub fn triples_text(
     Ok(layout_triples_text(alloc, layout, pattern, form, most)?)
 }
 
-/// How many matches a pattern has in a graph, or nothing, but at most so many.
+/// The number of a pattern's matches in a graph, up to a limit; 0 without a pattern.
 fn graph_count(graph: &Graph<'_>, pattern: Option<Pattern>, most: Option<u64>) -> u64
     ensures { result ≡ length (limited most (chosen (graph_seen graph.now) pattern)) }
 {
@@ -142,8 +140,7 @@ fn graph_count(graph: &Graph<'_>, pattern: Option<Pattern>, most: Option<u64>) -
     }
 }
 
-/// Appends the lines of the IDs of the matches of a pattern in a graph, or nothing without a pattern; after an error
-/// `out` is unchanged.
+/// Appends the ID lines of a pattern's matches in a graph; nothing without a pattern. On error `out` is unchanged.
 fn append_graph_numbers(
     graph: &Graph<'_>,
     pattern: Option<Pattern>,
@@ -161,9 +158,8 @@ fn append_graph_numbers(
     cut_on_error(appended, start, out)
 }
 
-/// Appends the text of the matches of a pattern in a graph, or of the first ones, or nothing without a pattern: in
-/// N-Triples, their IDs, or their number. It uses the indexes of the graph; the speller keeps terms of it for later
-/// texts. After an error `out` is unchanged.
+/// Appends the text of a pattern's matches in a graph, up to a limit and in any format; nothing without a pattern. The
+/// search uses the graph's indexes; the speller caches terms for later texts. On error `out` is unchanged.
 pub fn append_graph_triples(
     alloc: Global,
     graph: &Graph<'_>,

@@ -1,10 +1,10 @@
-//! What `hdt verify` prints.
+//! The output of `verify`.
 ghost use Rattle.std.specs.Prelude.{◌≡◌, IfOk};
 ghost use Rattle.hdt_command.specs.Verdict.{verdict};
 
 use std::alloc::{AllocError, Global};
 
-/// The line of five counts: triples, and the strings of the sections shared, subjects, predicates, objects.
+/// A line with five counts: triples, and the strings of the shared, subjects, predicates and objects sections.
 pub fn verdict(alloc: Global, lens: [u64; 5]) -> Result<Vec<u8>, AllocError>
     ensures { IfOk result (λ text. text.items ≡ verdict lens) }
 {

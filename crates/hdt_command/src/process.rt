@@ -1,11 +1,11 @@
-//! The program as a process: its arguments and its exit status.
+//! The arguments and the exit status of the process.
 ghost use Rattle.std.specs.Prelude.{◌≤◌};
 
 use crate::status::{status_of, words_of};
 use std::env;
 
-/// Runs the request of the process's arguments over its streams, as [`status_of`] does, and returns the exit status. It
-/// costs what [`run`](crate::run) costs. (No contract can name the arguments: std states only their type.)
+/// Runs the request of the process's arguments over its streams, as [`status_of`] does, and returns the exit status.
+/// Cost: that of [`run`](crate::run). (No contract can name the arguments: std states only their type.)
 pub fn process_status(rt: &HostRuntime) -> u8
     ensures { result ≤ 4 }
 {

@@ -6,27 +6,27 @@ use hdt_wire::Counted;
 use std::alloc::{AllocError, Global};
 use std::io::{self, Read, Write};
 
-/// The least number of bytes from one line to the next.
+/// The minimum number of bytes between two lines.
 const STEP: u64 = 16 << 20;
 
-/// The greatest number of lines if the size is known, besides the last one.
+/// The maximum number of lines if the size is known, not counting the last one.
 const LINES: u64 = 100;
 
-/// A reader that reports to a writer how many bytes it has read, now and then and at the end. Without a writer it
-/// reports nothing. Lines that can't be made or written are dropped.
+/// A reader that reports to a writer how many bytes it has read, at intervals and at the end. It ignores failures of
+/// the writer, and lack of memory for a line.
 #[derive(Drop)]
 pub struct Watched<R: Read, W: Write> {
     alloc: Global,
     input: R,
     told: Option<Counted<W>>,
-    /// The number of bytes of the input, if it is known.
+    /// The length of the input in bytes, if it is known.
     size: Option<u64>,
     read: u64,
     /// The number of bytes at which the next line is due.
     next: u64,
 }
 
-/// The line of the number of bytes that were read, and of the input's, if that is known.
+/// A line with the number of bytes read, and the length of the input if it is known.
 fn line_of(alloc: Global, read: u64, size: Option<u64>) -> Result<String, AllocError>
     ensures { IfOk result (λ line. string_bytes line ≡ progress_line read size) }
 {
@@ -37,7 +37,7 @@ fn line_of(alloc: Global, read: u64, size: Option<u64>) -> Result<String, AllocE
 }
 
 impl<R: Read, W: Write + Drop> Watched<R, W> {
-    /// A reader of `input`, which has `size` bytes if that is known, that reports to `told`.
+    /// A reader of `input`, of `size` bytes if that is known. Without a writer `told` it reports nothing.
     pub fn new(alloc: Global, input: R, told: Option<W>, size: Option<u64>) -> Watched<R, W>
         ensures { result.input ≡ input }
     {
@@ -51,14 +51,14 @@ impl<R: Read, W: Write + Drop> Watched<R, W> {
         }
     }
 
-    /// The number of bytes of the input, if it is known.
+    /// The length of the input in bytes, if it is known.
     pub fn size(&self) -> Option<u64>
         ensures { result ≡ self.now.size }
     {
         self.size
     }
 
-    /// Reports the number of bytes so far.
+    /// Writes a line, and determines when the next one is due.
     fn tell(&mut self)
         ensures { self.new.input ≡ self.old.input }
     {
@@ -72,7 +72,7 @@ impl<R: Read, W: Write + Drop> Watched<R, W> {
         }
     }
 
-    /// Counts bytes that were read into a buffer of size `room`, and reports if a line is due. Nothing is reported
+    /// Counts bytes read into a buffer of `room` bytes, and writes a line if one is due. Nothing is reported
     /// after the end.
     fn count(&mut self, bytes: usize, room: usize)
         ensures { self.new.input ≡ self.old.input }
@@ -92,7 +92,7 @@ impl<R: Read, W: Write + Drop> Read for Watched<R, W> {
     ghost use Rattle.std.specs.Io.{ReadsAtMost};
     ghost use Rattle.std.specs.Io.KnownBytes.{ReadConsumes};
 
-    // It reads the bytes of its input.
+    // It yields the bytes of its input.
     ghost remaining = { λ s. R.remaining s.input };
 
     fn read(&mut self, buf: &mut [u8]) -> io::Result<usize>

@@ -1,4 +1,4 @@
-//! Atomic replacement of a file: a new file in the same folder is written, synced, and then renamed.
+//! Atomic replacement of a file: a new file in the same folder is written and synced, and then renamed.
 ghost use Rattle.std.specs.Prelude.{◌≡◌, ◌≤◌, ℕ, length, IfOk, IfErr};
 ghost use Rattle.std.specs.Io.KnownBytes.{Appends};
 ghost use Rattle.hdt_command.specs.Answer.{IsUnfilled};
@@ -15,16 +15,16 @@ use std::path::PathBuf;
 use std::random::RandomSource;
 use std::time::{SystemTime, UNIX_EPOCH};
 
-/// The number of random names that are tried for a new file.
+/// The number of random names to try for a new file.
 const NAMES: u64 = 1000;
 
-/// The permissions of a new file while it is written: only its owner can open it.
+/// The mode of the new file while it is written: access for its owner only.
 const PRIVATE: u32 = 0o600;
 
-/// The permissions of a file for everyone, from which the system removes those that the umask, or the folder, denies.
+/// The mode of a new file by default, before the umask or the folder's ACL restricts it.
 const PUBLIC: u32 = 0o666;
 
-/// The path of the regular file that a link leads to, if it does.
+/// The canonical path of the regular file that a link leads to; `None` if it leads to anything else.
 fn linked_path<R: Files>(files: &R, alloc: Global, path: &str) -> io::Result<Option<PathBuf>> {
     match fs::metadata(files, path) {
         Ok(there) if there.is_file() => Ok(Some(files.canonicalize(alloc, path)?)),
@@ -32,9 +32,9 @@ fn linked_path<R: Files>(files: &R, alloc: Global, path: &str) -> io::Result<Opt
     }
 }
 
-/// The path of a file that can be replaced: of a regular file, also through a link, or of nothing. `None` if something
-/// else is there, as a device, a pipe, a folder, or a link to nothing. (No contract can say what is at a path:
-/// tests/test_filesystem.py checks it.)
+/// The path to rename a new file to, if there is a regular file, also through a link, or nothing. `None` for anything
+/// else, such as a device, a pipe, a folder or a dangling link. (Contracts cannot describe the file system;
+/// tests/test_filesystem.py checks this.)
 pub fn replaced_path<R: Files>(
     files: &R,
     alloc: Global,
@@ -47,7 +47,7 @@ pub fn replaced_path<R: Files>(
     }
 }
 
-/// A number from the clock.
+/// The time of the clock in nanoseconds, or 0.
 fn clock_number(rt: &HostRuntime) -> u64 {
     match SystemTime::now(rt).map(|now| now.duration_since(UNIX_EPOCH)) {
         Ok(Ok(since)) => since
@@ -58,7 +58,7 @@ fn clock_number(rt: &HostRuntime) -> u64 {
     }
 }
 
-/// A random number from the system, or one from the clock if that has none.
+/// A random number, or the time if the system has none.
 fn number_by_chance(rt: &HostRuntime) -> u64 {
     let mut bytes = [0u8; 8];
     match rt.fill_bytes(&mut bytes) {
@@ -67,7 +67,7 @@ fn number_by_chance(rt: &HostRuntime) -> u64 {
     }
 }
 
-/// A new file in the current folder, with a name that was not there, and that name.
+/// Creates a file under a new random name in the current folder, and returns both.
 fn create_new(rt: &HostRuntime, mode: u32) -> io::Result<(File, String)> {
     let mut options = OpenOptions::new();
     options.write(true).create_new(true);
@@ -84,7 +84,7 @@ fn create_new(rt: &HostRuntime, mode: u32) -> io::Result<(File, String)> {
     Err(io::Error::from(ErrorKind::AlreadyExists))
 }
 
-/// The permissions of the file of this name, if there is one.
+/// The permissions of the file with this name, if it exists.
 fn permissions_of(rt: &HostRuntime, name: &str) -> io::Result<Option<Permissions>> {
     match fs::metadata(rt, name) {
         Ok(there) => Ok(Some(there.permissions())),
@@ -93,8 +93,8 @@ fn permissions_of(rt: &HostRuntime, name: &str) -> io::Result<Option<Permissions
     }
 }
 
-/// The permissions of the file of this name; if there is none, those that a file for everyone gets in this folder: an
-/// empty one is created to find out, and removed.
+/// The permissions of the file with this name, or those that a new file gets in this folder, which are found by
+/// creating and removing an empty one.
 fn usual_permissions(rt: &HostRuntime, name: &str) -> io::Result<Permissions> {
     if let Some(permissions) = permissions_of(rt, name)? {
         return Ok(permissions);
@@ -105,7 +105,7 @@ fn usual_permissions(rt: &HostRuntime, name: &str) -> io::Result<Permissions> {
     Ok(metadata?.permissions())
 }
 
-/// Gives a new file the permissions of the file of this name, which it replaces, or the usual ones if there is none.
+/// Gives the new file the permissions of the existing file with this name, or `usual` if there is none.
 fn permit(rt: &HostRuntime, file: &File, name: &str, usual: Permissions) -> io::Result<()> {
     let permissions = permissions_of(rt, name)?.unwrap_or(usual);
     if file.metadata()?.permissions() == permissions {
@@ -114,9 +114,9 @@ fn permit(rt: &HostRuntime, file: &File, name: &str, usual: Permissions) -> io::
     file.set_permissions(permissions)
 }
 
-/// Writes the bytes to a new file, and syncs it.
+/// Writes and syncs a new file.
 fn filled<F: Write + OpenFile + Drop>(file: F, built: &[u8]) -> Result<F, ToolFault>
-    // The file has gained what was made.
+    // The file has gained the bytes.
     ensures whole { IfOk result (λ whole. Appends (F.contents file) (F.contents whole) built.now) }
     ensures fault { IfErr result (λ e. (n : ℕ) × (e ≡ ToolFault.Write n) × (n ≤ length built.now)) }
 {
@@ -129,9 +129,8 @@ fn filled<F: Write + OpenFile + Drop>(file: F, built: &[u8]) -> Result<F, ToolFa
     }
 }
 
-/// Writes the bytes to a new file, and gives it the permissions and the name of the one that it replaces. No other user
-/// can open it before it is complete and synced; if the system stops between the last steps, it is too private, never
-/// too open.
+/// Writes the new file, and gives it the permissions and the name of the old one. Other users cannot open it until it
+/// is complete and synced. A crash between the last two steps leaves its permissions too strict, never too wide.
 fn fill_and_rename(
     rt: &HostRuntime,
     file: File,
@@ -149,7 +148,7 @@ fn fill_and_rename(
     fs::rename(rt, new, name).map_err(|_| ToolFault::Write(built.len() as u64))
 }
 
-/// The folder of a path, and the name in it.
+/// The folder of a path, and the file name.
 fn parts_of(path: &str) -> (&str, &str) {
     match path.rsplit_once('/') {
         Some(("", name)) => ("/", name),
@@ -158,8 +157,8 @@ fn parts_of(path: &str) -> (&str, &str) {
     }
 }
 
-/// Changes into a folder, and creates a new file there to replace the one of this name. Returns the permissions that it
-/// gets if there is none in the end, the file, and its name.
+/// Changes into the folder and creates the new file there. Returns the permissions for it if no old file exists, the
+/// file, and its name.
 fn begin(rt: &HostRuntime, folder: &str, name: &str) -> io::Result<(Permissions, File, String)> {
     env::set_current_dir(rt, folder)?;
     let usual = usual_permissions(rt, name)?;
@@ -167,12 +166,12 @@ fn begin(rt: &HostRuntime, folder: &str, name: &str) -> io::Result<(Permissions,
     Ok((usual, file, new))
 }
 
-/// Replaces the regular file at a path, if there is one, by a file with these bytes and the same permissions. After an
-/// error that file is unchanged, and the new one is removed. The process changes into the folder, so that a path of the
-/// greatest length leaves room for the name of the new file. (No contract can say what the file system has then: tests
-/// check it.)
+/// Atomically replaces the regular file at a path, or creates it. The new file has the permissions of the old one. On
+/// error the old file is unchanged, and the new one is removed. The process changes into the folder, so that the
+/// temporary name fits for the longest paths. (Contracts cannot describe the file system; tests/test_filesystem.py
+/// checks this.)
 pub fn replace(rt: &HostRuntime, path: &PathBuf, built: &[u8]) -> Result<(), ToolFault>
-    // Memory was refused, or writing failed, behind no more bytes than there are.
+    // Out of memory, or a write error after at most all of the bytes.
     ensures fault { IfErr result (IsUnfilled built.now) }
 {
     let (folder, name) = parts_of(path.as_str());

@@ -1,68 +1,68 @@
-//! Requests of a command line.
+//! Requests: a command with its options and paths.
 
 use hdt_build::Options;
 use hdt_dict::Role;
 
-/// The form in which triples are printed.
+/// The format in which triples are printed.
 #[derive(Clone, Copy, Debug, Drop)]
 pub enum Form {
     /// N-Triples.
     Lines,
-    /// A line for each triple, with its IDs.
+    /// One line per triple, with its three IDs.
     Numbers,
-    /// One line with their number.
+    /// One line with the number of triples.
     Count,
 }
 
 /// The options of `answer`.
 #[derive(Clone, Copy, Debug, Drop)]
 pub struct Asking {
-    /// The form in which the triples of a request are printed.
+    /// The format of the triples in an answer.
     pub form: Form,
-    /// How many are taken at most; all where there is none.
+    /// The maximum number of triples in an answer; `None` for no limit.
     pub most: Option<u64>,
-    /// Whether requests are of dictionary strings instead of terms.
+    /// Whether requests give dictionary strings instead of N-Triples terms.
     pub raw: bool,
-    /// The greatest length of a request line in bytes, without its end.
+    /// The maximum length of a request line in bytes, without its line feed.
     pub longest: u32,
 }
 
 /// A command.
 #[derive(Debug, Drop)]
 pub enum Action {
-    /// Prints the head of a file.
+    /// Prints the control information and the header of a file.
     Head,
     /// Verifies a file.
     Verify,
-    /// Verifies a file that must be tight.
+    /// Verifies a file, and that every string of its dictionary is used in the role of its section.
     VerifyTight,
-    /// Prints all strings of a role with their IDs.
+    /// Prints all strings of a role, with their IDs.
     Strings(Role),
     /// Prints the string of a role with this ID, from 1.
     Nth(Role, u64),
-    /// Prints the ID of this dictionary string in a role.
+    /// Prints the ID that this dictionary string has in a role.
     Number(Role, Vec<u8>),
-    /// Prints the triples that have these dictionary strings.
+    /// Prints all triples with these dictionary strings.
     Find {
-        /// The strings of subject, predicate and object; any where there is none.
+        /// The strings of subject, predicate and object; `None` matches any.
         given: [Option<Vec<u8>>; 3],
         /// Whether IDs are printed instead of N-Triples.
         numbers: bool,
     },
-    /// Prints the triples that have these dictionary strings, or their number; all or only the first ones.
+    /// Prints the triples with these dictionary strings, in a given format and up to a limit.
     Search {
-        /// The strings of subject, predicate and object; any where there is none.
+        /// The strings of subject, predicate and object; `None` matches any.
         given: [Option<Vec<u8>>; 3],
-        /// What is printed of them.
+        /// The format in which they are printed.
         form: Form,
-        /// How many are taken at most; all where there is none.
+        /// The maximum number of triples; `None` for no limit.
         most: Option<u64>,
     },
-    /// Answers requests over a file.
+    /// Answers the requests of standard input over a file.
     Answer(Asking),
-    /// Builds a file from an N-Triples document, and prints its counts.
+    /// Builds an HDT file from an N-Triples document, and prints the counts of its parts.
     Build(Options),
-    /// Writes the canonical file of a file's triples, with this block size, and prints its counts.
+    /// Writes the canonical file of a file's triples, with this block size, and prints the counts of its parts.
     Rewrite(u32),
 }
 
@@ -71,17 +71,17 @@ pub enum Action {
 pub struct Request {
     /// The command.
     pub action: Action,
-    /// The path of the file that is read.
+    /// The path of the input file.
     pub file: String,
-    /// The path of the file that is written, if the command writes one.
+    /// The path of the output file, if the command writes one.
     pub out: Option<String>,
 }
 
-/// A request, and whether its progress is reported.
+/// A request, and whether to report progress.
 #[derive(Debug, Drop)]
 pub struct Call {
     /// The request.
     pub request: Request,
-    /// Whether the progress of reading is reported.
+    /// Whether to report the progress of reading.
     pub progress: bool,
 }

@@ -1,5 +1,5 @@
-//! All commands, from a reader to a writer: they read all input, make their output, and only then write it. `strings`
-//! writes in pieces, `answer` answer by answer.
+//! All commands, from a reader to a writer. A command reads the complete input, makes its output, and then writes it.
+//! Only `strings` and `answer` write before their output is complete.
 ghost use Rattle.std.specs.Prelude.{◌≡◌, ◌≢◌, ◌<◌, ◌++◌, ◌+◌, ◌↔◌, ◌⊎◌, ℕ, List, IfOk, IfErr, OnOk, OnErr, IsErrOf, length, take};
 ghost use Rattle.std.specs.Io.KnownBytes.{Appends};
 ghost use Rattle.hdt_wire.specs.Counted.{inner, failures};
@@ -22,10 +22,10 @@ use hdt_wire::{Counted, Failed};
 use std::alloc::{AllocError, Global};
 use std::io::{Read, Write};
 
-/// The number of bytes of a read.
+/// The size of the read buffer in bytes.
 const BUFFER: usize = 65_536;
 
-/// Reads to the end of the input, into a vector with this capacity at first.
+/// Reads to the end of the input, into a vector of this initial capacity.
 fn read_all<R: Read>(
     alloc: Global,
     input: &mut Counted<R>,
@@ -48,7 +48,7 @@ fn read_all<R: Read>(
     }
 }
 
-/// The text of a command that makes no file.
+/// The output of a command that writes no file.
 #[tactic(auto, using(crate::proofs::Told::told_all, crate::proofs::Told::not_read, crate::proofs::Told::of_file, crate::proofs::Making::reads_file))]
 fn file_text<R: Read>(
     alloc: Global,
@@ -81,7 +81,7 @@ fn append_file(file: Vec<u8>, made: &mut Vec<u8>) -> Result<(), AllocError>
     made.append(&mut file)
 }
 
-/// The text of `build`; the file is appended to `made`.
+/// The output of `build`; appends the new file to `made`.
 fn built_text<R: Read>(
     alloc: Global,
     options: &Options,
@@ -105,7 +105,7 @@ fn built_text<R: Read>(
     Ok(text)
 }
 
-/// The text of `rewrite` for the bytes of a file; the new file is appended to `made`.
+/// The output of `rewrite` for the bytes of a file; appends the new file to `made`.
 fn rewritten_of(
     alloc: Global,
     block_size: u32,
@@ -127,7 +127,7 @@ fn rewritten_of(
     Ok(text)
 }
 
-/// The text of `rewrite`; the file is appended to `made`.
+/// The output of `rewrite`; appends the new file to `made`.
 fn rewritten_text<R: Read>(
     alloc: Global,
     block_size: u32,
@@ -148,7 +148,7 @@ fn rewritten_text<R: Read>(
     rewritten_of(alloc, block_size, bytes.as_slice(), made)
 }
 
-/// The text of a command other than `strings`; the file that it makes is appended to `made`.
+/// The output of a command other than `strings`; appends a new file to `made`.
 fn text_of<R: Read>(
     alloc: Global,
     whole: Whole<'_>,
@@ -174,7 +174,7 @@ fn text_of<R: Read>(
     }
 }
 
-/// Runs a command other than `strings`: its text is written once it is complete.
+/// Runs a command other than `strings`: writes the output once it is complete.
 fn print_whole<R: Read, W: Write>(
     alloc: Global,
     whole: Whole<'_>,
@@ -209,7 +209,7 @@ fn print_whole<R: Read, W: Write>(
     }
 }
 
-/// Runs `strings`: the lines are written in pieces.
+/// Runs `strings`, which writes its lines in pieces.
 fn print_role<R: Read, W: Write>(
     alloc: Global,
     role: Role,
@@ -235,16 +235,16 @@ fn print_role<R: Read, W: Write>(
     print_strings_of(alloc, bytes.as_slice(), role, out)
 }
 
-/// Runs a request: reads the input to its end, and writes the command's text to `out`. The file that `build` or
-/// `rewrite` makes is appended to `made`, which other commands leave unchanged. It opens no file: `input` is that of
+/// Runs a request: reads `input` to its end and writes the command's output to `out`. `build` and `rewrite` append the
+/// new file to `made`; other commands leave it unchanged. `run` opens no file: `input` is the content of
 /// `request.file`.
 ///
-/// It keeps the input, and the text until it is written; `strings` writes in pieces. Time is that of the call of the
-/// engine: [`verify`](hdt_file::verify), [`graph_text`](hdt_file::graph_text), [`build`](hdt_build::build) and others.
+/// Memory: the input and the complete output (`strings` writes in pieces). Time: that of the library call, such as
+/// [`verify`](hdt_file::verify), [`graph_text`](hdt_file::graph_text) or [`build`](hdt_build::build).
 ///
 /// # Errors
 ///
-/// [`ToolFault`]: reading, writing or memory failed, or the first error of the input.
+/// [`ToolFault`]: the first error of the input, reading or writing failed, or out of memory.
 pub fn run<R: Read, W: Write>(
     alloc: Global,
     request: &Request,
@@ -252,26 +252,26 @@ pub fn run<R: Read, W: Write>(
     out: &mut Counted<W>,
     made: &mut Vec<u8>,
 ) -> Result<(), ToolFault>
-    // The command's text of the whole input was written, and the file that it makes was appended to `made`.
+    // `out` has gained the command's output for the complete input, and `made` the new file.
     ensures ok { OnOk result (Answers request.now.action (R.remaining (inner input.old)) (R.remaining (inner input.new))
         (W.contents (inner out.old)) (W.contents (inner out.new)) made.old.items made.new.items) }
-    // An error of a file or a document is the first one of the input; a look-up without a result has none in it; a
-    // string that is not a term is the first one of what is to be printed. BadOptions is returned only by `build`, and
-    // by `rewrite` of an input that is a layout, if the block size is not valid.
+    // An error of a file or a document is the first one of the input. `NoSuchTerm` and `NoSuchNumber` mean that the
+    // role has no such string or ID. `NotATerm` is the first string to print that is not a term. `BadOptions` is
+    // returned only by `build`, and by `rewrite` if the input is valid and the block size is not.
     ensures told { IfErr result (Tells request.now.action (R.remaining (inner input.old)) (R.remaining (inner input.new))) }
-    // `build` returns it exactly if the options are not valid, and then nothing was read.
+    // `build` returns it exactly if its options are not valid, and then it has read nothing.
     ensures bad { IfBuild request.now.action (λ options. IsErrOf result ToolFault.BadOptions ↔ (AreRight options → ⊥)) }
     ensures unread { IfBuild request.now.action (λ options. IsErrOf result ToolFault.BadOptions → input.new ≡ input.old) }
-    // The reader failed in this call, once; at any other result it has not failed.
+    // `Read`: the reader failed once in this call. With any other result it did not fail.
     ensures read { IsErrOf result ToolFault.Read → failures input.new ≡ failures input.old + 1 }
     ensures reader_well { OnOk result (failures input.new ≡ failures input.old) }
     ensures reader_told { IfErr result (λ e. e ≢ ToolFault.Read → failures input.new ≡ failures input.old) }
-    // The writer failed in this call, once, after exactly the first n bytes of the text.
+    // `Write(n)`: the writer failed once in this call, after exactly the first n bytes of the output.
     ensures write { IfErr result (λ e. (n : ℕ) → e ≡ ToolFault.Write n → (failures out.new ≡ failures out.old + 1)
         × Begins request.now.action (R.remaining (inner input.old)) (R.remaining (inner input.new))
         (W.contents (inner out.old)) (W.contents (inner out.new)) n) }
-    // Without an error it has not failed, and at any other error nothing was written, except the first bytes of the
-    // text of `strings` if memory ran out.
+    // With any other result the writer did not fail. With any other error nothing was written, except that `strings`
+    // may have written a prefix of its output before it ran out of memory.
     ensures writer_well { OnOk result (failures out.new ≡ failures out.old) }
     ensures unwritten { IfErr result (λ e. ((n : ℕ) → e ≢ ToolFault.Write n) → (out.new ≡ out.old) ⊎ ((e ≡ ToolFault.OutOfMemory)
         × Halts request.now.action (R.remaining (inner input.old)) (R.remaining (inner input.new))
@@ -281,7 +281,7 @@ pub fn run<R: Read, W: Write>(
     run_in(alloc, request, input, 0, out, made)
 }
 
-/// Runs a request as [`run`] does, with this capacity for the input at first: its length, if that is known.
+/// As [`run`], with an initial capacity for the input: its length in bytes, if that is known.
 pub fn run_in<R: Read, W: Write>(
     alloc: Global,
     request: &Request,
@@ -313,12 +313,12 @@ pub fn run_in<R: Read, W: Write>(
     }
 }
 
-/// Reads a file to its end, and answers the requests of another reader over it. Returns whether one of the answers is
-/// an error. It keeps the file and its indexes; time is that of opening it and of [`answer_requests`].
+/// Reads and opens a file, and answers the requests of another reader over it. Returns whether any answer is an error.
+/// Memory: the file and its rank/select and inverted indexes. Time: that of opening it and of [`answer_requests`].
 ///
 /// # Errors
 ///
-/// Those of [`answer_requests`], and the first error of the file.
+/// The first error of the file, and those of [`answer_requests`].
 pub fn answer_file<F: Read, R: Read, W: Write>(
     alloc: Global,
     asking: Asking,
@@ -327,18 +327,19 @@ pub fn answer_file<F: Read, R: Read, W: Write>(
     input: &mut Counted<R>,
     out: &mut Counted<W>,
 ) -> Result<bool, ToolFault>
-    // The file is a layout, and the answers to the requests over its graph were written.
+    // The file is valid, and `out` has gained the answers to all requests over its graph.
     ensures ok { IfOk result (λ faulty. ReadsWith (F.remaining (inner file.old)) (F.remaining (inner file.new)) (λ bytes. Opens bytes (λ graph.
         AnswersInput graph asking (R.remaining (inner input.old)) (W.contents (inner out.old)) (W.contents (inner out.new)) faulty))) }
     ensures writer_well { OnOk result (failures out.new ≡ failures out.old) }
-    // If reading failed, one of the two readers failed in this call, once.
+    // `Read`: one of the two readers failed once in this call.
     ensures read { IsErrOf result ToolFault.Read → failures file.new + failures input.new ≡ failures file.old + failures input.old + 1 }
-    // It stopped in reading the file, with no request read and nothing written, or in the answers.
+    // Either the file is not valid or was not read, and no request was read and nothing written; or the error occurred
+    // while answering.
     ensures stopped { IfErr result (λ e. (Tells (Action.Answer asking) (F.remaining (inner file.old)) (F.remaining (inner file.new)) e × (input.new ≡ input.old) × (out.new ≡ out.old))
         ⊎ ReadsWith (F.remaining (inner file.old)) (F.remaining (inner file.new)) (λ bytes. Opens bytes (λ graph.
         AnswersSome graph asking (R.remaining (inner input.old)) (R.remaining (inner input.new)) (W.contents (inner out.old)) (W.contents (inner out.new))
         (failures out.old) (failures out.new) e))) }
-    // Writing failed only in the answers: the writer failed in this call, once, after exactly their first n bytes.
+    // `Write(n)` occurs only while answering: the writer failed once, after exactly the first n bytes of the answers.
     ensures write { IfErr result (λ e. (n : ℕ) → e ≡ ToolFault.Write n → ReadsWith (F.remaining (inner file.old)) (F.remaining (inner file.new)) (λ bytes. Opens bytes (λ graph.
         AnswersSome graph asking (R.remaining (inner input.old)) (R.remaining (inner input.new)) (W.contents (inner out.old)) (W.contents (inner out.new))
         (failures out.old) (failures out.new) e))) }

@@ -1,11 +1,11 @@
-//! The program: reads its arguments, runs the command, prints one line to standard error if something went wrong, and
-//! returns the exit status.
+//! The program over files and streams: parses its arguments, runs the command, prints one line to standard error if it
+//! fails, and returns the exit status.
 //!
 //! | status | case |
 //! |---|---|
-//! | 0 | done, or help was asked for |
-//! | 1 | the input is not valid |
-//! | 2 | the command line is wrong, or `build` is to write over its input |
+//! | 0 | success, or help was printed |
+//! | 1 | the input is not valid, a look-up found nothing, or an answer is an error |
+//! | 2 | the command line is not valid, or `build` would overwrite its input |
 //! | 3 | reading or writing failed |
 //! | 4 | out of memory |
 ghost use Rattle.std.specs.Prelude.{◌≡◌, ◌≢◌, ◌⊎◌, ◌+◌, ℕ, true, false, [], Ok, Err, Some, IfOk, IfErr, OnOk, MatchResult, map, string_bytes, if◌then◌else◌};
@@ -39,7 +39,7 @@ const ONE_FILE: &str = "error: IN and OUT are the same file
 
 For more information, try '--help'.";
 
-/// Prints a line to standard error; if that fails, only the status tells.
+/// Prints a line to standard error, ignoring failure, and returns the status.
 fn complain(rt: &HostRuntime, status: u8, line: &str) -> u8
     ensures { result ≡ status }
 {
@@ -47,7 +47,7 @@ fn complain(rt: &HostRuntime, status: u8, line: &str) -> u8
     status
 }
 
-/// Prints the line of an error, or that of running out of memory if there is no memory for it.
+/// Prints an error message and returns its status; 4 if there is no memory for the message.
 fn report(rt: &HostRuntime, line: Result<(u8, String), AllocError>) -> u8
     ensures { MatchResult line (λ said. result ≡ said.0) (λ _. result ≡ 4) }
 {
@@ -57,7 +57,7 @@ fn report(rt: &HostRuntime, line: Result<(u8, String), AllocError>) -> u8
     }
 }
 
-/// The status of printing to standard output; a failure is reported to standard error.
+/// The status of printing to standard output. A failure gets a message on standard error.
 fn printed(rt: &HostRuntime, outcome: io::Result<()>) -> u8
     ensures { MatchResult outcome (λ _. result ≡ 0) (λ _. result ≡ 3) }
 {
@@ -67,7 +67,7 @@ fn printed(rt: &HostRuntime, outcome: io::Result<()>) -> u8
     }
 }
 
-/// The status of a command; an error is reported by its line.
+/// The status of a command. Prints the message of an error.
 pub fn done(rt: &HostRuntime, outcome: Result<(), ToolFault>) -> u8
     ensures { MatchResult outcome (λ _. result ≡ 0) (λ fault. (result ≡ fault_status fault) ⊎ (result ≡ 4)) }
 {
@@ -77,7 +77,7 @@ pub fn done(rt: &HostRuntime, outcome: Result<(), ToolFault>) -> u8
     }
 }
 
-/// The arguments, borrowed.
+/// Borrows each argument as a text.
 fn lent<'a>(alloc: Global, words: &'a [String]) -> Result<Vec<&'a str>, AllocError>
     ensures { IfOk result (λ texts. map (λ text. text.now) texts.items ≡ map string_bytes words.now) }
 {
@@ -88,7 +88,7 @@ fn lent<'a>(alloc: Global, words: &'a [String]) -> Result<Vec<&'a str>, AllocErr
     Ok(texts)
 }
 
-/// The request of a command line.
+/// Parses the arguments.
 fn asked_of(alloc: Global, words: &[String]) -> Result<Call, UsageFault>
     ensures ok { IfOk result (WantsSo (map string_bytes words.now)) }
     ensures out { IfOk result (λ asked. HasOut asked.request) }
@@ -98,8 +98,7 @@ fn asked_of(alloc: Global, words: &[String]) -> Result<Call, UsageFault>
     parse_all_words(alloc, texts.as_slice())
 }
 
-/// The arguments of the process, if the system gave them; its error is passed on, and running out of memory is one.
-/// (`collect` would ignore a failed reservation.)
+/// Collects the arguments of the process, or returns the system's error. (`collect` would ignore a failed allocation.)
 pub fn words_of(alloc: Global, given: io::Result<Args>) -> io::Result<Vec<String>>
     ensures ok { IfOk result (λ words. MatchResult given (λ args. words.items ≡ into_iter_items args) (λ _. ⊥)) }
     ensures memory { IfErr result (λ error. IfOk given (λ _. error_kind error ≡ ErrorKind.OutOfMemory)) }
@@ -113,7 +112,7 @@ pub fn words_of(alloc: Global, given: io::Result<Args>) -> io::Result<Vec<String
     Ok(words)
 }
 
-/// The request of the process's arguments, if the system gave them.
+/// Parses the arguments of the process. An error of the system is a usage error, unless it is lack of memory.
 fn asked(alloc: Global, words: io::Result<Vec<String>>) -> Result<Call, UsageFault>
     ensures ok { IfOk result (λ asked. MatchResult words (λ words. WantsSo (map string_bytes words.items) asked) (λ _. ⊥)) }
     ensures out { IfOk result (λ asked. HasOut asked.request) }
@@ -128,7 +127,7 @@ fn asked(alloc: Global, words: io::Result<Vec<String>>) -> Result<Call, UsageFau
     }
 }
 
-/// Runs a request, from its file, as it was opened, to a writer; the file that it makes is appended to `made`.
+/// Runs a request on the result of opening its input. The new file of `build` or `rewrite` is appended to `made`.
 fn perform<R: Read + Drop, W: Write>(
     alloc: Global,
     request: &Request,
@@ -137,20 +136,20 @@ fn perform<R: Read + Drop, W: Write>(
     out: &mut Counted<W>,
     made: &mut Vec<u8>,
 ) -> Result<(), ToolFault>
-    // The writer has gained the command's text of the input, and what was made the file that the command makes.
+    // `out` has gained the command's output for the input, and `made` the new file.
     ensures ok { OnOk result (MatchResult file (λ input. Performs request.now.action (R.remaining input)
         (W.contents (inner out.old)) (W.contents (inner out.new)) made.old.items made.new.items) (λ _. ⊥)) }
-    // A fault is told of the input as `run` tells it.
+    // An error is one that `run` may return for the input.
     ensures told { IfErr result (λ e. IfOk file (λ input. Reports request.now.action (R.remaining input) e)) }
-    // A file that could not be opened is told as its error's kind says.
+    // If the input could not be opened: `OutOfMemory` if its error is of that kind, else `Read`.
     ensures memory { IfErr file (λ e. error_kind e ≡ ErrorKind.OutOfMemory → result ≡ Err ToolFault.OutOfMemory) }
     ensures unopened { IfErr file (λ e. error_kind e ≢ ErrorKind.OutOfMemory → result ≡ Err ToolFault.Read) }
-    // The writer failed in this call, and has gained exactly the first n bytes of the text.
+    // `Write(n)`: the writer failed once in this call, after exactly the first n bytes of the output.
     ensures write { IfErr result (λ e. (n : ℕ) → e ≡ ToolFault.Write n → (failures out.new ≡ failures out.old + 1)
         × MatchResult file (λ input. Stops request.now.action (R.remaining input)
         (W.contents (inner out.old)) (W.contents (inner out.new)) n) (λ _. ⊥)) }
-    // At Ok it has not failed, and at any other fault, also of a file that could not be opened, nothing was written, but that
-    // `strings` has printed a beginning of its text where memory was refused in the midst of it.
+    // With any other result it did not fail. With any other error nothing was written, except that `strings` may have
+    // written a prefix of its output before it ran out of memory.
     ensures writer_well { OnOk result (failures out.new ≡ failures out.old) }
     ensures unwritten { IfErr result (λ e. ((n : ℕ) → e ≢ ToolFault.Write n) → (out.new ≡ out.old) ⊎ ((e ≡ ToolFault.OutOfMemory)
         × MatchResult file (λ input. Breaks request.now.action (R.remaining input)
@@ -163,7 +162,7 @@ fn perform<R: Read + Drop, W: Write>(
     run_in(alloc, request, &mut input, room, out, made)
 }
 
-/// Runs a request that makes no file, and returns the status.
+/// Runs a command that writes no file, and returns the status.
 fn performed<R: Read + Drop, W: Write>(
     rt: &HostRuntime,
     request: &Request,
@@ -173,14 +172,15 @@ fn performed<R: Read + Drop, W: Write>(
 ) -> u8
     requires { ReadsFile request.now.action }
     ensures statuses { IsCommandStatus result }
-    // 0: the writer has gained the command's text of the input, without a failure, and nothing was made that could be lost.
+    // 0: `out` has gained the command's output for the input, and no new file was lost.
     ensures done { result ≡ 0 → MatchResult file (λ input. Performs request.now.action (R.remaining input)
         (W.contents (inner out.old)) (W.contents (inner out.new)) [] []) (λ _. ⊥) }
     ensures well { result ≡ 0 → failures out.new ≡ failures out.old }
-    // 1: the input has a fault, no triples, no answer to the look-up, or a string that is no term.
+    // 1: the input is not valid or has no triples, a look-up found nothing, or a string is not a term.
     ensures fault { result ≡ 1 → MatchResult file (λ input. Faults request.now.action (R.remaining input)) (λ _. ⊥) }
     ensures unwritten { result ≡ 1 → out.new ≡ out.old }
-    // 2, 3 and 4: nothing was written, or the writer failed, or memory was refused in the midst of `strings`.
+    // 2, 3 and 4: nothing was written, or the writer failed, or `strings` ran out of memory after a prefix of its
+    // output.
     ensures stopped { result ≢ 0 → (out.new ≡ out.old) ⊎ (failures out.new ≡ failures out.old + 1)
         ⊎ MatchResult file (λ input. Breaks request.now.action (R.remaining input)
         (W.contents (inner out.old)) (W.contents (inner out.new)) (failures out.old) (failures out.new)) (λ _. ⊥) }
@@ -189,7 +189,7 @@ fn performed<R: Read + Drop, W: Write>(
     done(rt, perform(rt.alloc(), request, file, room, out, &mut made))
 }
 
-/// The error of a command whose text goes to memory: a failed write means that memory ran out.
+/// The error of a command that writes to memory: a write error means that memory ran out.
 fn in_memory(fault: ToolFault) -> ToolFault
     ensures memory { (n : ℕ) → fault ≡ ToolFault.Write n → result ≡ ToolFault.OutOfMemory }
     ensures other { ((n : ℕ) → fault ≢ ToolFault.Write n) → result ≡ fault }
@@ -200,8 +200,8 @@ fn in_memory(fault: ToolFault) -> ToolFault
     }
 }
 
-/// Makes the file of a request, from its input, as it was opened: appends it to `built`, and returns the line that is
-/// printed.
+/// Builds the new file of `build` or `rewrite` from the result of opening its input: appends it to `built`, and returns
+/// the output line.
 fn made_of<R: Read + Drop>(
     alloc: Global,
     request: &Request,
@@ -210,7 +210,7 @@ fn made_of<R: Read + Drop>(
     built: &mut Vec<u8>,
 ) -> Result<Vec<u8>, ToolFault>
     requires { MakesFile request.now.action }
-    // The line is the command's text of the input, and `built` has gained the file that it makes.
+    // The result is the command's output for the input, and `built` has gained the new file.
     ensures ok { IfOk result (λ line. MatchResult file (λ input. Performs request.now.action (R.remaining input)
         (Some []) (Some line.items) built.old.items built.new.items) (λ _. ⊥)) }
     ensures told { IfErr result (λ e. IfOk file (λ input. Reports request.now.action (R.remaining input) e)) }
@@ -225,7 +225,7 @@ fn made_of<R: Read + Drop>(
     }
 }
 
-/// The file that is written, as it was created.
+/// The result of creating the output file, with its error as a [`ToolFault`].
 fn created<F: Write>(file: io::Result<F>) -> Result<Counted<F>, ToolFault>
     ensures ok { IfOk result (λ counted. file ≡ Ok (inner counted)) }
     ensures memory { IfErr file (λ e. error_kind e ≡ ErrorKind.OutOfMemory → result ≡ Err ToolFault.OutOfMemory) }
@@ -235,7 +235,7 @@ fn created<F: Write>(file: io::Result<F>) -> Result<Counted<F>, ToolFault>
     Ok(Counted::new(file))
 }
 
-/// Writes a line to a writer.
+/// Writes an output line.
 fn print_line<W: Write>(out: &mut Counted<W>, line: &[u8]) -> Result<(), ToolFault>
     ensures line { OnOk result (Appends (W.contents (inner out.old)) (W.contents (inner out.new)) line.now) }
     ensures well { OnOk result (failures out.new ≡ failures out.old) }
@@ -245,19 +245,19 @@ fn print_line<W: Write>(out: &mut Counted<W>, line: &[u8]) -> Result<(), ToolFau
     out.write_all(line).map_err(ToolFault::Write)
 }
 
-/// Writes the bytes to their file, and then the line to a writer.
+/// Writes the new file, and then the output line.
 fn store<F: Write, W: Write>(
     file: &mut Counted<F>,
     built: &[u8],
     out: &mut Counted<W>,
     line: &[u8],
 ) -> Result<(), ToolFault>
-    // The file has gained what was made, and the writer the line.
+    // The file has gained the bytes, and the writer the line.
     ensures file { OnOk result (Appends (F.contents (inner file.old)) (F.contents (inner file.new)) built.now) }
     ensures line { OnOk result (Appends (W.contents (inner out.old)) (W.contents (inner out.new)) line.now) }
     ensures well { OnOk result ((failures file.new ≡ failures file.old) × (failures out.new ≡ failures out.old)) }
-    // At a fault one of the two failed, behind as many bytes as it tells: the file, and the writer is as it was, or the writer,
-    // and the file has gained all.
+    // `Write(n)`: either the file failed after exactly n bytes, and `out` is unchanged; or the writer failed after
+    // exactly n bytes of the line, and the file is complete.
     ensures failed { IfErr result (λ e. (n : ℕ) × (e ≡ ToolFault.Write n) × (
         (FailsAfter n built.now (F.contents (inner file.old)) (F.contents (inner file.new)) (failures file.old) (failures file.new)
         × (out.new ≡ out.old))
@@ -269,8 +269,7 @@ fn store<F: Write, W: Write>(
     print_line(out, line)
 }
 
-/// Prints the bytes, and nothing else, to standard output, and the line to standard error, unless that is the same
-/// file.
+/// Prints the new file to standard output, and its line to standard error, unless both are the same file.
 fn print_built(rt: &HostRuntime, built: &[u8], line: &[u8]) -> Result<(), ToolFault> {
     let mut out = Counted::new(io::writer(rt));
     let mut errors = Counted::new(rt.stderr());
@@ -282,8 +281,8 @@ fn print_built(rt: &HostRuntime, built: &[u8], line: &[u8]) -> Result<(), ToolFa
     store(&mut out, built, &mut errors, line)
 }
 
-/// Writes the bytes to a path: a regular file is replaced, anything else is opened and written. Then it prints the
-/// line.
+/// Writes the new file to a path, and prints its line. A regular file is replaced atomically; anything else is written
+/// in place.
 fn put_at(rt: &HostRuntime, path: &str, built: &[u8], line: &[u8]) -> Result<(), ToolFault> {
     let mut out = Counted::new(io::writer(rt));
     let replaced = replaced_path(rt, rt.alloc(), path);
@@ -295,12 +294,12 @@ fn put_at(rt: &HostRuntime, path: &str, built: &[u8], line: &[u8]) -> Result<(),
     store(&mut file, built, &mut out, line)
 }
 
-/// Runs a request that makes a file: it is written to its path only once it is complete, and the line with its counts
-/// is printed last. If its path leads to standard output, it is printed there.
+/// Runs `build` or `rewrite`. The file is written only once it is complete, and the line with its counts is printed
+/// last. If `path` leads to standard output, the file is printed there.
 fn build_to(rt: &HostRuntime, asked: &Call, path: &str) -> Result<(), ToolFault>
     requires { MakesFile asked.now.request.action }
 {
-    // (nothing but the HDT file goes to where standard error is OUT)
+    // No progress if standard error is the output file, which must hold nothing else.
     let progress = asked.progress && !is_one_file(rt, path, ERRORS);
     let input = opened(rt, asked.request.file.as_str(), progress);
     let mut built = Vec::new(rt.alloc());
@@ -312,7 +311,7 @@ fn build_to(rt: &HostRuntime, asked: &Call, path: &str) -> Result<(), ToolFault>
     put_at(rt, path, &built, &line)
 }
 
-/// Reports why the arguments are no request: help to standard output, an error to standard error.
+/// Prints help to standard output, or a usage error to standard error.
 fn refuse(rt: &HostRuntime, fault: UsageFault) -> u8
     ensures { IsRefusalStatus fault result }
 {
@@ -322,7 +321,7 @@ fn refuse(rt: &HostRuntime, fault: UsageFault) -> u8
     }
 }
 
-/// Whether `build` would overwrite the document that it reads, which would be lost. (`rewrite` keeps the graph.)
+/// Whether `build` would overwrite, and so lose, the document that it reads. (`rewrite` keeps the graph.)
 fn writes_over_its_input(rt: &HostRuntime, asked: &Call, path: &str) -> bool
     ensures { result ≡ true → IsBuild asked.now.request.action }
 {
@@ -332,8 +331,8 @@ fn writes_over_its_input(rt: &HostRuntime, asked: &Call, path: &str) -> bool
     }
 }
 
-/// Runs a request that makes a file, and returns the status. A `build` that would overwrite its input is refused before
-/// anything is read.
+/// Runs `build` or `rewrite`, and returns the status. If `build` would overwrite its input, it fails before it reads
+/// anything.
 fn stored(rt: &HostRuntime, asked: &Call, path: &str) -> u8
     requires { MakesFile asked.now.request.action }
     ensures { IsStatusOf asked.now.request.action result }
@@ -344,7 +343,7 @@ fn stored(rt: &HostRuntime, asked: &Call, path: &str) -> u8
     done(rt, build_to(rt, asked, path))
 }
 
-/// The status of answers, by whether one was an error; what stopped them is reported by its line.
+/// The status of `answer`: 1 if any answer is an error. Prints the message of an error that ended it.
 fn answers_status(rt: &HostRuntime, outcome: Result<bool, ToolFault>) -> u8
     ensures { MatchResult outcome (λ faulty. result ≡ (if faulty then 1 else 0)) (λ fault. (result ≡ fault_status fault) ⊎ (result ≡ 4)) }
 {
@@ -354,7 +353,7 @@ fn answers_status(rt: &HostRuntime, outcome: Result<bool, ToolFault>) -> u8
     }
 }
 
-/// Answers the requests of a reader over a file, as it was opened, and returns whether one of the answers is an error.
+/// Serves requests over the result of opening a file. Returns whether any answer is an error.
 fn converse<F: Read + Drop, R: Read, W: Write>(
     alloc: Global,
     asking: Asking,
@@ -363,14 +362,14 @@ fn converse<F: Read + Drop, R: Read, W: Write>(
     input: &mut Counted<R>,
     out: &mut Counted<W>,
 ) -> Result<bool, ToolFault>
-    // The file is a layout, and the writer has gained the answers of all lines of the requests over its graph.
+    // The file is valid, and `out` has gained the answers to all requests over its graph.
     ensures ok { IfOk result (λ faulty. MatchResult file (λ file. Converses asking (F.remaining file) (R.remaining (inner input.old))
         (W.contents (inner out.old)) (W.contents (inner out.new)) faulty) (λ _. ⊥)) }
     ensures writer_well { OnOk result (failures out.new ≡ failures out.old) }
-    // A file that could not be opened is told as its error's kind says.
+    // If the file could not be opened: `OutOfMemory` if its error is of that kind, else `Read`.
     ensures memory { IfErr file (λ e. error_kind e ≡ ErrorKind.OutOfMemory → result ≡ Err ToolFault.OutOfMemory) }
     ensures unopened { IfErr file (λ e. error_kind e ≢ ErrorKind.OutOfMemory → result ≡ Err ToolFault.Read) }
-    // Nothing was written, or a part of the answers, as `answer_file` tells it.
+    // Nothing was written, or a part of the answers, as the contract of `answer_file` says.
     ensures stopped { IfErr result (λ e. (out.new ≡ out.old) ⊎ MatchResult file (λ file. ConversesSome asking (F.remaining file)
         (R.remaining (inner input.old)) (R.remaining (inner input.new)) (W.contents (inner out.old)) (W.contents (inner out.new))
         (failures out.old) (failures out.new) e) (λ _. ⊥)) }
@@ -382,7 +381,7 @@ fn converse<F: Read + Drop, R: Read, W: Write>(
     answer_file(alloc, asking, &mut file, room, input, out)
 }
 
-/// Answers the requests of a reader over a file, as it was opened, and returns the status.
+/// Serves requests over the result of opening a file, and returns the status.
 fn conversed<F: Read + Drop, R: Read, W: Write>(
     rt: &HostRuntime,
     asking: Asking,
@@ -392,12 +391,12 @@ fn conversed<F: Read + Drop, R: Read, W: Write>(
     out: &mut Counted<W>,
 ) -> u8
     ensures statuses { IsCommandStatus result }
-    // 0: the writer has gained the answers of all lines of the requests, none of which is a fault.
+    // 0: `out` has gained the answers to all requests, none of which is an error.
     ensures done { result ≡ 0 → MatchResult file (λ file. Converses asking (F.remaining file) (R.remaining (inner input.old))
         (W.contents (inner out.old)) (W.contents (inner out.new)) false) (λ _. ⊥) }
     ensures well { result ≡ 0 → failures out.new ≡ failures out.old }
-    // Any other: nothing was written, or it is 1 and one of all these answers is a fault, or a fault of this status, or the want of
-    // memory for its line, stopped them.
+    // Otherwise nothing was written; or the status is 1, and one of the answers is an error; or an error with this
+    // status, or lack of memory for its message, ended the answers.
     ensures stopped { result ≢ 0 → (out.new ≡ out.old)
         ⊎ ((result ≡ 1) × MatchResult file (λ file. Converses asking (F.remaining file) (R.remaining (inner input.old))
         (W.contents (inner out.old)) (W.contents (inner out.new)) true) (λ _. ⊥))
@@ -408,7 +407,7 @@ fn conversed<F: Read + Drop, R: Read, W: Write>(
     answers_status(rt, converse(rt.alloc(), asking, file, room, input, out))
 }
 
-/// Answers the requests of standard input over a file on standard output, and returns the status.
+/// Serves the requests of standard input on standard output, and returns the status.
 fn conversed_over(rt: &HostRuntime, path: &str, asking: Asking) -> u8
     ensures { IsCommandStatus result }
 {
@@ -438,7 +437,7 @@ fn fulfilled(rt: &HostRuntime, asked: &Call) -> u8
     }
 }
 
-/// Runs a request, or reports why there is none.
+/// Runs a request, or reports a usage error.
 fn answered(rt: &HostRuntime, asked: Result<Call, UsageFault>) -> u8
     requires { IfOk asked (λ asked. HasOut asked.request) }
     ensures { MatchResult asked (λ asked. IsStatusOf asked.request.action result) (λ fault. IsRefusalStatus fault result) }
@@ -449,9 +448,9 @@ fn answered(rt: &HostRuntime, asked: Result<Call, UsageFault>) -> u8
     }
 }
 
-/// Runs the request of the arguments, and returns the exit status: 0 done, 1 the input is not valid, 2 a usage error,
-/// or a `build` that would overwrite its input, 3 reading or writing failed, 4 out of memory. It costs what
-/// [`run`](crate::run) costs.
+/// Runs the request of these arguments, and returns the exit status: 0 success, 1 the input is not valid, 2 a usage
+/// error or a `build` that would overwrite its input, 3 reading or writing failed, 4 out of memory. Cost: that of
+/// [`run`](crate::run).
 pub fn status_of(rt: &HostRuntime, words: io::Result<Vec<String>>) -> u8
     ensures given { IfOk words (λ words. Ends (map string_bytes words.items) result) }
     ensures memory { IfErr words (λ error. error_kind error ≡ ErrorKind.OutOfMemory → result ≡ 4) }

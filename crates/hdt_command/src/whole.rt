@@ -1,4 +1,4 @@
-//! Commands by how they print: in pieces, or a complete text.
+//! Commands by how they print: in pieces, or one complete text.
 ghost use Rattle.std.specs.Prelude.{◌≡◌};
 ghost use Rattle.hdt_command.specs.Whole.{printing_action};
 
@@ -6,7 +6,7 @@ use crate::request::{Action, Asking, Form};
 use hdt_build::Options;
 use hdt_dict::Role;
 
-/// A command that prints a complete text and makes no file.
+/// A command that prints a complete text and writes no file.
 #[derive(Clone, Copy, Drop)]
 pub enum Query<'a> {
     /// As [`Action::Head`].
@@ -21,18 +21,18 @@ pub enum Query<'a> {
     Number(Role, &'a Vec<u8>),
     /// As [`Action::Find`].
     Find {
-        /// The strings of subject, predicate and object; any where there is none.
+        /// The strings of subject, predicate and object; `None` matches any.
         given: &'a [Option<Vec<u8>>; 3],
         /// Whether IDs are printed instead of N-Triples.
         numbers: bool,
     },
     /// As [`Action::Search`].
     Search {
-        /// The strings of subject, predicate and object; any where there is none.
+        /// The strings of subject, predicate and object; `None` matches any.
         given: &'a [Option<Vec<u8>>; 3],
-        /// What is printed of them.
+        /// The format in which triples are printed.
         form: Form,
-        /// How many are taken at most; all where there is none.
+        /// The maximum number of triples; `None` for no limit.
         most: Option<u64>,
     },
     /// As [`Action::Answer`].
@@ -46,7 +46,7 @@ pub enum Whole<'a> {
     Build(&'a Options),
     /// As [`Action::Rewrite`].
     Rewrite(u32),
-    /// A command that makes no file.
+    /// A command that writes no file.
     Query(Query<'a>),
 }
 

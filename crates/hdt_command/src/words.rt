@@ -1,4 +1,4 @@
-//! Parsing the command line of `hdt`.
+//! Parsing a command line into a request.
 ghost use Rattle.std.specs.Prelude.{◌≡◌, IfOk, IfErr, codes, map};
 ghost use Rattle.clap.specs.Words.{found_of, one_of, rows_of, kind_of};
 ghost use Rattle.hdt_command.specs.Answer.{HasOut};
@@ -18,13 +18,13 @@ use clap::{ArgMatches, Error};
 use hdt_usage::table_of;
 use std::alloc::{AllocError, Global};
 
-/// The text of an error, without the line feed at its end.
+/// The message of a `clap` error, without trailing whitespace.
 fn text_of(alloc: Global, error: &Error) -> Result<String, AllocError> {
     let text = error.to_string(alloc)?;
     String::from_str(alloc, text.as_str().trim_end())
 }
 
-/// The error of a command line.
+/// The error for an error of `clap`.
 fn refusal(alloc: Global, error: &Error) -> UsageFault
     ensures { TellsKind (kind_of error.now) result }
 {
@@ -38,7 +38,7 @@ fn refusal(alloc: Global, error: &Error) -> UsageFault
     }
 }
 
-/// The command on a file with this name and these arguments.
+/// The action of a command that reads FILE.
 fn action_of<'m>(alloc: Global, name: &str, matches: &ArgMatches<'m>) -> Result<Action, UsageFault>
     ensures ok { IfOk result (AsksAction name.now (rows_of (found_of matches.now))) }
     ensures refused { IfErr result (ComesWithoutOr ((action : Action) × AsksAction name.now (rows_of (found_of matches.now)) action)
@@ -60,7 +60,7 @@ fn action_of<'m>(alloc: Global, name: &str, matches: &ArgMatches<'m>) -> Result<
     }
 }
 
-/// The request of a command on a file.
+/// The request of a command that reads FILE.
 fn file_request<'m>(
     alloc: Global,
     name: &str,
@@ -77,7 +77,7 @@ fn file_request<'m>(
     })
 }
 
-/// The command that makes a file with this name and these arguments.
+/// The action of a command that writes OUT.
 fn making_of<'m>(alloc: Global, name: &str, matches: &ArgMatches<'m>) -> Result<Action, UsageFault>
     ensures ok { IfOk result (AsksToMake name.now (rows_of (found_of matches.now))) }
     ensures refused { IfErr result (ComesWithout ((action : Action) × AsksToMake name.now (rows_of (found_of matches.now)) action)) }
@@ -89,7 +89,7 @@ fn making_of<'m>(alloc: Global, name: &str, matches: &ArgMatches<'m>) -> Result<
     }
 }
 
-/// The request of a command that makes a file.
+/// The request of a command that writes OUT.
 fn making_request<'m>(
     alloc: Global,
     name: &str,
@@ -121,7 +121,7 @@ fn request_of<'m>(
     }
 }
 
-/// The request of a command, and whether its progress is reported.
+/// The request of a command, and whether to report progress.
 fn asked_of<'m>(alloc: Global, name: &str, matches: &ArgMatches<'m>) -> Result<Call, UsageFault>
     ensures ok { IfOk result (λ asked. AsksFor name.now (rows_of (found_of matches.now)) asked.request) }
     ensures progress { IfOk result (λ asked. StatesFlag (one_of (codes "progress") (rows_of (found_of matches.now))) asked.progress) }
@@ -134,7 +134,7 @@ fn asked_of<'m>(alloc: Global, name: &str, matches: &ArgMatches<'m>) -> Result<C
     })
 }
 
-/// Parses a command line by the table of commands.
+/// Parses a command line with the table of commands.
 fn parse_with<'a>(
     alloc: Global,
     roles: &'a [&'a str],
@@ -158,24 +158,24 @@ fn parse_with<'a>(
 /// The names of the roles.
 const ROLES: [&str; 3] = ["subject", "predicate", "object"];
 
-/// Parses a command line, beginning with the program's name. [`UsageFault`] says why it is not a request, or that help
-/// was asked for.
+/// Parses a command line whose first element is the program's name. [`UsageFault`] says why it is not a request, or
+/// holds the help text.
 #[tactic(auto, using(crate::proofs::Refused::so))]
 pub fn parse_words<'a>(alloc: Global, words: &'a [&'a str]) -> Result<Request, UsageFault>
-    // The request is that of the arguments, by the contract of `clap` with the table of commands.
+    // `clap` accepts the arguments, and its contract with the table of commands gives this request.
     ensures ok { IfOk result (Wants (map (λ word. word.now) words.now)) }
-    // `build` and `rewrite` have the path of the file that they make, and no other command has.
+    // Exactly the requests of `build` and `rewrite` have an output path.
     ensures out { IfOk result HasOut }
-    // Help and the version are returned only if `clap` may return them; an error of a term is that of TERM, or of the
-    // first of S, P and O that has one; other arguments are refused only if they are no request.
+    // `Help` is returned only if `clap` may show help or the version, `Usage` only if the arguments are not a request.
+    // An invalid term is that of TERM, or the first invalid one of S, P and O.
     ensures refused { IfErr result (IsRefused (map (λ word. word.now) words.now)) }
 {
     Ok(parse_all_words(alloc, words)?.request)
 }
 
-/// Parses a command line as [`parse_words`] does, with `--progress`.
+/// Parses a command line as [`parse_words`] does, and also `--progress`.
 pub fn parse_all_words<'a>(alloc: Global, words: &'a [&'a str]) -> Result<Call, UsageFault>
-    // The request is that of the arguments, and `--progress` is returned exactly if it is among them.
+    // The request is that of `parse_words`; `progress` is true exactly if `--progress` is given.
     ensures ok { IfOk result (WantsSo (map (λ word. word.now) words.now)) }
     ensures out { IfOk result (λ asked. HasOut asked.request) }
     ensures refused { IfErr result (IsRefused (map (λ word. word.now) words.now)) }

@@ -1,4 +1,4 @@
-//! The command `hdt`: what its words ask for and how that ends, hdt_command says.
+//! The command `hdt`, which hdt_command implements.
 #![tactic(auto)]
 
 use hdt_command::process_status;

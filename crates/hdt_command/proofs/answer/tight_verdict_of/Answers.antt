@@ -14,12 +14,12 @@ use Rattle.hdt_command.specs.Verdict.{verdict}
 use Rattle.hdt_command.specs.declared.request.Action.TheVariants.{VerifyTight}
 use Rattle.hdt_command.proofs.answer.tight_verdict_of.Goals as goal
 
--- a fault is that of the rows, whatever is seen of their value
+-- An error of a mapped result is an error of the result.
 fault_of_rows : {A B : Type 0} (view : A → B) (rows : Result A Fault) (fault : Fault) → seen view rows ≡ Err fault → rows ≡ Err fault
 fault_of_rows view (Ok x) fault e = absurd cc
 fault_of_rows view (Err f) fault e = let is : f ≡ fault = cc in ap Err is
 
--- and it is told
+-- It is an error for the bytes.
 told : (bytes : List ℕ) (e : OpenFault) → Gives {X = List ℕ} open_fault_of (λ lens. lens) (Err e) (seen lens_of (tight_in bytes)) → IsTold VerifyTight bytes (tool_fault_of e)
 told bytes (opening.Fault fault) h = fault_of_rows lens_of (tight_in bytes) fault h
 told bytes opening.OutOfMemory h = tt

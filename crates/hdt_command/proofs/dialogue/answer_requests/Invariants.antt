@@ -7,7 +7,7 @@ use Rattle.hdt_command.specs.Dialogue.{AnswersLines, Gone, lines_left}
 use Rattle.hdt_command.proofs.Dialogues.{GainedButFor}
 use Rattle.hdt_command.proofs.dialogue.answer_requests.Given as goal
 
--- the lines that were taken, and the text of their answers
+-- The lines that have been read, and the text of their answers.
 abbrev pub invariant-lines : goal.invariant-lines
 invariant-lines g l = (lines : List (ℕ × List ℕ)) × (text : List ℕ) × Gone l.lines (g.R.Read.remaining (inner l.fn.input)) (left l.lines (g.R.Read.remaining (inner l.input))) lines
     × AnswersLines (graph_seen l.graph) l.asking lines l.faulty text × GainedButFor (g.W.Write.contents (inner l.fn.out)) (g.W.Write.contents (inner l.out)) text l.kept.items × (l.count ≡ length text)

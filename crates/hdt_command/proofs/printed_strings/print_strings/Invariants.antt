@@ -6,7 +6,7 @@ use Rattle.hdt_dict.specs.Dictionary.{strings_in}
 use Rattle.hdt_command.specs.StringsText.{string_lines}
 use Rattle.hdt_command.proofs.printed_strings.print_strings.Given as goal
 
--- what was written, and what is kept and still to come behind it
+-- The text that has been written, followed by the buffer and the lines to come, is the complete text.
 abbrev pub invariant-strings : goal.invariant-strings
 invariant-strings g l =
     let lines = string_lines 1 (strings_in (layout_seen l.fn.layout).dictionary l.fn.role) in

@@ -9,7 +9,7 @@ use Rattle.hdt_command.specs.declared.fault.ToolFault.TheVariants.{BadOptions, W
 use Rattle.hdt_command.proofs.Rewriting.{not_bad, not_error, same_error, still_bad}
 use Rattle.hdt_command.proofs.running.print_whole.Goals as goal
 
--- what was appended is cut off again
+-- Truncation removes exactly what was appended.
 restored : (start : ℕ) (before built after new : List ℕ) → length before ≡ start → after ≡ before ++ built → new ≡ take start after → new ≡ before
 restored start before built after new long made cut = cut ∙ ap (take start) made ∙ take_at before built start long
 

@@ -10,6 +10,6 @@ invariant-reads g l = record {
   well : failures l.input ≡ failures l.fn.input;
 }
 
--- a vector has fewer than 2^63 bytes, and each piece is one at least
+-- A vector has fewer than 2^63 bytes, and each read adds at least one.
 abbrev pub decreases-reads : goal.decreases-reads
 decreases-reads g l = 2 ^ 63 - vec_len l.bytes
