@@ -16,10 +16,10 @@
 //! let total = directory.rank(&bits, bits.len(), &mut steps);
 //! ```
 //!
-//! Both sequences borrow the input and are `Copy`; a `Directory`, a rank/select index, owns its counts and nothing else.
+//! Both sequences borrow the input and are `Copy`. A `Directory` is a rank/select index; it owns only its counts.
 //! Contracts see sequences as lists, by `numbers_of` and `bits_of` of specs/, and their offsets by `numbers_places` and
-//! `bits_places`; `IsDirectoryOf` says that an index is that of a list of bits. Laws on these lists, and on ranks and
-//! positions of 1-bits, are in `Numbers`, `Bits` and the file with rank and select of specs/Laws.
+//! `bits_places`. `IsDirectoryOf` says that an index is that of a list of bits. Laws on these lists, and on rank and
+//! select, are in specs/Laws: `Numbers`, `Bits`, `RankSelect`.
 #![tactic(auto)]
 
 mod bits;

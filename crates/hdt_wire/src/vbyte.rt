@@ -61,7 +61,7 @@ fn window(bytes: &[u8], at: usize) -> &[u8]
     }
 }
 
-/// The index of the first byte with its top bit set, and the number that the bytes up to it encode. Value first.
+/// The number encoded by the bytes up to the first one with its top bit set, and the index of that byte.
 fn number_in(seen: &[u8]) -> Option<(u128, usize)>
     requires { length seen.now ≤ 10 }
     ensures none { IfNone result (last_of seen.now ≡ length seen.now) }
