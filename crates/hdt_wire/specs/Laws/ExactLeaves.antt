@@ -1,4 +1,4 @@
--- Numbers, texts and control information at an offset: their checks are exact.
+-- The checks of numbers, bytes, texts and control information are exact.
 use Rattle.std.proofs.Common.{◌≡◌, ◌≢◌, ℕ, List, [], ◌∷◌, ◌++◌, length, Ok, sym, ap, ◌∙◌}
 use Rattle.std.specs.Prelude.{All}
 use Rattle.hdt_wire.specs.declared.control.Kind.{Kind}
@@ -16,11 +16,11 @@ number_exact bytes at fits = record {
   only = λ x h. vbyte_only bytes at x.0 x.1 h.below h.spelled;
 }
 
--- so many bytes
+-- a given number of bytes
 pub bytes_exact : (count : ℕ) (bytes : List ℕ) (at : ℕ) → Exactly (bytes_at count bytes at) (λ x. Stands bytes at x.0 x.1 × (length x.0 ≡ count))
 bytes_exact count bytes at = record { found = bytes_found count bytes at; only = λ x h. bytes_only count bytes at x.0 x.1 h.0 h.1 }
 
--- a text, which has no zero byte, and the zero byte that ends it
+-- a text without a zero byte, and the zero byte that ends it
 pub text_exact : (bytes : List ℕ) (at : ℕ) → Exactly (text_at bytes at) (λ x. Stands bytes at (x.0 ++ 0 ∷ []) x.1 × All (λ b. b ≢ 0) x.0)
 text_exact bytes at = record { found = text_found bytes at; only = λ x h. text_only bytes at x.0 x.1 h.0 h.1 }
 
@@ -29,7 +29,7 @@ block_is kind bytes at block h =
     ap (λ (f : List ℕ). record { format = f; properties = block.properties; properties_at = (block_at kind block.properties at block.end).properties_at; end = block.end }) (sym h.format)
     ∙ ap (λ (n : ℕ). record { format = block.format; properties = block.properties; properties_at = n; end = block.end }) (sym h.properties_at)
 
--- control information of a kind
+-- control information of a type
 pub control_exact : (kind : Kind) (bytes : List ℕ) (at : ℕ) → IsBytes bytes → Exactly (control_at kind bytes at) (λ b. IsBlock kind b bytes at)
 control_exact kind bytes at fits = record {
   found = λ b e. control_found kind bytes at b fits e;
