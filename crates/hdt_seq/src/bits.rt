@@ -65,7 +65,7 @@ impl<'a> Bits<'a> {
         ensures places { IfOk result (λ r. bits_places r.0 ≡ bits_places_from at (length (bits_of r.0))) }
         // Whatever is encoded there is returned.
         ensures only { (xs : List Bool) (end : ℕ) → SpelledAt IsBits bytes.now at xs end → Reads bits_and_end result (Ok (xs, end)) }
-        // Otherwise it is the first error.
+        // Otherwise the first error is returned.
         ensures exact { Reads bits_read result (bits_at bytes.now at) }
         ensures end { IfOk result (λ r. (at < r.1) × (r.1 ≤ length bytes.now)) }
     {

@@ -35,7 +35,7 @@ impl Directory {
     ghost use Rattle.hdt_seq.specs.Directory.{groups, counts_kept, IsDirectoryOf};
 
     /// Builds the index in one pass over the bitmap, without its padding bits. Linear time. Its only allocation is the
-    /// counts: 8 bytes a group, and 8 more. Fails if that fails.
+    /// counts: 8 bytes a group, and 8 more. Fails if the allocation fails.
     #[tactic(auto, unfolding(crate::specs::Directory::counts_kept))]
     pub fn new(alloc: Global, bits: &Bits<'_>) -> Result<Directory, AllocError>
         ensures { IfOk result (λ d. IsDirectoryOf d (bits_of bits.now)) }

@@ -67,7 +67,7 @@ impl<'a> Numbers<'a> {
         ensures places { IfOk result (λ r. numbers_places r.0 ≡ numbers_places_from at (slice_index bytes.now (at + 1)) (length (numbers_of r.0))) }
         // Whatever is encoded there is returned.
         ensures only { (xs : List ℕ) (end : ℕ) → SpelledAt IsNumbers bytes.now at xs end → Reads numbers_and_end result (Ok (xs, end)) }
-        // Otherwise it is the first error.
+        // Otherwise the first error is returned.
         ensures exact { Reads numbers_read result (numbers_at bytes.now at) }
         ensures end { IfOk result (λ r. (at < r.1) × (r.1 ≤ length bytes.now)) }
     {

@@ -129,7 +129,7 @@ pub fn read_control<'a>(bytes: &'a [u8], at: usize, kind: Kind) -> Result<Contro
     // Whatever is encoded there is returned.
     ensures only { (properties : List ℕ) (end : ℕ) → HasNoZero properties → Stands bytes.now at (control kind properties) end
         → Reads block_of result (Ok (block_at kind properties at end)) }
-    // Otherwise it is the first error.
+    // Otherwise the first error is returned.
     ensures exact { Reads block_of result (control_at kind bytes.now at) }
 {
     read_rows(bytes, at, kind)

@@ -132,7 +132,7 @@ pub fn read_vbyte(bytes: &[u8], at: usize) -> Result<(u64, usize), Fault>
     ensures found { IfOk result (λ r. SpelledAt VByte bytes.now at r.0 r.1) }
     // Whatever is encoded there is returned.
     ensures only { (v end : ℕ) → v < 2 ^ 64 → SpelledAt VByte bytes.now at v end → result ≡ Ok (v, end) }
-    // Otherwise it is the first error.
+    // Otherwise the first error is returned.
     ensures exact { result ≡ vbyte_at bytes.now at }
     ensures end { IfOk result (λ r. (at < r.1) × (r.1 ≤ length bytes.now)) }
 {

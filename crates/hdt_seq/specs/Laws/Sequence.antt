@@ -25,10 +25,11 @@ slice_stands bytes a x e order within is =
     let size : length x ≡ e - a = ap length (sym is) ∙ (omega (arith, length-take (e - a) (drop a bytes), length-drop a bytes, order, within)) in
     record { end_is = omega (arith, size, order); within = within; here = is }
 
--- the slice that encodes a value is there, and a slice that is there and encodes it
+-- the slice that encodes a value is there
 pub spelled_stands : {V : Type 0} (Spells : List ℕ → V → Type 0) (bytes : List ℕ) (a : ℕ) (v : V) (e : ℕ) → SpelledAt Spells bytes a v e → Stands bytes a (slice_range bytes a e) e
 spelled_stands Spells bytes a v e h = slice_stands bytes a (slice_range bytes a e) e h.in_order h.within refl
 
+-- a text that is there and encodes a value is its encoding there
 pub stands_spelled : {V : Type 0} (Spells : List ℕ → V → Type 0) (bytes : List ℕ) (a : ℕ) (x : List ℕ) (v : V) (e : ℕ) → Stands bytes a x e → Spells x v → SpelledAt Spells bytes a v e
 stands_spelled Spells bytes a x v e h s = record {
   in_order = omega (arith, h.end_is);
