@@ -1,4 +1,4 @@
--- A bit out of its byte.
+-- Reading a bit from its byte.
 use Rattle.std.proofs.Common.{◌≡◌, ℕ, ◌/◌, ◌%◌, ◌^◌, eqb, bit_and, List, get_or, ap, ◌∙◌}
 use Rattle.std.proofs.lemmas.Nat.{and_mask}
 use Rattle.hdt_wire.specs.Rows.{IsBytes}

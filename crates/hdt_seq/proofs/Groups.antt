@@ -1,4 +1,4 @@
--- The counts of a rank/select index at the group that holds a place.
+-- The counts of a rank/select index around a position.
 use Rattle.std.proofs.Common.{◌≡◌, ℕ, ◌+◌, ◌-◌, ◌*◌, ◌/◌, ◌%◌, ◌<◌, ◌≤◌, List, Bool, length, slice_index, min, ap, ◌∙◌, arith, inl, inr, ◌⊎◌}
 use Rattle.hdt_seq.specs.Marks.{marks_before}
 use Rattle.hdt_seq.specs.Laws.Marks.{marks_past}
@@ -12,7 +12,7 @@ at_end bits i j (inr h) = marks_past bits i j h.0 h.1
 group_ends : (g r i n left : ℕ) → r < 512 → 512 * g + r ≡ i → i ≤ n → left ≡ min (512 - r) (n - i) → (512 * (g + 1) ≡ i + left) ⊎ ((n ≤ 512 * (g + 1)) × (n ≤ i + left))
 group_ends g r i n left small e h is = grind arith
 
--- the next one begins where what is left of this one ends, or all 1-bits stand before it
+-- the next count is the rank of the end of position i's group
 pub group_end : (counts : List ℕ) (bits : List Bool) (i left : ℕ) → AreGroupCounts counts bits → i ≤ length bits → 448 ≤ i % 512
     → left ≡ min (512 - i % 512) (length bits - i)
     → (i / 512 + 1 < length counts) × (slice_index counts (i / 512 + 1) ≡ marks_before bits (i + left))
@@ -26,7 +26,7 @@ least_or_past i n = grind arith
 pub at_least : (bits : List Bool) (i : ℕ) → marks_before bits (min i (length bits)) ≡ marks_before bits i
 at_least bits i = at_end bits (min i (length bits)) i (least_or_past i (length bits))
 
--- the last one is that of all 1-bits
+-- the last count is the number of all 1-bits
 pub last_count : (counts : List ℕ) (bits : List Bool) (i len : ℕ) → AreGroupCounts counts bits → len ≡ length counts → i ≡ length bits → slice_index counts (len - 1) ≡ marks_before bits i
 last_count counts bits i len kept m e =
     let last : len - 1 ≡ (length bits + 511) / 512 = omega (arith, m, kept.many) in

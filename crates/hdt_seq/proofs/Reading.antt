@@ -1,4 +1,4 @@
--- What the laws say of a reader's result.
+-- The clauses of the readers, from the laws of their checks.
 use Rattle.std.proofs.Common.{◌≡◌, ℕ, ◌+◌, ◌-◌, ◌<◌, ◌≤◌, Bool, List, length, drop, get_or, Result, Ok, Err, refl, ap, arith}
 use Rattle.std.specs.Prelude.{IfOk, slice_range}
 use Rattle.std.proofs.lemmas.List.{length-take}
@@ -14,12 +14,12 @@ use Rattle.hdt_seq.specs.Laws.NumbersReading.{numbers_found, numbers_only}
 use Rattle.hdt_seq.specs.Bits.{IsBits, bits_of, bits_places, bits_places_from, bits_and_end, bits_read, bits_at}
 use Rattle.hdt_seq.specs.Laws.BitsReading.{bits_found, bits_only}
 
--- more bytes than there are at all
+-- a count above the length of the input fails
 pub too_many : (bytes : List ℕ) (at n : ℕ) → length bytes < n → bytes_at n bytes at ≡ Err (record { place = at; reason = Truncated })
 unfolding bytes_at
 too_many bytes at n lt = rw (lt-leb (at + n) (length bytes) (omega (arith, lt))) refl
 
--- what encodes with a byte at least ends after its place
+-- an encoding of at least one byte ends after its offset
 ends_after : {V : Type 0} (Spells : List ℕ → V → Type 0) (bytes : List ℕ) (at : ℕ) {v : V} {e : ℕ} → SpelledAt Spells bytes at v e → 0 < length (slice_range bytes at e) → at < e
 ends_after Spells bytes at {v} {e} h some = omega (arith, some, h.in_order, length-take (e - at) (drop at bytes))
 

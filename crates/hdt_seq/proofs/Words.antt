@@ -1,4 +1,4 @@
--- Marks counted as the ones of words.
+-- The 1-bits of a bitmap, counted by those of words.
 use Rattle.std.proofs.Common.{◌≡◌, ℕ, ◌+◌, ◌-◌, ◌*◌, ◌/◌, ◌%◌, ◌^◌, ◌<◌, ◌≤◌, zero, suc, List, Bool, true, false, cond, nat_eq, nat_lt, bit_and, map, refl, ap, subst, sym, ◌∙◌, arith, add-zero, ltb-true, ltb-false}
 use Rattle.std.proofs.lemmas.Nat.{shr-shr, mod-pow-add, ones_cat, mod_below, pow_pos, one_shl, and_mask}
 use Rattle.std.proofs.Math.Nat.{mod-one}
@@ -9,7 +9,7 @@ use Rattle.hdt_seq.specs.Little.{little, bit, bits}
 use Rattle.hdt_seq.specs.Laws.Little.{mod_less}
 use Rattle.hdt_seq.specs.Marks.{marks_before}
 
--- ---- the ones of a number
+-- ---- the 1-bits of a number
 
 abbrev digit : Bool → ℕ
 digit b = cond b 1 0
@@ -20,7 +20,7 @@ ones_bit zero h = refl
 ones_bit (suc zero) h = refl
 ones_bit (suc (suc x)) h = absurd (omega (arith, h))
 
--- the ones of the lowest k + 1 bits are those of the lowest k, and bit k
+-- the 1-bits of the lowest k + 1 bits are those of the lowest k, and bit k
 ones_more : (n k : ℕ) → ones (n % 2 ^ (k + 1)) ≡ ones (n % 2 ^ k) + digit (nat_eq (n / 2 ^ k % 2) 1)
 ones_more n k =
     ap (λ m. ones (n % 2 ^ m)) (let e : k + 1 ≡ 1 + k = omega arith in e)
@@ -33,16 +33,16 @@ digit_small : (b : Bool) → digit b ≤ 1
 digit_small true = omega arith
 digit_small false = omega arith
 
--- so one more bit has at most one more
+-- one more bit adds at most one
 pub ones_step : (n k : ℕ) → ones (n % 2 ^ (k + 1)) ≤ ones (n % 2 ^ k) + 1
 ones_step n k = omega (arith, ones_more n k, digit_small (nat_eq (n / 2 ^ k % 2) 1))
 
--- more bits have no fewer
+-- more bits have no fewer 1-bits
 pub ones_up : (n j d : ℕ) → ones (n % 2 ^ j) ≤ ones (n % 2 ^ (j + d))
 ones_up n j zero = omega (arith, ap (λ m. ones (n % 2 ^ m)) (add-zero j))
 ones_up n j (suc d) = let e : j + suc d ≡ j + d + 1 = omega arith in omega (arith, ones_up n j d, ones_more n (j + d), ap (λ m. ones (n % 2 ^ m)) e)
 
--- of two halves of the places that are left, the one that holds one number k
+-- the half of the remaining positions that has the k-th 1-bit
 pub halved : (b : Bool) (w k low half bit : ℕ) → nat_lt (ones (w % 2 ^ (low + half))) k ≡ b → bit ≡ cond b 1 0 → ones (w % 2 ^ low) < k → k ≤ ones (w % 2 ^ (low + (half + half)))
     → (ones (w % 2 ^ (low + bit * half)) < k) × (k ≤ ones (w % 2 ^ (low + bit * half + half))) × (low + bit * half + half ≤ low + (half + half))
 halved true w k low half bit fewer is before through =
@@ -62,7 +62,7 @@ lowest_bits n k lt = ap (λ m. bit_and n (m - 1)) (one_shl k 64 lt) ∙ and_mask
 
 -- ---- the 1-bits of packed bytes
 
--- the ones of the first places
+-- the number of 1-bits before bit i
 abbrev ones_below : List ℕ → ℕ → ℕ
 ones_below bytes i = count_by (λ b. b) (map (bit bytes) (range_with_len 0 i))
 
@@ -87,13 +87,13 @@ ones_between bytes a (suc k) =
     omega (arith, ones_between bytes a k, ones_more (little bytes / 2 ^ a) k, ap digit (bit_after bytes a k)) in
     ap (λ n. ones_below bytes a + ones (little bytes / 2 ^ a % 2 ^ n)) next ∙ more ∙ sym (one_more bytes (a + k)) ∙ ap (ones_below bytes) end
 
--- the 1-bits from a place on and before another are the ones of the bits there
+-- the 1-bits from bit a up to bit b are those of the number that these bits are
 pub marks_between : (bytes : List ℕ) (n a k b : ℕ) → b ≤ n → a + k ≡ b → marks_before (bits bytes n) a + ones (little bytes / 2 ^ a % 2 ^ k) ≡ marks_before (bits bytes n) b
 marks_between bytes n a k b h e =
     ap (λ x. x + ones (little bytes / 2 ^ a % 2 ^ k)) (marks_are bytes n a (omega arith))
     ∙ ones_between bytes a k ∙ ap (ones_below bytes) e ∙ sym (marks_are bytes n b h)
 
--- the same of the lowest k of more bits
+-- the same for the lowest k of w bits that were read
 pub marks_lowest : (bytes : List ℕ) (n a w k : ℕ) → k ≤ w → a + k ≤ n → marks_before (bits bytes n) a + ones (little bytes / 2 ^ a % 2 ^ w % 2 ^ k) ≡ marks_before (bits bytes n) (a + k)
 marks_lowest bytes n a w k le h =
     ap (λ m. marks_before (bits bytes n) a + ones m) (mod_less (little bytes / 2 ^ a) w k le) ∙ marks_between bytes n a k (a + k) h refl

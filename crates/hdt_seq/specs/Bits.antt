@@ -9,7 +9,7 @@ use Rattle.hdt_seq.specs.declared.bits.Bits.{Bits}
 use Rattle.hdt_seq.specs.Little.{bytes_for, bits, packed_bits}
 use Rattle.hdt_seq.specs.Sequence.{Places, Sequence, framed, byte_at, code8_at, packed_at}
 
--- the text is an encoding of the bits: with some packed bytes whose bits they are
+-- the text encodes the bits: it has some packed bytes whose first bits are these
 pub record IsBits (text : List ℕ) (xs : List Bool) : Type 0 where
   pub count : List ℕ
   pub packed : List ℕ
@@ -24,15 +24,15 @@ pub record IsBits (text : List ℕ) (xs : List Bool) : Type 0 where
 unfoldable pub bits_of : Bits → List Bool
 bits_of s = bits s.packed.now s.count
 
--- its offsets
+-- the offsets of a bitmap in the input
 unfoldable pub bits_places : Bits → Places
 bits_places s = record { count = s.count_at; packed = s.packed_at; width = 1 }
 
--- the bits that were read, and the offset after them
+-- the bits that a reader returns, and the offset after the bitmap
 abbrev pub bits_and_end : Bits × ℕ → List Bool × ℕ
 bits_and_end r = (bits_of r.0, r.1)
 
--- all that was read
+-- the same, with the offsets of the bitmap
 abbrev pub bits_read : Bits × ℕ → Sequence Bool
 bits_read r = record { items = bits_of r.0; places = bits_places r.0; end = r.1 }
 
@@ -53,6 +53,6 @@ bits_at bytes at = do
 
 -- ---- writing
 
--- the canonical encoding: all padding bits are 0
+-- the canonical encoding of the bits: all padding bits are 0
 unfoldable pub bits_spelling : List Bool → List ℕ
 bits_spelling xs = framed (1 ∷ vbyte (length xs)) (packed_bits xs)

@@ -1,4 +1,4 @@
--- Rank/select indexes: the 1-bits of a list, counted by groups of 512 bits.
+-- Rank/select indexes: the numbers of 1-bits before each group of 512 bits, and in total.
 use Rattle.std.specs.Prelude.{◌≡◌, ◌≤◌, ℕ, ◌+◌, ◌*◌, ◌/◌, List, Bool, length, slice_index}
 use Rattle.hdt_seq.specs.declared.directory.Directory.{Directory}
 use Rattle.hdt_seq.specs.Marks.{marks_before}
@@ -7,7 +7,7 @@ use Rattle.hdt_seq.specs.Marks.{marks_before}
 abbrev pub groups : List Bool → ℕ
 groups bits = (length bits + 511) / 512
 
--- each count is that of the 1-bits before a group; the last one, after all groups, is the total
+-- count g is the number of 1-bits before group g; the last count is the total
 pub record AreGroupCounts (counts : List ℕ) (bits : List Bool) : Type 0 where
   pub many : length counts ≡ groups bits + 1
   pub each : (g : ℕ) → g ≤ groups bits → slice_index counts g ≡ marks_before bits (512 * g)

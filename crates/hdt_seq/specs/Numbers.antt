@@ -10,7 +10,7 @@ use Rattle.hdt_seq.specs.Little.{bytes_for, entries, packed}
 use Rattle.hdt_seq.specs.Width.{width_of}
 use Rattle.hdt_seq.specs.Sequence.{Places, Sequence, framed, byte_at, code8_at, packed_at}
 
--- the text is an encoding of the numbers: of some width, with some packed bytes whose entries they are
+-- the text encodes the numbers: it has some width and some packed bytes whose first entries are these
 pub record IsNumbers (text : List ℕ) (xs : List ℕ) : Type 0 where
   pub width : ℕ
   pub count : List ℕ
@@ -26,15 +26,15 @@ pub record IsNumbers (text : List ℕ) (xs : List ℕ) : Type 0 where
 unfoldable pub numbers_of : Numbers → List ℕ
 numbers_of s = entries s.packed.now s.width s.count
 
--- its offsets
+-- the offsets of a log sequence in the input
 unfoldable pub numbers_places : Numbers → Places
 numbers_places s = record { count = s.count_at; packed = s.packed_at; width = s.width }
 
--- the entries that were read, and the offset after them
+-- the entries that a reader returns, and the offset after the sequence
 abbrev pub numbers_and_end : Numbers × ℕ → List ℕ × ℕ
 numbers_and_end r = (numbers_of r.0, r.1)
 
--- all that was read
+-- the same, with the offsets of the sequence
 abbrev pub numbers_read : Numbers × ℕ → Sequence ℕ
 numbers_read r = record { items = numbers_of r.0; places = numbers_places r.0; end = r.1 }
 
@@ -56,6 +56,6 @@ numbers_at bytes at = do
 
 -- ---- writing
 
--- the canonical encoding: the width of the greatest entry, and all padding bits 0
+-- the canonical encoding of the entries: the least width that fits all, and all padding bits 0
 unfoldable pub numbers_spelling : List ℕ → List ℕ
 numbers_spelling xs = framed (1 ∷ width_of xs ∷ vbyte (length xs)) (packed (width_of xs) xs)

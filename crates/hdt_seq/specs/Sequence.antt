@@ -1,5 +1,5 @@
--- What log sequences and bitmaps share (rdfhdt.org, "HDT binary format", Log sequence, Bitmap): a type byte and
--- numbers, the CRC-8 of all that, packed bytes, and their CRC-32C.
+-- What log sequences and bitmaps share (rdfhdt.org, "HDT binary format", Log sequence, Bitmap): a preamble of a type
+-- byte and numbers, its CRC-8, packed bytes, and their CRC-32C.
 use Rattle.std.specs.Prelude.{ℕ, ◌+◌, ◌*◌, ◌/◌, ◌==◌, List, ◌∷◌, ◌++◌, slice_index, slice_range, Result, Ok}
 use Rattle.byteorder.specs.Endian.{little_number, little_bytes}
 use Rattle.hdt_wire.specs.declared.fault.Fault.{Fault}
@@ -8,21 +8,21 @@ use Rattle.hdt_wire.specs.Check.{code8, code32}
 use Rattle.hdt_wire.specs.Rows.{◌>>=◌, demand, bytes_at}
 use Rattle.hdt_seq.specs.Little.{bytes_for}
 
--- the bytes of a sequence: its head, the CRC-8 of that, the packed bytes, and their CRC-32C, little-endian
+-- the bytes of a sequence: its preamble with its CRC-8, and its packed bytes with their CRC-32C, little-endian
 abbrev pub framed : List ℕ → List ℕ → List ℕ
 framed head packed = head ++ code8 head ∷ (packed ++ little_bytes 4 (code32 packed))
 
--- the offsets of a sequence in the input: of its number of entries and of its packed bytes, with the width of an entry
+-- the byte offsets of the number of entries and of the packed bytes in the input, and the width of an entry in bits
 pub record Places : Type 0 where
   pub count : ℕ
   pub packed : ℕ
   pub width : ℕ
 
--- the offset of entry i: that of the byte with its first bit
+-- the byte offset of entry i: that of the byte with its first bit
 abbrev pub place_of_entry : Places → ℕ → ℕ
 place_of_entry places i = places.packed + places.width * i / 8
 
--- a sequence: its entries or bits, its offsets, and the offset after it
+-- a sequence: its entries or bits, its offsets, and the byte offset after it
 pub record Sequence (X : Type 0) : Type 0 where
   pub items : List X
   pub places : Places
@@ -30,20 +30,20 @@ pub record Sequence (X : Type 0) : Type 0 where
 
 -- ---- the checks
 
--- one byte, and the offset after it
+-- the byte at an offset, and the offset after it
 unfoldable pub byte_at : List ℕ → ℕ → Result (ℕ × ℕ) Fault
 byte_at bytes at = do
   one ← bytes_at 1 bytes at
   Ok (slice_index one.0 0, one.1)
 
--- the CRC-8 of the bytes from a start on, and the offset after it
+-- the CRC-8 of the bytes from a start up to an offset is there; the offset after it
 unfoldable pub code8_at : List ℕ → ℕ → ℕ → Result ℕ Fault
 code8_at bytes start at = do
   code ← byte_at bytes at
   _ ← demand (code.0 == code8 (slice_range bytes start at)) at Check8
   Ok code.1
 
--- the bytes that hold so many bits, with their CRC-32C, and the offset after it
+-- the bytes that hold so many bits, with their CRC-32C after them, and the offset after that
 unfoldable pub packed_at : ℕ → List ℕ → ℕ → Result (List ℕ × ℕ) Fault
 packed_at bits bytes at = do
   packed ← bytes_at (bytes_for bits) bytes at

@@ -1,7 +1,7 @@
 -- The width of a canonical log sequence: the number of binary digits of its greatest entry, and at least 1.
 use Rattle.std.specs.Prelude.{ℕ, zero, suc, ◌/◌, max, List, fold}
 
--- how many halvings make a number 0, up to a limit
+-- how often a number can be halved before it is 0, up to a limit
 unfoldable pub halvings : ℕ → ℕ → ℕ
 halvings zero n = 0
 halvings (suc limit) zero = 0

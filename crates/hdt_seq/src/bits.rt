@@ -31,7 +31,7 @@ impl<'a> Bits<'a> {
     ghost use Rattle.hdt_seq.specs.Marks.{marks_before};
     ghost use Rattle.hdt_seq.specs.Bits.{IsBits, bits_of, bits_places, bits_places_from, bits_and_end, bits_read, bits_at};
 
-    /// Reads a bitmap, check by check.
+    /// Reads a bitmap in the order of the format.
     #[tactic(auto, unfolding(crate::specs::Bits::bits_at, crate::specs::Bits::bits_of, crate::specs::Bits::bits_places))]
     fn read_rows(bytes: &'a [u8], at: usize) -> Result<(Bits<'a>, usize), Fault>
         ensures exact { Reads bits_read result (bits_at bytes.now at) }
@@ -65,7 +65,7 @@ impl<'a> Bits<'a> {
         ensures places { IfOk result (λ r. bits_places r.0 ≡ bits_places_from at (length (bits_of r.0))) }
         // Whatever is encoded there is returned.
         ensures only { (xs : List Bool) (end : ℕ) → SpelledAt IsBits bytes.now at xs end → Reads bits_and_end result (Ok (xs, end)) }
-        // Otherwise it is the first error.
+        // Otherwise the first error is returned.
         ensures exact { Reads bits_read result (bits_at bytes.now at) }
         ensures end { IfOk result (λ r. (at < r.1) × (r.1 ≤ length bytes.now)) }
     {
@@ -106,7 +106,7 @@ impl<'a> Bits<'a> {
         self.packed_at as u64 + i / 8
     }
 
-    /// The bits from one position up to another, at most 64, as a number whose lowest bit is the first one. One step.
+    /// The bits from one position up to another, at most 64, as a number. The first bit is the lowest. One step.
     pub(crate) fn word(&self, from: u64, to: u64, steps: &mut Steps) -> u64
         requires order { from ≤ to }
         requires near { to ≤ from + 64 }

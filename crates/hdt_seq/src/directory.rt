@@ -17,14 +17,14 @@ const WORD: u64 = 64;
 
 /// A rank/select index over a bitmap: the number of 1-bits before each group of 512 bits, and their total.
 ///
-/// It borrows nothing: each call is given the bitmap, which must be the one that the index was built from. A step is an
-/// access to one of its counts, or to a word of 64 bits or a part of it.
+/// It borrows nothing. Each call takes the bitmap, which must be the one that the index was built from. A step is an
+/// access to one count, or to at most 64 consecutive bits of the bitmap.
 ///
 /// ```text
 /// let directory = Directory::new(alloc, &bits)?;
 /// let mut steps = Steps::new();
-/// let marks = directory.rank(&bits, bits.len(), &mut steps);
-/// let last = directory.select(&bits, marks, &mut steps);
+/// let total = directory.rank(&bits, bits.len(), &mut steps);
+/// let last = directory.select(&bits, total, &mut steps);
 /// ```
 #[derive(Drop)]
 pub struct Directory {
@@ -34,8 +34,8 @@ pub struct Directory {
 impl Directory {
     ghost use Rattle.hdt_seq.specs.Directory.{groups, counts_kept, IsDirectoryOf};
 
-    /// Builds the index in one pass over the words; padding bits are not counted. It allocates once, for the counts
-    /// that it keeps: 8 bytes a group and 8 more. The error is that this allocation failed.
+    /// Builds the index in one pass over the bitmap, without its padding bits. Linear time. Its only allocation is the
+    /// counts: 8 bytes a group, and 8 more. Fails if the allocation fails.
     #[tactic(auto, unfolding(crate::specs::Directory::counts_kept))]
     pub fn new(alloc: Global, bits: &Bits<'_>) -> Result<Directory, AllocError>
         ensures { IfOk result (λ d. IsDirectoryOf d (bits_of bits.now)) }
@@ -55,8 +55,8 @@ impl Directory {
         Ok(Directory { counts })
     }
 
-    /// Returns the number of 1-bits before position i, from 0, in at most 8 steps. At the length of the bitmap that is
-    /// all of them, in one step.
+    /// Returns the number of 1-bits before position i, from 0, in at most 8 steps. For the length of the bitmap, that
+    /// is the number of all 1-bits, in one step.
     #[tactic(auto, unfolding(crate::specs::Directory::counts_kept), using(crate::specs::Laws::Marks::marks_le, crate::proofs::Groups::group_end))]
     pub fn rank(&self, bits: &Bits<'_>, i: u64, steps: &mut Steps) -> u64
         requires counted { IsDirectoryOf self.now (bits_of bits.now) }
@@ -83,8 +83,8 @@ impl Directory {
         }
     }
 
-    /// Returns the position, from 0, of the 1-bit number k, from 1. It takes at most 8 steps more than the number of
-    /// groups has binary digits.
+    /// Returns the position, from 0, of the k-th 1-bit, k from 1. Takes at most 8 steps, plus one for each binary digit
+    /// of the number of groups.
     pub fn select(&self, bits: &Bits<'_>, k: u64, steps: &mut Steps) -> u64
         requires counted { IsDirectoryOf self.now (bits_of bits.now) }
         requires some { 0 < k }
@@ -99,13 +99,13 @@ impl Directory {
         place_from(bits, group * GROUP, k - before, steps)
     }
 
-    /// Returns how many numbers of 8 bytes the index keeps: one for each group, and the total.
+    /// Returns the memory of the index in units of 8 bytes: one for each group, and one for the total.
     #[tactic(auto, unfolding(crate::specs::Directory::counts_kept))]
     pub fn held(&self) -> u128
         ensures is { result ≡ length (counts_kept self.now) }
         ensures groups { (bits : List Bool) → IsDirectoryOf self.now bits → result ≡ groups bits + 1 }
     {
-        // (the pattern names every field, so a new one doesn't compile until it is counted here)
+        // The pattern names every field, so a new one doesn't compile until it is counted here.
         let Directory { counts } = self;
         let counts: &Vec<u64> = counts;
         counts.len() as u128
@@ -122,7 +122,7 @@ impl Directory {
         self.counts[group as usize]
     }
 
-    /// The group with the 1-bit number k, and the number of 1-bits before that group, by binary search.
+    /// The group of the k-th 1-bit, and the number of 1-bits before that group. Binary search.
     #[tactic(auto, unfolding(crate::specs::Directory::counts_kept), using(crate::specs::Laws::Width::digits_split))]
     fn group_of(&self, k: u64, steps: &mut Steps) -> (u64, u64)
         requires some { 1 < length (counts_kept self.now) }
@@ -153,7 +153,7 @@ impl Directory {
     }
 }
 
-/// The number of 1-bits from one position up to another. One step a word.
+/// The number of 1-bits from one position up to another. One step for each 64 bits.
 #[tactic(auto, using(crate::specs::Laws::Marks::marks_le))]
 fn marks_between(bits: &Bits<'_>, from: u64, to: u64, steps: &mut Steps) -> u64
     requires order { from ≤ to }
@@ -172,7 +172,7 @@ fn marks_between(bits: &Bits<'_>, from: u64, to: u64, steps: &mut Steps) -> u64
     between
 }
 
-/// The position of the 1-bit number `left`, from 1, of those from a position on; it is less than a group away.
+/// The position of the `left`-th 1-bit at or after `from`, `left` from 1. It must be less than a group away.
 fn place_from(bits: &Bits<'_>, from: u64, left: u64, steps: &mut Steps) -> u64
     requires some { 0 < left }
     requires near { marks_before (bits_of bits.now) from + left ≤ marks_before (bits_of bits.now) (from + 512) }
@@ -207,8 +207,8 @@ fn has_fewer(word: u64, place: u64, k: u64) -> u64
     u64::from(u64::from(lowest.count_ones()) < k)
 }
 
-/// The position of the 1-bit number k, from 1, among the lowest bits of a word. Its six binary digits are found from
-/// the highest on, without branches, which would be unpredictable.
+/// The position of the k-th 1-bit, k from 1, among the lowest bits of a word. Finds its six binary digits from the
+/// highest on, without branches, which would be unpredictable.
 fn place_of_one(word: u64, width: u64, k: u64) -> u64
     requires narrow { width ≤ 64 }
     requires some { 0 < k }
@@ -227,16 +227,15 @@ fn place_of_one(word: u64, width: u64, k: u64) -> u64
     low
 }
 
-/// Laws of rank and select: the 1-bits of a list are numbered from 1 in order, so the number of 1-bits before a
-/// position and the position of a 1-bit are inverse.
+/// Laws of rank and select, which are inverse: the 1-bits of a list are numbered from 1, in order.
 pub fn marks_are_numbered()
-    // The number of a 1-bit is one more than the count of those before it.
+    // The number of a 1-bit is one more than the number of 1-bits before it.
     ensures number { (bits : List Bool) (i : ℕ) → slice_get bits i ≡ Some true → IsPlaceOfMark bits (marks_before bits i + 1) i }
-    // Each number up to the count of 1-bits is that of exactly one.
+    // Each number from 1 to the number of 1-bits is that of exactly one 1-bit.
     ensures some { (bits : List Bool) (k : ℕ) → 0 < k → k ≤ marks_before bits (length bits) → SomeIndex bits (IsPlaceOfMark bits k) }
     ensures one { (bits : List Bool) (k i j : ℕ) → IsPlaceOfMark bits k i → IsPlaceOfMark bits k j → i ≡ j }
     ensures ascend { (bits : List Bool) (k m i j : ℕ) → IsPlaceOfMark bits k i → IsPlaceOfMark bits m j → k < m → i < j }
     ensures through { (bits : List Bool) (k i : ℕ) → IsPlaceOfMark bits k i → marks_before bits (i + 1) ≡ k }
-    // A later position has no fewer 1-bits before it.
+    // Rank never decreases.
     ensures monotone { (bits : List Bool) (i j : ℕ) → i ≤ j → marks_before bits i ≤ marks_before bits j }
 {}

@@ -2,24 +2,24 @@
 //! steps that a search takes.
 //!
 //! What this crate promises: a reader returns exactly the numbers or bits that are encoded at the offset, in any width
-//! and with any padding, whatever follows; if there are none, it returns the first error. A writer appends the
-//! canonical encoding, which is read back. A rank/select index counts and finds exactly the 1-bits of its bitmap, in a
-//! stated number of steps.
+//! and with any padding, whatever follows. If the bytes encode nothing, it returns the first error. A writer appends
+//! the canonical encoding, which is read back. A rank/select index counts and finds exactly the 1-bits of its bitmap,
+//! in a stated number of steps.
 //!
 //! Functions that state no cost take constant time and allocate nothing. Laws do nothing when called.
 //!
 //! ```text
-//! let (marks, next) = Bits::read(bytes, at)?;
+//! let (bits, next) = Bits::read(bytes, at)?;
 //! let (numbers, end) = Numbers::read(bytes, next)?;
 //! let first = numbers.get(0);
-//! let directory = Directory::new(alloc, &marks)?;
-//! let before = directory.rank(&marks, marks.len(), &mut steps);
+//! let directory = Directory::new(alloc, &bits)?;
+//! let total = directory.rank(&bits, bits.len(), &mut steps);
 //! ```
 //!
-//! Both sequences borrow the input and are `Copy`; a `Directory` owns its counts and nothing else. Contracts see
-//! sequences as lists, by `numbers_of` and `bits_of` of specs/, and their offsets by `numbers_places` and
-//! `bits_places`; `IsDirectoryOf` says that a directory indexes a list of bits. Laws on these lists, and on ranks and
-//! positions of 1-bits, are in specs/Laws: `Numbers`, `Bits`, `Marks`.
+//! Both sequences borrow the input and are `Copy`. A `Directory` is a rank/select index; it owns only its counts.
+//! Contracts see sequences as lists, by `numbers_of` and `bits_of` of specs/, and their offsets by `numbers_places` and
+//! `bits_places`. `IsDirectoryOf` says that an index is that of a list of bits. Laws on these lists, and on rank and
+//! select, are in specs/Laws: `Numbers`, `Bits`, `RankSelect`.
 #![tactic(auto)]
 
 mod bits;

@@ -9,7 +9,7 @@ use hdt_wire::{Fault, Reason, demand, read_vbyte};
 ///
 /// ```text
 /// let (numbers, next) = Numbers::read(bytes, at)?;
-/// let last = numbers.get(numbers.len() - 1); // where there is one
+/// let last = numbers.get(numbers.len() - 1); // if there is one
 /// ```
 #[derive(Clone, Copy)]
 pub struct Numbers<'a> {
@@ -30,7 +30,7 @@ impl<'a> Numbers<'a> {
     ghost use Rattle.hdt_seq.specs.Sequence.{place_of_entry};
     ghost use Rattle.hdt_seq.specs.Numbers.{IsNumbers, numbers_of, numbers_places, numbers_places_from, numbers_and_end, numbers_read, numbers_at};
 
-    /// Reads a sequence, check by check.
+    /// Reads a log sequence in the order of the format.
     #[tactic(auto, unfolding(crate::specs::Numbers::numbers_at, crate::specs::Numbers::numbers_of, crate::specs::Numbers::numbers_places))]
     fn read_rows(bytes: &'a [u8], at: usize) -> Result<(Numbers<'a>, usize), Fault>
         ensures exact { Reads numbers_read result (numbers_at bytes.now at) }
@@ -53,8 +53,8 @@ impl<'a> Numbers<'a> {
         Ok((numbers, end))
     }
 
-    /// Reads the sequence at a byte offset, from 0. Returns it with the offset after it. More bytes may follow. Linear
-    /// time in the bytes of the sequence, because of its CRC.
+    /// Reads the log sequence at a byte offset, from 0. Returns it with the offset after it. More bytes may follow.
+    /// Linear time in the bytes of the sequence, because of its CRC.
     ///
     /// # Errors
     ///
@@ -67,7 +67,7 @@ impl<'a> Numbers<'a> {
         ensures places { IfOk result (λ r. numbers_places r.0 ≡ numbers_places_from at (slice_index bytes.now (at + 1)) (length (numbers_of r.0))) }
         // Whatever is encoded there is returned.
         ensures only { (xs : List ℕ) (end : ℕ) → SpelledAt IsNumbers bytes.now at xs end → Reads numbers_and_end result (Ok (xs, end)) }
-        // Otherwise it is the first error.
+        // Otherwise the first error is returned.
         ensures exact { Reads numbers_read result (numbers_at bytes.now at) }
         ensures end { IfOk result (λ r. (at < r.1) × (r.1 ≤ length bytes.now)) }
     {

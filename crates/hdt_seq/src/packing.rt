@@ -9,7 +9,7 @@ use byteorder::{ByteOrder, LittleEndian};
 use hdt_wire::{check8, check32};
 use std::alloc::AllocError;
 
-/// The bits that don't fill eight bytes yet, as the lowest bits of a word.
+/// Pending bits: fewer than 64, as the lowest bits of a word.
 #[derive(Drop)]
 struct Rest {
     word: u128,
@@ -30,7 +30,7 @@ fn append_bytes(word: u128, count: u8, out: &mut Vec<u8>) -> Result<(), AllocErr
     out.extend_from_slice(&bytes[..count as usize])
 }
 
-/// Adds an entry to the pending bits, and appends eight bytes when they are full.
+/// Adds an entry to the pending bits; 64 bits are appended as eight bytes.
 fn append_entry(rest: &mut Rest, entry: u64, width: u8, out: &mut Vec<u8>) -> Result<(), AllocError>
     requires narrow { width ≤ 64 }
     requires filled { rest.old.filled < 64 }
@@ -63,7 +63,7 @@ pub fn append_entries(xs: &[u64], width: u8, out: &mut Vec<u8>) -> Result<(), Al
     append_bytes(rest.word, rest.filled.div_ceil(8), out)
 }
 
-/// Adds a bit to the pending bits, and appends eight bytes when they are full.
+/// Adds a bit to the pending bits; 64 bits are appended as eight bytes.
 fn append_bit(rest: &mut Rest, bit: bool, out: &mut Vec<u8>) -> Result<(), AllocError>
     requires filled { rest.old.filled < 64 }
     requires small { rest.old.word < 2 ^ rest.old.filled }

@@ -1,4 +1,4 @@
-//! The checks that both sequences share.
+//! The checks that log sequences and bitmaps share.
 ghost use Rattle.std.specs.Prelude.{◌≡◌, ◌+◌, ◌<◌, ◌≤◌, length, IfOk};
 ghost use Rattle.hdt_wire.specs.Rows.{Reads, bytes_at};
 ghost use Rattle.hdt_seq.specs.Little.{bytes_for};
@@ -7,7 +7,7 @@ ghost use Rattle.hdt_seq.specs.Sequence.{byte_at, code8_at, packed_at};
 use byteorder::{ByteOrder, LittleEndian};
 use hdt_wire::{Fault, Reason, bytes_at, check8, check32, demand};
 
-/// The byte at an offset, and the offset after it.
+/// Returns the byte at an offset, and the offset after it. Fails with `Truncated` at `at` if there is none.
 #[tactic(auto, unfolding(crate::specs::Sequence::byte_at))]
 pub fn byte_at(bytes: &[u8], at: usize) -> Result<(u8, usize), Fault>
     ensures exact { result ≡ byte_at bytes.now at }
@@ -17,8 +17,8 @@ pub fn byte_at(bytes: &[u8], at: usize) -> Result<(u8, usize), Fault>
     Ok((one[0], end))
 }
 
-/// Checks that the CRC-8 of the bytes from `start` on is at an offset, and returns the offset after it. Linear time in
-/// these bytes.
+/// Checks that the byte at `at` is the CRC-8 of the bytes from `start` up to it. Returns the offset after it. Fails at
+/// `at`, with `Truncated` or `Check8`. Linear time in these bytes.
 #[tactic(auto, unfolding(crate::specs::Sequence::code8_at))]
 pub fn code8_at(bytes: &[u8], start: usize, at: usize) -> Result<usize, Fault>
     requires order { start ≤ at }
@@ -31,7 +31,7 @@ pub fn code8_at(bytes: &[u8], start: usize, at: usize) -> Result<usize, Fault>
     Ok(end)
 }
 
-/// `bytes_at` for a count that may be greater than any length.
+/// `bytes_at` for a `u128` count, which may exceed the input.
 #[tactic(auto, using(crate::proofs::Reading::too_many))]
 fn many_bytes_at(bytes: &[u8], at: usize, count: u128) -> Result<(&[u8], usize), Fault>
     ensures exact { Reads (λ x. (x.0.now, x.1)) result (bytes_at count bytes.now at) }
@@ -42,8 +42,8 @@ fn many_bytes_at(bytes: &[u8], at: usize, count: u128) -> Result<(&[u8], usize),
     bytes_at(bytes, at, count as usize)
 }
 
-/// The bytes at an offset that hold so many bits, with their CRC-32C checked, and the offset after it. Linear time in
-/// these bytes.
+/// Returns the bytes at `at` that hold so many bits, and the offset after the CRC-32C that follows them. Fails with
+/// `Truncated`, or with `Check32` at the CRC. Linear time in these bytes.
 #[tactic(auto, unfolding(crate::specs::Sequence::packed_at))]
 pub fn packed_at(bytes: &[u8], at: usize, bits: u128) -> Result<(&[u8], usize), Fault>
     ensures exact { Reads (λ x. (x.0.now, x.1)) result (packed_at bits bytes.now at) }

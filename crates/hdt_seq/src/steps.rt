@@ -1,11 +1,10 @@
-//! The steps of a search, by a count that only contracts see.
+//! The cost of a search in steps, counted for contracts.
 ghost use Rattle.std.specs.Prelude.{◌≡◌, ◌+◌};
 
 use hdt_wire::Tally;
 use std::marker::Model;
 
-/// The number of steps that were taken. It takes no memory; only contracts see it, and only [`Steps::tick`] increments
-/// it.
+/// A count of steps. It takes no memory; only contracts see it, and only [`Steps::tick`] increments it.
 #[derive(Drop)]
 pub struct Steps {
     taken: Tally,
@@ -20,7 +19,7 @@ impl Model for Steps {
 }
 
 impl Steps {
-    /// Returns a count of no steps.
+    /// Returns a count of 0.
     pub fn new() -> Steps
         ensures { result ≡ 0 }
     {

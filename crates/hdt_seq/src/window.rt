@@ -1,10 +1,10 @@
-//! Access to packed entries: one load if eight bytes hold the entry, else at most nine bytes are joined.
+//! Access to packed entries: one load if eight bytes hold the entry, else a slow path over nine bytes.
 ghost use Rattle.std.specs.Prelude.{◌≡◌, ◌≤◌, ◌<◌, ◌+◌, ◌*◌, ◌/◌, ◌%◌, ◌^◌, length};
 ghost use Rattle.hdt_seq.specs.Little.{little, entry, bit};
 
 use byteorder::{ByteOrder, LittleEndian};
 
-/// The bytes as a little-endian number.
+/// The little-endian number of at most nine bytes.
 #[tactic(auto, using(crate::proofs::Joining::nine, crate::proofs::Joining::few))]
 fn joined(bytes: &[u8]) -> u128
     requires { length bytes.now ≤ 9 }
@@ -17,7 +17,7 @@ fn joined(bytes: &[u8]) -> u128
     }
 }
 
-/// So many bits of a number, from a position on.
+/// Extracts `width` bits of a number, from bit `shift` on.
 #[inline(always)]
 #[tactic(auto, using(crate::proofs::Joining::masked))]
 fn bits_between(number: u128, shift: u8, width: u8) -> u64
@@ -28,7 +28,7 @@ fn bits_between(number: u128, shift: u8, width: u8) -> u64
     ((number >> shift) & ((1 << width) - 1)) as u64
 }
 
-/// So many bits from a position in the first byte on, all of which are in the first eight bytes.
+/// Reads `width` bits from bit `shift` of the first byte on, all of them in the first eight bytes.
 #[inline(always)]
 #[tactic(auto, using(crate::proofs::Joining::of_eight))]
 fn loaded_bits(rest: &[u8], shift: u8, width: u8) -> u64
@@ -40,7 +40,7 @@ fn loaded_bits(rest: &[u8], shift: u8, width: u8) -> u64
     bits_between(u128::from(LittleEndian::read_u64(rest)), shift, width)
 }
 
-/// So many bits from a position in the first byte on, out of at most nine bytes.
+/// Reads `width` bits from bit `shift` of the first byte on, out of at most nine bytes.
 #[cold]
 #[inline(never)]
 fn joined_bits(rest: &[u8], shift: u8, width: u8) -> u64
@@ -52,8 +52,8 @@ fn joined_bits(rest: &[u8], shift: u8, width: u8) -> u64
     bits_between(joined(near), shift, width)
 }
 
-/// So many bits from a position in the first byte on. Up to 56 bits always fit in eight bytes: this is tested first, as
-/// it is the same for all entries of a width.
+/// Reads `width` bits from bit `shift` of the first byte on. Up to 56 bits always fit in eight bytes. This is tested
+/// first, as it is the same for all entries of a width, and so predictable.
 #[inline(always)]
 fn bits_from(rest: &[u8], shift: u8, width: u8) -> u64
     requires first { shift < 8 }
@@ -67,7 +67,7 @@ fn bits_from(rest: &[u8], shift: u8, width: u8) -> u64
     }
 }
 
-/// So many bits, at most 64, from a position on, as a number.
+/// Reads `width` bits, at most 64, from bit `at` on, as a number. Bits past the end are 0.
 #[inline(always)]
 #[tactic(auto, using(crate::proofs::Joining::of_rest))]
 pub fn window(bytes: &[u8], at: u128, width: u8) -> u64
@@ -79,7 +79,7 @@ pub fn window(bytes: &[u8], at: u128, width: u8) -> u64
     bits_from(&bytes[first..], (at % 8) as u8, width)
 }
 
-/// Entry i of entries of a width.
+/// Reads entry i of entries of a width.
 #[inline(always)]
 pub fn entry_of(bytes: &[u8], width: u8, i: u64) -> u64
     requires narrow { width ≤ 64 }
@@ -89,7 +89,7 @@ pub fn entry_of(bytes: &[u8], width: u8, i: u64) -> u64
     window(bytes, u128::from(width) * u128::from(i), width)
 }
 
-/// Whether bit i is 1.
+/// Reads bit i: whether it is 1.
 #[inline(always)]
 #[tactic(auto, using(crate::proofs::BitReading::bit_is))]
 pub fn bit_of(bytes: &[u8], i: u64) -> bool

@@ -12,7 +12,7 @@ use crate::width::width_of;
 use hdt_wire::{cut_on_error, put_vbyte};
 use std::alloc::AllocError;
 
-/// Appends a log sequence; an error may leave its first bytes.
+/// Appends a log sequence. An error may leave its first bytes.
 #[tactic(auto, unfolding(crate::specs::Numbers::numbers_spelling))]
 fn append_number_sequence(xs: &[u64], out: &mut Vec<u8>) -> Result<(), AllocError>
     ensures ok { OnOk result (out.new.items ≡ out.old.items ++ numbers_spelling xs.now) }
@@ -39,8 +39,8 @@ pub fn put_numbers(xs: &[u64], out: &mut Vec<u8>) -> Result<(), AllocError>
     cut_on_error(appended, start, out)
 }
 
-/// Laws of the encodings of log sequences: that of `put_numbers` encodes its entries, and is read back whatever
-/// precedes and follows it; an encoding is that of one list, and no prefix of another encoding.
+/// Laws of the encodings of log sequences. What `put_numbers` appends encodes its entries and is read back, whatever
+/// precedes and follows it. An encoding is that of one list only, and no prefix of another encoding.
 pub fn numbers_are_read_again()
     ensures spelled { (xs : List ℕ) → length xs < 2 ^ 64 → EachFits 64 xs → IsNumbers (numbers_spelling xs) xs }
     ensures again { (before after xs : List ℕ) → length xs < 2 ^ 64 → EachFits 64 xs
@@ -49,7 +49,7 @@ pub fn numbers_are_read_again()
     ensures begins_no_other { (a b x y xs ys : List ℕ) → IsBytes (a ++ x) → IsNumbers a xs → IsNumbers b ys → a ++ x ≡ b ++ y → (a ≡ b) × (xs ≡ ys) }
 {}
 
-/// Appends a bitmap; an error may leave its first bytes.
+/// Appends a bitmap. An error may leave its first bytes.
 #[tactic(auto, unfolding(crate::specs::Bits::bits_spelling))]
 fn append_bit_sequence(bits: &[bool], out: &mut Vec<u8>) -> Result<(), AllocError>
     ensures ok { OnOk result (out.new.items ≡ out.old.items ++ bits_spelling bits.now) }
@@ -76,8 +76,8 @@ pub fn put_bits(bits: &[bool], out: &mut Vec<u8>) -> Result<(), AllocError>
     cut_on_error(appended, start, out)
 }
 
-/// Laws of the encodings of bitmaps: that of `put_bits` encodes its bits, and is read back whatever precedes and
-/// follows it; an encoding is that of one list, and no prefix of another encoding.
+/// Laws of the encodings of bitmaps. What `put_bits` appends encodes its bits and is read back, whatever precedes and
+/// follows it. An encoding is that of one list only, and no prefix of another encoding.
 pub fn bits_are_read_again()
     ensures spelled { (xs : List Bool) → 0 < length xs → length xs < 2 ^ 64 → IsBits (bits_spelling xs) xs }
     ensures again { (before after : List ℕ) (xs : List Bool) → 0 < length xs → length xs < 2 ^ 64

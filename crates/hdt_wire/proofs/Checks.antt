@@ -1,5 +1,4 @@
--- CRCs by bits and by tables: eight shifts of a register are those of its low byte, which a table has, xored
--- with the bytes above it.
+-- CRCs by tables: eight shifts of a register give the table's entry for its low byte, xored with the bytes above it.
 use Rattle.std.proofs.Common.{◌≡◌, ℕ, zero, suc, ◌+◌, ◌*◌, ◌/◌, ◌%◌, ◌^◌, ◌<◌, Bool, true, ◌&&◌, List, [], ◌∷◌, length, get_or, eqb, bit_xor, refl, sym, ap, ◌∙◌, arith, inl, inr}
 use Rattle.std.specs.Fn.{iterate}
 use Rattle.std.specs.Int.Bits.{xor_assoc, xor_zero_l, xor_zero_r}
@@ -10,7 +9,7 @@ use Rattle.hdt_wire.specs.declared.check.TheConstants.{TABLE8, TABLE16}
 use Rattle.hdt_wire.specs.declared.castagnoli.TheConstants.{AFTER_8}
 use Rattle.hdt_wire.specs.Check.{shift_left, shift_right, take8, take16, take32}
 
--- the entries from i on are what f gives
+-- the list is f i, f (i + 1) and so on
 abbrev pub lists : (ℕ → ℕ) → ℕ → List ℕ → Bool
 lists f i [] = true
 lists f i (x ∷ xs) = eqb x (f i) && lists f (i + 1) xs
@@ -24,7 +23,7 @@ lists_at f i (x ∷ xs) (suc k) h lt =
     let there : i + 1 + k ≡ i + suc k = omega arith in
     lists_at f (i + 1) xs k (and_parts _ _ h).1 (omega arith) ∙ ap f there
 
--- what is xored in above the low bit is shifted down
+-- bits above the low bit are only shifted
 shift_above : (p low high : ℕ) → shift_right p (bit_xor low (high * 2)) ≡ bit_xor (shift_right p low) high
 unfolding shift_right
 shift_above p low high =
@@ -43,7 +42,7 @@ shifts_above p (suc n) low high =
     let e : high * 2 ^ suc n ≡ (high * 2 ^ n) * 2 = rw pow-suc (omega arith) in
     ap (λ (x : ℕ). iterate (shift_right p) n (shift_right p (bit_xor low x))) e ∙ ap (iterate (shift_right p) n) (shift_above p low (high * 2 ^ n)) ∙ shifts_above p n (shift_right p low) high
 
--- a register is its low byte, and the rest above it
+-- a byte is xored into the low byte of a register only
 joined : (high low byte : ℕ) → low < 2 ^ 8 → byte < 2 ^ 8 → bit_xor (high * 2 ^ 8 + low) byte ≡ bit_xor (bit_xor low byte) (high * 2 ^ 8)
 joined high low byte small fits =
     let z : (n : ℕ) → 0 * 2 ^ 8 + n ≡ n = λ n. omega arith in
@@ -60,14 +59,14 @@ parts register byte lt =
     let whole : register ≡ register / 256 * 2 ^ 8 + register % 256 = omega arith in
     ap (λ (n : ℕ). bit_xor n byte) whole ∙ joined (register / 256) (register % 256) byte (omega arith) lt
 
--- eight shifts of a register with one more byte, where those of each byte are known
+-- eight shifts of a register with one more byte, by the table's entry
 by_entry : (p register byte entry : ℕ) → byte < 256 → entry ≡ iterate (shift_right p) 8 (bit_xor (register % 256) byte)
     → bit_xor (register / 256) entry ≡ iterate (shift_right p) 8 (bit_xor register byte)
 by_entry p register byte entry lt is =
     ap (bit_xor (register / 256)) is ∙ xor_comm (register / 256) (iterate (shift_right p) 8 (bit_xor (register % 256) byte))
     ∙ sym (ap (iterate (shift_right p) 8) (parts register byte lt) ∙ shifts_above p 8 (bit_xor (register % 256) byte) (register / 256))
 
--- the tables hold what eight shifts make of each byte
+-- ---- each table has the shifts of each byte, by evaluation
 table8_holds : lists (iterate shift_left 8) 0 TABLE8 ≡ true
 unfolding shift_left
 table8_holds = refl
@@ -97,6 +96,6 @@ unfolding take32
 entry32 register byte lt =
     by_entry 0x82F63B78 register byte _ lt (row_of (iterate (shift_right 0x82F63B78) 8) AFTER_8 (bit_xor (register % 256) byte) after_8_holds (xor_lt 8 (register % 256) byte (omega arith) lt))
 
--- the place of a byte in its table
+-- the index into a table is a byte
 pub low_fits : (register byte : ℕ) → byte < 256 → bit_xor (register % 256) byte < 256
 low_fits register byte lt = xor_lt 8 (register % 256) byte (omega arith) lt

@@ -1,4 +1,4 @@
--- The pieces of a text, one after the other.
+-- The items of properties, one after another.
 use Rattle.std.proofs.Common.{◌≡◌, ℕ, ◌+◌, ◌<◌, Bool, true, false, List, [], ◌∷◌, length, take, drop, Option, Some, None, refl, sym, ap, ◌∙◌, arith, All}
 use Rattle.std.specs.Prelude.{◌-◌, fold, not, slice_get}
 use Rattle.std.specs.List.{position_or_len, slice_split, filter_map, cons_option}
@@ -26,7 +26,7 @@ last key rest found k e full =
     let whole : take k rest ≡ rest = take_all k rest (omega arith) in
     rw whole (ap (counted key found) (slice_split_none (is 59) rest none))
 
--- what counts after values, in order
+-- the last of the values, or else what was found before
 abbrev last_or : Option (List ℕ) → List (List ℕ) → Option (List ℕ)
 last_or found [] = found
 last_or found (v ∷ vs) = last_or (Some v) vs

@@ -1,5 +1,5 @@
--- The CRC-32C, eight bytes a step. Shifting is linear over xor, so what eight bytes do to a register is what each
--- does alone, shifted once for each bit that follows it.
+-- The CRC-32C, eight bytes a step. Shifting is linear over xor, so the register after eight bytes is the xor of the
+-- single bytes, each shifted once for each bit from it on.
 use Rattle.std.proofs.Common.{◌≡◌, ℕ, zero, suc, ◌+◌, ◌*◌, ◌/◌, ◌%◌, ◌^◌, ◌<◌, true, false, List, [], ◌∷◌, length, get_or, eqb, bit_xor, refl, sym, ap, ◌∙◌, arith, inl, inr}
 use Rattle.std.specs.Prelude.{fold}
 use Rattle.std.specs.Fn.{iterate}
@@ -19,7 +19,7 @@ swap a b c d =
     ∙ ap (bit_xor a) (sym (xor_assoc b c d) ∙ ap (λ (n : ℕ). bit_xor n d) (xor_comm b c) ∙ xor_assoc c b d)
     ∙ sym (xor_assoc a c (bit_xor b d))
 
--- what is xored in twice is gone
+-- xoring twice cancels
 twice : (a b p : ℕ) → bit_xor (bit_xor a p) (bit_xor b p) ≡ bit_xor a b
 twice a b p = swap a p b p ∙ ap (bit_xor (bit_xor a b)) (xor_self p) ∙ xor_zero_r (bit_xor a b)
 
@@ -55,14 +55,14 @@ shifts-add p (suc m) n x =
     let e : suc m + n ≡ suc (m + n) = omega arith in
     ap (λ (k : ℕ). iterate (shift_right p) k x) e ∙ shifts-add p m n (shift_right p x)
 
--- eight shifts of what has eight zeros below
+-- eight shifts of a number whose low byte is 0
 shift_away : (p x : ℕ) → iterate (shift_right p) 8 (x * 2 ^ 8) ≡ x
 unfolding shift_right
 shift_away p x = ap (iterate (shift_right p) 8) (sym (xor_zero_l (x * 2 ^ 8))) ∙ shifts_above p 8 0 x ∙ xor_zero_l x
 
 -- ---- bytes as one word
 
--- the bytes one above the other, the first lowest
+-- the little-endian number of the bytes, by xor
 abbrev word : List ℕ → ℕ
 word [] = 0
 word (b ∷ bs) = bit_xor b (word bs * 2 ^ 8)
@@ -70,7 +70,7 @@ word (b ∷ bs) = bit_xor b (word bs * 2 ^ 8)
 eight_more : (b : ℕ) (bs : List ℕ) → 8 * length (b ∷ bs) ≡ 8 + 8 * length bs
 eight_more b bs = omega arith
 
--- bytes taken in turn are taken as one word
+-- the register after all bytes, taken as one word
 taken : (r : ℕ) (bs : List ℕ) → fold take32 r bs ≡ iterate (shift_right 0x82F63B78) (8 * length bs) (bit_xor r (word bs))
 unfolding take32
 taken r [] = sym (xor_zero_r r)
@@ -79,7 +79,7 @@ taken r (b ∷ bs) =
     ∙ ap (iterate (shift_right 0x82F63B78) (8 * length bs)) (sym (shifts_above 0x82F63B78 8 (bit_xor r b) (word bs)) ∙ ap (iterate (shift_right 0x82F63B78) 8) (xor_assoc r b (word bs * 2 ^ 8)))
     ∙ sym (ap (λ (k : ℕ). iterate (shift_right 0x82F63B78) k (bit_xor r (word (b ∷ bs)))) (eight_more b bs) ∙ shifts-add 0x82F63B78 8 (8 * length bs) (bit_xor r (word (b ∷ bs))))
 
--- each byte of a word alone
+-- each byte of a word, shifted by itself
 abbrev spread : ℕ → List ℕ → ℕ
 spread p [] = 0
 spread p (v ∷ vs) = bit_xor (iterate (shift_right p) (8 * length (v ∷ vs)) v) (spread p vs)
@@ -94,7 +94,7 @@ spread_is p (v ∷ vs) =
 
 -- ---- a register xored into a word
 
--- a number is its low byte, and the rest above it
+-- a number is its low byte and the rest
 low_and_high : (r : ℕ) → r ≡ bit_xor (r % 256) (r / 256 * 2 ^ 8)
 low_and_high r =
     let low : 0 * 2 ^ 8 + r % 256 ≡ r % 256 = omega arith in
@@ -115,7 +115,7 @@ mix r b w =
     ap (λ (n : ℕ). bit_xor n (bit_xor b (w * 2 ^ 8))) (low_and_high r) ∙ swap (r % 256) (r / 256 * 2 ^ 8) b (w * 2 ^ 8)
     ∙ ap (bit_xor (bit_xor (r % 256) b)) (above (r / 256) w)
 
--- the four bytes of a register meet the first four bytes
+-- the four bytes of a register are xored into the first four bytes
 meet : (r a b c d w : ℕ) → r < 2 ^ 32
     → bit_xor r (bit_xor a (bit_xor b (bit_xor c (bit_xor d (w * 2 ^ 8) * 2 ^ 8) * 2 ^ 8) * 2 ^ 8))
     ≡ bit_xor (bit_xor (r % 256) a) (bit_xor (bit_xor (r / 256 % 256) b) (bit_xor (bit_xor (r / 65536 % 256) c) (bit_xor (bit_xor (r / 16777216) d) (w * 2 ^ 8) * 2 ^ 8) * 2 ^ 8) * 2 ^ 8)
@@ -167,7 +167,7 @@ after n table v holds lt = sym (row_of (iterate (shift_right 0x82F63B78) n) tabl
 
 -- ---- eight bytes
 
--- what the tables give of eight bytes is their spread
+-- the xor of eight entries, nested to the right or to the left
 gathered : (a b c d e f g h : ℕ) → bit_xor a (bit_xor b (bit_xor c (bit_xor d (bit_xor e (bit_xor f (bit_xor g (bit_xor h 0))))))) ≡ bit_xor (bit_xor (bit_xor (bit_xor (bit_xor (bit_xor (bit_xor a b) c) d) e) f) g) h
 gathered a b c d e f g h =
     ap (λ (n : ℕ). bit_xor a (bit_xor b (bit_xor c (bit_xor d (bit_xor e (bit_xor f (bit_xor g n))))))) (xor_zero_r h) ∙ sym (simp xor_assoc)

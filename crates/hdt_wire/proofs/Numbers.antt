@@ -1,4 +1,4 @@
--- Numbers in base 128: what a loop over the bytes keeps.
+-- Reading a VByte number: the invariant of the loop over its bytes.
 use Rattle.std.proofs.Common.{◌≡◌, ℕ, ◌+◌, ◌*◌, ◌%◌, ◌^◌, ◌<◌, ◌≤◌, Bool, List, [], ◌∷◌, ◌++◌, length, get_or, take, leb, lit<, sym, arith, inl, inr}
 use Rattle.std.specs.Prelude.{not}
 use Rattle.std.specs.List.{prefix_len, position_or_len}
@@ -21,7 +21,7 @@ pub number_of_below : (xs : List ℕ) → number_of xs < 128 ^ length xs
 number_of_below [] = omega arith
 number_of_below (x ∷ xs) = omega (arith, number_of_below xs, pow-suc 128 (length xs))
 
--- what a loop keeps over the digits before place i
+-- the value and the scale after the digits before index i
 pub record Counts (seen : List ℕ) (i value scale : ℕ) : Type 0 where
   pub is_number : value ≡ number_of (take i seen)
   pub is_scale : scale ≡ 128 ^ i
@@ -43,7 +43,7 @@ no_last seen low =
       | inr le ↦ omega (arith, le, prefix_len-le-length p seen)
     ]
 
--- one more digit
+-- the value after one more digit
 pub number_of_more : (seen : List ℕ) (i value scale : ℕ) → Counts seen i value scale → i < length seen → value + get_or seen i 0 % 128 * scale ≡ number_of (take (i + 1) seen)
 number_of_more seen i value scale h lt =
     let len : length (take i seen) ≡ i = omega (arith, length-take i seen) in
@@ -51,7 +51,7 @@ number_of_more seen i value scale h lt =
     let f : number_of (take (i + 1) seen) ≡ number_of (take i seen) + get_or seen i 0 % 128 * 128 ^ i = rw len at e in
     rw (h.is_number, h.is_scale) (sym f)
 
--- the sums of the loop fit
+-- the value and the scale don't overflow
 pub Counts-fit : (seen : List ℕ) (i value scale : ℕ) → Counts seen i value scale → i < length seen → length seen ≤ 10 → (value < scale) × (scale ≤ 2 ^ 63)
 Counts-fit seen i value scale h lt short =
     let len : length (take i seen) ≡ i = omega (arith, length-take i seen) in

@@ -1,4 +1,4 @@
--- What the laws say of a reader's result.
+-- The clauses of readers, from the laws of their checks.
 use Rattle.std.proofs.Common.{◌≡◌, ℕ, ◌+◌, ◌-◌, ◌<◌, ◌≤◌, List, [], ◌∷◌, length, get_or, take, drop, Result, Ok, Err, refl, sym, ap, subst, ◌∙◌, arith, drop-cons}
 use Rattle.std.specs.Prelude.{slice_range}
 use Rattle.std.specs.Prelude.{IfOk}
@@ -30,7 +30,7 @@ block_only block (Err f) read e h = sym h ∙ e
 take-one : (bytes : List ℕ) (at : ℕ) → at < length bytes → take 1 (drop at bytes) ≡ get_or bytes at 0 ∷ []
 take-one bytes at lt = rw (drop-cons bytes at 0) refl
 
--- a byte with its top bit set is a number
+-- a first byte with its top bit set is a number by itself
 pub one_byte : (bytes : List ℕ) (at b : ℕ) → at < length bytes → b ≡ get_or bytes at 0 → 128 ≤ b → b < 256 → vbyte_at bytes at ≡ Ok (b - 128, at + 1)
 one_byte bytes at b lt is high small =
     let one : slice_range bytes at (at + 1) ≡ b ∷ [] =

@@ -1,4 +1,4 @@
--- Writes, one after another, to a writer whose bytes may be known.
+-- Several writes to one writer, or to one list of bytes.
 use Rattle.std.proofs.Common.{◌≡◌, List, ℕ, ◌++◌, ◌∙◌, length, take, Option, Some, None, Result, Ok, Err, OnErr, refl, ap, append_assoc}
 use Rattle.std.proofs.lemmas.List.{take_at}
 use Rattle.std.specs.Io.KnownBytes.{Appends}
@@ -10,7 +10,7 @@ Appends-then (Some olds) None c xs ys p q = absurd p
 Appends-then (Some olds) (Some bs) None xs ys p q = absurd q
 Appends-then (Some olds) (Some bs) (Some cs) xs ys p q = q ∙ ap (λ (t : List ℕ). t ++ ys) p ∙ append_assoc olds xs ys
 
--- new is old, and perhaps more behind it
+-- the new list is the old one with more appended
 pub record Grown (old new : List ℕ) : Type 0 where
   pub more : List ℕ
   pub whole : new ≡ old ++ more
@@ -21,7 +21,7 @@ grown old new xs p = record { more = xs; whole = p }
 pub grows : (old mid new xs : List ℕ) → Grown old mid → new ≡ mid ++ xs → Grown old new
 grows old mid new xs g p = record { more = g.more ++ xs; whole = p ∙ ap (λ (t : List ℕ). t ++ xs) g.whole ∙ append_assoc old g.more xs }
 
--- a write that failed leaves what stood before those that did not
+-- if a write fails and changes nothing, what was there before all writes is still a prefix
 pub failed_keeps : {T E : Type 0} (result : Result T E) (old mid new : List ℕ) → Grown old mid → new ≡ mid → OnErr result (Keeps old new)
 failed_keeps (Ok x) old mid new g p = tt
 failed_keeps (Err e) old mid new g p = ap (take (length old)) (p ∙ g.whole) ∙ take_at old g.more (length old) refl

@@ -1,4 +1,4 @@
--- The encoding of a number, digit by digit.
+-- Writing a VByte number, digit by digit.
 use Rattle.std.proofs.Common.{◌≡◌, ℕ, suc, ◌+◌, ◌*◌, ◌-◌, ◌/◌, ◌%◌, ◌^◌, ◌<◌, ◌≤◌, List, ◌∷◌, ◌++◌, length, set, take, refl, sym, ap, ◌∙◌, arith, inl, inr, append_assoc}
 use Rattle.std.proofs.Math.Nat.{pow-suc}
 use Rattle.std.proofs.lemmas.Bool.{cases_lt}
@@ -6,7 +6,7 @@ use Rattle.std.proofs.lemmas.List.{take_more_set}
 use Rattle.hdt_wire.specs.VByte.{digits_by, vbyte}
 use Rattle.hdt_wire.specs.Laws.VByte.{digits_more, digits_last}
 
--- what a loop keeps, with len bytes written: the rest is written in the bytes that are left
+-- the invariant of the loop: after len bytes, the rest fits in the remaining ones
 pub record Fits (len rest : ℕ) : Type 0 where
   pub short : len ≤ 9
   pub below : rest < 128 ^ (10 - len)
@@ -24,7 +24,7 @@ Fits-next len rest h high =
           absurd (omega (arith, tiny, high))
     ]
 
--- a digit is written
+-- one more digit
 pub writes : (text : List ℕ) (len rest v : ℕ) → Fits len rest → length text ≡ 10 → 128 ≤ rest → take len text ++ digits_by (9 - len) rest ≡ vbyte v
     → take (len + 1) (set text len (rest % 128)) ++ digits_by (9 - (len + 1)) (rest / 128) ≡ vbyte v
 writes text len rest v h size high so_far =
@@ -33,13 +33,13 @@ writes text len rest v h size high so_far =
     let one : take len text ++ digits_by (9 - len) rest ≡ take len text ++ (rest % 128 ∷ digits_by (9 - (len + 1)) (rest / 128)) = rw left (ap (λ (t : List ℕ). take len text ++ t) (digits_more (9 - (len + 1)) rest high)) in
     rw (take_more_set text len (rest % 128) (omega (arith, h.short, size)), append_assoc) (sym one ∙ so_far)
 
--- the last digit is written
+-- the last digit
 pub ends : (text : List ℕ) (len rest v : ℕ) → Fits len rest → length text ≡ 10 → rest < 128 → take len text ++ digits_by (9 - len) rest ≡ vbyte v
     → take (len + 1) (set text len (rest + 128)) ≡ vbyte v
 ends text len rest v h size low so_far =
     rw (take_more_set text len (rest + 128) (omega (arith, h.short, size)), ← digits_last (9 - len) rest low) so_far
 
--- a digit is counted
+-- one more digit, for the length
 pub counts : (len rest v : ℕ) → Fits (len - 1) rest → 0 < len → 128 ≤ rest → length (digits_by (10 - len) rest) + len ≡ length (vbyte v) + 1
     → Fits (len + 1 - 1) (rest / 128) × (length (digits_by (10 - (len + 1)) (rest / 128)) + (len + 1) ≡ length (vbyte v) + 1)
 counts len rest v h some high so_far =

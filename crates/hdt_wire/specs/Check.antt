@@ -1,5 +1,5 @@
--- CRCs (rdfhdt.org, "HDT binary format"; CRC-8/SMBUS, CRC-16/ARC and CRC-32C of the catalogue): a register takes the
--- bytes in turn. Each is xored in, and the register is then shifted by one bit, eight times.
+-- CRCs (rdfhdt.org, "HDT binary format"; CRC-8/SMBUS, CRC-16/ARC and CRC-32C of the catalogue): each byte is xored into
+-- a register, which is then shifted eight times by one bit.
 use Rattle.std.specs.Prelude.{ℕ, ◌*◌, ◌/◌, ◌%◌, ◌==◌, List, fold, bit_xor, nat_le, if◌then◌else◌}
 use Rattle.std.specs.Fn.{iterate}
 

@@ -1,5 +1,5 @@
 -- Control information (rdfhdt.org, "HDT binary format", Control Information): the cookie, the type, the format, the
--- properties, and the CRC-16 of all that.
+-- properties, and a CRC-16 over all of these.
 use Rattle.std.specs.Prelude.{◌≡◌, ◌≢◌, ℕ, ◌+◌, ◌==◌, List, [], ◌∷◌, ◌++◌, All, codes, length, take, slice_range, Result, Ok}
 use Rattle.std.specs.Str.{bytes_eq}
 use Rattle.byteorder.specs.Endian.{little_number, little_bytes}
@@ -38,20 +38,20 @@ before_code kind properties = cookie ++ kind_code kind ∷ (format_text kind ++ 
 abbrev pub control : Kind → List ℕ → List ℕ
 control kind properties = before_code kind properties ++ little_bytes 2 (code16 (before_code kind properties))
 
--- new begins with old
+-- the old list is a prefix of the new one
 abbrev pub Keeps : List ℕ → List ℕ → Type 0
 Keeps old new = take (length old) new ≡ old
 
 -- ---- reading
 
--- control information: format, properties, the offset of the properties, and the offset after it
+-- control information: its format, its properties, their byte offset, and the offset after the CRC
 pub record Block : Type 0 where
   pub format : List ℕ
   pub properties : List ℕ
   pub properties_at : ℕ
   pub end : ℕ
 
--- a `Control`, without its addresses
+-- the control information of a `Control`, without addresses in memory
 unfoldable pub block_of : Control → Block
 block_of c = record { format = c.format.now; properties = c.properties.now; properties_at = c.properties_at; end = c.end }
 
@@ -67,7 +67,7 @@ pub record IsBlock (kind : Kind) (block : Block) (bytes : List ℕ) (at : ℕ) :
   pub format : block.format ≡ format_text kind
   pub properties_at : block.properties_at ≡ at + 6 + length (format_text kind)
 
--- the checks of control information in turn: what was read, or the first error
+-- the checks of control information in turn: the information, or the first error
 unfoldable pub control_at : Kind → List ℕ → ℕ → Result Block Fault
 control_at kind bytes at = do
   mark ← bytes_at 4 bytes at

@@ -5,7 +5,7 @@ use Rattle.hdt_wire.specs.declared.fault.Fault.{Fault}
 use Rattle.hdt_wire.specs.declared.fault.Reason.{Reason}
 use Rattle.hdt_wire.specs.declared.fault.Reason.TheVariants.{Truncated, OverlongNumber, NumberTooLarge, NotHdt, WrongKind, Check16, WrongFormat, HeaderLength, TripleOrder, Check8, Check32, SequenceKind, Width, BitsKind, SectionKind, BlockSize, BlockCount, BlockPlace, PrefixTooLong, PackedLength, NotUtf8, StringsNotAscending, SectionsOverlap, NoTriples, LengthsDiffer, LastMark, MarkCount, SubjectRange, PredicateRange, ObjectRange, PredicatesNotAscending, ObjectsNotAscending, TrailingBytes, Unused}
 
--- the number, from 1, in the order of the parts of the format
+-- the number, from 1
 abbrev pub reason_number : Reason → ℕ
 reason_number Truncated = 1
 reason_number OverlongNumber = 2
@@ -79,6 +79,6 @@ reason_name ObjectsNotAscending = codes "ObjectsNotAscending"
 reason_name TrailingBytes = codes "TrailingBytes"
 reason_name Unused = codes "Unused"
 
--- an error as text: the name of its reason, and the offset in decimal
+-- an error as text: the name of its reason, and the byte offset in decimal
 abbrev pub fault_text : Fault → List ℕ
 fault_text fault = reason_name fault.reason ++ codes " at " ++ decimal fault.place

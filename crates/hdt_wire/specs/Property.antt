@@ -16,7 +16,7 @@ value_of key piece =
 abbrev pub values_of : List ℕ → List ℕ → List (List ℕ)
 values_of text key = filter_map (value_of key) (slice_split (is 59) text)
 
--- the last of them
+-- the last of them, which is the one that counts
 unfoldable pub property_value : List ℕ → List ℕ → Option (List ℕ)
 property_value text key = slice_get (values_of text key) (length (values_of text key) - 1)
 

@@ -1,32 +1,32 @@
--- Checks. The format is a list of checks, each a condition with the reason and the offset of the error that a file has
--- if this check is the first that fails. A part of a file is read by such checks in turn.
+-- Checks. The format is a list of checks: conditions, each with the reason and the byte offset of the error that is
+-- reported if it is the first to fail. Each part of a file is read by such checks in turn.
 use Rattle.std.specs.Prelude.{◌≡◌, ℕ, ◌+◌, ◌==◌, ◌≤◌, ◌<◌, Bool, nat_lt, nat_le, List, length, take, drop, slice_index, slice_range, Option, IfSome, Result, Ok, Err, if◌then◌else◌}
 use Rattle.std.specs.List.{position_or_len}
 use Rattle.hdt_wire.specs.declared.fault.Fault.{Fault}
 use Rattle.hdt_wire.specs.declared.fault.Reason.{Reason}
 use Rattle.hdt_wire.specs.declared.fault.Reason.TheVariants.{Truncated}
 
--- later checks see what was read; the first error is the result
+-- later checks may use what earlier ones read; the result is the first error
 infixl 10 ◌>>=◌
 abbrev pub ◌>>=◌ : {A B : Type 0} → Result A Fault → (A → Result B Fault) → Result B Fault
 (Ok x) >>= f = f x
 (Err e) >>= f = Err e
 
--- a check: the condition holds, or there is this error
+-- a check: fails with this error unless the condition holds
 abbrev pub demand : Bool → ℕ → Reason → Result (Unit {0}) Fault
 demand holds place reason = if holds then Ok tt else Err (record { place = place; reason = reason })
 
--- the result of a function, by a view of its value, is what the checks give
+-- a function returns the result of the checks; `view` maps its value to theirs
 abbrev pub Reads : {X Y : Type 0} → (X → Y) → Result X Fault → Result Y Fault → Type 0
 Reads view (Ok x) read = read ≡ Ok (view x)
 Reads view (Err f) read = read ≡ Err f
 
--- the same of a function that may run out of memory: fault_of gives the error of the file, if it is one
+-- the same for a function that may also run out of memory: fault_of maps its error to that of the file, if it is one
 abbrev pub Gives : {X Y E : Type 0} → (E → Option Fault) → (X → Y) → Result X E → Result Y Fault → Type 0
 Gives fault_of view (Ok x) read = read ≡ Ok (view x)
 Gives fault_of view (Err e) read = IfSome (fault_of e) (λ f. read ≡ Err f)
 
--- so many bytes, and the offset after them
+-- `count` bytes at an offset, and the offset after them
 unfoldable pub bytes_at : ℕ → List ℕ → ℕ → Result (List ℕ × ℕ) Fault
 bytes_at count bytes at = do
   _ ← demand (nat_le (at + count) (length bytes)) at Truncated
@@ -36,7 +36,7 @@ bytes_at count bytes at = do
 abbrev pub zero_in : List ℕ → ℕ
 zero_in bytes = position_or_len (λ b. b == 0) bytes
 
--- a zero-terminated text, and the offset after its zero byte
+-- the zero-terminated text at an offset, and the offset after its zero byte
 unfoldable pub text_at : List ℕ → ℕ → Result (List ℕ × ℕ) Fault
 text_at bytes at =
     let rest = drop at bytes in
@@ -51,13 +51,13 @@ text_at bytes at =
 abbrev pub IsBytes : List ℕ → Type 0
 IsBytes bytes = (i : ℕ) → slice_index bytes i < 256
 
--- these bytes are at an offset, up to an end
+-- the bytes from an offset up to an end are this text
 pub record Stands (bytes : List ℕ) (at : ℕ) (text : List ℕ) (end : ℕ) : Type 0 where
   pub end_is : end ≡ at + length text
   pub within : end ≤ length bytes
   pub here : slice_range bytes at end ≡ text
 
--- bytes that encode the value are at an offset, up to an end
+-- the bytes from an offset up to an end encode the value
 pub record SpelledAt {V : Type 0} (Spells : List ℕ → V → Type 0) (bytes : List ℕ) (at : ℕ) (v : V) (end : ℕ) : Type 0 where
   pub in_order : at ≤ end
   pub within : end ≤ length bytes

@@ -6,8 +6,8 @@ use Rattle.hdt_wire.specs.declared.fault.Fault.{Fault}
 use Rattle.hdt_wire.specs.declared.fault.Reason.TheVariants.{Truncated, OverlongNumber, NumberTooLarge}
 use Rattle.hdt_wire.specs.Rows.{◌>>=◌, SpelledAt, demand}
 
--- The bytes encode the number. The only byte is the number plus 128; or the first byte is the least significant digit,
--- and the others encode the rest, which is not 0. So each number has one encoding.
+-- The bytes encode the number. Either the only byte is the number plus 128, or the first byte is the least significant
+-- digit and the others encode the rest, which is not 0. So each number has one encoding.
 abbrev pub VByte : List ℕ → ℕ → Type 0
 VByte [] v = ⊥
 VByte (b ∷ []) v = (v < 128) × (b ≡ v + 128)
@@ -24,12 +24,12 @@ vbyte v = digits_by 9 v
 
 -- ---- reading
 
--- the number with these digits, whatever their top bits
+-- the number with these digits, with their top bits ignored
 abbrev pub number_of : List ℕ → ℕ
 number_of [] = 0
 number_of (b ∷ bs) = b % 128 + 128 * number_of bs
 
--- the ten bytes at an offset, or as many as there are
+-- the bytes at an offset, at most ten
 abbrev pub window : List ℕ → ℕ → List ℕ
 window bytes at = take 10 (drop at bytes)
 

@@ -12,7 +12,7 @@ fn next_one(register: u32, byte: u8) -> u32
     (register / 256) ^ table[low as usize]
 }
 
-/// The register of the CRC after eight more bytes: the first byte is shifted 64 times, the last one 8 times.
+/// The register of the CRC after eight more bytes. The first byte is shifted 64 times, the last one 8 times.
 fn next_eight(register: u32, bytes: &[u8]) -> u32
     requires { length bytes.now ≡ 8 }
     ensures { result ≡ fold take32 register bytes.now }
@@ -57,7 +57,7 @@ pub fn check32(bytes: &[u8]) -> u32
     register ^ u32::MAX
 }
 
-// Each byte after 8, 16 .. 64 shifts by the Castagnoli polynomial, reflected.
+// Entry b of `AFTER_n` is byte b after n shifts by the reflected Castagnoli polynomial.
 
 const AFTER_8: [u32; 256] = [
     0x00000000, 0xF26B8303, 0xE13B70F7, 0x1350F3F4, 0xC79A971F, 0x35F1141C, 0x26A1E7E8, 0xD4CA64EB,

@@ -12,7 +12,7 @@ use std::alloc::AllocError;
 /// The type of control information: the part of the file that follows it.
 #[derive(Clone, Copy, Debug, PartialEq, Eq)]
 pub enum Kind {
-    /// The whole file.
+    /// The file.
     Global,
     /// The header.
     Header,
@@ -35,7 +35,7 @@ impl Kind {
         }
     }
 
-    /// The only format that is read for this type.
+    /// The only supported format of this type.
     fn format(self) -> &'static [u8]
         ensures { result.now ≡ format_text self }
     {
@@ -48,7 +48,7 @@ impl Kind {
     }
 }
 
-/// Control information that was read. Its texts are borrowed from the input.
+/// Control information that was read. It borrows its texts from the input.
 #[derive(Clone, Copy)]
 pub struct Control<'a> {
     format: &'a [u8],
@@ -91,7 +91,7 @@ impl<'a> Control<'a> {
     }
 }
 
-/// Reads control information, check by check.
+/// Reads control information in the order of the format.
 #[tactic(auto, unfolding(crate::specs::Control::control_at, crate::specs::Control::block_of))]
 fn read_rows<'a>(bytes: &'a [u8], at: usize, kind: Kind) -> Result<Control<'a>, Fault>
     ensures exact { Reads block_of result (control_at kind bytes.now at) }
@@ -129,7 +129,7 @@ pub fn read_control<'a>(bytes: &'a [u8], at: usize, kind: Kind) -> Result<Contro
     // Whatever is encoded there is returned.
     ensures only { (properties : List ℕ) (end : ℕ) → HasNoZero properties → Stands bytes.now at (control kind properties) end
         → Reads block_of result (Ok (block_at kind properties at end)) }
-    // Otherwise it is the first error.
+    // Otherwise the first error is returned.
     ensures exact { Reads block_of result (control_at kind bytes.now at) }
 {
     read_rows(bytes, at, kind)

@@ -24,8 +24,8 @@ impl fmt::Display for Failed {
 
 impl Error for Failed {}
 
-/// A reader or a writer with a count of its failures: each `Err`, also `Interrupted`, and each write that takes nothing
-/// of a slice that is not empty. The count takes no memory; only contracts see it.
+/// A reader or writer with a count of its failures: every `Err`, including `Interrupted`, and every write that returns
+/// 0 for a non-empty slice. The count takes no memory; only contracts see it.
 #[derive(Drop)]
 pub struct Counted<T> {
     inner: T,
@@ -65,7 +65,7 @@ impl<T> Counted<T> {
     }
 
     /// Calls the reader once. Returns the number of bytes read: 0 at the end of the input or for an empty buffer. Fails
-    /// if the reader does, with any error; nothing is retried.
+    /// on any error of the reader, without retrying.
     pub fn read(&mut self, buf: &mut [u8]) -> Result<usize, Failed>
     where
         T: Read,
@@ -80,8 +80,8 @@ impl<T> Counted<T> {
         }
     }
 
-    /// Calls the writer once. Returns the number of bytes written. Fails if the writer does, with any error, or if it
-    /// takes nothing of a slice that is not empty; nothing is retried.
+    /// Calls the writer once. Returns the number of bytes written. Fails on any error of the writer, and if it writes
+    /// nothing of a non-empty slice, without retrying.
     pub fn write(&mut self, buf: &[u8]) -> Result<usize, Failed>
     where
         T: Write,
@@ -97,8 +97,8 @@ impl<T> Counted<T> {
         }
     }
 
-    /// Writes all bytes, in as many calls of the writer as it takes, with no call after the last byte. The error is the
-    /// number of bytes that were written before a write failed: fewer than all.
+    /// Writes all bytes, in as many calls of the writer as needed, with none after the last byte. The error is the
+    /// number of bytes that were written before a write failed, which is less than the length of `text`.
     pub fn write_all(&mut self, text: &[u8]) -> Result<(), u64>
     where
         T: Write,

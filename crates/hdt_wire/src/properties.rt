@@ -6,7 +6,7 @@ ghost use Rattle.hdt_wire.specs.Property.{is, value_of, later, property_value};
 
 use memchr::memchr;
 
-/// The index of the first such byte, or the length if there is none.
+/// The index of the first occurrence of a byte, or the length if it does not occur.
 fn index_of(byte: u8, bytes: &[u8]) -> usize
     ensures index { result ≡ position_or_len (is byte) bytes.now }
     ensures within { result ≤ length bytes.now }
@@ -29,7 +29,7 @@ fn value_in<'a>(piece: &'a [u8], key: &[u8]) -> Option<&'a [u8]>
     }
 }
 
-/// The last value, after one more item.
+/// The last value after one more item: that item's, if it has one.
 fn later<'a>(found: Option<&'a [u8]>, value: Option<&'a [u8]>) -> Option<&'a [u8]>
     ensures { option_copied result ≡ later (option_copied found.entry) (option_copied value.entry) }
 {

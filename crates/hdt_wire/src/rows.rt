@@ -6,7 +6,7 @@ ghost use Rattle.hdt_wire.specs.Rows.{Reads, demand, bytes_at, zero_in, text_at}
 use crate::fault::{Fault, Reason};
 use memchr::memchr;
 
-/// A check: fails with this reason at `place`, a byte offset from 0, unless the condition holds.
+/// A check: fails with this reason at the byte offset `place`, from 0, unless the condition holds.
 pub fn demand(holds: bool, place: usize, reason: Reason) -> Result<(), Fault>
     ensures exact { result ≡ demand holds place reason }
 {
@@ -33,7 +33,7 @@ pub fn bytes_at(bytes: &[u8], at: usize, count: usize) -> Result<(&[u8], usize),
     Ok((&bytes[at..at + count], at + count))
 }
 
-/// Returns the number of bytes before the first zero byte, or the length if there is none. Linear time in that number.
+/// Returns the number of bytes before the first zero byte, or the length if there is none. Linear time in the result.
 pub fn zero_in(bytes: &[u8]) -> usize
     ensures len { result ≡ zero_in bytes.now }
     ensures within { result ≤ length bytes.now }
@@ -57,7 +57,7 @@ pub fn text_at(bytes: &[u8], at: usize) -> Result<(&[u8], usize), Fault>
     Ok((&rest[..len], at + len + 1))
 }
 
-/// Returns the result of appending to `out`; after an error, truncates `out` to the length that it had before.
+/// Returns `appended`, the result of appending to `out`. If it is an error, truncates `out` to `len`.
 pub fn cut_on_error<E>(appended: Result<(), E>, len: usize, out: &mut Vec<u8>) -> Result<(), E>
     ensures same { result ≡ appended }
     ensures ok { OnOk appended (out.new ≡ out.old) }

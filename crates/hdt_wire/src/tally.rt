@@ -1,5 +1,4 @@
-//! A ghost counter. Only `new` and `after` set it, by proofs written by hand: a proof that the prover finds by itself
-//! cannot.
+//! A ghost counter. Only `new` and `after` set it; both need proofs written by hand.
 ghost use Rattle.std.specs.Prelude.{◌≡◌, ◌+◌, ℕ};
 ghost use base.Fml.{ftrue};
 

@@ -39,8 +39,8 @@ pub fn put_vbyte(v: u64, out: &mut Vec<u8>) -> Result<(), AllocError>
     out.extend_from_slice(&text[..len + 1])
 }
 
-/// The law that each number below 2^64 has exactly one encoding, that no encoding is a prefix of another, and that it
-/// is read back, whatever precedes and follows it.
+/// The law that each number below 2^64 has exactly one encoding, which is no prefix of another and is read back,
+/// whatever precedes and follows it.
 pub fn one_spelling()
     ensures spelled { (v : ℕ) → v < 2 ^ 64 → VByte (vbyte v) v }
     ensures alone { (text : List ℕ) (v : ℕ) → v < 2 ^ 64 → VByte text v → text ≡ vbyte v }
@@ -49,7 +49,7 @@ pub fn one_spelling()
         → vbyte_at (before ++ vbyte v ++ after) (length before) ≡ Ok (v, length before + length (vbyte v)) }
 {}
 
-/// The ten bytes at an offset, or as many as there are.
+/// The bytes at an offset, at most ten.
 fn window(bytes: &[u8], at: usize) -> &[u8]
     ensures { result.now ≡ take 10 (drop at bytes.now) }
 {
@@ -61,7 +61,7 @@ fn window(bytes: &[u8], at: usize) -> &[u8]
     }
 }
 
-/// The number that the bytes up to the first one with its top bit set encode, and the index of that byte.
+/// The number encoded by the bytes up to the first one with its top bit set, and the index of that byte.
 fn number_in(seen: &[u8]) -> Option<(u128, usize)>
     requires { length seen.now ≤ 10 }
     ensures none { IfNone result (last_of seen.now ≡ length seen.now) }
@@ -80,7 +80,7 @@ fn number_in(seen: &[u8]) -> Option<(u128, usize)>
     None
 }
 
-/// Reads a number, check by check.
+/// Reads a number of any length.
 #[tactic(auto, unfolding(crate::specs::VByte::vbyte_at))]
 fn read_rows(bytes: &[u8], at: usize) -> Result<(u64, usize), Fault>
     ensures exact { result ≡ vbyte_at bytes.now at }
@@ -110,7 +110,7 @@ fn read_rows(bytes: &[u8], at: usize) -> Result<(u64, usize), Fault>
     Ok((value as u64, at + last + 1))
 }
 
-/// Reads a number; most have one byte, and take a short way.
+/// Reads a number, with a fast path for one byte, the most common length.
 #[tactic(auto, using(crate::proofs::Reading::one_byte))]
 fn read_short_or_long(bytes: &[u8], at: usize) -> Result<(u64, usize), Fault>
     ensures exact { result ≡ vbyte_at bytes.now at }
@@ -132,7 +132,7 @@ pub fn read_vbyte(bytes: &[u8], at: usize) -> Result<(u64, usize), Fault>
     ensures found { IfOk result (λ r. SpelledAt VByte bytes.now at r.0 r.1) }
     // Whatever is encoded there is returned.
     ensures only { (v end : ℕ) → v < 2 ^ 64 → SpelledAt VByte bytes.now at v end → result ≡ Ok (v, end) }
-    // Otherwise it is the first error.
+    // Otherwise the first error is returned.
     ensures exact { result ≡ vbyte_at bytes.now at }
     ensures end { IfOk result (λ r. (at < r.1) × (r.1 ≤ length bytes.now)) }
 {

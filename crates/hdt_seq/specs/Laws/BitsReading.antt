@@ -1,4 +1,4 @@
--- Laws of reading bitmaps: what is read is encoded so, and what is encoded is read.
+-- Laws of reading bitmaps: the reader returns exactly what is encoded.
 use Rattle.std.proofs.Common.{◌≡◌, ℕ, ◌+◌, ◌<◌, ◌^◌, Bool, true, List, [], ◌∷◌, ◌++◌, length, eqb, ltb, Result, Ok, refl, sym, ap, subst, ◌∙◌, arith}
 use Rattle.std.specs.Prelude.{slice_range}
 use Rattle.std.proofs.lemmas.Bool.{eqb-true, ltb-true, lt-ltb}
@@ -15,7 +15,7 @@ use Rattle.hdt_seq.specs.Sequence.{Sequence, framed, byte_at, code8_at, packed_a
 use Rattle.hdt_seq.specs.Laws.Sequence.{byte_found, byte_only, code8_found, framed_found, framed_only, packed_bytes, spelled_stands, stands_spelled, begins}
 use Rattle.hdt_seq.specs.Bits.{IsBits, bits_at, bits_places_from, bits_spelling}
 
--- a sequence that was read: it is encoded from its place to its end, and lies where the format says
+-- the bits are encoded from the offset up to the end, with the offsets of the format
 pub record BitsFound (bytes : List ℕ) (at : ℕ) (s : Sequence Bool) : Type 0 where
   pub spelled : SpelledAt IsBits bytes at s.items s.end
   pub lies : s.places ≡ bits_places_from at (length s.items)
@@ -26,7 +26,7 @@ ok_sequence x = Ok x
 same_sequence : (x y : Sequence Bool) → ok_sequence x ≡ ok_sequence y → x ≡ y
 same_sequence x y e = cc
 
--- the parts that were read, put together
+-- the parts that were read are a bitmap
 together : (bytes : List ℕ) (at : ℕ) (kind count : ℕ × ℕ) (start : ℕ) (packed : List ℕ × ℕ) → IsBytes bytes → kind.0 ≡ 1 → 0 < count.0
     → byte_at bytes at ≡ Ok kind → vbyte_at bytes kind.1 ≡ Ok count → code8_at bytes at count.1 ≡ Ok start → packed_at count.0 bytes start ≡ Ok packed
     → BitsFound bytes at (record { items = bits packed.0 count.0; places = record { count = kind.1; packed = start; width = 1 }; end = packed.1 })
@@ -58,7 +58,7 @@ together bytes at kind count start packed fits one some e1 e3 e4 e5 =
       lies = rw (size, p1, p3) refl;
     }
 
--- what is read is encoded there
+-- what is returned is encoded there
 pub bits_found : (bytes : List ℕ) (at : ℕ) (s : Sequence Bool) → IsBytes bytes → bits_at bytes at ≡ Ok s → BitsFound bytes at s
 unfolding bits_at
 bits_found bytes at s fits e =
@@ -69,7 +69,7 @@ bits_found bytes at s fits e =
     let made = together bytes at kind count start packed fits (eqb-true _ _ h1) (ltb-true _ _ h2) e1 e3 e4 e5 in
     subst (BitsFound bytes at) (same_sequence _ _ e) made))))))
 
--- what is encoded there is read
+-- what is encoded there is returned
 spelling_read : (bytes : List ℕ) (at : ℕ) (text : List ℕ) (xs : List Bool) (end : ℕ) (s : IsBits text xs) → IsBytes s.packed → Stands bytes at text end
     → bits_at bytes at ≡ Ok (record { items = xs; places = bits_places_from at (length xs); end = end })
 unfolding bits_at
@@ -94,7 +94,7 @@ bits_only bytes at xs end fits h =
 
 -- ---- what was written
 
--- the canonical encoding is one of the bits
+-- the canonical encoding encodes the bits
 pub bits_spells : (xs : List Bool) → 0 < length xs → length xs < 2 ^ 64 → IsBits (bits_spelling xs) xs
 unfolding bits_spelling
 bits_spells xs some lt = record {
@@ -117,7 +117,7 @@ bits_again before after xs some lt =
     spelling_read (before ++ bits_spelling xs ++ after) (length before) (bits_spelling xs) xs _ (bits_spells xs some lt) (IsBytes-packed_bits xs)
     (Stands-after before (bits_spelling xs) after)
 
--- ---- one list for each text
+-- ---- unique decoding
 
 -- an encoding is that of one list, and no prefix of another encoding
 pub bits_begin_no_other : (a b x y : List ℕ) (xs ys : List Bool) → IsBytes (a ++ x) → IsBits a xs → IsBits b ys → a ++ x ≡ b ++ y → (a ≡ b) × (xs ≡ ys)

@@ -1,4 +1,4 @@
--- The checks of bytes, codes and sequences are exact.
+-- The checks of bytes, CRCs and sequences are exact.
 use Rattle.std.proofs.Common.{true, ◌≡◌, ℕ, ◌*◌, List, [], ◌∷◌, ◌++◌, length, eqb, Ok, refl, sym, ap, subst, ◌∙◌, arith}
 use Rattle.std.specs.Prelude.{slice_range}
 use Rattle.std.proofs.lemmas.Bool.{eqb-true}
@@ -23,7 +23,7 @@ use Rattle.hdt_seq.specs.ExactSequences.{IsNumberSequence, IsBitSequence}
 pub byte_exact : (bytes : List ℕ) (at : ℕ) → Exactly (byte_at bytes at) (λ x. Stands bytes at (x.0 ∷ []) x.1)
 byte_exact bytes at = record { found = byte_found bytes at; only = λ x h. byte_only bytes at x.0 x.1 h }
 
--- the CRC-8 of the bytes from a start on
+-- the CRC-8 of the bytes from a start up to an offset
 pub code8_exact : (bytes : List ℕ) (start at : ℕ) → Exactly (code8_at bytes start at) (λ end. Stands bytes at (code8 (slice_range bytes start at) ∷ []) end)
 unfolding code8_at
 code8_exact bytes start at = record {
@@ -37,7 +37,7 @@ code8_exact bytes start at = record {
       rw (byte_only bytes at (code8 (slice_range bytes start at)) end h, same) refl;
 }
 
--- so many bytes and their CRC-32C
+-- a given number of bytes, and their CRC-32C
 pub packed_exact : (size : ℕ) (bytes : List ℕ) (at : ℕ) → IsBytes bytes
     → Exactly (packed_at (8 * size) bytes at) (λ x. Stands bytes at (x.0 ++ little_bytes 4 (code32 x.0)) x.1 × (length x.0 ≡ size))
 packed_exact size bytes at fits =

@@ -1,4 +1,4 @@
--- Laws of the number that bytes are, little-endian.
+-- Laws of the little-endian number of a list of bytes.
 use Rattle.std.proofs.Common.{Bool, ◌≡◌, ℕ, ◌+◌, ◌-◌, ◌*◌, ◌/◌, ◌%◌, ◌^◌, ◌<◌, ◌≤◌, zero, suc, List, [], ◌∷◌, length, get_or, take, drop, ap, sym, ◌∙◌, subst, arith}
 use Rattle.std.proofs.lemmas.Nat.{shr-shr, mod-pow-add, field_of, shr_high, mod_low, pow_pos, pow-add, mod_below}
 use Rattle.std.proofs.Math.Nat.{div-one, mod-one, zero-div, zero-mod}
@@ -18,7 +18,7 @@ head_first b l h = ap (λ n. n / 2 ^ 8) (let e : b + 256 * l ≡ l * 2 ^ 8 + b =
 head_last : (b l : ℕ) → b < 256 → (b + 256 * l) % 2 ^ 8 ≡ b
 head_last b l h = ap (λ n. n % 2 ^ 8) (let e : b + 256 * l ≡ l * 2 ^ 8 + b = omega arith in e) ∙ mod_low l 8 b h
 
--- bytes left out at the front, or at the end
+-- the number without its first bytes, or without its last ones
 pub little-drop : (bs : List ℕ) (k : ℕ) → IsBytes bs → little (drop k bs) ≡ little bs / 2 ^ (8 * k)
 little-drop bs zero small = sym (div-one (little bs))
 little-drop [] (suc k) small = sym (zero-div (2 ^ (8 * suc k)))
@@ -41,7 +41,7 @@ little-take (b ∷ bs) (suc k) small =
     ap (λ n. b + 256 * n) (little-take bs k (rest_bytes b bs small))
     ∙ sym (low_bytes b (little bs) k (small 0))
 
--- few bytes make a small number
+-- the number of k bytes is below 2 ^ (8 * k)
 pub little_small : (bs : List ℕ) (k : ℕ) → IsBytes bs → length bs ≤ k → little bs < 2 ^ (8 * k)
 little_small [] k small fits = pow_pos (8 * k)
 little_small (b ∷ bs) zero small fits = absurd (omega (arith, fits))
@@ -68,7 +68,7 @@ pub get_or-entries : (bytes : List ℕ) (width n i : ℕ) → i < n → get_or (
 unfolding entries
 get_or-entries bytes width n i lt = get_or-map-range_with_len (entry bytes width) 0 n i i 0 lt (omega arith)
 
--- an entry has no more binary digits than its width
+-- an entry is below 2 to the power of its width
 pub entry_fits : (bytes : List ℕ) (width i : ℕ) → entry bytes width i < 2 ^ width
 unfolding entry
 entry_fits bytes width i = mod_below (little bytes / 2 ^ (width * i)) (2 ^ width) (pow_pos width)
@@ -81,7 +81,7 @@ pub get_or-bits : (bytes : List ℕ) (n i : ℕ) (d : Bool) → i < n → get_or
 unfolding bits
 get_or-bits bytes n i d lt = get_or-map-range_with_len (bit bytes) 0 n i i d lt (omega arith)
 
--- a byte of the number
+-- byte k of the number
 pub little_byte : (bs : List ℕ) (k : ℕ) → IsBytes bs → little bs / 2 ^ (8 * k) % 2 ^ 8 ≡ get_or bs k 0
 little_byte [] k small = ap (λ n. n % 2 ^ 8) (zero-div (2 ^ (8 * k)))
 little_byte (b ∷ bs) zero small = ap (λ n. n % 2 ^ 8) (div-one (b + 256 * little bs)) ∙ head_last b (little bs) (small 0)
@@ -92,7 +92,7 @@ little_byte (b ∷ bs) (suc k) small =
     ∙ ap (λ n. n / 2 ^ (8 * k) % 2 ^ 8) (head_first b (little bs) (small 0))
     ∙ little_byte bs k (rest_bytes b bs small)
 
--- a bit is one of its byte
+-- bit i of the number is a bit of byte i / 8
 pub bit_of_byte : (bs : List ℕ) (i : ℕ) → IsBytes bs → get_or bs (i / 8) 0 / 2 ^ (i % 8) % 2 ≡ little bs / 2 ^ i % 2
 bit_of_byte bs i small =
     let s : ℕ = i % 8 in

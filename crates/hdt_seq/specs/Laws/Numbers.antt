@@ -1,4 +1,4 @@
--- Laws of the list that a log sequence stands for, which other crates use.
+-- Laws of the entries of a log sequence, for other crates.
 use Rattle.std.proofs.Common.{◌≡◌, ℕ, ◌*◌, ◌^◌, ◌<◌, ◌≤◌, length, get_or, arith}
 use Rattle.std.proofs.Math.Nat.{mul-le-mul_left, pow-le-pow_right}
 use Rattle.hdt_seq.specs.declared.numbers.Numbers.{Numbers}
@@ -6,7 +6,7 @@ use Rattle.hdt_seq.specs.Little.{entry}
 use Rattle.hdt_seq.specs.Laws.Little.{length-entries, get_or-entries, entry_fits}
 use Rattle.hdt_seq.specs.Numbers.{numbers_of}
 
--- the count is the list's length, which is below 2 ^ 64
+-- the count is the number of entries, which is below 2 ^ 64
 pub numbers_len : (s : Numbers) → length (numbers_of s) ≡ s.count
 unfolding numbers_of
 numbers_len s = length-entries s.packed.now s.width s.count
@@ -14,7 +14,7 @@ numbers_len s = length-entries s.packed.now s.width s.count
 pub numbers_below : (s : Numbers) → length (numbers_of s) < 2 ^ 64
 numbers_below s = omega (arith, numbers_len s, s.counted)
 
--- each entry of the list is a slice of the packed bytes
+-- entry i of the list is entry i of the packed bytes
 pub numbers_get : (s : Numbers) (i : ℕ) → i < length (numbers_of s) → get_or (numbers_of s) i 0 ≡ entry s.packed.now s.width i
 unfolding numbers_of
 numbers_get s i lt = get_or-entries s.packed.now s.width s.count i (omega (arith, length-entries s.packed.now s.width s.count, lt))

@@ -1,4 +1,4 @@
--- Laws of reading log sequences: what is read is encoded so, and what is encoded is read.
+-- Laws of reading log sequences: the reader returns exactly what is encoded.
 use Rattle.std.proofs.Common.{◌≡◌, ℕ, ◌+◌, ◌*◌, ◌<◌, ◌≤◌, ◌^◌, true, List, [], ◌∷◌, ◌++◌, length, get_or, eqb, leb, Result, Ok, refl, sym, ap, subst, ◌∙◌, arith}
 use Rattle.std.specs.Prelude.{slice_range}
 use Rattle.std.proofs.lemmas.Bool.{eqb-true, leb-true, le-leb}
@@ -18,7 +18,7 @@ use Rattle.hdt_seq.specs.Sequence.{Sequence, framed, byte_at, code8_at, packed_a
 use Rattle.hdt_seq.specs.Laws.Sequence.{byte_found, byte_only, byte_is, code8_found, framed_found, framed_only, packed_bytes, spelled_stands, stands_spelled, begins}
 use Rattle.hdt_seq.specs.Numbers.{IsNumbers, numbers_at, numbers_places_from, numbers_spelling}
 
--- a sequence that was read: it is encoded from its place to its end, and lies where the format says
+-- the entries are encoded from the offset up to the end, with the offsets of the format
 pub record NumbersFound (bytes : List ℕ) (at : ℕ) (s : Sequence ℕ) : Type 0 where
   pub spelled : SpelledAt IsNumbers bytes at s.items s.end
   pub lies : s.places ≡ numbers_places_from at (get_or bytes (at + 1) 0) (length s.items)
@@ -29,7 +29,7 @@ ok_sequence x = Ok x
 same_sequence : (x y : Sequence ℕ) → ok_sequence x ≡ ok_sequence y → x ≡ y
 same_sequence x y e = cc
 
--- the parts that were read, put together
+-- the parts that were read are a log sequence
 together : (bytes : List ℕ) (at : ℕ) (kind width count : ℕ × ℕ) (start : ℕ) (packed : List ℕ × ℕ) → IsBytes bytes → kind.0 ≡ 1 → width.0 ≤ 64
     → byte_at bytes at ≡ Ok kind → byte_at bytes kind.1 ≡ Ok width → vbyte_at bytes width.1 ≡ Ok count
     → code8_at bytes at count.1 ≡ Ok start → packed_at (width.0 * count.0) bytes start ≡ Ok packed
@@ -67,7 +67,7 @@ together bytes at kind width count start packed fits one narrow e1 e2 e3 e4 e5 =
       lies = rw (size, p2, p3, ← wide) refl;
     }
 
--- what is read is encoded there
+-- what is returned is encoded there
 pub numbers_found : (bytes : List ℕ) (at : ℕ) (s : Sequence ℕ) → IsBytes bytes → numbers_at bytes at ≡ Ok s → NumbersFound bytes at s
 unfolding numbers_at
 numbers_found bytes at s fits e =
@@ -79,7 +79,7 @@ numbers_found bytes at s fits e =
     let made = together bytes at kind width count start packed fits (eqb-true _ _ h1) (leb-true _ _ h2) e1 e2 e3 e4 e5 in
     subst (NumbersFound bytes at) (same_sequence _ _ e) made)))))))
 
--- what is encoded there is read
+-- what is encoded there is returned
 spelling_read : (bytes : List ℕ) (at : ℕ) (text xs : List ℕ) (end : ℕ) (s : IsNumbers text xs) → IsBytes s.packed → Stands bytes at text end
     → numbers_at bytes at ≡ Ok (record { items = xs; places = numbers_places_from at s.width (length xs); end = end })
 unfolding numbers_at
@@ -131,7 +131,7 @@ numbers_again before after xs lt fits =
     spelling_read (before ++ numbers_spelling xs ++ after) (length before) (numbers_spelling xs) xs _ (numbers_spells xs lt fits) (IsBytes-packed (width_of xs) xs)
     (Stands-after before (numbers_spelling xs) after)
 
--- ---- one list for each text
+-- ---- unique decoding
 
 -- an encoding is that of one list, and no prefix of another encoding
 pub numbers_begin_no_other : (a b x y : List ℕ) (xs ys : List ℕ) → IsBytes (a ++ x) → IsNumbers a xs → IsNumbers b ys → a ++ x ≡ b ++ y → (a ≡ b) × (xs ≡ ys)

@@ -1,4 +1,4 @@
--- Laws of packed entries: a part more, and what is packed is read again.
+-- Laws of packing: adding one entry, and reading back what was packed.
 use Rattle.std.proofs.Common.{◌≡◌, ℕ, zero, suc, ◌+◌, ◌-◌, ◌*◌, ◌/◌, ◌%◌, ◌^◌, ◌<◌, ◌≤◌, Bool, true, false, eqb, List, [], ◌∷◌, ◌++◌, length, get_or, take, map, refl, ap, sym, subst, ◌∙◌, arith, inl, inr, append_assoc, length-append}
 use Rattle.std.specs.Int.{byte_at, bytes_low_first}
 use Rattle.std.proofs.Math.Nat.{pow-suc, pow-le-pow_right, div-one, mod-one, mod-eq_of_lt, add-mul-mod_self_left, mul-le-mul_left, add-mul-div_right, mul-add, mul_assoc, mul_comm}
@@ -15,7 +15,7 @@ use Rattle.hdt_seq.specs.Little.{EachFits, little, bytes_for, entry, entries, bi
 
 -- ---- the bytes of a number
 
--- by the lowest byte and the rest
+-- the lowest n bytes of x, by recursion
 low : ℕ → ℕ → List ℕ
 low zero x = []
 low (suc n) x = x % 256 ∷ low n (x / 256)
@@ -64,11 +64,11 @@ low_above (suc k) x m =
     let rest : (x + m * 2 ^ (8 * suc k)) / 256 ≡ x / 256 + m * 2 ^ (8 * k) = omega (arith, split) in
     rw (last, rest, low_above k (x / 256) m) refl
 
--- more bytes of a number
+-- the lowest k + n bytes are the lowest k and the next n
 pub bytes_more : (k n x : ℕ) → little_bytes (k + n) x ≡ little_bytes k x ++ little_bytes n (x / 2 ^ (8 * k))
 bytes_more k n x = rw (bytes_are (k + n) x, bytes_are k x, bytes_are n (x / 2 ^ (8 * k))) (low_more k n x)
 
--- the lowest of them
+-- the first n of m bytes are the lowest n
 pub bytes_front : (n m x : ℕ) → n ≤ m → take n (little_bytes m x) ≡ little_bytes n x
 bytes_front n m x le =
     let split : m ≡ n + (m - n) = omega (arith, le) in
@@ -76,7 +76,7 @@ bytes_front n m x le =
     ap (λ (k : ℕ). take n (little_bytes k x)) split ∙ ap (take n) (bytes_more n (m - n) x)
     ∙ ap (λ (k : ℕ). take k (little_bytes n x ++ little_bytes (m - n) (x / 2 ^ (8 * n)))) (sym size) ∙ take-append_seam (little_bytes n x) (little_bytes (m - n) (x / 2 ^ (8 * n)))
 
--- what is added above them changes none of the bytes
+-- adding a multiple of 2 ^ (8 * k) leaves the lowest k bytes unchanged
 pub bytes_above : (k x m : ℕ) → little_bytes k (x + m * 2 ^ (8 * k)) ≡ little_bytes k x
 bytes_above k x m = rw (bytes_are k (x + m * 2 ^ (8 * k)), bytes_are k x) (low_above k x m)
 
@@ -90,7 +90,7 @@ low_bytes (suc n) x (suc i) = low_bytes n (x / 256) i
 pub IsBytes-little_bytes : (n x : ℕ) → IsBytes (little_bytes n x)
 IsBytes-little_bytes n x i = rw (bytes_are n x) (low_bytes n x i)
 
--- their number is the number's low part
+-- the little-endian number of the lowest n bytes is x mod 2 ^ (8 * n)
 little_low : (n x : ℕ) → little (low n x) ≡ x % 2 ^ (8 * n)
 unfolding low
 little_low zero x = sym (mod-one x)
@@ -102,7 +102,7 @@ little_low (suc n) x =
 pub little-little_bytes : (n x : ℕ) → x < 2 ^ (8 * n) → little (little_bytes n x) ≡ x
 little-little_bytes n x lt = rw (bytes_are n x) (little_low n x ∙ mod-eq_of_lt lt)
 
--- ---- entries put into one number
+-- ---- entries as digits of one number
 
 scaled : (a j x p : ℕ) → a * (j + x * p) ≡ a * j + x * (a * p)
 scaled a j x p = mul-add a j (x * p) ∙ ap (λ (n : ℕ). a * j + n) (sym (mul_assoc a x p) ∙ ap (λ (n : ℕ). n * p) (mul_comm a x) ∙ mul_assoc x a p)
@@ -155,7 +155,7 @@ little-packed width xs fits =
     let room : 2 ^ n ≤ 2 ^ (8 * bytes_for n) = pow-le-pow_right (omega arith) (omega arith) in
     little-little_bytes (bytes_for n) (joined width xs) (omega (arith, joined_below width xs fits, room))
 
--- what is packed is read again
+-- entries that were packed are read back
 pub entries_packed : (width : ℕ) (xs : List ℕ) → EachFits width xs → entries (packed width xs) width (length xs) ≡ xs
 unfolding entries entry
 entries_packed width xs fits =
@@ -202,13 +202,13 @@ bits_packed xs = sym (fill_by_all (bit (packed_bits xs)) xs (length xs) false re
 
 -- ---- packing one entry after another
 
--- the entries are packed: their bytes, eight at a time, stand behind what was before, and the word holds the bits that are left
+-- the entries are packed: all groups of eight bytes are appended, and the remaining bits are in the word
 pub record Packs (width : ℕ) (xs : List ℕ) (word filled : ℕ) (before out : List ℕ) : Type 0 where
   pub filled_is : filled ≡ width * length xs % 64
   pub word_is : word ≡ joined width xs / 2 ^ (8 * (8 * (width * length xs / 64)))
   pub out_is : out ≡ before ++ little_bytes (8 * (width * length xs / 64)) (joined width xs)
 
--- the word is small
+-- the word has no more bits than `filled`
 pub Packs-word : (width : ℕ) (xs : List ℕ) (word filled : ℕ) (before out : List ℕ) → EachFits width xs → Packs width xs word filled before out → word < 2 ^ filled
 Packs-word width xs word filled before out fits h =
     let n : ℕ = width * length xs in
@@ -242,7 +242,7 @@ Packs-more width xs word filled before out x h =
       out_is = rw (size, k', bytes_more k m v', above, same, h.out_is) (append_assoc before (little_bytes k v) (little_bytes m (word + x * 2 ^ filled)));
     }
 
--- the last bytes
+-- appending the remaining bytes completes the packed bytes
 pub Packs-all : (width : ℕ) (xs : List ℕ) (word filled : ℕ) (before out : List ℕ) → Packs width xs word filled before out
     → out ++ little_bytes ((filled + 7) / 8) word ≡ before ++ packed width xs
 unfolding packed
@@ -252,7 +252,7 @@ Packs-all width xs word filled before out h =
     let whole : bytes_for n ≡ k + (filled + 7) / 8 = omega (arith, h.filled_is) in
     rw (whole, bytes_more k ((filled + 7) / 8) (joined width xs), ← h.word_is, h.out_is) (append_assoc before (little_bytes k (joined width xs)) (little_bytes ((filled + 7) / 8) word))
 
--- ---- what a loop over the entries keeps
+-- ---- the invariant of the loop over the entries
 
 pub EachFits-take : (width i : ℕ) (xs : List ℕ) → EachFits width xs → EachFits width (take i xs)
 EachFits-take width i xs fits k =

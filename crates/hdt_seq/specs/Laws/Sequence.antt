@@ -1,4 +1,4 @@
--- Laws of the checks that both sequences share: what is read is there, and what is there is read.
+-- Laws of the checks that log sequences and bitmaps share: they return exactly what is in the input.
 use Rattle.std.proofs.Common.{◌≡◌, ℕ, zero, suc, ◌+◌, ◌*◌, ◌/◌, ◌%◌, ◌-◌, ◌<◌, ◌≤◌, ◌^◌, true, bit_xor, lit<, inl, inr, List, [], ◌∷◌, ◌++◌, length, get_or, drop, eqb, Result, Ok, refl, sym, ap, subst, ◌∙◌, arith}
 use Rattle.std.specs.Prelude.{fold, slice_range}
 use Rattle.std.specs.Fn.{iterate}
@@ -15,20 +15,21 @@ use Rattle.hdt_wire.specs.Laws.Row.{held, bound, IsBytes-take, IsBytes-drop, Sta
 use Rattle.hdt_seq.specs.Little.{bytes_for}
 use Rattle.hdt_seq.specs.Sequence.{framed, byte_at, code8_at, packed_at}
 
--- what stands in bytes is bytes
+-- a slice of bytes is a list of bytes
 pub stands_bytes : (bytes : List ℕ) (a : ℕ) (x : List ℕ) (e : ℕ) → IsBytes bytes → Stands bytes a x e → IsBytes x
 stands_bytes bytes a x e fits h = subst IsBytes h.here (IsBytes-take (e - a) (drop a bytes) (IsBytes-drop a bytes fits))
 
--- what a place's slice is is there
+-- a list that equals a slice is there
 pub slice_stands : (bytes : List ℕ) (a : ℕ) (x : List ℕ) (e : ℕ) → a ≤ e → e ≤ length bytes → slice_range bytes a e ≡ x → Stands bytes a x e
 slice_stands bytes a x e order within is =
     let size : length x ≡ e - a = ap length (sym is) ∙ (omega (arith, length-take (e - a) (drop a bytes), length-drop a bytes, order, within)) in
     record { end_is = omega (arith, size, order); within = within; here = is }
 
--- what encodes a value is there
+-- the slice that encodes a value is there
 pub spelled_stands : {V : Type 0} (Spells : List ℕ → V → Type 0) (bytes : List ℕ) (a : ℕ) (v : V) (e : ℕ) → SpelledAt Spells bytes a v e → Stands bytes a (slice_range bytes a e) e
 spelled_stands Spells bytes a v e h = slice_stands bytes a (slice_range bytes a e) e h.in_order h.within refl
 
+-- a text that is there and encodes a value is its encoding there
 pub stands_spelled : {V : Type 0} (Spells : List ℕ → V → Type 0) (bytes : List ℕ) (a : ℕ) (x : List ℕ) (v : V) (e : ℕ) → Stands bytes a x e → Spells x v → SpelledAt Spells bytes a v e
 stands_spelled Spells bytes a x v e h s = record {
   in_order = omega (arith, h.end_is);
@@ -36,7 +37,7 @@ stands_spelled Spells bytes a x v e h s = record {
   spelled = subst (λ (t : List ℕ). Spells t v) (sym h.here) s;
 }
 
--- what comes first stands first
+-- a prefix is at offset 0
 pub begins : (a x : List ℕ) → Stands (a ++ x) 0 a (length a)
 begins a x = let e : 0 + length a ≡ length a = omega arith in subst (λ (n : ℕ). Stands (a ++ x) 0 a n) e (Stands-after [] a x)
 
@@ -65,14 +66,14 @@ pub byte_only : (bytes : List ℕ) (a b e : ℕ) → Stands bytes a (b ∷ []) e
 unfolding byte_at
 byte_only bytes a b e h = rw (bytes_only 1 bytes a (b ∷ []) e h refl) refl
 
--- it is the byte of its place
+-- it is the byte at its offset
 pub byte_is : (bytes : List ℕ) (a b e : ℕ) → Stands bytes a (b ∷ []) e → get_or bytes a 0 ≡ b
 byte_is bytes a b e h =
     let one : e - a ≡ 1 = omega (arith, h.end_is) in
     let here : a + 0 ≡ a = omega arith in
     ap (λ (i : ℕ). get_or bytes i 0) (sym here) ∙ sym (get_or-drop a bytes 0 0) ∙ sym (get_or-take (e - a) (drop a bytes) 0 0 (omega arith)) ∙ ap (λ (t : List ℕ). get_or t 0 0) h.here
 
--- ---- the code of the head
+-- ---- the preamble and its CRC-8
 
 abbrev ok_place : ℕ → Result ℕ Fault
 ok_place x = Ok x
@@ -96,9 +97,9 @@ code8_only bytes start head at end h s =
     let holds : eqb (code8 head) (code8 (slice_range bytes start at)) ≡ true = (Decides-eqb _ _).1 (ap code8 (sym h.here)) in
     rw (byte_only bytes at (code8 head) end s, holds) refl
 
--- ---- the packed bytes and their code
+-- ---- the packed bytes and their CRC-32C
 
--- four bytes are those of their number
+-- four bytes are the little-endian bytes of their number
 four_bytes : (bs : List ℕ) → length bs ≡ 4 → IsBytes bs → little_bytes 4 (little_number 4 bs) ≡ bs
 four_bytes [] size fits = absurd (omega (arith, size))
 four_bytes (a ∷ []) size fits = absurd (omega (arith, size))
@@ -117,11 +118,11 @@ four_bytes (a ∷ b ∷ c ∷ d ∷ []) size fits =
     rw (e0, e1, e2, e3) refl
 four_bytes (a ∷ b ∷ c ∷ d ∷ e ∷ bs) size fits = absurd (omega (arith, size))
 
--- four bytes give their number back
+-- a number below 2 ^ 32 is that of its four little-endian bytes
 four_back : (n : ℕ) → n < 2 ^ 32 → little_number 4 (little_bytes 4 n) ≡ n
 four_back n small = omega (arith, small)
 
--- a register of 32 bits stays one
+-- a register of 32 bits stays below 2 ^ 32
 fits_shift : (register : ℕ) → register < 2 ^ 32 → shift_right 0x82F63B78 register < 2 ^ 32
 unfolding shift_right
 fits_shift register small =
@@ -175,9 +176,9 @@ packed_only n bytes at packed end fits size h =
     let number : eqb (little_number 4 tail) (code32 packed) ≡ true = (Decides-eqb _ _).1 (four_back (code32 packed) (code32_fits packed fits)) in
     rw (first, second, number) refl
 
--- ---- the whole
+-- ---- the complete sequence
 
--- the parts of a sequence, one after the other
+-- consecutive parts that were read are a sequence
 pub framed_found : (bits : ℕ) (bytes : List ℕ) (start : ℕ) (head : List ℕ) (at packed_start : ℕ) (x : List ℕ × ℕ) → IsBytes bytes → Stands bytes start head at
     → code8_at bytes start at ≡ Ok packed_start → packed_at bits bytes packed_start ≡ Ok x → Stands bytes start (framed head x.0) x.1 × (length x.0 ≡ bytes_for bits)
 framed_found bits bytes start head at packed_start x fits h e1 e2 =
@@ -186,7 +187,7 @@ framed_found bits bytes start head at packed_start x fits h e1 e2 =
     let back : Stands bytes at (code8 head ∷ (x.0 ++ little_bytes 4 (code32 x.0))) x.1 = Stands-then bytes at (code8 head ∷ []) packed_start _ x.1 code packed.0 in
     (Stands-then bytes start head at _ x.1 h back, packed.1)
 
--- what both parts answer behind a head
+-- the checks return both parts after a preamble
 pub record Framed (bits : ℕ) (bytes : List ℕ) (start : ℕ) (head packed : List ℕ) (end : ℕ) : Type 0 where
   pub head_stands : Stands bytes start head (start + length head)
   pub code_is : code8_at bytes start (start + length head) ≡ Ok (start + length head + 1)
@@ -206,7 +207,7 @@ framed_only bits bytes start head packed end fits size h =
       packed_is = packed_only bits bytes (start + length head + 1) packed end fits size tail;
     }
 
--- packed bytes that stand in bytes are bytes
+-- the packed bytes of a sequence in the input are bytes
 pub packed_bytes : (bytes : List ℕ) (start : ℕ) (head packed : List ℕ) (end : ℕ) → IsBytes bytes → Stands bytes start (framed head packed) end → IsBytes packed
 packed_bytes bytes start head packed end fits h =
     let tail : List ℕ = little_bytes 4 (code32 packed) in

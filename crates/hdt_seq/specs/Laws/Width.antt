@@ -1,4 +1,4 @@
--- Laws of binary digits and of the greatest entry.
+-- Laws of the number of binary digits, and of the greatest entry.
 use Rattle.std.proofs.Common.{◌≡◌, ℕ, zero, suc, ◌+◌, ◌-◌, ◌*◌, ◌/◌, ◌^◌, ◌<◌, ◌≤◌, max, List, [], ◌∷◌, get_or, refl, ap, sym, ◌∙◌, arith, add-one, suc-le-suc, inl, inr}
 use Rattle.std.specs.Prelude.{fold}
 use Rattle.std.proofs.Math.Nat.{pow-suc, pow-le-pow_right}
@@ -8,7 +8,7 @@ use Rattle.hdt_seq.specs.Width.{halvings, digits, greatest, width_of}
 
 -- ---- digits
 
--- more fuel than the number changes nothing
+-- a limit above the number changes nothing
 halvings_enough : (f g n : ℕ) → n ≤ f → n ≤ g → halvings f n ≡ halvings g n
 unfolding halvings
 halvings_enough zero zero n h k = refl
@@ -38,7 +38,7 @@ halvings_reached zero n h = omega (arith, h)
 halvings_reached (suc f) zero h = omega arith
 halvings_reached (suc f) (suc n) h = omega (arith, halvings_reached f (suc n / 2) (omega arith), pow-suc 2 (halvings f (suc n / 2)))
 
--- a number of more than none has one digit more than its half
+-- a positive number has one digit more than its half
 pub digits_half : (n : ℕ) → 0 < n → digits n ≡ digits (n / 2) + 1
 unfolding digits halvings
 digits_half zero h = absurd (omega (arith, h))
@@ -48,11 +48,11 @@ pub digits_mono : (a b : ℕ) → a ≤ b → digits a ≤ digits b
 unfolding digits
 digits_mono a b h = omega (arith, halvings_mono b a b h, halvings_enough a b a (omega arith) h)
 
--- half of what is left of at least two has a digit less: a search by halving takes so many steps
+-- at most half of a positive number has a digit less, so a binary search takes at most so many steps
 pub digits_split : (w v : ℕ) → 0 < w → v ≤ w / 2 → digits v + 1 ≤ digits w
 digits_split w v h k = omega (arith, digits_half w h, digits_mono v (w / 2) k)
 
--- the number is below the power of two with so many digits, and not below half of it
+-- a number with d digits is below 2 ^ d, and, if positive, at least half of that
 pub digits_fit : (n : ℕ) → n < 2 ^ digits n
 unfolding digits
 digits_fit n = halvings_fit n n (omega arith)
@@ -71,7 +71,7 @@ digits_least n w lt =
       | inr le ↦ le
     ]
 
--- the digits of a number of 64 bits by its leading zeros
+-- the digits and the leading zeros of a 64-bit number are 64 in all
 pub digits_by_zeros : (n : ℕ) → n < 2 ^ 64 → count_leading_zeros 64 n + digits n ≡ 64
 digits_by_zeros n lt =
     let le = digits_least n 64 lt in
@@ -95,13 +95,13 @@ below_bound a (x ∷ xs) bound small each = below_bound (max a x) xs bound (omeg
 
 -- ---- the width
 
--- it holds each entry
+-- each entry fits in the width
 pub width_fits : (xs : List ℕ) (i : ℕ) → get_or xs i 0 < 2 ^ width_of xs
 width_fits xs i =
     let most : 2 ^ digits (greatest xs) ≤ 2 ^ width_of xs = pow-le-pow_right (omega arith) (omega arith) in
     omega (arith, above_each 0 xs i, digits_fit (greatest xs), most)
 
--- and no smaller one does
+-- no smaller positive width fits each entry
 pub width_least : (xs : List ℕ) (w : ℕ) → 1 ≤ w → ((i : ℕ) → get_or xs i 0 < 2 ^ w) → width_of xs ≤ w
 width_least xs w some each = omega (arith, digits_least (greatest xs) w (below_bound 0 xs (2 ^ w) (omega (arith, each 0)) each), some)
 

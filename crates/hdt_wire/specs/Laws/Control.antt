@@ -1,4 +1,4 @@
--- Laws of control information: what is read is encoded so, what is encoded is read, and so is what was written.
+-- Laws of control information: the reader returns exactly what is encoded, and so what was written.
 use Rattle.std.proofs.Common.{◌≡◌, ℕ, ◌+◌, ◌*◌, ◌/◌, ◌%◌, ◌-◌, ◌<◌, ◌^◌, Bool, true, zero, suc, bit_xor, ltb, lit<, inl, inr, List, [], ◌∷◌, ◌++◌, length, get_or, drop, eqb, Result, Ok, refl, sym, ap, subst, ◌∙◌, arith, append_assoc, length-append}
 use Rattle.std.specs.Prelude.{◌≢◌, not, fold, slice_range}
 use Rattle.std.specs.Str.{bytes_eq}
@@ -23,7 +23,7 @@ use Rattle.hdt_wire.specs.Control.{Block, IsBlock, control_at, control, before_c
 equal : (xs ys : List ℕ) → bytes_eq xs ys ≡ true → xs ≡ ys
 equal xs ys e = (bytes_eq-Decides xs ys).0 e
 
--- two bytes are those of their number
+-- two bytes are the little-endian bytes of their number
 two_bytes : (bs : List ℕ) → length bs ≡ 2 → ((k : ℕ) → get_or bs k 0 < 256) → little_bytes 2 (little_number 2 bs) ≡ bs
 two_bytes [] size fits = absurd cc
 two_bytes (x ∷ []) size fits = absurd (omega (arith, size))
@@ -46,7 +46,7 @@ joined : (kind : Kind) (format properties : List ℕ) → format ≡ format_text
 joined kind format properties is =
     ap (λ (t : List ℕ). cookie ++ (kind_code kind ∷ t)) (append_assoc format (0 ∷ []) (properties ++ 0 ∷ []) ∙ ap (λ (t : List ℕ). t ++ 0 ∷ (properties ++ 0 ∷ [])) is)
 
--- what is read is encoded there
+-- what is returned is encoded there
 pub control_found : (kind : Kind) (bytes : List ℕ) (at : ℕ) (block : Block) → IsBytes bytes → control_at kind bytes at ≡ Ok block → IsBlock kind block bytes at
 unfolding control_at
 control_found kind bytes at block fits e =
@@ -77,9 +77,9 @@ control_found kind bytes at block fits e =
     record { spelled = Stands-then bytes at _ properties.1 _ check.1 front m5; no_zero = s4.1; format = is; properties_at = size } in
     subst (λ (b : Block). IsBlock kind b bytes at) (same_block _ _ e) made)))))))))
 
--- ---- what is encoded is read
+-- ---- what is encoded is returned
 
--- a register of 16 bits stays one
+-- a register of 16 bits stays below 2 ^ 16
 fits_shift : (register : ℕ) → register < 2 ^ 16 → shift_right 0xA001 register < 2 ^ 16
 unfolding shift_right
 fits_shift register small =
@@ -103,7 +103,7 @@ fits_fold register (b ∷ bs) small fits = fits_fold (take16 register b) bs (fit
 pub code16_fits : (bytes : List ℕ) → IsBytes bytes → code16 bytes < 2 ^ 16
 code16_fits bytes fits = fits_fold 0 bytes (lit< tt) fits
 
--- two bytes give their number back
+-- a number below 2 ^ 16 is that of its two little-endian bytes
 number_back : (n : ℕ) → n < 2 ^ 16 → little_number 2 (little_bytes 2 n) ≡ n
 number_back n small = omega (arith, small)
 
@@ -136,7 +136,7 @@ front_fits Header = all_bytes (cookie ++ kind_code Header ∷ (format_text Heade
 front_fits Dictionary = all_bytes (cookie ++ kind_code Dictionary ∷ (format_text Dictionary ++ 0 ∷ [])) refl
 front_fits Triples = all_bytes (cookie ++ kind_code Triples ∷ (format_text Triples ++ 0 ∷ [])) refl
 
--- a block of bytes is bytes
+-- all its numbers are bytes, if those of the properties are
 before_code_fits : (kind : Kind) (properties : List ℕ) → IsBytes properties → IsBytes (before_code kind properties)
 before_code_fits kind properties fits =
     let zero_fits : IsBytes (0 ∷ []) = all_bytes (0 ∷ []) refl in
@@ -145,13 +145,13 @@ before_code_fits kind properties fits =
     let grouped : (format_text kind ++ 0 ∷ []) ++ (properties ++ 0 ∷ []) ≡ format_text kind ++ 0 ∷ (properties ++ 0 ∷ []) = append_assoc (format_text kind) (0 ∷ []) (properties ++ 0 ∷ []) in
     subst (λ (t : List ℕ). IsBytes (cookie ++ kind_code kind ∷ t)) grouped whole
 
--- what stands in bytes is bytes
+-- all numbers of encoded control information are bytes
 pub stands_fits : (kind : Kind) (bytes : List ℕ) (at : ℕ) (properties : List ℕ) (end : ℕ) → IsBytes bytes → Stands bytes at (control kind properties) end → IsBytes (before_code kind properties)
 stands_fits kind bytes at properties end fits h =
     let part : IsBytes (slice_range bytes at end) = IsBytes-take (end - at) (drop at bytes) (IsBytes-drop at bytes fits) in
     IsBytes-front (before_code kind properties) (little_bytes 2 (code16 (before_code kind properties))) (subst IsBytes h.here part)
 
--- what is encoded there is read
+-- what is encoded there is returned
 pub control_only : (kind : Kind) (bytes : List ℕ) (at : ℕ) (properties : List ℕ) (end : ℕ) → IsBytes (before_code kind properties) → HasNoZero properties
     → Stands bytes at (control kind properties) end → control_at kind bytes at ≡ Ok (block_at kind properties at end)
 unfolding control_at

@@ -1,4 +1,4 @@
--- Laws of checks that are exact: of their parts, and what follows.
+-- Laws of exact checks.
 use Rattle.std.proofs.Common.{◌≡◌, ◌⊎◌, ℕ, zero, suc, ◌+◌, ◌<◌, ◌≤◌, Bool, true, false, Result, Ok, Err, inl, inr, refl, sym, ap, subst, ◌∙◌, arith, eq-or-lt_of_le}
 use Rattle.hdt_wire.specs.declared.fault.Fault.{Fault}
 use Rattle.hdt_wire.specs.declared.fault.Reason.{Reason}
@@ -19,11 +19,11 @@ ok_is x y e = cc
 err_is : {A : Type 0} (f g : Fault) → failed {A = A} f ≡ failed g → f ≡ g
 err_is f g e = cc
 
--- what holds of what is answered
+-- what holds of a value holds of that of an equal result
 pub answered : {A : Type 0} (Is : A → Type 0) (x y : A) → done x ≡ done y → Is x → Is y
 answered Is x y e h = subst Is (ok_is x y e) h
 
--- ---- of two values one, and of a value and an error
+-- ---- one value or one error
 
 pub one_value : {A : Type 0} (rows : Result A Fault) (Is : A → Type 0) (x y : A) → Exactly rows Is → Is x → Is y → x ≡ y
 one_value rows Is x y h p q = ok_is x y (sym (h.only x p) ∙ h.only y q)
@@ -45,14 +45,14 @@ value_or_fault_of rows Is (Err f) e h = inr (record {
 pub value_or_fault : {A : Type 0} (rows : Result A Fault) (Is : A → Type 0) → Exactly rows Is → OneValue rows Is ⊎ OneFault rows Is
 value_or_fault rows Is h = value_or_fault_of rows Is rows refl h
 
--- what is seen of exact checks is exact
+-- exact checks stay exact if their value is mapped
 pub seen_exact : {A B : Type 0} (view : A → B) (rows : Result A Fault) (Is : A → Type 0) → Exactly rows Is → Exactly (seen view rows) (Seen view Is)
 seen_exact view rows Is h = record {
   found = λ y e. bound rows _ _ e (λ x e1 e. record { value = x; is = h.found x e1; seen_as = ok_is (view x) y e });
   only = λ y s. ap (λ r. seen view r) (h.only s.value s.is) ∙ ap (λ z. done z) s.seen_as;
 }
 
--- ---- demands, and checks of items
+-- ---- single checks, and checks of items
 
 pub last_held : (holds : Bool) (place : ℕ) (reason : Reason) (u : Unit {0}) → demand holds place reason ≡ Ok u → holds ≡ true
 last_held true place reason u e = refl
@@ -80,7 +80,7 @@ all_rows row (suc n) i each =
     ap (λ r. r >>= λ _. rows_from row (i + 1) n) (each i (omega arith) (omega arith))
     ∙ all_rows row n (i + 1) (λ q l w. each q (omega (arith, l)) (omega (arith, w)))
 
--- the checks of items are exact where each item's check is
+-- the checks of all items are exact if that of each item is
 pub items_exact : (row : ℕ → Result (Unit {0}) Fault) (n : ℕ) (Is : ℕ → Type 0) → ((i : ℕ) → i < n → Exactly (row i) (λ _. Is i)) → Exactly (rows_from row 0 n) (λ _. (i : ℕ) → i < n → Is i)
 items_exact row n Is each = record {
   found = λ u e i lt. (each i lt).found tt (each_row row n 0 e i (omega arith) (omega (arith, lt)));

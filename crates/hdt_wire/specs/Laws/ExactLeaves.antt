@@ -1,4 +1,4 @@
--- Numbers, texts and control information at an offset: their checks are exact.
+-- The checks of numbers, bytes, texts and control information are exact.
 use Rattle.std.proofs.Common.{◌≡◌, ◌≢◌, ℕ, List, [], ◌∷◌, ◌++◌, length, Ok, sym, ap, ◌∙◌}
 use Rattle.std.specs.Prelude.{All}
 use Rattle.hdt_wire.specs.declared.control.Kind.{Kind}
@@ -21,7 +21,7 @@ block_is kind bytes at block h =
     ap (λ (f : List ℕ). record { format = f; properties = block.properties; properties_at = (block_at kind block.properties at block.end).properties_at; end = block.end }) (sym h.format)
     ∙ ap (λ (n : ℕ). record { format = block.format; properties = block.properties; properties_at = n; end = block.end }) (sym h.properties_at)
 
--- control information of a kind
+-- control information of a type
 pub control_exact : (kind : Kind) (bytes : List ℕ) (at : ℕ) → IsBytes bytes → Exactly (control_at kind bytes at) (λ b. IsBlock kind b bytes at)
 control_exact kind bytes at fits = record {
   found = λ b e. control_found kind bytes at b fits e;

@@ -1,4 +1,4 @@
--- What exact checks say of a reader whose answer they are.
+-- What a reader promises if its result is that of exact checks.
 use Rattle.std.proofs.Common.{◌≡◌, Option, Some, None, Result, Ok, Err, sym, ◌∙◌}
 use Rattle.std.specs.Prelude.{IfOk, IfSome}
 use Rattle.hdt_wire.specs.declared.fault.Fault.{Fault}
@@ -6,18 +6,18 @@ use Rattle.hdt_wire.specs.Rows.{Reads, Gives}
 use Rattle.hdt_wire.specs.Exact.{Exactly}
 
 module _ {X Y : Type 0} (view : X → Y) (rows : Result Y Fault) (Is : Y → Type 0) where
-  -- what is read is there
+  -- what is returned has the property
   pub reads_found : (r : Result X Fault) → Exactly rows Is → Reads view r rows → IfOk r (λ x. Is (view x))
   reads_found (Ok x) h e = h.found (view x) e
   reads_found (Err f) h e = tt
 
-  -- what is there is read
+  -- what has the property is returned
   pub reads_only : (r : Result X Fault) → Exactly rows Is → Reads view r rows → (y : Y) → Is y → Reads view r (Ok y)
   reads_only (Ok x) h e y is = sym (h.only y is) ∙ e
   reads_only (Err f) h e y is = sym (h.only y is) ∙ e
 
   module _ {E : Type 0} (fault_of : E → Option Fault) where
-    -- the same of a reader that may run out of memory
+    -- the same for a reader that may run out of memory
     pub gives_found : (r : Result X E) → Exactly rows Is → Gives fault_of view r rows → IfOk r (λ x. Is (view x))
     gives_found (Ok x) h e = h.found (view x) e
     gives_found (Err f) h e = tt

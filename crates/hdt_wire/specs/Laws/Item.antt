@@ -1,4 +1,4 @@
--- What is left of the checks of items follows from the first of them.
+-- The checks of items, one step: the first check, then those of the remaining items.
 use Rattle.std.proofs.Common.{◌≡◌, ◌∙◌, ℕ, suc, ◌+◌, ◌-◌, ◌<◌, ◌≤◌, Result, Ok, Err, ap, arith}
 use Rattle.hdt_wire.specs.declared.fault.Fault.{Fault}
 use Rattle.hdt_wire.specs.Rows.{◌>>=◌}

@@ -1,4 +1,4 @@
--- Laws of checks: what stands where checks hold, and which checks hold where something stands.
+-- Laws of checks: what they return is in the input, and what is in the input passes them.
 use Rattle.std.proofs.Common.{◌≡◌, ◌≢◌, ℕ, ◌+◌, ◌-◌, ◌<◌, ◌≤◌, Bool, true, false, List, [], ◌∷◌, ◌++◌, length, get_or, take, drop, leb, ltb, eqb, Result, Ok, Err, refl, sym, ap, subst, ◌∙◌, arith, inl, inr, append_assoc, length-append, take-add}
 use Rattle.std.specs.Prelude.{slice_range, not, All}
 use Rattle.std.proofs.Math.Seq.{take-append_seam, drop-append_seam, get_or-append_seam, get_or-append_right}
@@ -10,19 +10,19 @@ use Rattle.hdt_wire.specs.declared.fault.Reason.{Reason}
 use Rattle.hdt_wire.specs.declared.fault.Reason.TheVariants.{Truncated}
 use Rattle.hdt_wire.specs.Rows.{◌>>=◌, demand, bytes_at, zero_in, text_at, IsBytes, Stands}
 
--- ---- binds and demands
+-- ---- sequences of checks
 
--- the checks after a check, where the whole reading ends well
+-- if a check and the rest succeed, the condition holds and the rest succeeds
 pub held : {B P : Type 0} (holds : Bool) (place : ℕ) (reason : Reason) (f : Unit {0} → Result B Fault) (y : B) → (demand holds place reason >>= f) ≡ Ok y → (holds ≡ true → f tt ≡ Ok y → P) → P
 held true place reason f y e k = k refl e
 held false place reason f y e k = absurd cc
 
--- the checks after a part, where the whole reading ends well
+-- if a part and the rest succeed, the part returns a value with which the rest succeeds
 pub bound : {A B P : Type 0} (r : Result A Fault) (f : A → Result B Fault) (y : B) → (r >>= f) ≡ Ok y → ((x : A) → r ≡ Ok x → f x ≡ Ok y → P) → P
 bound (Ok x) f y e k = k x refl e
 bound (Err d) f y e k = absurd cc
 
--- ---- tests
+-- ---- Booleans
 
 pub not-false : (b : Bool) → not b ≡ false → b ≡ true
 not-false true e = refl
@@ -60,7 +60,7 @@ IsBytes-append x y hx hy i =
 
 -- ---- encodings at an offset
 
--- what stands after the bytes before it
+-- a text is at the offset after the bytes before it
 pub Stands-after : (before text after : List ℕ) → Stands (before ++ text ++ after) (length before) text (length before + length text)
 Stands-after before text after =
     let size : length before + length text - length before ≡ length text = omega arith in
@@ -71,7 +71,7 @@ Stands-after before text after =
       here = rw (size, rest) (take-append_seam text after);
     }
 
--- two texts, one after the other
+-- two consecutive texts are one
 pub Stands-then : (bytes : List ℕ) (a : ℕ) (x : List ℕ) (b : ℕ) (y : List ℕ) (c : ℕ) → Stands bytes a x b → Stands bytes b y c → Stands bytes a (x ++ y) c
 Stands-then bytes a x b y c p q = record {
   end_is = omega (arith, p.end_is, q.end_is, length-append x y);
@@ -109,7 +109,7 @@ Stands-back bytes a x y c h =
       here = rw left (moved ∙ ap (λ (n : ℕ). drop (length x) (take n (drop a bytes))) (sym size) ∙ ap (drop (length x)) h.here ∙ drop-append_seam x y);
     }
 
--- ---- runs of bytes and texts
+-- ---- bytes and texts
 
 abbrev done : List ℕ × ℕ → Result (List ℕ × ℕ) Fault
 done x = Ok x
@@ -117,7 +117,7 @@ done x = Ok x
 ok_part : (x y : List ℕ × ℕ) → done x ≡ done y → x ≡ y
 ok_part x y e = cc
 
--- the bytes that are read are there
+-- the bytes that are returned are there
 pub bytes_found : (n : ℕ) (bytes : List ℕ) (a : ℕ) (x : List ℕ × ℕ) → bytes_at n bytes a ≡ Ok x → Stands bytes a x.0 x.1 × (length x.0 ≡ n)
 unfolding bytes_at
 bytes_found n bytes a x e =
@@ -127,14 +127,14 @@ bytes_found n bytes a x e =
     let made : Stands bytes a (slice_range bytes a (a + n)) (a + n) × (length (slice_range bytes a (a + n)) ≡ n) = (record { end_is = omega (arith, size); within = le; here = refl }, size) in
     subst (λ (y : List ℕ × ℕ). Stands bytes a y.0 y.1 × (length y.0 ≡ n)) (ok_part _ _ e) made)
 
--- the bytes that are there are read
+-- the bytes that are there are returned
 pub bytes_only : (n : ℕ) (bytes : List ℕ) (a : ℕ) (x : List ℕ) (end : ℕ) → Stands bytes a x end → length x ≡ n → bytes_at n bytes a ≡ Ok (x, end)
 unfolding bytes_at
 bytes_only n bytes a x end h size =
     let end_is : a + n ≡ end = omega (arith, h.end_is, size) in
     rw (end_is, le-leb end (length bytes) h.within, h.here) refl
 
--- the text that is read is there with its zero byte, and has no other
+-- the text that is returned is there, with a zero byte after it and none in it
 pub text_found : (bytes : List ℕ) (a : ℕ) (x : List ℕ × ℕ) → text_at bytes a ≡ Ok x → Stands bytes a (x.0 ++ 0 ∷ []) x.1 × All (λ b. b ≢ 0) x.0
 unfolding text_at
 text_found bytes a x e =
@@ -158,7 +158,7 @@ text_found bytes a x e =
 nonzero : (b : ℕ) → b ≢ 0 → eqb b 0 ≡ false
 nonzero b ne = grind (arith, ne)
 
--- a text without a zero byte that is there with one is read
+-- a text without a zero byte, followed by one, is returned
 pub text_only : (bytes : List ℕ) (a : ℕ) (x : List ℕ) (end : ℕ) → Stands bytes a (x ++ 0 ∷ []) end → All (λ b. b ≢ 0) x → text_at bytes a ≡ Ok (x, end)
 unfolding text_at
 text_only bytes a x end h none =

@@ -1,5 +1,5 @@
--- Laws of numbers in base 128: each has one encoding, which is no prefix of another; what is read is encoded so, and what is
--- encoded so is read.
+-- Laws of VByte numbers: each has one encoding, which is no prefix of another, and the reader returns exactly what is
+-- encoded.
 use Rattle.std.proofs.Common.{◌≡◌, ℕ, zero, suc, ◌+◌, ◌*◌, ◌-◌, ◌/◌, ◌%◌, ◌^◌, ◌<◌, ◌≤◌, Bool, true, ◌||◌, List, [], ◌∷◌, ◌++◌, length, get_or, take, drop, leb, ltb, eqb, Result, Ok, refl, lit<, sym, ap, subst, ◌∙◌, arith, inl, inr}
 use Rattle.std.specs.Prelude.{not, ◌⊎◌, slice_range}
 use Rattle.std.specs.List.{prefix_len, position_or_len}
@@ -57,14 +57,14 @@ only_by (b ∷ c ∷ bs) (suc k) v lt h =
     let rest : VByte (c ∷ bs) (v / 128) = rw top at h.4 in
     rw (digits_more k v high) (ap (λ (n : ℕ). n ∷ c ∷ bs) low ∙ ap (λ (t : List ℕ). v % 128 ∷ t) (only_by (c ∷ bs) k (v / 128) (below_high k v lt) rest))
 
--- nothing else does
+-- nothing else encodes it
 pub vbyte_alone : (text : List ℕ) (v : ℕ) → v < 2 ^ 64 → VByte text v → text ≡ vbyte v
 unfolding vbyte
 vbyte_alone text v lt h = only_by text 9 v (omega (arith, lt)) h
 
 -- ---- reading
 
--- the first byte with its top bit set, where the bytes before it have none
+-- the index of the first byte with its top bit set
 pub first_last : (seen : List ℕ) (i : ℕ) → i < length seen → ((k : ℕ) → k < i → get_or seen k 0 < 128) → 128 ≤ get_or seen i 0
     → position_or_len (λ b. leb 128 b) seen ≡ i
 first_last seen i lt low high =
@@ -79,7 +79,7 @@ first_last seen i lt low high =
           absurd (omega (arith, small, high))
     ]
 
--- digits before a last byte that isn't 128 encode a number that isn't 0
+-- if the last byte isn't 128, the bytes encode a number that isn't 0
 pub spelled_high : (seen : List ℕ) (i : ℕ) → i < length seen → IsBytes seen → ((k : ℕ) → k < i → get_or seen k 0 < 128) → 128 < get_or seen i 0
     → VByte (take (suc i) seen) (number_of (take (suc i) seen)) × (0 < number_of (take (suc i) seen))
 spelled_high [] i lt fits low high = absurd (omega arith)
@@ -111,7 +111,7 @@ done x = Ok x
 ok_is : (x y : ℕ × ℕ) → done x ≡ done y → x ≡ y
 ok_is x y e = cc
 
--- what is read is encoded there
+-- what is returned is encoded there
 pub vbyte_found : (bytes : List ℕ) (at : ℕ) (x : ℕ × ℕ) → IsBytes bytes → vbyte_at bytes at ≡ Ok x → SpelledAt VByte bytes at x.0 x.1
 unfolding vbyte_at
 vbyte_found bytes at x fits e =
@@ -135,7 +135,7 @@ vbyte_found bytes at x fits e =
     let made : SpelledAt VByte bytes at value (at + last + 1) = record { in_order = omega arith; within = within; spelled = subst (λ (t : List ℕ). VByte t value) same s' } in
     subst (λ (y : ℕ × ℕ). SpelledAt VByte bytes at y.0 y.1) (ok_is _ _ e) made)))
 
--- it is below 2 ^ 64, takes at least a byte and at most ten, and ends within the input
+-- a number that was read is below 2 ^ 64, has one to ten bytes, and ends within the input
 pub record Bounded (bytes : List ℕ) (at v end : ℕ) : Type 0 where
   pub value : v < 2 ^ 64
   pub some : at < end
@@ -160,7 +160,7 @@ vbyte_bounded bytes at x e =
     } in
     subst (λ (y : ℕ × ℕ). Bounded bytes at y.0 y.1) (ok_is _ _ e) made)))
 
--- where an encoding ends
+-- the shape of an encoding: its last byte is at index i
 record Ends (text : List ℕ) (v : ℕ) : Type 0 where
   pub i : ℕ
   pub len : length text ≡ suc i
@@ -213,7 +213,7 @@ short_enough i v large zero_alone lt =
 canonical : (i byte v : ℕ) → (0 < v → byte ≡ 128 → ⊥) → (v ≡ 0 → i ≡ 0) → (eqb i 0 || not (eqb byte 128)) ≡ true
 canonical i byte v shortest zero_alone = grind (arith, common_steps)
 
--- what is encoded there is read
+-- what is encoded there is returned
 pub vbyte_only : (bytes : List ℕ) (at v end : ℕ) → v < 2 ^ 64 → SpelledAt VByte bytes at v end → vbyte_at bytes at ≡ Ok (v, end)
 unfolding vbyte_at
 vbyte_only bytes at v end lt h =

@@ -7,7 +7,7 @@ use Rattle.hdt_seq.specs.Bits.{bits_of}
 use Rattle.hdt_seq.proofs.Groups.{at_least}
 use Rattle.hdt_seq.proofs.directory.Directory.new.Goals as goal
 
--- one count more, each as it should be
+-- one more count keeps all counts right
 one_more : (xs : List ℕ) (t : ℕ) (n : ℕ) (f : ℕ → ℕ) → length xs ≡ n → ((g : ℕ) → g < n → get_or xs g 0 ≡ f g) → t ≡ f n → (g : ℕ) → (g ≡ n) ⊎ (g < n) → get_or (xs ++ t ∷ []) g 0 ≡ f g
 one_more xs t n f len each is g (inl e) = ap (λ k. get_or (xs ++ t ∷ []) k 0) (e ∙ sym len) ∙ get_or-append_seam xs t [] 0 ∙ is ∙ ap f (sym e)
 one_more xs t n f len each is g (inr l) = get_or_append_left xs (t ∷ []) 0 g (omega (arith, l, len)) ∙ each g l

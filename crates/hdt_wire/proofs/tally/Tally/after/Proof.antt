@@ -1,4 +1,4 @@
--- `after` makes a value of no bytes, whose ghost field is one more than what the reference shows.
+-- `after` returns a value of no bytes, whose ghost field is one more than that of its argument.
 use Rattle.std.proofs.Common.{◌+◌, [], ◌∷◌, refl}
 use Rattle.std.proofs.raw_atomic.Walks.{proved}
 use mir.Syntax.{named}

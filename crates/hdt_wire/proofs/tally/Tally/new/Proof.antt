@@ -1,4 +1,4 @@
--- `new` makes a value of no bytes, whose ghost field is 0.
+-- `new` returns a value of no bytes, whose ghost field is 0.
 use Rattle.std.proofs.Common.{[], ◌∷◌, refl}
 use Rattle.std.proofs.raw_atomic.Walks.{proved}
 use mir.Val.{Val, vstruct, vcons, vnil}
