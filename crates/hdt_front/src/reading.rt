@@ -131,7 +131,8 @@ impl<'a> Section<'a> {
     /// The first of these, in this order: `SectionKind`, errors of the three numbers, `Check8`, `BlockSize`,
     /// `PackedLength`, errors of the block offsets, `BlockCount`, `BlockPlace`, `Truncated`, `Check32`; then for each
     /// string `BlockPlace`, errors of its prefix length, `PrefixTooLong`, `PackedLength`, `NotUtf8`,
-    /// `StringsNotAscending`; at the end `PackedLength`, `BlockPlace`. Or [`ReadFault::OutOfMemory`].
+    /// `StringsNotAscending`; at the end `PackedLength`, `BlockPlace`. `Truncated` can occur at each read. Or
+    /// [`ReadFault::OutOfMemory`].
     pub fn read(
         alloc: Global,
         bytes: &'a [u8],
