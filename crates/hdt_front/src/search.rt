@@ -161,8 +161,7 @@ impl<'a> Section<'a> {
     /// Returns the ID of a string, from 1, or `None` if it is not in the section.
     ///
     /// Binary search over the first strings of the blocks, then a scan of one block. Takes at most
-    /// `floor(log2(blocks)) + block size` steps, and none in an empty section. A step compares only bytes that are not
-    /// yet known to be equal.
+    /// `floor(log2(blocks)) + block size` steps, and none in an empty section. Each step compares one string.
     pub fn place_of(&self, x: &[u8], steps: &mut Steps) -> Option<u64>
         ensures place { result ≡ place (strings_of self.now) x.now }
         ensures cost { steps.new ≤ steps.old + section_looks (section_of self.now) }
