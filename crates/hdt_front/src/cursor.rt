@@ -67,8 +67,8 @@ impl<'a> Cursor<'a> {
     }
 
     /// Compares the current string with `x`, given that their first `from` bytes are equal, which are not read. Returns
-    /// also the length of their longest common prefix. The end is greater than all strings and has no prefix in common
-    /// with any.
+    /// also the length of their longest common prefix. The end is greater than all strings; its common prefix with any
+    /// string has length 0.
     pub fn compared(&self, x: &[u8], from: usize) -> (Ordering, usize)
         requires so_far { from ≤ first_agreed self.now x.now }
         ensures order { result.0 ≡ first_order self.now x.now }
@@ -90,8 +90,8 @@ impl<'a> Cursor<'a> {
         Ok(())
     }
 
-    /// Moves to the next string as [`pass`](Cursor::pass) does. Returns the prefix length of its entry, which is a lower
-    /// bound on the common prefix with the previous string, or 0 at the end. Takes time linear in the suffix.
+    /// Moves to the next string as [`pass`](Cursor::pass) does. Returns the prefix length of its entry, which is a
+    /// lower bound on the common prefix with the previous string, or 0 at the end. Takes time linear in the suffix.
     pub fn pass_kept(&mut self) -> Result<usize, AllocError>
         ensures ok { OnOk result (self.new ≡ drop 1 self.old) }
         ensures kept { IfOk result (λ k. k ≤ next_agreed self.old) }

@@ -28,8 +28,8 @@ pub fn string_places()
         → string_place s i ≡ s.packed_place + length (concat (take i h.folded.pieces)) }
 {}
 
-/// Law: the bytes written for strings are read back as their section, whatever precedes and follows them. This holds for
-/// the canonical bytes and for any other front coding of the strings.
+/// Law: the bytes written for strings are read back as their section, whatever precedes and follows them. This holds
+/// for the canonical bytes and for any other front coding of the strings.
 pub fn section_is_read_again()
     ensures canonical { (b : ℕ) (strings : List (List ℕ)) (bytes : List ℕ) (at end : ℕ) → 1 ≤ b → b < 2 ^ 64 → AreStrings strings → length bytes < 2 ^ 64
         → Stands bytes at (canonical b strings) end → IsSection (canonical_parts b strings at) bytes at }
@@ -47,15 +47,15 @@ pub fn section_is_read_again()
         }) bytes at }
 {}
 
-/// Law: look-ups by string and by ID are inverse. The ID found for a string has this string, and the string of an ID has
-/// this ID.
+/// Law: look-ups by string and by ID are inverse. The ID found for a string has this string, and the string of an ID
+/// has this ID.
 pub fn look_ups_are_inverse()
     ensures found { (s : SectionIs) (x : List ℕ) (n : ℕ) → place (strings_of s) x ≡ Some n → (1 ≤ n) × (n ≤ length (strings_of s)) × (get_or (strings_of s) (n - 1) [] ≡ x) }
     ensures only { (s : SectionIs) (n : ℕ) → 1 ≤ n → n ≤ length (strings_of s) → place (strings_of s) (get_or (strings_of s) (n - 1) []) ≡ Some n }
 {}
 
-/// Law: the number of blocks is the least number whose product with the block size is at least the number of strings; it
-/// is 0 if there are no strings.
+/// Law: the number of blocks is the least number whose product with the block size is at least the number of strings.
+/// It is 0 if there are no strings.
 pub fn blocks_are_least()
     ensures enough { (s : SectionIs) → length (strings_of s) ≤ blocks_of s * block_size s }
     ensures least { (s : SectionIs) (k : ℕ) → length (strings_of s) ≤ k * block_size s → blocks_of s ≤ k }
