@@ -90,8 +90,8 @@ impl<'a> Cursor<'a> {
         Ok(())
     }
 
-    /// Moves to the next string as [`pass`](Cursor::pass) does. Returns the prefix length of its entry, which is a
-    /// lower bound on the common prefix with the previous string, or 0 at the end. Takes time linear in the suffix.
+    /// Moves to the next string as [`pass`](Cursor::pass) does. Returns the prefix length of its entry, which is
+    /// a lower bound on the common prefix with the previous string, or 0 at the end. Takes time linear in the suffix.
     pub fn pass_kept(&mut self) -> Result<usize, AllocError>
         ensures ok { OnOk result (self.new ≡ drop 1 self.old) }
         ensures kept { IfOk result (λ k. k ≤ next_agreed self.old) }

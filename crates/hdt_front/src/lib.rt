@@ -16,9 +16,9 @@
 //! ```
 //!
 //! A [`Section`] borrows the input, holds no decoded string and is `Copy`. Searches run on its front-coded bytes.
-//! [`Walk`] returns its strings in order and decodes each once. Contracts describe a section by `strings_of`, the list
-//! of its strings, and by `section_of`, all of its parts (specs/`Strings`). specs/`Section` defines a section, and
-//! specs/`Canonical` its canonical bytes. specs/Laws has the laws that other crates use.
+//! [`Walk`] returns its strings in order and decodes each once. Contracts describe a section by `strings_of`,
+//! the list of its strings, and by `section_of`, all of its parts (specs/`Strings`). specs/`Section` defines a
+//! section, and specs/`Canonical` its canonical bytes. specs/Laws has the laws that other crates use.
 #![tactic(auto)]
 
 mod common;

@@ -241,7 +241,8 @@ impl SectionWriter {
     }
 
     /// Appends the canonical section of the strings, as [`put_section`](crate::put_section) does. The strings must
-    /// satisfy [`are_strings`](crate::are_strings). If memory runs out, `out` is unchanged, and the strings are lost.
+    /// satisfy [`are_strings`](crate::are_strings). If memory runs out, `out` is unchanged, and the
+    /// strings are lost.
     pub fn finish(self, out: &mut Vec<u8>) -> Result<(), AllocError>
         requires strings { AreStrings self.strings }
         ensures ok { OnOk result (out.new.items ≡ out.old.items ++ canonical self.block_size self.strings) }

@@ -75,8 +75,9 @@ impl<'a> Walk<'a> {
         Ok(place)
     }
 
-    /// Decodes the next string as [`next`](Walk::next) does. Returns also the prefix length of its entry, which is
-    /// a lower bound on the common prefix with the previous string, or 0 at the end. Takes time linear in the suffix.
+    /// Decodes the next string as [`next`](Walk::next) does. Returns also the prefix length of its entry, which
+    /// is a lower bound on the common prefix with the previous string, or 0 at the end. Takes time linear in the
+    /// suffix.
     pub fn next_kept(&mut self) -> Result<(Option<usize>, usize), AllocError>
         ensures place { IfOk result (λ r. r.0 ≡ next_place self.old.ahead) }
         ensures kept { IfOk result (λ r. r.1 ≤ first_agreed self.old.ahead self.old.last) }

@@ -40,8 +40,8 @@ pub fn lent_strings<'a>(alloc: Global, strings: &'a [Vec<u8>]) -> Result<Vec<&'a
 
 /// Appends the canonical section of the strings, with `block_size` strings per block: longest shared prefixes, block
 /// offsets of the least width, padding bits 0, and the single block offset 0 if there are no strings. The strings must
-/// satisfy [`are_strings`](crate::are_strings), and the block size must be at least 1. If memory runs out, `out` is
-/// unchanged. Takes time linear in the total length of the strings.
+/// satisfy [`are_strings`](crate::are_strings), and the block size must be at least 1. If memory
+/// runs out, `out` is unchanged. Takes time linear in the total length of the strings.
 pub fn put_section(
     alloc: Global,
     strings: &[Vec<u8>],
