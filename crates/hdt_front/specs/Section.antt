@@ -1,5 +1,5 @@
--- Dictionary sections (rdfhdt.org, "HDT binary format", Plain Front Coding): the type byte 2; the number of strings, the
--- size of the front-coded bytes, and the block size, all VBytes; the CRC-8 of these; the block offsets as a log
+-- Dictionary sections (rdfhdt.org, "HDT binary format", Plain Front Coding): the type byte 2; as VBytes the number of
+-- strings, the size of the front-coded bytes, and the block size; the CRC-8 of these; the block offsets as a log
 -- sequence; the front-coded bytes with their CRC-32C.
 use Rattle.std.specs.Prelude.{◌≡◌, ℕ, zero, suc, ◌+◌, ◌-◌, ◌*◌, ◌/◌, ◌<◌, ◌==◌, ◌||◌, ◌⊎◌, not, Bool, nat_lt, nat_le, List, [], ◌∷◌, ◌++◌, length, slice_index, slice_index_or, slice_range, take, true, Result, Ok}
 use Rattle.std.specs.List.{concat}
