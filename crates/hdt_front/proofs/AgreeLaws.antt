@@ -115,7 +115,7 @@ zero_first d h = (grind (arith, nat_tests, h), grind (arith, nat_tests, h))
 byte_first : (c : ℕ) → nat_eq c 0 ≡ false → Greater ≡ nat_cmp c 0
 byte_first c h = grind (arith, nat_tests, h)
 
--- The common prefix of a zero-terminated text with a string without zero bytes is that of the bytes with the string.
+-- With a string without zero bytes, zero-terminated bytes have the same common prefix as their text.
 pub stored_agrees : (text more x : List ℕ) → NoZero x → agreed ((text ++ 0 ∷ []) ++ more) x ≡ agreed text x
 unfolding NoZero
 stored_agrees [] more [] h = refl

@@ -168,7 +168,7 @@ fn byte_or_zero(x: &[u8], at: usize) -> u8
 }
 
 /// Compares a zero-terminated string with a string without zero bytes, given that the first `from` bytes are equal.
-/// Returns also their common-prefix length. It need not look for the terminator, which differs from every byte of `x`.
+/// Returns also their common-prefix length. It need not find the terminator, which differs from every byte of `x`.
 pub(crate) fn compared_stored(stored: &[u8], x: &[u8], from: usize) -> (Ordering, usize)
     requires ends { zero_in stored.now < length stored.now }
     requires sought { zero_in x.now ≡ length x.now }

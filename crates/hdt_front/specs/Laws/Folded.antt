@@ -1,5 +1,5 @@
--- Front coding and ascending strings, defined by recursion over the list. Folding and Section define them by index;
--- Laws/Folding proves the two equivalent.
+-- Front coding and ascending strings, defined by recursion over the list. The definitions in Section are by index;
+-- Laws/FrontCoding proves the two equivalent.
 use Rattle.std.specs.Prelude.{ℕ, ◌+◌, ◌-◌, ◌/◌, ◌≡◌, ◌<◌, List, [], ◌∷◌, true, false, length, get_or, nat_eq, ◌||◌}
 use Rattle.std.specs.List.{concat}
 use Rattle.std.specs.Str.{is_utf8}
@@ -7,7 +7,7 @@ use Rattle.hdt_front.specs.StringRows.{precedes}
 use Rattle.hdt_front.specs.Folding.{IsPiece}
 use Rattle.hdt_front.specs.Unfolding.{is_head}
 
--- Each entry is one of its string.
+-- The entries are those of the strings, one for each.
 unfoldable pub ArePieces : ℕ → ℕ → List ℕ → List (List ℕ) → List (List ℕ) → Type 0
 ArePieces b i before [] [] = Unit {0}
 ArePieces b i before [] (piece ∷ pieces) = ⊥
