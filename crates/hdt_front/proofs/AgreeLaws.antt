@@ -1,4 +1,4 @@
--- How the order of strings goes by the front that is kept.
+-- The order of strings that share a prefix.
 use Rattle.std.proofs.Common.{◌≡◌, ℕ, ◌+◌, ◌<◌, ◌≤◌, zero, suc, List, [], ◌∷◌, ◌++◌, length, take, drop, refl, sym, ap, arith, Bool, true, false, nat_eq, cond, get_or, ◌∙◌, length-take-le}
 use Rattle.std.proofs.Common.{Ordering, nat_lt}
 use Rattle.std.specs.declared.cmp.Ordering.TheVariants.{Less, Equal, Greater}
@@ -35,7 +35,8 @@ rest_step true true not_both o p n m i k rest fits = absurd (not_both refl refl)
 rest_step lt false not_both o p n m i k rest fits = absurd (omega (arith, fits))
 rest_step false true not_both o p n m i k rest fits = let r = rest (omega (arith, fits)) in (r.0, omega (arith, r.1))
 
--- a next string that keeps more of the last one than that agrees with the searched one is less than it too
+-- If the last string is less than the searched one and the next string shares more with the last one than the last one
+-- shares with the searched one, the next string is less too.
 pub kept_less : (k : ℕ) (last sought text : List ℕ) → order last sought ≡ Less → k ≤ length last → agreed last sought < k
     → (order (take k last ++ text) sought ≡ Less) × (agreed (take k last ++ text) sought ≡ agreed last sought)
 kept_less zero last sought text less fits more = absurd (omega (arith, more))
@@ -45,7 +46,7 @@ kept_less (suc k) (b ∷ last) (c ∷ sought) text less fits more =
     kept_step (nat_lt b c) (nat_eq b c) (apart b c) (order last sought) (order (take k last ++ text) sought) (agreed last sought) (agreed (take k last ++ text) sought) k
     (λ h i. kept_less k last sought text h (omega (arith, fits)) i) less more
 
--- where it keeps no more than agrees, what is stored is compared with the rest of the searched one
+-- If it shares no more, comparing its suffix with the searched string after that prefix decides.
 pub rest_decides : (k : ℕ) (last sought text : List ℕ) → k ≤ agreed last sought
     → (order (take k last ++ text) sought ≡ order text (drop k sought)) × (agreed (take k last ++ text) sought ≡ k + agreed text (drop k sought))
 rest_decides zero last sought text fits = (refl, omega arith)
@@ -66,7 +67,7 @@ bytes_step false false not_both x y a b n (suc k) o is rest e la lb = absurd (om
 bytes_step false true not_both x y a b n zero o is rest e la lb = absurd (omega (arith, e))
 bytes_step false true not_both x y a b n (suc k) o is rest e la lb = rest k (omega (arith, e)) (omega (arith, la)) (omega (arith, lb))
 
--- where neither ends behind the bytes that agree, the bytes there are compared
+-- If neither string ends at the common prefix, the next bytes decide.
 pub bytes_decide : (a b : List ℕ) (k : ℕ) → k ≡ agreed a b → k < length a → k < length b → order a b ≡ nat_cmp (get_or a k 0) (get_or b k 0)
 bytes_decide [] b k e la lb = absurd (omega (arith, la))
 bytes_decide (x ∷ a) [] k e la lb = absurd (omega (arith, lb))
@@ -90,7 +91,7 @@ none_less m = grind (arith, nat_tests)
 some_greater : (l : ℕ) → nat_cmp (suc l) 0 ≡ Greater
 some_greater l = grind (arith, nat_tests)
 
--- where one ends there, the lengths are compared
+-- If one of them ends there, the lengths decide.
 pub lengths_decide : (a b : List ℕ) (k : ℕ) → k ≡ agreed a b → (k < length a → length b ≤ k) → order a b ≡ nat_cmp (length a) (length b)
 lengths_decide [] [] k e ends = refl
 lengths_decide [] (y ∷ b) k e ends = sym (none_less (length b))
@@ -114,7 +115,7 @@ zero_first d h = (grind (arith, nat_tests, h), grind (arith, nat_tests, h))
 byte_first : (c : ℕ) → nat_eq c 0 ≡ false → Greater ≡ nat_cmp c 0
 byte_first c h = grind (arith, nat_tests, h)
 
--- a text that ends at a zero byte agrees with a string without zero bytes as far as the bytes there do
+-- With a string without zero bytes, zero-terminated bytes have the same common prefix as their text.
 pub stored_agrees : (text more x : List ℕ) → NoZero x → agreed ((text ++ 0 ∷ []) ++ more) x ≡ agreed text x
 unfolding NoZero
 stored_agrees [] more [] h = refl
@@ -122,7 +123,7 @@ stored_agrees [] more (d ∷ x) h = ap (λ (t : Bool). cond t (1 + agreed more x
 stored_agrees (c ∷ text) more [] h = refl
 stored_agrees (c ∷ text) more (d ∷ x) h = ap (λ n. cond (nat_eq c d) (1 + n) 0) (stored_agrees text more x h.1)
 
--- and the bytes behind those decide
+-- The bytes after the common prefix decide.
 pub stored_decides : (text more x : List ℕ) (k : ℕ) → NoZero text → NoZero x → k ≡ agreed ((text ++ 0 ∷ []) ++ more) x
     → order text x ≡ nat_cmp (get_or ((text ++ 0 ∷ []) ++ more) k 0) (get_or x k 0)
 unfolding NoZero
@@ -135,7 +136,7 @@ stored_decides (c ∷ text) more [] (suc k) t h e = absurd (omega (arith, e))
 stored_decides (c ∷ text) more (d ∷ x) k t h e =
     stored_step (nat_lt c d) (nat_eq c d) (apart c d) c d ((text ++ 0 ∷ []) ++ more) x (agreed ((text ++ 0 ∷ []) ++ more) x) k (order text x) refl (λ j f. stored_decides text more x j t.1 h.1 f) e
 
--- how a text lies that is stored up to a zero byte
+-- The order of a zero-terminated text and a string.
 pub record StoredLies (stored x : List ℕ) : Type 0 where
   pub order : order (take (zero_in stored) stored) x ≡ nat_cmp (get_or stored (agreed stored x) 0) (get_or x (agreed stored x) 0)
   pub same : agreed stored x ≡ agreed (take (zero_in stored) stored) x
@@ -155,7 +156,7 @@ stored_lies stored x ends sought =
       inside = omega (arith, same, (common_prefix_len-le nat_eq text x).0, length-take-le (zero_in stored) stored (omega (arith, ends)));
     }
 
--- strings that agree so far are compared from there on
+-- Strings whose first k bytes are equal compare as the rest of them.
 pub drop_decides : (k : ℕ) (a b : List ℕ) → k ≤ agreed a b → (order a b ≡ order (drop k a) (drop k b)) × (agreed a b ≡ k + agreed (drop k a) (drop k b))
 drop_decides zero a b fits = (refl, omega arith)
 drop_decides (suc k) [] b fits = absurd (omega (arith, fits))
@@ -167,7 +168,7 @@ drop_decides (suc k) (x ∷ a) (y ∷ b) fits =
 itself : (b : ℕ) → nat_eq b b ≡ true
 itself b = grind (arith, nat_tests)
 
--- a string agrees with the previous one as far as it keeps that
+-- A string has at least its shared prefix in common with the previous one.
 pub keeps_agree : (k : ℕ) (last text : List ℕ) → k ≤ length last → k ≤ agreed (take k last ++ text) last
 keeps_agree zero last text fits = omega arith
 keeps_agree (suc k) [] text fits = absurd (omega (arith, fits))

@@ -1,4 +1,4 @@
--- The place of a string in an ascending list.
+-- The ID of a string in an ascending list.
 use Rattle.std.proofs.Common.{◌≡◌, ℕ, zero, suc, ◌+◌, ◌-◌, ◌<◌, ◌≤◌, true, false, cond, List, [], ◌∷◌, length, get_or, Option, Some, None, refl, sym, ap, ◌∙◌, arith, Ordering, inl, inr, ◌⊎◌}
 use Rattle.std.specs.Prelude.{option_map}
 use Rattle.std.specs.declared.cmp.Ordering.TheVariants.{Less, Equal, Greater}
@@ -29,7 +29,7 @@ place_none (y ∷ ys) x apart =
     ap (λ b. cond b (Some 1) (option_map (λ n. n + 1) (place ys x))) (sym (is_eq-slice_cmp y x) ∙ apart 0 (omega arith))
     ∙ ap (option_map (λ n. n + 1)) (place_none ys x (λ i k. apart (suc i) (omega (arith, k))))
 
--- each string is less than the next one
+-- Each string is less than the next one.
 pub record Ascends (xs : List (List ℕ)) : Type 0 where
   pub next : (i : ℕ) → i + 1 < length xs → order (get_or xs i []) (get_or xs (i + 1) []) ≡ Less
 

@@ -1,4 +1,4 @@
--- How far strings agree with a searched one that stand between two others.
+-- The common prefix of a searched string with a string between two others.
 use Rattle.std.proofs.Common.{◌≡◌, ℕ, zero, suc, ◌+◌, ◌-◌, ◌*◌, ◌<◌, ◌≤◌, min, List, [], ◌∷◌, length, get_or, refl, arith, Bool, true, false, nat_eq, nat_lt, cond, Ordering, inl, inr, ◌⊎◌}
 use Rattle.std.proofs.Math.Nat.{mul-le-mul_left}
 use Rattle.std.proofs.lemmas.Bool.Decides.{nat_tests}
@@ -46,7 +46,7 @@ same_over p q r s a b c d = grind (arith, nat_tests)
 same_same : (p q s : ℕ) → nat_eq p q ≡ true → nat_eq p s ≡ true → nat_eq s q ≡ false → ⊥
 same_same p q s a b c = grind (arith, nat_tests)
 
--- a string between two others agrees with a searched one as far as both of these do
+-- A string between two others shares with the searched one at least what both of them do.
 between : (k : ℕ) (a b c x : List ℕ) → string_cmp a b ≡ Less → string_cmp b c ≡ Less → k ≤ agreed a x → k ≤ agreed c x → k ≤ agreed b x
 between zero a b c x l u h i = omega arith
 between (suc k) [] b c x l u h i = absurd (omega (arith, h))
@@ -68,7 +68,8 @@ least a b = grind (arith, nat_tests)
 none_or_some : (n : ℕ) → (n ≡ 0) ⊎ (0 < n)
 none_or_some n = grind arith
 
--- a head between two that were looked at agrees as far as both do; what was not looked at yet is said to agree in nothing
+-- The same for the first strings of blocks during the binary search. A bound that was not compared yet counts as
+-- sharing nothing.
 pub heads_between : (s : Section) (x : List ℕ) (low middle high same above : ℕ) → low ≤ middle → middle < high → high ≤ blocks_of s
     → (0 < same → 0 < low) → (0 < low → IsLess (get_or (strings_of s) ((low - 1) * s.packed.block) []) x same)
     → (0 < above → high < blocks_of s) → (0 < above → agreed (get_or (strings_of s) (high * s.packed.block) []) x ≡ above)

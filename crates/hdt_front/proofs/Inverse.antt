@@ -1,4 +1,4 @@
--- Looking up by string and by number are inverse; blocks are as few as can be.
+-- Look-ups by string and by ID are inverse; the number of blocks is the least possible.
 use Rattle.std.proofs.Common.{◌≡◌, ℕ, zero, suc, ◌+◌, ◌-◌, ◌*◌, ◌/◌, ◌<◌, ◌≤◌, Bool, true, false, cond, List, [], ◌∷◌, length, get_or, Option, Some, None, refl, sym, ap, ◌∙◌, arith, subst, inl, inr, Ordering}
 use Rattle.std.specs.Prelude.{option_map}
 use Rattle.std.specs.Str.{bytes_eq}
@@ -117,7 +117,7 @@ by_none : (r : Option ℕ) → ((n : ℕ) → r ≡ Some n → ⊥) → None ≡
 by_none (Some n) h = absurd (h n refl)
 by_none None h = refl
 
--- a string with a zero byte is in no section
+-- A string with a zero byte is in no section.
 pub zero_absent : (s : Section) (x : List ℕ) → zero_in x < length x → None ≡ place (strings_of s) x
 zero_absent s x h =
     by_none (place (strings_of s) x) (λ n e.

@@ -1,4 +1,4 @@
--- A string more in a section in work.
+-- Adding a string to a section writer.
 use Rattle.std.proofs.Common.{◌≡◌, ℕ, suc, ◌+◌, ◌<◌, ◌≤◌, ◌^◌, cond, List, [], ◌∷◌, ◌++◌, length, get_or, refl, sym, ap, subst, ◌∙◌, arith, append_assoc, append-nil, add-zero, zero-add, length-append}
 use Rattle.std.specs.List.{All, concat}
 use Rattle.std.proofs.lemmas.List.Elements.{All-nil, All-push}
@@ -17,7 +17,7 @@ use Rattle.hdt_front.specs.Canonical.{piece_of, pieces_from, starts_from, packed
 use Rattle.hdt_front.specs.Laws.Canonical.{many_pieces, enough_bytes, folded, canonical_stands}
 use Rattle.hdt_front.specs.InWork.{heads_from, AreKept}
 
--- ---- strings are decoded from their entries
+-- ---- entries decode to their strings
 
 unfolds_pieces : (b i : ℕ) (last : List ℕ) (strings pieces : List (List ℕ)) → ArePieces b i last strings pieces → All HasNoZero strings → unfolded b (length strings) i last (concat pieces) ≡ strings
 unfolding ArePieces unfolded
@@ -35,7 +35,7 @@ unfolds b strings some clean small =
     let f = folded b strings some small in
     ap (unfolded b (length strings) 0 []) f.joined ∙ unfolds_pieces b 0 [] strings f.pieces f.each clean
 
--- ---- one more
+-- ---- one more string
 
 pieces_more : (b i : ℕ) (last : List ℕ) (strings : List (List ℕ)) (s : List ℕ)
     → pieces_from b i last (strings ++ s ∷ []) ≡ pieces_from b i last strings ++ piece_of (is_head b (i + length strings)) (get_or (last ∷ strings) (length strings) []) s ∷ []
@@ -86,7 +86,7 @@ module _ (b : ℕ) (strings : List (List ℕ)) (s last starts packed : List ℕ)
       ∙ sym (heads_more b 0 0 pieces (piece_of (is_head b (0 + length strings)) (before strings (length strings)) s))
       ∙ ap (heads_from b 0 0) (sym (pieces_more b 0 [] strings s))
 
--- one more string is the next one
+-- The state after adding a string.
 pub record OneMore (b n : ℕ) (strings : List (List ℕ)) (s last starts packed : List ℕ) : Type 0 where
   pub strings_are : unfolded b (n + 1) 0 [] packed ≡ strings ++ s ∷ []
   pub kept : AreKept b (unfolded b (n + 1) 0 [] packed) last starts packed
@@ -116,11 +116,11 @@ one_more b n s last starts packed last' starts' packed' h clean small ep es el =
         last_from x [] s = refl
         last_from x (y ∷ strings) s = last_from y strings s
 
--- each string takes a byte
+-- Each string takes at least one byte.
 pub few : (b n : ℕ) (last starts packed : List ℕ) → AreKept b (unfolded b n 0 [] packed) last starts packed → n ≤ length packed
 few b n last starts packed h = omega (arith, length-unfolded b n 0 [] packed, enough_bytes b 0 [] (unfolded b n 0 [] packed), ap length h.packed)
 
--- ---- the whole
+-- ---- the section
 
 starts_are : (b i at : ℕ) (pieces : List (List ℕ)) → heads_from b i at pieces ++ (at + length (concat pieces)) ∷ [] ≡ starts_from b i at pieces
 unfolding heads_from starts_from
@@ -136,7 +136,7 @@ all_starts b strings last starts packed h =
     let place : length packed ≡ 0 + length (packed_of b strings) = ap length h.packed ∙ sym (zero-add _) in
     ap (λ (n : ℕ). starts ++ n ∷ []) place ∙ ap (λ l. l ++ (0 + length (packed_of b strings)) ∷ []) h.starts ∙ starts_are b 0 0 (pieces_from b 0 [] strings)
 
--- the canonical section is appended
+-- The canonical section is appended.
 pub all_are : (b n : ℕ) (last starts packed starts' packed' old new : List ℕ) → AreKept b (unfolded b n 0 [] packed) last starts packed → starts' ≡ starts ++ length packed ∷ [] → packed' ≡ packed
     → new ≡ old ++ section_spelling n b starts' packed' → new ≡ old ++ canonical b (unfolded b n 0 [] packed)
 unfolding canonical
@@ -146,7 +146,7 @@ all_are b n last starts packed starts' packed' old new h es ep e =
     ∙ ap (λ (l : List ℕ). old ++ section_spelling (length strings) b l packed') (es ∙ all_starts b strings last starts packed h)
     ∙ ap (λ (l : List ℕ). old ++ section_spelling (length strings) b (starts_of b strings) l) (ep ∙ h.packed)
 
--- what was appended is a section
+-- The appended bytes are a section.
 pub section_appended : (b : ℕ) (strings : List (List ℕ)) (old new : List ℕ) → 1 ≤ b → b < 2 ^ 64 → AreStrings strings → length new < 2 ^ 64 → new ≡ old ++ canonical b strings
     → IsSection (canonical_parts b strings (length old)) new (length old)
 section_appended b strings old new some low are small e =

@@ -1,4 +1,4 @@
--- Lent strings, one after another.
+-- Borrowed strings, one by one.
 use Rattle.std.proofs.Common.{◌≡◌, ℕ, zero, suc, ◌+◌, ◌<◌, List, [], ◌∷◌, length, drop, get_or, refl, ap, ◌∙◌, arith, subst}
 use Rattle.std.specs.Borrow.{Bor}
 use Rattle.std.proofs.lemmas.List.{get_or-map, length-map}
@@ -11,7 +11,7 @@ rest_of [] i d lt = absurd (omega (arith, lt))
 rest_of (s ∷ strings) zero d lt = refl
 rest_of (s ∷ strings) (suc i) d lt = rest_of strings i d (omega (arith, lt))
 
--- string i is the next of those that are left
+-- String i is the first of the remaining ones.
 pub next_of : (strings : List (Bor (List ℕ))) (i : ℕ) (d : Bor (List ℕ)) → i < length strings → drop i (lent_texts strings) ≡ (get_or strings i d).now ∷ drop (i + 1) (lent_texts strings)
 next_of strings i d lt = rest_of strings i d lt ∙ ap (λ k. (get_or strings i d).now ∷ drop k (lent_texts strings)) (let e : suc i ≡ i + 1 = omega arith in e)
 
@@ -22,7 +22,7 @@ none_left strings i e = ap (λ k. drop k (lent_texts strings)) e ∙ past string
     past [] = refl
     past (s ∷ strings) = past strings
 
--- a string among those that a section can hold has no zero byte
+-- Strings that can form a section have no zero byte.
 pub no_zero_in : (strings : List (Bor (List ℕ))) (i : ℕ) (d : Bor (List ℕ)) → AreStrings (lent_texts strings) → i < length strings → HasNoZero (get_or strings i d).now
 no_zero_in strings i d are lt =
     let text : Bor (List ℕ) → List ℕ = λ s. s.now in

@@ -1,4 +1,4 @@
--- How heads and other entries lie in a section whose checks hold.
+-- The entries of a section whose checks hold: first entries of blocks, and others.
 use Rattle.std.proofs.Common.{◌≡◌, ℕ, zero, suc, ◌+◌, ◌-◌, ◌*◌, ◌/◌, ◌<◌, ◌≤◌, ◌++◌, ◌||◌, Bool, true, false, cond, List, [], length, take, drop, get_or, Ok, refl, sym, ap, ◌∙◌, arith, subst, eq-eqb, eqb, add-one, zero-add, Ordering}
 use Rattle.std.proofs.Math.Nat.{mul-div_left, mul-mod_left, div-eq_of_lt, div-zero, mul-le-mul_left, le-div_iff_mul-le}
 use Rattle.std.proofs.lemmas.Nat.{mod-mul-add}
@@ -17,7 +17,7 @@ use Rattle.hdt_front.specs.Strings.{blocks_of, section_of}
 use Rattle.hdt_front.specs.Laws.Strings.{count_is}
 use Rattle.hdt_seq.specs.Width.{digits}
 
--- where there is a block, its size is at least 1
+-- If there is a block, the block size is at least 1.
 pub some_block : (n b q : ℕ) → q < (n + (b - 1)) / b → 1 ≤ b
 some_block n zero q h = absurd (omega (arith, h, div-zero (n + (0 - 1))))
 some_block n (suc b) q h = omega arith
@@ -25,7 +25,7 @@ some_block n (suc b) q h = omega arith
 pub head_inside : (n b q : ℕ) → 1 ≤ b → q < (n + (b - 1)) / b → q * b < n
 head_inside n b q some h = omega (arith, mul-le-mul_left b (let k : q + 1 ≤ (n + (b - 1)) / b = omega (arith, h) in k))
 
--- the head of block q lies at a start
+-- The first entry of block q begins at the block offset, and is its string in full.
 pub record HeadLies (b q : ℕ) (bytes starts : List ℕ) (strings : List (List ℕ)) : Type 0 where
   pub here : rest_at b (q * b) bytes ≡ drop (get_or starts q 0) bytes
   pub fits : get_or starts q 0 ≤ length bytes
@@ -60,7 +60,7 @@ head_lies p n q bytes size some h e =
       after = ap (λ k. rest_at p.block k bytes) (add-one (q * p.block)) ∙ row.3 ∙ ap (λ r. drop (zero_in r + 1) r) here;
     }
 
--- an entry that isn't a head
+-- An entry that is not the first of its block.
 pub record PieceLies (b i : ℕ) (bytes rest : List ℕ) (strings : List (List ℕ)) : Type 0 where
   pub fits : kept false rest ≤ length (get_or strings (i - 1) [])
   pub string : get_or strings i [] ≡ take (kept false rest) (get_or strings (i - 1) []) ++ text_of false rest

@@ -1,4 +1,4 @@
--- From the mask of one load to the bytes that it tells of.
+-- From the comparison mask of one load to a run of bytes.
 use Rattle.std.proofs.Common.{◌≡◌, ℕ, zero, suc, ◌+◌, ◌^◌, ◌%◌, ◌<◌, ◌≤◌, Bool, true, false, not, cond, List, [], ◌∷◌, length, map, take, drop, nat_eq, min, refl, sym, ap, ◌∙◌, arith, w8, get_or, Fits, nat_lt, ltb-true, inl, inr, length-take-le, ◌&&◌}
 use Rattle.std.proofs.lemmas.List.{map-id, length-map, get_or-take, get_or_past}
 use Rattle.std.proofs.lemmas.Simd.{tops_compared, mask_l-mod, first_set_mask_l, length-zip2, length-chunk, map-map, get_or-chunk}
@@ -29,7 +29,7 @@ front_step : (same : Bool) (k m n : ℕ) → k ≤ n → k ≤ m → (k < n → 
 front_step true k m n few less stop = (omega (arith, few), omega (arith, less), λ h. omega (arith, stop (omega (arith, h))))
 front_step false k m n few less stop = (omega arith, omega arith, λ _. refl)
 
--- the fronts of two strings agree as the strings do, as far as they go
+-- The common prefix of prefixes is that of the strings, up to the length of the prefixes.
 front_agrees : (n : ℕ) (x y : List ℕ) → FrontAgrees n x y
 front_agrees zero x y = record { few = omega arith; less = omega arith; stop = λ h. absurd (omega (arith, h)) }
 front_agrees (suc n) [] y = record { few = omega arith; less = omega arith; stop = λ _. refl }
@@ -43,7 +43,7 @@ behind_step : (same : Bool) (i k m : ℕ) → suc i ≤ cond same (1 + m) 0 → 
 behind_step true i k m h e = omega (arith, e (omega (arith, h)))
 behind_step false i k m h e = absurd (omega (arith, h))
 
--- behind bytes that agree, strings agree as far as is left
+-- After equal bytes, the common prefix is the rest of that of the strings.
 behind_agrees : (i : ℕ) (a b : List ℕ) → i ≤ agreed a b → i + agreed (drop i a) (drop i b) ≡ agreed a b
 behind_agrees zero a b h = omega arith
 behind_agrees (suc i) [] b h = absurd (omega (arith, h))
@@ -54,13 +54,13 @@ zip_step : (same : Bool) (k m : ℕ) → k ≡ m → cond (not (not same)) (1 + 
 zip_step true k m e = ap (λ n. 1 + n) e
 zip_step false k m e = refl
 
--- the first lane that differs
+-- The first lane that differs ends the common prefix.
 zip_agrees : (x y : List ℕ) → prefix_len not (zip2 differ x y) ≡ agreed x y
 zip_agrees [] y = refl
 zip_agrees (a ∷ x) [] = refl
 zip_agrees (a ∷ x) (b ∷ y) = zip_step (nat_eq a b) (prefix_len not (zip2 differ x y)) (agreed x y) (zip_agrees x y)
 
--- the lanes of two loads were compared one by one
+-- Comparing two loads lane by lane gives their common prefix.
 pub load_agrees : (a b : List ℕ) (i n r : ℕ) → i + n ≤ length a → i + n ≤ length b → n ≤ 64 → i ≤ agreed a b
     → r ≡ first_set (mask_l (map (top 7) (zip2 (λ x y. cond (differ x y) 255 0) (chunk i n a) (chunk i n b))) % 2 ^ 64) n → Reaches (agreed a b) i n r
 load_agrees a b i n r in_a in_b few so_far found =
@@ -78,7 +78,7 @@ load_agrees a b i n r in_a in_b few so_far found =
       stop = λ h. omega (arith, counted, f.stop (omega (arith, counted, h)), all);
     }
 
--- strings agree no further than the shorter one goes
+-- The common prefix is no longer than the shorter string.
 pub agreed_least : (a b : List ℕ) → common_prefix_len nat_eq a b ≤ min (length a) (length b)
 agreed_least a b = let bound = common_prefix_len-le nat_eq a b in omega (arith, bound)
 
@@ -87,7 +87,7 @@ record FrontRuns (test : ℕ → Bool) (n : ℕ) (x : List ℕ) : Type 0 where
   less : prefix_len test (take n x) ≤ prefix_len test x
   stop : prefix_len test (take n x) < n → prefix_len test (take n x) ≡ prefix_len test x
 
--- a run at the front of a front is one of the whole, as far as it goes
+-- A run at the front of a prefix is one of all bytes, up to the length of the prefix.
 front_runs : (test : ℕ → Bool) (n : ℕ) (x : List ℕ) → FrontRuns test n x
 front_runs test zero x = record { few = omega arith; less = omega arith; stop = λ h. absurd (omega (arith, h)) }
 front_runs test (suc n) [] = record { few = omega arith; less = omega arith; stop = λ _. refl }
@@ -107,13 +107,14 @@ same_step false false k m e f = refl
 same_step true false k m e f = absurd (cc)
 same_step false true k m e f = absurd (cc)
 
--- tests that say the same of each byte make the same run
+-- Two tests that are equal on each byte have the same run.
 same_runs : (p q : ℕ → Bool) (v : List ℕ) → agree_below p q 256 ≡ true → ((k : ℕ) → k < length v → get_or v k 0 < 256) → prefix_len p v ≡ prefix_len q v
 same_runs p q [] all fits = refl
 same_runs p q (a ∷ v) all fits =
     same_step (p a) (q a) (prefix_len p v) (prefix_len q v) (agree_below_at p q 256 a all (fits 0 (omega arith))) (same_runs p q v all (λ k h. fits (suc k) (omega (arith, h))))
 
--- the lanes z were computed one by one from a load, and a byte passes exactly where the top bit of its lane is not set
+-- The lanes z were computed from a load, and a byte passes the test exactly if the top bit of its lane is clear. Then
+-- the lowest set bit of the mask ends the run.
 pub load_runs : (test : ℕ → Bool) (d : List ℕ) (i n r : ℕ) (z : List ℕ) → i + n ≤ length d → n ≤ 64 → ((k : ℕ) → Fits w8 (get_or d k 0)) → i ≤ prefix_len test d
     → r ≡ first_set (mask_l (map (top 7) z) % 2 ^ 64) n → (f : ℕ → ℕ) → z ≡ map f (chunk i n d)
     → agree_below (λ x. not (top 7 (f x))) test 256 ≡ true → Reaches (prefix_len test d) i n r
@@ -133,7 +134,7 @@ load_runs test d i n r z room few fits so_far found f lanes all =
       stop = λ h. omega (arith, counted, front.stop (omega (arith, counted, h)), behind);
     }
 
--- behind bytes that are no zero byte the first zero byte is searched
+-- After bytes that are not zero, the search for the first zero byte goes on.
 pub zero_behind : (i : ℕ) (x : List ℕ) → i ≤ zero_in x → i + zero_in (drop i x) ≡ zero_in x
 zero_behind i x h = behind_runs (λ b. not (nat_eq b 0)) i x h
 
@@ -151,11 +152,11 @@ ascii_at x n i plain inside =
       | inr past ↦ omega (arith, get_or_past (take n x) i 0 (omega (arith, length-take-le n x (omega (arith, inside)), past)))
     ]
 
--- each byte of a run of such bytes is below 128
+-- Each byte of a run of nonzero ASCII bytes is below 128.
 pub plain_byte : (x : List ℕ) (i : ℕ) → i < plain_in x → get_or x i 0 < 128
 plain_byte x i h = (no_zero (get_or x i 0) (prefix_len_passes is_plain x i 0 h)).1
 
--- a run of such bytes up to a zero byte is an ASCII text
+-- Such a run up to a zero byte is an ASCII text, so it is UTF-8.
 pub plain_text : (x : List ℕ) (n : ℕ) → n ≤ plain_in x → n < length x → get_or x n 0 ≡ 0 → (n ≡ zero_in x) × (is_utf8 (take n x) ≡ true)
 plain_text x n plain inside ends = (
   sym (position_or_len_is (λ b. nat_eq b 0) x n 0 (omega (arith, inside)) (λ k h. (no_zero (get_or x k 0) (prefix_len_passes is_plain x k 0 (omega (arith, h, plain)))).0) (λ _. eq-eqb _ _ ends)),

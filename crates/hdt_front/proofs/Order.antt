@@ -1,4 +1,4 @@
--- The order of a string and one that goes on from its front.
+-- The order of a string and one that shares a prefix with it.
 use Rattle.std.proofs.Common.{◌≡◌, ℕ, ◌≤◌, ◌<◌, zero, suc, List, [], ◌∷◌, ◌++◌, length, take, drop, refl, arith, Bool, true, false, nat_eq, nat_lt, cond, get_or, Ordering}
 use Rattle.std.specs.declared.cmp.Ordering.TheVariants.{Less, Equal, Greater}
 use Rattle.std.specs.Ordering.{nat_cmp, ordering_then, is_lt}
@@ -22,7 +22,7 @@ first_step false false o e = refl
 apart : (x y : ℕ) → (x ≡ y → ⊥) → nat_eq x y ≡ false
 apart x y h = grind (arith, nat_tests)
 
--- first bytes that differ decide
+-- Different first bytes decide the order.
 pub first_decides : (a b : List ℕ) → 0 < length a → 0 < length b → (get_or a 0 0 ≡ get_or b 0 0 → ⊥) → precedes a b ≡ nat_lt (get_or a 0 0) (get_or b 0 0)
 first_decides [] b la lb h = absurd (omega (arith, la))
 first_decides (x ∷ a) [] la lb h = absurd (omega (arith, lb))

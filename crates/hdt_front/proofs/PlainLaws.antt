@@ -1,4 +1,4 @@
--- The usual entry: its text is ASCII, and its first byte decides the order.
+-- The usual entry: its suffix is ASCII, and the first byte of that decides the order.
 use Rattle.std.proofs.Common.{◌≡◌, ℕ, zero, suc, ◌+◌, ◌-◌, ◌%◌, ◌<◌, ◌≤◌, ◌++◌, ◌||◌, Bool, true, false, List, length, take, drop, get_or, Ok, refl, sym, ap, subst, ◌∙◌, arith, eqb, nat_le, nat_lt, le-leb, lt-ltb, length-drop, length-take-le, add-zero}
 use Rattle.std.proofs.lemmas.Bool.Decides.{nat_tests}
 use Rattle.std.specs.Ordering.{is_lt}
@@ -26,7 +26,7 @@ later_is before text kept fits some less =
     ∙ first_decides (drop kept before) text (omega (arith, fits, length-drop kept before)) some (λ e. omega (arith, e, first, less))
     ∙ lt-ltb _ _ (omega (arith, first, less))
 
--- what was seen of an entry makes it the usual one
+-- The tests of the fast path make an entry the usual one.
 plain_is : (before rest : List ℕ) (kept len : ℕ) → is_utf8 before ≡ true → 0 < length rest → 128 ≤ get_or rest 0 0 → get_or rest 0 0 < 256 → kept ≡ get_or rest 0 0 - 128
     → kept < length before → len ≤ plain_in (drop 1 rest) → len < length (drop 1 rest) → get_or (drop 1 rest) len 0 ≡ 0 → get_or before kept 0 < get_or (drop 1 rest) 0 0
     → IsPlainPiece before rest kept len
@@ -48,7 +48,7 @@ plain_is before rest kept len utf8 some top byte number fits plain inside ends l
     not_first x zero b e h = absurd (omega (arith, e, h))
     not_first x (suc n) b e h = omega arith
 
--- the same, of the bytes behind the number
+-- The same, stated on the bytes after the prefix length.
 pub plain_behind : (before rest text : List ℕ) (kept len : ℕ) → text ≡ drop 1 rest → is_utf8 before ≡ true → 0 < length rest → 128 ≤ get_or rest 0 0 → get_or rest 0 0 < 256 → kept ≡ get_or rest 0 0 - 128
     → kept < length before → len ≤ plain_in text → len < length text → get_or text len 0 ≡ 0 → get_or before kept 0 < get_or text 0 0 → IsPlainPiece before rest kept len
 plain_behind before rest text kept len e utf8 some top byte number fits plain inside ends less =
@@ -59,7 +59,7 @@ opens : (p : Packing) (i : ℕ) (before rest : List ℕ) (kept len : ℕ) → is
 unfolding opened_at
 opens p i before rest kept len head h = let number = h.number in rw (head, number) refl
 
--- its checks hold
+-- The checks of the usual entry hold.
 pub plain_row : (p : Packing) (i : ℕ) (before rest : List ℕ) (kept len : ℕ) → (i % p.block ≡ 0 → ⊥) → IsPlainPiece before rest kept len
     → string_row p i before rest ≡ Ok (take kept before ++ take len (drop 1 rest), drop (len + 1) (drop 1 rest))
 unfolding string_row

@@ -1,4 +1,4 @@
--- A loop over the checks of strings.
+-- The loop over the checks of strings.
 use Rattle.std.proofs.Common.{◌≡◌, ℕ, suc, ◌+◌, ◌-◌, ◌<◌, List, [], Result, Ok, Err, sym, ap, ◌∙◌, arith}
 use Rattle.hdt_wire.specs.declared.fault.Fault.{Fault}
 use Rattle.hdt_wire.specs.Rows.{◌>>=◌}

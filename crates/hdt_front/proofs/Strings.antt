@@ -1,4 +1,4 @@
--- A string decoded from the first string of its block.
+-- Decoding a string from the first string of its block on.
 use Rattle.std.proofs.Common.{◌≡◌, ℕ, zero, suc, ◌+◌, ◌-◌, ◌*◌, ◌/◌, ◌%◌, ◌<◌, ◌≤◌, ◌++◌, Bool, true, false, nat_eq, eqb, List, [], length, take, get_or, drop, Ok, Result, sym, ap, ◌∙◌, arith, subst, eq-eqb, add-zero, append_assoc, length-drop, length-take-le}
 use Rattle.std.proofs.Math.Nat.{mul-mod_left}
 use Rattle.std.proofs.lemmas.Nat.{mod-mul-add, div-add-mod', le-div}
@@ -70,24 +70,24 @@ block_inside n b i some h =
 pub block_within : (n b q many : ℕ) → 1 ≤ b → 0 < many → q * b + many ≤ n → q < (n + (b - 1)) / b
 block_within n b q many some few h = let k : q + 1 ≤ (n + (b - 1)) / b = le-div (q + 1) (n + (b - 1)) b some (omega (arith, h, some, few)) in omega (arith, k)
 
--- the last of the entries is string i
+-- The last decoded entry is string i.
 pub string_whole : (b n i : ℕ) (bytes : List ℕ) → i < n → so_far b (i / b) (i % b + 1) bytes ≡ get_or (unfolded b n 0 [] bytes) i []
 string_whole b n i bytes h =
     let two : i % b + 1 ≡ suc (i % b) = omega arith in
     let same : i / b * b + suc (i % b) ≡ suc i = omega (arith, div-add-mod' i b) in
     ap (λ k. so_far b (i / b) k bytes) two ∙ ap (λ k. before_at b k bytes) same ∙ sym (string_is b n i bytes h)
 
--- what was appended is cut back to what is kept, and the text is appended
+-- The appended string is cut to the shared prefix, and the suffix is appended.
 pub unfolded_over : (old so out cut new text next : List ℕ) (n k : ℕ) → n ≡ length old → out ≡ old ++ so → cut ≡ take (n + k) out → new ≡ cut ++ text → take k so ++ text ≡ next → new ≡ old ++ next
 unfolded_over old so out cut new text next n k size is cuts made string =
     made ∙ ap (λ l. l ++ text) (cuts ∙ ap (take (n + k)) is ∙ ap (λ m. take (m + k) (old ++ so)) size ∙ take-append-add old so k)
     ∙ append_assoc old (take k so) text ∙ ap (λ l. old ++ l) string
 
--- what is left is no longer than the bytes
+-- The unread bytes are no longer than all bytes.
 pub rest_within : (b i : ℕ) (bytes : List ℕ) → length (rest_at b i bytes) ≤ length bytes
 rest_within b i bytes = omega (arith, ap length (rest_is b i bytes), length-drop (length bytes - length (rest_at b i bytes)) bytes)
 
--- the first bytes of a load were copied behind what stands in a room
+-- The first bytes of a load are copied to the end of the decoded bytes.
 pub copied : (at n run : ℕ) (room bytes : List ℕ) → run ≤ n → at + n ≤ length room → n ≤ length bytes → take (at + run) (put_chunk at room (chunk 0 n bytes)) ≡ take at room ++ take run bytes
 copied at n run room bytes few in_room in_bytes =
     let part : List ℕ = chunk 0 n bytes in
@@ -99,7 +99,7 @@ copied at n run room bytes few in_room in_bytes =
     ∙ ap (take (at + run)) whole ∙ ap (λ m. take m (take at room ++ part)) size ∙ take-append-add (take at room) part run
     ∙ ap (λ l. take at room ++ l) (take-take run n bytes few)
 
--- the first string of a block is the rest of its first string
+-- At the start of a block, nothing of its first string is decoded.
 pub head_stands : (p : Packing) (n q : ℕ) (bytes room left : List ℕ) → 0 < p.block → q * p.block < n → strings_at p n 0 [] bytes ≡ Ok tt → left ≡ rest_at p.block (q * p.block) bytes
     → StandsSoFar p.block q 1 bytes room 0 left
 unfolding kept text_from text_of after_piece
@@ -108,7 +108,7 @@ head_stands p n q bytes room left some h e is =
     let u = unfolds_here p n q 0 bytes left some (omega (arith, h)) e here in
     record { within = omega arith; string = u.string; ends = u.ends; after = u.after }
 
--- more of a string stands in a room
+-- Copying more bytes decodes more of the string.
 pub stands_on : (b q k : ℕ) (bytes room grown left : List ℕ) (at run : ℕ) → StandsSoFar b q k bytes room at left → run ≤ zero_in left → at + run ≤ length grown
     → take (at + run) grown ≡ take at room ++ take run left → StandsSoFar b q k bytes grown (at + run) (drop run left)
 stands_on b q k bytes room grown left at run s part within made =
@@ -123,7 +123,7 @@ stands_on b q k bytes room grown left at run s part within made =
       after = drop-drop (rest + 1) run left ∙ ap (λ n. drop n left) behind ∙ s.after;
     }
 
--- a string that stands whole, and the number of one byte at the front of the next one's entry: so much of it stands
+-- After a complete string, a one-byte prefix length says how many bytes of the next one are already in the buffer.
 pub next_stands : (p : Packing) (n q k : ℕ) (bytes room left : List ℕ) (at m : ℕ) → StandsSoFar p.block q k bytes room at left → zero_in left ≡ 0 → 0 < k → k < p.block → q * p.block + k < n
     → strings_at p n 0 [] bytes ≡ Ok tt → vbyte_at (drop 1 left) 0 ≡ Ok (m, 1) → StandsSoFar p.block q (k + 1) bytes room m (drop 2 left)
 unfolding kept text_from text_of after_piece

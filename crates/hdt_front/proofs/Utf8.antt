@@ -1,4 +1,4 @@
--- A string that goes on from a front of one that is UTF-8.
+-- Checking UTF-8 of a string that shares a prefix with a UTF-8 string.
 use Rattle.std.proofs.Common.{◌≡◌, ℕ, ◌≤◌, Bool, true, false, List, ◌++◌, length, take, drop, refl, sym, ap, subst, ◌∙◌, arith, length-append, length-take}
 use Rattle.std.specs.Str.{IsUtf8, is_utf8, IsCharBoundary}
 use Rattle.std.proofs.Math.Seq.{drop-append_seam}
@@ -10,7 +10,7 @@ same_bool true b f g = sym (f refl)
 same_bool false true f g = g refl
 same_bool false false f g = refl
 
--- it is UTF-8 where it is from a character on that begins at the kept bytes' end or before it
+-- It is UTF-8 exactly if its bytes from a character boundary in the shared prefix on are.
 pub from_character : (before text : List ℕ) (kept at : ℕ) → is_utf8 before ≡ true → kept ≤ length before → at ≤ kept → IsCharBoundary before at
     → is_utf8 (drop at (take kept before ++ text)) ≡ is_utf8 (take kept before ++ text)
 from_character before text kept at valid fits le cut =
@@ -21,7 +21,7 @@ from_character before text kept at valid fits le cut =
     (λ e. is_utf8-from_IsUtf8 s (subst IsUtf8 (take-append-drop at s) (IsUtf8-append (take at s) (drop at s) front_valid (IsUtf8-from_is_utf8 (drop at s) e))))
     (λ e. let whole = IsUtf8-from_is_utf8 s e in is_utf8-from_IsUtf8 (drop at s) (IsUtf8-drop s at whole (IsCharBoundary-from_take s at whole (omega (arith, length-append (take kept before) text, length-take kept before, le, fits)) front_valid)))
 
--- a text begins with a character
+-- Index 0 is a character boundary.
 pub at_start : (string : List ℕ) (at : ℕ) → is_utf8 string ≡ true → at ≡ 0 → IsCharBoundary string at
 at_start string at valid zero = subst (IsCharBoundary string) (sym zero) (IsCharBoundary-start string (IsUtf8-from_is_utf8 string valid))
 

@@ -1,8 +1,9 @@
--- How ascending strings are front-coded.
+-- Front coding of one string.
 use Rattle.std.specs.Prelude.{ℕ, ◌≡◌, ◌≤◌, ◌<◌, ◌^◌, List, [], ◌∷◌, ◌++◌, Bool, true, false, length, take, drop}
 use Rattle.hdt_wire.specs.VByte.{VByte}
 
--- an entry that keeps the front of the string before
+-- The entry shares a prefix with the previous string: the prefix length as a VByte, the suffix, and a zero byte. The
+-- prefix need not be the longest one.
 pub record KeepsFront (before string piece : List ℕ) : Type 0 where
   pub kept : ℕ
   pub front : List ℕ
@@ -12,7 +13,8 @@ pub record KeepsFront (before string piece : List ℕ) : Type 0 where
   pub agree : take kept before ≡ take kept string
   pub is : piece ≡ front ++ (drop kept string ++ 0 ∷ [])
 
--- an entry is the string, or what is behind the front that it keeps of the string before
+-- The first entry of a block is the full string with a zero byte. Any other entry shares a prefix with the previous
+-- string.
 abbrev pub IsPiece : Bool → List ℕ → List ℕ → List ℕ → Type 0
 IsPiece true before string piece = piece ≡ string ++ 0 ∷ []
 IsPiece false before string piece = KeepsFront before string piece

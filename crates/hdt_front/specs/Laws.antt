@@ -1,3 +1,4 @@
+-- Laws, which other crates may use.
 pub mod StringFacts
 pub mod StringSteps
 pub mod StringsFound

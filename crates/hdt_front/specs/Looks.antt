@@ -1,13 +1,13 @@
--- What a search in a section costs, by the section: how many strings it has, the block size.
+-- The cost of a search in a section.
 use Rattle.std.specs.Prelude.{ℕ, ◌+◌, ◌-◌, ◌/◌, cond, length, nat_eq}
 use Rattle.hdt_seq.specs.Width.{digits}
 use Rattle.hdt_front.specs.Section.{SectionParts}
 
--- how many blocks the strings take, the last of them full or not
+-- The number of blocks.
 abbrev pub blocks_in : SectionParts → ℕ
 blocks_in s = (length s.strings + (s.block_size - 1)) / s.block_size
 
--- the most steps of a search: halving the blocks, and then one at each string of a block but its first; none without
--- strings
+-- The maximum number of steps of a search: a binary search over the blocks, then one step for each string of a block
+-- but the first. None if there are no strings.
 unfoldable pub section_looks : SectionParts → ℕ
 section_looks s = cond (nat_eq (length s.strings) 0) 0 (digits (blocks_in s) + (s.block_size - 1))

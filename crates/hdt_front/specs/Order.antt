@@ -5,10 +5,10 @@ use Rattle.std.specs.Ordering.{nat_cmp}
 use Rattle.std.specs.Cmp.Lexicographic.{slice_cmp}
 use Rattle.std.specs.List.Sorted.{IsStrictlySortedBy}
 
--- by unsigned bytes, a string before every longer one that it begins
+-- By unsigned bytes; a proper prefix of a string is less than the string.
 abbrev pub string_cmp : List ℕ → List ℕ → Ordering
 string_cmp = slice_cmp nat_cmp
 
--- each string is less than those after it
+-- Each string is less than those after it.
 abbrev pub IsAscending : List (List ℕ) → Type 0
 IsAscending = IsStrictlySortedBy string_cmp

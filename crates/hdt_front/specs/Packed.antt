@@ -1,3 +1,4 @@
+-- The layout of front-coded strings, as the checks see it.
 use Rattle.std.specs.Prelude.{length}
 use Rattle.hdt_front.specs.declared.packed.Packed.{Packed}
 use Rattle.hdt_seq.specs.Numbers.{numbers_of, numbers_places}

@@ -1,6 +1,6 @@
--- Dictionary sections (rdfhdt.org, "HDT binary format", Plain Front Coding): the type byte 2, three numbers, their
--- CRC-8, the block offsets as a log sequence, and the front-coded bytes, into which the strings are coded,
--- with their CRC-32C.
+-- Dictionary sections (rdfhdt.org, "HDT binary format", Plain Front Coding): the type byte 2; as VBytes the number of
+-- strings, the size of the front-coded bytes, and the block size; the CRC-8 of these; the block offsets as a log
+-- sequence; the front-coded bytes with their CRC-32C.
 use Rattle.std.specs.Prelude.{◌≡◌, ℕ, zero, suc, ◌+◌, ◌-◌, ◌*◌, ◌/◌, ◌<◌, ◌==◌, ◌||◌, ◌⊎◌, not, Bool, nat_lt, nat_le, List, [], ◌∷◌, ◌++◌, length, slice_index, slice_index_or, slice_range, take, true, Result, Ok}
 use Rattle.std.specs.List.{concat}
 use Rattle.std.specs.Str.{IsUtf8}
@@ -21,7 +21,8 @@ use Rattle.hdt_front.specs.Order.{IsAscending}
 use Rattle.hdt_front.specs.Folding.{IsPiece}
 use Rattle.hdt_front.specs.StringRows.{Packing, strings_at}
 
--- a section: its strings, how they are front-coded and where, and the offset after the section
+-- A section: its strings, the block size, the front-coded bytes and their offset in the input, and the offset after the
+-- section.
 pub record SectionParts : Type 0 where
   pub strings : List (List ℕ)
   pub block_size : ℕ
@@ -29,13 +30,12 @@ pub record SectionParts : Type 0 where
   pub packed_place : ℕ
   pub end : ℕ
 
--- the string before string i; before the first one, the empty text
+-- The string before string i, from 0; empty for the first one.
 abbrev pub before : List (List ℕ) → ℕ → List ℕ
 before strings i = slice_index_or ([] ∷ strings) i []
 
--- the strings are front-coded into the front-coded bytes, one entry a string: the string if it is the first of its block, else what is
--- behind a front that the string before has too; each with a zero byte. The block offsets are the places of the first strings of blocks, and
--- the end.
+-- The bytes `packed` are a front coding of the strings, with one entry for each string. The block offsets `starts` are
+-- those of the first entries of blocks, and then the end.
 pub record AreFolded (block_size : ℕ) (strings : List (List ℕ)) (packed starts : List ℕ) : Type 0 where
   pub pieces : List (List ℕ)
   pub joined : packed ≡ concat pieces
@@ -44,33 +44,34 @@ pub record AreFolded (block_size : ℕ) (strings : List (List ℕ)) (packed star
   pub heads : (i : ℕ) → i < length strings → is_head block_size i ≡ true → slice_index starts (i / block_size) ≡ length (concat (take i pieces))
   pub last : 0 < length strings → slice_index starts ((length strings + (block_size - 1)) / block_size) ≡ length packed
 
--- strings that a section can hold: UTF-8 without a zero byte, ascending by unsigned bytes
+-- The strings can form a section: they are UTF-8 without zero bytes, and ascend by unsigned bytes.
 pub record AreStrings (strings : List (List ℕ)) : Type 0 where
   pub utf8 : (i : ℕ) → i < length strings → IsUtf8 (slice_index_or strings i [])
   pub no_zero : (i : ℕ) → i < length strings → HasNoZero (slice_index_or strings i [])
   pub ascend : IsAscending strings
 
--- so many block offsets have n strings in blocks: one a block, and the end; without strings none, or the one block offset 0
+-- The number of block offsets is valid for n strings: one for each block, and the end. Without strings there is none,
+-- or the single block offset 0.
 abbrev pub HasStarts : ℕ → ℕ → List ℕ → Type 0
 HasStarts zero block_size starts = (starts ≡ []) ⊎ (starts ≡ 0 ∷ [])
 HasStarts (suc n) block_size starts = length starts ≡ (suc n + (block_size - 1)) / block_size + 1
 
--- the section is encoded at the offset, check by check
+-- The section is encoded at the offset.
 pub record IsSection (s : SectionParts) (bytes : List ℕ) (at : ℕ) : Type 0 where
-  -- the offsets of its numbers and its block offsets
+  -- the offsets of the numbers after the first, of the CRC-8, and of the block offsets
   pub size_place : ℕ
   pub block_place : ℕ
   pub code_place : ℕ
   pub starts_place : ℕ
   pub starts : Sequence ℕ
-  -- the head
+  -- the preamble
   pub kind : Stands bytes at (2 ∷ []) (at + 1)
   pub count : IsNumber (length s.strings) bytes (at + 1) size_place
   pub size : IsNumber (length s.packed) bytes size_place block_place
   pub block : IsNumber s.block_size bytes block_place code_place
   pub code : Stands bytes code_place (code8 (slice_range bytes at code_place) ∷ []) starts_place
   pub some : 0 < length s.strings → 0 < s.block_size
-  -- the block offsets, and the front-coded bytes with their code
+  -- the block offsets, and the front-coded bytes with their CRC-32C
   pub starts_stand : IsNumberSequence starts bytes starts_place
   pub started : HasStarts (length s.strings) s.block_size starts.items
   pub place : s.packed_place ≡ starts.end
@@ -79,12 +80,13 @@ pub record IsSection (s : SectionParts) (bytes : List ℕ) (at : ℕ) : Type 0 w
   pub folded : AreFolded s.block_size s.strings s.packed starts.items
   pub strings : AreStrings s.strings
 
--- the place of string i, counted from 0: where its entry begins
+-- The offset in the input of the entry of string i, from 0.
 unfoldable pub string_place : SectionParts → ℕ → ℕ
 string_place s i = s.packed_place + (length s.packed - length (rest_at s.block_size i s.packed))
 
 -- ---- the checks
 
+-- Whether `count` block offsets are valid for this number of strings and block size.
 abbrev pub starts_counted : ℕ → ℕ → ℕ → Bool
 starts_counted zero block_size count = nat_le count 1
 starts_counted (suc n) block_size count = count == (suc n + (block_size - 1)) / block_size + 1
@@ -92,8 +94,8 @@ starts_counted (suc n) block_size count = count == (suc n + (block_size - 1)) / 
 abbrev pub packing_with : Sequence ℕ → ℕ → ℕ → Packing
 packing_with starts block_size size = record { block = block_size; base = starts.end; size = size; starts = starts.items; starts_at = starts.places }
 
--- what stands above the checks of the strings: how many there are, the block size, the block offsets,
--- the front-coded bytes, and the offset after the section
+-- The parts of a section before its strings are decoded: their number, the block size, the block offsets, the
+-- front-coded bytes, and the offset after the section.
 pub record PackedParts : Type 0 where
   pub count : ℕ
   pub block_size : ℕ
@@ -101,15 +103,15 @@ pub record PackedParts : Type 0 where
   pub packed : List ℕ
   pub end : ℕ
 
--- the head of a section: the number of strings and of their bytes, the block size, and the place
--- of the starts
+-- The preamble of a section: the number of strings, the size of the front-coded bytes, the block size, and the offset
+-- of the block offsets.
 pub record SectionHeadParts : Type 0 where
   pub count : ℕ
   pub size : ℕ
   pub block_size : ℕ
   pub starts_place : ℕ
 
--- the checks of the head, in turn
+-- The checks of the preamble, in order.
 unfoldable pub head_at : List ℕ → ℕ → Result SectionHeadParts Fault
 head_at bytes at = do
   kind ← byte_at bytes at
@@ -122,7 +124,7 @@ head_at bytes at = do
   _ ← demand (not (count.0 == 0) || size.0 == 0) count.1 PackedLength
   Ok (record { count = count.0; size = size.0; block_size = block.0; starts_place = start })
 
--- the checks above those of the strings, in turn
+-- The checks before those of the strings, in order.
 unfoldable pub packed_parts_at : List ℕ → ℕ → Result PackedParts Fault
 packed_parts_at bytes at = do
   head ← head_at bytes at
@@ -132,7 +134,7 @@ packed_parts_at bytes at = do
   packed ← packed_at (8 * head.size) bytes starts.end
   Ok (record { count = head.count; block_size = head.block_size; starts = starts; packed = packed.0; end = packed.1 })
 
--- the section that front-coded bytes decode to
+-- The section that the front-coded bytes decode to.
 abbrev pub unfolded_section : PackedParts → SectionParts
 unfolded_section p = record {
   strings = unfolded p.block_size p.count 0 [] p.packed;
@@ -142,7 +144,7 @@ unfolded_section p = record {
   end = p.end;
 }
 
--- the checks of a section in turn: the section, or the first error
+-- The checks of a section, in order: the section, or the first error.
 unfoldable pub section_at : List ℕ → ℕ → Result SectionParts Fault
 section_at bytes at = do
   parts ← packed_parts_at bytes at

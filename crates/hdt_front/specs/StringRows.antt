@@ -11,7 +11,8 @@ use Rattle.hdt_seq.specs.Sequence.{Places, place_of_entry}
 use Rattle.hdt_front.specs.Order.{string_cmp}
 use Rattle.hdt_front.specs.Unfolding.{is_head}
 
--- how strings lie: the block size, the place and size of the front-coded bytes, the stored block offsets and where these lie
+-- The layout of front-coded strings: the block size, the offset and the size of the front-coded bytes, the stored block
+-- offsets and the byte offsets of these.
 pub record Packing : Type 0 where
   pub block : ℕ
   pub base : ℕ
@@ -19,36 +20,39 @@ pub record Packing : Type 0 where
   pub starts : List ℕ
   pub starts_at : Places
 
--- the place in the input of what is left of the front-coded bytes
+-- The byte offset in the input of the unread bytes.
 abbrev pub place_at : Packing → List ℕ → ℕ
 place_at p rest = p.base + (p.size - length rest)
 
--- a number has to end within the front-coded bytes
+-- A prefix length must end within the front-coded bytes.
 abbrev pub packed_reason : Reason → Reason
 packed_reason Truncated = PackedLength
 packed_reason r = r
 
+-- The prefix length that was read, and the bytes after it; errors are reported at the offset of the entry.
 abbrev pub prefix_of : ℕ → List ℕ → Result (ℕ × ℕ) Fault → Result (ℕ × List ℕ) Fault
 prefix_of place rest (Ok x) = Ok (x.0, drop x.1 rest)
 prefix_of place rest (Err f) = Err (record { place = place; reason = packed_reason f.reason })
 
--- how much of the string before is kept, and the bytes from the text on
+-- The prefix length of entry i, and the bytes from its suffix on. At the first entry of a block, its offset must be the
+-- stored block offset, and the prefix is empty.
 unfoldable pub opened_at : Packing → ℕ → List ℕ → Result (ℕ × List ℕ) Fault
 opened_at p i rest =
     if is_head p.block i
     then demand (get_or p.starts (i / p.block) 0 == p.size - length rest) (place_of_entry p.starts_at (i / p.block)) BlockPlace >>= (λ _. Ok (0, rest))
     else prefix_of (place_at p rest) rest (vbyte_at rest 0)
 
+-- Whether the first string is less than the second.
 abbrev pub precedes : List ℕ → List ℕ → Bool
 precedes x y = is_lt (string_cmp x y)
 
--- the last checks of a string at a place: it is UTF-8, and it follows the previous one
+-- The last checks of the string at an offset: it is UTF-8, and greater than the previous one.
 abbrev pub unfolded_rows : Bool → Bool → ℕ → Result (Unit {0}) Fault
 unfolded_rows valid later place = do
   _ ← demand valid place NotUtf8
   demand later place StringsNotAscending
 
--- string i, and the bytes after its entry
+-- The checks of string i, in order: the string, and the bytes after its entry.
 unfoldable pub string_row : Packing → ℕ → List ℕ → List ℕ → Result (List ℕ × List ℕ) Fault
 string_row p i before rest = do
   front ← opened_at p i rest
@@ -58,7 +62,8 @@ string_row p i before rest = do
   _ ← demand (i == 0 || precedes before (take front.0 before ++ take (zero_in front.1) front.1)) (place_at p rest) StringsNotAscending
   Ok (take front.0 before ++ take (zero_in front.1) front.1, drop (zero_in front.1 + 1) front.1)
 
--- n strings, the first of them number i, after the string before; then the end
+-- The checks of n strings, the first of which has index i and follows the string `before`; then those of the end: no
+-- bytes are left, and the last block offset is the end.
 unfoldable pub strings_at : Packing → ℕ → ℕ → List ℕ → List ℕ → Result (Unit {0}) Fault
 strings_at p zero i before rest = do
   _ ← demand (length rest == 0) (place_at p rest) PackedLength

@@ -1,4 +1,4 @@
--- A section that was read, as its contracts see it.
+-- The view of a section in contracts.
 use Rattle.std.specs.Prelude.{ℕ, List, [], ◌-◌, ◌+◌, ◌/◌}
 use Rattle.std.specs.Prelude.{get_or, take, drop}
 use Rattle.hdt_seq.specs.Numbers.{numbers_of}
@@ -6,11 +6,11 @@ use Rattle.hdt_front.specs.Unfolding.{unfolded}
 use Rattle.hdt_front.specs.Section.{SectionParts}
 use Rattle.hdt_front.specs.declared.section.Section.{Section}
 
--- the strings of a section
+-- The strings of a section.
 unfoldable pub strings_of : Section → List (List ℕ)
 strings_of s = unfolded s.packed.block s.packed.count 0 [] s.packed.bytes.now
 
--- the section with all that it says
+-- All parts of a section.
 unfoldable pub section_of : Section → SectionParts
 section_of s = record {
   strings = strings_of s;
@@ -20,18 +20,18 @@ section_of s = record {
   end = s.end;
 }
 
--- how many strings a block has, but for the last one
+-- The number of strings of each block but the last, which may have fewer.
 abbrev pub block_size : Section → ℕ
 block_size s = s.packed.block
 
--- how many blocks the strings take; without strings none
+-- The number of blocks; 0 if there are no strings.
 unfoldable pub blocks_of : Section → ℕ
 blocks_of s = (s.packed.count + (s.packed.block - 1)) / s.packed.block
 
--- where block q begins among the front-coded bytes
+-- The offset of block q in the front-coded bytes.
 abbrev pub block_start : Section → ℕ → ℕ
 block_start s q = get_or (numbers_of s.packed.starts) q 0
 
--- the front-coded bytes of the block of string i, counted from 0: from its head to the next one, or to the end
+-- The front-coded bytes of the block of string i, from 0.
 unfoldable pub packed_block : Section → ℕ → List ℕ
 packed_block s i = take (block_start s (i / s.packed.block + 1) - block_start s (i / s.packed.block)) (drop (block_start s (i / s.packed.block)) s.packed.bytes.now)

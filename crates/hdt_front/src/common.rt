@@ -1,4 +1,4 @@
-//! The longest common prefix of two strings, 32 bytes at a time.
+//! The longest common prefix of two strings, and comparisons that return it. Compares 32 bytes at a time.
 ghost use Rattle.std.specs.Prelude.{◌≡◌, ◌≤◌, ◌<◌, ◌+◌, length, min, take, slice_index, nat_eq};
 ghost use Rattle.hdt_wire.specs.Rows.{zero_in};
 ghost use Rattle.std.specs.List.{common_prefix_len};
@@ -10,10 +10,10 @@ use crate::scan::{HALF, LANES, first_set};
 use std::cmp::Ordering;
 use std::simd::prelude::*;
 
-/// The bytes of one load if fewer than [`HALF`] are to be compared.
+/// Bytes per load for strings shorter than [`HALF`].
 const WORD: usize = 8;
 
-/// The number of equal bytes at the front of the next 32.
+/// Returns the number of equal leading bytes among the next 32.
 #[inline(always)]
 fn lanes_agree(a: &[u8], b: &[u8], at: usize) -> usize
     requires in_a { at + LANES ≤ length a.now }
@@ -26,7 +26,7 @@ fn lanes_agree(a: &[u8], b: &[u8], at: usize) -> usize
     first_set(left.simd_ne(right).to_bitmask(), LANES)
 }
 
-/// The number of equal bytes at the front of the next 16.
+/// Returns the number of equal leading bytes among the next 16.
 #[inline(always)]
 fn half_agrees(a: &[u8], b: &[u8], at: usize) -> usize
     requires in_a { at + HALF ≤ length a.now }
@@ -39,7 +39,7 @@ fn half_agrees(a: &[u8], b: &[u8], at: usize) -> usize
     first_set(left.simd_ne(right).to_bitmask(), HALF)
 }
 
-/// The number of equal bytes at the front of the next 8.
+/// Returns the number of equal leading bytes among the next 8.
 #[inline(always)]
 fn word_agrees(a: &[u8], b: &[u8], at: usize) -> usize
     requires in_a { at + WORD ≤ length a.now }
@@ -52,7 +52,7 @@ fn word_agrees(a: &[u8], b: &[u8], at: usize) -> usize
     first_set(left.simd_ne(right).to_bitmask(), WORD)
 }
 
-/// The length of the longest common prefix, byte by byte.
+/// Returns the common-prefix length, byte by byte.
 fn common_bytes(a: &[u8], b: &[u8]) -> usize
     ensures greatest { result ≡ common_prefix_len nat_eq a.now b.now }
     ensures within { (result ≤ length a.now) × (result ≤ length b.now) }
@@ -64,8 +64,8 @@ fn common_bytes(a: &[u8], b: &[u8]) -> usize
     len
 }
 
-/// The length of the longest common prefix if one string has less than 32 bytes: two loads, which may overlap, or byte
-/// by byte.
+/// Returns the common-prefix length if one string is shorter than 32 bytes. It takes two loads, which may overlap, or
+/// compares byte by byte.
 #[inline(always)]
 #[tactic(auto, using(crate::proofs::Loads::agreed_least))]
 fn common_short(a: &[u8], b: &[u8]) -> usize
@@ -91,8 +91,8 @@ fn common_short(a: &[u8], b: &[u8]) -> usize
     common_bytes(a, b)
 }
 
-/// Returns the length in bytes of the longest common prefix of two strings. Linear time in it; it compares 32 bytes at
-/// a time.
+/// Returns the length in bytes of the longest common prefix of two strings. Takes time linear in the result; compares
+/// 32 bytes at a time.
 #[tactic(auto, using(crate::proofs::Loads::agreed_least))]
 pub fn common_prefix(a: &[u8], b: &[u8]) -> usize
     ensures greatest { result ≡ common_prefix_len nat_eq a.now b.now }
@@ -114,8 +114,8 @@ pub fn common_prefix(a: &[u8], b: &[u8]) -> usize
     least - LANES + lanes_agree(a, b, least - LANES)
 }
 
-/// The length of the longest common prefix, if the first `from` bytes are known to be equal. A short rest of the
-/// shorter string takes one load at its end.
+/// Returns the common-prefix length, given that the first `from` bytes are equal. A short tail takes one overlapping
+/// load.
 #[inline(always)]
 #[tactic(auto, using(crate::proofs::Loads::agreed_least))]
 fn common_from(a: &[u8], b: &[u8], from: usize) -> usize
@@ -134,7 +134,7 @@ fn common_from(a: &[u8], b: &[u8], from: usize) -> usize
     common_prefix(a, b)
 }
 
-/// Compares two strings, whose longest common prefix is known: the first bytes that differ decide, else the lengths.
+/// Compares two strings. Returns also their common-prefix length.
 #[tactic(auto, using(crate::proofs::AgreeLaws::bytes_decide, crate::proofs::AgreeLaws::lengths_decide))]
 pub(crate) fn compared(a: &[u8], b: &[u8]) -> (Ordering, usize)
     ensures order { result.0 ≡ string_cmp a.now b.now }
@@ -148,8 +148,8 @@ pub(crate) fn compared(a: &[u8], b: &[u8]) -> (Ordering, usize)
     (a.len().cmp(&b.len()), same)
 }
 
-/// Compares two strings whose first `from` bytes are equal; returns also the length of their longest common prefix. The
-/// first `from` bytes are not read: linear time in the equal bytes after them.
+/// Compares two strings whose first `from` bytes are equal. Returns also the length in bytes of their longest common
+/// prefix. Does not read the first `from` bytes; takes time linear in the equal bytes after them.
 pub fn compared_from(a: &[u8], b: &[u8], from: usize) -> (Ordering, usize)
     requires so_far { from ≤ agreed a.now b.now }
     ensures order { result.0 ≡ string_cmp a.now b.now }
@@ -159,7 +159,7 @@ pub fn compared_from(a: &[u8], b: &[u8], from: usize) -> (Ordering, usize)
     (order, from + same)
 }
 
-/// The byte at an index, or 0 after the end.
+/// Returns the byte at an index, or 0 past the end.
 #[inline(always)]
 fn byte_or_zero(x: &[u8], at: usize) -> u8
     ensures { result ≡ slice_index x.now at }
@@ -167,8 +167,8 @@ fn byte_or_zero(x: &[u8], at: usize) -> u8
     if at < x.len() { x[at] } else { 0 }
 }
 
-/// Compares a zero-terminated text with a string without zero bytes; returns also the length of their longest common
-/// prefix, which is at least `from`. The end of the text is not searched: its zero byte differs.
+/// Compares a zero-terminated string with a string without zero bytes, given that the first `from` bytes are equal.
+/// Returns also their common-prefix length. It need not find the terminator, which differs from every byte of `x`.
 pub(crate) fn compared_stored(stored: &[u8], x: &[u8], from: usize) -> (Ordering, usize)
     requires ends { zero_in stored.now < length stored.now }
     requires sought { zero_in x.now ≡ length x.now }

@@ -1,4 +1,4 @@
-//! A cursor over the strings of a section.
+//! A cursor over the strings of a section, in order.
 ghost use Rattle.std.specs.Prelude.{◌≡◌, ◌≤◌, ◌<◌, [], length, Ok, IsOk, OnOk, OnErr, IfOk, drop, option_copied};
 ghost use Rattle.hdt_front.specs.Walks.{placed_of};
 ghost use Rattle.hdt_front.specs.Walking.{first_string, first_order, first_agreed, next_agreed, next_place, PlacedAscend};
@@ -10,8 +10,8 @@ use std::alloc::{AllocError, Global};
 use std::cmp::Ordering;
 use std::marker::Model;
 
-/// A cursor over the strings of a section: it is at one of them, from the first on, or at the end. Several cursors
-/// merge several sections.
+/// A cursor over the strings of a section, in order: it is at a string, at first the first one, or at the end. Merging
+/// sections takes a cursor for each.
 #[derive(Drop)]
 pub struct Cursor<'a> {
     walk: Walk<'a>,
@@ -28,7 +28,7 @@ impl<'a> Model for Cursor<'a> {
 }
 
 impl<'a> Cursor<'a> {
-    /// Returns a cursor at the first string, of which it keeps a copy.
+    /// Returns a cursor at the first string. Allocates a copy of it.
     pub fn new(alloc: Global, section: &Section<'a>) -> Result<Cursor<'a>, AllocError>
         ensures is { IfOk result (λ c. c ≡ placed_of section.now) }
         ensures ascends { IfOk result (λ c. PlacedAscend c) }
@@ -55,7 +55,8 @@ impl<'a> Cursor<'a> {
         self.place
     }
 
-    /// Compares the current string with another one; the end is greater than all. Linear time in their common prefix.
+    /// Compares the current string with `x`; the end is greater than all strings. Takes time linear in their common
+    /// prefix.
     pub fn order(&self, x: &[u8]) -> Ordering
         ensures { result ≡ first_order self.now x.now }
     {
@@ -65,9 +66,9 @@ impl<'a> Cursor<'a> {
         }
     }
 
-    /// Compares the current string with another one whose first `from` bytes are equal to it, and which are not read;
-    /// returns also the length of their longest common prefix. The end is greater than all, and has nothing in common
-    /// with any.
+    /// Compares the current string with `x`, given that their first `from` bytes are equal, which are not read. Returns
+    /// also the length of their longest common prefix. The end is greater than all strings; its common prefix with any
+    /// string has length 0.
     pub fn compared(&self, x: &[u8], from: usize) -> (Ordering, usize)
         requires so_far { from ≤ first_agreed self.now x.now }
         ensures order { result.0 ≡ first_order self.now x.now }
@@ -79,7 +80,7 @@ impl<'a> Cursor<'a> {
         }
     }
 
-    /// Goes to the next string. At the end, and if memory runs out, nothing changes.
+    /// Moves to the next string. At the end, and if memory runs out, nothing changes.
     pub fn pass(&mut self) -> Result<(), AllocError>
         ensures ok { OnOk result (self.new ≡ drop 1 self.old) }
         ensures err { OnErr result (self.new ≡ self.old) }
@@ -89,9 +90,8 @@ impl<'a> Cursor<'a> {
         Ok(())
     }
 
-    /// Goes to the next string as [`pass`](Cursor::pass) does, and returns how many bytes its entry shares with the
-    /// previous one: a lower bound of their common prefix. At the end that is 0. Linear time in the bytes that it
-    /// doesn't share.
+    /// Moves to the next string as [`pass`](Cursor::pass) does. Returns the prefix length of its entry, which is
+    /// a lower bound on the common prefix with the previous string, or 0 at the end. Takes time linear in the suffix.
     pub fn pass_kept(&mut self) -> Result<usize, AllocError>
         ensures ok { OnOk result (self.new ≡ drop 1 self.old) }
         ensures kept { IfOk result (λ k. k ≤ next_agreed self.old) }

@@ -7,9 +7,9 @@ use std::alloc::{AllocError, AllocFailed};
 /// Why a section could not be read.
 #[derive(Debug, Drop)]
 pub enum ReadFault {
-    /// The bytes are not valid. Reading them again gives the same error.
+    /// The bytes are not a valid section. Reading them again gives the same error.
     Fault(hdt_wire::Fault),
-    /// Memory ran out. Nothing is known of the bytes.
+    /// Memory ran out. The bytes may be valid or not.
     OutOfMemory,
 }
 

@@ -1,19 +1,20 @@
-//! Where a search may find its string.
+//! The intermediate results of a search.
 
 /// The result of the binary search over the blocks.
 pub(crate) enum Landed<'a> {
-    /// Before the first string.
+    /// The searched string is less than the first string of the section.
     Before,
-    /// It is the first string of a block.
+    /// It is the first string of this block.
     Head(u64),
-    /// After the first string of a block: the block, the common prefix with that string, and the bytes after it.
+    /// It is greater than the first string of a block: the block, the common-prefix length with that string, and the
+    /// bytes after that entry.
     Inside(u64, usize, &'a [u8]),
 }
 
-/// How a string compares with the one that is searched.
+/// How a string of a block compares with the searched one.
 pub(crate) enum Lie {
     Same,
     Greater,
-    /// It is less; this is the length of their common prefix.
+    /// Less, with this common-prefix length.
     Less(usize),
 }

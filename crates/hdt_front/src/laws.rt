@@ -1,4 +1,4 @@
-//! Laws of sections.
+//! Laws about sections that callers can use. They do nothing when called.
 ghost use Rattle.std.specs.Prelude.{◌≡◌, ◌⊎◌, ◌+◌, ◌<◌, ◌≤◌, ◌^◌, ◌-◌, ◌*◌, ◌++◌, [], ℕ, List, length, take, get_or, Ok, Some};
 ghost use Rattle.std.specs.List.{concat};
 ghost use Rattle.hdt_wire.specs.Rows.{IsBytes, Stands};
@@ -11,25 +11,25 @@ ghost use Rattle.hdt_front.specs.Canonical.{canonical, canonical_parts};
 ghost use Rattle.hdt_front.specs.Section.{SectionParts, AreStrings, IsSection, section_at, string_place};
 ghost use Rattle.hdt_front.specs.SectionWriting.{CanBeWritten, section_head, section_spelling};
 
-/// The checks of a section give exactly the section that is encoded at the offset.
+/// Law: the checks accept exactly the sections that are encoded at the offset.
 pub fn sections_are_exact()
     ensures { (bytes : List ℕ) (at : ℕ) → IsBytes bytes → Exactly (section_at bytes at) (λ s. IsSection s bytes at) }
 {}
 
-/// At an offset there is one section and no error, or one error and no section.
+/// Law: at an offset there is exactly one section and no error, or exactly one error and no section.
 pub fn one_section()
     ensures one { (bytes : List ℕ) (at : ℕ) (s t : SectionParts) → IsBytes bytes → IsSection s bytes at → IsSection t bytes at → s ≡ t }
     ensures or_fault { (bytes : List ℕ) (at : ℕ) → IsBytes bytes → OneValue (section_at bytes at) (λ s. IsSection s bytes at) ⊎ OneFault (section_at bytes at) (λ s. IsSection s bytes at) }
 {}
 
-/// The offset of a string is where its entry begins.
+/// Law: the offset of a string is that of its entry.
 pub fn string_places()
     ensures { (s : SectionParts) (bytes : List ℕ) (at : ℕ) (h : IsSection s bytes at) (i : ℕ) → i < length s.strings
         → string_place s i ≡ s.packed_place + length (concat (take i h.folded.pieces)) }
 {}
 
-/// What is written for strings is read back as their section, whatever precedes and follows it: the canonical bytes,
-/// and those of any other front coding of the strings.
+/// Law: the bytes written for strings are read back as their section, whatever precedes and follows them. This holds
+/// for the canonical bytes and for any other front coding of the strings.
 pub fn section_is_read_again()
     ensures canonical { (b : ℕ) (strings : List (List ℕ)) (bytes : List ℕ) (at end : ℕ) → 1 ≤ b → b < 2 ^ 64 → AreStrings strings → length bytes < 2 ^ 64
         → Stands bytes at (canonical b strings) end → IsSection (canonical_parts b strings at) bytes at }
@@ -47,14 +47,15 @@ pub fn section_is_read_again()
         }) bytes at }
 {}
 
-/// Look-ups by string and by ID are inverse: the ID of a string is that of this string, and the string of an ID has it.
+/// Law: look-ups by string and by ID are inverse. The ID found for a string has this string, and the string of an ID
+/// has this ID.
 pub fn look_ups_are_inverse()
     ensures found { (s : SectionIs) (x : List ℕ) (n : ℕ) → place (strings_of s) x ≡ Some n → (1 ≤ n) × (n ≤ length (strings_of s)) × (get_or (strings_of s) (n - 1) [] ≡ x) }
     ensures only { (s : SectionIs) (n : ℕ) → 1 ≤ n → n ≤ length (strings_of s) → place (strings_of s) (get_or (strings_of s) (n - 1) []) ≡ Some n }
 {}
 
-/// The number of blocks of a section is the least one whose product with the block size is at least the number of
-/// strings; 0 if there are none.
+/// Law: the number of blocks is the least number whose product with the block size is at least the number of strings.
+/// It is 0 if there are no strings.
 pub fn blocks_are_least()
     ensures enough { (s : SectionIs) → length (strings_of s) ≤ blocks_of s * block_size s }
     ensures least { (s : SectionIs) (k : ℕ) → length (strings_of s) ≤ k * block_size s → blocks_of s ≤ k }

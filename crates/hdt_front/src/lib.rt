@@ -1,11 +1,11 @@
-//! Sections of an HDT file's dictionary: ascending strings, front-coded (HDT format version 1, "Plain Front Coding").
+//! Dictionary sections of an HDT file: sorted strings in Plain Front Coding (HDT format version 1).
 //!
-//! What this crate promises: a reader returns the strictly ascending list of UTF-8 strings that is encoded at the
-//! offset, with any block size, any shared prefixes, any width and padding of the block offsets; if there is none, it
-//! returns the first error. Look-ups by string and by ID are inverse. A writer appends the canonical section, with the
-//! longest shared prefixes, which is read back.
+//! The reader returns the strictly ascending UTF-8 strings encoded at an offset, or the first error. It accepts any
+//! block size, any shared prefixes, and any width and padding of the block offsets. Look-ups by string and by ID are
+//! inverse. The writer appends the canonical section, which has the longest shared prefixes and is read back as the
+//! same strings.
 //!
-//! Functions that state no cost take constant time and allocate nothing. Laws do nothing when called.
+//! A function that states no cost takes constant time and allocates nothing. Laws do nothing when called.
 //!
 //! ```text
 //! let (section, next) = Section::read(alloc, bytes, at)?;
@@ -15,11 +15,10 @@
 //! }
 //! ```
 //!
-//! A [`Section`] borrows the input, keeps no decoded string and is `Copy`: it is searched in its front-coded bytes.
-//! [`Walk`] gives its strings in order, each decoded once. Contracts see a section by `strings_of`, the list of its
-//! strings, and by `section_of`, all of its fields (specs/`Strings`). specs/`Section` defines what a section is,
-//! specs/`Canonical` its canonical bytes. Laws that other crates use are in specs/Laws: `Section`, `Place`,
-//! `Canonical`, `Walk`, `Strings`.
+//! A [`Section`] borrows the input, holds no decoded string and is `Copy`. Searches run on its front-coded bytes.
+//! [`Walk`] returns its strings in order and decodes each once. Contracts describe a section by `strings_of`,
+//! the list of its strings, and by `section_of`, all of its parts (specs/`Strings`). specs/`Section` defines a
+//! section, and specs/`Canonical` its canonical bytes. specs/Laws has the laws that other crates use.
 #![tactic(auto)]
 
 mod common;

@@ -1,4 +1,4 @@
-//! Checking the strings of a section, one after another.
+//! Checking the strings of a section one by one.
 ghost use Rattle.std.specs.Prelude.{◌≡◌, ◌≤◌, ◌<◌, ◌+◌, ◌-◌, ◌/◌, ◌%◌, ◌^◌, true, length, [], IfOk, ℕ, List, Ok, get_or};
 ghost use Rattle.std.specs.Str.{is_utf8};
 ghost use Rattle.std.specs.Prelude.{◌==◌};
@@ -17,8 +17,8 @@ use hdt_seq::Numbers;
 use hdt_wire::{Fault, Reason, demand};
 use std::alloc::Global;
 
-/// Front-coded strings in the input: their bytes, the block offsets, the number of strings, the block size, and the
-/// offset of the bytes.
+/// The front-coded strings of a section, borrowed from the input: the bytes, the block offsets, the number of strings,
+/// the block size, and the byte offset of the bytes in the input.
 #[derive(Clone, Copy)]
 pub(crate) struct Packed<'a> {
     pub(crate) bytes: &'a [u8],
@@ -33,7 +33,7 @@ pub(crate) struct Packed<'a> {
     ghost fits: { base + length bytes.now < 2 ^ 64 },
 }
 
-/// The last checks of a string: it is UTF-8, and greater than the previous one.
+/// Checks that a string is UTF-8 and greater than the previous one.
 fn demand_string(valid: bool, later: bool, place: usize) -> Result<(), Fault>
     ensures { result ≡ unfolded_rows valid later place }
 {
@@ -45,7 +45,7 @@ impl<'a> Packed<'a> {
     ghost use Rattle.hdt_front.specs.Packed.{packing_of};
     ghost use Rattle.hdt_front.specs.Faults.{read_fault_of};
 
-    /// The offset of the bytes that are left.
+    /// Returns the byte offset of the unread bytes in the input.
     pub(crate) fn place(&self, rest: &[u8]) -> usize
         requires { length rest.now ≤ length self.now.bytes.now }
         ensures { result ≡ place_at (packing_of self.now) rest.now }
@@ -53,7 +53,7 @@ impl<'a> Packed<'a> {
         self.base + (self.bytes.len() - rest.len())
     }
 
-    /// The check of the first string of a block: the block offset is its own.
+    /// Checks that the stored block offset is that of the first string of the block.
     #[inline(never)]
     fn demand_start(&self, i: u64, rest: &[u8]) -> Result<(), Fault>
         requires here { i < self.now.count }
@@ -70,8 +70,8 @@ impl<'a> Packed<'a> {
         )
     }
 
-    /// The prefix length of string i, and the bytes from its text on. It is the first of its block if its index there
-    /// is 0.
+    /// Reads the prefix length of string i; returns it with the bytes from the suffix on. `inside` is the index of the
+    /// string in its block.
     #[tactic(auto, unfolding(crate::specs::StringRows::opened_at))]
     fn opened<'b>(&self, i: u64, inside: u64, rest: &'b [u8]) -> Result<(u64, &'b [u8]), Fault>
         requires here { i < self.now.count }
@@ -97,7 +97,7 @@ impl<'a> Packed<'a> {
         }
     }
 
-    /// The index of the next string in its block.
+    /// Returns the index of the next string in its block.
     #[tactic(auto, using(crate::proofs::Inside::next_block, crate::proofs::Inside::next_same))]
     fn next_inside(&self, inside: u64) -> u64
         requires { inside < self.now.block }
@@ -110,7 +110,7 @@ impl<'a> Packed<'a> {
         }
     }
 
-    /// Checks string i, check by check.
+    /// Checks string i in general, check by check.
     #[tactic(auto, unfolding(crate::specs::StringRows::string_row))]
     #[inline(never)]
     fn check_any<'b>(
@@ -140,8 +140,8 @@ impl<'a> Packed<'a> {
         Ok(&text[end + 1..])
     }
 
-    /// Checks string i and decodes it over the previous one; returns the bytes after it. Usual entries are checked at
-    /// once, the others, which are few, check by check.
+    /// Checks string i and decodes it over the previous one. Returns the bytes after its entry. Most entries take the
+    /// fast path.
     fn check_string<'b>(
         &self,
         i: u64,
@@ -184,7 +184,7 @@ impl<'a> Packed<'a> {
         }
     }
 
-    /// No bytes are left, and the last block offset is the end.
+    /// Checks that no bytes are left, and that the last block offset is the end.
     #[tactic(auto, unfolding(crate::specs::StringRows::strings_at))]
     fn ended(&self, rest: &[u8]) -> Result<(), Fault>
         requires { length rest.now ≤ length self.now.bytes.now }

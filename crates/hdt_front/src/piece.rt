@@ -1,4 +1,4 @@
-//! The entry of a string: its prefix length, unless it is the first of its block, its text, and a zero byte.
+//! Parsing an entry: a prefix length (VByte, absent if the entry is the first of its block), a suffix, a zero byte.
 ghost use Rattle.std.specs.Prelude.{◌≡◌, ◌≤◌, ◌<◌, ◌+◌, length, drop, IfOk, IfSome, Ok};
 ghost use Rattle.hdt_wire.specs.Rows.{zero_in};
 ghost use Rattle.hdt_wire.specs.VByte.{vbyte_at};
@@ -7,7 +7,7 @@ ghost use Rattle.hdt_front.specs.Unfolding.{read_or, text_from, kept, text_of, a
 use crate::scan::text_len;
 use hdt_wire::{Fault, read_vbyte};
 
-/// The number at the front, and where it ends, as `read_vbyte`. A function of its own, as most numbers have one byte.
+/// Reads the VByte at the front, as `read_vbyte`. Not inlined: most prefix lengths have one byte.
 #[inline(never)]
 fn read_long(rest: &[u8]) -> Result<(u64, usize), Fault>
     ensures exact { result ≡ vbyte_at rest.now 0 }
@@ -16,7 +16,7 @@ fn read_long(rest: &[u8]) -> Result<(u64, usize), Fault>
     read_vbyte(rest, 0)
 }
 
-/// The number at the front, if it has one byte.
+/// Returns the VByte at the front if it has one byte.
 #[inline(always)]
 #[tactic(auto, using(crate::proofs::Inside::one_byte))]
 pub(crate) fn short_front(rest: &[u8]) -> Option<u64>
@@ -28,7 +28,7 @@ pub(crate) fn short_front(rest: &[u8]) -> Option<u64>
     None
 }
 
-/// The number at the front, and where it ends, as `read_vbyte`; one byte takes a short way.
+/// Reads the VByte at the front, as `read_vbyte`, with a fast path for one byte.
 #[inline(always)]
 pub(crate) fn read_front(rest: &[u8]) -> Result<(u64, usize), Fault>
     ensures exact { result ≡ vbyte_at rest.now 0 }
@@ -40,7 +40,7 @@ pub(crate) fn read_front(rest: &[u8]) -> Result<(u64, usize), Fault>
     }
 }
 
-/// The number at the front, and where it ends; zeros if there is none. A function of its own, as [`read_long`].
+/// Reads the VByte at the front, and returns zeros if it is invalid. Not inlined, as [`read_long`].
 #[inline(never)]
 fn read_long_or_zero(rest: &[u8]) -> (u64, usize)
     ensures is { result ≡ read_or (0, 0) (vbyte_at rest.now 0) }
@@ -52,7 +52,7 @@ fn read_long_or_zero(rest: &[u8]) -> (u64, usize)
     }
 }
 
-/// The number at the front, and where it ends; zeros if there is none.
+/// Reads the VByte at the front: its value and its length in bytes. Returns zeros if it is invalid.
 #[inline(always)]
 pub(crate) fn read_or_zero(rest: &[u8]) -> (u64, usize)
     ensures is { result ≡ read_or (0, 0) (vbyte_at rest.now 0) }
@@ -64,7 +64,7 @@ pub(crate) fn read_or_zero(rest: &[u8]) -> (u64, usize)
     }
 }
 
-/// The entry of a string: its prefix length, and the bytes from its text on.
+/// Splits an entry into its prefix length and the bytes from its suffix on.
 #[inline(always)]
 #[tactic(auto, unfolding(crate::specs::Unfolding::kept, crate::specs::Unfolding::text_from))]
 pub(crate) fn opened_text(head: bool, rest: &[u8]) -> (u64, &[u8])
@@ -75,7 +75,7 @@ pub(crate) fn opened_text(head: bool, rest: &[u8]) -> (u64, &[u8])
     (kept, rest.split_at(end).1)
 }
 
-/// The entry of a string: its prefix length, its text, and the bytes after it.
+/// Splits an entry into its prefix length, its suffix, and the bytes after the entry.
 #[inline(always)]
 #[tactic(auto, unfolding(crate::specs::Unfolding::text_of, crate::specs::Unfolding::after_piece))]
 pub(crate) fn piece_of(head: bool, rest: &[u8]) -> (u64, &[u8], &[u8])
@@ -89,7 +89,7 @@ pub(crate) fn piece_of(head: bool, rest: &[u8]) -> (u64, &[u8], &[u8])
     (kept, from.split_at(len).0, from.split_at(len + 1).1)
 }
 
-/// The bytes after the text at the front and its zero byte.
+/// Returns the bytes after the zero-terminated string at the front.
 pub(crate) fn behind_text(bytes: &[u8]) -> &[u8]
     requires { zero_in bytes.now < length bytes.now }
     ensures { result.now ≡ drop (zero_in bytes.now + 1) bytes.now }

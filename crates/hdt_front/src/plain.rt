@@ -1,12 +1,12 @@
-//! The usual entry: not the first of its block, with a prefix length of one byte and an ASCII text.
+//! Fast path for the usual entry: not the first of its block, a one-byte prefix length, and an ASCII suffix.
 ghost use Rattle.std.specs.Prelude.{◌≡◌, true, IfSome};
 ghost use Rattle.std.specs.Str.{is_utf8};
 ghost use Rattle.hdt_front.specs.Inside.PlainPieces.{IsPlainPiece};
 
 use crate::scan::plain_len;
 
-/// The prefix length of an entry and the length of its text, if its checks are seen to hold at once: its text is ASCII,
-/// and begins with a greater byte than the previous string has there. `None` says nothing of the entry.
+/// Returns the prefix length and the suffix length of an entry if it is valid for a simple reason: the suffix is ASCII
+/// and begins with a greater byte than the previous string has there. `None` says nothing about the entry.
 #[inline(always)]
 pub(crate) fn plain_piece(before: &[u8], rest: &[u8]) -> Option<(usize, usize)>
     requires { is_utf8 before.now ≡ true }

@@ -1,4 +1,4 @@
-//! Reading a section, check by check.
+//! Reading a section.
 ghost use Rattle.std.specs.Prelude.{◌≡◌, ◌≤◌, ◌<◌, ◌+◌, ◌||◌, ◌==◌, not, ℕ, [], length, slice_index, IfOk, Ok, Err};
 ghost use Rattle.hdt_wire.specs.declared.fault.Reason.TheVariants.{BlockPlace as BlockPlaceOf};
 ghost use Rattle.hdt_wire.specs.declared.fault.Fault.{Fault as FaultIs};
@@ -16,7 +16,7 @@ use hdt_seq::{Numbers, byte_at, code8_at, packed_at};
 use hdt_wire::{Fault, Reason, demand, read_vbyte};
 use std::alloc::Global;
 
-/// Whether there is one block offset more than blocks; without strings none or one.
+/// Whether the number of block offsets is valid: one more than blocks, or at most one if there are no strings.
 fn starts_counted(count: u64, block: u64, starts: u64) -> bool
     requires { 0 < count → 0 < block }
     ensures { result ≡ starts_counted count block starts }
@@ -28,7 +28,7 @@ fn starts_counted(count: u64, block: u64, starts: u64) -> bool
     u128::from(starts) == blocks + 1
 }
 
-/// Without strings the block offset, if there is one, is 0.
+/// Checks the block offset of a section without strings: it is 0 if present.
 fn starts_at_zero(count: u64, starts: &Numbers<'_>) -> Result<(), Fault>
     ensures { result ≡ demand_is (not (count == 0) || slice_index (numbers_of starts.now) 0 == 0) (place_of_entry (numbers_places starts.now) 0) BlockPlaceOf }
 {
@@ -42,8 +42,8 @@ fn starts_at_zero(count: u64, starts: &Numbers<'_>) -> Result<(), Fault>
     Ok(())
 }
 
-/// The head of a section: the number of strings, the number of their bytes, the block size, and the offset of the block
-/// offsets.
+/// The section preamble: the number of strings, the size of their bytes, the block size, and the byte offset at which
+/// the block offsets begin.
 #[derive(Clone, Copy)]
 struct Head {
     count: u64,
@@ -52,7 +52,7 @@ struct Head {
     starts_at: usize,
 }
 
-/// The checks of the head.
+/// Reads and checks the preamble.
 #[tactic(auto, unfolding(crate::specs::Section::head_at, crate::specs::Inside::PackedReading::head_read))]
 fn read_head(bytes: &[u8], at: usize) -> Result<Head, Fault>
     ensures exact { Reads head_read result (head_at bytes.now at) }
@@ -75,7 +75,7 @@ fn read_head(bytes: &[u8], at: usize) -> Result<Head, Fault>
     })
 }
 
-/// The checks before those of the strings: they allocate nothing.
+/// Reads all parts of a section and checks all but the strings. Allocates nothing.
 #[tactic(auto, unfolding(crate::specs::Section::packed_parts_at, crate::specs::Inside::PackedReading::head_read, crate::specs::Inside::PackedReading::packed_parts_read))]
 fn read_packed<'a>(bytes: &'a [u8], at: usize) -> Result<(Packed<'a>, usize), Fault>
     ensures exact { Reads packed_parts_read result (packed_parts_at bytes.now at) }
@@ -104,7 +104,7 @@ impl<'a> Section<'a> {
     ghost use Rattle.hdt_front.specs.Strings.{strings_of, section_of};
     ghost use Rattle.hdt_front.specs.Faults.{read_fault_of};
 
-    /// Reads a section, check by check.
+    /// Reads a section: all checks in order.
     #[tactic(auto, unfolding(crate::specs::Section::section_at, crate::specs::Inside::PackedReading::packed_parts_read, crate::specs::Strings::section_of, crate::specs::Strings::strings_of))]
     fn read_rows(
         alloc: Global,
@@ -121,32 +121,33 @@ impl<'a> Section<'a> {
         Ok((Section { packed, end }, end))
     }
 
-    /// Reads the section at a byte offset, from 0. Returns it with the offset after it. More bytes may follow.
+    /// Reads the section at a byte offset, from 0. Returns it with the offset after it; more bytes may follow.
     ///
-    /// It reads the bytes once and decodes each string once, over the previous one. It holds one string at a time, and
-    /// nothing when it returns; it allocates nothing before the CRC of the strings is known to match.
+    /// Takes linear time: it decodes each string once, over the previous one. It holds one decoded string at a time and
+    /// none when it returns, and allocates nothing before the CRC of the strings has been checked.
     ///
     /// # Errors
     ///
-    /// The first of these, in this order: `SectionKind`, those of the three numbers, `Check8`, `BlockSize`,
-    /// `PackedLength`, those of the block offsets, `BlockCount`, `BlockPlace`, `Truncated`, `Check32`; then for each
-    /// string `BlockPlace`, those of its prefix length, `PrefixTooLong`, `PackedLength`, `NotUtf8`,
-    /// `StringsNotAscending`. Or [`ReadFault::OutOfMemory`].
+    /// The first of these, in this order: `SectionKind`, errors of the three numbers, `Check8`, `BlockSize`,
+    /// `PackedLength`, errors of the block offsets, `BlockCount`, `BlockPlace`, `Truncated`, `Check32`; then for each
+    /// string `BlockPlace`, errors of its prefix length, `PrefixTooLong`, `PackedLength`, `NotUtf8`,
+    /// `StringsNotAscending`; at the end `PackedLength`, `BlockPlace`. `Truncated` can occur at each read. Or
+    /// [`ReadFault::OutOfMemory`].
     pub fn read(
         alloc: Global,
         bytes: &'a [u8],
         at: usize,
     ) -> Result<(Section<'a>, usize), ReadFault>
-        // What is returned is encoded there.
+        // A returned section is encoded at the offset.
         ensures found { IfOk result (λ r. IsSection (section_of r.0) bytes.now at) }
-        // Whatever is encoded there is returned, unless memory ran out.
+        // A section encoded at the offset is returned, unless memory runs out.
         ensures only { (s : SectionParts) → IsSection s bytes.now at → Gives read_fault_of (λ r. section_of r.0) result (Ok s) }
-        // Otherwise it is the first error.
+        // The result is that of the checks in order: the section, or the first error.
         ensures exact { Gives read_fault_of (λ r. section_of r.0) result (section_at bytes.now at) }
-        // Errors before those of the strings, up to their CRC, are found without allocating.
+        // Errors up to the CRC of the strings are found without allocating.
         ensures without_memory { (f : FaultIs) → packed_parts_at bytes.now at ≡ Err f → result ≡ Err (FaultOf f) }
         ensures next { IfOk result (λ r. r.1 ≡ (section_of r.0).end) }
-        // Each string takes at least a byte.
+        // Each string takes at least one byte.
         ensures end { IfOk result (λ r. (at + length (strings_of r.0) < r.1) × (r.1 ≤ length bytes.now)) }
     {
         Section::read_rows(alloc, bytes, at)

@@ -1,4 +1,4 @@
-//! The length of a zero-terminated text, 16 or 32 bytes at a time.
+//! The length of a zero-terminated string, 16 or 32 bytes at a time.
 ghost use Rattle.std.specs.Prelude.{◌≡◌, ◌≤◌, ◌<◌, ◌+◌, true, length, take};
 ghost use Rattle.std.specs.Str.{is_utf8};
 ghost use Rattle.hdt_wire.specs.Rows.{zero_in};
@@ -8,13 +8,13 @@ ghost use Rattle.hdt_front.specs.Inside.Reaching.{Reaches, plain_in};
 use hdt_wire::zero_in;
 use std::simd::prelude::*;
 
-/// The bytes of one load.
+/// Bytes per load.
 pub(crate) const LANES: usize = 32;
 
-/// The bytes of one load if few are expected.
+/// Bytes per load if few are expected.
 pub(crate) const HALF: usize = 16;
 
-/// The position of the lowest 1-bit, or the number of lanes.
+/// Returns the index of the lowest set bit, or the number of lanes if none is set.
 #[inline(always)]
 pub(crate) fn first_set(mask: u64, lanes: usize) -> usize
     ensures { result ≡ first_set mask lanes }
@@ -26,7 +26,7 @@ pub(crate) fn first_set(mask: u64, lanes: usize) -> usize
     }
 }
 
-/// The number of bytes before the first zero byte among the next 16.
+/// Returns the number of bytes before the first zero byte among the next 16.
 #[inline(always)]
 fn load_text(bytes: &[u8], at: usize) -> usize
     requires inside { at + HALF ≤ length bytes.now }
@@ -37,7 +37,7 @@ fn load_text(bytes: &[u8], at: usize) -> usize
     first_set(v.simd_eq(u8x16::splat(0)).to_bitmask(), HALF)
 }
 
-/// The number of bytes before the first one among the next 32 that is zero or not ASCII.
+/// Returns the number of bytes among the next 32 before the first one that is zero or not ASCII.
 #[inline(always)]
 fn load_plain(bytes: &[u8], at: usize) -> usize
     requires inside { at + LANES ≤ length bytes.now }
@@ -49,7 +49,7 @@ fn load_plain(bytes: &[u8], at: usize) -> usize
     first_set(stops.to_bitmask(), LANES)
 }
 
-/// The number of bytes before the first zero byte, or the length if there is none.
+/// Returns the number of bytes before the first zero byte, or the length if there is none.
 #[inline(always)]
 #[tactic(auto, using(crate::proofs::Loads::zero_behind))]
 pub(crate) fn text_len(bytes: &[u8]) -> usize
@@ -67,7 +67,7 @@ pub(crate) fn text_len(bytes: &[u8]) -> usize
     at + zero_in(bytes.split_at(at).1)
 }
 
-/// The number of bytes at the front that are ASCII and not zero, as far as whole loads show.
+/// Returns the number of leading bytes that are ASCII and not zero, as far as full loads reach.
 #[inline(always)]
 pub(crate) fn plain_len(bytes: &[u8]) -> usize
     ensures plain { result ≤ plain_in bytes.now }
@@ -85,7 +85,7 @@ pub(crate) fn plain_len(bytes: &[u8]) -> usize
     at
 }
 
-/// The length of the text, as [`text_len`], and whether it was found to be ASCII on the way.
+/// Returns the length of the text, as [`text_len`], and whether it is known to be ASCII.
 #[inline(always)]
 #[tactic(auto, using(crate::proofs::Loads::plain_text))]
 pub(crate) fn text_seen(bytes: &[u8]) -> (usize, bool)

@@ -1,4 +1,4 @@
-//! Searching a string in the front-coded bytes.
+//! Searching for a string in the front-coded bytes, without decoding.
 ghost use Rattle.std.specs.Prelude.{◌≡◌, ◌≤◌, ◌<◌, ◌+◌, ◌-◌, ◌*◌, ◌++◌, length, take, drop, get_or, [], List, ℕ, false, MatchOption};
 ghost use Rattle.hdt_wire.specs.Rows.{zero_in};
 ghost use Rattle.hdt_wire.specs.VByte.{vbyte_at};
@@ -16,8 +16,8 @@ use hdt_seq::Steps;
 use hdt_wire::zero_in;
 use std::cmp::Ordering;
 
-/// What a prefix length tells: a string that shares more with the previous one than that has in common with the
-/// searched string compares as the previous one.
+/// Decides by the prefix length only: if a string shares more with the previous one than that shares with the searched
+/// string, it compares as the previous one, which is less.
 fn lie_by_kept(kept: u64, same: usize) -> Option<Lie>
     ensures { MatchOption result (kept ≤ same) (λ l. (same < kept) × (l ≡ LessOf same)) }
 {
@@ -27,7 +27,7 @@ fn lie_by_kept(kept: u64, same: usize) -> Option<Lie>
     None
 }
 
-/// Compares a string with the searched one, if the previous string is less and has so many bytes in common with it.
+/// Compares a string with the searched one, given that the previous string is less and shares `same` bytes with it.
 fn lie(kept: u64, text: &[u8], same: usize, x: &[u8]) -> Lie
     requires { same ≤ length x.now }
     ensures { (last : List ℕ) → kept ≤ length last → IsLess last x.now same → LiesSo (take kept last ++ text.now) x.now result }
@@ -50,8 +50,8 @@ impl<'a> Section<'a> {
     ghost use Rattle.hdt_front.specs.Numbering.{place};
     ghost use Rattle.hdt_seq.specs.Width.{digits};
 
-    /// Compares the first string of a block with the searched one, whose first `from` bytes are equal; returns also the
-    /// length of their common prefix, and the bytes from that string on.
+    /// Compares the first string of a block with the searched one, given that their first `from` bytes are equal.
+    /// Returns also their common-prefix length, and the bytes from that string on. One step.
     fn look_at_head(
         &self,
         block: u64,
@@ -74,8 +74,8 @@ impl<'a> Section<'a> {
         (order, same, head)
     }
 
-    /// The last block whose first string is not greater than the searched one, by binary search. First strings between
-    /// two others have in common with it what both of these have.
+    /// Finds the last block whose first string is not greater than the searched one, by binary search. A first string
+    /// between the two bounds shares with it at least what both bounds do, so those bytes are not compared again.
     #[tactic(auto, using(hdt_seq::specs::Laws::Width::digits_split))]
     fn block_of(&self, x: &[u8], steps: &mut Steps) -> Landed<'a>
         requires some { 0 < blocks_of self.now }
@@ -113,7 +113,7 @@ impl<'a> Section<'a> {
         }
     }
 
-    /// An entry that is not the first of its block: its prefix length, its text, and the bytes after it.
+    /// Splits an entry that is not the first of its block. One step.
     fn look_at_piece(rest: &'a [u8], steps: &mut Steps) -> (u64, &'a [u8], &'a [u8])
         requires { zero_in (text_from false rest.now) < length (text_from false rest.now) }
         ensures kept { result.0 ≡ kept false rest.now }
@@ -125,7 +125,7 @@ impl<'a> Section<'a> {
         piece_of(false, rest)
     }
 
-    /// Searches a string after the first one of a block.
+    /// Searches the strings of a block after the first one.
     fn within(
         &self,
         block: u64,
@@ -160,9 +160,8 @@ impl<'a> Section<'a> {
 
     /// Returns the ID of a string, from 1, or `None` if it is not in the section.
     ///
-    /// A binary search over the first strings of the blocks, then a scan of one block, whose strings are compared
-    /// without decoding them. Steps: at most the number of binary digits of the number of blocks, plus the block size,
-    /// minus 1; none in an empty section.
+    /// Binary search over the first strings of the blocks, then a scan of one block. Takes at most
+    /// `floor(log2(blocks)) + block size` steps, and none in an empty section. Each step compares one string.
     pub fn place_of(&self, x: &[u8], steps: &mut Steps) -> Option<u64>
         ensures place { result ≡ place (strings_of self.now) x.now }
         ensures cost { steps.new ≤ steps.old + section_looks (section_of self.now) }

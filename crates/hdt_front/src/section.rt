@@ -1,4 +1,4 @@
-//! A section that was read: its strings, its blocks and their offsets.
+//! A section that was read: its strings and its blocks.
 ghost use Rattle.std.specs.Prelude.{◌≡◌, ◌≤◌, ◌<◌, ◌+◌, ◌-◌, ◌*◌, length, drop, get_or, [], Ok};
 ghost use Rattle.hdt_front.specs.StringRows.{strings_at};
 ghost use Rattle.hdt_front.specs.Packed.{packing_of};
@@ -8,10 +8,10 @@ ghost use Rattle.hdt_seq.specs.Numbers.{numbers_of};
 use crate::packed::Packed;
 use crate::scan::text_len;
 
-/// A section that was read. Its strings stay front-coded in the input, and are searched there: it has only slices of
-/// the input and a few numbers, so copies are cheap.
+/// A section that was read. The strings stay front-coded in the input and are searched there. The value consists of
+/// slices of the input and a few numbers, so copying is cheap.
 ///
-/// IDs of strings count from 1, blocks from 0.
+/// String IDs count from 1, blocks from 0.
 ///
 /// ```text
 /// let (section, next) = Section::read(alloc, bytes, at)?;
@@ -25,7 +25,7 @@ pub struct Section<'a> {
     ghost read: { strings_at (packing_of packed) packed.count 0 [] packed.bytes.now ≡ Ok tt },
 }
 
-/// The law that borrowed bytes are bytes.
+/// Law: the elements of a byte slice are below 256.
 fn are_bytes(bytes: &[u8])
     ensures { IsBytes bytes.now }
 {}
@@ -35,14 +35,14 @@ impl<'a> Section<'a> {
     ghost use Rattle.hdt_front.specs.Facts.{rest_at};
     ghost use Rattle.hdt_front.specs.Section.{AreStrings};
 
-    /// The law that the strings are UTF-8 without zero bytes and ascend.
+    /// Law: the strings are UTF-8 without zero bytes, and ascend.
     pub fn are_strings(&self)
         ensures { AreStrings (strings_of self.now) }
     {
         are_bytes(self.packed.bytes);
     }
 
-    /// Returns the number of strings, which is at most that of their front-coded bytes.
+    /// Returns the number of strings, which is at most the number of their front-coded bytes.
     pub fn len(&self) -> u64
         ensures is { result ≡ length (strings_of self.now) }
         ensures few { result ≤ length self.now.packed.bytes.now }
@@ -50,8 +50,8 @@ impl<'a> Section<'a> {
         self.packed.count
     }
 
-    /// Returns the number of blocks: the least one whose product with the block size is at least the number of strings.
-    /// 0 if there are none, whatever the block size.
+    /// Returns the number of blocks: the number of strings divided by the block size, rounded up. 0 if there are no
+    /// strings, even if the block size is 0.
     #[tactic(auto, unfolding(crate::specs::Strings::blocks_of))]
     pub fn blocks(&self) -> u64
         ensures { result ≡ blocks_of self.now }
@@ -63,7 +63,7 @@ impl<'a> Section<'a> {
         packed.count.div_ceil(packed.block)
     }
 
-    /// The offset of a block in the front-coded bytes.
+    /// Returns the offset of a block, from 0, in the front-coded bytes.
     #[inline(always)]
     pub(crate) fn start_of(&self, block: u64) -> usize
         requires { block < blocks_of self.now }
@@ -73,7 +73,7 @@ impl<'a> Section<'a> {
         self.packed.starts.get(block) as usize
     }
 
-    /// The front-coded bytes from a block on.
+    /// Returns the front-coded bytes from a block on.
     pub(crate) fn from_head(&self, block: u64) -> &'a [u8]
         requires { block < blocks_of self.now }
         ensures { result.now ≡ drop (block_start self.now block) self.now.packed.bytes.now }
@@ -81,7 +81,7 @@ impl<'a> Section<'a> {
         self.packed.bytes.split_at(self.start_of(block)).1
     }
 
-    /// The first string of a block, and the bytes after its entry.
+    /// Returns the first string of a block, and the bytes after its entry.
     #[tactic(auto, unfolding(crate::specs::Strings::strings_of, crate::specs::Strings::blocks_of))]
     pub(crate) fn opened_head(&self, block: u64) -> (&'a [u8], &'a [u8])
         requires { block < blocks_of self.now }
@@ -93,7 +93,7 @@ impl<'a> Section<'a> {
         (&piece[..end], piece.split_at(end + 1).1)
     }
 
-    /// Returns the first string of a block, from 0, borrowed from the input.
+    /// Returns the first string of a block, from 0, borrowed from the input. Takes time linear in the string.
     pub fn head(&self, block: u64) -> &'a [u8]
         requires { block < blocks_of self.now }
         ensures { result.now ≡ get_or (strings_of self.now) (block * block_size self.now) [] }

@@ -1,4 +1,4 @@
-//! Writing a section string by string.
+//! Writing a section one string at a time.
 ghost use Rattle.std.specs.Prelude.{◌≡◌, ◌≤◌, ◌<◌, ◌^◌, ◌++◌, ◌∷◌, [], ℕ, List, length, cond, drop, OnOk, OnErr};
 ghost use Rattle.byteorder.specs.Endian.{little_bytes};
 ghost use Rattle.hdt_wire.specs.Check.{code8, code32};
@@ -17,8 +17,9 @@ use hdt_wire::{check8, check32, cut_on_error, put_vbyte};
 use std::alloc::{AllocError, Global};
 use std::marker::Model;
 
-/// A writer of a section, which takes its strings one at a time. It keeps their front-coded bytes, 8 bytes a block, and
-/// the last string, in a buffer that is at most a few times as long as the longest one. Contracts see the strings.
+/// A writer of a section that takes one string at a time. It holds the front-coded bytes, 8 bytes per block, and the
+/// last string, in a buffer at most a few times as long as the longest string. Contracts describe it by its block size
+/// and its strings.
 ///
 /// ```text
 /// let mut writer = SectionWriter::new(alloc, 16);
@@ -31,7 +32,7 @@ pub struct SectionWriter {
     block_size: u32,
     count: u64,
     last: Vec<u8>,
-    /// The offset of each block.
+    /// The offset of each block in `packed`.
     starts: Vec<u64>,
     packed: Vec<u8>,
 }
@@ -48,8 +49,8 @@ impl Model for SectionWriter {
     ghost invariant = { λ w. AreKept w.block_size (unfolded w.block_size w.count 0 [] w.packed.items) w.last.items w.starts.items w.packed.items };
 }
 
-/// Appends the entry of a string that shares so many bytes with the previous one: the string if it is the first of its
-/// block, else that number and the rest. An error may leave its first bytes.
+/// Appends the entry of a string that shares `same` bytes with the previous one: the full string if it is the first of
+/// its block, else `same` and the suffix; then a zero byte. An error may leave a prefix of the entry.
 fn append_piece(
     head: bool,
     same: usize,
@@ -70,7 +71,7 @@ fn append_piece(
     Ok(())
 }
 
-/// Adds the offset of a block, if one begins.
+/// Appends the offset of a block if one begins.
 fn push_start(head: bool, place: usize, starts: &mut Vec<u64>) -> Result<(), AllocError>
     ensures ok { OnOk result (starts.new.items ≡ starts.old.items ++ cond head (place ∷ []) []) }
     ensures err { OnErr result (starts.new.items ≡ starts.old.items) }
@@ -81,8 +82,8 @@ fn push_start(head: bool, place: usize, starts: &mut Vec<u64>) -> Result<(), All
     Ok(())
 }
 
-/// Adds a string, of which the common prefix with the last one is known and not read. An error may leave the first
-/// bytes of its entry; the last string is unchanged.
+/// Adds a string that shares `same` bytes with the last one. An error may leave a block offset and a prefix of the
+/// entry, and leaves the last string unchanged.
 fn fold(
     head: bool,
     same: usize,
@@ -104,7 +105,7 @@ fn fold(
     unfold(last, same, string.split_at(same).1)
 }
 
-/// Appends the head of a section, with its CRC. An error may leave its first bytes.
+/// Appends the section preamble with its CRC. An error may leave a prefix of it.
 fn append_head(count: u64, size: u64, block_size: u32, out: &mut Vec<u8>) -> Result<(), AllocError>
     ensures ok { OnOk result (out.new.items ≡ out.old.items ++ (section_head count size block_size ++ code8 (section_head count size block_size) ∷ [])) }
     ensures err { OnErr result (Keeps out.old.items out.new.items) }
@@ -119,7 +120,7 @@ fn append_head(count: u64, size: u64, block_size: u32, out: &mut Vec<u8>) -> Res
     Ok(())
 }
 
-/// Appends front-coded bytes with their CRC. An error may leave the first of them.
+/// Appends the front-coded bytes with their CRC. An error may leave a prefix of them.
 fn append_packed(packed: &[u8], out: &mut Vec<u8>) -> Result<(), AllocError>
     ensures ok { OnOk result (out.new.items ≡ out.old.items ++ (packed.now ++ little_bytes 4 (code32 packed.now))) }
     ensures err { OnErr result (Keeps out.old.items out.new.items) }
@@ -130,7 +131,7 @@ fn append_packed(packed: &[u8], out: &mut Vec<u8>) -> Result<(), AllocError>
     out.extend_from_slice(&code)
 }
 
-/// Appends the section with these front-coded bytes and block offsets. An error may leave its first bytes.
+/// Appends the section with these front-coded bytes and block offsets. An error may leave a prefix of it.
 fn append_parts(
     count: u64,
     block_size: u32,
@@ -163,7 +164,7 @@ fn put_parts(
 }
 
 impl SectionWriter {
-    /// Returns a writer without strings, of a block size that is at least 1. It allocates nothing yet.
+    /// Returns a writer without strings. The block size, in strings, must be at least 1. Allocates nothing.
     pub fn new(alloc: Global, block_size: u32) -> SectionWriter
         requires block { 1 ≤ block_size }
         ensures { result ≡ record { block_size = block_size; strings = [] } }
@@ -184,7 +185,7 @@ impl SectionWriter {
         self.count
     }
 
-    /// The law that the block size is at least 1 and below 2^32.
+    /// Law: the block size is at least 1 and below 2^32.
     pub fn has_blocks(&self)
         ensures some { 1 ≤ self.now.block_size }
         ensures fits { self.now.block_size < 2 ^ 32 }
@@ -192,15 +193,15 @@ impl SectionWriter {
         let _block_size = &self.block_size;
     }
 
-    /// Returns the last string, or nothing if there is none yet.
+    /// Returns the last string, or an empty slice if there is none yet.
     pub fn last(&self) -> &[u8]
         ensures { result.now ≡ last_string self.now }
     {
         &self.last
     }
 
-    /// Adds a string, which must have no zero byte. If memory runs out, the writer is unchanged. Linear time in the
-    /// string.
+    /// Adds a string, which must have no zero byte. If memory runs out, the writer is unchanged. Takes amortized time
+    /// linear in the string.
     pub fn push(&mut self, string: &[u8]) -> Result<(), AllocError>
         requires no_zero { HasNoZero string.now }
         ensures ok { OnOk result (self.new ≡ record self.old { strings = self.old.strings ++ string.now ∷ [] }) }
@@ -210,8 +211,9 @@ impl SectionWriter {
         self.push_agreeing(string, same)
     }
 
-    /// Adds a string as [`push`](SectionWriter::push) does, if the length of its longest common prefix with the last
-    /// one is known. Linear time in the bytes after that prefix, or in the string if it is the first of its block.
+    /// Adds a string as [`push`](SectionWriter::push) does, given the length `same` of its longest common prefix with
+    /// the last one. Takes amortized time linear in the bytes after that prefix, or in the string if it is the first of
+    /// its block.
     pub fn push_agreeing(&mut self, string: &[u8], same: usize) -> Result<(), AllocError>
         requires no_zero { HasNoZero string.now }
         requires same { same ≡ agreed (last_string self.old) string.now }
@@ -238,12 +240,13 @@ impl SectionWriter {
         Ok(())
     }
 
-    /// Appends the canonical section of the strings, as [`put_section`](crate::put_section) does. The strings must be
-    /// valid. If memory runs out, `out` is unchanged.
+    /// Appends the canonical section of the strings, as [`put_section`](crate::put_section) does. The strings must
+    /// satisfy [`are_strings`](crate::are_strings). If memory runs out, `out` is unchanged, and the
+    /// strings are lost.
     pub fn finish(self, out: &mut Vec<u8>) -> Result<(), AllocError>
         requires strings { AreStrings self.strings }
         ensures ok { OnOk result (out.new.items ≡ out.old.items ++ canonical self.block_size self.strings) }
-        // It is read back as a section.
+        // The appended bytes are a section with these strings.
         ensures section { OnOk result (IsSection (canonical_parts self.block_size self.strings (length out.old.items)) out.new.items (length out.old.items)) }
         ensures err { OnErr result (out.new.items ≡ out.old.items) }
     {

@@ -1,4 +1,4 @@
-//! A cursor that goes to any string of a section.
+//! A cursor with random access to the strings of a section.
 ghost use Rattle.std.specs.Prelude.{◌≡◌, ◌≤◌, ◌<◌, ◌+◌, ◌-◌, ◌*◌, ◌/◌, [], length, OnOk, OnErr};
 ghost use Rattle.hdt_front.specs.Strings.{strings_of, blocks_of, block_size};
 ghost use Rattle.hdt_front.specs.Seeking.{standing, head_before};
@@ -10,8 +10,8 @@ use hdt_seq::Steps;
 use std::alloc::{AllocError, Global};
 use std::marker::Model;
 
-/// A cursor that goes to any string of a section: to a later string of the same block from the current one, to any
-/// other string from the first one of its block. So ascending IDs decode each block once.
+/// A cursor with random access to the strings of a section. It decodes from the current string if the target comes
+/// later in the same block, else from the first string of the target's block. So ascending IDs decode each block once.
 ///
 /// ```text
 /// let mut seeker = Seeker::new(alloc, &section);
@@ -43,7 +43,7 @@ impl<'a> Model for Seeker<'a> {
 }
 
 impl<'a> Seeker<'a> {
-    /// Returns a cursor before the first string. It allocates nothing yet.
+    /// Returns a cursor before the first string. Allocates nothing.
     pub fn new(alloc: Global, section: &Section<'a>) -> Seeker<'a>
         ensures { result ≡ record { section = section.now; at = 0; last = [] } }
     {
@@ -55,14 +55,14 @@ impl<'a> Seeker<'a> {
         }
     }
 
-    /// Returns the current string, or nothing before the first one.
+    /// Returns the current string, or an empty slice before the first one.
     pub fn last(&self) -> &[u8]
         ensures { result.now ≡ self.now.last }
     {
         &self.last
     }
 
-    /// Goes to the first string of a block. If memory runs out, nothing changes.
+    /// Moves to the first string of a block. If memory runs out, nothing changes.
     fn open(&mut self, block: u64, steps: &mut Steps) -> Result<(), AllocError>
         requires { block < blocks_of self.old.section }
         ensures ok { OnOk result (self.new ≡ standing self.old.section (block * block_size self.old.section + 1)) }
@@ -77,7 +77,7 @@ impl<'a> Seeker<'a> {
         Ok(())
     }
 
-    /// Goes to the next string. If memory runs out, nothing changes.
+    /// Moves to the next string. If memory runs out, nothing changes.
     fn pass(&mut self, steps: &mut Steps) -> Result<(), AllocError>
         requires { self.old.at < length (strings_of self.old.section) }
         ensures ok { OnOk result (self.new ≡ standing self.old.section (self.old.at + 1)) }
@@ -93,7 +93,7 @@ impl<'a> Seeker<'a> {
         Ok(())
     }
 
-    /// Goes to the first string of the block of string n, unless it is in that block and not after string n.
+    /// Moves to the first string of the block of string n, unless the current string is in that block and not after n.
     fn approach(&mut self, n: u64, steps: &mut Steps) -> Result<(), AllocError>
         requires from_one { 1 ≤ n }
         requires within { n ≤ length (strings_of self.old.section) }
@@ -114,8 +114,8 @@ impl<'a> Seeker<'a> {
         Ok(())
     }
 
-    /// Goes to the string with ID n, from 1. At most as many steps as the block size; and, if it is not after string n,
-    /// at most one for each string from there on. If memory runs out, the current string may have changed.
+    /// Moves to the string with ID n, from 1. Takes at most as many steps as the block size, and at most n - m if the
+    /// current string has an ID m ≤ n. If memory runs out, the current string may have changed.
     pub fn seek(&mut self, n: u64, steps: &mut Steps) -> Result<(), AllocError>
         requires from_one { 1 ≤ n }
         requires within { n ≤ length (strings_of self.old.section) }

@@ -1,4 +1,4 @@
-//! One string of a section, decoded from the first string of its block on.
+//! Decoding one string of a section, from the first string of its block on.
 ghost use Rattle.std.specs.Prelude.{◌≡◌, ◌≤◌, ◌<◌, ◌+◌, ◌-◌, ◌++◌, ◌*◌, List, [], length, take, get_or, IfOk, OnOk, OnErr, true};
 ghost use Rattle.hdt_wire.specs.Control.{Keeps};
 ghost use Rattle.hdt_wire.specs.Rows.{zero_in};
@@ -15,11 +15,11 @@ use hdt_wire::cut_on_error;
 use std::alloc::AllocError;
 use std::simd::prelude::*;
 
-/// The bytes of the buffer in which a string is decoded as long as it fits.
+/// The size of the stack buffer in which strings are decoded while they fit.
 const ROOM: usize = 160;
 
-/// Copies the next 32 bytes into a buffer; returns how many of them are of the text at the front. Most texts end in the
-/// first load, so the branch on that is mostly predicted.
+/// Copies the next 32 bytes into the buffer and returns how many of them precede the first zero byte. Most suffixes end
+/// within one load, so the branch on that is mostly predicted.
 #[inline(always)]
 fn copy_load(bytes: &[u8], room: &mut [u8], at: usize) -> usize
     requires load { LANES ≤ length bytes.now }
@@ -33,9 +33,9 @@ fn copy_load(bytes: &[u8], room: &mut [u8], at: usize) -> usize
     first_set(v.simd_eq(u8x32::splat(0)).to_bitmask(), LANES)
 }
 
-/// Decodes up to `many` strings of a block into a buffer, each over the previous one. Returns the number decoded, the
-/// decoded length of the last one, and its unread rest. It stops before a load that exceeds the bytes or the buffer,
-/// and before a number of more than one byte.
+/// Decodes up to `many` strings of a block into the buffer, each over the previous one. Returns the number decoded, the
+/// decoded length of the last one, and its unread remainder. It stops at a load that exceeds the bytes or the buffer,
+/// and at a prefix length of more than one byte.
 fn unfold_in<'a>(
     section: &Section<'a>,
     block: u64,
@@ -74,7 +74,7 @@ fn unfold_in<'a>(
     (done, at, rest)
 }
 
-/// Appends a text, which is mostly empty.
+/// Appends the remainder of a suffix, which is mostly empty.
 #[inline(always)]
 fn extend_by(text: &[u8], out: &mut Vec<u8>) -> Result<(), AllocError>
     ensures ok { OnOk result (out.new.items ≡ out.old.items ++ text.now) }
@@ -86,8 +86,8 @@ fn extend_by(text: &[u8], out: &mut Vec<u8>) -> Result<(), AllocError>
     out.extend_from_slice(text)
 }
 
-/// Decodes the next string over the previous one, which begins at an index of `out`; returns the bytes after its entry.
-/// An error may leave the first bytes of the previous string.
+/// Decodes the next string over the previous one, which begins at index `start` of `out`. Returns the bytes after its
+/// entry. An error leaves a prefix of the previous string.
 #[tactic(auto, unfolding(crate::specs::Unfolding::text_of, crate::specs::Unfolding::after_piece))]
 fn put_piece<'a>(
     head: bool,
@@ -107,8 +107,8 @@ fn put_piece<'a>(
     Ok(after)
 }
 
-/// Appends string i, from 0; an error may leave its first bytes. It is decoded in a buffer, and in `out` once that is
-/// too small.
+/// Appends string i, counted from 0. Decodes in the stack buffer, and in `out` from the first string that does not fit.
+/// An error may leave appended bytes.
 #[tactic(auto, unfolding(crate::specs::Strings::strings_of))]
 fn append_string(
     section: &Section<'_>,
@@ -140,8 +140,8 @@ impl<'a> Section<'a> {
     ghost use Rattle.hdt_front.specs.Strings.{packed_block, section_of};
     ghost use Rattle.hdt_front.specs.Section.{string_place};
 
-    /// Appends the string with ID n, from 1. It decodes at most one block, in at most as many steps as the block size.
-    /// If memory runs out, `out` is unchanged.
+    /// Appends the string with ID n, from 1. Decodes at most one block: at most as many steps as the block size. If
+    /// memory runs out, `out` is unchanged.
     pub fn string(&self, n: u64, out: &mut Vec<u8>, steps: &mut Steps) -> Result<(), AllocError>
         requires from_one { 1 ≤ n }
         requires within { n ≤ length (strings_of self.now) }
@@ -155,8 +155,8 @@ impl<'a> Section<'a> {
         cut_on_error(appended, start, out)
     }
 
-    /// Returns the front-coded bytes of the block of string n, from 1, borrowed from the input: decoding the string
-    /// needs no others. Two memory accesses; the bytes themselves are not read.
+    /// Returns the front-coded bytes of the block that contains string n, from 1. Decoding the string reads no other
+    /// strings, so a caller can prefetch them. Reads two block offsets and none of the returned bytes.
     #[inline(always)]
     #[tactic(auto, using(std::proofs::lemmas::List::take_min), unfolding(crate::specs::Strings::packed_block))]
     pub fn block(&self, n: u64) -> &'a [u8]
@@ -171,8 +171,8 @@ impl<'a> Section<'a> {
         bytes.split_at(len.min(bytes.len())).0
     }
 
-    /// Returns the byte offset of string n, from 1, in the input: that of its entry, which errors report. It scans at
-    /// most one block.
+    /// Returns the byte offset in the input of the entry of string n, from 1, as errors report it. Scans at most one
+    /// block.
     pub fn string_start(&self, n: u64) -> u64
         requires from_one { 1 ≤ n }
         requires within { n ≤ length (strings_of self.now) }

@@ -1,11 +1,11 @@
-//! Decoding a string over the previous one, and checking it.
+//! Decoding a string over the previous one, and checking UTF-8 and order.
 ghost use Rattle.std.specs.Prelude.{◌≡◌, ◌≤◌, ◌<◌, ◌++◌, ◌||◌, true, false, length, take, IfOk, OnOk, OnErr};
 ghost use Rattle.std.specs.Str.{is_utf8, IsCharBoundary};
 ghost use Rattle.hdt_front.specs.StringRows.{precedes};
 
 use std::alloc::AllocError;
 
-/// Whether a text is less than another one. Different first bytes decide at once.
+/// Whether a string is less than another one. Fast if the first bytes differ.
 #[tactic(auto, using(crate::proofs::Order::first_decides))]
 fn is_before(a: &[u8], b: &[u8]) -> bool
     ensures { result ≡ precedes a.now b.now }
@@ -16,7 +16,8 @@ fn is_before(a: &[u8], b: &[u8]) -> bool
     a.cmp(b).is_lt()
 }
 
-/// Whether a string that shares a prefix with the previous one and goes on with `text` is greater than that.
+/// Whether the string with the first `kept` bytes of the previous one and then `text` is greater than the previous one.
+/// The first string of a section always is.
 #[tactic(auto, using(crate::proofs::Order::kept_order))]
 pub(crate) fn ascends(first: bool, before: &[u8], kept: usize, text: &[u8]) -> bool
     requires { kept ≤ length before.now }
@@ -38,7 +39,7 @@ pub(crate) fn valid(bytes: &[u8]) -> bool
     }
 }
 
-/// Whether a text is UTF-8, if it may be known to be ASCII.
+/// Whether a text is UTF-8. `ascii` skips the check.
 fn seen_or_valid(ascii: bool, text: &[u8]) -> bool
     requires { ascii ≡ true → is_utf8 text.now ≡ true }
     ensures { result ≡ is_utf8 text.now }
@@ -46,7 +47,7 @@ fn seen_or_valid(ascii: bool, text: &[u8]) -> bool
     ascii || valid(text)
 }
 
-/// Whether a character of a string begins at an index, or the string ends there.
+/// Whether an index is a character boundary of a string.
 #[tactic(auto, using(crate::proofs::Utf8::at_start))]
 fn is_boundary(string: &[u8], at: usize) -> bool
     requires within { at ≤ length string.now }
@@ -63,8 +64,7 @@ fn is_boundary(string: &[u8], at: usize) -> bool
     }
 }
 
-/// The last index up to a given one at which a character of a string begins or the string ends: at most three bytes
-/// before it.
+/// Returns the last character boundary at or before an index: at most three bytes before it.
 fn character_start(string: &[u8], place: usize) -> usize
     requires within { place ≤ length string.now }
     requires utf8 { is_utf8 string.now ≡ true }
@@ -78,8 +78,8 @@ fn character_start(string: &[u8], place: usize) -> usize
     at
 }
 
-/// Decodes a string over the previous one, of which it keeps the first `kept` bytes. If memory runs out, nothing
-/// changes.
+/// Decodes a string over the previous one: keeps its first `kept` bytes and appends the suffix. If memory runs out, the
+/// previous string is unchanged.
 pub(crate) fn unfold(string: &mut Vec<u8>, kept: usize, text: &[u8]) -> Result<(), AllocError>
     ensures ok { OnOk result (string.new.items ≡ take kept string.old.items ++ text.now) }
     ensures err { OnErr result (string.new.items ≡ string.old.items) }
@@ -89,9 +89,8 @@ pub(crate) fn unfold(string: &mut Vec<u8>, kept: usize, text: &[u8]) -> Result<(
     string.extend_from_slice(text)
 }
 
-/// Decodes a string over the previous one, and returns whether it is UTF-8. The previous one is, so only the bytes
-/// after the prefix are checked, with the first bytes of a character that the prefix cuts; none, if the text is known
-/// to be ASCII and no character is cut.
+/// Decodes a string over the previous one, which is UTF-8, and returns whether the result is. Only the suffix is
+/// checked, from the last character boundary of the shared prefix on. An ASCII suffix at a boundary needs no check.
 pub(crate) fn unfold_tested(
     string: &mut Vec<u8>,
     kept: usize,

@@ -1,4 +1,4 @@
-//! An iteration over the strings of a section, in order.
+//! Iteration over the strings of a section, in order.
 ghost use Rattle.std.specs.Prelude.{◌≡◌, ◌≤◌, ◌<◌, ◌+◌, ◌-◌, ◌++◌, ◌==◌, Bool, length, take, [], Ok, IsOk, OnOk, OnErr, IfOk};
 ghost use Rattle.hdt_wire.specs.Rows.{zero_in};
 ghost use Rattle.hdt_front.specs.Unfolding.{kept, text_from, text_of, after_piece};
@@ -12,13 +12,13 @@ use crate::unfold::unfold;
 use std::alloc::{AllocError, Global};
 use std::marker::Model;
 
-/// An iteration over the strings of a section in order, each decoded once, over the previous one in one buffer. All of
-/// it takes linear time in the front-coded bytes and the strings.
+/// Iterates over the strings of a section in order. It decodes each string once, over the previous one in one buffer.
+/// A full iteration takes time linear in the front-coded bytes.
 ///
 /// ```text
-/// let mut walk = Walk::new(alloc, &section);
-/// while let Some(place) = walk.next()? {
-///     out.extend_from_slice(walk.last())?;
+/// let mut iter = Walk::new(alloc, &section);
+/// while let Some(offset) = iter.next()? {
+///     out.extend_from_slice(iter.last())?;
 /// }
 /// ```
 #[derive(Drop)]
@@ -44,7 +44,7 @@ impl<'a> Model for Walk<'a> {
 }
 
 impl<'a> Walk<'a> {
-    /// Returns an iteration that begins with the first string.
+    /// Returns an iterator before the first string. Allocates nothing.
     pub fn new(alloc: Global, section: &Section<'a>) -> Walk<'a>
         ensures { result ≡ record { last = []; ahead = placed_of section.now } }
     {
@@ -56,15 +56,15 @@ impl<'a> Walk<'a> {
         }
     }
 
-    /// Returns the last string, or nothing if there is none yet.
+    /// Returns the last decoded string, or an empty slice if there is none yet.
     pub fn last(&self) -> &[u8]
         ensures { result.now ≡ self.now.last }
     {
         &self.last
     }
 
-    /// Decodes the next string and returns its byte offset in the input, or `None` at the end. If memory runs out,
-    /// nothing changes.
+    /// Decodes the next string and returns the byte offset of its entry in the input, or `None` at the end. If memory
+    /// runs out, nothing changes.
     pub fn next(&mut self) -> Result<Option<usize>, AllocError>
         ensures place { IfOk result (λ r. r ≡ next_place self.old.ahead) }
         ensures ok { OnOk result (self.new ≡ further self.old) }
@@ -75,9 +75,9 @@ impl<'a> Walk<'a> {
         Ok(place)
     }
 
-    /// Decodes the next string as [`next`](Walk::next) does, and returns also how many bytes its entry shares with the
-    /// previous one: a lower bound of their common prefix. At the end that is 0. Linear time in the bytes that it
-    /// doesn't share.
+    /// Decodes the next string as [`next`](Walk::next) does. Returns also the prefix length of its entry, which
+    /// is a lower bound on the common prefix with the previous string, or 0 at the end. Takes time linear in the
+    /// suffix.
     pub fn next_kept(&mut self) -> Result<(Option<usize>, usize), AllocError>
         ensures place { IfOk result (λ r. r.0 ≡ next_place self.old.ahead) }
         ensures kept { IfOk result (λ r. r.1 ≤ first_agreed self.old.ahead self.old.last) }

@@ -6,7 +6,7 @@ ghost use Rattle.hdt_front.specs.Canonical.{texts, lent_texts, canonical, canoni
 use crate::section_writer::SectionWriter;
 use std::alloc::{AllocError, Global};
 
-/// Appends the canonical section of borrowed strings, as [`put_section`].
+/// Appends the canonical section of borrowed strings, as [`put_section`] does.
 fn put_lent_section(
     alloc: Global,
     strings: &[&[u8]],
@@ -16,7 +16,7 @@ fn put_lent_section(
     requires strings { AreStrings (lent_texts strings.now) }
     requires block { 1 ≤ block_size }
     ensures ok { OnOk result (out.new.items ≡ out.old.items ++ canonical block_size (lent_texts strings.now)) }
-    // It is read back as a section.
+    // The appended bytes are a section with these strings.
     ensures section { OnOk result (IsSection (canonical_parts block_size (lent_texts strings.now) (length out.old.items)) out.new.items (length out.old.items)) }
     ensures err { OnErr result (out.new.items ≡ out.old.items) }
 {
@@ -27,7 +27,7 @@ fn put_lent_section(
     writer.finish(out)
 }
 
-/// Borrows the strings of vectors, in order. Linear time and memory in their number.
+/// Returns the vectors as slices, in order. Takes time and memory linear in their number.
 pub fn lent_strings<'a>(alloc: Global, strings: &'a [Vec<u8>]) -> Result<Vec<&'a [u8]>, AllocError>
     ensures { IfOk result (λ r. lent_texts r.items ≡ texts strings.now) }
 {
@@ -38,10 +38,10 @@ pub fn lent_strings<'a>(alloc: Global, strings: &'a [Vec<u8>]) -> Result<Vec<&'a
     Ok(slices)
 }
 
-/// Appends the canonical section of strings, with so many strings a block: the longest shared prefixes, block offsets
-/// of the least width, padding bits 0; without strings the one block offset 0. The strings must be valid
-/// ([`are_strings`](crate::are_strings)), and the block size at least 1. If memory runs out, `out` is unchanged. Linear
-/// time in the strings, which are not copied.
+/// Appends the canonical section of the strings, with `block_size` strings per block: longest shared prefixes, block
+/// offsets of the least width, padding bits 0, and the single block offset 0 if there are no strings. The strings must
+/// satisfy [`are_strings`](crate::are_strings), and the block size must be at least 1. If memory
+/// runs out, `out` is unchanged. Takes time linear in the total length of the strings.
 pub fn put_section(
     alloc: Global,
     strings: &[Vec<u8>],
@@ -51,7 +51,7 @@ pub fn put_section(
     requires strings { AreStrings (texts strings.now) }
     requires block { 1 ≤ block_size }
     ensures ok { OnOk result (out.new.items ≡ out.old.items ++ canonical block_size (texts strings.now)) }
-    // It is read back as a section.
+    // The appended bytes are a section with these strings.
     ensures section { OnOk result (IsSection (canonical_parts block_size (texts strings.now) (length out.old.items)) out.new.items (length out.old.items)) }
     ensures err { OnErr result (out.new.items ≡ out.old.items) }
 {

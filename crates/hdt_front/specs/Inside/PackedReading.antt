@@ -1,4 +1,4 @@
--- What was read above the strings, as the checks see it.
+-- Views of what was read before the strings, in the terms of the checks.
 use Rattle.std.specs.Prelude.{ℕ}
 use Rattle.hdt_front.specs.declared.reading.Head.{Head}
 use Rattle.hdt_seq.specs.Numbers.{numbers_of, numbers_places}

@@ -1,11 +1,11 @@
--- The usual entry that is not the first of its block.
+-- The usual entry: not the first of its block, a one-byte prefix length, an ASCII suffix.
 use Rattle.std.specs.Prelude.{◌≡◌, ℕ, ◌<◌, ◌≤◌, ◌++◌, true, List, length, take, drop, Ok}
 use Rattle.std.specs.Str.{is_utf8}
 use Rattle.hdt_wire.specs.Rows.{zero_in}
 use Rattle.hdt_wire.specs.VByte.{vbyte_at}
 use Rattle.hdt_front.specs.StringRows.{precedes}
 
--- its checks hold, where its number has one byte and its text so many
+-- The checks of an entry with a one-byte prefix length `kept` and a suffix of length `len` hold.
 pub record IsPlainPiece (before rest : List ℕ) (kept len : ℕ) : Type 0 where
   pub number : vbyte_at rest 0 ≡ Ok (kept, 1)
   pub fits : kept ≤ length before

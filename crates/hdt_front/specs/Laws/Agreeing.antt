@@ -1,4 +1,4 @@
--- Laws of how far strings agree, and of the order that this decides, which other crates use.
+-- Laws of the longest common prefix and of the order of strings. Other crates use them.
 use Rattle.std.proofs.Common.{◌≡◌, ℕ, zero, suc, ◌+◌, ◌<◌, ◌≤◌, Bool, true, false, cond, nat_eq, nat_lt, List, [], ◌∷◌, length, refl, sym, ap, ◌∙◌, subst, arith, Ordering}
 use Rattle.std.specs.declared.cmp.Ordering.TheVariants.{Less, Equal, Greater}
 use Rattle.std.specs.Ordering.{ordering_then}
@@ -9,7 +9,7 @@ use Rattle.hdt_front.specs.Order.{string_cmp}
 abbrev pub both : Bool → Bool → Ordering → Ordering
 both lt eq o = ordering_then (cond lt Less (cond eq Equal Greater)) o
 
--- ---- strings that agree
+-- ---- the longest common prefix
 
 byte_by : (eq : Bool) (b c n k : ℕ) → nat_eq b c ≡ eq → suc k ≤ cond eq (1 + n) 0 → (b ≡ c) × (k ≤ n)
 byte_by true b c n k e h = (grind (arith, nat_tests, e), omega (arith, h))
@@ -29,7 +29,7 @@ agree_back (suc k) (a ∷ x) (b ∷ y) h =
     let s = same_byte a b (agreed x y) k h in
     omega (arith, agree_back k x y s.1, ap (λ (t : Bool). cond t (1 + agreed y x) 0) (equal_bytes b a (sym s.0)))
 
--- two strings agree as far as the other way round
+-- It is symmetric.
 pub agree_so : (x y : List ℕ) → agreed x y ≡ agreed y x
 agree_so x y = omega (arith, agree_back (agreed x y) x y (omega arith), agree_back (agreed y x) y x (omega arith))
 
@@ -43,12 +43,12 @@ all_agree (suc k) (a ∷ x) (b ∷ y) (c ∷ z) h i =
     let t = same_byte b c (agreed y z) k i in
     omega (arith, all_agree k x y z s.1 t.1, ap (λ (t : Bool). cond t (1 + agreed x z) 0) (equal_bytes a c (s.0 ∙ t.0)))
 
--- a string agrees with itself
+-- That of a string with itself is the string.
 pub itself_agrees : (x : List ℕ) → agreed x x ≡ length x
 itself_agrees [] = refl
 itself_agrees (a ∷ x) = omega (arith, itself_agrees x, ap (λ (t : Bool). cond t (1 + agreed x x) 0) (equal_bytes a a refl))
 
--- ---- a string that keeps more than agreed lies as the previous one
+-- ---- a string that shares more with the previous one than that shares with x compares with x as the previous one
 
 turn_step : (lt eq : Bool) (o p : Ordering) (n m k : ℕ) → (n < k → (p ≡ o) × (m ≡ n)) → cond eq (1 + n) 0 < suc k → (both lt eq p ≡ both lt eq o) × (cond eq (1 + m) 0 ≡ cond eq (1 + n) 0)
 turn_step true true o p n m k rest more = let r = rest (omega (arith, more)) in (refl, ap (λ x. 1 + x) r.1)

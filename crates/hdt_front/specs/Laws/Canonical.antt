@@ -1,4 +1,4 @@
--- The canonical bytes of a section are those of a section.
+-- The canonical bytes of strings encode their section.
 use Rattle.std.proofs.Common.{◌≡◌, ◌≢◌, ℕ, zero, suc, ◌+◌, ◌-◌, ◌*◌, ◌/◌, ◌%◌, ◌<◌, ◌≤◌, ◌^◌, Bool, true, false, cond, List, [], ◌∷◌, ◌++◌, length, take, drop, get_or, nat_eq, min, inr, refl, sym, ap, subst, ◌∙◌, arith, Ok, length-append, length-drop, eqb-true, append_assoc}
 use Rattle.std.specs.List.{concat, common_prefix_len}
 use Rattle.std.proofs.Math.Nat.{mod-lt, div-eq_of_lt, mul-le-mul_left}
@@ -31,7 +31,7 @@ agree_step true x y n xs ys same rest =
     ap (λ (k : ℕ). take k (x ∷ xs)) one ∙ ap (λ (c : ℕ). c ∷ take n xs) (same refl) ∙ ap (λ (l : List ℕ). y ∷ l) rest ∙ sym (ap (λ (k : ℕ). take k (y ∷ ys)) one)
 agree_step false x y n xs ys same rest = refl
 
--- the bytes in common are the same
+-- The bytes of the common prefix are equal.
 pub front_agrees : (x y : List ℕ) → take (common_prefix_len nat_eq x y) x ≡ take (common_prefix_len nat_eq x y) y
 front_agrees [] y = refl
 front_agrees (b ∷ x) [] = refl
@@ -50,7 +50,7 @@ piece_is false before string small = record {
   is = refl;
 }
 
--- a string is no longer than the previous one and its entry
+-- A string is no longer than the previous string and its entry together.
 longer : (h : Bool) (before string : List ℕ) → length string + 1 ≤ length before + length (piece_of h before string)
 unfolding piece_of
 longer true before string = omega (arith, length-append string (0 ∷ []))
@@ -58,7 +58,7 @@ longer false before string =
     let k : ℕ = common_prefix_len nat_eq before string in
     omega (arith, (common_prefix_len-le nat_eq before string).0, length-append (vbyte k) (drop k string ++ 0 ∷ []), length-append (drop k string) (0 ∷ []), length-drop k string)
 
--- an entry has a byte at least
+-- An entry has at least one byte.
 some_byte : (h : Bool) (before string : List ℕ) → 1 ≤ length (piece_of h before string)
 unfolding piece_of
 some_byte true before string = omega (arith, length-append string (0 ∷ []))
@@ -83,7 +83,7 @@ unfolding pieces_from
 many_pieces b i before [] = refl
 many_pieces b i before (s ∷ strings) = ap suc (many_pieces b (i + 1) s strings)
 
--- each entry takes a byte
+-- Each entry takes at least one byte.
 pub enough_bytes : (b i : ℕ) (before : List ℕ) (strings : List (List ℕ)) → length strings ≤ length (concat (pieces_from b i before strings))
 unfolding pieces_from
 enough_bytes b i before [] = omega arith
@@ -91,7 +91,7 @@ enough_bytes b i before (s ∷ strings) =
     let p : List ℕ = piece_of (is_head b i) before s in
     omega (arith, length-append p (concat (pieces_from b (i + 1) s strings)), some_byte (is_head b i) before s, enough_bytes b (i + 1) s strings)
 
--- ---- starts
+-- ---- block offsets
 
 ceil_by : (q r b : ℕ) → r < b → (q * b + r + (b - 1)) / b ≡ q + min 1 r
 ceil_by q zero b h =
@@ -103,7 +103,7 @@ ceil_by q (suc r) b h =
     let same : q + 1 ≡ q + min 1 (suc r) = omega arith in
     ap (λ k. k / b) e ∙ div-mul-add (q + 1) b r (omega (arith, h)) ∙ same
 
--- how many blocks i strings take
+-- The number of blocks of i strings.
 blocks : (b i : ℕ) → 1 ≤ b → (i + (b - 1)) / b ≡ i / b + min 1 (i % b)
 blocks b i some = ap (λ k. (k + (b - 1)) / b) (sym (div-add-mod' i b)) ∙ ceil_by (i / b) (i % b) b (mod-lt i some)
 
@@ -112,7 +112,7 @@ blocks_next b i some =
     let e : i + 1 + (b - 1) ≡ (i / b + 1) * b + i % b = omega (arith, div-add-mod' i b, some) in
     ap (λ k. k / b) e ∙ div-mul-add (i / b + 1) b (i % b) (mod-lt i some)
 
--- a head is the first string of a further block
+-- The first string of a block begins a new block.
 blocks_head : (b i : ℕ) → 1 ≤ b → is_head b i ≡ true → (i + (b - 1)) / b ≡ i / b
 blocks_head b i some h = blocks b i some ∙ (let e : i / b + min 1 (i % b) ≡ i / b = omega (arith, eqb-true _ _ h) in e)
 
@@ -165,7 +165,7 @@ low_step true at end more le rest zero = le
 low_step true at end more le rest (suc k) = rest k
 low_step false at end more le rest k = rest k
 
--- no start is past the end
+-- No block offset is past the end.
 starts_low : (b i at : ℕ) (pieces : List (List ℕ)) (k : ℕ) → get_or (starts_from b i at pieces) k 0 ≤ at + length (concat pieces)
 unfolding starts_from start_of
 starts_low b i at [] zero = omega arith
@@ -240,7 +240,7 @@ canonical_stands b strings bytes at end some low are small h =
       end = e;
     }) bytes at) h.end_is (section_stands strings b (starts_of b strings) (packed_of b strings) bytes at end (can_stand b strings some low are short) h)
 
--- they are read back, whatever precedes and follows them
+-- The canonical bytes are read back, whatever precedes and follows them.
 pub canonical_again : (b : ℕ) (strings : List (List ℕ)) (before after : List ℕ) → 1 ≤ b → b < 2 ^ 64 → AreStrings strings
     → IsBytes (before ++ canonical b strings ++ after) → length (before ++ canonical b strings ++ after) < 2 ^ 64
     → section_at (before ++ canonical b strings ++ after) (length before) ≡ Ok (canonical_parts b strings (length before))

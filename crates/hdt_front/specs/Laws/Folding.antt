@@ -1,4 +1,4 @@
--- Folded strings by their numbers, and by one after another.
+-- The definitions of front coding by index and by recursion are equivalent.
 use Rattle.std.proofs.Common.{◌≡◌, ◌≢◌, ℕ, zero, suc, ◌+◌, ◌-◌, ◌/◌, ◌<◌, ◌||◌, Bool, true, false, List, [], ◌∷◌, length, take, get_or, nat_eq, refl, sym, ap, subst, ◌∙◌, arith, length-append, add-zero, add-one, zero-add, Ordering}
 use Rattle.std.specs.List.{concat}
 use Rattle.std.specs.Str.{is_utf8}
@@ -50,7 +50,7 @@ all_pieces b i last (s ∷ ss) (p ∷ ps) same each = (
       subst (λ (n : ℕ). IsPiece (is_head b n) (get_or (s ∷ ss) k []) (get_or ss k []) (get_or ps k [])) next (each (suc k) (omega (arith, lt)))),
 )
 
--- ---- starts
+-- ---- block offsets
 
 each_start : (b i at : ℕ) (pieces : List (List ℕ)) (starts : List ℕ) → AreBlockStarts b i at pieces starts
     → (k : ℕ) → k < length pieces → is_head b (i + k) ≡ true → get_or starts ((i + k) / b) 0 ≡ at + length (concat (take k pieces))
@@ -95,7 +95,7 @@ all_starts b i at (p ∷ ps) starts each last =
           sym (ap (λ (n : ℕ). get_or starts ((n + (b - 1)) / b) 0) next) ∙ omega (arith, e, length-append p (concat ps))),
     )
 
--- ---- the whole
+-- ---- the section
 
 pub folded_found : (b : ℕ) (strings : List (List ℕ)) (packed starts : List ℕ) → Folded b 0 0 [] strings packed starts → AreFolded b strings packed starts
 folded_found b strings packed starts h =

@@ -1,4 +1,4 @@
--- The place of a string is where its entry begins.
+-- The offset of a string is that of its entry.
 use Rattle.std.proofs.Common.{◌≡◌, ℕ, zero, suc, ◌+◌, ◌<◌, ◌≤◌, List, [], ◌∷◌, ◌++◌, length, take, drop, get_or, sym, ap, ◌∙◌, arith, length-append}
 use Rattle.std.specs.List.{concat}
 use Rattle.std.proofs.Math.Seq.{drop-cons}
@@ -10,7 +10,7 @@ use Rattle.hdt_front.specs.Laws.StringsOnly.{piece_stands}
 use Rattle.hdt_front.specs.Laws.Folding.{nonzero_to}
 use Rattle.hdt_front.specs.Section.{SectionParts, before, AreFolded, AreStrings, IsSection, string_place}
 
--- what is left where entry i begins are the entries from i on
+-- The bytes from entry i on are the entries from i on.
 rests : (b : ℕ) (strings : List (List ℕ)) (packed starts : List ℕ) (f : AreFolded b strings packed starts) → AreStrings strings
     → (i : ℕ) → i ≤ length strings → rest_at b i packed ≡ concat (drop i f.pieces)
 unfolding rest_at

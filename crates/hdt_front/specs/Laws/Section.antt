@@ -1,4 +1,4 @@
--- The checks of a section are exact: what they give is encoded there, and what is encoded there they give.
+-- The checks of a section are sound and complete: they accept exactly the sections that are encoded at the offset.
 use Rattle.std.proofs.Common.{◌≡◌, ◌⊎◌, ℕ, zero, suc, ◌+◌, ◌*◌, ◌<◌, ◌||◌, true, false, not, List, [], ◌∷◌, ◌++◌, length, slice_index, eqb, ltb, leb, Ok, inl, inr, refl, ap, subst, ◌∙◌, arith}
 use Rattle.std.specs.Prelude.{slice_range}
 use Rattle.std.specs.List.{concat}
@@ -28,7 +28,7 @@ use Rattle.hdt_front.specs.Laws.StringsOnly.{rows_only}
 use Rattle.hdt_front.specs.Laws.Folding.{folded_found, folded_only, strings_are, strings_ascend}
 use Rattle.hdt_front.specs.Section.{AreStrings, SectionParts, SectionHeadParts, PackedParts, HasStarts, IsSection, starts_counted, packing_with, head_at, packed_parts_at, section_at}
 
--- ---- the checks about counts
+-- ---- the checks of the numbers
 
 later : (n : ℕ) → eqb (suc n) 0 ≡ false
 later n = grind (arith, nat_tests)
@@ -60,7 +60,7 @@ unfolding ArePieces
 no_pieces b packed [] each e = e
 no_pieces b packed (x ∷ xs) each e = absurd each
 
--- without strings there are no front-coded bytes
+-- Without strings there are no front-coded bytes.
 nothing_packed : (b at : ℕ) (strings : List (List ℕ)) (packed starts : List ℕ) → Folded b 0 at [] strings packed starts → (not (eqb (length strings) 0) || eqb (length packed) 0) ≡ true
 nothing_packed b at [] packed starts h = (Decides-eqb _ _).1 (ap length (no_pieces b packed h.pieces h.each h.joined))
 nothing_packed b at (x ∷ xs) packed starts h = rw later refl
@@ -72,11 +72,11 @@ strings_found : (p : Packing) (n : ℕ) (packed : List ℕ) → p.size ≡ lengt
 unfolding NoZero
 strings_found p n packed size bs e = found_from p n 0 0 [] packed (omega (arith, size)) tt bs e
 
--- what a section keeps is of strings that ascend
+-- The decoded strings of checked bytes can form a section.
 pub strings_ascend_in : (p : Packing) (n : ℕ) (packed : List ℕ) → p.size ≡ length packed → IsBytes packed → strings_at p n 0 [] packed ≡ Ok tt → AreStrings (unfolded p.block n 0 [] packed)
 strings_ascend_in p n packed size bs e = strings_are (unfolded p.block n 0 [] packed) (strings_found p n packed size bs e).1
 
--- what the checks of the head leave
+-- The preamble is encoded at the offset.
 pub record IsHead (h : SectionHeadParts) (bytes : List ℕ) (at : ℕ) : Type 0 where
   pub size_place : ℕ
   pub block_place : ℕ
@@ -125,7 +125,7 @@ head_exact bytes at fits = record {
       rw (r1, r2, r3, r4, r5, t1, h.none) refl;
 }
 
--- what the checks above those of the strings leave
+-- The parts before the strings are encoded at the offset.
 pub record AreParts (p : PackedParts) (bytes : List ℕ) (at : ℕ) : Type 0 where
   pub starts_place : ℕ
   pub head : IsHead (record { count = p.count; size = length p.packed; block_size = p.block_size; starts_place = starts_place }) bytes at

@@ -1,4 +1,4 @@
--- The bytes that are written for a section are those of that section.
+-- The bytes that are written for a section encode it.
 use Rattle.std.proofs.Common.{ℕ, ◌+◌, ◌<◌, ◌^◌, List, [], ◌∷◌, ◌++◌, length, refl, sym, subst}
 use Rattle.std.specs.Prelude.{slice_index}
 use Rattle.byteorder.specs.Endian.{little_bytes}

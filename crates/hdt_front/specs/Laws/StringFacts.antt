@@ -1,4 +1,4 @@
--- From the checks of strings to facts by places.
+-- What the checks of one string establish.
 use Rattle.std.proofs.Common.{◌≡◌, ℕ, ◌+◌, ◌-◌, ◌/◌, ◌||◌, ◌++◌, Bool, true, false, cond, List, length, take, drop, get_or, Result, Ok, Err, refl, sym, ap, ◌∙◌, nat_le, nat_lt, leb-true, ltb-true, eqb-true, eqb}
 use Rattle.std.specs.Prelude.{if◌then◌else◌}
 use Rattle.std.specs.Str.{is_utf8}

@@ -1,4 +1,4 @@
--- Facts by the numbers of strings.
+-- What the checks of all strings establish about the string of each index.
 use Rattle.std.proofs.Common.{◌≡◌, ℕ, zero, suc, ◌+◌, ◌-◌, ◌<◌, ◌≤◌, Bool, true, false, cond, List, [], ◌∷◌, length, drop, get_or, Ok, refl, sym, ap, ◌∙◌, arith, length-drop, add-one, add-zero, zero-add}
 use Rattle.std.proofs.lemmas.List.{drop-drop}
 use Rattle.hdt_wire.specs.Rows.{zero_in}
@@ -17,7 +17,7 @@ step p m i before rest e =
     let h = row_holds p i before rest y ey in
     (h.0, sym (ap (λ (z : List ℕ × List ℕ). strings_at p m (i + 1) z.0 z.1) h.1) ∙ more))
 
--- the checks from string i on
+-- The checks from string i on hold.
 pub walked : (p : Packing) (n i : ℕ) (bytes : List ℕ) → i ≤ n → strings_at p n 0 [] bytes ≡ Ok tt → strings_at p (n - i) i (before_at p.block i bytes) (rest_at p.block i bytes) ≡ Ok tt
 unfolding before_at rest_at
 walked p n zero bytes h e = let same : n - 0 ≡ n = omega arith in ap (λ k. strings_at p k 0 [] bytes) same ∙ e
@@ -32,7 +32,7 @@ row_at p n i bytes h e =
     let k : n - i ≡ suc (n - suc i) = omega (arith, h) in
     (step p (n - suc i) i (before_at p.block i bytes) (rest_at p.block i bytes) (sym (ap (λ m. strings_at p m i (before_at p.block i bytes) (rest_at p.block i bytes)) k) ∙ walked p n i bytes (omega (arith, h)) e)).0
 
--- the strings by their numbers
+-- The strings by index.
 strings_from : (b n i j : ℕ) (bytes : List ℕ) → j < n → get_or (unfolded b n i (before_at b i bytes) (rest_at b i bytes)) j [] ≡ before_at b (suc (i + j)) bytes
 unfolding unfolded before_at rest_at
 strings_from b zero i j bytes h = absurd (omega (arith, h))
@@ -47,7 +47,7 @@ pub string_is : (b n i : ℕ) (bytes : List ℕ) → i < n → get_or (unfolded 
 unfolding before_at rest_at
 string_is b n i bytes h = strings_from b n 0 i bytes h ∙ ap (λ k. before_at b (suc k) bytes) (zero-add i)
 
--- what is left is an end of the bytes
+-- The unread bytes are a suffix of all bytes.
 behind : (b i : ℕ) (bytes : List ℕ) → (m : ℕ) × (rest_at b i bytes ≡ drop m bytes)
 unfolding rest_at after_piece text_from
 behind b zero bytes = (0, refl)
@@ -89,7 +89,7 @@ shorter false rest ends =
     let e : ℕ = (read_or (0, 0) (vbyte_at rest 0)).1 in
     omega (arith, ends, length-drop (zero_in (drop (read_or (0, 0) (vbyte_at rest 0)).1 rest) + 1) (drop (read_or (0, 0) (vbyte_at rest 0)).1 rest), length-drop (read_or (0, 0) (vbyte_at rest 0)).1 rest)
 
--- each string takes a byte
+-- Each string takes at least one byte.
 pub few : (p : Packing) (n i : ℕ) (before rest : List ℕ) → strings_at p n i before rest ≡ Ok tt → n ≤ length rest
 few p zero i before rest e = omega arith
 few p (suc n) i before rest e =

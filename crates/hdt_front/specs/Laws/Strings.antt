@@ -1,4 +1,4 @@
--- Laws of sections that were read.
+-- Laws of a section that was read.
 use Rattle.std.proofs.Common.{◌≡◌, ◌≤◌, ◌+◌, ◌<◌, ℕ, [], length, Result, Ok, Err, arith}
 use Rattle.std.specs.Prelude.{IfOk}
 use Rattle.hdt_front.specs.declared.section.Section.{Section}
@@ -7,16 +7,16 @@ use Rattle.hdt_front.specs.Packed.{packing_of}
 use Rattle.hdt_front.specs.Laws.StringSteps.{length-unfolded, few}
 use Rattle.hdt_front.specs.Strings.{strings_of}
 
--- the number of strings
+-- The stored number of strings is that of the decoded strings.
 pub count_is : (s : Section) → length (strings_of s) ≡ s.packed.count
 unfolding strings_of
 count_is s = length-unfolded s.packed.block s.packed.count 0 [] s.packed.bytes.now
 
--- each string takes a byte
+-- Each string takes at least one byte.
 pub few_strings : (s : Section) → length (strings_of s) ≤ length s.packed.bytes.now
 few_strings s = omega (arith, count_is s, few (packing_of s.packed) s.packed.count 0 [] s.packed.bytes.now s.read)
 
--- so they are fewer than the bytes of the section
+-- So the strings are fewer than the bytes of the section.
 pub fewer : (at size : ℕ) (r : Result (Section × ℕ) ReadFault) → IfOk r (λ x. (at + length x.0.packed.bytes.now < x.1) × (x.1 ≤ size)) → IfOk r (λ x. (at + length (strings_of x.0) < x.1) × (x.1 ≤ size))
 fewer at size (Ok x) h = (omega (arith, few_strings x.0, h.0), h.1)
 fewer at size (Err e) h = tt

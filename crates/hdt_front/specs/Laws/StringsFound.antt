@@ -1,4 +1,4 @@
--- Where the checks hold, the strings are front-coded.
+-- Soundness: if the checks hold, the bytes are a front coding of the decoded strings.
 use Rattle.std.proofs.Common.{◌≡◌, ℕ, zero, suc, ◌+◌, ◌-◌, ◌^◌, ◌<◌, ◌≤◌, ◌++◌, ◌||◌, Bool, true, false, not, cond, List, [], ◌∷◌, length, take, drop, get_or, Ok, refl, sym, ap, ◌∙◌, arith, subst, nat_eq, eqb, eqb-true, ltb, ltb-true, length-append, length-take-le, append_assoc}
 use Rattle.std.proofs.lemmas.List.{take_more, take-append-drop, take_at, drop_at, nil_from_length}
 use Rattle.std.proofs.lemmas.List.Sums.{prefix_len_stops}

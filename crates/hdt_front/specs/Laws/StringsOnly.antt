@@ -1,4 +1,4 @@
--- Where strings are front-coded, the checks hold, and they read these strings.
+-- Completeness: on a front coding of strings the checks hold, and the bytes decode to these strings.
 use Rattle.std.proofs.Common.{◌≡◌, ℕ, zero, suc, ◌+◌, ◌-◌, ◌/◌, ◌<◌, ◌≤◌, ◌++◌, ◌||◌, Bool, true, false, not, cond, List, [], ◌∷◌, length, take, drop, get_or, Result, Ok, refl, sym, ap, ◌∙◌, arith, subst, eqb, nat_le, nat_lt, eq-eqb, le-leb, lt-ltb, length-append, append_assoc}
 use Rattle.std.specs.Prelude.{if◌then◌else◌}
 use Rattle.std.specs.List.{concat}
@@ -57,7 +57,7 @@ pub record PieceStands (h : Bool) (before string rest more : List ℕ) : Type 0 
   pub string_is : string_of_piece h before rest ≡ string
   pub after_is : after_piece h rest ≡ more
 
--- a text, its zero byte and more
+-- The bytes t are the text x, a zero byte, and then `more`.
 record TextStands (t x more : List ℕ) : Type 0 where
   ends : zero_in t < length t
   text : take (zero_in t) t ≡ x

@@ -1,4 +1,4 @@
--- Laws of the strings with their offsets, which other crates use.
+-- Laws of iteration over a section. Other crates use them.
 use Rattle.std.proofs.Common.{◌≡◌, ℕ, zero, suc, ◌+◌, List, [], ◌∷◌, refl, ap}
 use Rattle.hdt_front.specs.declared.section.Section.{Section}
 use Rattle.hdt_front.specs.Unfolding.{is_head, string_of_piece, after_piece, unfolded}
@@ -16,12 +16,12 @@ strings_from p (suc n) i before rest =
     let s : List ℕ = string_of_piece (is_head p.block i) before rest in
     ap (λ l. s ∷ l) (strings_from p n (i + 1) s (after_piece (is_head p.block i) rest))
 
--- without their offsets they are the section's strings
+-- The iterated strings are those of the section.
 pub strings_placed : (s : Section) → strings (placed_of s) ≡ strings_of s
 unfolding placed_of strings_of
 strings_placed s = strings_from (packing_of s.packed) s.packed.count 0 [] s.packed.bytes.now
 
--- they ascend
+-- They ascend.
 pub ascends_placed : (s : Section) → PlacedAscend (placed_of s)
 unfolding placed_of
 ascends_placed s = ascends_from (packing_of s.packed) s.packed.count s.packed.bytes.now s.read

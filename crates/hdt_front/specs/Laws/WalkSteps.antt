@@ -1,4 +1,4 @@
--- An iteration over the strings of a section, one step.
+-- One step of an iteration.
 use Rattle.std.proofs.Common.{◌≡◌, ◌≢◌, Bool, true, false, ◌||◌, eqb, ℕ, zero, suc, ◌+◌, ◌-◌, ◌≤◌, ◌++◌, List, [], ◌∷◌, length, take, Option, Some, Ok, sym, ap, ◌∙◌, arith, subst}
 use Rattle.std.proofs.lemmas.Bool.Decides.{nat_tests}
 use Rattle.hdt_front.specs.Unfolding.{is_head, kept, text_of, string_of_piece, after_piece}
@@ -14,7 +14,7 @@ ended p count i last rest e = let none : count - i ≡ 0 = omega (arith, e) in a
 pub stays : (w : Way) → w.ahead ≡ [] → w ≡ further w
 stays w e = sym (ap (further_by w) e)
 
--- the iteration stands before string i
+-- The facts about the step to string i.
 pub record Moves (p : Packing) (count i : ℕ) (last rest : List ℕ) : Type 0 where
   pub row : RowHolds p i last rest
   pub rows : strings_at p (count - (i + 1)) (i + 1) (string_of_piece (is_head p.block i) last rest) (after_piece (is_head p.block i) rest) ≡ Ok tt
@@ -74,7 +74,7 @@ ascends_from p (suc n) bytes e =
     let one : 0 + 1 ≡ suc 0 = omega arith in
     after_from p n 0 S A s.1
 
--- ---- a cursor behind the first step
+-- ---- a cursor after its first step
 
 here_by : (last : List ℕ) (ahead : List Placed) (r : Option ℕ) (v : Way) → r ≡ next_place ahead → v ≡ further_by (record { last = last; ahead = ahead }) ahead → here r v ≡ ahead
 here_by last [] r v e f = ap (λ r. here r v) e
