@@ -11,7 +11,7 @@ use hdt_wire::Counted;
 use std::alloc::{AllocError, Global};
 use std::io::Read;
 
-/// The error of running out of memory in this line.
+/// The out-of-memory error of this line.
 fn no_memory(line: u64) -> LineFault
     ensures { result ≡ record { line = line; column = 0; reason = reasons.OutOfMemory } }
 {
@@ -23,8 +23,8 @@ fn no_memory(line: u64) -> LineFault
 }
 
 /// Returns the triples of a document (W3C RDF 1.1 N-Triples, section 2, by the profile of docs/NTRIPLES.md), in their
-/// order, however the reader cuts it into pieces. `limit` is the greatest number of bytes that it may have. Linear time
-/// in the input; memory for its longest line and the terms.
+/// order, however the reader cuts it into pieces. It may have at most `limit` bytes. Linear time; memory for its longest
+/// line and the terms.
 ///
 /// # Errors
 ///

@@ -1,8 +1,8 @@
 //! N-Triples terms and lines: parsing, writing, and conversion to and from HDT dictionary strings.
 //!
-//! Guarantees: [`parse_term`] returns the term if the text matches the grammar (W3C RDF 1.1 N-Triples, section 7, by the
-//! profile of docs/NTRIPLES.md), else the first error with its column. Parsing what [`put_term`] writes returns the same
-//! term. [`term_string`] and [`string_term`] are inverse, and different terms have different strings.
+//! Guarantees: [`parse_term`] returns the term if the text matches the grammar (W3C RDF 1.1 N-Triples, section 7, by
+//! the profile of docs/NTRIPLES.md), else the first error with its column. Parsing what [`put_term`] writes returns the
+//! same term. [`term_string`] and [`string_term`] are inverse, and different terms have different strings.
 //!
 //! Functions that state no cost take constant time and allocate nothing. Laws do nothing when called.
 //!
@@ -16,9 +16,9 @@
 //! N-Triples text of a dictionary string. Neither allocates a term.
 //!
 //! [`Lines`] returns the triples of a document line by line: [`Lines::next_triple`] as terms, which is simple, and
-//! [`Lines::next_strings`] as dictionary strings in the caller's buffers, which is fast. [`Lines::next_text`] returns the
-//! text of each line, valid or not; [`read_request`] parses a line as a triple pattern. [`read_document`] returns all
-//! triples of an input. How the reader cuts the input into pieces makes no difference to any of them.
+//! [`Lines::next_strings`] as dictionary strings in the caller's buffers, which is fast. [`Lines::next_text`] returns
+//! the text of each line, valid or not; [`read_request`] parses a line as a triple pattern. [`read_document`] returns
+//! all triples of an input. How the reader cuts the input into pieces makes no difference to any of them.
 //!
 //! In reading order: `term`, `text` and `triple`, the types; `fault`, the errors; `chars`, character classes;
 //! `byte_runs`, runs of bytes, 16 at a time; `encoding`, UTF-8; the tokens, `escaped_tokens` (the content of IRIs and

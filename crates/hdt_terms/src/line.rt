@@ -108,7 +108,7 @@ fn put_role<'a>(role: Role, bytes: &'a [u8], out: &mut Vec<u8>) -> Result<&'a [u
     append_here(role, after_blanks(bytes), out)
 }
 
-/// The triple of a line, or where reading it fails.
+/// The triple of a line, or the first check that fails.
 #[tactic(auto, unfolding(crate::specs::LineReading::line_triple_at))]
 fn read_terms(alloc: Global, text: &[u8]) -> Result<Triple, ReadError>
     requires { IsUtf8 text.now }

@@ -123,7 +123,7 @@ impl Lines {
         if self.ended { self.ends + 1 } else { self.ends }
     }
 
-    /// Whether the first n bytes are a line without a triple; fails if they are not UTF-8, which `is_text` may rule out.
+    /// Whether the first n bytes are a line without a triple. Fails if they are not UTF-8; `is_text` says that they are.
     fn look(&self, n: usize, is_text: bool) -> Result<bool, LineFault>
         requires within { n ≤ length self.now.held }
         requires utf8 { is_text ≡ true → IsUtf8 (take n self.now.held) }
@@ -152,7 +152,7 @@ impl Lines {
         }
     }
 
-    /// The same as dictionary strings.
+    /// As above, as dictionary strings.
     fn parse_strings(
         &self,
         n: usize,
@@ -270,7 +270,7 @@ impl Lines {
         }
     }
 
-    /// The same as dictionary strings.
+    /// As above, as dictionary strings.
     fn take_strings<R: Read>(
         &mut self,
         input: &mut Counted<R>,
@@ -426,8 +426,8 @@ impl Lines {
     /// # Errors
     ///
     /// [`LineReason::Read`] if the reader failed in this call, [`LineReason::TooLong`] if the input has more bytes than
-    /// the limit and the line has no end within it, [`LineReason::OutOfMemory`] only if memory ran out. Every later call
-    /// returns the same error and reads nothing.
+    /// the limit and the line has no end within it, [`LineReason::OutOfMemory`] only if memory ran out. Every later
+    /// call returns the same error and reads nothing.
     pub fn next_text<R: Read>(
         &mut self,
         input: &mut Counted<R>,
@@ -500,7 +500,7 @@ impl Lines {
         }
     }
 
-    /// Consumes the next line piece by piece, and puts the first `most` bytes of its text into the buffer, which is empty.
+    /// Consumes the next line piece by piece, and puts the first `most` bytes of its text into the empty buffer.
     fn take_front<R: Read>(
         &mut self,
         most: usize,
@@ -540,8 +540,8 @@ impl Lines {
         }
     }
 
-    /// As [`Lines::next_text`], but keeps only the first `most` bytes of the text and discards the others. Linear time in
-    /// the line; memory only for the kept bytes, however long the line is.
+    /// As [`Lines::next_text`], but keeps only the first `most` bytes of the text and discards the others. Linear time
+    /// in the line; memory only for the kept bytes, however long the line is.
     ///
     /// # Errors
     ///

@@ -79,7 +79,7 @@ pub fn parse_term(alloc: Global, text: &[u8]) -> Result<Term, TermFault>
     read_whole(alloc, text)
 }
 
-/// Appends the string of the term of a text, or returns its first error; after an error `out` may have grown.
+/// Appends the string of the term of a text, or returns its first error. After an error `out` may be longer.
 #[tactic(auto, unfolding(crate::specs::Faults::term_in, crate::specs::Faults::checked))]
 fn append_whole(text: &[u8], out: &mut Vec<u8>) -> Result<(), TermFault>
     ensures reads { PutsParsed text.now out.old.items out.new.items result }
