@@ -23,8 +23,8 @@ fn no_memory(line: u64) -> LineFault
 }
 
 /// Returns the triples of a document (W3C RDF 1.1 N-Triples, section 2, by the profile of docs/NTRIPLES.md), in their
-/// order, however the reader cuts it into pieces. It may have at most `limit` bytes. Linear time; memory for its longest
-/// line and the terms.
+/// order, however the reader cuts it into pieces. It may have at most `limit` bytes. Linear time; memory for its
+/// longest line and the terms.
 ///
 /// # Errors
 ///

@@ -123,7 +123,7 @@ impl Lines {
         if self.ended { self.ends + 1 } else { self.ends }
     }
 
-    /// Whether the first n bytes are a line without a triple. Fails if they are not UTF-8; `is_text` says that they are.
+    /// Whether the first n bytes are a line without a triple. Fails if they are not UTF-8. `is_text`: they are UTF-8.
     fn look(&self, n: usize, is_text: bool) -> Result<bool, LineFault>
         requires within { n ≤ length self.now.held }
         requires utf8 { is_text ≡ true → IsUtf8 (take n self.now.held) }

@@ -188,8 +188,8 @@ fn append_char(c: char, out: &mut Vec<u8>) -> Result<(), AllocError>
     out.extend_from_slice(c.encode_utf8(&mut buffer).as_bytes())
 }
 
-/// Appends the content of a token, with its escapes decoded, and returns the bytes after its end. Goes item by item, for
-/// tokens with escapes, which are rare.
+/// Appends the content of a token, with its escapes decoded, and returns the bytes after its end. Goes item by item,
+/// for tokens with escapes, which are rare.
 #[inline(never)]
 fn inside_by_items<'a>(
     token: Token,

@@ -9,8 +9,8 @@ use crate::line::{append_here, is_bare, read_bare};
 use crate::literal::after_blanks;
 use hdt_wire::Role;
 
-/// Skips whitespace, then reads `?`, or puts the string of the term of the role into the buffer. Returns whether it is a
-/// term, and the bytes after it.
+/// Skips whitespace, then reads `?`, or puts the string of the term of the role into the buffer. Returns whether it is
+/// a term, and the bytes after it.
 #[tactic(auto, unfolding(crate::specs::RequestReading::part_at, crate::specs::RequestReading::part_here))]
 fn put_part<'a>(
     role: Role,
