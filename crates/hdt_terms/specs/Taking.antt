@@ -108,7 +108,7 @@ line_number s = if s.ended then s.ends + 1 else s.ends
 abbrev pub TakesTriple : State → State → Option (List ℕ) → Option (List ℕ) → Triple → Type 0
 TakesTriple old new before after triple = (front : List ℕ) × (bytes : List ℕ) × Takes old new before after (front ++ bytes) × BareLines front × OneLine bytes (Some triple) new after
 
--- The input has ended, and what remained was a document without triples.
+-- The input has ended, and the remaining input was a document without triples.
 abbrev pub TakesRest : State → State → Option (List ℕ) → Option (List ℕ) → Type 0
 TakesRest old new before after = (front : List ℕ) × (last : List ℕ) × Takes old new before after (front ++ last) × BareLines front × Line last None × NoEnd last × (new.ended ≡ true) × (new.held ≡ []) × IsAtEnd after
 
