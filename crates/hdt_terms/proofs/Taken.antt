@@ -126,8 +126,6 @@ line_taken old h n given given' grew front within going =
           (last_taken old h n given given' grew front.no_end within going p.0 p.1)
     ]
 
--- ---- reading without consuming
-
 -- ---- errors
 
 -- a read that fails, or that exceeds the limit
