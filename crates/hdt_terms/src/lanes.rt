@@ -38,12 +38,12 @@ fn first_set(mask: u64) -> usize
     }
 }
 
-/// The characters that IRIs exclude, by the low four bits of their codes: one bit for each value of the high four.
+/// The characters that IRIs exclude, by the low four bits of their codes, with one bit for each value of the high four.
 const EXCLUDED: [u8; 16] = [
     0x47, 3, 7, 3, 3, 3, 3, 3, 3, 3, 3, 0x83, 0xAB, 0x83, 0x2B, 3,
 ];
 
-/// The bit for each value of the high four bits. No byte beyond ASCII is excluded.
+/// The bit for each value of the high four bits: none beyond ASCII, as IRIs exclude no byte there.
 const ROWS: [u8; 16] = [1, 2, 4, 8, 16, 32, 64, 128, 0, 0, 0, 0, 0, 0, 0, 0];
 
 /// The first table at each lane.

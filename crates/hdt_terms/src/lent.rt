@@ -1,4 +1,4 @@
-//! Terms that borrow their texts: from dictionary strings, and from terms that are written.
+//! Terms that borrow their texts, from dictionary strings or from terms.
 ghost use Rattle.std.specs.Prelude.{◌≡◌, ◌≢◌, ◌↔◌, ◌++◌, ◌∷◌, List, ℕ, IsTrue, IfOk, MatchOption};
 ghost use Rattle.std.specs.Option.{option_map};
 ghost use Rattle.hdt_terms.specs.Terms.{IsText};

@@ -1,4 +1,4 @@
-//! Reading one line.
+//! Parsing one line.
 ghost use Rattle.std.specs.Prelude.{◌≡◌, [], ◌<◌, IfOk, IsUtf8};
 ghost use Rattle.hdt_terms.specs.Appending.{AppendsRead};
 ghost use Rattle.hdt_terms.specs.Faults.{IsRead};
@@ -80,7 +80,7 @@ fn read_role(alloc: Global, role: Role, bytes: &[u8]) -> Result<(Term, &[u8]), R
     }
 }
 
-/// Appends the string of the term of the role that begins here, and returns the bytes after it.
+/// Appends the string of the term of the role that starts here, and returns the bytes after it.
 #[tactic(auto, unfolding(crate::specs::LineReading::role_here))]
 pub fn append_here<'a>(
     role: Role,

@@ -1,4 +1,4 @@
-//! Reading a request of dictionary strings: a line of three strings, separated by tabs.
+//! Parsing a request by dictionary strings: a line of three strings, separated by tabs.
 ghost use Rattle.std.specs.Prelude.{◌≡◌, [], Ok, Err, Option};
 ghost use Rattle.hdt_terms.specs.Appending.{AppendsRead, itself};
 ghost use Rattle.hdt_terms.specs.RawReading.{raw_letter, raw_at, tab_at, nothing_at, raw_request_at, raw_request_in, is_raw_given, FillsRaw, HoldsRaw, IsLetterAt};
@@ -103,8 +103,8 @@ fn is_given(string: &[u8]) -> bool
 
 /// Reads a request by dictionary strings into the buffers. Returns which of subject, predicate and object are given, or
 /// `None` if the line has only whitespace and a comment. A request is three strings, separated by one tab each; in a
-/// string `\\`, `\n`, `\r` and `\t` are a backslash, a line feed, a carriage return and a tab. `?` is any. Linear time;
-/// it allocates only to grow the buffers.
+/// string `\\`, `\n`, `\r` and `\t` are a backslash, a line feed, a carriage return and a tab. The string `?` matches
+/// any. Linear time; memory only if the buffers grow.
 ///
 /// # Errors
 ///

@@ -1,4 +1,4 @@
-//! Reading a request: a line of subject, predicate and object, each a term or `?` for any.
+//! Parsing a request: a line of subject, predicate and object, each a term or `?` for any.
 ghost use Rattle.std.specs.Prelude.{IfOk, IsUtf8};
 ghost use Rattle.hdt_terms.specs.RequestReading.{part_at, stop_at, request_at, request_in, FillsPart, FillsAsked, HoldsRequest};
 ghost use Rattle.hdt_terms.specs.Reading.{GivesRead};

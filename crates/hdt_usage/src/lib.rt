@@ -1,7 +1,7 @@
 //! The command-line interface of `hdt`: its commands with their arguments, options and help, as a table for `clap`.
 //! hdt_command interprets what `clap` parses.
 //!
-//! Guarantee: the table is the one of specs/Table.antt, so `clap` accepts exactly the command lines that it defines.
+//! Guarantee: the table is exactly the specified one, so `clap` accepts exactly the specified command lines.
 //!
 //! It is a crate of its own because it depends only on hdt_wire, so it is proved in parallel with the others.
 //!
