@@ -58,8 +58,8 @@ fn read_whole(alloc: Global, text: &[u8]) -> Result<Term, TermFault>
     }
 }
 
-/// Parses a text that is one N-Triples term (W3C RDF 1.1 N-Triples, section 7, by the profile of docs/NTRIPLES.md), with
-/// nothing before or after it. IRIs must be absolute, U+0000 is an error, and the datatype
+/// Parses a text that is one N-Triples term (W3C RDF 1.1 N-Triples, section 7, by the profile of docs/NTRIPLES.md),
+/// with nothing before or after it. IRIs must be absolute, U+0000 is an error, and the datatype
 /// `http://www.w3.org/2001/XMLSchema#string` is dropped. Linear time; memory for the term.
 ///
 /// # Errors

@@ -69,8 +69,8 @@ fn put_parts(
 /// Reads a request, and puts the dictionary strings of its terms into the buffers. Returns which of subject, predicate
 /// and object are given, or `None` if the line has only whitespace and a comment. A request is subject, predicate and
 /// object, each a term that is allowed there in a triple, or `?` for any; then an optional full stop and an optional
-/// comment. Whitespace is optional where it is in a triple, so each line of a document is a request. Linear time; it
-/// allocates only to grow the buffers.
+/// comment. Whitespace is optional as in a triple, so each line of a document is a request for its triple. Linear time;
+/// memory only if the buffers grow.
 ///
 /// # Errors
 ///
