@@ -4,7 +4,7 @@ use Rattle.std.specs.Prelude.{◌≡◌, ◌≢◌, ◌⊎◌, ◌++◌, ◌∷�
 use Rattle.hdt_terms.specs.Lines.{IsBare}
 use Rattle.hdt_terms.specs.RawReading.{RawAsked, raw_letter}
 
--- A byte is encoded as itself, unless it is a tab or a backslash, or as a backslash and its letter.
+-- A byte is encoded unescaped, unless it is a tab or a backslash, or as a backslash and its letter.
 abbrev pub SpelledByte : List ℕ → ℕ → Type 0
 SpelledByte text b = ((text ≡ b ∷ []) × (b ≢ 9) × (b ≢ 92)) ⊎ ((e : ℕ) × (text ≡ 92 ∷ e ∷ []) × (raw_letter e ≡ Some b))
 
