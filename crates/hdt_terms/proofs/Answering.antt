@@ -1,4 +1,4 @@
--- Lines without a triple, one after another, up to a triple, an error or the end.
+-- Results after lines without a triple: a triple, the end or an error.
 use Rattle.std.proofs.Common.{◌≡◌, ℕ, true, false, List, [], ◌∷◌, ◌++◌, ◌+◌, take, Option, None, Some, Ok, inl, inr, sym, refl, subst}
 use Rattle.hdt_terms.specs.declared.fault.LineFault.{LineFault}
 use Rattle.hdt_terms.specs.declared.triple.Triple.{Triple}
@@ -19,7 +19,7 @@ one_bare bytes new after p going =
 
 module _ (a s new : State) (before mid after : Option (List ℕ)) (front text : List ℕ) (takes : Takes a s before mid front) (bare : BareLines front)
     (taken : LineTaken s new text mid after) (line : Line text None) where
-  -- the last piece
+  -- the last line
   pub rest_taken : new.ended ≡ true → TakesRest a new before after
   rest_taken end =
       let p = one_line text taken.bytes new after None taken.is line in
@@ -38,7 +38,7 @@ module _ (a s new : State) (before mid after : Option (List ℕ)) (front text : 
         )
       ]
 
-  -- one more
+  -- one more line
   pub bare_taken : new.ended ≡ false → (bytes : List ℕ) × Takes a new before after bytes × BareLines bytes
   bare_taken going = (
     front ++ taken.bytes,
@@ -46,7 +46,7 @@ module _ (a s new : State) (before mid after : Option (List ℕ)) (front text : 
     BareLines-append front taken.bytes bare (one_bare taken.bytes new after (one_line text taken.bytes new after None taken.is line) going),
   )
 
--- ---- a line that is ready
+-- ---- a line with a triple is buffered
 
 module _ (a s : State) (before given : Option (List ℕ)) (n : ℕ) (found : FindsLine (Ok (Some n)) a s before (left s given) given) where
   pub ready_fault : (fault : LineFault) → (fault.line ≡ s.ends + 1) × FaultOfTriple fault.reason fault.column (take n s.held) → FaultIsAhead fault a before given

@@ -1,11 +1,11 @@
--- The part of a vector that a buffer holds.
+-- The part of a vector that a buffer exposes.
 use Rattle.std.proofs.Common.{◌≡◌, ℕ, ◌+◌, ◌-◌, ◌≤◌, ◌<◌, List, length, drop, take, ◌++◌, Option, sym, ap, ◌∙◌, arith}
 use Rattle.std.proofs.Math.Seq.{take-add}
 use Rattle.std.proofs.lemmas.List.{drop-take, drop-drop, length-append, length-drop, length-take-le}
 use Rattle.std.specs.Io.KnownBytes.{Consumes}
 use Rattle.hdt_terms.specs.Inside.Filling.{Grew}
 
--- past the first n of them
+-- without its first n bytes
 pub skipped : (xs held : List ℕ) (start end n : ℕ) → start ≤ end → end ≤ length xs → take (end - start) (drop start xs) ≡ held → n ≤ length held
     → take (end - (start + n)) (drop (start + n) xs) ≡ drop n held
 skipped xs held start end n order within is le =
@@ -14,7 +14,7 @@ skipped xs held start end n order within is le =
     sym (ap (drop n) (sym is) ∙ ap (λ k. drop n (take k (drop start xs))) more ∙ drop-take n (end - (start + n)) (drop start xs)
     ∙ ap (take (end - (start + n))) (drop-drop n start xs))
 
--- h bytes are held at the front, and n more were read behind them
+-- h bytes are at the front, and n more were read after them
 pub read_grew : (old moved xs : List ℕ) (h n : ℕ) (before after : Option (List ℕ)) → take h moved ≡ old → h < length moved → take h xs ≡ take h moved → h + n ≤ length xs
     → Consumes before after (take n (drop h xs)) → Grew old (take (h + n - 0) xs) before after × (length (take (h + n - 0) xs) ≡ length old + n)
 read_grew old moved xs h n before after is lt front le consumed =

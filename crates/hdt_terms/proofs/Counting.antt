@@ -1,4 +1,4 @@
--- The line ends of texts, of lines and of what is taken in parts.
+-- Line ends of texts, of lines and of input that is consumed in parts.
 use Rattle.std.proofs.Common.{◌≡◌, ℕ, suc, ◌+◌, ◌<◌, Bool, true, false, ◌&&◌, ◌||◌, not, cond, eqb, List, [], ◌∷◌, ◌++◌, length, take, drop, get_or, Option, sym, refl, ap, ◌∙◌, arith, append_assoc, zero-add, add-zero, add_assoc}
 use Rattle.std.proofs.lemmas.Bool.{eqb-true, ne_eqb}
 use Rattle.std.proofs.lemmas.List.{length-append, length-take-le, take_more, take_all}
@@ -19,7 +19,7 @@ or_right : (a b : Bool) → a || b ≡ false → b ≡ false
 or_right false b e = e
 or_right true b e = cc
 
--- a text without ends
+-- a text without line ends
 
 pub head_no_cr : (b : ℕ) (bs : List ℕ) → NoEnd (b ∷ bs) → eqb b 13 ≡ false
 head_no_cr b bs p = or_right _ _ (All-head (λ x. is_end x ≡ false) b bs p)
@@ -40,7 +40,7 @@ pub cr_of_no_end : (cr : Bool) (text : List ℕ) → NoEnd text → ends_in_cr c
 cr_of_no_end cr [] p = sym (and-true cr)
 cr_of_no_end cr (b ∷ bs) p = ends_in_cr-no_end cr (b ∷ bs) p (omega arith) ∙ sym (ap (λ p. cr && p) (ne_eqb (suc (length bs)) 0 (λ z. absurd (omega (arith, z)))) ∙ and-false cr)
 
--- a text and its end
+-- a text and its line end
 
 one_end : (p q cr : Bool) → p || q ≡ true → (p ≡ true → q ≡ false) → cond {A = ℕ} (q || (p && not cr)) 1 0 + 0 ≡ cond {A = ℕ} ((cr && true) && p) 0 1
 one_end true true cr h e = absurd (cc (e refl))
@@ -69,7 +69,7 @@ pub ends_in_cr-ended : (cr : Bool) (text : List ℕ) (e : ℕ) → ends_in_cr cr
 ends_in_cr-ended cr [] e = refl
 ends_in_cr-ended cr (b ∷ bs) e = ends_in_cr-ended (eqb b 13) bs e
 
--- in parts
+-- two parts
 
 pub ends_in_cr-append : (cr : Bool) (xs ys : List ℕ) → ends_in_cr cr (xs ++ ys) ≡ ends_in_cr (ends_in_cr cr xs) ys
 ends_in_cr-append cr [] ys = refl
@@ -90,7 +90,7 @@ Takes-trans a b c x y z bs cs p q = record {
   failed = q.failed ∙ p.failed;
 }
 
--- lines one after another
+-- consecutive lines
 
 pub EndedLines-append : (xs ys : List (Option Triple)) (bs cs : List ℕ) → EndedLines xs bs → EndedLines ys cs → EndedLines (xs ++ ys) (bs ++ cs)
 EndedLines-append [] ys bs cs p q = rw p q
@@ -103,7 +103,7 @@ BareLines-append bs cs p q = record {
   no_triples = filter_map-append (λ x. x) p.lines q.lines ∙ rw (p.no_triples, q.no_triples) refl;
 }
 
--- what is kept of a line that is taken
+-- the state after a line
 
 pub one_unless : (b : Bool) → from_bool (not b) ≡ cond {A = ℕ} b 0 1
 one_unless true = refl

@@ -1,4 +1,4 @@
--- Line ends of bytes that grow.
+-- Line ends in a buffer that grows.
 use Rattle.std.proofs.Common.{◌≡◌, ℕ, ◌+◌, ◌-◌, ◌<◌, ◌≤◌, false, List, ◌++◌, length, take, drop, get_or, Option, Some, inl, sym, ap, subst, ◌∙◌, arith, append_assoc}
 use Rattle.std.proofs.lemmas.List.{length-take-le, take_all, length-drop, get_or-take, get_or-drop}
 use Rattle.std.proofs.lemmas.List.Elements.{All-append, All-from_get_or}
@@ -15,7 +15,7 @@ use Rattle.hdt_terms.specs.Inside.Filling.{Grew, FoundEnd, LineFront}
 pub Grew-trans : (x y z : List ℕ) (a b c : Option (List ℕ)) → Grew x y a b → Grew y z b c → Grew x z a c
 Grew-trans x y z a b c p q = (p.0 ++ q.0, q.1 ∙ ap (λ l. l ++ q.0) p.1 ∙ append_assoc x p.0 q.0, Consumes-trans a b c p.0 q.0 p.2 q.2)
 
--- ---- the first line end, where none stands in a front
+-- ---- the first line end, if a prefix has none
 
 module _ (bytes rest : List ℕ) (from n : ℕ) (le : from ≤ length bytes) (none : NoEnd (take from bytes)) (is : rest ≡ drop from bytes) (within : n ≤ length rest)
     (run : PassBetween (passes Text) rest 0 n) where
@@ -43,7 +43,7 @@ module _ (bytes rest : List ℕ) (from n : ℕ) (le : from ≤ length bytes) (no
   pub no_end_found : length bytes ≤ from + n → NoEnd bytes
   no_end_found le' = subst NoEnd (take_all (from + n) bytes le') front_no_end
 
--- ---- ASCII that ends no line
+-- ---- ASCII bytes that are no line end
 
 module _ (bytes : List ℕ) (n : ℕ) (within : n ≤ length bytes) (run : PassBetween (passes AsciiLine) bytes 0 n) where
   pub ascii_no_end : NoEnd (take n bytes)
@@ -55,4 +55,4 @@ module _ (bytes : List ℕ) (n : ℕ) (within : n ≤ length bytes) (run : PassB
 pub found_front : (bytes : List ℕ) (n : ℕ) (after : Option (List ℕ)) → FoundEnd bytes (Some n) → LineFront n bytes after
 found_front bytes n after f = record { no_end = f.2; end = inl (f.0, f.1) }
 
--- ---- one more read into bytes that end no line
+-- ---- one more read into bytes without a line end

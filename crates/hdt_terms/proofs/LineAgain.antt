@@ -1,4 +1,4 @@
--- What is encoded in a line is read.
+-- Completeness for lines: parsing reads what a line encodes.
 use Rattle.std.proofs.Common.{◌≡◌, ℕ, zero, suc, ◌<◌, Bool, true, false, eqb, ◌||◌, List, [], ◌∷◌, ◌++◌, Option, None, Some, Ok, sym, refl, ap, subst, ◌∙◌, inl, inr, ◌⊎◌, arith}
 use Rattle.std.specs.Str.{chars, IsAscii}
 use Rattle.std.proofs.lemmas.Bool.{eqb-true}
@@ -23,7 +23,7 @@ use Rattle.hdt_terms.proofs.TagFound.{Ends}
 use Rattle.hdt_terms.proofs.LineLaws.{bare_line, read_line}
 use Rattle.hdt_terms.proofs.Utf8.{unblanked}
 
--- ---- bare lines
+-- ---- lines without a triple
 
 comment_again : (text : List ℕ) → IsComment text → is_comment (after_blanks text) ≡ true
 comment_again [] h = refl
@@ -67,7 +67,7 @@ role_again role before text more term are s of closes =
     ap (role_here role) (after_blanks-blanks before (text ++ more) are ∙ unblanked (text ++ more) f.c (f.cs ++ more) e f.no_blank)
     ∙ here_again role (text ++ more) f.c (f.cs ++ more) e f.begins ∙ term_again text more term s.utf8 s.form closes
 
--- ---- what follows doesn't go on with a term
+-- ---- what follows does not continue a term
 
 one_ascii : (c : ℕ) → c < 128 → IsAscii (c ∷ [])
 one_ascii c h zero = h

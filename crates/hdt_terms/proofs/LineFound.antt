@@ -1,4 +1,4 @@
--- What is read of a line is encoded there.
+-- Soundness for lines: a line encodes what parsing reads.
 use Rattle.std.proofs.Common.{◌≡◌, ℕ, true, false, eqb, List, [], ◌∷◌, ◌++◌, Option, Some, Result, Ok, Err, refl, ap, subst, ◌∙◌, inl, inr}
 use Rattle.std.specs.Prelude.{IsUtf8}
 use Rattle.std.proofs.lemmas.Bool.{eqb-true}
@@ -21,7 +21,7 @@ use Rattle.hdt_terms.proofs.LiteralFound.{passed, term_found}
 use Rattle.hdt_terms.proofs.Tops.{checked_ok}
 use Rattle.hdt_terms.proofs.Utf8.{blanks_utf8}
 
--- ---- bare lines
+-- ---- lines without a triple
 
 pub comment_found : (text : List ℕ) → is_comment text ≡ true → IsComment text
 comment_found [] e = tt
@@ -58,7 +58,7 @@ is_of Predicate (terms.Literal value suffix) text rest cs c s e h =
     let is : c ≡ 34 = cc in
     let both : begins Predicate 34 ≡ true = subst (λ b. begins Predicate b ≡ true) is h in cc
 
--- a term of the role was read behind blanks, and the rest follows it
+-- a term of the role was read after whitespace, and the rest follows it
 pub record RoleFound (role : Role) (bytes : List ℕ) (term : Term) (rest : List ℕ) : Type 0 where
   pub before : List ℕ
   pub text : List ℕ

@@ -1,4 +1,4 @@
--- The exits of a reader of lines, and what is read of a line, whatever lines say.
+-- The exits of code that parses a line, and laws for any kind of line.
 use Rattle.std.proofs.Common.{◌≡◌, true, false, ℕ, List, length, Option, None, Some, Result, Ok, Err, refl, sym, subst, ◌∙◌, inl, inr, ◌⊎◌}
 use Rattle.std.specs.Prelude.{IsUtf8}
 use Rattle.std.specs.Str.Lossy.{utf8_valid_len}
@@ -32,7 +32,7 @@ module _ {A : Type 0} (text : List ℕ) (read : Result A Stop) (utf8 : IsUtf8 te
   fails_line errors.Memory fault some h f = inl f
   fails_line (errors.Fault stop) fault some h f = inr (checked_ok text _ utf8 ∙ rw (some, h, f) refl)
 
--- what is read of a line is what it says, where that holds of bare lines and of all others
+-- if parsing is sound for blank and other lines, it is sound
 module _ {A : Type 0} (Says : List ℕ → Option A → Type 0) (read : List ℕ → Result A Stop) (bare : (text : List ℕ) → IsUtf8 text → is_bare text ≡ true → Says text None)
     (found : (text : List ℕ) (x : A) → IsUtf8 text → is_bare text ≡ false → read text ≡ Ok x → Says text (Some x)) where
   found_there : (text : List ℕ) (r : Result A Stop) (x : Option A) → IsUtf8 text → is_bare text ≡ false → read text ≡ r → as_line (located text r) ≡ done x → Says text x

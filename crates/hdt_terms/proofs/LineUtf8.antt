@@ -1,4 +1,4 @@
--- What follows a term of UTF-8 is UTF-8.
+-- What follows a term in a UTF-8 text is UTF-8.
 use Rattle.std.proofs.Common.{◌≡◌, ℕ, List, Result, Ok, Err, subst}
 use Rattle.std.specs.Prelude.{IsUtf8, IfOk}
 use Rattle.hdt_terms.specs.declared.fault.ReadError.{ReadError}

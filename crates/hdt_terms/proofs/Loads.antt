@@ -16,7 +16,7 @@ run_is p v n long few =
       | inr some ↦ cond-false _ _ _ (ne_eqb _ _ some) ∙ trailing_mask_l p 64 v (omega arith) (omega arith)
     ]
 
--- the lanes z were computed one by one from a load, and a byte passes exactly where the top bit of its lane is not set
+-- z has one lane for each loaded byte; a byte passes if and only if the top bit of its lane is clear
 pub run_of : (test : ℕ → Bool) (d : List ℕ) (i n r : ℕ) (z : List ℕ) → i + n ≤ length d → n ≤ 64 → ((k : ℕ) → Fits w8 (get_or d k 0))
     → r ≡ first_set (mask_l (map (top 7) z) % 2 ^ 64) n → (f : ℕ → ℕ) → z ≡ map f (chunk i n d)
     → agree_below (λ x. not (top 7 (f x))) test 256 ≡ true → IsRunOfBytes test d i n r

@@ -1,4 +1,4 @@
--- What is said of the text of a line.
+-- Results for the text of a line.
 use Rattle.std.proofs.Common.{◌≡◌, ℕ, ◌+◌, Bool, true, false, List, Ok, Err, sym, ap, ◌∙◌, ◌⊎◌, refl}
 use Rattle.std.specs.Prelude.{IsUtf8}
 use Rattle.std.specs.Str.Lossy.{utf8_valid_len}

@@ -1,4 +1,4 @@
--- The words of a request, step by step.
+-- The terms of a request, step by step.
 use Rattle.std.proofs.Common.{◌≡◌, ℕ, true, false, eqb, List, [], ◌∷◌, Option, Some, Ok, refl, ap, subst, ◌∙◌, arith}
 use Rattle.std.specs.Prelude.{IsUtf8}
 use Rattle.hdt_wire.specs.declared.role.Role.{Role}
@@ -10,7 +10,7 @@ use Rattle.hdt_terms.specs.RequestReading.{as_part, part_here, is_given, part_st
 use Rattle.hdt_terms.specs.Terms.{str}
 use Rattle.hdt_terms.proofs.Utf8.{behind_ascii}
 
--- behind ?
+-- after ?
 pub behind_any : (bytes rest : List ℕ) (c : ℕ) → bytes ≡ c ∷ rest → c ≡ 63 → IsUtf8 bytes → IsUtf8 rest
 behind_any bytes rest c e f utf8 = behind_ascii c rest (omega (arith, f)) (subst IsUtf8 e utf8)
 

@@ -1,4 +1,4 @@
--- A request of dictionary strings is what is read of its line.
+-- Parsing a request by dictionary strings is sound and complete.
 use Rattle.std.proofs.Common.{◌≡◌, ◌≢◌, ℕ, true, false, eqb, ne_eqb, List, [], ◌∷◌, ◌++◌, Option, Some, None, Ok, refl, sym, ap, subst, ◌∙◌, append_assoc, append-nil, inl, inr}
 use Rattle.std.proofs.lemmas.Bool.{eq-eqb, eqb-true, cases_Bool, false_from_ne_true}
 use Rattle.hdt_terms.specs.declared.fault.LineReason.TheVariants.{Syntax}

@@ -1,4 +1,4 @@
--- Reading dictionary strings in a line, step by step.
+-- Reading the dictionary strings of a line, step by step.
 use Rattle.std.proofs.Common.{◌≡◌, ◌≢◌, ℕ, false, eqb, ne_eqb, List, [], ◌∷◌, ◌++◌, length, Option, Some, None, Ok, Err, refl, sym, ap, ◌∙◌, arith}
 use Rattle.std.proofs.lemmas.List.{append-nil}
 use Rattle.hdt_terms.specs.declared.fault.LineReason.TheVariants.{BadEscape}
@@ -9,7 +9,7 @@ use Rattle.hdt_terms.proofs.Appends.{appended}
 use Rattle.hdt_terms.proofs.Stops.{front_err}
 use Rattle.hdt_terms.proofs.Walk.{regroup}
 
--- what was read before, and what is read here, is what is read of all
+-- what was read before and what is read here, joined
 abbrev pub GoesOn : List ℕ → List ℕ → List ℕ → List ℕ → Type 0
 GoesOn out rest old bytes = with_front out (raw_at rest) ≡ with_front old (raw_at bytes)
 

@@ -1,4 +1,4 @@
--- What is encoded in a request is read.
+-- Completeness for requests: parsing reads the request that a line encodes.
 use Rattle.std.proofs.Common.{◌≡◌, ℕ, false, List, [], ◌∷◌, ◌++◌, Option, None, Some, Ok, sym, refl, ap, subst, ◌∙◌, inl, inr, arith}
 use Rattle.std.specs.Str.{chars}
 use Rattle.hdt_wire.specs.declared.role.Role.{Role}
@@ -24,9 +24,9 @@ use Rattle.hdt_terms.proofs.TagFound.{Ends}
 use Rattle.hdt_terms.proofs.LineLaws.{bare_line, read_line}
 use Rattle.hdt_terms.proofs.Utf8.{unblanked}
 
--- ---- a word
+-- ---- a term or ?
 
--- what follows doesn't go on with a term that is given
+-- what follows does not continue a given term
 abbrev ClosesPart : Option Term → List ℕ → Type 0
 ClosesPart None more = Unit {0}
 ClosesPart (Some term) more = ClosesTerm term more
@@ -46,9 +46,9 @@ part_again role before text more (Some term) are s closes =
     ∙ here_is role (text ++ more) (f.cs ++ more) f.c e f.no_any
     ∙ ap (λ r. r >>= as_part) (here_again role (text ++ more) f.c (f.cs ++ more) e f.begins ∙ term_again text more term s.0.utf8 s.0.form closes)
 
--- ---- what follows a word
+-- ---- what follows a term or ?
 
--- a predicate or ? is no part of a label
+-- a predicate or ? does not continue a label
 predicate_label : (p more : List ℕ) (part : Option Term) → SpelledPart IsPredicate p part → label_rest (chars (p ++ more)) ≡ []
 predicate_label p more None s = subst (λ l. label_rest (chars (l ++ more)) ≡ []) (sym s) (label_ends 63 more (omega arith) refl refl)
 predicate_label p more (Some (terms.Iri iri)) s =
@@ -118,7 +118,7 @@ closes_object (Some (terms.Literal value suffix)) before stop behind are is b = 
 
 -- ---- the end
 
--- a comment is no blank, and no full stop
+-- a comment is neither whitespace nor a full stop
 comment_stop : (comment : List ℕ) → IsComment comment → stop_here (after_blanks comment) ≡ Ok tt
 comment_stop [] h = refl
 comment_stop (c ∷ rest) h = rw h refl

@@ -1,4 +1,4 @@
--- What is read of a request is encoded there.
+-- Soundness for requests: a line encodes the request that parsing reads.
 use Rattle.std.proofs.Common.{◌≡◌, ℕ, eqb, List, [], ◌∷◌, ◌++◌, Option, None, Some, Ok, refl, ap, subst, ◌∙◌, inl, inr}
 use Rattle.std.specs.Prelude.{IsUtf8}
 use Rattle.std.proofs.lemmas.Bool.{eqb-true}
@@ -19,7 +19,7 @@ use Rattle.hdt_terms.proofs.LiteralFound.{passed}
 use Rattle.hdt_terms.proofs.Parts.{behind_any}
 use Rattle.hdt_terms.proofs.Utf8.{blanks_utf8}
 
--- ---- a word
+-- ---- a term or ?
 
 abbrev nothing : Option Term
 nothing = None
@@ -27,7 +27,7 @@ nothing = None
 abbrev given : Term → Option Term
 given term = Some term
 
--- ? or a term of the role was read behind blanks, and the rest follows it
+-- ? or a term of the role was read after whitespace, and the rest follows it
 record PartFound (role : Role) (bytes : List ℕ) (part : Option Term) (rest : List ℕ) : Type 0 where
   pub before : List ℕ
   pub text : List ℕ

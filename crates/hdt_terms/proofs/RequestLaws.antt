@@ -1,4 +1,4 @@
--- What is read of a request is what it asks for.
+-- The laws of requests.
 use Rattle.std.proofs.Common.{◌≡◌, ℕ, List, [], ◌∷◌, Option, None, Some, Ok, refl, inr}
 use Rattle.std.specs.Prelude.{option_map}
 use Rattle.hdt_wire.specs.declared.role.Role.TheVariants.{Subject, Predicate, Object}

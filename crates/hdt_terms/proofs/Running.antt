@@ -1,4 +1,4 @@
--- A whole run: what was taken grows line by line, up to the document or the error.
+-- Collecting the triples of an input, line by line, up to its end or its first error.
 use Rattle.std.proofs.Common.{◌≡◌, ℕ, Bool, true, false, List, [], ◌∷◌, ◌++◌, length, ◌+◌, ◌<◌, arith, Option, None, Some, eqb, inl, inr, sym, refl, ap, subst, ◌∙◌, append_assoc, append-nil, zero-add}
 use Rattle.std.proofs.lemmas.Bool.{ne_eqb}
 use Rattle.std.proofs.lemmas.List.Elements.{filter_map-append}
@@ -51,7 +51,7 @@ ran_on limit s new all mid after triples triple r t going =
       | inr w ↦ absurd (cc (w.1, going))
     ]
 
--- the last piece is taken
+-- the last line
 finished : (limit : ℕ) (new : State) (all after : Option (List ℕ)) (front last : List ℕ) (lines : List (Option Triple)) (x : Option Triple) (triples : List Triple) → Takes (start limit) new all after (front ++ last)
     → EndedLines lines front → NoEnd last → Line last x → IsAtEnd after → triples ≡ triples_of_lines (lines ++ x ∷ []) → IsDocument limit all triples
 finished limit new None after front last lines x triples t ended no_end line end are = tt
@@ -83,7 +83,7 @@ document_rest limit s new all mid after triples r t =
     (r.triples_are ∙ sym (append-nil (triples_of_lines r.lines)) ∙ ap (λ l. triples_of_lines r.lines ++ l) (sym t.3.no_triples) ∙ sym (triples-append r.lines t.3.lines)
     ∙ sym (append-nil (triples_of_lines (r.lines ++ t.3.lines))) ∙ sym (triples-append (r.lines ++ t.3.lines) (None ∷ [])))
 
--- an error behind what was taken
+-- an error after consumed lines
 pub fault_behind : (fault : LineFault) (limit : ℕ) (s : State) (all mid given : Option (List ℕ)) (triples : List Triple) → Ran limit s all mid triples → FaultIsAhead fault s mid given
     → FaultInDocument fault limit all given
 fault_behind fault limit s all mid given triples r st =
@@ -102,7 +102,7 @@ fault_behind fault limit s all mid given triples r st =
           (subst (λ k. StandsInLine fault.reason fault.column (s.taken + length st.front) k st.rest given) r.takes.limit st.fault_is);
     }
 
--- ---- running out of memory
+-- ---- out of memory
 
 triple_some : (text : List ℕ) (triple : Triple) → SpelledTriple text triple → 0 < length text
 triple_some text triple h =
@@ -128,7 +128,7 @@ taken_last : (after : Option (List ℕ)) (b : List ℕ) → Consumes (prepend_kn
 taken_last None b = tt
 taken_last (Some y) b = refl
 
--- a line with a triple was taken, for which memory is refused
+-- after the line of a triple for which memory ran out
 module _ (s new : State) (mid after given : Option (List ℕ)) (triple : Triple) (t : TakesTriple s new mid after triple) where
   some_text : 0 < length t.4.0
   some_text = triple_some t.4.0 triple t.4.1.1

@@ -1,4 +1,4 @@
--- A whole run over the texts of lines: what was taken grows line by line, up to the lines of the input.
+-- Collecting the lines of an input, up to its end.
 use Rattle.std.proofs.Common.{◌≡◌, ℕ, Bool, true, false, List, [], ◌∷◌, ◌++◌, length, ◌+◌, arith, Option, None, Some, inl, inr, sym, refl, ap, ◌∙◌, append_assoc, append-nil, zero-add, add-zero}
 use Rattle.std.specs.Io.KnownBytes.{IsAtEnd}
 use Rattle.std.proofs.lemmas.List.Elements.{All-head, All-tail}
@@ -23,7 +23,7 @@ last_line : (cr : Bool) (ends : ℕ) (text : List ℕ) → NoEnd text → number
 last_line cr ends [] p = refl
 last_line cr ends (b ∷ bs) p = rw (All-head (λ x. is_end x ≡ false) b bs p, last_line false ends bs (All-tail (λ x. is_end x ≡ false) b bs p)) refl
 
--- ---- the run
+-- ---- all lines
 
 pub texts_on : (limit : ℕ) (s new : State) (input mid after : Option (List ℕ)) (lines : List (ℕ × List ℕ)) (text : List ℕ) → RanTexts limit s input mid lines → TakesText s new mid after text → new.ended ≡ false
     → RanTexts limit new input after (lines ++ (line_number new, text) ∷ [])

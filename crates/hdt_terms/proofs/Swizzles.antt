@@ -1,4 +1,4 @@
--- Look-ups in tables of 16 bytes.
+-- Lookups in tables of 16 bytes.
 use Rattle.std.proofs.Common.{◌≡◌, ℕ, zero, suc, ◌+◌, ◌*◌, ◌/◌, ◌^◌, ◌<◌, List, [], ◌∷◌, map, length, get_or, replicate, bit_and, refl, sym, ap, ◌∙◌, arith, w8, Fits}
 use Rattle.std.proofs.lemmas.List.{get_or-map, length-map, ext_get_or}
 use Rattle.std.proofs.lemmas.Nat.{and_le_r}
@@ -11,7 +11,7 @@ IsBlock v = (length v ≡ 16) × Each1 (Fits w8) v
 abbrev pub down : ℕ → ℕ → ℕ
 down a b = a / 2 ^ b
 
--- the places that the high four bits give, and the low four
+-- the indices from the high four bits, and from the low four
 pub high_ok : (v : List ℕ) → IsBlock v → SwzOk w8 16 16 0 (zip2 down v (replicate 16 4))
 high_ok v fits =
     let small = Each1-weaker (λ a. a < 256) (λ a. a / 16 < 16) (λ a h. omega arith) v (below_from_Fits w8 v fits.1) in
@@ -29,7 +29,7 @@ lane_fits [] i h = omega arith
 lane_fits (x ∷ xs) zero h = h.0.fits
 lane_fits (x ∷ xs) (suc i) h = lane_fits xs i h.1
 
--- the table read at places g x below 16
+-- lookups at indices below 16
 pub looked_up : (table : List ℕ) (g : ℕ → ℕ) (v js : List ℕ) → IsBlock v → js ≡ map g v → ((x : ℕ) → x < 256 → g x < 16) → swz_l w8 16 table 0 js ≡ map (λ x. get_or table (g x) 0) v
 looked_up table g v js fits e small =
     let long : length js ≡ 16 = ap length e ∙ length-map v g ∙ fits.0 in

@@ -1,4 +1,4 @@
--- What one line takes from what is left of the input, and the errors of a line.
+-- What one line consumes of the remaining input, and the errors of a line.
 use Rattle.std.proofs.Common.{◌≡◌, ℕ, ◌+◌, ◌-◌, ◌<◌, ◌≤◌, Bool, true, false, cond, List, [], ◌∷◌, ◌++◌, length, take, drop, get_or, Option, None, Some, Ok, Err, inl, inr, sym, refl, ap, subst, ◌∙◌, arith, append_assoc, append-nil, take-append-drop}
 use Rattle.std.proofs.lemmas.Bool.{lt-ltb, le-ltb}
 use Rattle.std.proofs.lemmas.List.{length-take-le, length-drop, take_more}
@@ -18,20 +18,20 @@ use Rattle.hdt_terms.specs.Taking.{State, left, take_of, take_line, Takes, OneLi
 use Rattle.hdt_terms.specs.TakingText.{IsLineOf, StandsUnread, TakesText}
 use Rattle.hdt_terms.proofs.LineFound.{line_fault}
 
--- ---- what is left
+-- ---- the remaining input
 
--- what was held and what the reader gave come before what it still gives
+-- the buffer and what the reader gave precede what it still gives
 left_grew : (held more : List ℕ) (given given' : Option (List ℕ)) → Consumes given given' more → Consumes (prepend_known held given) given' (held ++ more)
 left_grew held more None given' p = tt
 left_grew held more (Some x) None p = absurd p
 left_grew held more (Some x) (Some y) p = ap (λ l. held ++ l) p ∙ sym (append_assoc held more y)
 
--- what is held comes first
+-- the buffer comes first
 left_takes : (front rest : List ℕ) (given : Option (List ℕ)) → Consumes (prepend_known (front ++ rest) given) (prepend_known rest given) front
 left_takes front rest None = tt
 left_takes front rest (Some x) = append_assoc front rest x
 
--- what is left stays, when the reader gives what is then held
+-- reading into the buffer keeps the remaining input
 pub left_kept : (held new : List ℕ) (given given' : Option (List ℕ)) → Grew held new given given' → Keeps (prepend_known held given) (prepend_known new given')
 left_kept held new None given' p = tt
 left_kept held new (Some x) None p = absurd p.2
@@ -43,7 +43,7 @@ Keeps-Consumes (Some x) None c bs p q = absurd p
 Keeps-Consumes (Some x) (Some y) None bs p q = absurd q
 Keeps-Consumes (Some x) (Some y) (Some z) bs p q = sym p ∙ q
 
--- the front of what is held is taken, after the reader gave some of it
+-- consuming the front of the buffer after a read
 pub left_front : (held new front rest : List ℕ) (given given' : Option (List ℕ)) → Grew held new given given' → new ≡ front ++ rest → Consumes (prepend_known held given) (prepend_known rest given') front
 left_front held new front rest given given' p e =
     Keeps-Consumes _ (prepend_known new given') _ front (left_kept held new given given' p)
@@ -56,7 +56,7 @@ nothing_given (Some x) = refl
 pub Grew-same : (held : List ℕ) (given : Option (List ℕ)) → Grew held held given given
 Grew-same held given = ([], sym (append-nil held), nothing_given given)
 
--- ---- a line is whole
+-- ---- a complete line
 
 module _ (held h : List ℕ) (given given' : Option (List ℕ)) (n taken limit : ℕ) (grew : Grew held h given given') (front : LineFront n h given') (within : taken + length h ≤ limit) where
   pub whole_line : WholeLine taken limit (prepend_known held given) (take n h)
@@ -73,9 +73,9 @@ module _ (held h : List ℕ) (given given' : Option (List ℕ)) (n taken limit :
             (given', inr (subst (Consumes (prepend_known held given) given') (sym (all ∙ grew.1)) (left_grew held grew.0 given given' grew.2), p.1, omega (arith, ap length all)))
       ]
 
--- ---- a line is taken
+-- ---- a line is consumed
 
--- the line of this text is taken, with its end or as the last one
+-- the line of this text is consumed, with its end or as the last one
 pub record LineTaken (old new : State) (text : List ℕ) (before after : Option (List ℕ)) : Type 0 where
   pub bytes : List ℕ
   pub takes : Takes old new before after bytes
@@ -86,7 +86,7 @@ one_line text bytes new after x is line = (text, line, is.0, is.1)
 
 module _ (old : State) (h : List ℕ) (n : ℕ) (given given' : Option (List ℕ)) (grew : Grew old.held h given given') (no_end : NoEnd (take n h)) (within : old.taken + length h ≤ old.limit)
     (going : old.ended ≡ false) where
-  -- the first bytes of what is then held are taken
+  -- the first bytes of the buffer after the read are consumed
   takes_front : (m : ℕ) (b : Bool) → m ≤ length h → Takes old (record (take_of (record old { held = h }) m) { ended = b }) (left old given) (prepend_known (drop m h) given') (take m h)
   takes_front m b le = record {
     consumed = left_front old.held h (take m h) (drop m h) given given' grew (sym (take-append-drop m h));
@@ -126,11 +126,9 @@ line_taken old h n given given' grew front within going =
           (last_taken old h n given given' grew front.no_end within going p.0 p.1)
     ]
 
--- ---- what is held grew, and nothing was taken
-
 -- ---- errors
 
--- a read that fails, or that gives too much
+-- a read that fails, or that exceeds the limit
 pub stands_unread : (r : LineReason) (held new : List ℕ) (given given' : Option (List ℕ)) (taken limit : ℕ) → taken ≤ limit → Filled (Err r) held new given given' (limit - taken)
     → StandsInLine r 0 taken limit (prepend_known held given) given'
 stands_unread Syntax held new given given' taken limit le p = absurd p
@@ -174,7 +172,7 @@ stands_in_triple OutOfMemory column taken limit before given text utf8 some no_e
 stands_in_triple Read column taken limit before given text utf8 some no_end w f = absurd f
 stands_in_triple TooLong column taken limit before given text utf8 some no_end w f = absurd f
 
--- lines without a triple, and then the line of the error
+-- lines without a triple, then the line of the error
 pub stands_behind : (fault : LineFault) (old s : State) (before mid given : Option (List ℕ)) (front : List ℕ) → Takes old s before mid front → BareLines front → fault.line ≡ s.ends + 1
     → StandsInLine fault.reason fault.column s.taken s.limit mid given → FaultIsAhead fault old before given
 stands_behind fault old s before mid given front t bare line h = record {
@@ -186,7 +184,7 @@ stands_behind fault old s before mid given front t bare line h = record {
   fault_is = rw (sym t.taken, sym t.limit) h;
 }
 
--- ---- a line that was held, looked at and taken
+-- ---- a line that was buffered and consumed
 
 line_held : (s held new : State) (given given' : Option (List ℕ)) (n most : ℕ) → Filled (Ok n) s.held held.held given given' most → held ≡ record s { held = held.held } → s.taken + length held.held ≤ s.limit
     → s.ended ≡ false → new ≡ take_line held n → LineTaken s new (take n held.held) (left s given) (left new given')

@@ -1,4 +1,4 @@
--- A line that is taken piece by piece, with the front of its text.
+-- A line that is consumed piece by piece, and a prefix of its text.
 use Rattle.std.proofs.Common.{◌≡◌, ℕ, ◌+◌, ◌-◌, ◌≤◌, Bool, true, false, List, [], ◌∷◌, ◌++◌, length, take, drop, get_or, Option, None, Some, Ok, Err, inl, inr, sym, refl, ap, subst, ◌∙◌, arith, append_assoc, append-nil, add-zero}
 use Rattle.std.proofs.lemmas.Bool.{cases_lt}
 use Rattle.std.proofs.lemmas.List.{length-take-le, take-append-le, take_all}
@@ -17,7 +17,7 @@ use Rattle.hdt_terms.specs.TakingText.{IsLineOf, StandsNext, StandsUnread, Takes
 use Rattle.hdt_terms.proofs.Counting.{Takes-trans, line_ends-no_end}
 use Rattle.hdt_terms.proofs.Taken.{Grew-same, ended_taken, left_front, left_kept, nothing_given}
 
--- bytes of a line were taken, and this is the front of them
+-- bytes of a line were consumed, and this is their prefix
 abbrev pub Passing : ℕ → State → State → Option (List ℕ) → Option (List ℕ) → List ℕ → Type 0
 Passing most old new before after front = (gone : List ℕ) × Takes old new before after gone × NoEnd gone × (front ≡ take most gone)
 
@@ -29,7 +29,7 @@ Consumes-Keeps (Some x) None c bs p q = absurd p
 Consumes-Keeps (Some x) (Some y) None bs p q = absurd q
 Consumes-Keeps (Some x) (Some y) (Some z) bs p q = p ∙ ap (λ l. bs ++ l) (sym q)
 
--- ---- the front of a text that grows
+-- ---- the prefix of a text that grows
 
 pub front_grows : (most : ℕ) (gone piece : List ℕ) → take most gone ++ take (most - length (take most gone)) piece ≡ take most (gone ++ piece)
 front_grows most gone piece =
@@ -71,7 +71,7 @@ takes_held s given within =
       failed = refl;
     }
 
--- all that is held is taken
+-- the complete buffer is consumed
 passing_held : (most : ℕ) (old s taken : State) (before given : Option (List ℕ)) (front more : List ℕ) → Passing most old s before (left s given) front → NoEnd s.held
     → taken ≡ take_of s (length s.held) → more ≡ front ++ take (most - length front) s.held → Passing most old taken before (left taken given) more
 passing_held most old s taken before given front more p none is e =
@@ -90,7 +90,7 @@ passing_all most old s taken before given front more n p none is all e =
 pub none_held : (s taken : State) → taken ≡ take_of s (length s.held) → taken.held ≡ []
 none_held s taken is = ap (λ (t : State). t.held) is ∙ none_left s
 
--- more is read, or nothing more is there
+-- after a read that gave more bytes, or none
 read_behind : (old taken : State) (before given given' : Option (List ℕ)) (bytes held : List ℕ) (b : Bool) → Takes old taken before (left taken given) bytes → Grew taken.held held given given'
     → taken.taken + length held ≤ taken.limit → Takes old (record taken { held = held; ended = b }) before (prepend_known held given') bytes
 read_behind old taken before given given' bytes held b t grew within = record {
@@ -110,7 +110,7 @@ passing_on most old taken new before given given' front p more is within =
     subst (λ (t : State). Passing most old t before (left t given') front) (sym is)
     (p.0, read_behind old taken before given given' p.0 new.held taken.ended p.1 more.0 (omega (arith, more.2)), p.2, p.3)
 
--- ---- the line's end, and the input's
+-- ---- the end of the line, and of the input
 
 line_behind : (gone text bytes : List ℕ) (new : State) (after : Option (List ℕ)) → NoEnd gone → IsLineOf text bytes new after → IsLineOf (gone ++ text) (gone ++ bytes) new after
 line_behind gone text bytes new after none p = (
@@ -182,7 +182,7 @@ module _ (most : ℕ) (old taken : State) (before given given' : Option (List �
     ),
   )
 
--- no line end is passed
+-- no line end is consumed
 passing_ends : (most : ℕ) (old s : State) (before after : Option (List ℕ)) (front : List ℕ) → Passing most old s before after front → s.ends ≡ old.ends
 passing_ends most old s before after front p = p.1.ends ∙ ap (λ n. old.ends + n) (line_ends-no_end old.after_cr p.0 p.2) ∙ add-zero old.ends
 
@@ -203,9 +203,9 @@ unread_on most old taken read before given given' front reason fault p none h ot
       fault_is = stands_passing most old taken before given given' front read.held p none reason h;
     })
 
--- ---- a line that is held
+-- ---- a line is buffered
 
--- bytes without an end don't hold a line
+-- bytes without a line end are no buffered line
 pub holds_none : {P : Type 0} (s : State) → NoEnd s.held → HoldsLine s → P
 holds_none s none h =
     let not_end : is_end (get_or s.held h.0 0) ≡ false = All-get_or (λ c. is_end c ≡ false) s.held h.0 0 h.1 none in

@@ -1,4 +1,4 @@
--- The text of a line has errors of the grammar alone: no reader fails in it, and no limit ends it.
+-- The reason of an error in the text of a line is never a failed read or the limit.
 use Rattle.std.proofs.Common.{◌≡◌, ℕ, List, [], ◌∷◌, Result, Ok, Err, sym, refl, ap, subst, inl, inr, ◌⊎◌, eqb}
 use Rattle.std.specs.Prelude.{IsUtf8}
 use Rattle.hdt_terms.specs.declared.fault.LineReason.{LineReason}

@@ -1,4 +1,4 @@
--- What is written of a term of the grammar holds no line end.
+-- The text that is written for a term of the grammar has no line end.
 use Rattle.std.proofs.Common.{◌≡◌, ℕ, ◌+◌, ◌≤◌, ◌/◌, ◌%◌, Bool, true, false, cond, eqb, ◌||◌, List, [], ◌∷◌, ◌++◌, refl, sym, subst, ◌∙◌, arith}
 use Rattle.std.specs.Prelude.{not, nat_lt, encode_utf8, encode_utf8_all}
 use Rattle.std.specs.List.{list_all, flat_map, AllByRecursion}

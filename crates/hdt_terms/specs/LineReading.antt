@@ -1,4 +1,4 @@
--- Reading a line from left to right, with the first check that fails: the table of errors in docs/NTRIPLES.md.
+-- Parsing a line from left to right, up to the first check that fails: the table of errors in docs/NTRIPLES.md.
 use Rattle.std.specs.Prelude.{◌≡◌, ℕ, Bool, true, ◌||◌, ◌⊎◌, List, [], ◌∷◌, length, Option, None, Some, Result, Ok, Err, ◌==◌, if◌then◌else◌}
 use Rattle.hdt_terms.specs.declared.fault.LineReason.TheVariants.{Syntax}
 use Rattle.hdt_terms.specs.declared.fault.Stop.{Stop}
@@ -12,44 +12,44 @@ use Rattle.hdt_terms.specs.Reading.{◌>>=◌, Fails, stops, after_blanks, term_
 use Rattle.hdt_terms.specs.Faults.{fault_at, out_of_memory, checked}
 use Rattle.hdt_terms.specs.Terms.{str}
 
--- the byte that begins a term of the role: < alone a predicate, < or _ a subject
+-- Whether a term of the role may start with this byte: a predicate only with <, a subject with < or _.
 abbrev pub begins : Role → ℕ → Bool
 begins Subject c = c == 60 || c == 95
 begins Predicate c = c == 60
 begins Object c = true
 
--- the term that begins here, where the role may have it
+-- The term of the role that starts here.
 unfoldable pub role_here : Role → List ℕ → Result (Term × List ℕ) Stop
 role_here role [] = stops Syntax []
 role_here role (c ∷ rest) = if begins role c then term_at (c ∷ rest) else stops Syntax (c ∷ rest)
 
--- the term of the role behind tabs and spaces
+-- The term of the role after whitespace.
 unfoldable pub role_at : Role → List ℕ → Result (Term × List ℕ) Stop
 role_at role bytes = role_here role (after_blanks bytes)
 
--- nothing, or a comment
+-- Empty, or a comment.
 abbrev pub is_comment : List ℕ → Bool
 is_comment [] = true
 is_comment (c ∷ rest) = c == 35
 
--- tabs and spaces, and then nothing or a comment
+-- Whitespace and an optional comment.
 unfoldable pub is_bare : List ℕ → Bool
 is_bare text = is_comment (after_blanks text)
 
--- what stands behind the full stop
+-- The end of the line, or a comment.
 abbrev pub bare_at : List ℕ → Result (Unit {0}) Stop
 bare_at rest = if is_comment rest then Ok tt else stops Syntax rest
 
--- the full stop, and then nothing or a comment
+-- The full stop that ends a triple, and an optional comment.
 abbrev pub closed_here : List ℕ → Result (Unit {0}) Stop
 closed_here [] = stops Syntax []
 closed_here (c ∷ rest) = if c == 46 then bare_at (after_blanks rest) else stops Syntax (c ∷ rest)
 
--- the same behind tabs and spaces
+-- The same after whitespace.
 unfoldable pub closed_at : List ℕ → Result (Unit {0}) Stop
 closed_at bytes = closed_here (after_blanks bytes)
 
--- the triple of a line
+-- The triple of a line.
 unfoldable pub line_triple_at : List ℕ → Result Triple Stop
 line_triple_at bytes =
     role_at Subject bytes >>= λ s.
@@ -57,12 +57,12 @@ line_triple_at bytes =
     role_at Object p.1 >>= λ o.
     closed_at o.1 >>= λ _. Ok (record { s = s.0; p = p.0; o = o.0 })
 
--- the column of what stopped the reading of a line
+-- The failed check as an error with its column.
 abbrev pub located : {A : Type 0} → List ℕ → Result A Stop → Result A TermFault
 located text (Ok x) = Ok x
 located text (Err stop) = Err (fault_at (length text) stop.left stop.reason)
 
--- the triple of a line that is UTF-8 and not bare, or its error
+-- The triple of a line that is UTF-8 and not blank, or its error.
 unfoldable pub line_triple : List ℕ → Result Triple TermFault
 line_triple text = located text (line_triple_at text)
 
@@ -70,32 +70,32 @@ abbrev pub as_line : {A : Type 0} → Result A TermFault → Result (Option A) T
 as_line (Ok x) = Ok (Some x)
 as_line (Err fault) = Err fault
 
--- nothing where the line is bare, or what reading it gives, or the first error in it
+-- None for a line of whitespace and an optional comment; else what parsing gives, or the first error.
 unfoldable pub unless_bare : {A : Type 0} → List ℕ → Result A Stop → Result (Option A) TermFault
 unless_bare text read = checked text (if is_bare text then Ok None else as_line (located text read))
 
--- The line's triple if it has one, or the first error in it.
+-- The triple of the line, if it has one, or its first error.
 abbrev pub line_in : List ℕ → Result (Option Triple) TermFault
 line_in text = unless_bare text (line_triple_at text)
 
--- The text is no line, and this is its error.
+-- Parsing the text as a line fails with this error.
 abbrev pub LineFaultStands : List ℕ → TermFault → Type 0
 LineFaultStands text fault = line_in text ≡ Err fault
 
 -- ---- the strings of a triple
 
--- these are the strings of the triple's terms
+-- These are the dictionary strings of the triple's terms.
 pub record AreTripleStrings (triple : Triple) (s p o : List ℕ) : Type 0 where
   pub s_is : s ≡ str triple.s
   pub p_is : p ≡ str triple.p
   pub o_is : o ≡ str triple.o
 
--- the buffers hold the strings of the triple that reading gives, unless memory ran out
+-- The buffers have the strings of the parsed triple, unless memory ran out.
 abbrev pub Fills : {X : Type 0} → List ℕ → List ℕ → List ℕ → Result X ReadError → Result Triple Stop → Type 0
 Fills s p o (Ok x) read = (triple : Triple) × (read ≡ Ok triple) × AreTripleStrings triple s p o
 Fills s p o (Err e) read = Fails e read
 
--- the same of a whole line
+-- The same with the error of the line.
 abbrev pub HoldsTriple : {X : Type 0} → List ℕ → List ℕ → List ℕ → Result X TermFault → Result Triple TermFault → Type 0
 HoldsTriple s p o (Ok x) read = (triple : Triple) × (read ≡ Ok triple) × AreTripleStrings triple s p o
 HoldsTriple s p o (Err fault) read = (fault ≡ out_of_memory) ⊎ (read ≡ Err fault)

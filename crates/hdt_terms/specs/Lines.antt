@@ -1,4 +1,4 @@
--- Lines, and the documents that they make (W3C RDF 1.1 N-Triples, section 7, productions ntriplesDoc, triple and EOL).
+-- Lines and documents (W3C RDF 1.1 N-Triples, section 7, productions ntriplesDoc, triple and EOL).
 use Rattle.std.specs.Prelude.{◌≡◌, ℕ, ◌+◌, false, true, Bool, List, [], ◌∷◌, ◌++◌, ◌&&◌, ◌||◌, not, ◌==◌, if◌then◌else◌, Option, None, Some, All, IsUtf8}
 use Rattle.std.specs.List.{filter_map}
 use Rattle.hdt_terms.specs.declared.term.Term.{Term}
@@ -7,16 +7,16 @@ use Rattle.hdt_terms.specs.declared.triple.Triple.{Triple}
 use Rattle.hdt_terms.specs.Chars.{is_end}
 use Rattle.hdt_terms.specs.Spelling.{AreBlanks, Spelled}
 
--- a text without line ends
+-- The text has no line end.
 abbrev pub NoEnd : List ℕ → Type 0
 NoEnd text = All (λ c. is_end c ≡ false) text
 
--- nothing, or # and what follows it
+-- Empty, or a comment: # and any text.
 abbrev pub IsComment : List ℕ → Type 0
 IsComment [] = Unit {0}
 IsComment (c ∷ rest) = c ≡ 35
 
--- tabs and spaces, and then nothing or a comment: a line without a triple, and what may stand behind one
+-- Whitespace and an optional comment: a line without a triple, or what may follow a triple.
 pub record IsBare (text : List ℕ) : Type 0 where
   pub before : List ℕ
   pub comment : List ℕ
@@ -24,19 +24,19 @@ pub record IsBare (text : List ℕ) : Type 0 where
   pub is_comment : IsComment comment
   pub whole : text ≡ before ++ comment
 
--- an IRI or a blank node
+-- A subject is an IRI or a blank node.
 abbrev pub IsSubject : Term → Type 0
 IsSubject (terms.Iri iri) = Unit {0}
 IsSubject (terms.Blank label) = Unit {0}
 IsSubject (terms.Literal text suffix) = ⊥
 
--- an IRI
+-- A predicate is an IRI.
 abbrev pub IsPredicate : Term → Type 0
 IsPredicate (terms.Iri iri) = Unit {0}
 IsPredicate (terms.Blank label) = ⊥
 IsPredicate (terms.Literal text suffix) = ⊥
 
--- Subject, predicate, object and a full stop, each behind tabs and spaces, and then what may stand behind a triple.
+-- Subject, predicate, object and a full stop, each after optional whitespace, then whitespace and an optional comment.
 pub record SpelledTriple (text : List ℕ) (triple : Triple) : Type 0 where
   pub before_s : List ℕ
   pub before_p : List ℕ
@@ -53,21 +53,21 @@ pub record SpelledTriple (text : List ℕ) (triple : Triple) : Type 0 where
   pub bare : IsBare behind
   pub whole : text ≡ before_s ++ (s ++ (before_p ++ (p ++ (before_o ++ (o ++ (before_stop ++ 46 ∷ behind))))))
 
--- A line, without its end, and its triple if it has one.
+-- The text is a line, without its end, with this triple or none.
 abbrev pub Line : List ℕ → Option Triple → Type 0
 Line text None = IsUtf8 text × IsBare text
 Line text (Some triple) = IsUtf8 text × SpelledTriple text triple
 
--- these lines, each with its end
+-- The bytes are lines with these triples or none, each with its end.
 abbrev pub EndedLines : List (Option Triple) → List ℕ → Type 0
 EndedLines [] bytes = bytes ≡ []
 EndedLines (x ∷ xs) bytes = (text : List ℕ) × (e : ℕ) × (rest : List ℕ) × (bytes ≡ text ++ e ∷ rest) × (is_end e ≡ true) × NoEnd text × Line text x × EndedLines xs rest
 
--- the triples of lines that have one
+-- The triples of the lines that have one.
 abbrev pub triples_of_lines : List (Option Triple) → List Triple
 triples_of_lines xs = filter_map (λ x. x) xs
 
--- The bytes are cut at their line ends, and each piece is a line: lines with their ends, and a last piece, which may be empty.
+-- The bytes are a document of these triples: lines with their ends, and a last line without one, which may be empty.
 pub record Document (bytes : List ℕ) (triples : List Triple) : Type 0 where
   pub front : List ℕ
   pub last : List ℕ
@@ -79,18 +79,18 @@ pub record Document (bytes : List ℕ) (triples : List Triple) : Type 0 where
   pub is_line : Line last last_line
   pub triples_are : triples ≡ triples_of_lines (lines ++ last_line ∷ [])
 
--- lines without a triple, each with its end
+-- Lines without a triple, each with its end.
 pub record BareLines (bytes : List ℕ) : Type 0 where
   pub lines : List (Option Triple)
   pub ended : EndedLines lines bytes
   pub no_triples : triples_of_lines lines ≡ []
 
--- how many line ends the bytes have, U+000D U+000A being one; cr says whether the byte before them is U+000D
+-- The number of line ends, U+000D U+000A being one; cr says whether the byte before the bytes is U+000D.
 abbrev pub line_ends : Bool → List ℕ → ℕ
 line_ends cr [] = 0
 line_ends cr (b ∷ bs) = (if b == 13 || (b == 10 && not cr) then 1 else 0) + line_ends (b == 13) bs
 
--- whether the last byte is U+000D
+-- Whether the last byte is U+000D.
 abbrev pub ends_in_cr : Bool → List ℕ → Bool
 ends_in_cr cr [] = cr
 ends_in_cr cr (b ∷ bs) = ends_in_cr (b == 13) bs

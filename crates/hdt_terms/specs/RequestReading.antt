@@ -1,4 +1,5 @@
--- Reading a request from left to right, with the first check that fails: checks as those of a line, but that a word may be ?.
+-- Parsing a request from left to right, up to the first check that fails: the checks of a line, except that ? may
+-- replace a term and the full stop is optional.
 use Rattle.std.specs.Prelude.{◌≡◌, ℕ, Bool, true, false, ◌⊎◌, List, [], ◌∷◌, Option, None, Some, Result, Ok, Err, ◌==◌, if◌then◌else◌}
 use Rattle.hdt_terms.specs.declared.fault.LineReason.TheVariants.{Syntax}
 use Rattle.hdt_terms.specs.declared.fault.Stop.{Stop}
@@ -16,25 +17,25 @@ use Rattle.hdt_terms.specs.Terms.{str}
 abbrev pub as_part : Term × List ℕ → Result (Option Term × List ℕ) Stop
 as_part x = Ok (Some x.0, x.1)
 
--- ?, or the term that begins here, where the role may have it
+-- ?, or the term of the role, that starts here.
 unfoldable pub part_here : Role → List ℕ → Result (Option Term × List ℕ) Stop
 part_here role [] = stops Syntax []
 part_here role (c ∷ rest) = if c == 63 then Ok (None, rest) else role_here role (c ∷ rest) >>= as_part
 
--- the same behind tabs and spaces
+-- The same after whitespace.
 unfoldable pub part_at : Role → List ℕ → Result (Option Term × List ℕ) Stop
 part_at role bytes = part_here role (after_blanks bytes)
 
--- a full stop or none, and then nothing or a comment
+-- An optional full stop, and an optional comment.
 abbrev pub stop_here : List ℕ → Result (Unit {0}) Stop
 stop_here [] = Ok tt
 stop_here (c ∷ rest) = if c == 46 then bare_at (after_blanks rest) else bare_at (c ∷ rest)
 
--- the same behind tabs and spaces
+-- The same after whitespace.
 unfoldable pub stop_at : List ℕ → Result (Unit {0}) Stop
 stop_at bytes = stop_here (after_blanks bytes)
 
--- what a line asks for
+-- The request of a line.
 unfoldable pub request_at : List ℕ → Result Asked Stop
 request_at bytes =
     part_at Subject bytes >>= λ s.
@@ -42,44 +43,45 @@ request_at bytes =
     part_at Object p.1 >>= λ o.
     stop_at o.1 >>= λ _. Ok (record { s = s.0; p = p.0; o = o.0 })
 
--- What the line asks for if it isn't bare, or the first error in it.
+-- The request of the line, if it has one, or its first error.
 abbrev pub request_in : List ℕ → Result (Option Asked) TermFault
 request_in text = unless_bare text (request_at text)
 
--- The text is no line of a request, and this is its error.
+-- Parsing the text as a request fails with this error.
 abbrev pub RequestFaultStands : List ℕ → TermFault → Type 0
 RequestFaultStands text fault = request_in text ≡ Err fault
 
 -- ---- the strings of a request
 
--- whether there is a term
+-- Whether a term is given.
 abbrev pub is_given : Option Term → Bool
 is_given None = false
 is_given (Some term) = true
 
--- the term's string, or nothing
+-- The dictionary string of the term, or the empty string for ?.
 abbrev pub part_string : Option Term → List ℕ
 part_string None = []
 part_string (Some term) = str term
 
--- the buffer holds the string of the part that reading gives, unless memory ran out
+-- The buffer has the string of the parsed term or ?, unless memory ran out.
 abbrev pub FillsPart : {X : Type 0} → (X → Bool) → (X → List ℕ) → List ℕ → Result X ReadError → Result (Option Term × List ℕ) Stop → Type 0
 FillsPart given left out (Ok x) read = (part : Option Term) × (read ≡ Ok (part, left x)) × (given x ≡ is_given part) × (out ≡ part_string part)
 FillsPart given left out (Err e) read = Fails e read
 
--- these terms are given, and these are their strings
+-- given says which terms are given, and s, p, o are their strings.
 pub record AreGiven (asked : Asked) (given : List Bool) (s p o : List ℕ) : Type 0 where
   pub given_is : given ≡ is_given asked.s ∷ is_given asked.p ∷ is_given asked.o ∷ []
   pub s_is : s ≡ part_string asked.s
   pub p_is : p ≡ part_string asked.p
   pub o_is : o ≡ part_string asked.o
 
--- the buffers hold the strings of what reading says is asked for, unless memory ran out
+-- The buffers have the strings of the parsed request, unless memory ran out.
 abbrev pub FillsAsked : List ℕ → List ℕ → List ℕ → Result (List Bool) ReadError → Result Asked Stop → Type 0
 FillsAsked s p o (Ok given) read = (asked : Asked) × (read ≡ Ok asked) × AreGiven asked given s p o
 FillsAsked s p o (Err e) read = Fails e read
 
--- What a line asks for, with its strings in the buffers: nothing where it is bare, or its error, unless memory ran out.
+-- The result of parsing a line: its request, with the strings in the buffers; or None; or its error, unless memory ran
+-- out.
 abbrev pub HoldsRequest : List ℕ → List ℕ → List ℕ → Result (Option (List Bool)) TermFault → Result (Option Asked) TermFault → Type 0
 HoldsRequest s p o (Ok None) read = read ≡ Ok None
 HoldsRequest s p o (Ok (Some given)) read = (asked : Asked) × (read ≡ Ok (Some asked)) × AreGiven asked given s p o

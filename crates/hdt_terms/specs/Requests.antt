@@ -1,34 +1,35 @@
--- Lines that ask for triples: three words, each a term of its role as in a triple, or ? for any.
+-- Lines that request triples: subject, predicate and object, each a term as in a triple, or ? for any.
 use Rattle.std.specs.Prelude.{◌≡◌, ℕ, List, [], ◌∷◌, ◌++◌, ◌⊎◌, Option, None, Some, IsUtf8}
 use Rattle.hdt_terms.specs.declared.term.Term.{Term}
 use Rattle.hdt_terms.specs.declared.triple.Triple.{Triple}
 use Rattle.hdt_terms.specs.Lines.{IsBare, IsSubject, IsPredicate}
 use Rattle.hdt_terms.specs.Spelling.{AreBlanks, Spelled}
 
--- the terms that are given for subject, predicate and object, each or none
+-- A triple pattern: each of subject, predicate and object is a term or any.
 pub record Asked : Type 0 where
   pub s : Option Term
   pub p : Option Term
   pub o : Option Term
 
--- all three terms of a triple
+-- The pattern with all three terms of a triple.
 abbrev pub whole_triple : Triple → Asked
 whole_triple triple = record { s = Some triple.s; p = Some triple.p; o = Some triple.o }
 
--- ? for any, or the encoding of a term of which this holds
+-- ? for any, or the encoding of a term that satisfies IsOf.
 abbrev pub SpelledPart : (Term → Type 0) → List ℕ → Option Term → Type 0
 SpelledPart IsOf text None = text ≡ 63 ∷ []
 SpelledPart IsOf text (Some term) = Spelled text term × IsOf term
 
--- any term may be an object
+-- Any term may be an object.
 abbrev pub IsObject : Term → Type 0
 IsObject term = Unit {0}
 
--- a full stop, or nothing
+-- An optional full stop.
 abbrev pub IsStop : List ℕ → Type 0
 IsStop text = (text ≡ []) ⊎ (text ≡ 46 ∷ [])
 
--- Subject, predicate, object and a full stop or none, each behind tabs and spaces, and then what may stand behind a triple.
+-- Subject, predicate, object and an optional full stop, each after optional whitespace, then whitespace and an optional
+-- comment.
 pub record SpelledRequest (text : List ℕ) (asked : Asked) : Type 0 where
   pub before_s : List ℕ
   pub before_p : List ℕ
@@ -47,7 +48,7 @@ pub record SpelledRequest (text : List ℕ) (asked : Asked) : Type 0 where
   pub bare : IsBare behind
   pub whole : text ≡ before_s ++ (s ++ (before_p ++ (p ++ (before_o ++ (o ++ (before_stop ++ (stop ++ behind)))))))
 
--- A line, without its end, and what it asks for, if it is not bare.
+-- The text is a line, without its end, that requests this pattern or nothing.
 abbrev pub RequestLine : List ℕ → Option Asked → Type 0
 RequestLine text None = IsUtf8 text × IsBare text
 RequestLine text (Some asked) = IsUtf8 text × SpelledRequest text asked

@@ -11,7 +11,7 @@ use std::alloc::{AllocError, Global};
 use std::io::Read;
 use std::marker::Model;
 
-/// The number of bytes of a read.
+/// The initial capacity in bytes.
 const PIECE: usize = 65536;
 
 /// A buffer: the bytes of a vector from `start` to `end`. Contracts see only these bytes.
@@ -30,7 +30,7 @@ impl Model for Buffer {
     ghost invariant = { λ b. (b.start ≤ b.end) × (b.end ≤ vec_len b.bytes) × (0 < vec_len b.bytes) };
 }
 
-/// Moves the bytes from `start` to `end` to the front, so that there is free space after them: the vector grows if they
+/// Moves the bytes from `start` to `end` to the front, so that there is free space after them. Grows the vector if they
 /// fill it.
 fn make_room(bytes: &mut Vec<u8>, start: usize, end: usize) -> Result<(), AllocError>
     requires order { start ≤ end }
@@ -39,7 +39,7 @@ fn make_room(bytes: &mut Vec<u8>, start: usize, end: usize) -> Result<(), AllocE
     ensures front { take (end - start) bytes.new.items ≡ take (end - start) (drop start bytes.old.items) }
     ensures len { vec_len bytes.old ≤ vec_len bytes.new }
     ensures ok { OnOk result (end - start < vec_len bytes.new) }
-    // It has grown only if they filled it.
+    // It grows only if they fill it.
     ensures size { end - start < vec_len bytes.old → vec_len bytes.new ≡ vec_len bytes.old }
 {
     if start > 0 {
@@ -50,7 +50,7 @@ fn make_room(bytes: &mut Vec<u8>, start: usize, end: usize) -> Result<(), AllocE
     Ok(())
 }
 
-/// Reads at most so many bytes into the vector, from an index on.
+/// Reads up to `most` bytes into the vector from index `at`.
 fn read_at<R: Read>(
     bytes: &mut Vec<u8>,
     at: usize,
@@ -105,7 +105,7 @@ impl Buffer {
         self.start += n;
     }
 
-    /// Calls the reader once, for at most so many bytes after those of the buffer.
+    /// Calls the reader once to append up to `most` bytes.
     pub fn read<R: Read>(
         &mut self,
         most: usize,

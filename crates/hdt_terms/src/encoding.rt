@@ -15,7 +15,7 @@ pub fn is_ascii_text(bytes: &[u8]) -> bool
     run_len(Class::AsciiText, bytes) == bytes.len()
 }
 
-/// Fails at the first byte that is not UTF-8: for texts that are not ASCII, which few are.
+/// Fails at the first byte that is not UTF-8. For texts that are not ASCII, which are few.
 #[inline(never)]
 pub fn check_beyond_ascii(text: &[u8]) -> Result<(), TermFault>
     ensures { MatchResult result (λ _. IsUtf8 text.now) (λ fault. ¬ (IsUtf8 text.now) × (fault ≡ not_utf8_at (utf8_valid_len text.now))) }

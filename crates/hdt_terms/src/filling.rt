@@ -1,4 +1,4 @@
-//! Reading until a line is held.
+//! Reading until a complete line is buffered.
 ghost use Rattle.std.specs.Prelude.{ℕ, ◌≡◌, ◌≢◌, IfOk, IfErr, ◌+◌, ◌≤◌, true, take, length, Some, OnOk, IsErrOf, IsUtf8};
 ghost use Rattle.hdt_wire.specs.Counted.{inner, failures};
 ghost use Rattle.hdt_terms.specs.Inside.Filling.{FoundEnd, ReadMore, Filled, text_len};
@@ -12,7 +12,7 @@ use crate::lanes::{Class, run_len};
 use hdt_wire::{Counted, Failed};
 use std::io::Read;
 
-/// The place of the first line end, where none stands before `from`.
+/// The index of the first line end, given that there is none before `from`.
 pub(crate) fn line_end(bytes: &[u8], from: usize) -> Option<usize>
     requires within { from ≤ length bytes.now }
     requires none { NoEnd (take from bytes.now) }
@@ -26,8 +26,8 @@ pub(crate) fn line_end(bytes: &[u8], from: usize) -> Option<usize>
     }
 }
 
-/// One read of bytes that may be so many at most: whether there are more. One byte past the most is asked for, to see
-/// whether the input ends there.
+/// Reads once, up to a buffer length of `most`. Returns whether there were more bytes. If the buffer has `most` bytes
+/// already, it reads one byte more to see whether the input ends there.
 pub fn read_more<R: Read>(
     held: &mut Buffer,
     most: usize,
@@ -53,8 +53,7 @@ pub fn read_more<R: Read>(
     }
 }
 
-/// Reads until a line end is held, where none is, or the reader has ended: how many bytes the text of the first line
-/// has.
+/// Reads until a line end is buffered or the input ends. Returns the length of the first line without its end.
 fn fill<R: Read>(
     held: &mut Buffer,
     most: usize,
@@ -80,7 +79,7 @@ fn fill<R: Read>(
     }
 }
 
-/// How many bytes at the front are ASCII and end no line, and whether a line end follows them.
+/// The number of leading bytes that are ASCII and no line end, and whether a line end follows them.
 #[inline(always)]
 fn ascii_front(bytes: &[u8]) -> (usize, bool)
     ensures within { result.0 ≤ length bytes.now }
@@ -92,7 +91,7 @@ fn ascii_front(bytes: &[u8]) -> (usize, bool)
     (n, n < bytes.len() && is_end(bytes[n]))
 }
 
-/// How many bytes the text of the first line has, which is held or read, and whether it was seen that they are UTF-8.
+/// Buffers the first line. Returns its length without its end, and whether it is known to be UTF-8.
 pub fn first_line<R: Read>(
     held: &mut Buffer,
     most: usize,

@@ -13,17 +13,17 @@ use std::simd::prelude::*;
 /// A class of bytes.
 #[derive(Clone, Copy)]
 pub enum Class {
-    /// Those that the token has unescaped.
+    /// Those that may occur unescaped in the token.
     Inside(Token),
     /// Those from 1 to 127.
     AsciiText,
-    /// Those that end no line.
+    /// Those that are no line end.
     Text,
-    /// Those below 128 that end no line.
+    /// Those below 128 that are no line end.
     AsciiLine,
 }
 
-/// The bytes of one load.
+/// The number of bytes of one load.
 const LANES: usize = 16;
 
 /// The position of the lowest 1-bit, or the number of lanes.
@@ -38,12 +38,12 @@ fn first_set(mask: u64) -> usize
     }
 }
 
-/// The characters that IRIs exclude, by the low four bits of their codes: one bit for each value of the high four.
+/// The characters that IRIs exclude, by the low four bits of their codes, with one bit for each value of the high four.
 const EXCLUDED: [u8; 16] = [
     0x47, 3, 7, 3, 3, 3, 3, 3, 3, 3, 3, 0x83, 0xAB, 0x83, 0x2B, 3,
 ];
 
-/// The bit for each value of the high four bits. No byte beyond ASCII is excluded.
+/// The bit for each value of the high four bits: none beyond ASCII, as IRIs exclude no byte there.
 const ROWS: [u8; 16] = [1, 2, 4, 8, 16, 32, 64, 128, 0, 0, 0, 0, 0, 0, 0, 0];
 
 /// The first table at each lane.
@@ -62,7 +62,7 @@ fn bit_by_high(v: u8x16) -> u8x16
     u8x16::from_array(ROWS).swizzle_dyn(v >> u8x16::splat(4))
 }
 
-/// The number of bytes at the front that an IRI may have unescaped, by two tables of 16.
+/// The number of leading bytes that may occur unescaped in an IRI, by two tables of 16.
 #[inline(always)]
 fn iri_run(bytes: &[u8], at: usize) -> usize
     requires { at + LANES ≤ length bytes.now }
@@ -73,7 +73,7 @@ fn iri_run(bytes: &[u8], at: usize) -> usize
     first_set(excluded.simd_ne(u8x16::splat(0)).to_bitmask())
 }
 
-/// The number of bytes at the front that a string may have unescaped.
+/// The number of leading bytes that may occur unescaped in a string.
 #[inline(always)]
 fn string_run(bytes: &[u8], at: usize) -> usize
     requires { at + LANES ≤ length bytes.now }
@@ -88,7 +88,7 @@ fn string_run(bytes: &[u8], at: usize) -> usize
     first_set(stops.to_bitmask())
 }
 
-/// The number of bytes at the front that are ASCII without U+0000.
+/// The number of leading bytes that are ASCII but not U+0000.
 #[inline(always)]
 fn ascii_text_run(bytes: &[u8], at: usize) -> usize
     requires { at + LANES ≤ length bytes.now }
@@ -99,7 +99,7 @@ fn ascii_text_run(bytes: &[u8], at: usize) -> usize
     first_set(stops.to_bitmask())
 }
 
-/// The number of bytes at the front that end no line.
+/// The number of leading bytes that are no line end.
 #[inline(always)]
 fn text_run(bytes: &[u8], at: usize) -> usize
     requires { at + LANES ≤ length bytes.now }
@@ -110,7 +110,7 @@ fn text_run(bytes: &[u8], at: usize) -> usize
     first_set(stops.to_bitmask())
 }
 
-/// The number of bytes at the front that are ASCII and end no line.
+/// The number of leading bytes that are ASCII but no line end.
 #[inline(always)]
 fn ascii_line_run(bytes: &[u8], at: usize) -> usize
     requires { at + LANES ≤ length bytes.now }
@@ -123,7 +123,7 @@ fn ascii_line_run(bytes: &[u8], at: usize) -> usize
     first_set(stops.to_bitmask())
 }
 
-/// The number of bytes at the front that are of the class.
+/// The number of leading bytes of the class, in one load.
 #[inline(always)]
 fn load_run(class: Class, bytes: &[u8], at: usize) -> usize
     requires { at + LANES ≤ length bytes.now }
@@ -150,7 +150,7 @@ fn passes(class: Class, byte: u8) -> bool
     }
 }
 
-/// The number of bytes at the front of a short text that are of the class, byte by byte.
+/// The number of leading bytes of the class in a short text, byte by byte.
 fn short_run(class: Class, bytes: &[u8]) -> usize
     ensures within { result ≤ length bytes.now }
     ensures run { PassBetween (passes class) bytes.now 0 result }
@@ -166,7 +166,7 @@ fn short_run(class: Class, bytes: &[u8]) -> usize
     at
 }
 
-/// The number of bytes at the front of a text that are of the class.
+/// The number of leading bytes of the class in a text.
 #[inline(always)]
 pub fn run_len(class: Class, bytes: &[u8]) -> usize
     ensures within { result ≤ length bytes.now }

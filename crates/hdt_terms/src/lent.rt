@@ -1,4 +1,4 @@
-//! Terms that borrow their texts: from dictionary strings, and from terms that are written.
+//! Terms that borrow their texts, from dictionary strings or from terms.
 ghost use Rattle.std.specs.Prelude.{◌≡◌, ◌≢◌, ◌↔◌, ◌++◌, ◌∷◌, List, ℕ, IsTrue, IfOk, MatchOption};
 ghost use Rattle.std.specs.Option.{option_map};
 ghost use Rattle.hdt_terms.specs.Terms.{IsText};
@@ -14,7 +14,7 @@ use crate::text::Text;
 use memchr::{memchr, memrchr};
 use std::alloc::{AllocError, Global};
 
-/// A term that borrows its texts, in the cases of [`Term`].
+/// A term that borrows its texts; cases as in [`Term`].
 #[derive(Clone, Copy)]
 pub enum LentTerm<'a> {
     Iri(&'a [u8]),
@@ -22,7 +22,7 @@ pub enum LentTerm<'a> {
     Literal(&'a [u8], LentSuffix<'a>),
 }
 
-/// What follows the text of such a literal, in the cases of [`Suffix`].
+/// The suffix of such a literal; cases as in [`Suffix`].
 #[derive(Clone, Copy)]
 pub enum LentSuffix<'a> {
     Plain,
@@ -102,21 +102,21 @@ fn is_text(bytes: &[u8]) -> bool
     is_ascii_text(bytes) || is_text_beyond_ascii(bytes)
 }
 
-/// What follows the prefix, if the bytes begin with it.
+/// The rest after the prefix, if the bytes start with it.
 fn behind<'a>(prefix: &[u8], bytes: &'a [u8]) -> Option<&'a [u8]>
     ensures { MatchOption result ((rest : List ℕ) → bytes.now ≢ prefix.now ++ rest) (λ rest. bytes.now ≡ prefix.now ++ rest.now) }
 {
     bytes.strip_prefix(prefix)
 }
 
-/// What precedes the suffix, if the bytes end with it.
+/// The bytes before the suffix, if they end with it.
 fn before<'a>(bytes: &'a [u8], end: &[u8]) -> Option<&'a [u8]>
     ensures { MatchOption result ((front : List ℕ) → bytes.now ≢ front ++ end.now) (λ front. bytes.now ≡ front.now ++ end.now) }
 {
     bytes.strip_suffix(end)
 }
 
-/// The suffix with these bytes after the last quote.
+/// Parses what follows the last quote.
 fn suffix_of(bytes: &[u8]) -> Option<LentSuffix<'_>>
     ensures { SuffixOf bytes.now (option_map suffix_seen result) }
 {
@@ -129,7 +129,7 @@ fn suffix_of(bytes: &[u8]) -> Option<LentSuffix<'_>>
     datatype_of(behind(b"^^<", bytes)?)
 }
 
-/// The suffix with these bytes after `@`.
+/// Parses what follows `@`.
 fn tag_of(tag: &[u8]) -> Option<LentSuffix<'_>>
     ensures { SuffixOf (64 ∷ tag.now) (option_map suffix_seen result) }
 {
@@ -139,7 +139,7 @@ fn tag_of(tag: &[u8]) -> Option<LentSuffix<'_>>
     Some(LentSuffix::Tag(tag))
 }
 
-/// The suffix with these bytes after `^^<`.
+/// Parses what follows `^^<`.
 fn datatype_of(rest: &[u8]) -> Option<LentSuffix<'_>>
     ensures { SuffixOf (94 ∷ 94 ∷ 60 ∷ rest.now) (option_map suffix_seen result) }
 {
@@ -150,7 +150,7 @@ fn datatype_of(rest: &[u8]) -> Option<LentSuffix<'_>>
     Some(LentSuffix::Datatype(iri))
 }
 
-/// The literal with these bytes after the first quote: the last quote ends its text.
+/// Parses what follows the first quote of a literal. The last quote ends its text.
 fn literal_of(rest: &[u8]) -> Option<LentTerm<'_>>
     requires { IsText rest.now }
     ensures { TermOf (34 ∷ rest.now) (option_map term_seen result) }
@@ -160,7 +160,7 @@ fn literal_of(rest: &[u8]) -> Option<LentTerm<'_>>
     Some(LentTerm::Literal(text, suffix_of(quote.split_at(1).1)?))
 }
 
-/// The blank node with these bytes after `_:`.
+/// Parses what follows `_:`.
 fn blank_of(label: &[u8]) -> Option<LentTerm<'_>>
     requires { IsText label.now }
     ensures { TermOf (95 ∷ 58 ∷ label.now) (option_map term_seen result) }
@@ -171,7 +171,7 @@ fn blank_of(label: &[u8]) -> Option<LentTerm<'_>>
     Some(LentTerm::Blank(label))
 }
 
-/// The dictionary term with this string, from which it borrows its texts.
+/// Parses a dictionary string to a term that borrows its texts from it, or returns `None` if no term has this string.
 pub fn lent_term(bytes: &[u8]) -> Option<LentTerm<'_>>
     ensures { TermOf bytes.now (option_map term_seen result) }
 {

@@ -1,8 +1,8 @@
-//! Terms of N-Triples: reading, writing, and their strings in an HDT dictionary.
+//! N-Triples terms and lines: parsing, writing, and conversion to and from HDT dictionary strings.
 //!
-//! What this crate promises: [`parse_term`] returns the term if the text is one of the grammar (W3C RDF 1.1 N-Triples,
-//! section 7, by the profile of docs/NTRIPLES.md), else the first error with its column. What [`put_term`] writes is
-//! read back. [`term_string`] and [`string_term`] are inverse, and different terms have different strings.
+//! Guarantees: [`parse_term`] returns the term if the text matches the grammar (W3C RDF 1.1 N-Triples, section 7, by
+//! the profile of docs/NTRIPLES.md), else the first error with its column. Parsing what [`put_term`] writes returns the
+//! same term. [`term_string`] and [`string_term`] are inverse, and different terms have different strings.
 //!
 //! Functions that state no cost take constant time and allocate nothing. Laws do nothing when called.
 //!
@@ -12,21 +12,20 @@
 //! put_term(&term, &mut line)?; // the same, as nothing in it is escaped
 //! ```
 //!
-//! [`parse_string`] reads a text as [`parse_term`] does and appends its dictionary string; [`put_string`] writes the
-//! text of a dictionary string. Neither makes a term.
+//! [`parse_string`] parses a text as [`parse_term`] does and appends its dictionary string; [`put_string`] writes the
+//! N-Triples text of a dictionary string. Neither allocates a term.
 //!
-//! [`Lines`] gives the triples of a document line by line, over any reader in any pieces: [`Lines::next_triple`] as
-//! terms, which is simple, and [`Lines::next_strings`] as dictionary strings in buffers of the caller, which is fast.
-//! [`Lines::next_text`] gives the text of each line, whatever it is, and [`read_request`] what a line asks for.
-//! [`read_document`] gives all triples, and says of whole inputs what `Lines` says of each call: they are the document's,
-//! or the fault is the one that stands in it.
+//! [`Lines`] returns the triples of a document line by line: [`Lines::next_triple`] as terms, which is simple, and
+//! [`Lines::next_strings`] as dictionary strings in the caller's buffers, which is fast. [`Lines::next_text`] returns
+//! the text of each line, valid or not; [`read_request`] parses a line as a triple pattern. [`read_document`] returns
+//! all triples of an input. How the reader cuts the input into pieces makes no difference to any of them.
 //!
-//! In reading order: `term`, `text` and `triple`, the types; `fault`, what is wrong with a text; `chars`, the classes of
-//! characters; `lanes`, runs of bytes 16 at a time, and `encoding`, UTF-8; the tokens, `pieces` (the inside of IRIs and
-//! strings), `iri`, `label`, `tag` and `literal`; `dictionary`, tokens as dictionary strings; `parse`, one term; `line`, one
-//! line; `request`, a line that asks for
-//! triples; `buffer`, `filling` and `lines`, a reader's lines; `document`, all of them; `lent`, the term that a dictionary string
-//! is, its texts lent; `strings`, dictionary strings; `put`, writing; `laws`, what holds of all terms and lines.
+//! In reading order: `term`, `text` and `triple`, the types; `fault`, the errors; `chars`, character classes;
+//! `byte_runs`, runs of bytes, 16 at a time; `encoding`, UTF-8; the tokens, `escaped_tokens` (the content of IRIs and
+//! strings), `iri`, `label`, `tag` and `literal`; `transcode`, tokens to dictionary strings; `parse`, one term; `line`,
+//! one line; `request` and `raw_request`, a line that requests triples; `buffer`, `line_buffer` and `lines`, the lines
+//! of a reader; `document`, all of them; `term_refs`, terms that borrow their texts; `strings`, dictionary strings;
+//! `put`, writing; `laws`, properties of all terms and lines.
 #![tactic(auto)]
 
 mod buffer;

@@ -1,4 +1,4 @@
-//! Reading one line.
+//! Parsing one line.
 ghost use Rattle.std.specs.Prelude.{◌≡◌, [], ◌<◌, IfOk, IsUtf8};
 ghost use Rattle.hdt_terms.specs.Appending.{AppendsRead};
 ghost use Rattle.hdt_terms.specs.Faults.{IsRead};
@@ -15,7 +15,7 @@ use crate::triple::Triple;
 use hdt_wire::Role;
 use std::alloc::Global;
 
-/// Whether a term of the role may begin with this byte.
+/// Whether a term of the role may start with this byte.
 fn begins(role: Role, first: u8) -> bool
     ensures { result ≡ begins role first }
 {
@@ -26,7 +26,7 @@ fn begins(role: Role, first: u8) -> bool
     }
 }
 
-/// Nothing or a comment follows.
+/// Whether the text is empty or a comment.
 fn is_comment(bytes: &[u8]) -> bool
     ensures { result ≡ is_comment bytes.now }
 {
@@ -36,7 +36,7 @@ fn is_comment(bytes: &[u8]) -> bool
     }
 }
 
-/// Nothing or a comment follows tabs and spaces.
+/// Whether the text is whitespace and an optional comment.
 #[tactic(auto, unfolding(crate::specs::LineReading::is_bare))]
 pub fn is_bare(text: &[u8]) -> bool
     ensures { result ≡ is_bare text.now }
@@ -44,7 +44,7 @@ pub fn is_bare(text: &[u8]) -> bool
     is_comment(after_blanks(text))
 }
 
-/// Nothing or a comment is here.
+/// Fails unless the rest of the line is empty or a comment.
 pub fn read_bare(bytes: &[u8]) -> Result<(), ReadError>
     ensures { GivesRead (λ _. tt) result (bare_at bytes.now) }
 {
@@ -54,7 +54,7 @@ pub fn read_bare(bytes: &[u8]) -> Result<(), ReadError>
     Ok(())
 }
 
-/// The full stop after tabs and spaces; then nothing or a comment.
+/// Reads whitespace, a full stop, whitespace and an optional comment.
 #[tactic(auto, unfolding(crate::specs::LineReading::closed_at))]
 fn read_end(bytes: &[u8]) -> Result<(), ReadError>
     ensures { GivesRead (λ _. tt) result (closed_at bytes.now) }
@@ -66,7 +66,7 @@ fn read_end(bytes: &[u8]) -> Result<(), ReadError>
     read_bare(after_blanks(behind))
 }
 
-/// The term of the role after tabs and spaces, and the bytes after it.
+/// Skips whitespace, then returns the term of the role and the bytes after it.
 #[tactic(auto, unfolding(crate::specs::LineReading::role_at, crate::specs::LineReading::role_here))]
 fn read_role(alloc: Global, role: Role, bytes: &[u8]) -> Result<(Term, &[u8]), ReadError>
     requires { IsUtf8 bytes.now }
@@ -80,7 +80,7 @@ fn read_role(alloc: Global, role: Role, bytes: &[u8]) -> Result<(Term, &[u8]), R
     }
 }
 
-/// Appends the string of the term of the role that begins here, and returns the bytes after it.
+/// Appends the string of the term of the role that starts here, and returns the bytes after it.
 #[tactic(auto, unfolding(crate::specs::LineReading::role_here))]
 pub fn append_here<'a>(
     role: Role,
@@ -97,7 +97,7 @@ pub fn append_here<'a>(
     }
 }
 
-/// Puts the string of the term of the role after tabs and spaces into the buffer, and returns the bytes after it.
+/// Skips whitespace, then puts the string of the term of the role into the buffer. Returns the bytes after it.
 #[tactic(auto, unfolding(crate::specs::LineReading::role_at))]
 fn put_role<'a>(role: Role, bytes: &'a [u8], out: &mut Vec<u8>) -> Result<&'a [u8], ReadError>
     requires { IsUtf8 bytes.now }
@@ -108,7 +108,7 @@ fn put_role<'a>(role: Role, bytes: &'a [u8], out: &mut Vec<u8>) -> Result<&'a [u
     append_here(role, after_blanks(bytes), out)
 }
 
-/// The triple of a line.
+/// The triple of a line, or the first check that fails.
 #[tactic(auto, unfolding(crate::specs::LineReading::line_triple_at))]
 fn read_terms(alloc: Global, text: &[u8]) -> Result<Triple, ReadError>
     requires { IsUtf8 text.now }
@@ -138,7 +138,7 @@ fn put_strings(
     read_end(rest)
 }
 
-/// The triple of a line, or its first error.
+/// The triple of a line, or its first error with the column.
 #[tactic(auto, unfolding(crate::specs::LineReading::line_triple))]
 pub fn read_triple(alloc: Global, text: &[u8]) -> Result<Triple, TermFault>
     requires { IsUtf8 text.now }

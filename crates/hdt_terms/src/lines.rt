@@ -1,4 +1,4 @@
-//! The lines of a document, over any reader in any pieces.
+//! The lines of a document, from any reader.
 ghost use Rattle.std.specs.Prelude.{◌≡◌, ◌≢◌, ◌+◌, ◌++◌, ◌-◌, ◌==◌, take, slice_index, ◌^◌, ◌<◌, ◌≤◌, true, false, [], length, IfOk, OnOk, OnErr, IfErr, IsErrOf, IsUtf8, None, Some, Ok, Err, IfSome};
 ghost use Rattle.hdt_wire.specs.Counted.{inner, failures};
 ghost use Rattle.hdt_terms.specs.Chars.{is_end};
@@ -17,11 +17,11 @@ use std::alloc::{AllocError, Global};
 use std::io::Read;
 use std::marker::Model;
 
-/// The triples of a document, line by line, over any reader in any pieces (W3C RDF 1.1 N-Triples, by the profile of
-/// docs/NTRIPLES.md).
+/// The triples of a document, line by line (W3C RDF 1.1 N-Triples, by the profile of docs/NTRIPLES.md). How the reader
+/// cuts the input into pieces makes no difference.
 ///
-/// It holds one buffer, of 64 KiB at first, which grows where a line is longer, but not in [`Lines::next_front`]. Reading a
-/// document takes time in proportion to its bytes, and memory in proportion to its longest line.
+/// It has one buffer of 64 KiB, which grows if a line is longer, except in [`Lines::next_front`]. Reading a document
+/// takes linear time, and memory for its longest line.
 ///
 /// ```
 /// let mut lines = Lines::new(alloc, limit)?;
@@ -57,8 +57,8 @@ impl Lines {
     ghost use Rattle.hdt_terms.specs.TakingText.{TakesFront, StandsNext, AnswersFront, NoText};
     ghost use Rattle.hdt_terms.specs.Taking.{HoldsLine, State, start, left, line_number, take_of, take_line, Looked, Parsed, ParsedStrings, FindsLine, TakesNext, AnswersStrings, NoStrings};
 
-    /// A reader of lines that has taken nothing. The input may have so many bytes at most: where it has more,
-    /// [`LineReason::TooLong`] stands behind the lines that are whole within the limit. It allocates 64 KiB, whatever the limit.
+    /// Returns a reader of lines at the start of its input. If the input has more than `limit` bytes, the error
+    /// [`LineReason::TooLong`] follows the lines that end within the limit. Allocates 64 KiB, whatever the limit.
     pub fn new(alloc: Global, limit: u64) -> Result<Lines, AllocError>
         requires { limit < 2 ^ 63 }
         ensures { IfOk result (λ s. s ≡ start limit) }
@@ -75,8 +75,7 @@ impl Lines {
         })
     }
 
-    /// Reads until the text of the next line is held, and answers how many bytes it has, and whether it was seen that they
-    /// are UTF-8.
+    /// Reads until the next line is buffered. Returns its length without its end, and whether it is known to be UTF-8.
     fn hold_line<R: Read>(&mut self, input: &mut Counted<R>) -> Result<(usize, bool), LineReason>
         ensures does { Filled (text_len result) self.old.held self.new.held (R.remaining (inner input.old)) (R.remaining (inner input.new))
             (self.old.limit - self.old.taken) }
@@ -93,8 +92,8 @@ impl Lines {
         first_line(&mut self.held, most, input)
     }
 
-    /// Whether a line is held with its end: then the next call of [`Lines::next_front`] reads nothing, so it waits for no one. Time
-    /// is in proportion to that line, or to what is held.
+    /// Returns whether a complete line with its end is buffered. If so, the next call of [`Lines::next_text`] reads
+    /// nothing, so it can't block. Linear time in the length of that line, or of the buffer if there is none.
     pub fn holds_line(&self) -> bool
         ensures yes { result ≡ true → HoldsLine self.now }
         ensures no { result ≡ false → NoEnd self.now.held }
@@ -105,7 +104,7 @@ impl Lines {
         }
     }
 
-    /// A fault of the line in work.
+    /// An error of the current line.
     fn fault(&self, column: u64, reason: LineReason) -> LineFault
         ensures { result ≡ record { line = self.now.ends + 1; column = column; reason = reason } }
     {
@@ -116,14 +115,15 @@ impl Lines {
         }
     }
 
-    /// The number of the line that was taken last, from 1, where its text is not empty.
+    /// Returns the number of the line that was returned last, from 1. An empty text between U+000D and U+000A has the
+    /// number of the line before it.
     pub fn line_number(&self) -> u64
         ensures { result ≡ line_number self.now }
     {
         if self.ended { self.ends + 1 } else { self.ends }
     }
 
-    /// Whether the line of n bytes at the front is bare; refuses one that is not UTF-8, which may be seen already.
+    /// Whether the first n bytes are a line without a triple. Fails if they are not UTF-8. `is_text`: they are UTF-8.
     fn look(&self, n: usize, is_text: bool) -> Result<bool, LineFault>
         requires within { n ≤ length self.now.held }
         requires utf8 { is_text ≡ true → IsUtf8 (take n self.now.held) }
@@ -140,7 +140,7 @@ impl Lines {
         }
     }
 
-    /// The triple of the line of n bytes at the front.
+    /// The triple of the line in the first n bytes.
     fn parse(&self, n: usize) -> Result<Triple, LineFault>
         requires within { n ≤ length self.now.held }
         requires utf8 { IsUtf8 (take n self.now.held) }
@@ -152,7 +152,7 @@ impl Lines {
         }
     }
 
-    /// The same in strings.
+    /// As above, as dictionary strings.
     fn parse_strings(
         &self,
         n: usize,
@@ -170,7 +170,7 @@ impl Lines {
         }
     }
 
-    /// Takes the line of n bytes at the front: with its end, or without one where the input has ended.
+    /// Consumes the line in the first n bytes, with its end, or without one at the end of the input.
     fn take(&mut self, n: usize)
         requires within { n ≤ length self.old.held }
         requires text { NoEnd (take n self.old.held) }
@@ -184,7 +184,7 @@ impl Lines {
         }
     }
 
-    /// Takes the line of n bytes at the front, and its end.
+    /// Consumes the line in the first n bytes and its end.
     fn take_ended(&mut self, n: usize)
         requires within { n < length self.old.held }
         requires text { NoEnd (take n self.old.held) }
@@ -192,7 +192,7 @@ impl Lines {
         ensures { self.new ≡ take_of self.old (n + 1) }
     {
         let end = self.held.as_slice()[n];
-        // A line feed behind the carriage return before ends no other line.
+        // A line feed after a carriage return is part of the same line end.
         let same = self.after_cr & (n == 0) & (end == b'\n');
         self.ends += u64::from(!same);
         self.after_cr = end == b'\r';
@@ -200,7 +200,7 @@ impl Lines {
         self.taken += n as u64 + 1;
     }
 
-    /// Takes all that is held, where no line ends in it.
+    /// Consumes the complete buffer, which has no line end.
     fn take_held(&mut self)
         requires text { NoEnd self.old.held }
         ensures { self.new ≡ take_of self.old (length self.old.held) }
@@ -211,7 +211,7 @@ impl Lines {
         self.taken += n as u64;
     }
 
-    /// Takes the last line, which has no end.
+    /// Consumes the last line, which has no end.
     fn take_last(&mut self)
         requires text { NoEnd self.old.held }
         ensures { self.new ≡ record (take_of self.old (length self.old.held)) { ended = true } }
@@ -220,7 +220,7 @@ impl Lines {
         self.ended = true;
     }
 
-    /// Takes lines without a triple, and answers how many bytes the text of the next line has; `None` at the end.
+    /// Consumes lines without a triple. Returns the length of the next line with one, or `None` at the end.
     fn find_line<R: Read>(&mut self, input: &mut Counted<R>) -> Result<Option<usize>, LineFault>
         requires { self.old.ended ≡ false }
         ensures does { FindsLine result self.old self.new (left self.old (R.remaining (inner input.old)))
@@ -229,7 +229,7 @@ impl Lines {
         ensures failed { IfErr result (λ f. f.reason ≡ Read → failures input.new ≡ failures input.old + 1) }
         ensures still { IfErr result (λ f. f.reason ≢ Read → failures input.new ≡ failures input.old) }
     {
-        // What holds of every reader of lines is known from here on.
+        // Brings the invariant of the type into the proof.
         let _ = &self.alloc;
         'lines: loop {
             let (n, is_text) = match self.hold_line(input) {
@@ -248,7 +248,7 @@ impl Lines {
         }
     }
 
-    /// Takes the next line with a triple, and what stands before it.
+    /// Consumes the next line with a triple and the lines before it.
     fn take_triple<R: Read>(&mut self, input: &mut Counted<R>) -> Result<Option<Triple>, LineFault>
         requires { self.old.ended ≡ false }
         ensures does { TakesNext result self.old self.new (left self.old (R.remaining (inner input.old)))
@@ -270,7 +270,7 @@ impl Lines {
         }
     }
 
-    /// The same in strings.
+    /// As above, as dictionary strings.
     fn take_strings<R: Read>(
         &mut self,
         input: &mut Counted<R>,
@@ -298,29 +298,28 @@ impl Lines {
         }
     }
 
-    /// The next triple, or `None` at the end of the input, and at each call after it. The pieces that the reader gives
-    /// make no difference.
+    /// Returns the next triple, or `None` at the end of the input and in every later call.
     ///
     /// # Errors
     ///
-    /// The fault of the next line that is none, or that can't be read; the lines before it are answered first. It is
-    /// answered again by every later call, and nothing more is read. [`LineReason::Read`] comes where the reader failed
-    /// in this call, [`LineReason::OutOfMemory`] only where memory was refused.
+    /// The first malformed line, or why reading failed; earlier lines are returned first. Every later call returns the
+    /// same error and reads nothing. [`LineReason::Read`] if the reader failed in this call,
+    /// [`LineReason::OutOfMemory`] only if memory ran out.
     pub fn next_triple<R: Read>(
         &mut self,
         input: &mut Counted<R>,
     ) -> Result<Option<Triple>, LineFault>
-        // A fault is answered again, and nothing is read or taken.
+        // An error is returned again, and nothing is read or consumed.
         ensures repeated { IfSome self.old.failed (λ f. (result ≡ Err f) × (self.new ≡ self.old) × (input.new ≡ input.old)) }
         // So is the end.
         ensures ended { self.old.failed ≡ None → self.old.ended ≡ true →
             (result ≡ Ok None) × (self.new ≡ self.old) × (input.new ≡ input.old) }
-        // Until then the answer is that of what is left of the input.
+        // Until then the result is determined by the remaining input.
         ensures answers { self.old.failed ≡ None → self.old.ended ≡ false →
             TakesNext result self.old self.new (left self.old (R.remaining (inner input.old)))
             (left self.new (R.remaining (inner input.new))) (R.remaining (inner input.new)) }
         ensures fault { IfErr result (λ f. self.new.failed ≡ Some f) }
-        // The reader failed in this call at a fault that says so, and at no other answer.
+        // The reader failed in this call if the error says so, and only then.
         ensures read { self.old.failed ≡ None → IfErr result (λ f. f.reason ≡ Read → failures input.new ≡ failures input.old + 1) }
         ensures still { IfErr result (λ f. f.reason ≢ Read → failures input.new ≡ failures input.old) }
         ensures count { OnOk result (failures input.new ≡ failures input.old) }
@@ -340,9 +339,9 @@ impl Lines {
         }
     }
 
-    /// Whether there is a next triple. The dictionary strings of its subject, predicate and object, which
-    /// [`crate::term_string`] gives of its terms, then stand in the three buffers, and nothing else; where there is none the
-    /// buffers are empty. No term is made: once the buffers have grown, a call allocates nothing.
+    /// Returns whether there is a next triple, and replaces the contents of the three buffers by the dictionary strings
+    /// of its subject, predicate and object ([`crate::term_string`]). At the end and after an error they are empty. No
+    /// term is made: a call allocates only to grow a buffer.
     ///
     /// # Errors
     ///
@@ -354,18 +353,18 @@ impl Lines {
         p: &mut Vec<u8>,
         o: &mut Vec<u8>,
     ) -> Result<bool, LineFault>
-        // A fault is answered again, and nothing is read or taken.
+        // An error is returned again, and nothing is read or consumed.
         ensures repeated { IfSome self.old.failed (λ f. (result ≡ Err f) × (self.new ≡ self.old) × (input.new ≡ input.old)) }
         // So is the end.
         ensures ended { self.old.failed ≡ None → self.old.ended ≡ true →
             (result ≡ Ok false) × (self.new ≡ self.old) × (input.new ≡ input.old) }
-        // Until then the answer is that of what is left of the input.
+        // Until then the result is determined by the remaining input.
         ensures answers { self.old.failed ≡ None → self.old.ended ≡ false →
             AnswersStrings result s.new.items p.new.items o.new.items self.old self.new (left self.old (R.remaining (inner input.old)))
             (left self.new (R.remaining (inner input.new))) (R.remaining (inner input.new)) }
         ensures none { NoStrings result s.new.items p.new.items o.new.items }
         ensures fault { IfErr result (λ f. self.new.failed ≡ Some f) }
-        // The reader failed in this call at a fault that says so, and at no other answer.
+        // The reader failed in this call if the error says so, and only then.
         ensures read { self.old.failed ≡ None → IfErr result (λ f. f.reason ≡ Read → failures input.new ≡ failures input.old + 1) }
         ensures still { IfErr result (λ f. f.reason ≢ Read → failures input.new ≡ failures input.old) }
         ensures count { OnOk result (failures input.new ≡ failures input.old) }
@@ -398,7 +397,7 @@ impl Lines {
         self.ended = true;
     }
 
-    /// One read behind what is held: whether there are more bytes.
+    /// Reads once into the buffer. Returns whether there were more bytes.
     fn read_on<R: Read>(&mut self, input: &mut Counted<R>) -> Result<bool, LineReason>
         ensures does { ReadMore result self.old.held self.new.held (R.remaining (inner input.old)) (R.remaining (inner input.new))
             (self.old.limit - self.old.taken) }
@@ -412,7 +411,7 @@ impl Lines {
         read_more(&mut self.held, room, input)
     }
 
-    /// Appends the first n bytes that are held to a text of at most so many, as far as these go.
+    /// Appends the first n bytes of the buffer to `text`, up to a length of `most`.
     fn put_held(&self, most: usize, n: usize, text: &mut Vec<u8>) -> Result<(), LineFault>
         requires within { n ≤ length self.now.held }
         ensures ok { OnOk result (text.new.items ≡ text.old.items ++ take (most - length text.old.items) (take n self.now.held)) }
@@ -424,7 +423,7 @@ impl Lines {
         }
     }
 
-    /// Takes the next line piece by piece, and puts at most so many bytes of the front of its text into the buffer, which is empty.
+    /// Consumes the next line piece by piece, and puts the first `most` bytes of its text into the empty buffer.
     fn take_front<R: Read>(
         &mut self,
         most: usize,
@@ -441,7 +440,7 @@ impl Lines {
         ensures failed { IfErr result (λ f. f.reason ≡ Read → failures input.new ≡ failures input.old + 1) }
         ensures still { IfErr result (λ f. f.reason ≢ Read → failures input.new ≡ failures input.old) }
     {
-        // What holds of every reader of lines is known from here on.
+        // Brings the invariant of the type into the proof.
         let _ = &self.alloc;
         'pieces: loop {
             match line_end(self.held.as_slice(), 0) {
@@ -464,10 +463,8 @@ impl Lines {
         }
     }
 
-    /// Takes the next line, and returns whether there is one. The first bytes of its text, at most `most`, are then in the
-    /// buffer, whatever they are, without its line end; the others are passed over. If there is no line, the buffer is empty.
-    /// The last line is what follows the last line end, and may be empty. Linear time in the line; memory for the bytes in
-    /// the buffer: what is held of the input does not grow, however long the line is.
+    /// As [`Lines::next_text`], but keeps only the first `most` bytes of the text and discards the others. Linear time
+    /// in the line; memory only for the kept bytes, however long the line is.
     ///
     /// # Errors
     ///
@@ -480,20 +477,20 @@ impl Lines {
         input: &mut Counted<R>,
         text: &mut Vec<u8>,
     ) -> Result<bool, LineFault>
-        // A fault is answered again, and nothing is read or taken.
+        // An error is returned again, and nothing is read or consumed.
         ensures repeated { IfSome self.old.failed (λ f. (result ≡ Err f) × (self.new ≡ self.old) × (input.new ≡ input.old)) }
         // So is the end.
         ensures ended { self.old.failed ≡ None → self.old.ended ≡ true →
             (result ≡ Ok false) × (self.new ≡ self.old) × (input.new ≡ input.old) }
-        // Until then the answer is that of what is left of the input.
+        // Until then the result is determined by the remaining input.
         ensures answers { self.old.failed ≡ None → self.old.ended ≡ false →
             AnswersFront result most text.new.items self.old self.new (left self.old (R.remaining (inner input.old)))
             (left self.new (R.remaining (inner input.new))) (R.remaining (inner input.new)) }
         ensures none { NoText result text.new.items }
-        // Where a line is held with its end, nothing is read.
+        // If a line is buffered with its end, nothing is read.
         ensures unread { HoldsLine self.old → input.new ≡ input.old }
         ensures fault { IfErr result (λ f. self.new.failed ≡ Some f) }
-        // The reader failed in this call at a fault that says so, and at no other answer.
+        // The reader failed in this call if the error says so, and only then.
         ensures read { self.old.failed ≡ None → IfErr result (λ f. f.reason ≡ Read → failures input.new ≡ failures input.old + 1) }
         ensures still { IfErr result (λ f. f.reason ≢ Read → failures input.new ≡ failures input.old) }
         ensures count { OnOk result (failures input.new ≡ failures input.old) }
@@ -514,7 +511,7 @@ impl Lines {
     }
 }
 
-/// Appends the bytes to a text of at most so many, as far as these go.
+/// Appends the bytes to `text`, up to a length of `most`.
 fn put_front(most: usize, bytes: &[u8], text: &mut Vec<u8>) -> Result<(), AllocError>
     ensures { OnOk result (text.new.items ≡ text.old.items ++ take (most - length text.old.items) bytes.now) }
 {

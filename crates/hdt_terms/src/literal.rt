@@ -16,7 +16,7 @@ use std::alloc::Global;
 /// The datatype of a literal without a suffix: `xsd:string`.
 const XSD_STRING: &[u8] = b"http://www.w3.org/2001/XMLSchema#string";
 
-/// What follows the tabs and spaces.
+/// The bytes after leading tabs and spaces.
 pub fn after_blanks(bytes: &[u8]) -> &[u8]
     ensures value { result.now ≡ after_blanks bytes.now }
     ensures utf8 { IsUtf8 bytes.now → IsUtf8 result.now }
@@ -38,7 +38,7 @@ pub fn is_xsd_string(iri: &[u8]) -> bool
     iri == XSD_STRING
 }
 
-/// The suffix of this datatype: none for `xsd:string`.
+/// The suffix with this datatype: none for `xsd:string`.
 fn datatype_of(iri: Vec<u8>) -> Suffix
     ensures { result ≡ datatype_of iri.items }
 {
@@ -49,7 +49,7 @@ fn datatype_of(iri: Vec<u8>) -> Suffix
     }
 }
 
-/// The datatype that begins here with `^^`, and the bytes after it.
+/// The datatype that starts here with `^^`, and the bytes after it.
 #[tactic(auto, unfolding(crate::specs::Reading::datatype_at))]
 fn read_datatype(alloc: Global, bytes: &[u8]) -> Result<(Suffix, &[u8]), ReadError>
     ensures { GivesRead (λ x. (x.0, x.1.now)) result (datatype_at bytes.now) }
@@ -61,7 +61,7 @@ fn read_datatype(alloc: Global, bytes: &[u8]) -> Result<(Suffix, &[u8]), ReadErr
     Ok((datatype_of(iri), rest))
 }
 
-/// What follows the closing quote, and the bytes after it.
+/// The suffix after the closing quote, and the bytes after it.
 #[tactic(auto, unfolding(crate::specs::Reading::suffix_at))]
 fn read_suffix(alloc: Global, bytes: &[u8]) -> Result<(Suffix, &[u8]), ReadError>
     ensures { GivesRead (λ x. (x.0, x.1.now)) result (suffix_at bytes.now) }
@@ -74,7 +74,7 @@ fn read_suffix(alloc: Global, bytes: &[u8]) -> Result<(Suffix, &[u8]), ReadError
     }
 }
 
-/// The literal that begins here, and the bytes after it.
+/// The literal that starts here, and the bytes after it.
 #[tactic(auto, unfolding(crate::specs::Reading::literal_at))]
 pub fn read_literal(alloc: Global, bytes: &[u8]) -> Result<(Term, &[u8]), ReadError>
     ensures { GivesRead (λ x. (x.0, x.1.now)) result (literal_at bytes.now) }

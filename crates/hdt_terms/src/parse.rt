@@ -1,4 +1,4 @@
-//! Reading one term.
+//! Parsing one term.
 ghost use Rattle.std.specs.Prelude.{◌≡◌, ◌⊎◌, Ok, IfOk, IfErr, OnOk, OnErr, IsUtf8};
 ghost use Rattle.hdt_terms.specs.declared.term.Term.{Term};
 ghost use Rattle.hdt_terms.specs.Faults.{IsRead, PutsParsed, out_of_memory, term_in};
@@ -19,7 +19,7 @@ use crate::term::Term;
 use crate::text::Text;
 use std::alloc::Global;
 
-/// The term that begins here, and the bytes after it.
+/// The term that starts here, and the bytes after it.
 #[tactic(auto, unfolding(crate::specs::Reading::term_at))]
 pub fn read_term(alloc: Global, bytes: &[u8]) -> Result<(Term, &[u8]), ReadError>
     requires { IsUtf8 bytes.now }
@@ -58,8 +58,8 @@ fn read_whole(alloc: Global, text: &[u8]) -> Result<Term, TermFault>
     }
 }
 
-/// Reads a text that is one term of N-Triples (W3C RDF 1.1 N-Triples, section 7, by the profile of docs/NTRIPLES.md),
-/// with nothing before or after it. IRIs are absolute, no text has U+0000, and the datatype
+/// Parses a text that is one N-Triples term (W3C RDF 1.1 N-Triples, section 7, by the profile of docs/NTRIPLES.md),
+/// with nothing before or after it. IRIs must be absolute, U+0000 is an error, and the datatype
 /// `http://www.w3.org/2001/XMLSchema#string` is dropped. Linear time; memory for the term.
 ///
 /// # Errors
@@ -67,19 +67,19 @@ fn read_whole(alloc: Global, text: &[u8]) -> Result<Term, TermFault>
 /// The first error of the text, with its column in bytes, from 1. [`LineReason::OutOfMemory`], with the column 0, only
 /// if memory ran out.
 pub fn parse_term(alloc: Global, text: &[u8]) -> Result<Term, TermFault>
-    // The text is one of the term that is returned, which is one of the grammar.
+    // The text encodes the returned term, which is a term of the grammar.
     ensures found { IfOk result (λ term. Spelled text.now term × IsGrammarTerm term) }
-    // If the text is one of a term, it is returned, unless memory runs out.
+    // If the text encodes a term, it is returned, unless memory runs out.
     ensures only { (term : Term) → Spelled text.now term → IsRead result (Ok term) }
-    // The error is the one of the table of errors, unless memory ran out.
+    // The error is in the table of errors, unless memory ran out.
     ensures fault { IfErr result (λ fault. (fault ≡ out_of_memory) ⊎ FaultIn text.now fault) }
-    // All of this at once: the term of the text, or its first error.
+    // In one clause: the term of the text, or its first error.
     ensures exact { IsRead result (term_in text.now) }
 {
     read_whole(alloc, text)
 }
 
-/// Appends the string of the term of a text, or returns its first error; after an error `out` may have grown.
+/// Appends the string of the term of a text, or returns its first error. After an error `out` may be longer.
 #[tactic(auto, unfolding(crate::specs::Faults::term_in, crate::specs::Faults::checked))]
 fn append_whole(text: &[u8], out: &mut Vec<u8>) -> Result<(), TermFault>
     ensures reads { PutsParsed text.now out.old.items out.new.items result }
@@ -97,18 +97,18 @@ fn append_whole(text: &[u8], out: &mut Vec<u8>) -> Result<(), TermFault>
     }
 }
 
-/// Appends the dictionary string of the term of a text, without making the term: what [`parse_term`] and then
-/// [`crate::term_string`] give. Linear time; memory for the string.
+/// Parses a text as [`parse_term`] and appends the dictionary string of its term ([`crate::term_string`]) to `out`,
+/// without making the term. Linear time; memory only if `out` grows.
 ///
 /// # Errors
 ///
 /// As [`parse_term`]; then `out` is unchanged.
 pub fn parse_string(text: &[u8], out: &mut Vec<u8>) -> Result<(), TermFault>
-    // What is appended is the string of a term of the grammar that the text is one of.
+    // The text encodes a term of the grammar, whose string is appended.
     ensures found { OnOk result (SpellsString text.now out.old.items out.new.items) }
-    // The error is the one of the table of errors, unless memory ran out.
+    // The error is in the table of errors, unless memory ran out.
     ensures fault { IfErr result (λ fault. (fault ≡ out_of_memory) ⊎ FaultIn text.now fault) }
-    // The string of the term of the text, or its first error.
+    // In one clause: the string of the term of the text, or its first error.
     ensures exact { PutsParsed text.now out.old.items out.new.items result }
     ensures err { OnErr result (out.new.items ≡ out.old.items) }
 {

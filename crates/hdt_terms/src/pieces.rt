@@ -20,7 +20,8 @@ pub enum Token {
     Quoted,
 }
 
-/// What is next in a token: its end, an unescaped byte, or an escape with the bytes after its backslash.
+/// An item of a token: its end, an unescaped byte, or an escape, as a character and the number of bytes after the
+/// backslash.
 #[derive(Clone, Copy, Debug, PartialEq, Eq)]
 pub enum Item {
     End,
@@ -41,7 +42,7 @@ fn uchar(rest: &[u8]) -> Option<(char, usize)>
     }
 }
 
-/// The character with so many digits, and one more than their number.
+/// The character that the first `len` hexadecimal digits encode, and `len + 1`.
 fn escaped(len: usize, digits: &[u8]) -> Option<(char, usize)>
     requires { len ≤ 8 }
     ensures value { result ≡ escape_here len digits.now }
@@ -80,7 +81,7 @@ fn echar_at(rest: &[u8]) -> Option<(char, usize)>
     Some((echar(*letter)?, 1))
 }
 
-/// What begins with this byte in an IRI.
+/// The item of an IRI that starts with this byte.
 #[tactic(auto, unfolding(crate::specs::Reading::iri_item))]
 fn iri_item(first: u8, rest: &[u8]) -> Result<Item, ReadError>
     requires { length rest.now < 2 ^ 63 }
@@ -101,7 +102,7 @@ fn iri_item(first: u8, rest: &[u8]) -> Result<Item, ReadError>
     }
 }
 
-/// What begins with this byte in a string.
+/// The item of a string that starts with this byte.
 #[tactic(auto, unfolding(crate::specs::Reading::string_item))]
 fn string_item(first: u8, rest: &[u8]) -> Result<Item, ReadError>
     requires { length rest.now < 2 ^ 63 }
@@ -122,7 +123,7 @@ fn string_item(first: u8, rest: &[u8]) -> Result<Item, ReadError>
     }
 }
 
-/// What begins with this byte in the token.
+/// The item of the token that starts with this byte.
 fn next_item(token: Token, first: u8, rest: &[u8]) -> Result<Item, ReadError>
     requires { length rest.now < 2 ^ 63 }
     ensures value { GivesRead (λ x. x) result (item token first rest.now) }
@@ -144,7 +145,7 @@ pub fn close(token: Token) -> u8
     }
 }
 
-/// Whether a token may have this byte unescaped.
+/// Whether this byte may occur unescaped in the token.
 pub fn is_raw(token: Token, byte: u8) -> bool
     ensures { result ≡ is_raw token byte }
 {
@@ -154,18 +155,18 @@ pub fn is_raw(token: Token, byte: u8) -> bool
     }
 }
 
-/// The number of bytes at the front that a token has unescaped.
+/// The number of leading bytes that may occur unescaped in the token.
 #[inline(always)]
 pub fn plain_len(token: Token, bytes: &[u8]) -> usize
     ensures within { result ≤ length bytes.now }
     ensures plain { (k : ℕ) → k < result → is_raw token (slice_index bytes.now k) ≡ true }
-    // The next byte does not.
+    // The next byte may not.
     ensures longest { result < length bytes.now → is_raw token (slice_index bytes.now result) ≡ false }
 {
     run_len(Class::Inside(token), bytes)
 }
 
-/// Appends the bytes at the front that the token has unescaped, and returns what follows them.
+/// Appends the leading unescaped bytes, and returns what follows them.
 #[inline(always)]
 fn append_plain<'a>(token: Token, bytes: &'a [u8], out: &mut Vec<u8>) -> Result<&'a [u8], ReadError>
     ensures goes_on { IfOk result (λ rest. with_front out.new.items (inside token 0 rest.now) ≡ with_front out.old.items (inside token 0 bytes.now)) }
@@ -187,8 +188,8 @@ fn append_char(c: char, out: &mut Vec<u8>) -> Result<(), AllocError>
     out.extend_from_slice(c.encode_utf8(&mut buffer).as_bytes())
 }
 
-/// Appends the content of a token, with its escapes decoded, and returns the bytes after its end: item by item, for
-/// tokens with escapes, which are few.
+/// Appends the content of a token, with its escapes decoded, and returns the bytes after its end. Goes item by item,
+/// for tokens with escapes, which are rare.
 #[inline(never)]
 fn inside_by_items<'a>(
     token: Token,
@@ -215,7 +216,7 @@ fn inside_by_items<'a>(
     refuse(LineReason::Syntax, 0)
 }
 
-/// The same; at once if the token ends here.
+/// The same, with a fast path if the token ends here.
 #[inline(always)]
 fn inside_at_end<'a>(
     token: Token,
@@ -241,8 +242,8 @@ pub fn inside<'a>(token: Token, bytes: &'a [u8], out: &mut Vec<u8>) -> Result<&'
     inside_at_end(token, rest, out)
 }
 
-/// The content of a token, with its escapes decoded, and the bytes after its end. Without escapes it takes no more
-/// memory than its bytes.
+/// The content of a token, with its escapes decoded, and the bytes after its end. Without escapes it allocates exactly
+/// its length.
 #[inline(always)]
 pub fn read_inside(alloc: Global, token: Token, bytes: &[u8]) -> Result<(Vec<u8>, &[u8]), ReadError>
     ensures { GivesRead (λ x. (x.0.items, x.1.now)) result (inside token 0 bytes.now) }

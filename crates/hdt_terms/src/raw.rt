@@ -1,4 +1,4 @@
-//! Reading a request of dictionary strings.
+//! Parsing a request by dictionary strings: a line of three strings, separated by tabs.
 ghost use Rattle.std.specs.Prelude.{◌≡◌, [], Ok, Err, Option};
 ghost use Rattle.hdt_terms.specs.Appending.{AppendsRead, itself};
 ghost use Rattle.hdt_terms.specs.RawReading.{raw_letter, raw_at, tab_at, nothing_at, raw_request_at, raw_request_in, is_raw_given, FillsRaw, HoldsRaw, IsLetterAt};
@@ -8,7 +8,7 @@ use crate::encoding::check_utf8;
 use crate::fault::{LineReason, ReadError, TermFault, fault_of, refuse};
 use crate::line::is_bare;
 
-/// The byte of an escape of one letter.
+/// The byte that a backslash and this letter encode.
 fn letter(letter: u8) -> Option<u8>
     ensures { result ≡ raw_letter letter }
 {
@@ -21,7 +21,7 @@ fn letter(letter: u8) -> Option<u8>
     }
 }
 
-/// The byte of such an escape, and the bytes after it.
+/// The byte that a backslash and the first letter encode, and the bytes after it.
 fn letter_at(rest: &[u8]) -> Option<(u8, &[u8])>
     ensures { IsLetterAt (λ x. x.0) (λ x. x.1.now) rest.now result }
 {
@@ -29,7 +29,7 @@ fn letter_at(rest: &[u8]) -> Option<(u8, &[u8])>
     Some((letter(*first)?, behind))
 }
 
-/// Appends the string that is here, with its escapes decoded, and returns the bytes from the tab after it on.
+/// Appends the string up to a tab or the end, with its escapes decoded. Returns the bytes from there on.
 fn append_raw<'a>(bytes: &'a [u8], out: &mut Vec<u8>) -> Result<&'a [u8], ReadError>
     ensures { AppendsRead itself out.old.items out.new.items (λ rest. rest.now) result (raw_at bytes.now) }
 {
@@ -53,7 +53,7 @@ fn append_raw<'a>(bytes: &'a [u8], out: &mut Vec<u8>) -> Result<&'a [u8], ReadEr
     Ok(rest)
 }
 
-/// Puts the string that is here into the buffer, and returns the bytes from the tab after it on.
+/// Puts the string up to a tab or the end into the buffer. Returns the bytes from there on.
 fn put_raw<'a>(bytes: &'a [u8], out: &mut Vec<u8>) -> Result<&'a [u8], ReadError>
     ensures { AppendsRead itself [] out.new.items (λ rest. rest.now) result (raw_at bytes.now) }
 {
@@ -61,7 +61,7 @@ fn put_raw<'a>(bytes: &'a [u8], out: &mut Vec<u8>) -> Result<&'a [u8], ReadError
     append_raw(bytes, out)
 }
 
-/// The bytes after the tab here.
+/// The bytes after the tab that is expected here.
 fn behind_tab(bytes: &[u8]) -> Result<&[u8], ReadError>
     ensures { GivesRead (λ rest. rest.now) result (tab_at bytes.now) }
 {
@@ -71,7 +71,7 @@ fn behind_tab(bytes: &[u8]) -> Result<&[u8], ReadError>
     }
 }
 
-/// Nothing is here.
+/// Fails unless nothing is left.
 fn read_nothing(bytes: &[u8]) -> Result<(), ReadError>
     ensures { GivesRead (λ _. tt) result (nothing_at bytes.now) }
 {
@@ -94,7 +94,7 @@ fn put_raws(text: &[u8], s: &mut Vec<u8>, p: &mut Vec<u8>, o: &mut Vec<u8>) -> R
     read_nothing(rest)
 }
 
-/// Whether a string is given, and not any.
+/// Whether a string is given: `?` matches any.
 fn is_given(string: &[u8]) -> bool
     ensures { result ≡ is_raw_given string.now }
 {
@@ -103,8 +103,8 @@ fn is_given(string: &[u8]) -> bool
 
 /// Reads a request by dictionary strings into the buffers. Returns which of subject, predicate and object are given, or
 /// `None` if the line has only whitespace and a comment. A request is three strings, separated by one tab each; in a
-/// string `\\`, `\n`, `\r` and `\t` are a backslash, a line feed, a carriage return and a tab. `?` is any. Linear time;
-/// it allocates only to grow the buffers.
+/// string `\\`, `\n`, `\r` and `\t` are a backslash, a line feed, a carriage return and a tab. The string `?` matches
+/// any. Linear time; memory only if the buffers grow.
 ///
 /// # Errors
 ///

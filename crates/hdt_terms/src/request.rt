@@ -1,4 +1,4 @@
-//! Reading a request: a line of subject, predicate and object, each a term or `?` for any.
+//! Parsing a request: a line of subject, predicate and object, each a term or `?` for any.
 ghost use Rattle.std.specs.Prelude.{IfOk, IsUtf8};
 ghost use Rattle.hdt_terms.specs.RequestReading.{part_at, stop_at, request_at, request_in, FillsPart, FillsAsked, HoldsRequest};
 ghost use Rattle.hdt_terms.specs.Reading.{GivesRead};
@@ -9,8 +9,8 @@ use crate::line::{append_here, is_bare, read_bare};
 use crate::literal::after_blanks;
 use hdt_wire::Role;
 
-/// Puts the string of the term of the role after tabs and spaces into the buffer, unless it is `?`. Returns whether it
-/// is a term, and the bytes after it.
+/// Skips whitespace, then reads `?`, or puts the string of the term of the role into the buffer. Returns whether it is
+/// a term, and the bytes after it.
 #[tactic(auto, unfolding(crate::specs::RequestReading::part_at, crate::specs::RequestReading::part_here))]
 fn put_part<'a>(
     role: Role,
@@ -33,7 +33,7 @@ fn put_part<'a>(
     Ok((true, rest))
 }
 
-/// A full stop or none after tabs and spaces; then nothing or a comment.
+/// Reads whitespace, an optional full stop, whitespace and an optional comment.
 #[tactic(auto, unfolding(crate::specs::RequestReading::stop_at))]
 fn read_stop(bytes: &[u8]) -> Result<(), ReadError>
     ensures { GivesRead (λ _. tt) result (stop_at bytes.now) }
@@ -48,7 +48,7 @@ fn read_stop(bytes: &[u8]) -> Result<(), ReadError>
     read_bare(bytes)
 }
 
-/// Puts the strings of the terms of a request into the buffers. Returns which of them there are.
+/// Puts the strings of the terms of a request into the buffers. Returns which of them are given.
 #[tactic(auto, unfolding(crate::specs::RequestReading::request_at))]
 fn put_parts(
     text: &[u8],
@@ -69,8 +69,8 @@ fn put_parts(
 /// Reads a request, and puts the dictionary strings of its terms into the buffers. Returns which of subject, predicate
 /// and object are given, or `None` if the line has only whitespace and a comment. A request is subject, predicate and
 /// object, each a term that is allowed there in a triple, or `?` for any; then an optional full stop and an optional
-/// comment. Whitespace is optional where it is in a triple, so each line of a document is a request. Linear time; it
-/// allocates only to grow the buffers.
+/// comment. Whitespace is optional as in a triple, so each line of a document is a request for its triple. Linear time;
+/// memory only if the buffers grow.
 ///
 /// # Errors
 ///

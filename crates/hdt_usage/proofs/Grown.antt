@@ -1,4 +1,4 @@
--- One more command on each side.
+-- Adding a command to equal programs.
 use Rattle.std.proofs.Common.{◌≡◌, ◌∙◌, ap}
 use Rattle.clap.specs.Words.{App, with_subcommand}
 

@@ -171,7 +171,7 @@ const COUNT_HELP: &str = "Print how many there are, and no triples";
 
 const MOST_HELP: &str = "Take the first N triples alone";
 
-/// The command with one more word that has to be given.
+/// Adds a required argument to the command.
 fn with_word<'a>(
     alloc: Global,
     command: Command<'a>,
@@ -185,7 +185,7 @@ fn with_word<'a>(
     command.arg(Arg::new(alloc, id).help(help).required(true))
 }
 
-/// The command with one more flag.
+/// Adds a flag to the command.
 fn with_flag<'a>(
     alloc: Global,
     command: Command<'a>,
@@ -204,7 +204,7 @@ fn with_flag<'a>(
     )
 }
 
-/// The command with ROLE, one of these words.
+/// Adds the argument ROLE, one of these names, to the command.
 fn with_role<'a>(
     alloc: Global,
     command: Command<'a>,
@@ -221,7 +221,7 @@ fn with_role<'a>(
     command.arg(role)
 }
 
-/// The command with N, a number below 2^64.
+/// Adds the argument N, a number below 2^64, to the command.
 fn with_number<'a>(alloc: Global, command: Command<'a>) -> Result<Command<'a>, AllocError>
     requires { (fields_of command).has_globals ≡ false }
     ensures shape { IfOk result (λ c. app_of c ≡ with_rule (app_of command.entry) number_word) }
@@ -234,7 +234,7 @@ fn with_number<'a>(alloc: Global, command: Command<'a>) -> Result<Command<'a>, A
     command.arg(number)
 }
 
-/// An option, its value called by this name, and the value that stands for it where it isn't given.
+/// An option with the name of its value and a default.
 fn option_of<'a>(
     alloc: Global,
     id: &'a str,
@@ -252,7 +252,7 @@ fn option_of<'a>(
         .help(help)
 }
 
-/// The command with `--base`.
+/// Adds `--base` to the command.
 fn with_base<'a>(alloc: Global, command: Command<'a>) -> Result<Command<'a>, AllocError>
     requires { (fields_of command).has_globals ≡ false }
     ensures shape { IfOk result (λ c. app_of c ≡ with_rule (app_of command.entry) base_option) }
@@ -261,7 +261,7 @@ fn with_base<'a>(alloc: Global, command: Command<'a>) -> Result<Command<'a>, All
     command.arg(option_of(alloc, "base", "IRI", BASE, BASE_HELP))
 }
 
-/// The command with `--block-size`.
+/// Adds `--block-size` to the command.
 fn with_block_size<'a>(alloc: Global, command: Command<'a>) -> Result<Command<'a>, AllocError>
     requires { (fields_of command).has_globals ≡ false }
     ensures shape { IfOk result (λ c. app_of c ≡ with_rule (app_of command.entry) block_size_option) }
@@ -271,7 +271,7 @@ fn with_block_size<'a>(alloc: Global, command: Command<'a>) -> Result<Command<'a
     command.arg(option.value_parser(value_parser!(u32)))
 }
 
-/// A command on a file.
+/// A command with the argument FILE.
 fn file_command<'a>(
     alloc: Global,
     name: &'a str,
@@ -295,7 +295,7 @@ fn head_of<'a>(alloc: Global) -> Result<Command<'a>, AllocError>
     file_command(alloc, "head", HEAD_ABOUT, HEAD_LONG_ABOUT)
 }
 
-/// The command with `--progress`.
+/// Adds `--progress` to the command.
 fn with_progress<'a>(alloc: Global, command: Command<'a>) -> Result<Command<'a>, AllocError>
     requires { (fields_of command).has_globals ≡ false }
     ensures shape { IfOk result (λ c. app_of c ≡ with_rule (app_of command.entry) progress_flag) }
@@ -344,7 +344,7 @@ fn number_of<'a>(alloc: Global, roles: &'a [&'a str]) -> Result<Command<'a>, All
     with_flag(alloc, command, "raw", RAW_HELP)
 }
 
-/// The command with `--most`.
+/// Adds `--most` to the command.
 fn with_most<'a>(alloc: Global, command: Command<'a>) -> Result<Command<'a>, AllocError>
     requires { (fields_of command).has_globals ≡ false }
     ensures shape { IfOk result (λ c. app_of c ≡ with_rule (app_of command.entry) most_option) }
@@ -357,7 +357,7 @@ fn with_most<'a>(alloc: Global, command: Command<'a>) -> Result<Command<'a>, All
     command.arg(option.value_parser(value_parser!(u64)))
 }
 
-/// The command with `--longest-request`.
+/// Adds `--longest-request` to the command.
 fn with_longest_request<'a>(alloc: Global, command: Command<'a>) -> Result<Command<'a>, AllocError>
     requires { (fields_of command).has_globals ≡ false }
     ensures shape { IfOk result (λ c. app_of c ≡ with_rule (app_of command.entry) longest_request_option) }
@@ -384,7 +384,7 @@ fn find_words<'a>(alloc: Global) -> Result<Command<'a>, AllocError>
     with_word(alloc, command, "O", OBJECT_HELP)
 }
 
-/// The same with `--raw`, `--numbers`, `--count` and `--most`.
+/// `find FILE S P O`, with `--raw`, `--numbers`, `--count` and `--most`.
 fn find_of<'a>(alloc: Global) -> Result<Command<'a>, AllocError>
     ensures shape { IfOk result (λ c. app_of c ≡ find_command) }
     ensures local { IfOk result (λ c. (fields_of c).has_globals ≡ false) }
@@ -404,7 +404,7 @@ fn dump_of<'a>(alloc: Global) -> Result<Command<'a>, AllocError>
     file_command(alloc, "dump", DUMP_ABOUT, DUMP_LONG_ABOUT)
 }
 
-/// A command that makes a file: IN and OUT.
+/// A command that writes a file, with the arguments IN and OUT.
 fn making_command<'a>(
     alloc: Global,
     name: &'a str,
@@ -462,7 +462,7 @@ fn answer_of<'a>(alloc: Global) -> Result<Command<'a>, AllocError>
     with_longest_request(alloc, command)
 }
 
-/// The program, with no command yet.
+/// The program without commands.
 fn program<'a>(alloc: Global) -> Result<Command<'a>, AllocError>
     ensures { IfOk result (λ c. app_of c ≡ empty_table) }
 {
@@ -474,7 +474,7 @@ fn program<'a>(alloc: Global) -> Result<Command<'a>, AllocError>
         .bin_name("hdt")
 }
 
-/// The program with one more command.
+/// Adds a command to the program.
 fn with_command<'a>(program: Command<'a>, command: Command<'a>) -> Result<Command<'a>, AllocError>
     requires { (fields_of command).has_globals ≡ false }
     ensures { IfOk result (λ c. app_of c ≡ with_subcommand (app_of program.entry) (app_of command.entry).top) }
@@ -482,7 +482,7 @@ fn with_command<'a>(program: Command<'a>, command: Command<'a>) -> Result<Comman
     program.subcommand(command)
 }
 
-/// The program with the commands that tell of a file. (All commands in one function would take the prover minutes.)
+/// The program with `head` and `verify`. (Adding all commands in one function would take minutes to prove.)
 fn first_commands<'a>(alloc: Global) -> Result<Command<'a>, AllocError>
     ensures { IfOk result (λ c. app_of c ≡ first_commands) }
 {
@@ -491,7 +491,7 @@ fn first_commands<'a>(alloc: Global) -> Result<Command<'a>, AllocError>
     with_command(program, verify_of(alloc)?)
 }
 
-/// The program with those that look up, too.
+/// The program with these and the dictionary lookups `strings`, `string` and `number`.
 fn look_up_commands<'a>(alloc: Global, roles: &'a [&'a str]) -> Result<Command<'a>, AllocError>
     ensures { IfOk result (λ c. app_of c ≡ look_up_commands roles.entry) }
 {
@@ -501,7 +501,7 @@ fn look_up_commands<'a>(alloc: Global, roles: &'a [&'a str]) -> Result<Command<'
     with_command(program, number_of(alloc, roles)?)
 }
 
-/// The program with those that print triples, too.
+/// The program with these and `find`, `answer` and `dump`, which print triples.
 fn text_commands<'a>(alloc: Global, roles: &'a [&'a str]) -> Result<Command<'a>, AllocError>
     ensures { IfOk result (λ c. app_of c ≡ text_commands roles.entry) }
 {
@@ -511,12 +511,12 @@ fn text_commands<'a>(alloc: Global, roles: &'a [&'a str]) -> Result<Command<'a>,
     with_command(program, dump_of(alloc)?)
 }
 
-/// All the commands, each with its words, options and help, as one table; the words for the roles are lent. It takes memory for the
-/// table, in some hundred pieces.
+/// Returns the command table: all commands with their arguments, options and help. It borrows the names of the roles.
+/// Constant time; some hundred allocations.
 ///
 /// # Errors
 ///
-/// `AllocError` only where memory was refused.
+/// `AllocError` only if memory ran out.
 pub fn table_of<'a>(alloc: Global, roles: &'a [&'a str]) -> Result<Command<'a>, AllocError>
     ensures { IfOk result (λ c. app_of c ≡ table roles.entry) }
 {

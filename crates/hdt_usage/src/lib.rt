@@ -1,11 +1,9 @@
-//! How the command `hdt` is used: its commands with their words, options and help, as a table for `clap`. What the words then ask
-//! for, hdt_command reads.
+//! The command-line interface of `hdt`: its commands with their arguments, options and help, as a table for `clap`.
+//! hdt_command interprets what `clap` parses.
 //!
-//! The layer's promise: the table that is made is the stated one, so the words that `clap` takes, and what it says of them, are those
-//! of the definition.
+//! Guarantee: the table is exactly the specified one, so `clap` accepts exactly the specified command lines.
 //!
-//! It takes memory for the table alone. It stands in a crate of its own since it rests on none of the others but hdt_wire: so it is
-//! proved beside them.
+//! It is a crate of its own because it depends only on hdt_wire, so it is proved in parallel with the others.
 //!
 //! ```text
 //! let command = table_of(alloc, &["subject", "predicate", "object"])?;

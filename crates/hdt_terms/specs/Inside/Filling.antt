@@ -1,4 +1,4 @@
--- What reading into a buffer does.
+-- The effects of reading into a buffer.
 use Rattle.std.specs.Prelude.{◌≡◌, ℕ, ◌+◌, ◌<◌, ◌≤◌, Bool, true, false, ◌⊎◌, List, ◌++◌, length, take, slice_index, Option, None, Some, Result, Ok, Err}
 use Rattle.std.specs.Io.KnownBytes.{Consumes, Keeps, IsAtEnd}
 use Rattle.hdt_terms.specs.declared.fault.LineReason.{LineReason}
@@ -6,23 +6,23 @@ use Rattle.hdt_terms.specs.declared.fault.LineReason.TheVariants.{Read, OutOfMem
 use Rattle.hdt_terms.specs.Chars.{is_end}
 use Rattle.hdt_terms.specs.Lines.{NoEnd}
 
--- the bytes grew by what the reader gave
+-- new is old followed by what the reader gave.
 abbrev pub Grew : List ℕ → List ℕ → Option (List ℕ) → Option (List ℕ) → Type 0
 Grew old new before after = (more : List ℕ) × (new ≡ old ++ more) × Consumes before after more
 
--- the first line end of the bytes
+-- The index of the first line end, or None without one.
 abbrev pub FoundEnd : List ℕ → Option ℕ → Type 0
 FoundEnd bytes None = NoEnd bytes
 FoundEnd bytes (Some n) = (n < length bytes) × (is_end (slice_index bytes n) ≡ true) × NoEnd (take n bytes)
 
--- one read: so many bytes more, none only at the reader's end; or nothing, where the reader failed or memory ran out
+-- One read appends n bytes, 0 only at the end of the input. It appends nothing if the reader failed or memory ran out.
 abbrev pub ReadOnce : Result ℕ LineReason → List ℕ → List ℕ → Option (List ℕ) → Option (List ℕ) → Type 0
 ReadOnce (Ok n) old new before after = Grew old new before after × (length new ≡ length old + n) × (n ≡ 0 → IsAtEnd after)
 ReadOnce (Err Read) old new before after = (new ≡ old) × Keeps before after
 ReadOnce (Err OutOfMemory) old new before after = (new ≡ old) × Keeps before after
 ReadOnce (Err other) old new before after = ⊥
 
--- one read of bytes that may be so many at most
+-- One read up to a length of most: whether there were more bytes.
 abbrev pub ReadMore : Result Bool LineReason → List ℕ → List ℕ → Option (List ℕ) → Option (List ℕ) → ℕ → Type 0
 ReadMore (Ok true) old new before after most = Grew old new before after × (length old < length new) × (length new ≤ most)
 ReadMore (Ok false) old new before after most = Grew old new before after × (new ≡ old) × IsAtEnd after
@@ -31,16 +31,16 @@ ReadMore (Err OutOfMemory) old new before after most = (new ≡ old) × Keeps be
 ReadMore (Err TooLong) old new before after most = (new ≡ old) × (length new ≡ most) × ((past : List ℕ) × (0 < length past) × Consumes before after past)
 ReadMore (Err other) old new before after most = ⊥
 
--- the first n bytes are a line's text: its end follows, or the reader has ended
+-- The first n bytes are the text of a line: its end follows, or the input has ended.
 pub record LineFront (n : ℕ) (bytes : List ℕ) (after : Option (List ℕ)) : Type 0 where
   pub no_end : NoEnd (take n bytes)
   pub end : ((n < length bytes) × (is_end (slice_index bytes n) ≡ true)) ⊎ ((n ≡ length bytes) × IsAtEnd after)
 
--- the bytes grew to the most that they may be, and the reader gave more
+-- new is old followed by what the reader gave, and the reader gave more.
 abbrev pub GrewPast : List ℕ → List ℕ → Option (List ℕ) → Option (List ℕ) → Type 0
 GrewPast old new before after = (more : List ℕ) × (past : List ℕ) × (new ≡ old ++ more) × (0 < length past) × Consumes before after (more ++ past)
 
--- reading until the bytes begin with a line's text
+-- Reading until the buffer starts with a complete line of n bytes of text.
 abbrev pub Filled : Result ℕ LineReason → List ℕ → List ℕ → Option (List ℕ) → Option (List ℕ) → ℕ → Type 0
 Filled (Ok n) old new before after most = Grew old new before after × LineFront n new after × (length new ≤ most)
 Filled (Err Read) old new before after most = Grew old new before after × NoEnd new × (length new ≤ most)
@@ -48,7 +48,7 @@ Filled (Err OutOfMemory) old new before after most = Grew old new before after �
 Filled (Err TooLong) old new before after most = GrewPast old new before after × NoEnd new × (length new ≡ most)
 Filled (Err other) old new before after most = ⊥
 
--- how many bytes the text of a line has, where with it stands whether it is known as UTF-8
+-- The length without the flag that says whether the text is known to be UTF-8.
 abbrev pub text_len : Result (ℕ × Bool) LineReason → Result ℕ LineReason
 text_len (Ok x) = Ok x.0
 text_len (Err reason) = Err reason
