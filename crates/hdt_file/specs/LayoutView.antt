@@ -1,4 +1,4 @@
--- The parts of a file that was read, as the layout sees them.
+-- The graph of a `Layout`.
 use Rattle.hdt_dict.specs.Views.{dictionary_of}
 use Rattle.hdt_triples.specs.Counting.{triples_of}
 use Rattle.hdt_triples.specs.Views.{bitmap_read}

@@ -1,4 +1,4 @@
--- The parts of a file that was read, with the places of its dictionary.
+-- The parts of a `Layout` and of a `Graph`.
 use Rattle.hdt_dict.specs.Views.{dictionary_of}
 use Rattle.hdt_triples.specs.ListedViews.{triples_listed}
 use Rattle.hdt_triples.specs.Views.{bitmap_read}

@@ -1,4 +1,4 @@
--- The checks of a file as code runs them, which keeps the sequences of the triples alone.
+-- Decoding a file by its parts gives the same as decoding it: code keeps only the bitmaps and arrays of the triples.
 use Rattle.std.proofs.Common.{◌≡◌, ℕ, Bool, List, length, eqb, true, false, Result, Ok, Err, refl}
 use Rattle.hdt_wire.specs.declared.fault.Fault.{Fault}
 use Rattle.hdt_wire.specs.declared.fault.Reason.TheVariants.{TrailingBytes}
@@ -41,7 +41,7 @@ pub rows_are : (bytes : List ℕ) → parts_rows bytes ≡ parts_in bytes
 unfolding parts_rows file_at_start
 rows_are bytes = with_front bytes (dictionary_after_head bytes)
 
--- ---- what is seen of the parts
+-- ---- the graph of the parts
 
 graph_of_parts : (r : Result FileParts Fault) → seen graph_from (seen parts_from r) ≡ (r >>= λ file. Ok (graph_from (parts_from file)))
 graph_of_parts (Ok file) = refl
