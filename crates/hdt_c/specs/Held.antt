@@ -1,4 +1,4 @@
--- What a handle owns: what a box of a kept value owns, or nothing.
+-- What the pointer of a handle owns: what a box of its value owns, or nothing if it is null.
 use base.Fml.{Fml, ftrue}
 use base.Stored.{Coded}
 use denote.RawPtr.{Ptr}

@@ -1,4 +1,4 @@
--- What kind of value is kept.
+-- The kind of a value.
 use Rattle.std.specs.Prelude.{Option, Some, None, Bool, true, false}
 use Rattle.hdt_c.specs.declared.kept.Kept.{Kept}
 use Rattle.hdt_c.specs.declared.kept.Kept.TheVariants.{Graph, Bytes}
