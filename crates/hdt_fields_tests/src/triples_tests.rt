@@ -16,7 +16,7 @@ fn indexed(alloc: Global) -> Result<IndexedTriples<'static>, Stop> {
     }
 }
 
-/// One triple: two numbers for each index, and three for each inverted index (of one predicate, of one object).
+/// One triple: two values for each rank/select index, and three for each inverted index (of one predicate, one object).
 #[test]
 fn fields(rt: HostRuntime) -> Result<(), Stop> {
     let indexed = indexed(rt.alloc())?;
