@@ -1,4 +1,4 @@
--- Tables of terms as they are written in a line, and the lines put together from them.
+-- The terms of each role as they are written in a line, and the lines put together from them.
 use Rattle.std.proofs.Common.{◌≡◌, ℕ, zero, suc, ◌+◌, ◌<◌, ◌≤◌, Bool, true, List, [], ◌∷◌, ◌++◌, length, map, set, get_or, take, drop, Option, Some, refl, sym, ap, ◌∙◌, append_assoc, append-nil, subst, inl, inr, arith}
 use Rattle.std.specs.Option.{unwrap_or}
 use Rattle.std.proofs.lemmas.List.{get_or-drop, get_or-map, get_or-take, length-append, length-drop, length-map, length-take}

@@ -172,8 +172,7 @@ fn append_looked_up(
 /// The number of lines that are written at a time.
 const BLOCK: usize = 64;
 
-/// Appends the text of triples, decoding each string of the dictionary once: for many triples. An error may leave some
-/// lines.
+/// Appends the text of triples, decoding all strings of each role once: for many triples. An error may leave some lines.
 fn append_tabled(
     alloc: Global,
     layout: &Layout<'_>,
@@ -321,8 +320,8 @@ pub fn graph_text_up_to(
 }
 
 /// Appends the same text, with a writer that is new or was used only for this graph. One writer for many texts decodes
-/// frequent predicates only once; [`Speller::keeping`] says how much it caches. After an error it can still be used,
-/// and `out` is unchanged.
+/// frequent predicates only once; [`Speller::keeping`] says how much it caches. After an error it can still be
+/// used, and `out` is unchanged.
 pub fn append_graph_text(
     alloc: Global,
     graph: &Graph<'_>,

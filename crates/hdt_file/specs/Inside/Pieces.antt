@@ -1,4 +1,4 @@
--- Tables of terms as they are written in a line, each with what follows it; lines are put together from them.
+-- The terms of each role as they are written in a line, each with what follows it; lines are put together from them.
 use Rattle.std.specs.Prelude.{◌≡◌, ℕ, ◌<◌, ◌+◌, ◌⊎◌, ⊤, Bool, true, List, [], ◌∷◌, ◌++◌, length, slice_index_or}
 use Rattle.std.specs.Option.{unwrap_or}
 use Rattle.hdt_dict.specs.Numbered.{numbered}
