@@ -172,7 +172,7 @@ fn append_looked_up(
 /// The number of lines that are written at a time.
 const BLOCK: usize = 64;
 
-/// Appends the text of triples, decoding all strings of each role once: for many triples. An error may leave some lines.
+/// Appends the text of triples, decoding all strings of each role once: for many triples. An error may leave lines.
 fn append_tabled(
     alloc: Global,
     layout: &Layout<'_>,
