@@ -9,6 +9,7 @@ use std::ptr::null;
 #[repr(C)]
 #[derive(Drop)]
 pub struct Address {
+    /// The pointer.
     pub(crate) at: *const u8,
 }
 

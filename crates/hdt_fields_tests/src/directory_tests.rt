@@ -1,3 +1,4 @@
+//! The fields of a rank/select index.
 use crate::sample::{FILE, Stop};
 use hdt_seq::{Bits, Directory};
 

@@ -1,3 +1,4 @@
+//! The fields of a graph.
 use crate::sample::{FILE, Stop};
 use hdt_file::open;
 

@@ -1,3 +1,4 @@
+//! The fields of triples with indexes.
 use crate::sample::{FILE, Stop};
 use hdt_triples::{Counts, IndexedTriples, Triples};
 use std::alloc::Global;

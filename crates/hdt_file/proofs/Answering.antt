@@ -113,7 +113,7 @@ number_once xs once zero n x h k = absurd (cc)
 number_once xs once (suc m) zero x h k = absurd (cc)
 number_once xs once (suc m) (suc n) x h k = ap suc (once m n x h k)
 
--- each number from 1 to the count has a string
+-- each ID, from 1 to the number of strings, has a string
 has_string : (xs : List (List ℕ)) (n : ℕ) → IsFrom1 n (length xs) → numbered xs n ≡ Some (unwrap_or (numbered xs n) [])
 has_string xs zero within = absurd (omega (arith, within.0))
 has_string xs (suc i) within =

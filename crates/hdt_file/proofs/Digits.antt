@@ -21,7 +21,7 @@ no_number text (Some v) e none = let h = decimal_found text v e in absurd (none 
 pub empty : (text : List ℕ) → length text ≡ 0 → None ≡ decimal_number text
 empty text size = no_number text (decimal_number text) refl (λ v small h. omega (arith, h.digits.0))
 
--- if one more digit cannot be added, the text encodes no number below 2 ^ 64
+-- if one more digit cannot be added, the text has no value below 2 ^ 64
 pub stops : (text : List ℕ) (i value : ℕ) → i < length text → value ≡ digits_value 10 (take i text)
     → ((digit_value (get_or text i 0) < 10) × (value * 10 + digit_value (get_or text i 0) < 2 ^ 64) → ⊥) → None ≡ decimal_number text
 stops text i value lt so_far cannot =

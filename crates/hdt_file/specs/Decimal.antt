@@ -9,6 +9,7 @@ pub record Decimal (text : List ℕ) (v : ℕ) : Type 0 where
   pub digits : IsNumeral 10 text
   pub value : digits_value 10 text ≡ v
 
+-- whether the text is one digit or more
 abbrev pub is_numeral : List ℕ → Bool
 is_numeral text = nat_lt 0 (length text) && list_all (λ c. is_digit c 10) text
 

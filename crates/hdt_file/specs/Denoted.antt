@@ -8,6 +8,7 @@ use Rattle.hdt_triples.specs.Counting.{Triple}
 use Rattle.hdt_file.specs.File.{GraphParts}
 use Rattle.hdt_dict.specs.Dictionary.{strings_in}
 
+-- the strings of subject, predicate and object
 abbrev pub StringTriple : Type 0
 StringTriple = List ℕ × List ℕ × List ℕ
 

@@ -3,6 +3,7 @@ use Rattle.hdt_terms.specs.declared.triple.Triple.{Triple}
 use Rattle.hdt_terms.specs.Terms.{IsGrammarTerm}
 use Rattle.hdt_file.specs.Text.{TermTriple}
 
+-- the same triple as the type of hdt_terms
 abbrev pub triple_of : TermTriple → Triple
 triple_of t = record { s = t.0; p = t.1; o = t.2 }
 

@@ -48,6 +48,7 @@ pub record GraphParts : Type 0 where
   pub dictionary : FourLists
   pub triples : List Triple
 
+-- the graph of a decoded file
 abbrev pub graph_of : FileParts → GraphParts
 graph_of file = record { header = file.head.body; dictionary = sections_of file.dictionary; triples = triples_of (bitmap_of file.triples) }
 

@@ -11,6 +11,7 @@ use Rattle.hdt_file.specs.Dictionary.{HeadAndDictionary}
 use Rattle.hdt_file.specs.File.{FileParts, GraphParts, counts_in, file_at_start}
 use Rattle.hdt_file.specs.Tight.{strings_used}
 
+-- the head and the dictionary, and the bitmaps and arrays of the triples
 abbrev pub Parts : Type 0
 Parts = HeadAndDictionary × BitmapTriples
 
@@ -26,6 +27,7 @@ bitmap_in p = p.1
 abbrev pub held_by : Parts → ℕ
 held_by p = directories_held (bitmap_in p) + lists_held (counts_in (dictionary_in p)) (bitmap_in p)
 
+-- the parts of a decoded file
 abbrev pub parts_from : FileParts → Parts
 parts_from file = (record { head = file.head; dictionary = file.dictionary }, bitmap_of file.triples)
 

@@ -13,6 +13,7 @@ use Rattle.hdt_file.specs.File.{GraphParts}
 use Rattle.hdt_triples.specs.Uses.{part}
 use Rattle.hdt_file.specs.Denoted.{StringTriple, strings_for}
 
+-- the terms of subject, predicate and object
 abbrev pub TermTriple : Type 0
 TermTriple = Term × Term × Term
 
@@ -28,6 +29,7 @@ pub record IsTermOf (role : Role) (string : List ℕ) (term : Term) : Type 0 whe
   pub is : str term ≡ string
   pub fits : FitsRole role term
 
+-- each string is that of the term, which its role allows
 abbrev pub AreTermsOf : StringTriple → TermTriple → Type 0
 AreTermsOf strings terms = (role : Role) → IsTermOf role (part role strings) (part role terms)
 
@@ -50,9 +52,11 @@ pub record IsTextOf (triples : List StringTriple) (text : List ℕ) : Type 0 whe
 
 -- ---- strings that are not terms
 
+-- the string is that of a term that the role allows
 abbrev pub HasTerm : Role → List ℕ → Type 0
 HasTerm role string = (term : Term) × IsTermOf role string term
 
+-- the string is not that of a term that the role allows
 abbrev pub HasNoTerm : Role → List ℕ → Type 0
 HasNoTerm role string = (term : Term) → IsTermOf role string term → ⊥
 

@@ -11,6 +11,7 @@ use Rattle.hdt_file.specs.File.{FileParts, counts_in, file_at_start, graph_in}
 use Rattle.hdt_file.specs.Parts.{Parts, parts_from, parts_in, graph_from, tight_from, tight_rows}
 use Rattle.hdt_file.specs.Tight.{tight_in}
 
+-- the checks of a file, in the order in which the code runs them
 unfoldable pub parts_rows : List ℕ → Result Parts Fault
 parts_rows bytes = do
   front ← dictionary_after_head bytes
@@ -37,6 +38,7 @@ with_front : (bytes : List ℕ) (r : Result HeadAndDictionary Fault)
 with_front bytes (Ok front) = with_triples bytes front (triples_at (counts_in front.dictionary) bytes front.dictionary.objects.end)
 with_front bytes (Err e) = refl
 
+-- these checks return the parts of the file
 pub rows_are : (bytes : List ℕ) → parts_rows bytes ≡ parts_in bytes
 unfolding parts_rows file_at_start
 rows_are bytes = with_front bytes (dictionary_after_head bytes)
@@ -47,6 +49,7 @@ graph_of_parts : (r : Result FileParts Fault) → seen graph_from (seen parts_fr
 graph_of_parts (Ok file) = refl
 graph_of_parts (Err e) = refl
 
+-- the graph of the parts of a file is the graph of the file
 pub graph_is : (bytes : List ℕ) → seen graph_from (parts_in bytes) ≡ graph_in bytes
 unfolding graph_in
 graph_is bytes = graph_of_parts (file_at_start bytes)
@@ -55,6 +58,7 @@ tight_of_parts : (r : Result FileParts Fault) → (seen parts_from r >>= tight_f
 tight_of_parts (Ok file) = refl
 tight_of_parts (Err e) = refl
 
+-- checking the strings of the parts is checking those of the file
 pub tight_is : (bytes : List ℕ) → tight_rows bytes ≡ tight_in bytes
 unfolding tight_in tight_from tight_rows
 tight_is bytes = tight_of_parts (file_at_start bytes)
