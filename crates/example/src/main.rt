@@ -1,5 +1,5 @@
-//! What a program of your own does with the libraries: it opens the file that is named, counts, looks up, searches and
-//! prints; then it builds a file in memory, and opens that.
+//! A program that uses the libraries: it opens a file, counts, looks up strings, searches and prints; then it builds a
+//! file in memory and opens that.
 #![tactic(auto)]
 
 use hdt_build::{BuildFault, Options, build_bytes};
@@ -12,7 +12,7 @@ use std::process::ExitCode;
 use std::{env, fs, io};
 use thiserror::Error;
 
-/// What can go wrong here.
+/// Why the program fails.
 #[derive(Debug, Drop, Error)]
 enum Fault {
     #[error("name a file")]
@@ -33,7 +33,7 @@ impl From<AllocError> for Fault {
     }
 }
 
-/// Counts, and looks a string up: its number in its role, and the string of that number again.
+/// Prints counts, looks up the ID of a string, and decodes the string with that ID.
 fn look_up(rt: &HostRuntime, graph: &Graph<'_>) -> Result<(), Fault> {
     println!(rt;
         "{} triples of {} subjects",
@@ -49,7 +49,7 @@ fn look_up(rt: &HostRuntime, graph: &Graph<'_>) -> Result<(), Fault> {
     Ok(())
 }
 
-/// Prints the triples that have a predicate, as numbers, and those that have a subject, as N-Triples.
+/// Prints the triples with a predicate as IDs, and those with a subject as N-Triples.
 fn search(rt: &HostRuntime, graph: &Graph<'_>) -> Result<(), Fault> {
     let mut steps = Steps::new();
     for (subject, predicate, object) in graph.find([None, Some(b"u:p"), None], &mut steps) {
@@ -65,7 +65,7 @@ fn search(rt: &HostRuntime, graph: &Graph<'_>) -> Result<(), Fault> {
     Ok(())
 }
 
-/// Builds the file of a document, and opens it.
+/// Builds a file from a document, and opens it.
 fn build(rt: &HostRuntime) -> Result<(), Fault> {
     let document: &[u8] =
         b"<http://a/s> <http://a/p> \"one\"@en .\n<http://a/s> <http://a/p> _:b .\n";

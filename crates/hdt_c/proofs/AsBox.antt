@@ -1,4 +1,4 @@
--- A held graph and its parts own what a box at the same types owns.
+-- A resource pointer and a raw box own what a box of the same type owns.
 use mir.Syntax.{impl, tnil, dnil}
 use mathlib.Core.List.{[]}
 use denote.Signature.{Slot, plain}

@@ -1,4 +1,4 @@
--- Leaving out the first of a list.
+-- Dropping the first members of a list, one by one.
 use mathlib.Core.Path.{refl, ap}
 use Rattle.std.proofs.Common.{arith, ◌≡◌, ◌≢◌, ◌-◌, ℕ, suc, zero, List, ◌∷◌, drop}
 

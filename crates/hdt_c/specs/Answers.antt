@@ -1,4 +1,4 @@
--- What the calls that ask a graph answer.
+-- What the calls that query a graph return.
 use Rattle.std.specs.Prelude.{◌≡◌, ◌⊎◌, ℕ, List, [], ◌∷◌, suc, zero, map, take, drop, length, Option, Some, None}
 use Rattle.hdt_wire.specs.declared.role.Role.{Role}
 use Rattle.hdt_wire.specs.declared.role.Role.TheVariants.{Subject, Predicate, Object}
@@ -12,13 +12,13 @@ use Rattle.hdt_file.specs.Search.{IsPattern}
 use Rattle.hdt_dict.specs.Dictionary.{strings_in}
 use Rattle.hdt_c.specs.Room.{laid_over}
 
--- ---- answers that are no number, count or length: 2^64 - 1, - 2 and - 3
+-- ---- results that are not an ID, a count or a length: 2^64 - 1, - 2 and - 3
 
--- there is none
+-- there is no such role, ID or string
 abbrev pub absent : ℕ
 absent = 18446744073709551615
 
--- memory was refused
+-- memory ran out
 abbrev pub no_memory : ℕ
 no_memory = 18446744073709551614
 
@@ -28,62 +28,61 @@ closed = 18446744073709551613
 
 -- ---- roles and their strings
 
--- the role that C names by a number
+-- the role with a number of c/hdt.h
 abbrev pub role_by_number : ℕ → Option Role
 role_by_number zero = Some Subject
 role_by_number (suc zero) = Some Predicate
 role_by_number (suc (suc zero)) = Some Object
 role_by_number (suc (suc (suc n))) = None
 
--- how many strings the role has
+-- the number of strings of the role
 abbrev pub count_in : GraphParts → Option Role → ℕ
 count_in g None = absent
 count_in g (Some role) = length (strings_in g.dictionary role)
 
--- its string with this number
+-- the string of the role with this ID
 abbrev pub string_numbered : GraphParts → Option Role → ℕ → Option (List ℕ)
 string_numbered g None n = None
 string_numbered g (Some role) n = numbered (strings_in g.dictionary role) n
 
--- the answer is the number of the string among these, or there is none
+-- the result is the ID of the string in the list, or `absent` if it is not in there
 pub record IsNumberIn (strings : List (List ℕ)) (string : List ℕ) (answer : ℕ) : Type 0 where
   pub found : (n : ℕ) → numbered strings n ≡ Some string → answer ≡ n
   pub none : ((n : ℕ) → numbered strings n ≡ Some string → ⊥) → answer ≡ absent
 
--- its number in the role
+-- the result is the ID of the string in the role
 abbrev pub AnswersNumber : GraphParts → Option Role → List ℕ → ℕ → Type 0
 AnswersNumber g None string answer = answer ≡ absent
 AnswersNumber g (Some role) string answer = IsNumberIn (strings_in g.dictionary role) string answer
 
--- the string was put, and its length is the answer, or memory was refused; or there is none
+-- the string was written to the buffer, and its length is the result; or memory ran out; or there is no such string
 abbrev pub PutsOut : Option (List ℕ) → ℕ → List ℕ → List ℕ → Type 0
 PutsOut None answer old new = (answer ≡ absent) × (new ≡ old)
 PutsOut (Some string) answer old new = ((answer ≡ length string) × (new ≡ laid_over string old)) ⊎ ((answer ≡ no_memory) × (new ≡ old))
 
 -- ---- matches
 
--- a part of what is searched, which C gives by a flag
+-- the string of a pattern, if the flag is not 0
 abbrev pub part_if_given : ℕ → Lent → Option Lent
 part_if_given zero x = None
 part_if_given (suc n) x = Some x
 
--- the triples that have each string that is given in its role: the matches of the pattern of their numbers, or none where
--- a string isn't in its role
+-- the triples are the matches of the pattern of the given strings, or none if a string is not one of its role
 pub record AreMatches (g : GraphParts) (given : List (Option Lent)) (found : List Triple) : Type 0 where
   pub items : (p : Pattern) → IsPattern g given p → found ≡ matches p g.triples
   pub none : ((p : Pattern) → IsPattern g given p → ⊥) → found ≡ []
 
--- so many triples match
+-- the result is the number of matches
 pub record CountsMatches (g : GraphParts) (given : List (Option Lent)) (answer : ℕ) : Type 0 where
   pub found : List Triple
   pub are : AreMatches g given found
   pub count : answer ≡ length found
 
--- three numbers
+-- the three IDs of a triple
 abbrev pub numbers : Triple → List ℕ
 numbers t = t.0 ∷ t.1 ∷ t.2 ∷ []
 
--- the matches without the first ones were put, as many as fit, and their count is the answer
+-- the matches after the first `skip` were written to the buffer, as many as fit, and their number is the result
 pub record FindsPortion (g : GraphParts) (given : List (Option Lent)) (skip answer : ℕ) (old new : List (List ℕ)) : Type 0 where
   pub found : List Triple
   pub are : AreMatches g given found

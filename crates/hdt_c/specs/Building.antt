@@ -1,4 +1,4 @@
--- What is said of a text that a file is built of.
+-- The report of building a file from N-Triples.
 use Rattle.std.specs.Prelude.{◌≡◌, ◌⊎◌, ⊤, ℕ, List, [], ◌∷◌, Option, Some}
 use Rattle.hdt_terms.specs.Reasons.{line_reason_number}
 use Rattle.hdt_build.specs.Built.{Builds}
@@ -13,24 +13,24 @@ use Rattle.hdt_c.specs.Told.{no_counts}
 use Rattle.hdt_c.specs.declared.bytes.HdtBytes.{HdtBytes}
 use Rattle.hdt_c.specs.declared.report.HdtReport.{HdtReport}
 
--- the options of a base IRI and a block size
+-- the options with this base IRI and block size
 pub record AreGivenOptions (base : List ℕ) (b : ℕ) (options : Options) : Type 0 where
   pub base_is : options.base.items ≡ base
   pub size_is : options.block_size ≡ b
 
--- triples, then strings: shared, subjects, predicates, objects
+-- the number of triples, then of strings: shared, subjects, predicates, objects
 abbrev pub report_counts : Report → List ℕ
 report_counts r = r.triples ∷ r.shared ∷ r.subjects ∷ r.predicates ∷ r.objects ∷ []
 
--- of a file that was built
+-- the report of a file that was built
 abbrev pub built : Report → HdtReport
 built r = record { reason = 0; line = 0; column = 0; counts = report_counts r }
 
--- a reason that has no line
+-- the report of a reason without a line
 abbrev pub report_for : ℕ → HdtReport
 report_for n = record { reason = n; line = 0; column = 0; counts = no_counts }
 
--- what is told of an error
+-- the report of an error
 abbrev pub report_of_fault : BuildFault → HdtReport
 report_of_fault (faults.Line fault) = record { reason = line_reason_number fault.reason; line = fault.line; column = fault.column; counts = no_counts }
 report_of_fault faults.NoTriples = report_for 251
@@ -44,7 +44,7 @@ pub record BuildsText (text base : List ℕ) (b : ℕ) (bytes : List ℕ) (repor
   pub given : AreGivenOptions base b options
   pub builds : Builds options (Some text) bytes report
 
--- the options can't be taken
+-- the options are not valid
 pub record AreBad (base : List ℕ) (b : ℕ) : Type 0 where
   pub options : Options
   pub given : AreGivenOptions base b options
@@ -61,7 +61,7 @@ HasBuildFault text base b faults.BadOptions = AreBad base b
 HasBuildFault text base b faults.OutOfMemory = ⊤
 HasBuildFault text base b fault = InText text fault
 
--- the bytes are the file
+-- the bytes are the file, and the report says so
 pub record BuildsBytes (text base : List ℕ) (b : ℕ) (out : HdtBytes) (told_is : HdtReport) : Type 0 where
   pub bytes : List ℕ
   pub report : Report
@@ -69,12 +69,13 @@ pub record BuildsBytes (text base : List ℕ) (b : ℕ) (out : HdtBytes) (told_i
   pub made : Are out bytes
   pub told : told_is ≡ built report
 
--- there are no bytes, for an error
+-- there are no bytes, and the report is that of the error
 pub record FailsToBuild (text base : List ℕ) (b : ℕ) (out : HdtBytes) (told_is : HdtReport) : Type 0 where
   pub fault : BuildFault
   pub stands : HasBuildFault text base b fault
   pub made : AreNone out
   pub told : told_is ≡ report_of_fault fault
 
+-- the result of `hdt_build`
 abbrev pub TellsBuilt : List ℕ → List ℕ → ℕ → HdtBytes → HdtReport → Type 0
 TellsBuilt text base b out report = BuildsBytes text base b out report ⊎ FailsToBuild text base b out report

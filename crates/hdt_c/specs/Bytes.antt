@@ -1,4 +1,4 @@
--- Bytes that C has.
+-- Handles of bytes.
 use denote.RawPtr.{null_ptr}
 use Rattle.std.specs.Prelude.{◌≡◌, ℕ, List, length, None, Some}
 use Rattle.std.specs.Vec.{vec_ptr}
@@ -7,14 +7,14 @@ use Rattle.std.specs.declared.alloc.Global.{Global}
 use Rattle.hdt_c.specs.declared.bytes.HdtBytes.{HdtBytes}
 use Rattle.hdt_c.specs.declared.kept.Kept.TheVariants as kept
 
--- there are none: all zero
+-- there are no bytes: all fields are zero
 pub record AreNone (h : HdtBytes) : Type 0 where
   pub at : h.at.at ≡ null_ptr
   pub len : h.len ≡ 0
   pub state : h.state ≡ 0
   pub held : h.held.value ≡ None
 
--- these: of a vector that the handle owns, whose address and length it tells
+-- the bytes are those of a vector that the handle owns; `at` and `len` are its address and length
 pub record Are (h : HdtBytes) (bytes : List ℕ) : Type 0 where
   pub vector : Vec ℕ Global
   pub items : vector.items ≡ bytes

@@ -1,4 +1,4 @@
--- What is said of a file that is rewritten.
+-- The verdict of rewriting a file.
 use Rattle.std.specs.Prelude.{◌≡◌, ◌⊎◌, ℕ, List, Err}
 use Rattle.hdt_wire.specs.declared.fault.Fault.{Fault}
 use Rattle.hdt_file.specs.File.{GraphParts, IsLayout, graph_in}
@@ -11,21 +11,21 @@ use Rattle.hdt_c.specs.Told.{verdict_for, verdict_on}
 use Rattle.hdt_c.specs.declared.bytes.HdtBytes.{HdtBytes}
 use Rattle.hdt_c.specs.declared.verdict.HdtVerdict.{HdtVerdict}
 
--- of a file that was rewritten
+-- the verdict of a file that was rewritten
 abbrev pub rewritten : Report → HdtVerdict
 rewritten r = record { reason = 0; place = 0; counts = report_counts r }
 
--- the new bytes are the canonical file of what the bytes lay out
+-- the new bytes are the canonical file of the graph that the bytes encode
 pub record IsAgain (bytes : List ℕ) (b : ℕ) (new : List ℕ) (report : Report) : Type 0 where
   pub graph : GraphParts
   pub layout : IsLayout bytes graph
   pub is : IsRewritten b graph new report
 
--- the verdict on bytes that can't be rewritten: their error, or that the block size can't be taken, or running out of memory
+-- the verdict if the bytes are not rewritten: their first error, or that the block size is not valid or memory ran out
 abbrev pub RefusesRewriting : List ℕ → ℕ → HdtVerdict → Type 0
 RefusesRewriting bytes b v = ((fault : Fault) × (graph_in bytes ≡ Err fault) × (v ≡ verdict_on (Err fault))) ⊎ (((IsBlockSize b → ⊥) × (v ≡ verdict_for 252)) ⊎ (v ≡ verdict_for 255))
 
--- the bytes are the new file
+-- the bytes are the new file, and the verdict says so
 pub record RewritesBytes (bytes : List ℕ) (b : ℕ) (out : HdtBytes) (v : HdtVerdict) : Type 0 where
   pub new : List ℕ
   pub report : Report
@@ -33,5 +33,6 @@ pub record RewritesBytes (bytes : List ℕ) (b : ℕ) (out : HdtBytes) (v : HdtV
   pub made : Are out new
   pub told : v ≡ rewritten report
 
+-- the result of `hdt_rewrite`
 abbrev pub TellsRewritten : List ℕ → ℕ → HdtBytes → HdtVerdict → Type 0
 TellsRewritten bytes b out v = RewritesBytes bytes b out v ⊎ (AreNone out × RefusesRewriting bytes b v)

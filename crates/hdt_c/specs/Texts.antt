@@ -1,4 +1,4 @@
--- What is said of the text of a graph.
+-- The result of making the text of a graph.
 use Rattle.std.specs.Prelude.{◌≡◌, ◌⊎◌, ⊤, ℕ, List, Option}
 use Rattle.hdt_wire.specs.declared.role.Role.{Role}
 use Rattle.hdt_wire.specs.declared.role.Role.TheVariants.{Subject, Predicate, Object}
@@ -14,17 +14,17 @@ use Rattle.hdt_c.specs.Bytes.{Are, AreNone}
 use Rattle.hdt_c.specs.declared.bytes.HdtBytes.{HdtBytes}
 use Rattle.hdt_c.specs.declared.telling.HdtTelling.{HdtTelling}
 
--- a reason that has no string
+-- the result of a reason without a string
 abbrev pub telling_for : ℕ → HdtTelling
 telling_for n = record { reason = n; role = 0; number = 0 }
 
--- the number by which C names a role
+-- the number of a role in c/hdt.h
 abbrev pub role_number : Role → ℕ
 role_number Subject = 0
 role_number Predicate = 1
 role_number Object = 2
 
--- what is told of an error
+-- the result of an error
 abbrev pub telling_of_fault : DumpFault → HdtTelling
 telling_of_fault (faults.NotATerm role n) = record { reason = 250; role = role_number role; number = n }
 telling_of_fault (faults.Write n) = telling_for 255
@@ -36,7 +36,7 @@ pub record IsTextOfMatches (g : GraphParts) (given : List (Option Lent)) (text :
   pub are : AreMatches g given found
   pub is : IsTextOf (denoted g found) text
 
--- the first string of the first match that is no term of its role has this role and number
+-- the role and the ID of the first string of the first match that is not a term which its role allows
 pub record IsNoTerm (g : GraphParts) (given : List (Option Lent)) (role : Role) (n : ℕ) : Type 0 where
   pub found : List Triple
   pub are : AreMatches g given found
@@ -48,19 +48,20 @@ HasTextFault g given (faults.NotATerm role n) = IsNoTerm g given role n
 HasTextFault g given (faults.Write n) = ⊥
 HasTextFault g given faults.OutOfMemory = ⊤
 
--- the bytes are the text of the matches
+-- the bytes are the text of the matches, and the result says so
 pub record PrintsBytes (g : GraphParts) (given : List (Option Lent)) (out : HdtBytes) (telling : HdtTelling) : Type 0 where
   pub text : List ℕ
   pub is : IsTextOfMatches g given text
   pub bytes : Are out text
   pub told : telling ≡ telling_for 0
 
--- there are no bytes, for an error
+-- there are no bytes, and the result is that of the error
 pub record FailsToPrint (g : GraphParts) (given : List (Option Lent)) (out : HdtBytes) (telling : HdtTelling) : Type 0 where
   pub fault : DumpFault
   pub stands : HasTextFault g given fault
   pub bytes : AreNone out
   pub told : telling ≡ telling_of_fault fault
 
+-- the result of `hdt_text`
 abbrev pub TellsText : GraphParts → List (Option Lent) → HdtBytes → HdtTelling → Type 0
 TellsText g given out telling = PrintsBytes g given out telling ⊎ FailsToPrint g given out telling

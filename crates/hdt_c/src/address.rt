@@ -1,14 +1,15 @@
-//! Addresses that C reads.
+//! Addresses that C may read.
 ghost use Rattle.std.specs.Prelude.{◌≡◌};
 ghost use Rattle.std.specs.Vec.{vec_ptr};
 ghost use denote.RawPtr.{null_ptr};
 
 use std::ptr::null;
 
-/// The address of bytes that C may read, or null. It doesn't own them.
+/// The address of bytes that C may read, or null. It doesn't own the bytes.
 #[repr(C)]
 #[derive(Drop)]
 pub struct Address {
+    /// The pointer.
     pub(crate) at: *const u8,
 }
 

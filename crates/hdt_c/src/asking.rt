@@ -14,16 +14,16 @@ use hdt_file::Graph;
 use hdt_seq::Steps;
 use std::alloc::Global;
 
-/// `HDT_ABSENT`.
+/// `HDT_ABSENT`: there is no such role, ID or string.
 pub(crate) const ABSENT: u64 = 18_446_744_073_709_551_615;
 
-/// `HDT_NO_MEMORY`.
+/// `HDT_NO_MEMORY`: memory ran out.
 pub(crate) const NO_MEMORY: u64 = 18_446_744_073_709_551_614;
 
-/// `HDT_CLOSED`.
+/// `HDT_CLOSED`: the graph is not open.
 pub(crate) const CLOSED: u64 = 18_446_744_073_709_551_613;
 
-/// The role with a number of c/hdt.h.
+/// The role with a number of `c/hdt.h`.
 pub(crate) fn role_at(number: u32) -> Option<Role>
     ensures { result ≡ role_by_number number }
 {
@@ -35,7 +35,7 @@ pub(crate) fn role_at(number: u32) -> Option<Role>
     }
 }
 
-/// `hdt_len`: the number of triples.
+/// `hdt_len`: returns the number of triples.
 #[unsafe(no_mangle)]
 pub extern "C" fn hdt_len(alloc: Global, graph: &mut HdtGraph) -> u64
     ensures exact { OfGraph graph.old (λ g. result ≡ length g.triples) }
@@ -52,7 +52,7 @@ pub extern "C" fn hdt_len(alloc: Global, graph: &mut HdtGraph) -> u64
     }
 }
 
-/// `hdt_count`: the number of strings of a role.
+/// The number of strings of a role, given by its number.
 fn count_in(graph: &Graph<'static>, role: u32) -> u64
     ensures { result ≡ count_in (graph_seen graph.now) (role_by_number role) }
 {
@@ -62,7 +62,7 @@ fn count_in(graph: &Graph<'static>, role: u32) -> u64
     }
 }
 
-/// `hdt_count`: the number of strings of a role.
+/// `hdt_count`: returns the number of strings of a role.
 #[unsafe(no_mangle)]
 pub extern "C" fn hdt_count(alloc: Global, graph: &mut HdtGraph, role: u32) -> u64
     ensures exact { OfGraph graph.old (λ g. result ≡ count_in g (role_by_number role)) }
@@ -89,7 +89,7 @@ fn number_in(graph: &Graph<'static>, role: Role, string: &[u8]) -> u64
     }
 }
 
-/// The same for a role by its number.
+/// The ID of a string in a role, given by its number.
 fn number_of(graph: &Graph<'static>, role: u32, string: &[u8]) -> u64
     ensures { AnswersNumber (graph_seen graph.now) (role_by_number role) string.now result }
 {
@@ -99,7 +99,8 @@ fn number_of(graph: &Graph<'static>, role: u32, string: &[u8]) -> u64
     }
 }
 
-/// `hdt_number`: the ID of a string in a role, from 1.
+/// `hdt_number`: returns the ID of a string in a role, from 1. A binary search over the blocks of the role's sections,
+/// then a scan of a block.
 #[unsafe(no_mangle)]
 pub extern "C" fn hdt_number(alloc: Global, graph: &mut HdtGraph, role: u32, string: &[u8]) -> u64
     ensures exact { OfGraph graph.old (λ g. AnswersNumber g (role_by_number role) string.now result) }
@@ -116,7 +117,7 @@ pub extern "C" fn hdt_number(alloc: Global, graph: &mut HdtGraph, role: u32, str
     }
 }
 
-/// Puts a string into a buffer of the caller.
+/// Writes a string to a buffer of the caller, as many bytes as fit, and returns its length.
 fn put_string(alloc: Global, graph: &Graph<'static>, role: u32, number: u64, room: &mut [u8]) -> u64
     ensures { PutsOut (string_numbered (graph_seen graph.now) (role_by_number role) number) result room.old room.new }
 {
@@ -134,8 +135,9 @@ fn put_string(alloc: Global, graph: &Graph<'static>, role: u32, number: u64, roo
     }
 }
 
-/// `hdt_string`: the string of a role with an ID, from 1. Returns its length, and puts as many of its bytes into the
-/// buffer as fit.
+/// `hdt_string`: writes the string of a role with an ID, from 1, to the buffer, as many bytes as fit, and returns its
+/// length. It decodes the block of the string up to the string. On `HDT_ABSENT`, `HDT_NO_MEMORY` and `HDT_CLOSED` the
+/// buffer is unchanged.
 #[unsafe(no_mangle)]
 pub extern "C" fn hdt_string(
     alloc: Global,
@@ -158,7 +160,7 @@ pub extern "C" fn hdt_string(
     }
 }
 
-/// Puts the header body into a buffer of the caller.
+/// Writes the header body to a buffer of the caller, as many bytes as fit, and returns its length.
 fn put_header(graph: &Graph<'static>, room: &mut [u8]) -> u64
     ensures len { result ≡ length (graph_seen graph.now).header }
     ensures put { room.new ≡ laid_over (graph_seen graph.now).header room.old }
@@ -168,7 +170,7 @@ fn put_header(graph: &Graph<'static>, room: &mut [u8]) -> u64
     header.len() as u64
 }
 
-/// `hdt_header`: the header body. Returns its length, and puts as many of its bytes into the buffer as fit.
+/// `hdt_header`: writes the header body to the buffer, as many bytes as fit, and returns its length.
 #[unsafe(no_mangle)]
 pub extern "C" fn hdt_header(alloc: Global, graph: &mut HdtGraph, out: &mut [u8]) -> u64
     ensures exact { OfGraph graph.old (λ g. (result ≡ length g.header) × (out.new ≡ laid_over g.header out.old)) }

@@ -9,7 +9,7 @@ use hdt_build::{BuildFault, Options, Report, build_bytes};
 use hdt_wire::Counted;
 use std::alloc::Global;
 
-/// The reason for a document without triples.
+/// `HDT_NO_TRIPLES`: the document has no triples.
 const NO_TRIPLES: u32 = 251;
 
 /// A report with a reason but no line.
@@ -79,7 +79,7 @@ fn file_of(
     }
 }
 
-/// `hdt_build`: builds a file from N-Triples.
+/// `hdt_build`: builds the canonical file of the graph of an N-Triples document. On an error `out` has no bytes.
 #[unsafe(no_mangle)]
 pub extern "C" fn hdt_build(
     alloc: Global,

@@ -5,16 +5,17 @@ ghost use Rattle.hdt_c.specs.Inside.Kept.{is_bytes};
 use crate::address::Address;
 use crate::held::Held;
 
-/// `hdt_bytes`: bytes that the library made.
+/// `hdt_bytes`: bytes that the library made, or zeros.
 #[repr(C)]
 #[derive(Drop)]
 pub struct HdtBytes {
-    /// Their address; null if there are none.
+    /// The address of the bytes; null if there are none.
     pub(crate) at: Address,
-    /// Their number.
+    /// The number of bytes.
     pub(crate) len: u64,
-    /// 1 if there are some to be freed.
+    /// 1 if there are bytes to be freed, else 0.
     pub(crate) state: u64,
+    /// What owns the bytes.
     pub(crate) held: Held,
     ghost is_made: { state ≡ 1 → is_bytes held.value ≡ true },
 }

@@ -15,21 +15,21 @@ use hdt_seq::Steps;
 use hdt_triples::{Matches, Pattern};
 use std::alloc::Global;
 
-/// A string of a pattern, or any.
+/// The string of a pattern, if its flag is not 0.
 pub(crate) fn part(has: u32, string: &[u8]) -> Option<&[u8]>
     ensures { result ≡ part_if_given has string.entry }
 {
     if has == 0 { None } else { Some(string) }
 }
 
-/// The pattern of three strings or any.
+/// The pattern with the IDs of the given strings; `None` if one of them is not a string of its role.
 pub(crate) fn pattern_of(graph: &Graph<'static>, given: [Option<&[u8]>; 3]) -> Option<Pattern>
     ensures { AreMatches (graph_seen graph.now) given.entry (chosen (graph_seen graph.now) result) }
 {
     graph.pattern(given, &mut Steps::new())
 }
 
-/// Skips the first matches.
+/// The matches after the first `skip`.
 #[tactic(auto, using(crate::proofs::Dropping::drop_one))]
 fn skipped(found: Matches<'_>, skip: u64) -> Matches<'_>
     ensures { left_of result ≡ drop skip (left_of found.entry) }
@@ -45,7 +45,7 @@ fn skipped(found: Matches<'_>, skip: u64) -> Matches<'_>
     matches
 }
 
-/// Puts as many matches into a buffer as fit, and returns their number.
+/// Writes as many matches to a buffer as fit, and returns their number.
 fn put_matches(found: Matches<'_>, room: &mut [[u64; 3]]) -> u64
     ensures count { result ≡ length (take (length room.old) (left_of found.entry)) }
     ensures put { room.new ≡ laid_over (map numbers (left_of found.entry)) room.old }
@@ -62,7 +62,7 @@ fn put_matches(found: Matches<'_>, room: &mut [[u64; 3]]) -> u64
     count as u64
 }
 
-/// The matches of a pattern.
+/// The matches of given strings.
 fn found<'g>(graph: &'g Graph<'static>, given: [Option<&[u8]>; 3]) -> Matches<'g>
     ensures are { AreMatches (graph_seen graph.now) given.entry (left_of result) }
     ensures fits { length (left_of result) < 2 ^ 64 }
@@ -70,7 +70,7 @@ fn found<'g>(graph: &'g Graph<'static>, given: [Option<&[u8]>; 3]) -> Matches<'g
     graph.find(given, &mut Steps::new())
 }
 
-/// Puts the matches after the skipped ones into a buffer.
+/// Writes the matches after the first `skip` to a buffer, as many as fit, and returns their number.
 fn find_into(
     graph: &Graph<'static>,
     given: [Option<&[u8]>; 3],
@@ -82,7 +82,7 @@ fn find_into(
     put_matches(skipped(found(graph, given), skip), room)
 }
 
-/// How many triples match.
+/// The number of matches.
 fn count_matches(graph: &Graph<'static>, given: [Option<&[u8]>; 3]) -> u64
     ensures { CountsMatches (graph_seen graph.now) given.entry result }
 {
@@ -92,7 +92,9 @@ fn count_matches(graph: &Graph<'static>, given: [Option<&[u8]>; 3]) -> u64
     }
 }
 
-/// `hdt_find`: puts the matches after the first `skip` ones into the buffer, as IDs: as many as fit.
+/// `hdt_find`: writes the matches after the first `skip` to the buffer, three IDs each, as many as fit, and returns
+/// their number: fewer than fit if no more follow. Skipped matches are scanned again at each call, so pages of one size
+/// take quadratic time.
 #[unsafe(no_mangle)]
 pub extern "C" fn hdt_find(
     alloc: Global,
@@ -121,7 +123,7 @@ pub extern "C" fn hdt_find(
     }
 }
 
-/// How many triples match.
+/// `hdt_matching`: returns the number of matches.
 #[unsafe(no_mangle)]
 pub extern "C" fn hdt_matching(
     alloc: Global,

@@ -1,4 +1,4 @@
-//! A pointer of C to a value of the library.
+//! A pointer of C to a value that the library owns.
 ghost use Rattle.std.specs.Prelude.{◌≡◌, Option, Some, None, IsSome};
 ghost use Rattle.hdt_c.specs.declared.kept.Kept.{Kept};
 ghost use Rattle.hdt_c.specs.Held.{held_coded, held_owns};
@@ -9,7 +9,7 @@ use std::alloc::Global;
 use std::marker::Model;
 use std::ptr::null_mut;
 
-/// A pointer to a value of the library, or null.
+/// A pointer to a value that the library owns, or null.
 #[repr(C)]
 #[derive(Drop)]
 pub struct Held {
@@ -33,7 +33,7 @@ impl Held {
         }
     }
 
-    /// The pointer to what a box has.
+    /// The pointer of a box.
     pub(crate) fn of_parts(parts: Parts<Kept, Global>) -> Held
         ensures { result.value ≡ Some parts.value }
     {
@@ -44,7 +44,7 @@ impl Held {
         }
     }
 
-    /// The box of a pointer, which is null then.
+    /// The box of a pointer that is not null.
     pub(crate) fn into_parts(self) -> Parts<Kept, Global>
         requires { IsSome self.value }
         ensures { Some result.value ≡ self.value }

@@ -1,6 +1,6 @@
-//! Values of the library that C keeps.
+//! Values that handles own.
 
-/// The value of a handle.
+/// The value that a handle owns.
 #[derive(Drop)]
 pub enum Kept {
     /// An open graph.

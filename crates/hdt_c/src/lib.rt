@@ -1,13 +1,11 @@
-//! The engine for C, as a static library: `c/hdt.h` documents each call.
+//! The engine for C, as a static library. `c/hdt.h` documents each call.
 //!
-//! What this crate promises: a call of C returns what the engine's own call returns, in the types of C. A graph is
-//! unchanged by a call that uses it; one that isn't open is reported; bytes that the library makes are where the handle
-//! says, until they are freed.
+//! What this crate promises: a call of C returns what the engine's own call returns, in the types of C. A query leaves
+//! the graph unchanged, or reports that it isn't open. Bytes that the library makes stay at the address in their handle
+//! until they are freed.
 //!
-//! In reading order: `kept`, what the library made and C keeps, and `held`, `parts`, how it stands behind a pointer of C;
-//! `handle` and `taking`, a graph that is taken out of its handle, asked, and put back; `address`, `bytes` and `making`, bytes
-//! that are handed out and freed; `verdict`, `telling` and `report`, what is said of an input; then the exports: `verdict`,
-//! `opening`, `asking` (with `room`, the caller's), `strings`, `finding`, `text`, `building`, `rewriting`, `making`.
+//! A graph or a vector of bytes is boxed, and its handle owns the pointer. A query takes the graph out of its handle
+//! and puts it back.
 #![tactic(auto)]
 
 mod address;

@@ -1,4 +1,4 @@
-//! Giving bytes to C, and freeing them.
+//! Handing bytes out to C, and freeing them.
 ghost use Rattle.std.specs.Prelude.{IfOk, OnErr, OnOk};
 ghost use Rattle.hdt_c.specs.Bytes.{Are, AreNone};
 
@@ -11,7 +11,7 @@ use std::alloc::{AllocError, Global};
 use std::mem::replace;
 
 impl HdtBytes {
-    /// A handle of no bytes.
+    /// A handle without bytes.
     fn none(alloc: Global) -> HdtBytes
         ensures { AreNone result }
     {

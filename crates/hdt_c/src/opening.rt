@@ -14,7 +14,7 @@ use crate::verdict::{HdtVerdict, for_reason, told};
 use hdt_file::{Graph, OpenFault, open};
 use std::alloc::Global;
 
-/// The reason of a graph that is open already.
+/// `HDT_IS_OPEN`: the graph is open already.
 const IS_OPEN: u32 = 254;
 
 /// The number of triples, and of strings in each section.
@@ -46,7 +46,7 @@ fn open_into(
     }
 }
 
-/// `hdt_open`: opens a file.
+/// `hdt_open`: opens a file, as `hdt_file::open` does. The graph borrows the bytes until it is closed.
 #[unsafe(no_mangle)]
 pub extern "C" fn hdt_open(
     alloc: Global,
@@ -54,11 +54,11 @@ pub extern "C" fn hdt_open(
     graph: &mut HdtGraph,
     verdict: &mut HdtVerdict,
 )
-    // The verdict is that on the bytes, or memory ran out.
+    // The verdict is that on the bytes, or says that memory ran out.
     ensures told { IsClosed graph.old → TellsVerdict verdict.new (graph_in bytes.now) }
     // A graph that is open already is reported, and unchanged.
     ensures refused { IsOpen graph.old → verdict.new ≡ verdict_for 254 }
-    // Reason 0: the graph is open, and is that of the bytes. Any other: it is unchanged.
+    // With reason 0 the graph is open, and is that of the bytes; with any other it is unchanged.
     ensures opened { verdict.new.reason ≡ 0 → IsOpened bytes.now graph.new }
     ensures left { verdict.new.reason ≢ 0 → graph.new ≡ graph.old }
 {
@@ -72,7 +72,7 @@ pub extern "C" fn hdt_open(
     }
 }
 
-/// `hdt_close`: closes a graph, and frees its indexes.
+/// `hdt_close`: closes a graph, and frees its indexes. A closed graph stays closed.
 #[unsafe(no_mangle)]
 pub extern "C" fn hdt_close(alloc: Global, graph: &mut HdtGraph)
     ensures { IsClosed graph.new }

@@ -9,7 +9,7 @@ pub struct HdtReport {
     pub reason: u32,
     /// The line of the error, from 1; 0 if there is none.
     pub line: u64,
-    /// The column of the error, from 1; 0 if there is none.
+    /// The column of the error, in bytes from 1; 0 if there is none.
     pub column: u64,
     /// The number of triples, then of strings: shared, subjects, predicates, objects; zeros if the reason isn't 0.
     pub counts: [u64; 5],

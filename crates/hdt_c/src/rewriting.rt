@@ -25,7 +25,7 @@ fn rewritten(report: Report) -> HdtVerdict
     }
 }
 
-/// The canonical file of the graph of a file.
+/// The canonical file of the graph of a file, or the verdict if there is none.
 fn file_of(alloc: Global, bytes: &[u8], block_size: u32) -> Result<(Vec<u8>, Report), HdtVerdict>
     ensures ok { IfOk result (λ made. IsAgain bytes.now block_size made.0.items made.1) }
     ensures err { IfErr result (RefusesRewriting bytes.now block_size) }
@@ -45,7 +45,7 @@ fn file_of(alloc: Global, bytes: &[u8], block_size: u32) -> Result<(Vec<u8>, Rep
     }
 }
 
-/// `hdt_rewrite`: rewrites a file as the canonical one of the same graph.
+/// `hdt_rewrite`: rewrites a file as the canonical one of the same graph. On an error `out` has no bytes.
 #[unsafe(no_mangle)]
 pub extern "C" fn hdt_rewrite(
     alloc: Global,

@@ -2,7 +2,7 @@
 ghost use Rattle.std.specs.Prelude.{◌≡◌};
 ghost use Rattle.hdt_c.specs.Room.{laid_over};
 
-/// Puts items into room: as many as fit.
+/// Copies as many items to the start of a buffer as fit.
 pub(crate) fn put<T: Copy>(items: &[T], room: &mut [T])
     ensures { room.new ≡ laid_over items.now room.old }
 {

@@ -1,4 +1,4 @@
-//! The strings of many numbers.
+//! The strings of many IDs.
 ghost use Rattle.std.specs.Prelude.{◌≡◌, IfOk, MatchOption, IsOk};
 ghost use Rattle.std.specs.List.{concat};
 ghost use Rattle.hdt_dict.specs.Many.{ends_from};
@@ -16,7 +16,8 @@ use hdt_file::Graph;
 use hdt_seq::Steps;
 use std::alloc::{AllocError, Global};
 
-/// The strings of numbers, one after another, and where they end; None where one of the numbers is that of no string.
+/// The strings with these IDs, one after another, and the byte offset at which each ends; `None` if there is no string
+/// with one of the IDs.
 fn strings_of(
     alloc: Global,
     graph: &Graph<'static>,
@@ -42,7 +43,7 @@ fn strings_of(
     }
 }
 
-/// Puts the strings into a handle, and where they end into room.
+/// Puts the strings into a handle, and writes the byte offset at which each ends to the buffer, as many as fit.
 fn put_strings(
     alloc: Global,
     graph: &Graph<'static>,
@@ -75,8 +76,10 @@ fn put_strings(
     }
 }
 
-/// The strings of a role with these numbers, from 1, one after another: their length together. Where each of them ends is put
-/// into room.
+/// `hdt_strings`: puts the strings of a role with these IDs, from 1, into `out`, one after another, and returns their
+/// length together. The byte offset at which each ends is written to `ends`, as many as fit. On `HDT_ABSENT`,
+/// `HDT_NO_MEMORY` and `HDT_CLOSED` there are no bytes, and `ends` is unchanged. If the IDs ascend, each block is
+/// decoded once.
 #[unsafe(no_mangle)]
 pub extern "C" fn hdt_strings(
     alloc: Global,

@@ -21,7 +21,7 @@ impl HdtGraph {
         }
     }
 
-    /// Takes the graph out and leaves the handle closed, or returns `None` if it is.
+    /// Takes the graph out and leaves the handle closed; returns `None` if it was closed.
     pub(crate) fn take(&mut self, alloc: Global) -> Option<Box<Kept, Global>>
         ensures taken { IfSome result (λ b. (self.old.state ≡ 1) × (self.old.held.value ≡ Some b.value) × (is_graph (Some b.value) ≡ true)) }
         ensures open { self.old.state ≡ 1 → IsSome result }
@@ -35,7 +35,7 @@ impl HdtGraph {
         Some(held.into_parts().into_box())
     }
 
-    /// Puts a graph in.
+    /// Puts a graph in, and so opens the handle.
     pub(crate) fn put(&mut self, graph: Box<Kept, Global>)
         requires { is_graph (Some graph.value) ≡ true }
         ensures { (self.new.state ≡ 1) × (self.new.held.value ≡ Some graph.value) }
@@ -47,7 +47,7 @@ impl HdtGraph {
     }
 }
 
-/// The graph of a handle, for one call.
+/// The graph that was taken out of a handle.
 pub(crate) fn opened(taken: &Box<Kept, Global>) -> &hdt_file::Graph<'static>
     requires { is_graph (Some taken.now.value) ≡ true }
     ensures { taken.now.value ≡ kept.Graph result.now }

@@ -4,10 +4,11 @@
 #[repr(C)]
 #[derive(Clone, Copy)]
 pub struct HdtTelling {
-    /// 0: made; 250: a string is not a term; 253: the graph isn't open; 255: out of memory.
+    /// 0: there is a text; 250: a string is not a term that its role allows; 253: the graph is closed; 255: out of
+    /// memory.
     pub reason: u32,
-    /// The role of the string, else 0.
+    /// With reason 250, the role of the first such string; else 0.
     pub role: u32,
-    /// The ID of the string, else 0.
+    /// With reason 250, the ID of the first such string; else 0.
     pub number: u64,
 }

@@ -16,10 +16,10 @@ use hdt_dict::Role;
 use hdt_file::{DumpFault, Graph, graph_text};
 use std::alloc::Global;
 
-/// The reason of a string that is not a term.
+/// `HDT_NOT_A_TERM`: a string is not a term that its role allows.
 const NOT_A_TERM: u32 = 250;
 
-/// The reason of a graph that isn't open.
+/// `HDT_IS_CLOSED`: the graph is not open.
 const IS_CLOSED: u32 = 253;
 
 /// A result with a reason but no string.
@@ -33,7 +33,7 @@ fn for_reason(reason: u32) -> HdtTelling
     }
 }
 
-/// The number of a role in c/hdt.h.
+/// The number of a role in `c/hdt.h`.
 fn role_number(role: Role) -> u32
     ensures { result ≡ role_number role }
 {
@@ -70,7 +70,7 @@ fn text_of(
     graph_text(alloc, graph, pattern_of(graph, given))
 }
 
-/// Puts the text of the matches into a handle.
+/// Puts the text of the matches into a handle. On an error the handle has no bytes.
 fn put_text(
     alloc: Global,
     graph: &Graph<'static>,
@@ -91,7 +91,7 @@ fn put_text(
     }
 }
 
-/// `hdt_text`: the text of the triples that match.
+/// `hdt_text`: makes the N-Triples text of the matches. On an error `out` has no bytes.
 #[unsafe(no_mangle)]
 pub extern "C" fn hdt_text(
     alloc: Global,

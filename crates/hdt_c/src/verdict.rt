@@ -6,10 +6,10 @@ ghost use Rattle.hdt_c.specs.Told.{TellsVerdict, verdict_for, verdict_of_result}
 use hdt_file::{OpenFault, verify};
 use std::alloc::Global;
 
-/// The reason of running out of memory.
+/// `HDT_OUT_OF_MEMORY`: memory ran out.
 pub(crate) const OUT_OF_MEMORY: u32 = 255;
 
-/// The reason of options that are not valid.
+/// `HDT_BAD_OPTIONS`: the options are not valid.
 pub(crate) const BAD_OPTIONS: u32 = 252;
 
 /// `hdt_verdict`: the result of verifying a file.
@@ -44,7 +44,7 @@ pub(crate) fn told(got: Result<[u64; 5], OpenFault>) -> HdtVerdict
     }
 }
 
-/// A verdict of only a reason.
+/// A verdict with a reason but no byte offset.
 pub(crate) fn for_reason(reason: u32) -> HdtVerdict
     ensures { result ≡ verdict_for reason }
 {
@@ -55,10 +55,10 @@ pub(crate) fn for_reason(reason: u32) -> HdtVerdict
     }
 }
 
-/// `hdt_verify`: verifies a file.
+/// `hdt_verify`: verifies a file, as `hdt_file::verify` does.
 #[unsafe(no_mangle)]
 pub extern "C" fn hdt_verify(alloc: Global, bytes: &[u8], verdict: &mut HdtVerdict)
-    // It is that on the bytes, or memory ran out.
+    // The verdict is that on the bytes, or says that memory ran out.
     ensures { TellsVerdict verdict.new (graph_in bytes.now) }
 {
     *verdict = told(verify(alloc, bytes));

@@ -1,7 +1,8 @@
+//! The fields of a rank/select index.
 use crate::sample::{FILE, Stop};
 use hdt_seq::{Bits, Directory};
 
-/// A bitmap of one bit: the count before its one group, and the total.
+/// A bitmap of one bit: the number of 1-bits before its one group, and the total.
 #[test]
 fn fields(rt: HostRuntime) -> Result<(), Stop> {
     let (bits, _end) = Bits::read(FILE, 425)?;

@@ -1,7 +1,8 @@
+//! The fields of a graph.
 use crate::sample::{FILE, Stop};
 use hdt_file::open;
 
-/// A graph keeps what its triples keep.
+/// A graph keeps only what its triples keep.
 #[test]
 fn fields(rt: HostRuntime) -> Result<(), Stop> {
     let graph = open(rt.alloc(), FILE)?;

@@ -1,6 +1,6 @@
-//! How many numbers a graph and its parts keep in memory, on the sample file v1.hdt.
+//! The number of `u64` values that a graph and its parts keep in memory, for the sample file v1.hdt.
 //!
-//! Each `held` takes its value apart by a pattern that names every field, so that a new field doesn't compile until it is
+//! Each `held` destructures its value by a pattern that names every field, so a new field doesn't compile until it is
 //! counted. These tests call each `held` once, in a crate of their own, so that the libraries are proved only once.
 #![tactic(auto)]
 

@@ -1,3 +1,4 @@
+//! The fields of triples with indexes.
 use crate::sample::{FILE, Stop};
 use hdt_triples::{Counts, IndexedTriples, Triples};
 use std::alloc::Global;
@@ -16,7 +17,7 @@ fn indexed(alloc: Global) -> Result<IndexedTriples<'static>, Stop> {
     }
 }
 
-/// One triple: two numbers for each index, and three for each inverted index (of one predicate, of one object).
+/// One triple: two values for each rank/select index, and three for each inverted index (of one predicate, one object).
 #[test]
 fn fields(rt: HostRuntime) -> Result<(), Stop> {
     let indexed = indexed(rt.alloc())?;

@@ -1,4 +1,4 @@
--- A search by strings wants of the denoted triples those that have what is given.
+-- The matches of the pattern of given strings denote exactly the triples that have these strings.
 use Rattle.std.proofs.Common.{◌≡◌, ◌∙◌, ◌⊎◌, inl, inr, ℕ, zero, suc, ◌+◌, ◌-◌, ◌<◌, ◌==◌, ◌&&◌, ◌++◌, Bool, true, false, cond, List, [], ◌∷◌, length, map, Option, Some, None, slice_get, get_or, refl, sym, ap, subst, arith}
 use Rattle.std.specs.Option.{unwrap_or}
 use Rattle.std.specs.List.{Contains, filter}
@@ -29,7 +29,7 @@ use Rattle.hdt_file.specs.Graph.{IsGraph}
 use Rattle.hdt_file.specs.Search.{IsPart, IsPattern, part_given}
 use Rattle.hdt_file.specs.StringTriples.{AreOnce, admits_string, is_wanted}
 
--- ---- lists in which no member stands at two places
+-- ---- lists without duplicates
 
 abbrev StandOnce : {X : Type 0} → List X → Type 0
 StandOnce {X} xs = (i j : ℕ) (x : X) → slice_get xs i ≡ Some x → slice_get xs j ≡ Some x → i ≡ j
@@ -68,7 +68,7 @@ in_list [] x i e = absurd (cc)
 in_list (y ∷ ys) x zero e = (0, omega arith, some_is y x e)
 in_list (y ∷ ys) x (suc i) e = let r = in_list ys x i e in (suc r.0, omega (arith, r.1), r.2)
 
--- a member of two lists is one of the first, or of the second behind it
+-- a member of two concatenated lists is a member of the first or of the second
 abbrev Behind : List (List ℕ) → List (List ℕ) → ℕ → List ℕ → Type 0
 Behind xs ys i x = (k : ℕ) × (i ≡ length xs + k) × (slice_get ys k ≡ Some x)
 
@@ -113,14 +113,14 @@ number_once xs once zero n x h k = absurd (cc)
 number_once xs once (suc m) zero x h k = absurd (cc)
 number_once xs once (suc m) (suc n) x h k = ap suc (once m n x h k)
 
--- each number from 1 to the count has a string
+-- each ID, from 1 to the number of strings, has a string
 has_string : (xs : List (List ℕ)) (n : ℕ) → IsFrom1 n (length xs) → numbered xs n ≡ Some (unwrap_or (numbered xs n) [])
 has_string xs zero within = absurd (omega (arith, within.0))
 has_string xs (suc i) within =
     let e = slice_get-get_or xs i [] (omega (arith, within.1)) in
     e ∙ ap (λ (o : Option (List ℕ)). Some (unwrap_or o [])) (sym e)
 
--- ---- a part of a pattern
+-- ---- one role of a pattern
 
 both_ways : (a b : Bool) → (a ≡ true → b ≡ true) → (b ≡ true → a ≡ true) → a ≡ b
 both_ways true b to from = sym (to refl)
@@ -138,7 +138,7 @@ part_agrees xs once (Some x) (Some n) k is within =
     (λ h. (bytes_eq-Decides x.now y).1 (some_is x.now y (sym is ∙ ap (numbered xs) (eqb-true n k h) ∙ there)))
     (λ h. (Decides-eqb n k).1 (number_once xs once n k y (is ∙ ap Some ((bytes_eq-Decides x.now y).0 h)) there))
 
--- the number of a string that is given
+-- the ID of a given string
 abbrev number_for : Option Lent → ℕ → Option ℕ
 number_for None n = None
 number_for (Some x) n = Some n
@@ -218,7 +218,7 @@ none_denoted g given is none =
     filter_none (strings_for g) (λ _. true) (is_wanted given) g.triples
     (λ t i h. false_is (is_wanted given (strings_for g t)) (λ has. none (pattern_for given t) (is_pattern g given t (in_range g is t i h) has)))
 
--- ---- no string triple stands twice
+-- ---- no triple of strings occurs twice
 
 second_joined : (a b c : Triple) → (a.1 < b.1) ⊎ ((a.1 ≡ b.1) × (a.2 < b.2)) → (b.1 < c.1) ⊎ ((b.1 ≡ c.1) × (b.2 < c.2)) → (a.1 < c.1) ⊎ ((a.1 ≡ c.1) × (a.2 < c.2))
 second_joined a b c (inl x) (inl y) = inl (omega (arith, x, y))
@@ -254,7 +254,7 @@ same_triple g is t u ht hu same =
     let o = same_number (strings_in g.dictionary Object) (role_once g is Object) t.2 u.2 ht.2 hu.2 (ap (λ (x : StringTriple). x.2) same) in
     triple_is t u s p o
 
--- what stands at a place of a mapped list is of what is there
+-- a denoted triple is that of the triple with the same index
 mapped : (g : GraphParts) (ts : List Triple) (i : ℕ) (x : StringTriple) → slice_get (denoted g ts) i ≡ Some x → (t : Triple) × (slice_get ts i ≡ Some t) × (strings_for g t ≡ x)
 mapped g [] i x h = absurd (cc)
 mapped g (t ∷ ts) zero x h = (t, refl, some_is (strings_for g t) x h)

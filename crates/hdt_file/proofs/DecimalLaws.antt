@@ -1,4 +1,4 @@
--- Laws of numbers in decimal: the number that is read is encoded, and the number that is encoded is read.
+-- `decimal_number` returns exactly the number that a text encodes.
 use Rattle.std.proofs.Common.{◌≡◌, ℕ, ◌^◌, ◌<◌, Bool, true, false, ◌&&◌, List, [], ◌∷◌, length, ltb, Some, None, refl, sym, ◌∙◌}
 use Rattle.std.specs.Prelude.{if◌then◌else◌}
 use Rattle.std.specs.List.{list_all}
@@ -24,14 +24,14 @@ read text n v true true digits value below e =
 read text n v true false digits value below e = absurd cc
 read text n v false small digits value below e = absurd cc
 
--- the number that is read is the one that the text encodes
+-- the number returned is the one that the text encodes
 pub decimal_found : (text : List ℕ) (v : ℕ) → decimal_number text ≡ Some v → Decimal text v × (v < 2 ^ 64)
 unfolding decimal_number
 decimal_found text v e =
     read text (digits_value 10 text) v (is_numeral text) (ltb (digits_value 10 text) (2 ^ 64))
     (λ is. let p = and_parts _ _ is in (all_digits text p.1, ltb-true _ _ p.0)) refl (ltb-true _ _) e
 
--- the number that a text encodes is read
+-- the number that a text encodes is returned
 pub decimal_only : (text : List ℕ) (v : ℕ) → v < 2 ^ 64 → Decimal text v → decimal_number text ≡ Some v
 unfolding decimal_number
 decimal_only text v lt h =

@@ -1,4 +1,4 @@
--- The checks of the front of a file are exact: what they give is encoded there, and what is encoded there they give.
+-- The checks of the head and the dictionary are exact: they return what is encoded at the start of the file.
 use Rattle.std.proofs.Common.{ℕ, ◌^◌, ◌<◌, List, length, refl}
 use Rattle.hdt_wire.specs.Rows.{IsBytes}
 use Rattle.hdt_wire.specs.Laws.Row.{bound}

@@ -1,4 +1,4 @@
--- The number that digits write, digit by digit.
+-- The value of decimal digits, digit by digit.
 use Rattle.std.proofs.Common.{◌≡◌, ◌≢◌, ℕ, zero, suc, ◌+◌, ◌*◌, ◌^◌, ◌<◌, ◌≤◌, List, [], ◌∷◌, length, get_or, take, Option, Some, None, refl, sym, arith}
 use Rattle.std.specs.Char.{digit_value}
 use Rattle.std.specs.Str.Parse.{AllDigits, digits_value}
@@ -21,7 +21,7 @@ no_number text (Some v) e none = let h = decimal_found text v e in absurd (none 
 pub empty : (text : List ℕ) → length text ≡ 0 → None ≡ decimal_number text
 empty text size = no_number text (decimal_number text) refl (λ v small h. omega (arith, h.digits.0))
 
--- where one more digit cannot be taken, the text encodes no number below 2 ^ 64
+-- if one more digit cannot be added, the text has no value below 2 ^ 64
 pub stops : (text : List ℕ) (i value : ℕ) → i < length text → value ≡ digits_value 10 (take i text)
     → ((digit_value (get_or text i 0) < 10) × (value * 10 + digit_value (get_or text i 0) < 2 ^ 64) → ⊥) → None ≡ decimal_number text
 stops text i value lt so_far cannot =
@@ -29,7 +29,7 @@ stops text i value lt so_far cannot =
     let is : value * 10 + digit_value (get_or text i 0) ≡ digits_value 10 (take (i + 1) text) = rw so_far (sym (digits_value_more 10 text i lt)) in
     no_number text (decimal_number text) refl (λ v small h. cannot (digit_below text i h.digits.1 lt, omega (arith, is, most, h.value, small)))
 
--- all digits are taken
+-- the value is final after the last digit
 pub ends : (text : List ℕ) (i value : ℕ) → length text ≢ 0 → length text ≤ i → AllDigits 10 (take i text) → value ≡ digits_value 10 (take i text) → value < 2 ^ 64
     → Some value ≡ decimal_number text
 ends text i value some all digits is small =

@@ -1,4 +1,4 @@
--- The text of triples is a document of their terms, where these are of the grammar.
+-- The text of triples is an N-Triples document of these triples, if their terms are terms of the grammar.
 use Rattle.std.proofs.Common.{◌≡◌, ◌<◌, ℕ, false, List, [], ◌∷◌, ◌++◌, Some, None, refl, sym, ap, subst, ◌∙◌, append_assoc, append-nil, arith}
 use Rattle.std.specs.Prelude.{map, IsUtf8}
 use Rattle.std.specs.List.{flat_map, AllByRecursion}
@@ -17,7 +17,7 @@ use Rattle.hdt_file.specs.Denoted.{StringTriple}
 use Rattle.hdt_file.specs.Text.{TermTriple, AreTermsOf, Pairwise, line, IsTextOf}
 use Rattle.hdt_file.specs.Documents.{triple_of, AreGrammarTerms}
 
--- a line without its end
+-- a line without its line feed
 abbrev body : TermTriple → List ℕ
 body t = written t.0 ++ 32 ∷ (written t.1 ++ 32 ∷ (written t.2 ++ 32 ∷ 46 ∷ []))
 
@@ -29,7 +29,7 @@ joined s p o tail rest =
 line_cut : (t : TermTriple) (rest : List ℕ) → line t ++ rest ≡ body t ++ 10 ∷ rest
 line_cut t rest = joined (written t.0) (written t.1) (written t.2) (32 ∷ 46 ∷ 10 ∷ []) rest ∙ sym (joined (written t.0) (written t.1) (written t.2) (32 ∷ 46 ∷ []) (10 ∷ rest))
 
--- ---- texts that stand within a line
+-- ---- texts without a line end
 
 abbrev IsInner : ℕ → Type 0
 IsInner c = is_end c ≡ false

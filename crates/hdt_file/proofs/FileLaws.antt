@@ -1,4 +1,4 @@
--- The checks of a file are exact; a file is of one graph, and every input is one or has one error.
+-- The checks of a file are exact. Bytes encode at most one file and graph, and otherwise have one first error.
 use Rattle.std.proofs.Common.{◌≡◌, ◌⊎◌, ℕ, ◌<◌, ◌^◌, List, length, eqb, true, Ok, refl, ap}
 use Rattle.std.proofs.lemmas.Bool.{eqb-true}
 use Rattle.std.proofs.lemmas.Bool.Decides.{Decides-eqb}
@@ -36,7 +36,7 @@ file_exact bytes fits small = record {
       rw (r1, r2, t1) refl;
 }
 
--- the checks give the graph of the layout
+-- the checks return the graph of a valid file
 pub layout_exact : (bytes : List ℕ) → IsBytes bytes → length bytes < 2 ^ 64 → Exactly (graph_in bytes) (IsLayout bytes)
 unfolding graph_in
 layout_exact bytes fits small =
@@ -46,14 +46,14 @@ layout_exact bytes fits small =
       only = λ g h. rw (file.only h.file h.is) (ap (λ (y : GraphParts). Ok y) h.of);
     }
 
--- bytes are one file at most: two agree in the head, the dictionary and the triples, and in where they lie
+-- bytes encode at most one file
 pub file_alone : (bytes : List ℕ) (a b : FileParts) → IsBytes bytes → length bytes < 2 ^ 64 → IsFile a bytes → IsFile b bytes → a ≡ b
 file_alone bytes a b fits small p q = one_value (file_at_start bytes) (λ (file : FileParts). IsFile file bytes) a b (file_exact bytes fits small) p q
 
--- a file is a layout of one graph
+-- bytes encode at most one graph
 pub layout_alone : (bytes : List ℕ) (g h : GraphParts) → IsBytes bytes → length bytes < 2 ^ 64 → IsLayout bytes g → IsLayout bytes h → g ≡ h
 layout_alone bytes g h fits small p q = one_value (graph_in bytes) (IsLayout bytes) g h (layout_exact bytes fits small) p q
 
--- bytes are one layout, or one error stands in them
+-- bytes either encode a graph or have one first error
 pub layout_or_fault : (bytes : List ℕ) → IsBytes bytes → length bytes < 2 ^ 64 → OneValue (graph_in bytes) (IsLayout bytes) ⊎ OneFault (graph_in bytes) (IsLayout bytes)
 layout_or_fault bytes fits small = value_or_fault (graph_in bytes) (IsLayout bytes) (layout_exact bytes fits small)

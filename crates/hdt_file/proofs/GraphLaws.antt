@@ -1,4 +1,4 @@
--- A layout is of a graph: ascending, disjoint sections, and an ascending triple list in range.
+-- The graph of a valid file has ascending, disjoint sections, and ascending triples in range.
 use Rattle.std.proofs.Common.{ℕ, List, subst, arith}
 use Rattle.hdt_triples.specs.Laws.Counting.{length-triples}
 use Rattle.hdt_triples.specs.Laws.Order.{triples_ascend, triples_in_range}

@@ -1,4 +1,4 @@
--- Laws of the head: what is read stands at the front, encoded so, and what is encoded is read.
+-- The checks of the head are exact: they return what is encoded at the start of the file.
 use Rattle.std.proofs.Common.{◌≡◌, ℕ, ◌+◌, ◌^◌, ◌<◌, List, length, Option, Some, None, Result, Ok, refl, sym, ap, subst, ◌∙◌, arith}
 use Rattle.std.specs.Prelude.{codes, IsSomeAnd}
 use Rattle.std.specs.Option.{ok_or, option_and_then}
@@ -44,7 +44,7 @@ done h = Ok h
 same_head : (a b : HeadParts) → done a ≡ done b → a ≡ b
 same_head a b e = cc
 
--- what is read stands at the front, encoded so
+-- the head returned is encoded at the start
 pub head_found : (bytes : List ℕ) (head : HeadParts) → IsBytes bytes → head_at_start bytes ≡ Ok head → IsHead head bytes
 unfolding head_at_start
 head_found bytes head fits e =
@@ -68,7 +68,7 @@ block_is kind bytes at block h =
     ap (λ (f : List ℕ). record { format = f; properties = block.properties; properties_at = at + 6 + length (format_text kind); end = block.end }) (sym h.format)
     ∙ ap (λ (n : ℕ). record { format = block.format; properties = block.properties; properties_at = n; end = block.end }) (sym h.properties_at)
 
--- what is encoded so and stands at the front is read
+-- the head encoded at the start is returned
 pub head_only : (bytes : List ℕ) (head : HeadParts) → IsBytes bytes → length bytes < 2 ^ 64 → IsHead head bytes → head_at_start bytes ≡ Ok head
 unfolding head_at_start
 head_only bytes head fits small h =
@@ -83,6 +83,6 @@ head_only bytes head fits small h =
     let body = bytes_only (length head.body) bytes head.header.end head.body head.end h.body refl in
     rw (global, header, count, body) refl
 
--- bytes have at most one head at their front
+-- bytes have at most one head at their start
 pub head_alone : (bytes : List ℕ) (a b : HeadParts) → IsBytes bytes → length bytes < 2 ^ 64 → IsHead a bytes → IsHead b bytes → a ≡ b
 head_alone bytes a b fits small p q = same_head a b (sym (head_only bytes a fits small p) ∙ head_only bytes b fits small q)

@@ -1,4 +1,4 @@
--- Pieces of lines of all strings of a role, and lines made of them.
+-- The terms of each role as they are written in a line, and the lines put together from them.
 use Rattle.std.proofs.Common.{◌≡◌, ℕ, zero, suc, ◌+◌, ◌<◌, ◌≤◌, Bool, true, List, [], ◌∷◌, ◌++◌, length, map, set, get_or, take, drop, Option, Some, refl, sym, ap, ◌∙◌, append_assoc, append-nil, subst, inl, inr, arith}
 use Rattle.std.specs.Option.{unwrap_or}
 use Rattle.std.proofs.lemmas.List.{get_or-drop, get_or-map, get_or-take, length-append, length-drop, length-map, length-take}
@@ -24,9 +24,9 @@ use Rattle.hdt_file.specs.declared.fault.DumpFault.TheVariants.{NotATerm, Write,
 use Rattle.hdt_file.specs.declared.tables.Tables.{Tables}
 use Rattle.hdt_file.proofs.Texts.{are_terms}
 
--- ---- one piece
+-- ---- one entry
 
--- no term has the empty string, and no piece of a term is empty
+-- no term has the empty string, and no entry of a term is empty
 empty_none : (role : Role) → HasNoTerm role []
 unfolding str
 empty_none role (Iri iri) h = let e : is_absolute [] ≡ true = subst (λ (x : List ℕ). is_absolute x ≡ true) h.is h.dictionary.1 in absurd cc
@@ -38,7 +38,7 @@ some_behind Subject e = absurd (omega (arith, e))
 some_behind Predicate e = absurd (omega (arith, e))
 some_behind Object e = absurd (omega (arith, e))
 
--- a piece of no bytes is that of a string that is no term
+-- an empty entry is that of a string that is not a term
 pub no_term : (role : Role) (string piece : List ℕ) → length piece ≡ 0 → IsLinePiece role string piece → HasNoTerm role string
 no_term role string piece e (inl h) = absurd (some_behind role (omega (arith, e, ap length h.2, length-append (written h.0) (behind role))))
 no_term role string piece e (inr h) = h.1
@@ -57,7 +57,7 @@ pub at : (role : Role) (marks : List Bool) (strings pieces : List (List ℕ)) (n
 at role marks strings pieces zero h marked = inr (refl, empty_none role)
 at role marks strings pieces (suc i) h marked = let next : suc i ≡ 1 + i = omega arith in at_from role marks 1 strings pieces i h (subst (λ k. is_marked marks k ≡ true) next marked)
 
--- the pieces of one of the triples, of the first n and of those behind them
+-- the tables of some triples are tables of each triple, of the first n and of the rest
 pub pieces_at : (g : GraphParts) (ts : List Triple) (tables : Tables) (i : ℕ) → AreTables g ts tables → i < length ts → HasPieces g tables (get_or ts i (0, 0, 0))
 pieces_at g ts tables i h below = record { subject = h.subjects i below; predicate = h.predicates i below; object = h.objects i below }
 
@@ -89,9 +89,9 @@ pieces_behind g ts tables n h = record {
 pub stands : (role : Role) (string p q : List ℕ) → p ≡ q → IsLinePiece role string q → IsLinePiece role string p
 stands role string p q e h = subst (IsLinePiece role string) (sym e) h
 
--- ---- 1-bits
+-- ---- marks
 
--- a 1-bit more leaves those that are there, and 1-bits its number; a number past the 1-bits counts as marked
+-- marking an ID keeps the other marks; an ID out of range counts as marked
 pub more_marked : (marks : List Bool) (number n : ℕ) → is_marked marks n ≡ true → is_marked (set marks number true) n ≡ true
 more_marked [] number n h = h
 more_marked (x ∷ xs) zero zero h = refl
@@ -109,7 +109,7 @@ past_marks [] n h = refl
 past_marks (x ∷ xs) zero h = absurd (omega (arith, h))
 past_marks (x ∷ xs) (suc n) h = past_marks xs n (omega (arith, h))
 
--- the piece that is encoded at the offset of a triple, where each triple's stands at its place
+-- the entry of the triple with index i, in a list with the entries of all triples
 pub found_at : {B : Type 0} (now : B → List ℕ) (piece : Triple → List ℕ) (pieces : List B) (ts : List Triple) (i : ℕ) (b : B) (t : Triple) → map now pieces ≡ map piece ts → i < length ts
     → b ≡ get_or pieces i b → now b ≡ piece (get_or ts i t)
 found_at now piece pieces ts i b t e below read =
@@ -125,7 +125,7 @@ joined old s p o =
     ∙ ap (λ (x : List ℕ). old ++ x) (append_assoc s (32 ∷ []) ((p ++ 32 ∷ []) ++ (o ++ 32 ∷ 46 ∷ 10 ∷ [])))
     ∙ ap (λ (x : List ℕ). old ++ (s ++ 32 ∷ x)) (append_assoc p (32 ∷ []) (o ++ 32 ∷ 46 ∷ 10 ∷ []))
 
--- the pieces of subject, predicate and object are the line
+-- the entries of subject, predicate and object make up the line
 pub line_made : (g : GraphParts) (t : Triple) (old a b new : List ℕ) → AppendsPiece Subject (string_of g Subject t.0) old a
     → AppendsPiece Predicate (string_of g Predicate t.1) a b → AppendsPiece Object (string_of g Object t.2) b new → AppendsLine g t old new
 line_made g t old a b new one two three =
@@ -140,7 +140,7 @@ line_made g t old a b new one two three =
           ∙ joined old s p o;
     }
 
--- ---- the first string that is no term
+-- ---- the first string that is not a term
 
 pub subject_told : (g : GraphParts) (t : Triple) (e : DumpFault) → TellsString Subject t.0 (string_of g Subject t.0) e → TellsFirstOf g t e
 subject_told g t (NotATerm role n) h = subst (λ (r : Role). IsFirstOf (strings_for g t) r × (n ≡ part r t)) (sym h.0) (record { none = h.2; earlier = earlier }, h.1)
@@ -174,13 +174,13 @@ object_told g t a b c d (NotATerm role n) s p h = subst (λ (r : Role). IsFirstO
 object_told g t a b c d (Write k) s p h = h
 object_told g t a b c d OutOfMemory s p h = tt
 
--- ---- pieces, one after another
+-- ---- building a table
 
--- whatever pieces the strings ahead have, whose numbers go on from n, behind those that were made they are those of all
+-- entries for the strings ahead, whose IDs begin at n, complete the entries made so far to those of all strings
 abbrev pub GoOn : Role → List Bool → List (List ℕ) → ℕ → List (List ℕ) → List (List ℕ) → Type 0
 GoOn role marks all n ahead made = (more : List (List ℕ)) → AreLinePieces role marks n ahead more → AreLinePieces role marks 1 all (made ++ more)
 
--- bytes, and where the pieces among them begin, up to the strings ahead
+-- the bytes of a table and the offset of each entry, up to the strings ahead
 pub record PiecesTo (role : Role) (marks : List Bool) (all : List (List ℕ)) (n : ℕ) (ahead : List (List ℕ)) (bytes starts : List ℕ) : Type 0 where
   pub are : AreTextStarts bytes starts
   pub go_on : GoOn role marks all n ahead (arena_texts bytes starts)
@@ -204,7 +204,7 @@ one_more role marks all xs n x bytes starts new end h grows long =
 pub all_made : (role : Role) (marks : List Bool) (all : List (List ℕ)) (n : ℕ) (made : List (List ℕ)) → GoOn role marks all n [] made → AreLinePieces role marks 1 all made
 all_made role marks all n made h = subst (AreLinePieces role marks 1 all) (append-nil made) (h [] tt)
 
--- where a walk gives a string, it stands ahead, and its number is the next one; where it gives none, nothing is ahead
+-- the string that a cursor gives next is the first one ahead, with the next ID
 pub given : (w new : Progress) (k : ℕ) (xs : List (List ℕ)) → next_number w xs ≡ Some k → new ≡ stepped_by w xs → xs ≡ new.last ∷ new.ahead
 given w new k [] e step = absurd cc
 given w new k (x ∷ xs) e step = ap (λ (p : Progress). p.last ∷ p.ahead) (sym step)

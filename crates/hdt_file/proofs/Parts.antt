@@ -1,4 +1,4 @@
--- What is read of a layout, as its users see it.
+-- The graph of a `Layout` that was read is the graph of its parts.
 use Rattle.std.proofs.Common.{Result, Ok, Err, ap}
 use Rattle.hdt_wire.specs.declared.fault.Fault.{Fault}
 use Rattle.hdt_wire.specs.Exact.{seen}

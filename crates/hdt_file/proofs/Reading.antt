@@ -1,4 +1,4 @@
--- What the laws say of a reader's result.
+-- The laws of the head, for the result of a read.
 use Rattle.std.proofs.Common.{◌≡◌, ℕ, List, Result, Ok, Err, sym, ◌∙◌}
 use Rattle.std.specs.Prelude.{IfOk}
 use Rattle.hdt_wire.specs.declared.fault.Fault.{Fault}

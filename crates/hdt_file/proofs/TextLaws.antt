@@ -1,4 +1,4 @@
--- Laws of the text of string triples.
+-- Laws of the N-Triples text of triples of strings.
 use Rattle.std.proofs.Common.{◌≡◌, ℕ, List, [], ◌∷◌, inl, inr, refl, sym, ap, ◌∙◌}
 use Rattle.std.specs.List.{flat_map}
 use Rattle.hdt_terms.specs.declared.term.Term.{Term}
@@ -11,7 +11,7 @@ use Rattle.hdt_triples.specs.Uses.{part}
 use Rattle.hdt_file.specs.Denoted.{StringTriple, strings_for, denoted}
 use Rattle.hdt_file.specs.Text.{TermTriple, IsTermOf, AreTermsOf, Pairwise, line, IsTextOf, IsBefore, IsFirstOf, IsFirstIn}
 
--- no two dictionary terms have one string
+-- no two dictionary terms have the same string
 abbrev pub OneString : Type 0
 OneString = (s t : Term) → IsDictionaryTerm s → IsDictionaryTerm t → str s ≡ str t → s ≡ t
 
@@ -35,11 +35,11 @@ module _ (one : OneString) where
   same_lists (x ∷ xs) (s ∷ ss) (t ∷ ts) p q =
       ap (λ (y : TermTriple). y ∷ ss) (same_terms x s t p.0 q.0) ∙ ap (λ (ys : List TermTriple). t ∷ ys) (same_lists xs ss ts p.1 q.1)
 
-  -- string triples have one text
+  -- triples of strings have at most one text
   pub one_text : (triples : List StringTriple) (a b : List ℕ) → IsTextOf triples a → IsTextOf triples b → a ≡ b
   one_text triples a b p q = p.whole ∙ ap (flat_map line) (same_lists triples p.terms q.terms p.each q.each) ∙ sym q.whole
 
--- ---- a text or a string that is no term, never both
+-- ---- triples have a text or a string that is not a term, never both
 
 no_text : (g : GraphParts) (ts : List Triple) (terms : List TermTriple) (role : Role) (number : ℕ) → Pairwise AreTermsOf (denoted g ts) terms → IsFirstIn g ts role number → ⊥
 no_text g [] terms role number p f = f
@@ -50,7 +50,7 @@ no_text g (t ∷ ts) (x ∷ xs) role number p (inr f) = no_text g ts xs role num
 pub not_both : (g : GraphParts) (ts : List Triple) (text : List ℕ) (role : Role) (number : ℕ) → IsTextOf (denoted g ts) text → IsFirstIn g ts role number → ⊥
 not_both g ts text role number h f = no_text g ts h.terms role number h.each f
 
--- ---- one first string
+-- ---- the first string that is not a term is unique
 
 wrong : {A : Type 0} (role other : Role) (strings : StringTriple) → IsFirstOf strings role → IsFirstOf strings other → IsBefore role other → A
 wrong role other strings f g before = let has = g.earlier role before in absurd (f.none has.0 has.1)

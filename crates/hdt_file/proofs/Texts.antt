@@ -1,4 +1,4 @@
--- The text of triples, line by line.
+-- The text of triples, appended line by line.
 use Rattle.std.proofs.Common.{◌≡◌, ℕ, zero, suc, Option, None, Some, take, List, [], ◌∷◌, ◌++◌, length, ◌≤◌, refl, sym, ap, ◌∙◌, append_assoc, append-nil, subst, inl, inr, arith}
 use Rattle.std.specs.List.{flat_map}
 use Rattle.std.proofs.lemmas.Grind.{flat_map-append}
@@ -18,7 +18,7 @@ use Rattle.hdt_file.specs.declared.fault.DumpFault.TheVariants.{NotATerm, Write,
 
 -- ---- triples in a list
 
--- one more of at most so many
+-- the first n + 1 of a list are its first member and the first n of the rest
 pub one_more : (n : ℕ) (found items new : List Triple) (t : Triple) (left rest : List Triple) → left ≡ t ∷ rest → new ≡ items ++ t ∷ []
     → found ≡ items ++ take (suc n) left → found ≡ new ++ take n rest
 one_more n found items new t left rest first is h =
@@ -27,7 +27,7 @@ one_more n found items new t left rest first is h =
 
 -- ---- what an error leaves
 
--- what was there stays in front of what was appended to it
+-- appending keeps the prefix
 kept_length : (old new : List ℕ) → Keeps old new → length old ≤ length new
 kept_length old new kept = omega (arith, ap length kept, length-take (length old) new)
 
@@ -48,13 +48,12 @@ are_terms g t terms s p o Subject = s
 are_terms g t terms s p o Predicate = p
 are_terms g t terms s p o Object = o
 
--- ---- a line, and behind it the text of the rest
+-- ---- a line, then the text of the remaining triples
 
 with_line : (g : GraphParts) (t : Triple) (ts : List Triple) (terms : TermTriple) (more : List ℕ) → AreTermsOf (strings_for g t) terms → IsTextOf (denoted g ts) more
     → IsTextOf (denoted g (t ∷ ts)) (line terms ++ more)
 with_line g t ts terms more are h = record { terms = terms ∷ h.terms; each = (are, h.each); whole = ap (λ (x : List ℕ). line terms ++ x) h.whole }
 
--- a line, and behind it the text of the rest
 pub line_and_text : (g : GraphParts) (t : Triple) (ts : List Triple) (old between new : List ℕ) → AppendsLine g t old between → AppendsText g ts between new → AppendsText g (t ∷ ts) old new
 line_and_text g t ts old between new a h =
     record {
@@ -66,7 +65,7 @@ line_and_text g t ts old between new a h =
 pub no_text : (g : GraphParts) (text : List ℕ) → AppendsText g [] text text
 no_text g text = record { text = []; is = record { terms = []; each = tt; whole = refl }; grown = sym (append-nil text) }
 
--- a triple of terms is passed over
+-- an error among the remaining triples is also the error of all, if the first triple has a line
 pub tells_behind : (g : GraphParts) (t : Triple) (ts : List Triple) (old new : List ℕ) (e : DumpFault) → AppendsLine g t old new → TellsFirstIn g ts e → TellsFirstIn g (t ∷ ts) e
 tells_behind g t ts old new (NotATerm role n) a h = inr ((λ (other : Role). (part other a.terms, a.are other)), h)
 tells_behind g t ts old new (Write k) a h = h
@@ -77,7 +76,7 @@ tells_here g t ts (NotATerm role n) h = inl h
 tells_here g t ts (Write k) h = h
 tells_here g t ts OutOfMemory h = tt
 
--- ---- the text of some triples, and behind it that of the rest
+-- ---- the text of some triples, then that of the rest
 
 joined_terms : (g : GraphParts) (xs ys : List Triple) (ts us : List TermTriple) → Pairwise AreTermsOf (denoted g xs) ts → Pairwise AreTermsOf (denoted g ys) us
     → Pairwise AreTermsOf (denoted g (xs ++ ys)) (ts ++ us)
@@ -123,9 +122,10 @@ tells_within g xs rest (NotATerm role n) h = first_within g xs rest role n h
 tells_within g xs rest (Write k) h = h
 tells_within g xs rest OutOfMemory h = tt
 
--- ---- the triples that are still to come
+-- ---- the remaining triples
 
--- what is appended of the rest behind what was appended is the text of all, and a string of the rest that is told is told of all
+-- the text of all triples is what was appended so far and the text of the remaining ones; the error of these is that of
+-- all
 pub record GoesOn (g : GraphParts) (all left : List Triple) (old now : List ℕ) : Type 0 where
   pub text : (new : List ℕ) → AppendsText g left now new → AppendsText g all old new
   pub first : (e : DumpFault) → TellsFirstIn g left e → TellsFirstIn g all e

@@ -1,4 +1,4 @@
--- The checks of a tight file are exact: those of its strings hold where triples use each of them, and only there.
+-- The checks of a tight file are exact: those of its strings pass if and only if triples use all of them.
 use Rattle.std.proofs.Common.{◌≡◌, ◌∙◌, ℕ, ◌+◌, ◌-◌, ◌<◌, ◌≤◌, ◌^◌, ◌&&◌, ◌⊎◌, inl, inr, Bool, true, false, List, length, Result, Ok, Err, refl, ap, sym, subst, arith}
 use Rattle.std.proofs.lemmas.Bool.{cases_lt}
 use Rattle.std.proofs.lemmas.List.{length-append}
@@ -39,7 +39,7 @@ section_only d ts part all =
 
 -- ---- all four
 
--- triples use each number of each role
+-- triples use each ID of each role
 abbrev AllUsed : DictionaryParts → List Triple → Type 0
 AllUsed d ts = (role : Role) (n : ℕ) → 1 ≤ n → n ≤ length (strings_in (sections_of d) role) → Uses ts role n
 
@@ -56,7 +56,7 @@ and_both true true h k = refl
 and_both false b h k = absurd (cc)
 and_both true false h k = absurd (cc)
 
--- a number of two sections is one of the first, or goes on behind them
+-- an ID above those of the shared strings is used if the check of its own section passes
 behind : (ts : List Triple) (role : Role) (front n : ℕ) → front < n → uses ts role (front + (n - front)) ≡ true → Uses ts role n
 behind ts role front n lt h =
     let same : front + (n - front) ≡ n = omega (arith, lt) in
@@ -97,7 +97,7 @@ strings_exact d ts = record {
   only = λ u all. all_only d ts all;
 }
 
--- ---- a whole file
+-- ---- a file
 
 tight_of : (file : FileParts) → AllUsed file.dictionary (triples_of (bitmap_of file.triples)) → IsTight (graph_of file)
 tight_of file all Subject n from to = all Subject n from to
@@ -131,7 +131,7 @@ tight_exact bytes fits small =
 pub tight_or_fault : (bytes : List ℕ) → IsBytes bytes → length bytes < 2 ^ 64 → OneValue (tight_in bytes) (IsTightLayout bytes) ⊎ OneFault (tight_in bytes) (IsTightLayout bytes)
 tight_or_fault bytes fits small = value_or_fault (tight_in bytes) (IsTightLayout bytes) (tight_exact bytes fits small)
 
--- an error of a file stands in tight reading too
+-- the error of a file without the checks of used strings is also its error with them
 
 same_fault : (r : Result FileParts Fault) (f : Fault) → (r >>= λ file. Ok (graph_of file)) ≡ Err f → (r >>= λ file. strings_used file.dictionary (triples_of (bitmap_of file.triples)) >>= λ _. Ok (graph_of file)) ≡ Err f
 same_fault (Ok file) f h = absurd (cc)

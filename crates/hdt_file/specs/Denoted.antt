@@ -8,16 +8,18 @@ use Rattle.hdt_triples.specs.Counting.{Triple}
 use Rattle.hdt_file.specs.File.{GraphParts}
 use Rattle.hdt_dict.specs.Dictionary.{strings_in}
 
+-- the strings of subject, predicate and object
 abbrev pub StringTriple : Type 0
 StringTriple = List ℕ × List ℕ × List ℕ
 
--- the string of a role with the number n, from 1; empty for any other number, which no triple of a layout has
+-- the string with ID n, from 1, of a role; the empty string if there is no such ID, which no triple of a layout has
 abbrev pub string_of : GraphParts → Role → ℕ → List ℕ
 string_of g role n = unwrap_or (numbered (strings_in g.dictionary role) n) []
 
--- each number replaced by its string
+-- the triple with each ID replaced by its string
 abbrev pub strings_for : GraphParts → Triple → StringTriple
 strings_for g t = (string_of g Subject t.0, string_of g Predicate t.1, string_of g Object t.2)
 
+-- the triples of strings that a graph denotes, in order
 abbrev pub denoted : GraphParts → List Triple → List StringTriple
 denoted g ts = map (strings_for g) ts

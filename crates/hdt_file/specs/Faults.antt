@@ -6,12 +6,12 @@ use Rattle.hdt_front.specs.declared.fault.ReadFault.TheVariants as reads
 use Rattle.hdt_file.specs.declared.fault.OpenFault.{OpenFault}
 use Rattle.hdt_file.specs.declared.fault.OpenFault.TheVariants as opens
 
--- the error of the file, if it is one; running out of memory is none
+-- the error in the file; None if memory ran out, which says nothing of the file
 abbrev pub open_fault_of : OpenFault → Option Fault
 open_fault_of opens.OutOfMemory = None
 open_fault_of (opens.Fault f) = Some f
 
--- the same error, of a part that was read
+-- the error of reading a section or a dictionary, as an error of opening the file
 abbrev pub of_part : ReadFault → OpenFault
 of_part reads.OutOfMemory = opens.OutOfMemory
 of_part (reads.Fault f) = opens.Fault f

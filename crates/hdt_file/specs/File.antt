@@ -1,5 +1,5 @@
--- A whole file (HDT submission; rdfhdt.org, "HDT binary format"): the head, the dictionary and the triples, one after
--- another, and nothing after them.
+-- A file (HDT submission; rdfhdt.org, "HDT binary format") is a head, a dictionary and triples, one after another, with
+-- nothing after them.
 use Rattle.std.specs.Prelude.{◌≡◌, ℕ, ◌==◌, List, length, Result, Ok}
 use Rattle.hdt_wire.specs.declared.fault.Fault.{Fault}
 use Rattle.hdt_wire.specs.declared.fault.Reason.TheVariants.{TrailingBytes}
@@ -11,28 +11,28 @@ use Rattle.hdt_triples.specs.Triples.{TripleParts, bitmap_of, IsTriples, triples
 use Rattle.hdt_file.specs.Head.{HeadParts, IsHead}
 use Rattle.hdt_file.specs.Dictionary.{dictionary_after_head}
 
--- what a file says
+-- a file, decoded
 pub record FileParts : Type 0 where
   pub head : HeadParts
   pub dictionary : DictionaryParts
   pub triples : TripleParts
 
--- how many strings each role has
+-- the number of strings of each role
 abbrev pub counts_of : FourLists → Counts
 counts_of d = record { subjects = length (strings_in d Subject); predicates = length (strings_in d Predicate); objects = length (strings_in d Object) }
 
--- how many strings each role has: the numbers of a role go from 1 to that
+-- the number of strings of each role: the IDs of a role are 1 to this number
 abbrev pub counts_in : DictionaryParts → Counts
 counts_in d = counts_of (sections_of d)
 
--- the bytes, all of them, are the file
+-- the bytes, all of them, encode the file
 pub record IsFile (file : FileParts) (bytes : List ℕ) : Type 0 where
   pub head : IsHead file.head bytes
   pub dictionary : IsDictionary file.dictionary bytes file.head.end
   pub triples : IsTriples (counts_in file.dictionary) file.triples bytes file.dictionary.objects.end
   pub end : file.triples.zs.end ≡ length bytes
 
--- the checks of a file in turn: the file, or the first error
+-- decodes a file, or returns the first error
 unfoldable pub file_at_start : List ℕ → Result FileParts Fault
 file_at_start bytes = do
   front ← dictionary_after_head bytes
@@ -40,24 +40,25 @@ file_at_start bytes = do
   _ ← demand (triples.zs.end == length bytes) triples.zs.end TrailingBytes
   Ok (record { head = front.head; dictionary = front.dictionary; triples = triples })
 
--- ---- what a file is of
+-- ---- the graph of a file
 
--- a file as its users see it: the header body, the sections of the dictionary, the triples as numbers
+-- the graph of a file: the header body, the sections of the dictionary, and the triples as IDs
 pub record GraphParts : Type 0 where
   pub header : List ℕ
   pub dictionary : FourLists
   pub triples : List Triple
 
+-- the graph of a decoded file
 abbrev pub graph_of : FileParts → GraphParts
 graph_of file = record { header = file.head.body; dictionary = sections_of file.dictionary; triples = triples_of (bitmap_of file.triples) }
 
--- the bytes are a layout of the graph
+-- the bytes are a valid encoding of the graph
 pub record IsLayout (bytes : List ℕ) (graph : GraphParts) : Type 0 where
   pub file : FileParts
   pub is : IsFile file bytes
   pub of : graph_of file ≡ graph
 
--- the graph of the bytes, or the first error in them: the first check that fails
+-- decodes a file and returns its graph, or the first error: the first check that fails
 unfoldable pub graph_in : List ℕ → Result GraphParts Fault
 graph_in bytes = do
   file ← file_at_start bytes

@@ -1,5 +1,5 @@
--- What a layout is of: sections of strings, no string in two of shared, subjects and objects, and at least one triple,
--- each in range, in ascending order.
+-- The graph of a valid file: four sections of strings, no string in two of shared, subjects and objects, and at least
+-- one triple. The triples strictly ascend, and each of their IDs is that of a string.
 use Rattle.std.specs.Prelude.{◌<◌, length}
 use Rattle.hdt_front.specs.Section.{AreStrings}
 use Rattle.hdt_dict.specs.Dictionary.{AreApart}

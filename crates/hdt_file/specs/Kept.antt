@@ -1,4 +1,4 @@
--- What a speller keeps of the lines that it has encoded.
+-- What a writer of terms caches between lines.
 use Rattle.std.specs.Prelude.{ℕ, ⊤, List, [], Option, None, Some}
 use Rattle.std.specs.List.{All}
 use Rattle.hdt_wire.specs.declared.role.Role.{Role}
@@ -9,12 +9,12 @@ use Rattle.hdt_file.specs.TextWriting.{AppendsPiece}
 use Rattle.hdt_file.specs.declared.spelling.Spelled.{Spelled}
 use Rattle.hdt_file.specs.declared.spelling.Speller.{Speller}
 
--- nothing, or the term that the string with a number is in its role, with what follows it in a line
+-- nothing is cached, or the text is the term with ID n of the role and the separator after it
 abbrev pub KeepsTerm : GraphParts → Role → Option ℕ → List ℕ → Type 0
 KeepsTerm g role None text = ⊤
 KeepsTerm g role (Some n) text = AppendsPiece role (string_of g role n) [] text
 
--- such a term of a predicate
+-- the same of a predicate
 abbrev pub KeepsPredicate : GraphParts → Spelled → Type 0
 KeepsPredicate g s = KeepsTerm g Predicate s.number s.text.items
 

@@ -1,4 +1,4 @@
--- Searching a graph: patterns of strings, and the patterns of numbers that they stand for.
+-- Searching a graph by strings: the pattern of IDs for given strings.
 use Rattle.std.specs.Prelude.{◌≡◌, ℕ, ◌+◌, List, Option, Some, None, ⊤, slice_index_or}
 use Rattle.hdt_dict.specs.Numbered.{numbered}
 use Rattle.hdt_dict.specs.Strings.{Lent}
@@ -9,28 +9,28 @@ use Rattle.hdt_triples.specs.declared.pattern.Pattern.{Pattern}
 use Rattle.hdt_file.specs.File.{GraphParts}
 use Rattle.hdt_dict.specs.Looks.{role_looks}
 
--- a part of a pattern: any where no string is given, else the number of the string in the role's list
+-- None matches any ID if no string is given; otherwise it is the ID of the string among those of the role
 abbrev pub IsPart : List (List ℕ) → Option Lent → Option ℕ → Type 0
 IsPart strings None None = ⊤
 IsPart strings None (Some n) = ⊥
 IsPart strings (Some x) None = ⊥
 IsPart strings (Some x) (Some n) = numbered strings n ≡ Some x.now
 
--- what is given for part i of three: 0 the subject, 1 the predicate, 2 the object
+-- the string given for the subject (0), the predicate (1) or the object (2)
 abbrev pub part_given : List (Option Lent) → ℕ → Option Lent
 part_given given i = slice_index_or given i None
 
--- the pattern has the numbers of the strings that are given, each in its role
+-- the pattern has the ID of each given string in its role
 pub record IsPattern (g : GraphParts) (given : List (Option Lent)) (p : Pattern) : Type 0 where
   pub subject : IsPart (strings_in g.dictionary Subject) (part_given given 0) p.s
   pub predicate : IsPart (strings_in g.dictionary Predicate) (part_given given 1) p.p
   pub object : IsPart (strings_in g.dictionary Object) (part_given given 2) p.o
 
--- the most looks for a part
+-- the most steps of looking up one string
 abbrev pub part_looks : DictionaryParts → Role → Option Lent → ℕ
 part_looks d role None = 0
 part_looks d role (Some x) = role_looks d role
 
--- and for all three
+-- the most steps of looking up all three
 abbrev pub given_looks : DictionaryParts → List (Option Lent) → ℕ
 given_looks d given = part_looks d Subject (part_given given 0) + part_looks d Predicate (part_given given 1) + part_looks d Object (part_given given 2)

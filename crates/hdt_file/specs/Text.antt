@@ -1,5 +1,5 @@
--- The N-Triples text of string triples (W3C RDF 1.1 N-Triples, section 7), and the first string that is no term of its
--- role.
+-- The N-Triples text of triples of strings (W3C RDF 1.1 N-Triples, section 7), and the first string that is not a term
+-- which its role allows.
 use Rattle.std.specs.Prelude.{◌≡◌, ℕ, ◌⊎◌, ⊤, List, [], ◌∷◌, ◌++◌}
 use Rattle.std.specs.List.{flat_map}
 use Rattle.hdt_terms.specs.declared.term.Term.{Term}
@@ -13,50 +13,54 @@ use Rattle.hdt_file.specs.File.{GraphParts}
 use Rattle.hdt_triples.specs.Uses.{part}
 use Rattle.hdt_file.specs.Denoted.{StringTriple, strings_for}
 
+-- the terms of subject, predicate and object
 abbrev pub TermTriple : Type 0
 TermTriple = Term × Term × Term
 
--- an IRI or a blank node is a subject, an IRI a predicate, any term an object
+-- a subject is an IRI or a blank node, a predicate is an IRI, an object is any term
 abbrev pub FitsRole : Role → Term → Type 0
 FitsRole Subject term = IsSubject term
 FitsRole Predicate term = IsPredicate term
 FitsRole Object term = ⊤
 
--- the dictionary term that the string is, of a kind that fits the role
+-- the string is that of the term, which the role allows
 pub record IsTermOf (role : Role) (string : List ℕ) (term : Term) : Type 0 where
   pub dictionary : IsDictionaryTerm term
   pub is : str term ≡ string
   pub fits : FitsRole role term
 
+-- each string is that of the term, which its role allows
 abbrev pub AreTermsOf : StringTriple → TermTriple → Type 0
 AreTermsOf strings terms = (role : Role) → IsTermOf role (part role strings) (part role terms)
 
--- one for one
+-- the lists have the same length, and P holds at each index
 abbrev pub Pairwise : {X Y : Type 0} → (X → Y → Type 0) → List X → List Y → Type 0
 Pairwise P [] [] = ⊤
 Pairwise P [] (y ∷ ys) = ⊥
 Pairwise P (x ∷ xs) [] = ⊥
 Pairwise P (x ∷ xs) (y ∷ ys) = P x y × Pairwise P xs ys
 
--- subject, predicate, object, each with a space behind it, a full stop and a line feed
+-- the line of a triple: subject, predicate and object, a space after each, a full stop and a line feed
 abbrev pub line : TermTriple → List ℕ
 line t = written t.0 ++ 32 ∷ (written t.1 ++ 32 ∷ (written t.2 ++ 32 ∷ 46 ∷ 10 ∷ []))
 
--- the text has one line for each triple, in order; each string is a term of its role
+-- the text has one line for each triple, in order, and each string is a term that its role allows
 pub record IsTextOf (triples : List StringTriple) (text : List ℕ) : Type 0 where
   pub terms : List TermTriple
   pub each : Pairwise AreTermsOf triples terms
   pub whole : text ≡ flat_map line terms
 
--- ---- strings that are no terms
+-- ---- strings that are not terms
 
+-- the string is that of a term that the role allows
 abbrev pub HasTerm : Role → List ℕ → Type 0
 HasTerm role string = (term : Term) × IsTermOf role string term
 
+-- the string is not that of a term that the role allows
 abbrev pub HasNoTerm : Role → List ℕ → Type 0
 HasNoTerm role string = (term : Term) → IsTermOf role string term → ⊥
 
--- subject, predicate, object
+-- the order of the roles: subject, predicate, object
 abbrev pub IsBefore : Role → Role → Type 0
 IsBefore Subject Subject = ⊥
 IsBefore Subject Predicate = ⊤
@@ -66,12 +70,12 @@ IsBefore Predicate Predicate = ⊥
 IsBefore Predicate Object = ⊤
 IsBefore Object role = ⊥
 
--- the first string of the triple that is no term of its role has this role
+-- the role of the first string of the triple that is not a term which its role allows
 pub record IsFirstOf (strings : StringTriple) (role : Role) : Type 0 where
   pub none : HasNoTerm role (part role strings)
   pub earlier : (other : Role) → IsBefore other role → HasTerm other (part other strings)
 
--- the first such string of the first such triple has this role and number
+-- the role and the ID of the first such string of the first such triple
 abbrev pub IsFirstIn : GraphParts → List Triple → Role → ℕ → Type 0
 IsFirstIn g [] role number = ⊥
 IsFirstIn g (t ∷ ts) role number =

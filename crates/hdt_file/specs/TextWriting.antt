@@ -1,4 +1,4 @@
--- What the calls that write the text of a graph answer.
+-- What the calls that write N-Triples text guarantee.
 use Rattle.std.specs.Prelude.{◌≡◌, ℕ, ◌<◌, ◌++◌, ⊤, List, [], ◌∷◌, length, take, Option, None, Some}
 use Rattle.std.specs.Io.KnownBytes.{Appends}
 use Rattle.hdt_terms.specs.declared.term.Term.{Term}
@@ -15,69 +15,70 @@ use Rattle.hdt_file.specs.Text.{TermTriple, IsTermOf, AreTermsOf, HasNoTerm, IsF
 use Rattle.hdt_file.specs.declared.fault.DumpFault.{DumpFault}
 use Rattle.hdt_file.specs.declared.fault.DumpFault.TheVariants.{NotATerm, Write, OutOfMemory}
 
--- the triples of a graph that are asked for: none, or the matches of a pattern
+-- the matches of a pattern, or no triple without a pattern
 abbrev pub chosen : GraphParts → Option Pattern → List Triple
 chosen g None = []
 chosen g (Some p) = matches p g.triples
 
--- all of the triples, or at most so many of the first
+-- the first `most` triples, or all of them
 abbrev pub limited : Option ℕ → List Triple → List Triple
 limited None ts = ts
 limited (Some most) ts = take most ts
 
--- what follows the term of a role in a line: a space, and behind the object the end of the line
+-- what follows the term of a role in a line: a space, and after the object also a full stop and a line feed
 abbrev pub behind : Role → List ℕ
 behind Subject = 32 ∷ []
 behind Predicate = 32 ∷ []
 behind Object = 32 ∷ 46 ∷ 10 ∷ []
 
+-- the term as it is written in a line, with what follows it
 abbrev pub line_piece : Role → Term → List ℕ
 line_piece role term = written term ++ behind role
 
--- the text has grown by the piece of the term that the string is in its role
+-- `new` is `old` with the term of the string appended, and with what follows it in a line
 pub record AppendsPiece (role : Role) (string old new : List ℕ) : Type 0 where
   pub term : Term
   pub is : IsTermOf role string term
   pub grown : new ≡ old ++ line_piece role term
 
--- the string is no term of the role, and its role and number are told
+-- the error names this role and ID, and the string is not a term that the role allows; or memory ran out
 abbrev pub TellsString : Role → ℕ → List ℕ → DumpFault → Type 0
 TellsString role n string (NotATerm other m) = (other ≡ role) × (m ≡ n) × HasNoTerm role string
 TellsString role n string (Write k) = ⊥
 TellsString role n string OutOfMemory = ⊤
 
--- the text has grown by the line of a triple
+-- `new` is `old` with the line of a triple appended
 pub record AppendsLine (g : GraphParts) (t : Triple) (old new : List ℕ) : Type 0 where
   pub terms : TermTriple
   pub are : AreTermsOf (strings_for g t) terms
   pub grown : new ≡ old ++ line terms
 
--- the first string of the triple that is no term of its role is told
+-- the error names the first string of the triple that is not a term which its role allows; or memory ran out
 abbrev pub TellsFirstOf : GraphParts → Triple → DumpFault → Type 0
 TellsFirstOf g t (NotATerm role n) = IsFirstOf (strings_for g t) role × (n ≡ part role t)
 TellsFirstOf g t (Write k) = ⊥
 TellsFirstOf g t OutOfMemory = ⊤
 
--- the text has grown by the text of triples
+-- `new` is `old` with the text of triples appended
 pub record AppendsText (g : GraphParts) (ts : List Triple) (old new : List ℕ) : Type 0 where
   pub text : List ℕ
   pub is : IsTextOf (denoted g ts) text
   pub grown : new ≡ old ++ text
 
--- the first such string of the first such triple is told
+-- the error names the first such string of the first such triple; or memory ran out
 abbrev pub TellsFirstIn : GraphParts → List Triple → DumpFault → Type 0
 TellsFirstIn g ts (NotATerm role n) = IsFirstIn g ts role n
 TellsFirstIn g ts (Write k) = ⊥
 TellsFirstIn g ts OutOfMemory = ⊤
 
--- the writer has gained the text of the triples, as long as this
+-- the text of the triples, of n bytes, was written
 pub record WritesText (g : GraphParts) (ts : List Triple) (before after : Option (List ℕ)) (n : ℕ) : Type 0 where
   pub text : List ℕ
   pub is : IsTextOf (denoted g ts) text
   pub written : Appends before after text
   pub size : n ≡ length text
 
--- the writer has gained exactly the first n bytes of the text of the triples
+-- exactly the first n bytes of the text of the triples were written, but not all of it
 pub record WritesPart (g : GraphParts) (ts : List Triple) (before after : Option (List ℕ)) (n : ℕ) : Type 0 where
   pub text : List ℕ
   pub is : IsTextOf (denoted g ts) text

@@ -1,4 +1,4 @@
--- A `Graph` as the layout sees it.
+-- The graph of a `Graph`.
 use Rattle.std.specs.Prelude.{ℕ, List, [], ◌∷◌, length}
 use Rattle.hdt_dict.specs.Views.{dictionary_of}
 use Rattle.hdt_triples.specs.Counting.{BitmapTriples, triples_of}
@@ -9,14 +9,14 @@ use Rattle.hdt_file.specs.File.{GraphParts}
 use Rattle.hdt_file.specs.declared.graph.Graph.{Graph}
 use Rattle.hdt_dict.specs.Dictionary.{sections_of}
 
--- the four sequences of its triples
+-- the bitmaps and arrays of its triples
 unfoldable pub bitmap_of_graph : Graph → BitmapTriples
 bitmap_of_graph g = bitmap_read (triples_listed g.triples)
 
--- the graph as its users see it
+-- its header body, the strings of its sections, and its triples as IDs
 unfoldable pub graph_seen : Graph → GraphParts
 graph_seen g = record { header = (parts_of g.head).body; dictionary = sections_of (dictionary_of g.dictionary); triples = triples_of (bitmap_read (triples_listed g.triples)) }
 
--- how many triples a graph has, and how many strings each section: shared, subjects, predicates, objects
+-- the number of triples, and of strings in each section: shared, subjects, predicates, objects
 abbrev pub lens_of : GraphParts → List ℕ
 lens_of g = length g.triples ∷ length g.dictionary.shared ∷ length g.dictionary.subjects ∷ length g.dictionary.predicates ∷ length g.dictionary.objects ∷ []

@@ -13,7 +13,7 @@ use crate::head::{Head, read_head};
 use hdt_dict::Dictionary;
 use std::alloc::Global;
 
-/// Reads head and dictionary, check by check.
+/// Reads the head and the dictionary, one check after another.
 #[tactic(auto, unfolding(crate::specs::Dictionary::dictionary_after_head))]
 fn read_rows<'a>(
     alloc: Global,
@@ -29,9 +29,7 @@ fn read_rows<'a>(
 }
 
 /// Reads the head of a file and its dictionary. Returns them with the byte offset after the dictionary. What follows is
-/// not read.
-///
-/// Linear time in the bytes up to that offset.
+/// not read. Linear time in the bytes up to that offset.
 ///
 /// # Errors
 ///
@@ -47,7 +45,7 @@ pub fn read_dictionary<'a>(
 ) -> Result<(Head<'a>, Dictionary<'a>, usize), OpenFault>
     // What is returned is encoded at the start of the file.
     ensures found { IfOk result (λ r. IsHeadAndDictionary (described r) bytes.now) }
-    // Whatever is encoded there is returned, unless memory ran out.
+    // What is encoded there is returned, unless memory ran out.
     ensures only { (front : HeadAndDictionary) → IsHeadAndDictionary front bytes.now → Gives open_fault_of described result (Ok front) }
     // Otherwise it is the first error.
     ensures exact { Gives open_fault_of described result (dictionary_after_head bytes.now) }
@@ -58,7 +56,7 @@ pub fn read_dictionary<'a>(
     read_rows(alloc, bytes)
 }
 
-/// The checks of head and dictionary give exactly those that are encoded at the start of the file.
+/// The checks of the head and the dictionary are exact: they return what is encoded at the start of the file.
 pub fn fronts_are_exact()
     ensures { (bytes : List ℕ) → IsBytes bytes → length bytes < 2 ^ 64 → Exactly (dictionary_after_head bytes) (λ front. IsHeadAndDictionary front bytes) }
 {}

@@ -12,10 +12,10 @@ use thiserror::Error;
 /// Why a file, or its dictionary, could not be read.
 #[derive(Clone, Copy, Debug, PartialEq, Eq, Error)]
 pub enum OpenFault {
-    /// The file is not valid: this is its first error. Reading it again gives the same result.
+    /// The file is not valid; this is its first error. Reading it again gives the same result.
     #[error("the file has a fault: {0}")]
     Fault(hdt_wire::Fault),
-    /// Memory ran out; nothing is known of the file. With more memory the call can be repeated.
+    /// Memory ran out; this says nothing of the file. The call can be repeated when there is more memory.
     #[error("out of memory")]
     OutOfMemory,
 }
@@ -39,7 +39,7 @@ impl From<ReadFault> for OpenFault {
     }
 }
 
-/// Why the text of a graph's triples was not written, or not completely.
+/// Why the text of a graph's triples was not written, or only in part.
 #[derive(Clone, Copy, Debug, PartialEq, Eq, Error)]
 pub enum DumpFault {
     /// The string of this role with this ID, from 1, is not a term that the role allows: the first such string of the
@@ -49,7 +49,7 @@ pub enum DumpFault {
     /// The writer failed after this number of bytes of the text.
     #[error("writing failed after {0} bytes")]
     Write(u64),
-    /// Memory ran out, and nothing was written. With more memory the call can be repeated.
+    /// Memory ran out, and nothing was written. The call can be repeated when there is more memory.
     #[error("out of memory")]
     OutOfMemory,
 }

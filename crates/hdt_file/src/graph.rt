@@ -11,8 +11,8 @@ use hdt_seq::Steps;
 use hdt_triples::ListedTriples;
 use std::alloc::{AllocError, Global};
 
-/// An open file. It borrows the input, and keeps only the indexes of its triples: [`Graph::held`] numbers of 8 bytes.
-/// `crates/example` is a program that uses it.
+/// An open file. It borrows the input, and keeps only the indexes of its triples, which are [`Graph::held`] `u64`
+/// values. `crates/example` is a program that uses it.
 ///
 /// ```text
 /// let graph = open(alloc, bytes)?;
@@ -43,9 +43,9 @@ impl<'a> Graph<'a> {
     ghost use Rattle.hdt_file.specs.Views.{graph_seen};
     ghost use Rattle.hdt_dict.specs.Dictionary.{strings_in};
 
-    /// The law that this is a graph: the strings of each section are UTF-8 without zero bytes and ascend, no string is
-    /// in two of shared, subjects and objects, there is at least one triple, the triples strictly ascend, and each ID
-    /// is that of a string of its role.
+    /// A law: this is the graph of a valid file. The strings of each section are UTF-8 without zero bytes and strictly
+    /// ascend; no string is in two of shared, subjects and objects; there is at least one triple; the triples strictly
+    /// ascend; each ID is that of a string of its role.
     #[tactic(auto, unfolding(crate::specs::Views::graph_seen))]
     pub fn is_graph(&self)
         ensures { IsGraph (graph_seen self.now) }
@@ -88,12 +88,12 @@ impl<'a> Graph<'a> {
         self.dictionary.section_lens()
     }
 
-    /// Returns how many numbers of 8 bytes the graph keeps beside the input.
+    /// Returns the number of `u64` values that the graph keeps in memory, besides the input.
     #[tactic(auto, unfolding(crate::specs::PartsViews::graph_parts))]
     pub fn held(&self) -> u128
         ensures { result ≡ held_by (graph_parts self.now) }
     {
-        // (the pattern names every field, so a new one doesn't compile until it is counted here)
+        // (The pattern names every field, so a new one doesn't compile until it is counted here.)
         let Graph {
             head,
             dictionary,
@@ -112,14 +112,14 @@ impl<'a> Graph<'a> {
         self.dictionary.count(role)
     }
 
-    /// Returns an iteration over the strings of a role, in the order of their IDs, each decoded once.
+    /// Returns a cursor over the strings of a role, in the order of their IDs. Each is decoded once.
     pub fn strings(&self, alloc: Global, role: Role) -> Strings<'a>
         ensures { result ≡ record { given = 0; last = []; ahead = strings_in (graph_seen self.now).dictionary role } }
     {
         self.dictionary.strings(alloc, role)
     }
 
-    /// Returns whether a triple has the ID n, from 1, in the role. At most two steps.
+    /// Returns whether a triple has the ID n, from 1, in the role, in at most two steps.
     pub fn uses(&self, role: Role, n: u64, steps: &mut Steps) -> bool
         ensures exact { IsTrue result ↔ Uses (graph_seen self.now).triples role n }
         ensures cost { steps.new ≤ steps.old + 2 }
@@ -127,8 +127,8 @@ impl<'a> Graph<'a> {
         self.triples.uses(role, n, steps)
     }
 
-    /// Returns the ID of a string in a role, from 1, or `None` if the role has no such string. A binary search over the
-    /// blocks of the role's sections, then a scan of a block.
+    /// Returns the ID of a string in a role, from 1, or `None` if the role has no such string. It costs a binary search
+    /// over the blocks of the role's sections and a scan of one block of each.
     #[tactic(auto, unfolding(crate::specs::Views::graph_seen, crate::specs::PartsViews::graph_parts))]
     pub fn number_of(&self, role: Role, x: &[u8], steps: &mut Steps) -> Option<u64>
         ensures exact { (n : ℕ) → (result ≡ Some n) ↔ (numbered (strings_in (graph_seen self.now).dictionary role) n ≡ Some x.now) }

@@ -7,7 +7,7 @@ ghost use Rattle.hdt_file.specs.Head.{HeadParts, parts_of, length_in, body_lengt
 use crate::decimal::decimal;
 use hdt_wire::{Control, Fault, Kind, Reason, bytes_at, property, read_control};
 
-/// The head of a file that was read. It borrows from the input.
+/// The head of a file. It borrows the input.
 #[derive(Clone, Copy)]
 pub struct Head<'a> {
     global: Control<'a>,
@@ -59,7 +59,7 @@ fn length_in(properties: &[u8]) -> Option<u64>
     decimal(property(properties, b"length")?)
 }
 
-/// The length of the header body in bytes, by the property `length`.
+/// The length of the header body in bytes, as the property `length` states it.
 fn body_length(header: &Control<'_>) -> Result<u64, Fault>
     ensures { result ≡ body_length (block_of header.now) }
 {
@@ -69,7 +69,7 @@ fn body_length(header: &Control<'_>) -> Result<u64, Fault>
     })
 }
 
-/// Reads the head, check by check.
+/// Reads the head, one check after another.
 #[tactic(auto, unfolding(crate::specs::Head::head_at_start, crate::specs::Head::parts_of))]
 fn read_rows<'a>(bytes: &'a [u8]) -> Result<Head<'a>, Fault>
     ensures exact { Reads parts_of result (head_at_start bytes.now) }
@@ -90,13 +90,13 @@ fn read_rows<'a>(bytes: &'a [u8]) -> Result<Head<'a>, Fault>
 ///
 /// # Errors
 ///
-/// The first of these, in this order: those of the global control information, those of the header's, `HeaderLength` at
-/// the offset of the header's properties if `length` is not a decimal number below 2^64, `Truncated` at the offset of
-/// the body if there are fewer bytes.
+/// The first of these, in this order: those of the global control information; those of the header's control
+/// information; `HeaderLength`, at the offset of the header's properties, if `length` is not a decimal number below
+/// 2^64; `Truncated`, at the offset of the body, if there are fewer bytes.
 pub fn read_head<'a>(bytes: &'a [u8]) -> Result<Head<'a>, Fault>
     // What is returned is encoded at the start of the file.
     ensures found { IfOk result (λ head. IsHead (parts_of head) bytes.now) }
-    // Whatever is encoded there is returned.
+    // What is encoded there is returned.
     ensures only { (head : HeadParts) → IsHead head bytes.now → Reads parts_of result (Ok head) }
     // Otherwise it is the first error.
     ensures exact { Reads parts_of result (head_at_start bytes.now) }
@@ -104,7 +104,7 @@ pub fn read_head<'a>(bytes: &'a [u8]) -> Result<Head<'a>, Fault>
     read_rows(bytes)
 }
 
-/// Fewer than 2^64 bytes have at most one head at their start.
+/// At most one head is encoded at the start of fewer than 2^64 bytes.
 pub fn one_head()
     ensures { (bytes : List ℕ) (a b : HeadParts) → IsBytes bytes → length bytes < 2 ^ 64
         → IsHead a bytes → IsHead b bytes → a ≡ b }

@@ -15,7 +15,7 @@ use hdt_wire::{Reason, demand};
 use std::alloc::{AllocError, Global};
 
 /// A file that was read, without indexes. It borrows the input and keeps nothing else, so copies are cheap. Its calls
-/// return the same as those of a [`crate::Graph`], but a search scans all triples. For a single request this is faster,
+/// return the same as those of a [`crate::Graph`], but a search scans all triples. This is faster for a single request,
 /// as no index is built; for more, open the file ([`crate::open`]).
 ///
 /// ```text
@@ -61,7 +61,7 @@ impl<'a> Layout<'a> {
     ghost use Rattle.hdt_file.specs.Views.{lens_of};
     ghost use Rattle.hdt_dict.specs.Dictionary.{strings_in};
 
-    /// Reads a file, check by check.
+    /// Reads a file, one check after another.
     #[tactic(auto, unfolding(crate::specs::Laws::Parts::parts_rows, crate::specs::PartsViews::layout_parts))]
     fn read_rows(alloc: Global, bytes: &'a [u8]) -> Result<Layout<'a>, OpenFault>
         ensures { Gives open_fault_of layout_parts result (parts_rows bytes.now) }
@@ -76,15 +76,16 @@ impl<'a> Layout<'a> {
         })
     }
 
-    /// Reads a file, or returns its first error, as [`crate::open`] does. Linear time in the bytes; it keeps nothing.
+    /// Reads a file, or returns its first error, as [`crate::open`] does. Linear time in the bytes. It allocates only
+    /// while it runs.
     pub fn read(alloc: Global, bytes: &'a [u8]) -> Result<Layout<'a>, OpenFault>
-        // The bytes are a layout of the graph that is returned.
+        // The bytes encode the graph that is returned.
         ensures found { IfOk result (λ layout. IsLayout bytes.now (layout_seen layout)) }
-        // If the bytes are a layout of a graph, it is returned, unless memory ran out.
+        // If the bytes encode a graph, it is returned, unless memory ran out.
         ensures only { (graph : GraphParts) → IsLayout bytes.now graph → Gives open_fault_of layout_seen result (Ok graph) }
         // Otherwise it is the first error.
         ensures exact { Gives open_fault_of layout_seen result (graph_in bytes.now) }
-        // Its parts are those of the bytes.
+        // Its parts are those that the bytes encode.
         ensures parts { Gives open_fault_of layout_parts result (parts_in bytes.now) }
     {
         Layout::read_rows(alloc, bytes)
@@ -113,15 +114,15 @@ impl<'a> Layout<'a> {
         self.dictionary.count(role)
     }
 
-    /// Returns an iteration over the strings of a role, in the order of their IDs, each decoded once.
+    /// Returns a cursor over the strings of a role, in the order of their IDs. Each is decoded once.
     pub fn strings(&self, alloc: Global, role: Role) -> Strings<'a>
         ensures { result ≡ record { given = 0; last = []; ahead = strings_in (layout_seen self.now).dictionary role } }
     {
         self.dictionary.strings(alloc, role)
     }
 
-    /// Returns the ID of a string in a role, from 1, or `None` if the role has no such string. A binary search over the
-    /// blocks of the role's sections, then a scan of a block.
+    /// Returns the ID of a string in a role, from 1, or `None` if the role has no such string. It costs a binary search
+    /// over the blocks of the role's sections and a scan of one block of each.
     #[tactic(auto, unfolding(crate::specs::LayoutView::layout_seen, crate::specs::PartsViews::layout_parts))]
     pub fn number_of(&self, role: Role, x: &[u8], steps: &mut Steps) -> Option<u64>
         ensures exact { (n : ℕ) → (result ≡ Some n) ↔ (numbered (strings_in (layout_seen self.now).dictionary role) n ≡ Some x.now) }
@@ -150,7 +151,8 @@ impl<'a> Layout<'a> {
         self.dictionary.string_of(role, n, out, steps)
     }
 
-    /// The ID of a string in a role, or any if no string is given; `None` if the role has no such string.
+    /// The ID of the given string in a role, or `Some(None)` (any ID) without one; `None` if the role has no such
+    /// string.
     fn part(&self, role: Role, given: Option<&[u8]>, steps: &mut Steps) -> Option<Option<u64>>
         ensures exact { (n : Option ℕ) → (result ≡ Some n) ↔ IsPart (strings_in (layout_seen self.now).dictionary role) given.entry n }
         ensures cost { steps.new ≤ steps.old + part_looks (dictionary_in (layout_parts self.now)) role given.entry }
@@ -162,10 +164,10 @@ impl<'a> Layout<'a> {
         }
     }
 
-    /// Returns the pattern with the IDs of the strings that are given, each in its role, or `None` if one of them is
-    /// not a string of its role. Each is looked up once.
+    /// Returns the pattern with the IDs of the given strings, each in its role, or `None` if one of them is not a
+    /// string of its role. Each is searched once.
     pub fn pattern(&self, given: [Option<&[u8]>; 3], steps: &mut Steps) -> Option<Pattern>
-        // It is p exactly if p has the IDs of the strings that are given.
+        // It is p if and only if p has the IDs of the given strings.
         ensures exact { (p : Pattern) → (result ≡ Some p) ↔ IsPattern (layout_seen self.now) given.entry p }
         ensures cost { steps.new ≤ steps.old + given_looks (dictionary_in (layout_parts self.now)) given.entry }
         ensures more { steps.old ≤ steps.new }
@@ -178,19 +180,19 @@ impl<'a> Layout<'a> {
         })
     }
 
-    /// Finds the matches of a pattern: exactly the triples with each ID that is given, once each, in the order of the
-    /// file. It scans all triples, in at most four steps each, and allocates nothing.
+    /// Returns the matches of a pattern: exactly the triples with each given ID, once each, in the order of the file.
+    /// It scans all triples, in at most four steps each, and allocates nothing.
     pub fn search(&self, pattern: Pattern) -> Matches<'a>
         ensures items { left_of result ≡ matches pattern (layout_seen self.now).triples }
         ensures fits { length (left_of result) < 2 ^ 64 }
-        // The steps of this call and of all its items.
+        // The steps of this call and of all its items are at most this.
         ensures few { limit_of result ≡ 4 * length (layout_seen self.now).triples }
     {
         self.triples.find(pattern)
     }
 
-    /// Returns the number of matches of a pattern, but at most `most`. It scans the triples, in at most four steps each,
-    /// until `most` are counted, unless nothing is given, and allocates nothing.
+    /// Returns the number of matches of a pattern, or `most` if there are more. It scans the triples, in at most four
+    /// steps each, until `most` are counted, unless nothing is given. It allocates nothing.
     #[tactic(auto, unfolding(crate::specs::LayoutView::layout_seen, crate::specs::PartsViews::layout_parts))]
     pub fn matching_up_to(&self, pattern: Pattern, most: u64, steps: &mut Steps) -> u64
         ensures is { result ≡ min most (length (matches pattern (layout_seen self.now).triples)) }
@@ -201,7 +203,7 @@ impl<'a> Layout<'a> {
     }
 
     /// Returns the number of matches of a pattern. It scans all triples, in at most four steps each, unless nothing is
-    /// given, and allocates nothing.
+    /// given. It allocates nothing.
     #[tactic(auto, unfolding(crate::specs::LayoutView::layout_seen, crate::specs::PartsViews::layout_parts))]
     pub fn matching(&self, pattern: Pattern, steps: &mut Steps) -> u64
         ensures is { result ≡ length (matches pattern (layout_seen self.now).triples) }

@@ -1,8 +1,8 @@
-//! HDT files (HDT format version 1): the head (global control information, that of the header, and the header body),
-//! the dictionary, the triples, and nothing after them.
+//! HDT files (HDT format version 1): a head (global control information, that of the header, and the header body), a
+//! dictionary and triples, with nothing after them.
 //!
-//! What this crate promises: `open` returns the graph of a file if its bytes are a layout of one, else the first error
-//! with its byte offset. Look-ups and searches return exactly what the graph has.
+//! What this crate promises: `open` returns the graph that the bytes of a valid file encode, or the first error with
+//! its byte offset. Look-ups and searches return exactly what the graph has.
 //!
 //! Functions that state no cost take constant time and allocate nothing. Laws do nothing when called.
 //!

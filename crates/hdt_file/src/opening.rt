@@ -15,7 +15,7 @@ use crate::graph::Graph;
 use crate::layout::Layout;
 use std::alloc::Global;
 
-/// The graph of a layout, with the indexes of its triples.
+/// The graph of a layout: builds the indexes of its triples.
 #[tactic(auto, unfolding(crate::specs::Views::graph_seen, crate::specs::PartsViews::graph_parts, crate::specs::LayoutView::layout_seen, crate::specs::PartsViews::layout_parts))]
 pub(crate) fn with_lists(alloc: Global, layout: Layout<'_>) -> Result<Graph<'_>, OpenFault>
     ensures seen { Gives open_fault_of graph_seen result (Ok (layout_seen layout.entry)) }
@@ -34,7 +34,7 @@ pub(crate) fn with_lists(alloc: Global, layout: Layout<'_>) -> Result<Graph<'_>,
     })
 }
 
-/// Opens a file, check by check.
+/// Opens a file, one check after another.
 fn open_rows<'a>(alloc: Global, bytes: &'a [u8]) -> Result<Graph<'a>, OpenFault>
     ensures seen { Gives open_fault_of graph_seen result (graph_in bytes.now) }
     ensures parts { Gives open_fault_of graph_parts result (parts_in bytes.now) }
@@ -46,26 +46,26 @@ fn open_rows<'a>(alloc: Global, bytes: &'a [u8]) -> Result<Graph<'a>, OpenFault>
 /// Opens a file: returns its graph, or its first error.
 ///
 /// It reads the bytes once, then builds the indexes of the triples. Linear time in the bytes. The graph borrows the
-/// bytes, and keeps [`Graph::held`] numbers of 8 bytes.
+/// bytes, and keeps [`Graph::held`] `u64` values.
 ///
 /// ```text
 /// let graph = open(alloc, bytes)?;
 /// let subjects = graph.count(Role::Subject);
 /// ```
 pub fn open<'a>(alloc: Global, bytes: &'a [u8]) -> Result<Graph<'a>, OpenFault>
-    // The bytes are a layout of the graph that is returned.
+    // The bytes encode the graph that is returned.
     ensures found { IfOk result (λ graph. IsLayout bytes.now (graph_seen graph)) }
-    // If the bytes are a layout of a graph, it is returned, unless memory ran out.
+    // If the bytes encode a graph, it is returned, unless memory ran out.
     ensures only { (graph : GraphParts) → IsLayout bytes.now graph → Gives open_fault_of graph_seen result (Ok graph) }
     // Otherwise it is the first error.
     ensures exact { Gives open_fault_of graph_seen result (graph_in bytes.now) }
-    // Its parts are those of the bytes: the costs of its calls are stated by their block sizes and bitmaps.
+    // Its parts are those that the bytes encode; the costs of its calls depend on them.
     ensures parts { Gives open_fault_of graph_parts result (parts_in bytes.now) }
 {
     open_rows(alloc, bytes)
 }
 
-/// Verifies a file, check by check.
+/// Verifies a file, one check after another.
 fn verify_rows(alloc: Global, bytes: &[u8]) -> Result<[u64; 5], OpenFault>
     ensures { Gives open_fault_of (λ lens. lens) result (seen lens_of (graph_in bytes.now)) }
 {
@@ -73,12 +73,12 @@ fn verify_rows(alloc: Global, bytes: &[u8]) -> Result<[u64; 5], OpenFault>
     Ok(layout.lens())
 }
 
-/// Verifies a file: returns its number of triples and of the strings of each section (shared, subjects, predicates,
-/// objects), or its first error. Linear time; it builds no index, and holds at most three strings at a time.
+/// Verifies a file: returns its number of triples, and of the strings of each section (shared, subjects, predicates,
+/// objects), or its first error. Linear time. It builds no index, and holds at most three strings at a time.
 pub fn verify(alloc: Global, bytes: &[u8]) -> Result<[u64; 5], OpenFault>
-    // The bytes are a layout of a graph with these counts.
+    // The bytes encode a graph with these counts.
     ensures found { IfOk result (λ lens. Seen lens_of (IsLayout bytes.now) lens) }
-    // If the bytes are a layout of a graph, its counts are returned, unless memory ran out.
+    // If the bytes encode a graph, its counts are returned, unless memory ran out.
     ensures only { (graph : GraphParts) → IsLayout bytes.now graph → Gives open_fault_of (λ lens. lens) result (Ok (lens_of graph)) }
     // Otherwise it is the first error.
     ensures exact { Gives open_fault_of (λ lens. lens) result (seen lens_of (graph_in bytes.now)) }
@@ -86,8 +86,8 @@ pub fn verify(alloc: Global, bytes: &[u8]) -> Result<[u64; 5], OpenFault>
     verify_rows(alloc, bytes)
 }
 
-/// Bytes are a layout of at most one graph, and are either a layout or have a first error. The parts of a file are
-/// those of its graph.
+/// Bytes encode at most one graph. Either they encode one, or they have a first error. The parts of a file are those of
+/// its graph.
 pub fn one_layout()
     ensures exact { (bytes : List ℕ) → IsBytes bytes → length bytes < 2 ^ 64 → Exactly (graph_in bytes) (IsLayout bytes) }
     ensures one { (bytes : List ℕ) (g h : GraphParts) → IsBytes bytes → length bytes < 2 ^ 64 → IsLayout bytes g → IsLayout bytes h → g ≡ h }
@@ -97,9 +97,9 @@ pub fn one_layout()
     ensures file_parts { (bytes : List ℕ) (file : FileParts) → IsBytes bytes → length bytes < 2 ^ 64 → IsFile file bytes → parts_in bytes ≡ Ok (parts_from file) }
 {}
 
-/// In the graph of a layout the strings of each section are UTF-8 without zero bytes and ascend, no string is in two of
-/// shared, subjects and objects, there is at least one triple, the triples strictly ascend, and each ID is that of a
-/// string of its role.
+/// In the graph of a valid file the strings of each section are UTF-8 without zero bytes and strictly ascend; no string
+/// is in two of shared, subjects and objects; there is at least one triple; the triples strictly ascend; each ID is
+/// that of a string of its role.
 pub fn layouts_are_graphs()
     ensures { (bytes : List ℕ) (g : GraphParts) → IsLayout bytes g → IsGraph g }
 {}

@@ -16,24 +16,25 @@ use hdt_triples::{Matches, Pattern};
 
 #[tactic(auto, unfolding(crate::specs::Views::graph_seen, crate::specs::PartsViews::graph_parts))]
 impl<'a> Graph<'a> {
-    /// Finds the matches of a pattern: exactly the triples with each ID that is given, once each, in the order of the
-    /// file. Its steps are at most those of the table; it allocates nothing.
+    /// Returns the matches of a pattern: exactly the triples with each given ID, once each, in the order of the file.
+    /// The clauses `few` and `short` bound its steps. It allocates nothing.
     pub fn search(&self, pattern: Pattern) -> Matches<'_>
         ensures items { left_of result ≡ matches pattern (graph_seen self.now).triples }
         ensures fits { length (left_of result) < 2 ^ 64 }
-        // The steps of this call and of all its items are at most those of the table.
+        // The steps of this call and of all its items together are at most these.
         ensures few { limit_of result ≡ most_steps (bitmap_in (graph_parts self.now)) pattern }
-        // And they are at most that of the table of the shorter lists.
+        // They are also at most these, for a search in the shorter of two inverted lists.
         ensures short { short_limit_of result ≤ short_steps (bitmap_in (graph_parts self.now)) pattern }
     {
         self.triples.find(pattern)
     }
 
-    /// Returns the number of matches of a pattern, but at most `most`: with 1, whether there is one. Its steps are
-    /// those of [`Graph::matching`]; where matches are counted one by one, it stops at `most`. It allocates nothing.
+    /// Returns the number of matches of a pattern, or `most` if there are more: with 1, whether there is a match. Its
+    /// steps are those of [`Graph::matching`]; if it counts the matches one by one, it stops at `most`. It allocates
+    /// nothing.
     pub fn matching_up_to(&self, pattern: Pattern, most: u64, steps: &mut Steps) -> u64
         ensures is { result ≡ min most (length (matches pattern (graph_seen self.now).triples)) }
-        // The steps are at most the table's number, and that of the table of the shorter lists.
+        // The steps are at most either of these two numbers.
         ensures cost { steps.new ≤ steps.old + counting_steps (bitmap_in (graph_parts self.now)) pattern }
         ensures short { steps.new ≤ steps.old + short_counting_steps (bitmap_in (graph_parts self.now)) most pattern }
         ensures more { steps.old ≤ steps.new }
@@ -41,12 +42,12 @@ impl<'a> Graph<'a> {
         self.triples.matching_up_to(pattern, most, steps)
     }
 
-    /// Returns the number of matches of a pattern. If nothing is given, or a subject, a subject and a predicate, or
-    /// only an object, its steps don't grow with the matches; with a subject and an object they grow with the logarithm
-    /// of the object's triples. They are at most those of the table. It allocates nothing.
+    /// Returns the number of matches of a pattern. Its steps don't grow with the matches if nothing is given, or a
+    /// subject, a subject and a predicate, or only an object; with a subject and an object they grow with the logarithm
+    /// of the object's triples. It allocates nothing.
     pub fn matching(&self, pattern: Pattern, steps: &mut Steps) -> u64
         ensures is { result ≡ length (matches pattern (graph_seen self.now).triples) }
-        // The steps are at most the table's number, and that of the table of the shorter lists.
+        // The steps are at most either of these two numbers.
         ensures cost { steps.new ≤ steps.old + counting_steps (bitmap_in (graph_parts self.now)) pattern }
         ensures short { steps.new ≤ steps.old + short_counting_steps (bitmap_in (graph_parts self.now)) (2 ^ 64 - 1) pattern }
         ensures more { steps.old ≤ steps.new }
@@ -54,10 +55,10 @@ impl<'a> Graph<'a> {
         self.triples.matching(pattern, steps)
     }
 
-    /// Returns the pattern with the IDs of the strings that are given, each in its role, or `None` if one of them is
-    /// not a string of its role. Each is looked up once.
+    /// Returns the pattern with the IDs of the given strings, each in its role, or `None` if one of them is not a
+    /// string of its role. Each is searched once.
     pub fn pattern(&self, given: [Option<&[u8]>; 3], steps: &mut Steps) -> Option<Pattern>
-        // It is p exactly if p has the IDs of the strings that are given.
+        // It is p if and only if p has the IDs of the given strings.
         ensures exact { (p : Pattern) → (result ≡ Some p) ↔ IsPattern (graph_seen self.now) given.entry p }
         ensures cost { steps.new ≤ steps.old + given_looks (dictionary_in (graph_parts self.now)) given.entry }
         ensures more { steps.old ≤ steps.new }
@@ -65,20 +66,19 @@ impl<'a> Graph<'a> {
         self.layout().pattern(given, steps)
     }
 
-    /// Finds the triples that have each string that is given in its role, as [`Graph::search`] does; there are none if
-    /// a string is not one of its role. It allocates nothing.
+    /// Returns the triples that have each given string in its role, as [`Graph::search`] does; there are none if a
+    /// string is not one of its role. It allocates nothing.
     #[tactic(auto, unfolding(crate::specs::Views::graph_seen, crate::specs::PartsViews::graph_parts, hdt_triples::specs::Left::left_of, hdt_triples::specs::Left::limit_of, hdt_triples::specs::Left::short_limit_of))]
     pub fn find(&self, given: [Option<&[u8]>; 3], steps: &mut Steps) -> Matches<'_>
-        // As string triples: exactly those of the denoted graph that have each given string in its role, in order.
+        // As triples of strings: exactly those of the denoted graph that have each given string in its role, in order.
         ensures answers { denoted (graph_seen self.now) (left_of result) ≡ filter (is_wanted given.entry) (denoted (graph_seen self.now) (graph_seen self.now).triples) }
-        // The matches of the pattern of the strings.
+        // They are the matches of the pattern of the given strings.
         ensures items { (p : Pattern) → IsPattern (graph_seen self.now) given.entry p → left_of result ≡ matches p (graph_seen self.now).triples }
-        // If a string is not one of its role there are none.
+        // If a string is not one of its role, there are none.
         ensures none { ((p : Pattern) → IsPattern (graph_seen self.now) given.entry p → ⊥) → left_of result ≡ [] }
         ensures fits { length (left_of result) < 2 ^ 64 }
         ensures cost { steps.new ≤ steps.old + given_looks (dictionary_in (graph_parts self.now)) given.entry }
-        // The steps of the items are at most those of the table, apart from those of the look-ups; none if there are
-        // none.
+        // The steps of the items are at most those of `search`, not counting those of the look-ups.
         ensures few { (p : Pattern) → IsPattern (graph_seen self.now) given.entry p → limit_of result ≡ most_steps (bitmap_in (graph_parts self.now)) p }
         ensures short { (p : Pattern) → IsPattern (graph_seen self.now) given.entry p → short_limit_of result ≤ short_steps (bitmap_in (graph_parts self.now)) p }
         ensures idle { ((p : Pattern) → IsPattern (graph_seen self.now) given.entry p → ⊥) → limit_of result ≡ 0 }

@@ -9,9 +9,9 @@ ghost use Rattle.hdt_file.specs.Graph.{IsGraph};
 ghost use Rattle.hdt_file.specs.Search.{IsPattern};
 ghost use Rattle.hdt_file.specs.StringTriples.{AreOnce, is_wanted};
 
-/// A search by strings finds the wanted triples: the matches of the pattern of the given strings denote exactly the
-/// triples of the denoted graph that have each given string in its role, in the same order; if the strings have no
-/// pattern, no triple of the denoted graph has them.
+/// A search by strings is a filter of the denoted graph: the matches of the pattern of the given strings denote exactly
+/// the triples that have each given string in its role, in the same order. If there is no such pattern, no triple has
+/// the strings.
 pub fn answers_are_the_wanted()
     ensures some { (g : GraphParts) (given : List (Option Lent)) (p : Pattern) → IsGraph g → IsPattern g given p →
         denoted g (matches p g.triples) ≡ filter (is_wanted given) (denoted g g.triples) }
@@ -19,7 +19,7 @@ pub fn answers_are_the_wanted()
         filter (is_wanted given) (denoted g g.triples) ≡ [] }
 {}
 
-/// No string triple is in the denoted graph twice, so a search finds none twice.
+/// No triple of strings occurs twice in the denoted graph, so a search finds none twice.
 pub fn denoted_once()
     ensures { (g : GraphParts) → IsGraph g → AreOnce (denoted g g.triples) }
 {}

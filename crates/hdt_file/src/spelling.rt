@@ -1,4 +1,4 @@
-//! Writing the strings of a graph as terms of N-Triples.
+//! Writing the strings of a graph as N-Triples terms.
 ghost use Rattle.std.specs.Prelude.{◌≡◌, ◌↔◌, ◌++◌, ◌∷◌, [], None, Some, IfErr, IfOk, OnOk, OnErr, IsErrOf, IfSome, IsTrue};
 ghost use Rattle.std.specs.List.{All};
 ghost use Rattle.hdt_terms.specs.Strings.{kind_of};
@@ -21,7 +21,8 @@ use hdt_terms::{Kind, StringFault, put_string};
 use hdt_wire::cut_on_error;
 use std::alloc::{AllocError, Global};
 
-/// Whether a role allows terms of this kind: IRIs and blank nodes as subjects, IRIs as predicates, all as objects.
+/// Whether a role allows terms of this kind: a subject is an IRI or a blank node, a predicate is an IRI, an object is
+/// any term.
 fn fits(role: Role, kind: Kind) -> bool
     ensures { (term : Term) → kind ≡ kind_of term → IsTrue result ↔ FitsRole role term }
 {
@@ -45,7 +46,8 @@ fn append_behind(role: Role, out: &mut Vec<u8>) -> Result<(), AllocError>
     }
 }
 
-/// Appends what a string of the role is in a line: its term and what follows it. After an error `out` is unchanged.
+/// Appends a string of the role as it is written in a line: its term and what follows it. After an error `out` is
+/// unchanged.
 pub fn put_role_piece(role: Role, string: &[u8], out: &mut Vec<u8>) -> Result<(), StringFault>
     ensures ok { OnOk result (AppendsPiece role string.now out.old.items out.new.items) }
     ensures none { IsErrOf result StringFaultOf.NotATerm → HasNoTerm role string.now }
@@ -61,7 +63,7 @@ pub fn put_role_piece(role: Role, string: &[u8], out: &mut Vec<u8>) -> Result<()
     Ok(cut_on_error(appended, len, out)?)
 }
 
-/// Appends what string n of a role is in a line. `string` is a buffer. After an error `out` is unchanged.
+/// Appends string n of a role as it is written in a line. `string` is a buffer. After an error `out` is unchanged.
 fn append_spelled(
     layout: &Layout<'_>,
     role: Role,
@@ -82,14 +84,14 @@ fn append_spelled(
     }
 }
 
-/// The last string of a role as it is in a line: its term and what follows it, kept for lines with the same string.
+/// A string of a role as it is written in a line, cached for lines with the same string.
 #[derive(Drop)]
 struct Spelled {
     number: Option<u64>,
     text: Vec<u8>,
 }
 
-/// The capacity of a buffer for a term or a string at first: most are not longer.
+/// The initial capacity of a buffer for a term or a string; most are not longer.
 const TERM: usize = 128;
 
 impl Spelled {
@@ -102,7 +104,7 @@ impl Spelled {
         })
     }
 
-    /// Makes string n of a role the last one, unless it is.
+    /// Caches string n of a role, unless it is the cached one.
     fn spell(
         &mut self,
         layout: &Layout<'_>,
@@ -125,7 +127,7 @@ impl Spelled {
         Ok(())
     }
 
-    /// Appends what string n of a role is in a line, as kept if it is the last one.
+    /// Appends string n of a role as it is written in a line, and caches it.
     fn put(
         &mut self,
         layout: &Layout<'_>,
@@ -145,7 +147,7 @@ impl Spelled {
         Ok(out.extend_from_slice(&self.text)?)
     }
 
-    /// Copies the term of string n.
+    /// Caches string n, which is written as `text`.
     fn take(&mut self, n: u64, text: &[u8]) -> Result<(), AllocError>
         ensures number { OnOk result (self.new.number ≡ Some n) }
         ensures text { OnOk result (self.new.text.items ≡ text.now) }
@@ -159,18 +161,18 @@ impl Spelled {
     }
 }
 
-/// The number of predicates whose terms a speller keeps.
+/// The number of predicates whose terms are cached.
 const KEPT: usize = 256;
 
-/// The greatest length of a term that is kept.
+/// The greatest length of a predicate's term that is cached.
 const SHORT: usize = 256;
 
-/// The index of predicate n among those that are kept.
+/// The cache slot of predicate n.
 fn place_of(n: u64) -> usize {
     (n % KEPT as u64) as usize
 }
 
-/// The term of predicate n, if it is kept.
+/// The cached term of predicate n.
 fn kept_term(kept: &[Spelled], n: u64) -> Option<&[u8]>
     ensures { (g : GraphParts) → All (KeepsPredicate g) kept.now → IfSome result (λ text. KeepsTerm g Predicate (Some n) text.now) }
 {
@@ -182,7 +184,7 @@ fn kept_term(kept: &[Spelled], n: u64) -> Option<&[u8]>
     }
 }
 
-/// Keeps the term of predicate n, if it is short and no other predicate has its index. What is kept stays.
+/// Caches the term of predicate n, if it is short and its slot is free. A slot is never overwritten.
 fn keep(kept: &mut Vec<Spelled>, n: u64, text: &[u8]) -> Result<(), AllocError>
     ensures { (g : GraphParts) → All (KeepsPredicate g) kept.old.items → KeepsTerm g Predicate (Some n) text.now → All (KeepsPredicate g) kept.new.items }
 {
@@ -193,7 +195,7 @@ fn keep(kept: &mut Vec<Spelled>, n: u64, text: &[u8]) -> Result<(), AllocError>
     Ok(())
 }
 
-/// Slots for terms of predicates.
+/// Free slots for the terms of predicates.
 fn places(alloc: Global, count: usize) -> Result<Vec<Spelled>, AllocError>
     ensures { IfOk result (λ kept. (g : GraphParts) → All (KeepsPredicate g) kept.items) }
 {
@@ -204,8 +206,8 @@ fn places(alloc: Global, count: usize) -> Result<Vec<Spelled>, AllocError>
     Ok(kept)
 }
 
-/// What is kept from line to line of one graph's N-Triples: a decoded string, the last term of each role, and terms of
-/// predicates. An object is kept once it is repeated.
+/// A writer of N-Triples terms. It caches what lines of one graph have in common: the last term of each role, and terms
+/// of predicates. An object is cached once it is repeated.
 #[derive(Drop)]
 pub struct Speller {
     string: Vec<u8>,
@@ -217,7 +219,7 @@ pub struct Speller {
 }
 
 impl Speller {
-    /// A speller that keeps nothing yet, with so many slots for predicates.
+    /// A writer with an empty cache that has `count` slots for predicates.
     fn with_places(alloc: Global, count: usize) -> Result<Speller, AllocError>
         ensures { IfOk result (λ s. (g : GraphParts) → KeepsTerms g s) }
     {
@@ -231,28 +233,28 @@ impl Speller {
         })
     }
 
-    /// A speller for one text, which keeps only the last terms.
+    /// A writer for one text, which caches only the last terms.
     pub(crate) fn new(alloc: Global) -> Result<Speller, AllocError>
         ensures { IfOk result (λ s. (g : GraphParts) → KeepsTerms g s) }
     {
         Speller::with_places(alloc, 0)
     }
 
-    /// Returns a speller for many texts of one graph ([`append_graph_text`](crate::append_graph_text)). It keeps
-    /// buffers as long as the longest string and the longest term of each role so far, and the terms of up to 256
-    /// predicates, of at most 256 bytes each.
+    /// Returns a writer for many texts of one graph ([`append_graph_text`](crate::append_graph_text)). Its buffers grow
+    /// to the longest string and the longest term of each role, and it caches the terms of up to 256 predicates, of at
+    /// most 256 bytes each.
     pub fn keeping(alloc: Global) -> Result<Speller, AllocError>
         ensures { IfOk result (λ s. (g : GraphParts) → KeepsTerms g s) }
     {
         Speller::with_places(alloc, KEPT)
     }
 
-    /// Whether the term of predicate n is kept: then it is not decoded.
+    /// Whether the term of predicate n is cached, and so is not decoded again.
     pub(crate) fn keeps(&self, n: u64) -> bool {
         kept_term(&self.kept, n).is_some()
     }
 
-    /// Appends what predicate n is in a line, as kept.
+    /// Appends predicate n as it is written in a line.
     fn put_predicate(
         &mut self,
         layout: &Layout<'_>,
@@ -273,7 +275,7 @@ impl Speller {
         Ok(keep(&mut self.kept, n, &self.predicate.text)?)
     }
 
-    /// Appends what object n is in a line. Most occur once, so only repeated ones are kept.
+    /// Appends object n as it is written in a line. Most objects occur once, so only repeated ones are cached.
     fn put_object(
         &mut self,
         layout: &Layout<'_>,
@@ -296,7 +298,7 @@ impl Speller {
     }
 }
 
-/// Appends the line of a triple. An error may leave its first bytes.
+/// Appends the line of a triple. An error may leave its first bytes in `out`.
 pub fn append_line(
     layout: &Layout<'_>,
     triple: (u64, u64, u64),

@@ -1,4 +1,4 @@
-//! Many lines of N-Triples from tables that have each string once, as it is in a line.
+//! Writing many lines of N-Triples from tables that have each string once, as it is written in a line.
 ghost use Rattle.std.specs.Prelude.{◌≡◌, ◌++◌, ℕ, List, map, IfOk, IfErr, OnOk};
 ghost use Rattle.hdt_file.specs.File.{GraphParts};
 ghost use Rattle.hdt_wire.specs.Control.{Keeps};
@@ -15,8 +15,8 @@ use hdt_dict::{Arena, Role};
 use hdt_terms::StringFault;
 use std::alloc::{AllocError, Global};
 
-/// What the strings of each role are in a line, in the order of their IDs: the term and what follows it, or nothing if
-/// the string is not a term that the role allows, or is not needed.
+/// For each role, the strings in the order of their IDs as they are written in a line. An entry is empty if the string
+/// is not a term that the role allows, or is not needed.
 #[derive(Drop)]
 pub struct Tables {
     subjects: Arena,
@@ -24,7 +24,7 @@ pub struct Tables {
     objects: Arena,
 }
 
-/// Appends what a string of a role is in a line, or nothing if it is not a term that the role allows.
+/// Appends a string of a role as it is written in a line, or nothing if it is not a term that the role allows.
 fn put_piece(role: Role, string: &[u8], out: &mut Vec<u8>) -> Result<(), AllocError>
     ensures { OnOk result (GrowsByPiece role string.now out.old.items out.new.items) }
 {
@@ -46,7 +46,7 @@ fn number_in(role: Role, triple: (u64, u64, u64)) -> u64
     }
 }
 
-/// Marks the IDs that triples have in a role.
+/// Marks each ID that triples have in a role.
 fn marks_of(
     alloc: Global,
     count: u64,
@@ -75,7 +75,7 @@ fn is_marked(marks: &[bool], number: u64) -> bool
     }
 }
 
-/// Appends what a string is in a line, if its ID is marked.
+/// Appends a string of a role as it is written in a line, if its ID is marked.
 fn put_marked(marked: bool, role: Role, string: &[u8], out: &mut Vec<u8>) -> Result<(), AllocError>
     ensures { OnOk result (GrowsByMarked marked role string.now out.old.items out.new.items) }
 {
@@ -85,8 +85,7 @@ fn put_marked(marked: bool, role: Role, string: &[u8], out: &mut Vec<u8>) -> Res
     Ok(())
 }
 
-/// The table of the strings of a role whose IDs are marked. Each string of the role is decoded once, over the previous
-/// one.
+/// The table of the strings of a role whose IDs are marked. Each string of the role is decoded once.
 fn pieces_of(
     alloc: Global,
     layout: &Layout<'_>,
@@ -134,7 +133,7 @@ pub fn tables_of(
     })
 }
 
-/// The entry of string n, from 1, or nothing.
+/// The entry of string n, from 1; empty if there is none.
 fn piece_in(pieces: &Arena, n: u64) -> &[u8]
     ensures { result.now ≡ piece_in pieces.now n }
 {
@@ -144,7 +143,7 @@ fn piece_in(pieces: &Arena, n: u64) -> &[u8]
     pieces.get((n - 1) as usize)
 }
 
-/// The length of the lines of triples together, up to one with a string that is not a term.
+/// The length of the lines of triples together, up to the first with a string that is not a term.
 pub fn bytes_of_lines(tables: &Tables, triples: &[(u64, u64, u64)]) -> usize {
     let mut bytes: usize = 0;
     for (subject, predicate, object) in triples {
@@ -162,7 +161,7 @@ pub fn bytes_of_lines(tables: &Tables, triples: &[(u64, u64, u64)]) -> usize {
     bytes
 }
 
-/// Appends an entry, which is empty for a string that is not a term. After an error `out` is unchanged.
+/// Appends an entry; an empty one is an error, as its string is not a term. After an error `out` is unchanged.
 fn append_piece(role: Role, n: u64, piece: &[u8], out: &mut Vec<u8>) -> Result<(), DumpFault>
     ensures ok { OnOk result ((string : List ℕ) → IsLinePiece role string piece.now → AppendsPiece role string out.old.items out.new.items) }
     ensures err { IfErr result (λ e. (string : List ℕ) → IsLinePiece role string piece.now → TellsString role n string e) }
@@ -174,7 +173,7 @@ fn append_piece(role: Role, n: u64, piece: &[u8], out: &mut Vec<u8>) -> Result<(
     Ok(out.extend_from_slice(piece)?)
 }
 
-/// Appends the line of a triple, given the entry of its object. An error may leave the first bytes of the line.
+/// Appends the line of a triple, given the entry of its object. An error may leave its first bytes in `out`.
 fn append_line_of(
     tables: &Tables,
     triple: (u64, u64, u64),
@@ -192,7 +191,7 @@ fn append_line_of(
     Ok(())
 }
 
-/// The entries of the objects of triples, without reading their bytes.
+/// The entries of the objects of triples. It doesn't read their bytes.
 fn objects_of<'t>(
     alloc: Global,
     tables: &'t Tables,
@@ -207,8 +206,8 @@ fn objects_of<'t>(
     Ok(made)
 }
 
-/// The length of all entries that neither begin nor end with a zero byte, as none does: this prefetches the first and
-/// the last byte of each, as the loads don't depend on each other.
+/// Prefetches entries, and returns their length together: reads the first and the last byte of each, in loads that
+/// don't depend on each other. Entries with a zero byte there would not count, but none has one.
 fn looked_at(pieces: &[&[u8]]) -> usize {
     let mut bytes: usize = 0;
     for piece in pieces {
@@ -219,8 +218,8 @@ fn looked_at(pieces: &[&[u8]]) -> usize {
     bytes
 }
 
-/// Appends the lines of triples: the entries of all objects are found, then prefetched, then copied. An error may leave
-/// some of the lines.
+/// Appends the lines of triples: finds the entries of all objects, prefetches them, then copies. An error may leave
+/// some of the lines in `out`.
 pub fn append_lines(
     alloc: Global,
     tables: &Tables,

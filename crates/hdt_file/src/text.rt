@@ -25,10 +25,10 @@ use hdt_wire::{Counted, cut_on_error};
 use std::alloc::{AllocError, Global};
 use std::io::Write;
 
-/// The capacity of a list of triples at first.
+/// The initial capacity of a list of matches.
 const LISTED: usize = 16;
 
-/// A list of the matches, or of the first ones.
+/// The first `most` matches, or all of them.
 fn listed(
     alloc: Global,
     found: Matches<'_>,
@@ -50,10 +50,11 @@ fn listed(
     Ok(triples)
 }
 
-/// The number of bytes of blocks a string of the dictionary from which on decoding all strings once is cheaper.
+/// If more bytes of blocks than this would be decoded for each string of the dictionary, decoding all strings once is
+/// cheaper.
 const READ_FOR_A_STRING: u64 = 32;
 
-/// The ID of a string with the length of its block, which is known if the previous triple has the same string.
+/// An ID of a role with the length of its block, which `last` has if the previous triple has the same ID.
 fn with_len(dictionary: &Dictionary<'_>, role: Role, number: u64, last: (u64, u64)) -> (u64, u64) {
     if number == last.0 {
         return last;
@@ -61,8 +62,8 @@ fn with_len(dictionary: &Dictionary<'_>, role: Role, number: u64, last: (u64, u6
     (number, dictionary.block(role, number).len() as u64)
 }
 
-/// The blocks of the objects of triples, if looking up each string is cheaper than decoding the whole dictionary once.
-/// Predicates that the speller keeps are not looked up.
+/// The blocks of the objects of triples; `None` if decoding the complete dictionary once is cheaper than decoding the
+/// blocks of all strings of the triples. Cached predicates cost nothing.
 fn few_blocks<'a>(
     alloc: Global,
     layout: &Layout<'a>,
@@ -100,14 +101,14 @@ fn few_blocks<'a>(
     Ok(Some(blocks))
 }
 
-/// The distance between bytes that are prefetched.
+/// The distance in bytes between loads of a prefetch.
 const APART: usize = 64;
 
-/// The number of bytes of a block that are prefetched. A string after them is reached by a scan, for which the
-/// processor prefetches by itself; a string before them would wait for more than it needs.
+/// The number of bytes of a block that are prefetched. A string after them is reached by a scan, which the processor
+/// prefetches by itself; a string before them would wait for more than it needs.
 const FRONT: usize = 4_096;
 
-/// The byte of a block at an index, or its last one.
+/// The byte of a block at an index, or its last byte if the index is out of range.
 #[inline(always)]
 fn byte_near(block: &[u8], place: usize) -> usize
     requires { 0 < length block.now }
@@ -116,8 +117,8 @@ fn byte_near(block: &[u8], place: usize) -> usize
     usize::from(block[place.min(block.len() - 1)])
 }
 
-/// The sum of the prefetched bytes of a block: one of each cache line. The first loads are unconditional, to avoid an
-/// unpredictable branch on the number of lines.
+/// Prefetches the start of a block: returns the sum of one byte of each cache line. The first loads are unconditional,
+/// to avoid an unpredictable branch on the number of cache lines.
 fn looked_at(block: &[u8]) -> usize {
     let front = block.split_at(block.len().min(FRONT)).0;
     if front.is_empty() {
@@ -134,7 +135,7 @@ fn looked_at(block: &[u8]) -> usize {
     sum
 }
 
-/// The same of several blocks: the loads don't depend on each other, so they overlap.
+/// Prefetches several blocks. The loads don't depend on each other, so they overlap.
 fn all_looked_at(blocks: &[&[u8]]) -> usize {
     let mut sum: usize = 0;
     for block in blocks {
@@ -143,13 +144,13 @@ fn all_looked_at(blocks: &[&[u8]]) -> usize {
     sum
 }
 
-/// The capacity of a text at first, for each line.
+/// The initial capacity of a text, for each line.
 const LINE: usize = 160;
 
-/// The greatest number of lines for which it has capacity at first.
+/// The greatest number of lines that the initial capacity allows for.
 const LINES: usize = 64;
 
-/// Appends the text of triples, looking up each of their strings: for few triples. An error may leave some lines.
+/// Appends the text of triples, decoding each of their strings: for few triples. An error may leave some lines.
 fn append_looked_up(
     layout: &Layout<'_>,
     triples: &[(u64, u64, u64)],
@@ -168,10 +169,10 @@ fn append_looked_up(
     Ok(())
 }
 
-/// The number of triples whose lines are made at a time.
+/// The number of lines that are written at a time.
 const BLOCK: usize = 64;
 
-/// The same by tables that have each string of the triples once: for many triples.
+/// Appends the text of triples, decoding all strings of each role once: for many triples. An error may leave lines.
 fn append_tabled(
     alloc: Global,
     layout: &Layout<'_>,
@@ -193,8 +194,8 @@ fn append_tabled(
     Ok(())
 }
 
-/// Appends the text of triples. Linear time in the dictionary, the triples and the text, whatever the blocks. An error
-/// may leave some lines.
+/// Appends the text of triples. Linear time in the dictionary, the triples and the text, whatever the sizes of the
+/// blocks. An error may leave some lines.
 fn append_triples(
     alloc: Global,
     layout: &Layout<'_>,
@@ -211,13 +212,13 @@ fn append_triples(
     let Some(blocks) = few_blocks(alloc, layout, triples, speller)? else {
         return append_tabled(alloc, layout, triples, out);
     };
-    // (The sum means nothing; its use keeps the loads.)
+    // (The sum means nothing; using it keeps the loads.)
     let lines = all_looked_at(&blocks).min(triples.len()).min(LINES);
     out.reserve(lines * LINE)?;
     append_looked_up(layout, triples, speller, out)
 }
 
-/// Appends the text of matches, or of the first ones. After an error `out` is unchanged.
+/// Appends the text of the first `most` matches, or of all of them. After an error `out` is unchanged.
 fn append_found(
     alloc: Global,
     layout: &Layout<'_>,
@@ -239,7 +240,7 @@ fn append_found(
     cut_on_error(appended, start, out)
 }
 
-/// The text of matches, or of the first ones.
+/// The text of the first `most` matches, or of all of them.
 fn found_text(
     alloc: Global,
     layout: &Layout<'_>,
@@ -262,8 +263,8 @@ fn found_text(
     Ok(text)
 }
 
-/// The text of the matches of a pattern with a subject: its triples are found by rank/select indexes, or by a scan if
-/// there is no memory for these.
+/// The text of the matches of a pattern with a subject. It finds them by rank/select indexes, or by a scan if there is
+/// no memory for the indexes.
 #[tactic(auto, unfolding(crate::specs::LayoutView::layout_seen))]
 fn indexed_text(
     alloc: Global,
@@ -280,15 +281,16 @@ fn indexed_text(
     }
 }
 
-/// Returns the N-Triples text of the matches of a pattern, or nothing without a pattern: one line a triple, in order.
+/// Returns the N-Triples text of the matches of a pattern: one line for each triple, in order. Without a pattern the
+/// text is empty.
 ///
-/// For each match it decodes the blocks of its strings; if that costs more than decoding the whole dictionary once, it
-/// does that, and copies what it needs. So time is linear in the dictionary, the matches and the text, however the
-/// strings are front-coded; memory is that of the matches and the text, with a byte for each string of the dictionary.
+/// Time is linear in the dictionary, the matches and the text, however the strings are front-coded: it decodes the
+/// blocks of the strings of each match or, if that is cheaper, the complete dictionary once. Memory is that of the
+/// matches and the text, and one byte for each string of the dictionary.
 ///
 /// # Errors
 ///
-/// [`DumpFault::NotATerm`] with the first string of the first match that is not a term that its role allows, in the
+/// [`DumpFault::NotATerm`] with the first string of the first match that is not a term which its role allows, in the
 /// order subject, predicate, object; [`DumpFault::OutOfMemory`] only if memory ran out.
 pub fn graph_text(
     alloc: Global,
@@ -304,8 +306,8 @@ pub fn graph_text(
     }
 }
 
-/// Appends the text of the first `most` matches, or of all of them, using a speller that is new or was used only for this graph: one speller for many texts
-/// decodes frequent predicates only once. [`Speller::keeping`] says how much it keeps. After an error it can still be
+/// Appends the same text, with a writer that is new or was used only for this graph. One writer for many texts decodes
+/// frequent predicates only once; [`Speller::keeping`] says how much it caches. After an error it can still be
 /// used, and `out` is unchanged.
 pub fn append_graph_text(
     alloc: Global,
@@ -315,7 +317,7 @@ pub fn append_graph_text(
     speller: &mut Speller,
     out: &mut Vec<u8>,
 ) -> Result<(), DumpFault>
-    // The speller keeps terms of this graph only, before and after.
+    // Before and after the call, the writer caches terms of this graph only.
     requires { KeepsTerms (graph_seen graph.now) speller.old }
     ensures kept { KeepsTerms (graph_seen graph.now) speller.new }
     ensures ok { OnOk result (AppendsText (graph_seen graph.now) (limited most (chosen (graph_seen graph.now) pattern)) out.old.items out.new.items) }
@@ -352,7 +354,7 @@ pub fn layout_text(
     }
 }
 
-/// Writes the text of [`graph_text`], once it is complete in memory. Returns its length in bytes.
+/// Writes the text of [`graph_text`], after making it in memory. Returns its length in bytes.
 ///
 /// # Errors
 ///
@@ -373,13 +375,13 @@ pub fn write_graph<W: Write>(
     // The text, of the length that is returned, was written, and the writer has not failed.
     ensures ok { IfOk result (WritesText (graph_seen graph.now) (chosen (graph_seen graph.now) pattern) (W.contents (inner out.old)) (W.contents (inner out.new))) }
     ensures well { IsOk result → failures out.new ≡ failures out.old }
-    // The first string of the first triple that is not a term that its role allows, in the order subject, predicate,
-    // object.
+    // It names the first string of the first triple that is not a term which its role allows, in the order subject,
+    // predicate, object.
     ensures first { IfErr result (λ e. (role : Role) (n : ℕ) → e ≡ DumpFault.NotATerm role n → IsFirstIn (graph_seen graph.now) (chosen (graph_seen graph.now) pattern) role n) }
     // The writer failed in this call, once, after exactly the first n bytes of the text.
     ensures write { IfErr result (λ e. (n : ℕ) → e ≡ DumpFault.Write n → (failures out.new ≡ failures out.old + 1)
         × WritesPart (graph_seen graph.now) (chosen (graph_seen graph.now) pattern) (W.contents (inner out.old)) (W.contents (inner out.new)) n) }
-    // At any other error nothing was written.
+    // After any other error nothing was written.
     ensures unwritten { IfErr result (λ e. ((n : ℕ) → e ≢ DumpFault.Write n) → out.new ≡ out.old) }
 {
     let text = graph_text(alloc, graph, pattern)?;

@@ -11,7 +11,7 @@ ghost use Rattle.hdt_file.specs.Text.{IsFirstIn, IsTextOf};
 
 use hdt_terms::{one_string, written_within_a_line};
 
-/// Triples have either one text, or one first string that is not a term that its role allows.
+/// Triples have either one text, or one first string that is not a term that its role allows; never both.
 pub fn one_text()
     ensures text { (triples : List StringTriple) (a b : List ℕ) → IsTextOf triples a → IsTextOf triples b → a ≡ b }
     ensures first { (g : GraphParts) (ts : List Triple) (role other : Role) (m n : ℕ) →
@@ -22,7 +22,7 @@ pub fn one_text()
     one_string()
 }
 
-/// The text of triples whose strings are those of terms of the grammar is a document of exactly these triples.
+/// The text of triples is a document of exactly these triples, if their strings are those of terms of the grammar.
 pub fn text_is_a_document()
     ensures { (triples : List StringTriple) (text : List ℕ) (h : IsTextOf triples text) →
         AllByRecursion AreGrammarTerms h.terms → Document text (map triple_of h.terms) }

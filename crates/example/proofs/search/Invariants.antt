@@ -2,6 +2,6 @@ use Rattle.std.proofs.Common.{length}
 use Rattle.hdt_triples.specs.Left.{left_of}
 use Rattle.example.proofs.search.Given as goal
 
--- each turn takes one of the matches that are left
+-- each iteration takes one of the remaining matches
 abbrev pub decreases-loop-subject : goal.decreases-loop-subject
 decreases-loop-subject l = length (left_of l.subject-iterator)

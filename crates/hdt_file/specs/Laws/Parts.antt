@@ -1,4 +1,4 @@
--- The checks of a file as code runs them, which keeps the sequences of the triples alone.
+-- Decoding a file by its parts gives the same as decoding it: code keeps only the bitmaps and arrays of the triples.
 use Rattle.std.proofs.Common.{◌≡◌, ℕ, Bool, List, length, eqb, true, false, Result, Ok, Err, refl}
 use Rattle.hdt_wire.specs.declared.fault.Fault.{Fault}
 use Rattle.hdt_wire.specs.declared.fault.Reason.TheVariants.{TrailingBytes}
@@ -11,6 +11,7 @@ use Rattle.hdt_file.specs.File.{FileParts, counts_in, file_at_start, graph_in}
 use Rattle.hdt_file.specs.Parts.{Parts, parts_from, parts_in, graph_from, tight_from, tight_rows}
 use Rattle.hdt_file.specs.Tight.{tight_in}
 
+-- the checks of a file, in the order in which the code runs them
 unfoldable pub parts_rows : List ℕ → Result Parts Fault
 parts_rows bytes = do
   front ← dictionary_after_head bytes
@@ -37,16 +38,18 @@ with_front : (bytes : List ℕ) (r : Result HeadAndDictionary Fault)
 with_front bytes (Ok front) = with_triples bytes front (triples_at (counts_in front.dictionary) bytes front.dictionary.objects.end)
 with_front bytes (Err e) = refl
 
+-- these checks return the parts of the file
 pub rows_are : (bytes : List ℕ) → parts_rows bytes ≡ parts_in bytes
 unfolding parts_rows file_at_start
 rows_are bytes = with_front bytes (dictionary_after_head bytes)
 
--- ---- what is seen of the parts
+-- ---- the graph of the parts
 
 graph_of_parts : (r : Result FileParts Fault) → seen graph_from (seen parts_from r) ≡ (r >>= λ file. Ok (graph_from (parts_from file)))
 graph_of_parts (Ok file) = refl
 graph_of_parts (Err e) = refl
 
+-- the graph of the parts of a file is the graph of the file
 pub graph_is : (bytes : List ℕ) → seen graph_from (parts_in bytes) ≡ graph_in bytes
 unfolding graph_in
 graph_is bytes = graph_of_parts (file_at_start bytes)
@@ -55,6 +58,7 @@ tight_of_parts : (r : Result FileParts Fault) → (seen parts_from r >>= tight_f
 tight_of_parts (Ok file) = refl
 tight_of_parts (Err e) = refl
 
+-- checking the strings of the parts is checking those of the file
 pub tight_is : (bytes : List ℕ) → tight_rows bytes ≡ tight_in bytes
 unfolding tight_in tight_from tight_rows
 tight_is bytes = tight_of_parts (file_at_start bytes)

@@ -1,4 +1,4 @@
--- A string has one number.
+-- A string has one ID in a role.
 use mathlib.Core.Path.{sym, ap, ◌∙◌}
 use Rattle.std.specs.Prelude.{ℕ, Option}
 use Rattle.std.specs.Option.{unwrap_or}

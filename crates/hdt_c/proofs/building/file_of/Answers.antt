@@ -1,4 +1,4 @@
--- What the bytes of a slice spell is what its reader gives.
+-- The reader of a slice gives the bytes of the slice.
 use mathlib.Core.Path.{refl, ap, sym, subst, ◌∙◌}
 use mathlib.Core.Bool.{true≢false}
 use Rattle.std.specs.Prelude.{◌≡◌, ◌≢◌, ℕ, Bool, true, false, List, Option, Some, Err}
@@ -20,7 +20,7 @@ is_bad BadOptions = true
 is_bad OutOfMemory = false
 is_bad (Write n) = false
 
--- a fault that is told stands
+-- the error that is returned is in the options or in the text
 stands : (text base : List ℕ) (b : ℕ) (options : Options) → AreGivenOptions base b options → (after : Option (List ℕ)) (fault : BuildFault)
     → (fault ≡ BadOptions → AreRight options → ⊥) → (fault ≢ BadOptions → TellsBuildFault (Some text) after fault) → HasBuildFault text base b fault
 unfolding is_bad

@@ -1,4 +1,4 @@
--- Where memory is refused for the handle, that is told.
+-- If memory for the handle runs out, the report says so.
 use Rattle.std.proofs.Common.{inr}
 use Rattle.hdt_build.specs.declared.fault.BuildFault.TheVariants.{OutOfMemory}
 use Rattle.hdt_c.proofs.building.hdt_build.Goals as goal

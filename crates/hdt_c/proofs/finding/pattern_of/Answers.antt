@@ -1,4 +1,4 @@
--- What a pattern chooses are its matches, and nothing where there is none.
+-- The matches of the pattern of the given strings; none without a pattern.
 use mathlib.Core.Path.{refl, ap}
 use Rattle.std.specs.Prelude.{◌≡◌, [], Option, None, Some}
 use Rattle.hdt_triples.specs.declared.pattern.Pattern.{Pattern}

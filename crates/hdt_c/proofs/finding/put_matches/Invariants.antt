@@ -4,7 +4,7 @@ use Rattle.hdt_c.specs.Answers.{numbers}
 use Rattle.hdt_c.specs.Room.{laid_over}
 use Rattle.hdt_c.proofs.finding.put_matches.Given as goal
 
--- what was put and what will be are all that is put
+-- the matches written so far and the remaining ones are all that are written
 abbrev pub invariant-put : goal.invariant-put
 invariant-put l = record {
   put : take l.count l.room ++ laid_over (map numbers (left_of l.matches)) (drop l.count l.room) ≡ laid_over (map numbers (left_of l.fn.found)) l.fn.room;

@@ -1,4 +1,4 @@
--- The graph that was opened is the one that is held.
+-- The handle has the graph that was opened.
 use mathlib.Core.Path.{ap, ◌∙◌}
 use Rattle.std.specs.Prelude.{Some}
 use Rattle.hdt_c.proofs.opening.open_into.Goals as goal

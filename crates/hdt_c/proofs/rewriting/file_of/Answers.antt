@@ -1,4 +1,4 @@
--- Bad options are those of the block size.
+-- Options that are not valid have a block size that is not valid.
 use mathlib.Core.Path.{ap, ◌∙◌}
 use Rattle.std.proofs.Common.{inl, inr}
 use Rattle.std.specs.Prelude.{Err}

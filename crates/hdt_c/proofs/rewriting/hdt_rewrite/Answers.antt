@@ -1,4 +1,4 @@
--- What was made is told, or why nothing was.
+-- The verdict is that of the new file, or says why there is none.
 use Rattle.std.proofs.Common.{inl, inr}
 use Rattle.hdt_c.proofs.rewriting.hdt_rewrite.Goals as goal
 

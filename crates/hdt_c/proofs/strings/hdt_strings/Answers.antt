@@ -1,4 +1,4 @@
--- What is told is told of the graph that the handle holds.
+-- The strings are those of the graph of the handle.
 use Rattle.std.proofs.Common.{subst}
 use Rattle.hdt_file.specs.Views.{graph_seen}
 use Rattle.hdt_file.specs.declared.graph.Graph.{Graph}

@@ -1,4 +1,4 @@
--- Why there are no strings.
+-- There are no strings because a number is not an ID, or because memory ran out.
 use Rattle.std.proofs.Common.{◌≡◌, inl, inr, refl, true, false}
 use Rattle.hdt_c.proofs.Answering.{of_none}
 use Rattle.hdt_c.proofs.strings.put_strings.Goals as goal

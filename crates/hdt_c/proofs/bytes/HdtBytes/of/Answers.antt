@@ -1,4 +1,4 @@
--- The vector is the one that is held.
+-- The handle has the vector.
 use mathlib.Core.Path.{refl, ap, ◌∙◌}
 use Rattle.std.specs.Prelude.{Some}
 use Rattle.hdt_c.proofs.bytes.HdtBytes.of.Goals as goal
