@@ -1,4 +1,4 @@
--- Merging two ascending lists: what is below a place, whether a string is there, and the step to the next string.
+-- Merging two ascending lists: which strings are less than another one, whether it is in the list, and one step.
 use Rattle.std.proofs.Common.{◌≡◌, ◌≢◌, ℕ, ◌+◌, ◌<◌, ◌≤◌, Bool, true, false, cond, not, List, [], ◌∷◌, ◌++◌, length, get_or, take, refl, ap, sym, ◌∙◌, inl, inr, arith}
 use Rattle.std.specs.declared.cmp.Ordering.{Ordering}
 use Rattle.std.specs.declared.cmp.Ordering.TheVariants.{Less, Equal, Greater}
@@ -32,7 +32,7 @@ not_Less Greater h = λ e. cc
 itself : (x : List ℕ) → string_cmp x x ≡ Equal
 itself x = tied_itself nat_list_cmp_total x
 
--- where a member of an ascending list stands: at the first place that isn't below it
+-- a member of an ascending list is at the first index whose string is not less than it
 module _ (ys : List (List ℕ)) (at : ℕ) (x : List ℕ) (up : IsAscending ys) (below : FirstBelow ys at x) where
   stands_by : (k : ℕ) → k < length ys → get_or ys k x ≡ x → (at < length ys → string_cmp (get_or ys at x) x ≢ Less) → (at < length ys) × (get_or ys at x ≡ x)
   stands_by k in' is stops =
@@ -52,7 +52,7 @@ module _ (ys : List (List ℕ)) (at : ℕ) (x : List ℕ) (up : IsAscending ys) 
   pub stands : (at < length ys → string_cmp (get_or ys at x) x ≢ Less) → Contains ys x → (at < length ys) × (get_or ys at x ≡ x)
   stands stops h = stands_by h.0 h.1 h.2 stops
 
-  -- the answer of the test at that place
+  -- the result of the test at that index
   pub has_here : at < length ys → string_cmp (get_or ys at x) x ≢ Less → (y : List ℕ) → get_or ys at x ≡ y → bytes_eq y x ≡ has ys x
   has_here here stops y is =
       both_ways _ _
@@ -70,13 +70,13 @@ below_or z x y Less e less up = nat_list_cmp_total.trans z x y less e
 below_or z x y Equal e less up = ap (string_cmp z) (sym (exact_bytes x y e)) ∙ less
 below_or z x y Greater e less up = absurd (up (nat_list_cmp_total.antisymm y x ∙ ap ordering_reverse e))
 
--- what is below a string is below one that isn't less
+-- strings that are less than x are less than any string that is not less than x
 pub passes_to : (ys : List (List ℕ)) (at : ℕ) (x y : List ℕ) → FirstBelow ys at x → at ≤ length ys → string_cmp y x ≢ Less → FirstBelow ys at y
 passes_to ys at x y below within up k lt =
     let same = get_or_default ys k x y (omega arith) in
     below_or (get_or ys k y) x y (string_cmp x y) refl (ap (λ z. string_cmp z x) (sym same) ∙ below k lt) up
 
--- a loop's step: the string at i passes, and goes to the end of what was kept, or doesn't
+-- one step of a loop: string i is appended to the result exactly if it passes the test
 module _ (p : List ℕ → Bool) (vs ws : List Lent) (i : ℕ) (e : Lent) (below : i < length vs) (front : lent_texts ws ≡ filter p (take i (lent_texts vs))) where
   within : i < length (lent_texts vs)
   within = omega (arith, length-map vs (λ (w : Lent). w.now))
@@ -100,7 +100,7 @@ module _ (ys : List (List ℕ)) (x : List ℕ) where
   by absent true e = absurd (absent (has-Contains ys x e))
   by absent false e = refl
 
-  -- a list lacks a string where it isn't a member
+  -- a string that is not a member is not in the list
   pub lacks : ¬ Contains ys x → not (has ys x) ≡ true
   lacks absent = by absent (has ys x) refl
 
