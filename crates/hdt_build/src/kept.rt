@@ -64,8 +64,8 @@ pub fn kept_from(graph: &Graph<'_>, part: Part, from: u64, end: u64) -> u64
     end
 }
 
-/// Returns the ends of the two ascending runs of a role's strings in which a section finds its own: the first run begins
-/// at index 0, and the second one follows it.
+/// Returns the ends of the two ascending runs of a role's strings in which a section finds its own. The first run
+/// begins at index 0, and the second one follows it.
 pub fn ends_of(graph: &Graph<'_>, part: Part) -> (u64, u64)
     ensures cut { result.0 ≡ cut_of (graph_seen graph.now) part }
     ensures end { result.1 ≡ end_of (graph_seen graph.now) part }
