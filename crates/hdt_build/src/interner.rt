@@ -173,6 +173,7 @@ fn doubled(alloc: Global, slots: &[u64]) -> Result<Vec<u64>, AllocError>
 }
 
 impl Interner {
+    /// An empty list, with an empty cache.
     pub fn new(alloc: Global) -> Result<Interner, AllocError>
         ensures { IfOk result (λ made. made ≡ []) }
     {

@@ -49,12 +49,12 @@ pub fn put_lent_dictionary(
     cut_on_error(appended, start, out)
 }
 
-/// Appends the canonical dictionary of four sections: control information with the property `mapping=1;`, and the
-/// sections shared, subjects, predicates and objects, with so many strings a block and the longest shared prefixes. If
-/// memory runs out, `out` is unchanged. Linear time.
+/// Appends the canonical dictionary of four sections: control information with the property `mapping=1;`, then the
+/// sections shared, subjects, predicates and objects, with `block_size` strings a block. Each string shares its longest
+/// common prefix with the previous one. If memory runs out, `out` is unchanged. Linear time.
 ///
-/// The strings of each list must be UTF-8 without zero bytes and strictly ascend, and none may be in two of shared,
-/// subjects and objects: as [`split`](crate::split) returns them.
+/// Each list must strictly ascend and have only UTF-8 without zero bytes, and no string may be in two of shared,
+/// subjects and objects. [`split`](crate::split) returns such lists, if its strings are UTF-8 without zero bytes.
 #[tactic(auto, unfolding(crate::specs::Split::lent_lists_of, crate::specs::Split::lists_of))]
 pub fn put_dictionary(
     alloc: Global,
@@ -78,7 +78,7 @@ pub fn put_dictionary(
     put_lent_dictionary(alloc, &lent, block_size, out)
 }
 
-/// Appends a dictionary of section writers; an error may leave its first bytes.
+/// Appends the dictionary of four section writers; an error may leave its first bytes.
 #[tactic(auto, using(crate::specs::Laws::Writing::mapping_no_zero))]
 fn append_written(
     shared: SectionWriter,
@@ -101,7 +101,7 @@ fn append_written(
 }
 
 /// Appends the canonical dictionary of four sections that were written string by string, as [`put_dictionary`] does.
-/// They must have the same block size. Each writer is freed once its section is written.
+/// The writers must have the same block size. Each is freed once its section is written.
 pub fn put_written_dictionary(
     shared: SectionWriter,
     subjects: SectionWriter,
