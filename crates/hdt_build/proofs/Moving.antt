@@ -19,7 +19,7 @@ all_replaced sn pn on len old new rest is long each =
     let in' : k < length old = omega arith in
     get_or_default new k d (0, 0, 0) below ∙ each k in' ∙ sym (get_or-map (renumbered_triple sn pn on) old k (0, 0, 0) d in'))
 
--- the composition of two functions that equals a third one on a list
+-- two functions whose composition equals a third one on a list
 pub map_along : {X Y Z : Type 0} (f : Y → Z) (g : X → Y) (h : X → Z) (xs : List X) → All (λ x. f (g x) ≡ h x) xs → map f (map g xs) ≡ map h xs
 map_along f g h [] all = refl
 map_along f g h (x ∷ xs) all =

@@ -130,7 +130,7 @@ empty_map (t ∷ ts) e = absurd cc
 pub no_triples : (input : Option (List ℕ)) (graph : List StringTriple) → IsGraphIn input graph → graph ≡ [] → IsDocument most input []
 no_triples input graph h none = subst (IsDocument most input) (empty_map h.triples (sym h.strings ∙ none)) h.document
 
--- an error of building says that the reader failed only if the error of the line does
+-- if the error of building is not a failed read, neither is that of the line
 pub not_read : (fault : LineFault) (told : BuildFault) → IsToldAs fault told → (ReadFailed told → ⊥) → fault.reason ≢ Read
 not_read fault told (inl memory) unread e = absurd cc
 not_read fault told (inr line) unread e = unread (subst ReadFailed (sym line.1) e)

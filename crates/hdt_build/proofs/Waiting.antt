@@ -15,7 +15,7 @@ pub record AreFound (xs ys : List (List ℕ)) (ns : List ℕ) : Type 0 where
   pub within : (k : ℕ) → k < length ns → get_or ns k 0 < length ys
   pub is : (k : ℕ) → k < length ns → get_or ys (get_or ns k 0) [] ≡ get_or xs k []
 
--- no string triples, no index triples
+-- if there are no string triples, there are no index triples
 pub no_ids : (xs : List (List ℕ)) (ids : List Triple) (rest : List StringTriple) → string_triples_of xs ids ++ rest ≡ [] → ids ≡ []
 no_ids xs [] rest e = refl
 no_ids xs (t ∷ ids) rest e = absurd cc

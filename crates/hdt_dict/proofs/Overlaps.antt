@@ -72,7 +72,7 @@ among_left_by : (b : Bool) (x z : List ℕ) (p : Placed) (ps : List Placed) → 
 among_left_by true x z p ps e h rest = rest ∙ sym (ap (λ b. b || is_string_of ps z) (apart p.string z (trans p.string x z e h)))
 among_left_by false x z p ps e h rest = refl
 
--- no string after it is passed
+-- no string that is greater than x is passed
 pub among_left : (x z : List ℕ) (ps : List Placed) → precedes x z ≡ true → is_string_of (not_less x ps) z ≡ is_string_of ps z
 among_left x z [] h = refl
 among_left x z (p ∷ ps) h = among_left_by (precedes p.string x) x z p ps refl h (among_left x z ps h)

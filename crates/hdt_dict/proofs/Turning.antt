@@ -24,7 +24,7 @@ other_turned k lie v w x l h e = subst (λ (w : List Placed). Turns k lie w x) (
 
 -- ---- the list advances
 
--- the comparison is with the first string of a list
+-- a comparison to be updated, with the first string of a list if there is one
 abbrev pub FirstTurns : ℕ → Ordering × ℕ → List Placed → List Placed → Type 0
 FirstTurns k lie v [] = Unit {0}
 FirstTurns k lie v (q ∷ qs) = Turns k lie v q.string
