@@ -18,7 +18,7 @@ use hdt_wire::Counted;
 use std::alloc::{AllocError, Global};
 use std::io::Write;
 
-/// The canonical file of a graph's triples with its header body, and its counts. Sections are freed as they are
+/// The canonical file of a graph's triples with its header body, and its counts. Each section is freed once it is
 /// written, before the triples are listed.
 fn rewritten(
     alloc: Global,

@@ -78,9 +78,9 @@ impl<'a> Strings<'a> {
         Ok(number)
     }
 
-    /// Decodes the next string as [`next`](Strings::next) does, and also returns how many bytes its entry shares with
-    /// the previous string: a lower bound of their common prefix. It is 0 at the end, and for the first string of a
-    /// section. Linear time in the bytes that are not shared.
+    /// Decodes the next string as [`next`](Strings::next) does, and also returns how many bytes its entry shares
+    /// with the previous string: a lower bound of their common prefix. It is 0 at the end, and for the first string of
+    /// a section. Linear time in the bytes that are not shared.
     pub fn next_kept(&mut self) -> Result<(Option<u64>, usize), AllocError>
         ensures number { IfOk result (λ r. r.0 ≡ next_number self.old self.old.ahead) }
         ensures kept { IfOk result (λ r. r.1 ≤ agreed self.old.last self.new.last) }

@@ -42,8 +42,8 @@ KeepsNumber g parts.Subjects n = Uses g.triples Subject n × (IsBoth g n → ⊥
 KeepsNumber g parts.Predicates n = Uses g.triples Predicate n
 KeepsNumber g parts.Objects n = Uses g.triples Object n × (IsBoth g n → ⊥)
 
--- The candidates of a section are two ascending runs of the strings of its role: indices 0 up to `cut_of`, and from
--- there up to `end_of`.
+-- The candidates of a section are two ascending runs of the strings of its role: indices 0 up to `cut_of`,
+-- and from there up to `end_of`.
 abbrev pub cut_of : GraphParts → Part → ℕ
 cut_of g parts.Shared = 0
 cut_of g parts.Subjects = length g.dictionary.shared
