@@ -5,7 +5,7 @@ use Rattle.hdt_wire.specs.declared.role.Role.{Role}
 use Rattle.hdt_wire.specs.declared.role.Role.TheVariants.{Subject, Predicate, Object}
 use Rattle.hdt_dict.specs.Dictionary.{DictionaryParts}
 
--- searching a string: at most the sum over the sections of the role
+-- searching for a string: at most the sum over the sections of the role
 unfoldable pub role_looks : DictionaryParts → Role → ℕ
 role_looks d Subject = section_looks d.shared + section_looks d.subjects
 role_looks d Predicate = section_looks d.predicates
