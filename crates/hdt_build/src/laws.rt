@@ -1,4 +1,4 @@
-//! Laws of canonical files: functions that do nothing, whose contracts proofs cite.
+//! Laws of canonical files: functions that do nothing, whose contracts are theorems.
 ghost use Rattle.std.specs.Prelude.{◌≡◌, ◌≤◌, ◌<◌, ◌^◌, ◌⊎◌, ℕ, List, [], Option, Some, length};
 ghost use Rattle.hdt_wire.specs.Rows.{IsBytes};
 ghost use Rattle.hdt_dict.specs.Strings.{SameMembers};

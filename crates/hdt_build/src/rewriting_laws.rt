@@ -1,4 +1,4 @@
-//! Laws of rewritten files: functions that do nothing, whose contracts proofs cite.
+//! Laws of rewritten files: functions that do nothing, whose contracts are theorems.
 ghost use Rattle.std.specs.Prelude.{◌≡◌, ◌<◌, ◌^◌, ℕ, List, length};
 ghost use Rattle.hdt_wire.specs.Rows.{IsBytes};
 ghost use Rattle.hdt_file.specs.File.{GraphParts, IsLayout};

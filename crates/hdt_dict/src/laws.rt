@@ -1,4 +1,4 @@
-//! Laws of dictionaries: functions that do nothing, whose contracts proofs cite.
+//! Laws of dictionaries: functions that do nothing, whose contracts are theorems.
 ghost use Rattle.std.specs.Prelude.{◌≡◌, ◌⊎◌, ◌≤◌, ◌<◌, ◌^◌, ℕ, List, All, length};
 ghost use Rattle.hdt_wire.specs.Rows.{IsBytes, Stands};
 ghost use Rattle.hdt_wire.specs.Exact.{Exactly, OneValue, OneFault};
