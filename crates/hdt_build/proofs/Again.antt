@@ -1,4 +1,4 @@
--- Files that are rewritten.
+-- Rewriting files.
 use Rattle.std.proofs.Common.{◌≡◌, ◌∙◌, ℕ, ◌<◌, ◌^◌, List, length, Result, Ok, arith, ap, sym, subst}
 use Rattle.hdt_wire.specs.declared.fault.Fault.{Fault}
 use Rattle.hdt_wire.specs.Exact.{Exactly, seen}
@@ -17,13 +17,13 @@ use Rattle.hdt_build.proofs.BuiltLayout.{built_layout}
 use Rattle.hdt_build.proofs.Equal.{count_is, one_file}
 use Rattle.hdt_build.proofs.Layouts.{canonical_layout, file_layout, file_tight}
 
--- a file that is made is a layout
+-- a canonical file is a valid file
 made_layout : (header : List ℕ) (graph : List StringTriple) (b : ℕ) (bytes : List ℕ) (report : Report) → IsBlockSize b → IsMade header graph b bytes report → length bytes < 2 ^ 64 → report.triples < 2 ^ 64 → IsLayoutOf header graph bytes
 made_layout header graph b bytes report right h small few =
     let many = count_is h.file.dictionary h.file.triples bytes report h.report_is in
     canonical_layout header graph b bytes h.file right.0 (omega (arith, right.1)) small (omega (arith, many, few))
 
--- the numbers of a file that is made are verified
+-- the report of a canonical file has the counts that verifying it returns
 abbrev lens_answered : Report → Result (List ℕ) Fault
 lens_answered r = Ok (lens_told r)
 
@@ -43,7 +43,7 @@ made_verified header graph b bytes report right h small few exact tight =
 pub rewritten_layout : (b : ℕ) (graph : GraphParts) (bytes : List ℕ) (report : Report) → IsBlockSize b → IsRewritten b graph bytes report → length bytes < 2 ^ 64 → report.triples < 2 ^ 64 → IsLayoutOf graph.header (denoted_by graph) bytes
 rewritten_layout b graph bytes report right h small few = made_layout graph.header (denoted_by graph) b bytes report right h small few
 
--- what is rewritten of a file that was made is that file
+-- rewriting a canonical file gives the same file
 made_again : (header : List ℕ) (graph : List StringTriple) (b : ℕ) (x y : List ℕ) (r s : Report) (h : GraphParts)
     → IsMade header graph b x r → IsLayoutOf header graph x → ((g : GraphParts) → IsLayout x g → h ≡ g) → IsMade h.header (denoted_by h) b y s → x ≡ y
 made_again header graph b x y r s h made layout one again =

@@ -1,4 +1,4 @@
--- How two runs tell what their strings agree, by what these agree with the one that was written last.
+-- Comparing the current strings of two runs by their common prefixes with the string written last.
 use Rattle.std.proofs.Common.{◌≡◌, ℕ, ◌<◌, List, [], ◌∷◌, ◌++◌, length, ap, sym, ◌∙◌, arith}
 use Rattle.std.specs.List.{Contains}
 use Rattle.std.specs.Ordering.{ordering_reverse}
@@ -15,7 +15,7 @@ use Rattle.hdt_build.specs.declared.kept.Part.{Part}
 use Rattle.hdt_build.specs.declared.run.Run.{Run}
 use Rattle.hdt_build.specs.Inside.Kept.{IsRunOfStrings, Tell}
 
--- of two strings the one that agrees further with a string before the other is the lesser
+-- of two strings that are greater than a third, the one that has the longer common prefix with it is less
 further_first : (last a b : List ℕ) → agreed last b < agreed last a → string_cmp last b ≡ Less → (string_cmp a b ≡ Less) × (agreed a b ≡ agreed last b)
 further_first last a b more less =
     let t = left_turns (agreed last a) a last b more (agree_back (agreed last a) last a (omega arith)) in (t.0 ∙ less, t.1)
@@ -38,17 +38,17 @@ tell last one two i j above_one above_two =
 abbrev pub last_in : List (List ℕ) → List ℕ
 last_in strings = before strings (length strings)
 
--- the last one of strings that are less than another is less too, if there is one
+-- if all strings are less than another one, so is the last, if there is one
 pub last_less : (strings : List (List ℕ)) (x y : List ℕ) (n : ℕ) → ((z : List ℕ) → Contains strings z → string_cmp z y ≡ Less) → n ≡ agreed (last_in strings) x → 0 < n
     → string_cmp (last_in strings) y ≡ Less
 last_less [] x y n below e some = absurd (omega (arith, e, some))
 last_less (s ∷ strings) x y n below e some = below (last_in (s ∷ strings)) (Contains-get_or (s ∷ strings) (length strings) [] (omega arith))
 
--- the one that was written last
+-- the string written last
 pub last_written : (strings : List (List ℕ)) (x : List ℕ) → last_in (strings ++ x ∷ []) ≡ x
 last_written strings x = get_or_push ([] ∷ strings) x [] (length (strings ++ x ∷ [])) (omega (arith, length_push strings x))
 
--- what is known of a run's agreement is no part of what it is
+-- a run stays valid if its recorded prefix length changes
 pub same_run : (g : GraphParts) (p : Part) (run : Run) (n : ℕ) → IsRunOfStrings g p run → (let new : Run = record run { same = n } in IsRunOfStrings g p new)
 same_run g p run n r = record {
   stands = r.stands;

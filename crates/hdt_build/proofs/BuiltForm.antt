@@ -1,4 +1,4 @@
--- What is built of a form.
+-- The file that is built from an encoded graph.
 use Rattle.std.proofs.Common.{◌∷◌, get_or, ◌≡◌, ℕ, ◌<◌, ◌∙◌, List, [], length, ap, sym, subst, Result, Ok, Err}
 use Rattle.std.specs.Prelude.{IfOk}
 use Rattle.hdt_dict.specs.Dictionary.{FourLists}
@@ -14,11 +14,11 @@ use Rattle.hdt_build.specs.Graph.{IsForm}
 use Rattle.hdt_build.specs.Header.{header_body}
 use Rattle.hdt_build.specs.Reading.{AreTexts}
 
--- the sections of texts can stand in a dictionary
+-- the sections of strings that are UTF-8 without zero bytes are valid in a dictionary
 pub form_sections : (g : List StringTriple) (d : FourLists) (ts : List Triple) → IsForm g d ts → AreTexts g → AreSections d
 form_sections g d ts h t = split_sections _ _ _ d h.sections t.subjects_are t.predicates_are t.objects_are
 
--- the bytes and the numbers of a form make the file of what it is a form of
+-- an encoded graph gives the canonical file of the graph, and its report
 pub made_of : (g : List StringTriple) (d : FourLists) (ts : List Triple) (header : List ℕ) (b : ℕ) (bytes : List ℕ) (report : Report)
     → 0 < length g → AreTexts g → IsForm g d ts → bytes ≡ canonical_file header b d ts → report ≡ report_of d ts bytes → IsMade header g b bytes report
 made_of g d ts header b bytes report some texts form file told = record {
@@ -33,14 +33,14 @@ made_of g d ts header b bytes report some texts form file told = record {
   report_is = told;
 }
 
--- the numbers of sections that are so long, with the count of the triples and the length of the file
+-- the report of these section lengths, the number of triples and the length of the file
 pub told_of : (lens : List ℕ) (d : FourLists) (ts : List Triple) (bytes : List ℕ) (n m : ℕ)
     → lens ≡ length d.shared ∷ length d.subjects ∷ length d.predicates ∷ length d.objects ∷ [] → n ≡ length ts → m ≡ length bytes
     → let told : Report = record { triples = n; shared = get_or lens 0 0; subjects = get_or lens 1 0; predicates = get_or lens 2 0; objects = get_or lens 3 0; bytes = m } in told ≡ report_of d ts bytes
 unfolding report_of
 told_of lens d ts bytes n m is count long = λ i. record { triples = count i; shared = get_or (is i) 0 0; subjects = get_or (is i) 1 0; predicates = get_or (is i) 2 0; objects = get_or (is i) 3 0; bytes = long i }
 
--- the header body that tells how many triples a file has, which are those of its numbers
+-- the header body has the number of triples of the report
 pub all_built : {V E : Type 0} (items : V → List ℕ) (r : Result (V × Report) E) (options : Options) (g : List StringTriple) (d : FourLists) (ts : List Triple) (header : List ℕ)
     → 0 < length g → AreTexts g → IsForm g d ts → header ≡ header_body options.base.items (length ts)
     → IfOk r (λ made. items made.0 ≡ canonical_file header options.block_size d ts) → IfOk r (λ made. made.1 ≡ report_of d ts (items made.0)) → IfOk r (λ made. IsBuilt options g (items made.0) made.1)

@@ -1,4 +1,4 @@
--- What is built is a layout of its graph.
+-- A file that is built is a valid file of its graph.
 use Rattle.std.proofs.Common.{ℕ, ◌<◌, ◌^◌, List, length, arith}
 use Rattle.hdt_build.specs.declared.options.Options.{Options}
 use Rattle.hdt_build.specs.declared.report.Report.{Report}

@@ -1,4 +1,4 @@
--- A section has as many bytes as strings, at least: so the counts of a file's strings are below those of its bytes.
+-- A section has at least as many bytes as strings, so the number of strings of a file is less than its length.
 use Rattle.std.proofs.Common.{ℕ, ◌+◌, ◌≤◌, Bool, true, false, List, [], ◌∷◌, ◌++◌, length, drop, nat_eq, arith, length-append}
 use Rattle.std.specs.List.{concat, common_prefix_len}
 use Rattle.std.specs.Int.{bytes_low_first}
@@ -13,7 +13,7 @@ use Rattle.hdt_front.specs.Unfolding.{is_head}
 use Rattle.hdt_dict.specs.Dictionary.{FourLists}
 use Rattle.hdt_dict.specs.Writing.{mapping, canonical_dictionary}
 
--- a piece has a byte at least
+-- an entry has at least one byte
 some_byte : (h : Bool) (before string : List ℕ) → 1 ≤ length (piece_of h before string)
 unfolding piece_of
 some_byte true before string = omega (arith, length-append string (0 ∷ []))
@@ -37,7 +37,7 @@ section_bytes b strings =
     let C : List ℕ = bytes_low_first 0 4 (code32 P) in
     omega (arith, enough_bytes b 0 [] strings, length-append H (code8 H ∷ (S ++ (P ++ C))), length-append S (P ++ C), length-append P C)
 
--- the strings of all sections together
+-- the strings of all sections
 pub dictionary_bytes : (b : ℕ) (d : FourLists) → length d.shared + length d.subjects + length d.predicates + length d.objects ≤ length (canonical_dictionary b d)
 unfolding canonical_dictionary
 dictionary_bytes b d =

@@ -1,4 +1,4 @@
--- The number triples of a document: what they denote, and that their subjects have no gap.
+-- The ID triples of a document: the string triples that they denote, and that their subjects have no gap.
 use Rattle.std.proofs.Common.{◌≡◌, ◌≢◌, ℕ, ◌+◌, ◌<◌, ◌≤◌, List, [], map, length, get_or, ap, sym, ◌∙◌, subst, inl, inr, arith}
 use Rattle.std.specs.declared.cmp.Ordering.TheVariants.{Less, Equal}
 use Rattle.std.specs.List.{Contains}
@@ -27,7 +27,7 @@ use Rattle.hdt_build.proofs.Unique.{triple_unique}
 use Rattle.hdt_dict.specs.Dictionary.{FourLists, strings_in}
 use Rattle.hdt_file.specs.File.{counts_of}
 
--- the strings of a role are the terms of the sections
+-- the strings of a role are those of its sections
 module _ {ss ps os : List (List ℕ)} (d : FourLists) (h : IsSplit ss ps os d) where
   pub subject_member : (x : List ℕ) → Contains ss x → Contains (strings_in d Subject) x
   subject_member x a =
@@ -50,7 +50,7 @@ module _ {ss ps os : List (List ℕ)} (d : FourLists) (h : IsSplit ss ps os d) w
         | inr b ↦ Contains-append_right d.shared d.objects x ((h.objects x).1 (a, b))
       ]
 
--- the triples of strings that the numbers of their parts denote
+-- the string triples that the IDs denote
 module _ (xs : List (List ℕ)) (ids : List Triple) (d : FourLists) (nodes names : List ℕ) (h : ArePartsOf xs ids d nodes names) where
   abbrev new : Triple → Triple
   new t = renumbered_triple nodes names nodes t
@@ -86,21 +86,21 @@ module _ {g : List StringTriple} (d : FourLists) (ts : List Triple) (h : IsForm 
         | inr behind ↦ let same : i ≡ j = omega arith in let f = ap (λ k. (get_or ts k e).0) same in omega arith
       ]
 
-  -- each string of a subject occurs
+  -- each subject string occurs in a triple
   occurs_as : (x : List ℕ) → Contains (strings_in d Subject) x → (t : Triple) × Contains ts t × (term_numbered (strings_in d Subject) t.0 ≡ x)
   occurs_as x in_terms =
       let r = Contains-from_map (λ (t : StringTriple). t.0) g x (subject_term d h.sections x in_terms) in
       let s = Contains-from_map (string_triple d) ts r.0 ((h.denotes r.0).1 r.1) in
       (s.0, s.1, ap (λ (t : StringTriple). t.0) s.2 ∙ r.2)
 
-  -- each number of a subject occurs
+  -- each subject ID occurs in a triple
   pub occurs : (n : ℕ) → 0 < n → n ≤ length (strings_in d Subject) → (t : Triple) × Contains ts t × (t.0 ≡ n)
   occurs n a b =
       let r = occurs_as (term_numbered (strings_in d Subject) n) (term_in (strings_in d Subject) n a b) in
       let range = All-contains (IsInRange (counts_of d)) ts r.0 h.in_range r.1 in
       (r.0, r.1, number_unique (strings_in d Subject) (subjects_distinct d h.sections) r.0.0 n range.0.0 range.0.1 a b r.2)
 
-  -- the same by places
+  -- the same by index
   at_place : (n : ℕ) (e : Triple) → 0 < n → n ≤ length (strings_in d Subject) → (j : ℕ) × (j < length ts) × ((get_or ts j e).0 ≡ n)
   at_place n e a b =
       let r = occurs n a b in
@@ -118,7 +118,7 @@ module _ {g : List StringTriple} (d : FourLists) (ts : List Triple) (h : IsForm 
       let le = subject_le 0 r.0 e (omega arith) r.1 in
       omega (arith, le, r.2)
 
-  -- no subject is passed over
+  -- no subject is skipped
   next_subject : (k : ℕ) → k + 1 < length ts → (triple_in ts (k + 1)).0 ≤ (triple_in ts k).0 + 1
   next_subject k below =
       let e : Triple = (0, 0, 0) in
@@ -134,7 +134,7 @@ module _ {g : List StringTriple} (d : FourLists) (ts : List Triple) (h : IsForm 
         | inr close ↦ close
       ]
 
-  -- they can be written
+  -- the triples can be written
   pub writable : 0 < length ts → AreWritable ts
   writable some = record {
     some = some;

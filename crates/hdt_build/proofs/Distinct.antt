@@ -1,4 +1,4 @@
--- The terms of a role are distinct: a string has one number.
+-- The strings of a role are distinct, so a string has one ID.
 use Rattle.std.proofs.Common.{◌≡◌, ℕ, ◌-◌, ◌<◌, ◌≤◌, List, [], ◌++◌, length, get_or, refl, ap, sym, ◌∙◌, subst, inl, inr, arith}
 use Rattle.std.specs.List.{Contains}
 use Rattle.std.specs.Cmp.Lexicographic.{nat_list_cmp_total}
@@ -14,7 +14,7 @@ use Rattle.hdt_build.proofs.Naming.{term_is}
 use Rattle.hdt_dict.specs.Dictionary.{FourLists, strings_in}
 use Rattle.hdt_wire.specs.declared.role.Role.TheVariants.{Subject, Predicate, Object}
 
--- equal strings stand at one place
+-- equal strings have the same index
 pub record Distinct (xs : List (List ℕ)) : Type 0 where
   pub one : (i j : ℕ) → i < length xs → j < length xs → get_or xs i [] ≡ get_or xs j [] → i ≡ j
 
@@ -63,7 +63,7 @@ module _ (xs ys : List (List ℕ)) (no_both : (x : List ℕ) → Contains xs x �
         ];
   }
 
--- one number for a string
+-- a string has one ID
 pub number_unique : (terms : List (List ℕ)) → Distinct terms → (m n : ℕ) → 0 < m → m ≤ length terms → 0 < n → n ≤ length terms → term_numbered terms m ≡ term_numbered terms n → m ≡ n
 number_unique terms h m n a b c d same = let e = h.one (m - 1) (n - 1) (omega arith) (omega arith) (sym (term_is terms m a) ∙ same ∙ term_is terms n c) in omega arith
 

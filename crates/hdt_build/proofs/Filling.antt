@@ -1,4 +1,4 @@
--- A section that is written as a filter of strings in order.
+-- Writing a section as a filter of ascending strings.
 use Rattle.std.proofs.Common.{◌≡◌, inl, inr, ℕ, ◌+◌, ◌<◌, ◌≤◌, Bool, List, [], ◌∷◌, ◌++◌, true, false, length, get_or, set, subst, arith}
 use Rattle.std.proofs.lemmas.Bool.{cases_lt, cases_eq}
 use Rattle.std.proofs.lemmas.List.{get_or_past}
@@ -7,7 +7,7 @@ use Rattle.hdt_front.specs.Order.{IsAscending, string_cmp}
 use Rattle.hdt_build.specs.Inside.Parted.{flag_at, IsFilled}
 use Rattle.hdt_build.proofs.Joining.{InWork, Ahead, begun, taken}
 
--- a flag is a yes before the end alone
+-- a flag is true only before the end
 pub flag_before : (flags : List Bool) (k : ℕ) → flag_at flags k ≡ true → k < length flags
 flag_before flags k is = elim (cases_lt k (length flags)) [
   | inl lt ↦ lt
@@ -18,7 +18,7 @@ module _ (xs : List (List ℕ)) (up : IsAscending xs) (keeps : ℕ → Type 0) (
   abbrev text : ℕ → List ℕ
   text k = get_or xs k []
 
-  -- what was written where the iteration stands at i: the one run of two is all that is ahead
+  -- what has been written at index i: of the two runs, one has all that remains
   abbrev pub Filled : ℕ → List (List ℕ) → List ℕ → Type 0
   Filled i strings after = InWork keeps text (Ahead i (length xs) (length xs) (length xs)) count strings before after
 

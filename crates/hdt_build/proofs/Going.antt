@@ -1,4 +1,4 @@
--- A walk along strings.
+-- Steps of a cursor over strings.
 use Rattle.std.proofs.Common.{◌≡◌, ◌∙◌, ℕ, ◌+◌, ◌-◌, ◌<◌, List, [], ◌∷◌, length, drop, get_or, Option, Some, refl, ap, sym, arith}
 use Rattle.std.proofs.lemmas.List.{get_or-drop, drop-drop, length-drop}
 use Rattle.hdt_dict.specs.Walking.{Progress, stepped_by, next_number}

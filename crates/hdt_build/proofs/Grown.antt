@@ -1,4 +1,4 @@
--- One more triple of a document, whose list of strings may have grown.
+-- Adding a triple to a document, whose list of strings may be extended.
 use Rattle.std.proofs.Common.{◌≡◌, ◌∙◌, ℕ, ◌<◌, List, [], ◌∷◌, ◌++◌, map, length, get_or, refl, arith}
 use Rattle.std.specs.List.{All}
 use Rattle.std.proofs.lemmas.List.{map_push}
@@ -12,7 +12,7 @@ use Rattle.hdt_build.proofs.Naming.{same_strings}
 pub goes_on : (xs ys zs : List (List ℕ)) → GoesOn xs ys → GoesOn ys zs → GoesOn xs zs
 goes_on xs ys zs a b = record { longer = omega (arith, a.longer, b.longer); kept = λ k lt. b.kept k (omega (arith, lt, a.longer)) ∙ a.kept k lt }
 
--- a map of two functions that agree on the list
+-- two functions that are equal on a list have the same map
 map_same : {X Y : Type 0} (f g : X → Y) (xs : List X) → All (λ x. f x ≡ g x) xs → map f xs ≡ map g xs
 map_same f g [] h = refl
 map_same f g (x ∷ xs) h =
@@ -20,7 +20,7 @@ map_same f g (x ∷ xs) h =
     let r = map_same f g xs (All-tail (λ x. f x ≡ g x) x xs h) in
     λ i. e i ∷ r i
 
--- the triples of strings that are kept
+-- extending the list of strings leaves the string triples unchanged
 pub graph_kept : (xs ys : List (List ℕ)) → GoesOn xs ys → (ids : List Triple) → AreBelow (length xs) ids → string_triples_of ys ids ≡ string_triples_of xs ids
 graph_kept xs ys g ids h = map_same (string_triple_at ys) (string_triple_at xs) ids (λ n d below. same_strings _ _ _ _ _ _ (g.kept _ (h.subjects n d below)) (g.kept _ (h.predicates n d below)) (g.kept _ (h.objects n d below)))
 

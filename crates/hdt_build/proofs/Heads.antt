@@ -1,4 +1,4 @@
--- The property text of a header: it has no zero byte, and tells the length of the body.
+-- The property text of the header: it has no zero byte, and gives the length of the body.
 use Rattle.std.proofs.Common.{◌≡◌, ◌≢◌, ℕ, ◌^◌, ◌<◌, ◌≤◌, true, false, zero, suc, List, [], ◌∷◌, ◌++◌, length, get_or, eqb, not, ltb, Option, Some, refl, sym, ap, subst, ◌∙◌, append_assoc, arith}
 use Rattle.std.specs.Prelude.{codes, IsSomeAnd}
 use Rattle.std.specs.Char.{digit_value}
@@ -17,7 +17,7 @@ use Rattle.hdt_file.specs.Decimal.{Decimal}
 use Rattle.hdt_file.specs.Head.{StatesLength}
 use Rattle.hdt_build.specs.Header.{length_property}
 
--- a digit is no byte that isn't one
+-- a digit differs from every byte that is not a digit
 not_digit : (b : ℕ) → 10 ≤ digit_value b → (c : ℕ) → digit_value c < 10 → c ≢ b
 not_digit b low c lt = λ e. absurd (omega (arith, ap digit_value e))
 
@@ -35,7 +35,7 @@ length_no_zero n small =
     All-append (λ (b : ℕ). b ≢ 0) (codes "length=") (decimal n ++ codes ";") (without (codes "length=") refl)
     (All-append (λ (b : ℕ). b ≢ 0) (decimal n) (codes ";") (no_other 0 (omega arith) (decimal n) (decimal_is_IsNumeral n small).0.1) (without (codes ";") refl))
 
--- ---- the length that the text tells
+-- ---- the length that the text gives
 
 no_semicolon : (n : ℕ) → n < 2 ^ 64 → (k d : ℕ) → k < length (codes "length=" ++ decimal n) → is 59 (get_or (codes "length=" ++ decimal n) k d) ≡ false
 no_semicolon n small =

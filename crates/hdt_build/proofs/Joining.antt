@@ -1,4 +1,4 @@
--- A section that is written from two ascending runs, and the numbers that are noted.
+-- Writing a section from two ascending runs, and storing the IDs of its strings.
 use Rattle.std.proofs.Common.{◌≡◌, ◌∙◌, ◌⊎◌, inl, inr, ℕ, ◌+◌, ◌-◌, ◌<◌, ◌≤◌, List, [], ◌∷◌, ◌++◌, length, get_or, set, refl, ap, sym, subst, arith}
 use Rattle.std.specs.declared.cmp.Ordering.TheVariants.{Less}
 use Rattle.std.specs.List.{Contains}
@@ -24,7 +24,7 @@ ascends_more xs y up below = sorted_from_all_adjacent nat_list_cmp_total (xs ++ 
           rw (get_or_append_left xs (y ∷ []) [] k (omega (arith, at)), get_or_push xs y [] (k + 1) at) (below (get_or xs k []) (Contains-get_or xs k [] (omega (arith, at))))
     ])
 
--- a number in a list is one in a longer list, and one behind another list
+-- an ID in a list is one in a longer list, and after another list
 pub number_in_front : (xs ys : List (List ℕ)) (x : List ℕ) (n : ℕ) → IsNumberOf xs x n → IsNumberOf (xs ++ ys) x n
 number_in_front xs ys x n h = record {
   from_one = h.from_one;
@@ -52,7 +52,7 @@ last_number xs x = record {
   is = term_is (xs ++ x ∷ []) (length xs + 1) (omega arith) ∙ get_or_push xs x [] (length xs + 1 - 1) (omega arith);
 }
 
--- ---- what was written and noted so far, of strings by their places, of which some are still ahead
+-- ---- what has been written and stored so far, of strings by index, some of which remain
 
 pub record InWork (keeps : ℕ → Type 0) (string : ℕ → List ℕ) (ahead : ℕ → Type 0) (count : ℕ) (strings : List (List ℕ)) (before after : List ℕ) : Type 0 where
   pub ascend : IsAscending strings
@@ -62,7 +62,7 @@ pub record InWork (keeps : ℕ → Type 0) (string : ℕ → List ℕ) (ahead : 
   pub long : length after ≡ length before
   pub below : (x : List ℕ) → Contains strings x → (k : ℕ) → ahead k → string_cmp x (string k) ≡ Less
 
--- the places that are ahead: of one run, and of the other
+-- the indices that remain in the two runs
 abbrev pub Ahead : ℕ → ℕ → ℕ → ℕ → ℕ → Type 0
 Ahead i cut j end k = ((i ≤ k) × (k < cut)) ⊎ ((j ≤ k) × (k < end))
 
@@ -105,7 +105,7 @@ module _ (keeps : ℕ → Type 0) (string : ℕ → List ℕ) (count : ℕ) (bef
     below = λ x there k _. absurd (omega (arith, there.1));
   }
 
-  -- the string at a place is written
+  -- the string at an index is written
   module _ (strings : List (List ℕ)) (after : List ℕ) (ahead rest : ℕ → Type 0) (h : InWork keeps string ahead count strings before after) where
     one_more : (n v : ℕ) → keeps n → ahead n → n < length after → v ≡ count + (length strings + 1)
         → ((k : ℕ) → keeps k → ahead k → (k ≡ n) ⊎ rest k) → ((k : ℕ) → rest k → ahead k) → ((k : ℕ) → rest k → string_cmp (string n) (string k) ≡ Less)
@@ -142,7 +142,7 @@ module _ (keeps : ℕ → Type 0) (string : ℕ → List ℕ) (count : ℕ) (bef
       ];
     }
 
-  -- the next string of the first run is written, and the run goes on
+  -- the next string of the first run is written, and the run advances
   pub taken : (i cut j end at v : ℕ) (strings : List (List ℕ)) (after : List ℕ) → InWork keeps string (Ahead i cut j end) count strings before after
       → keeps i → i < cut → i < length after → v ≡ count + (length strings + 1) → i + 1 ≤ at → ((k : ℕ) → i + 1 ≤ k → k < at → keeps k → ⊥)
       → ((k : ℕ) → i < k → k < cut → string_cmp (string i) (string k) ≡ Less) → ((k : ℕ) → j ≤ k → k < end → string_cmp (string i) (string k) ≡ Less)

@@ -1,4 +1,4 @@
--- What a graph denotes: strings that its triples use, each a text.
+-- The graph that a file denotes: its strings are UTF-8 without zero bytes.
 use Rattle.std.proofs.Common.{◌≡◌, ◌∙◌, ℕ, ◌+◌, ◌-◌, ◌<◌, ◌≤◌, List, [], ◌∷◌, ◌++◌, length, get_or, None, true, refl, ap, sym, subst, inl, inr, arith}
 use Rattle.std.specs.List.{All}
 use Rattle.std.proofs.lemmas.Bool.{cases_lt}
@@ -23,7 +23,7 @@ use Rattle.hdt_build.specs.Inside.Numbers.{term_numbered}
 use Rattle.hdt_build.specs.Reading.{AreTexts}
 use Rattle.hdt_build.proofs.Naming.{term_is}
 
--- ---- the pattern that gives nothing
+-- ---- the pattern that matches all triples
 
 agrees_all : (p : Pattern) (t : Triple) → p.s ≡ None → p.p ≡ None → p.o ≡ None → agrees p t ≡ true
 agrees_all p t s q o = rw (s, q, o) refl
@@ -56,7 +56,7 @@ place_text g h Object n from to = text_of_two g.dictionary.shared g.dictionary.o
 pub string_text : (g : GraphParts) → IsGraph g → (role : Role) (n : ℕ) → 1 ≤ n → n ≤ length (strings_in g.dictionary role) → IsDictionaryString (term_numbered (strings_in g.dictionary role) n)
 string_text g h role n from to = subst IsDictionaryString (sym (term_is (strings_in g.dictionary role) n from)) (place_text g h role n from to)
 
--- a triple of a graph: in each role its number is that of a string, and used
+-- in each role, the ID of a triple is valid and used
 pub record IsOf (g : GraphParts) (t : Triple) : Type 0 where
   pub from : (role : Role) → 1 ≤ part role t
   pub to : (role : Role) → part role t ≤ length (strings_in g.dictionary role)

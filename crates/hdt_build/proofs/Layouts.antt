@@ -1,4 +1,4 @@
--- A canonical file is a layout of its graph.
+-- A canonical file is a valid file of its graph.
 use Rattle.std.proofs.Common.{◌≡◌, ℕ, ◌+◌, ◌^◌, ◌<◌, ◌≤◌, List, [], ◌++◌, length, refl, sym, ap, subst, ◌∙◌, arith, length-append, append-nil}
 use Rattle.hdt_wire.specs.declared.control.Kind.TheVariants as kinds
 use Rattle.hdt_wire.specs.Control.{control, block_at}
@@ -27,7 +27,7 @@ use Rattle.hdt_build.proofs.Denoting.{some_triple, writable, once}
 use Rattle.hdt_build.proofs.Heads.{length_no_zero, states_length}
 use Rattle.hdt_build.proofs.TightForm.{form_tight}
 
--- where a dictionary ends
+-- the end of a dictionary
 dictionary_end : (b : ℕ) (d : FourLists) (at : ℕ) → (canonical_dictionary_parts b d at).objects.end ≡ at + length (canonical_dictionary b d)
 unfolding canonical_dictionary canonical_dictionary_parts canonical_parts
 dictionary_end b d at =
@@ -38,7 +38,7 @@ dictionary_end b d at =
     let o : List ℕ = canonical b d.objects in
     omega (arith, length-append block (s ++ (u ++ (p ++ o))), length-append s (u ++ (p ++ o)), length-append u (p ++ o), length-append p o)
 
--- where triples end
+-- the end of the triples
 triples_end : (f : BitmapTriples) (at : ℕ) → (sequences_parts f at).zs.end ≡ at + length (canonical_sequences f)
 unfolding canonical_sequences sequences_parts
 triples_end f at =
@@ -49,7 +49,7 @@ triples_end f at =
     let zs : List ℕ = numbers_spelling f.zs in
     omega (arith, length-append block (my ++ (mz ++ (ys ++ zs))), length-append my (mz ++ (ys ++ zs)), length-append mz (ys ++ zs), length-append ys zs)
 
--- the counts of a dictionary that is written
+-- the counts of a canonical dictionary
 counts_are : (b : ℕ) (d : FourLists) (at : ℕ) → counts_in (canonical_dictionary_parts b d at) ≡ counts_of d
 unfolding canonical_dictionary_parts canonical_parts
 counts_are b d at = refl
@@ -57,7 +57,7 @@ counts_are b d at = refl
 all_of : (text : List ℕ) → Stands text 0 text (0 + length text)
 all_of text = subst (λ (l : List ℕ). Stands l 0 text (0 + length text)) (append-nil text) (Stands-after [] text [])
 
--- what a canonical file says
+-- the contents of a canonical file
 unfoldable file_of : (header : List ℕ) (b : ℕ) (d : FourLists) (ts : List Triple) → FileParts
 file_of header b d ts =
     let g : ℕ = 0 + length (control kinds.Global []) in

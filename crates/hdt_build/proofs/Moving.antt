@@ -1,4 +1,4 @@
--- Triples whose numbers were replaced: the same triples of strings.
+-- Mapping the indices of triples leaves the string triples unchanged.
 use Rattle.std.proofs.Common.{◌≡◌, ◌∙◌, ℕ, ◌<◌, List, [], ◌∷◌, map, length, get_or, take, ◌++◌, refl, sym, arith}
 use Rattle.std.specs.List.{All}
 use Rattle.std.proofs.lemmas.List.{get_or_default, same_lists, length-map, get_or-map, take-append-le, take_all}
@@ -9,7 +9,7 @@ use Rattle.hdt_build.specs.Graph.{renumbered_triple, string_triple_at, string_tr
 use Rattle.hdt_build.specs.Inside.Placed.{AreRanks}
 use Rattle.hdt_build.proofs.Naming.{same_strings}
 
--- what is written back to a vector whose triples were all replaced
+-- a vector after all of its triples were mapped in place
 pub all_replaced : (sn pn on : List ℕ) (len : ℕ) (old new rest : List Triple) → len ≡ length old → length new ≡ length old
     → ((k : ℕ) → k < length old → get_or new k (0, 0, 0) ≡ renumbered_triple sn pn on (get_or old k (0, 0, 0))) → take len (new ++ rest) ≡ map (renumbered_triple sn pn on) old
 all_replaced sn pn on len old new rest is long each =
@@ -19,7 +19,7 @@ all_replaced sn pn on len old new rest is long each =
     let in' : k < length old = omega arith in
     get_or_default new k d (0, 0, 0) below ∙ each k in' ∙ sym (get_or-map (renumbered_triple sn pn on) old k (0, 0, 0) d in'))
 
--- two functions, one after the other, that do on a list what a third does
+-- two functions whose composition equals a third one on a list
 pub map_along : {X Y Z : Type 0} (f : Y → Z) (g : X → Y) (h : X → Z) (xs : List X) → All (λ x. f (g x) ≡ h x) xs → map f (map g xs) ≡ map h xs
 map_along f g h [] all = refl
 map_along f g h (x ∷ xs) all =
@@ -27,7 +27,7 @@ map_along f g h (x ∷ xs) all =
     let r = map_along f g h xs (All-tail (λ x. f (g x) ≡ h x) x xs all) in
     λ i. e i ∷ r i
 
--- the places replaced by the ranks of their strings
+-- indices mapped to those of equal strings
 module _ (xs ys : List (List ℕ)) (ns : List ℕ) (r : AreRanks xs ys ns) (ids : List Triple) (h : AreBelow (length xs) ids) where
   pub moved_is : string_triples_of ys (map (renumbered_triple ns ns ns) ids) ≡ string_triples_of xs ids
   moved_is = map_along (string_triple_at ys) (renumbered_triple ns ns ns) (string_triple_at xs) ids (λ k d lt. same_strings _ _ _ _ _ _ (r.is _ (h.subjects k d lt)) (r.is _ (h.predicates k d lt)) (r.is _ (h.objects k d lt)))

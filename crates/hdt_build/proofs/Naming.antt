@@ -1,4 +1,4 @@
--- The string of a number, and the string triple of three.
+-- The string of an ID, and the string triple of three IDs.
 use Rattle.std.proofs.Common.{◌≡◌, ◌∙◌, ℕ, zero, suc, ◌-◌, ◌≤◌, List, [], length, get_or, ap, sym, subst, arith}
 use Rattle.std.specs.List.{Contains}
 use Rattle.std.proofs.lemmas.List.Elements.{Contains-get_or}
@@ -9,7 +9,7 @@ use Rattle.hdt_file.specs.Denoted.{StringTriple, strings_for}
 use Rattle.hdt_build.specs.Layouts.{graph_parts_of}
 use Rattle.hdt_build.specs.Inside.Numbers.{term_numbered}
 
--- what the numbers of a triple stand for in the sections
+-- the strings of the IDs of a triple in the sections
 abbrev pub string_triple : FourLists → Triple → StringTriple
 string_triple d t = strings_for (graph_parts_of [] d []) t
 

@@ -1,4 +1,4 @@
--- What is told of a document without triples.
+-- The error for a document without triples.
 use Rattle.std.proofs.Common.{◌≡◌, ℕ, ◌<◌, ◌≤◌, List, [], length, map, Option, Some, ◌⊎◌, inl, inr, refl, ap, ◌∙◌, ⊎_elim, arith}
 use Rattle.hdt_terms.specs.declared.fault.TermFault.{TermFault}
 use Rattle.hdt_terms.specs.declared.triple.Triple.{Triple}
@@ -12,14 +12,14 @@ use Rattle.hdt_build.specs.Built.{Builds}
 use Rattle.hdt_build.specs.Reading.{most, term_strings, TellsBuildFault, ReadFailed}
 use Rattle.hdt_build.proofs.OneDocument.{one_document, no_fault}
 
--- nothing is built of it
+-- nothing is built from it
 pub none_built : (one : (text : List ℕ) (x y : Option Triple) → Line text x → Line text y → x ≡ y) (options : Options) (bytes made : List ℕ) (report : Report) → Builds options (Some bytes) made report → Document bytes [] → ⊥
 none_built one options bytes made report h none =
     let same : h.read.triples ≡ [] = one_document one bytes h.read.triples [] h.read.document.0 none in
     let some : 0 < length h.graph = h.built.file.some in
     omega (arith, some, ap length (h.read.strings ∙ ap (λ (ts : List Triple). map term_strings ts) same))
 
--- an error that is told is this, or that the reader failed, or running out of memory
+-- the error is this one, or that the reader failed, or out of memory
 pub none_told : (apart : (text : List ℕ) (x : Option Triple) (fault : TermFault) → Line text x → LineFaultStands text fault → ⊥) (bytes : List ℕ) (after : Option (List ℕ)) (e : BuildFault) → TellsBuildFault (Some bytes) after e → Document bytes [] → length bytes ≤ most
     → (e ≡ faults.NoTriples) ⊎ ((e ≡ faults.OutOfMemory) ⊎ ReadFailed e)
 none_told apart bytes after (faults.Line fault) h none short = inr (inr (⊎_elim (λ read. read) (λ memory. absurd (h.1 memory)) (no_fault apart bytes [] fault most after none short h.0)))

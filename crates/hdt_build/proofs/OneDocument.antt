@@ -1,4 +1,4 @@
--- An input is one document at most, and a document has no error.
+-- The triples of a document are determined, and a document has no error.
 use Rattle.std.proofs.Common.{◌≡◌, ℕ, ◌+◌, ◌<◌, ◌≤◌, true, false, List, [], ◌∷◌, ◌++◌, length, Option, None, Some, ◌⊎◌, inl, inr, refl, sym, ap, subst, ◌∙◌, append_assoc, append-nil, arith}
 use Rattle.std.specs.Io.KnownBytes.{Consumes, IsAtEnd}
 use Rattle.std.proofs.lemmas.List.{length-append}
@@ -14,7 +14,7 @@ use Rattle.hdt_terms.specs.LineReading.{LineFaultStands}
 use Rattle.hdt_terms.specs.Lines.{NoEnd, Line, EndedLines, Document, triples_of_lines}
 use Rattle.hdt_terms.specs.Taking.{StandsInLine, StandsInText}
 
--- ---- the first end of a text is found in one way
+-- ---- the first line end of a text is unique
 
 no_head : (c : ℕ) (cs : List ℕ) → NoEnd (c ∷ cs) → is_end c ≡ false
 no_head c cs h = All-head (λ (c : ℕ). is_end c ≡ false) c cs h
@@ -40,7 +40,7 @@ cut (c ∷ cs) r (d ∷ ds) s e f na ye nb yf same =
     let head : c ≡ d = heads c d (cs ++ e ∷ r) (ds ++ f ∷ s) same in
     (ap (λ (x : ℕ). x ∷ cs) head ∙ ap (λ (l : List ℕ). d ∷ l) rest.0, rest.1)
 
--- a text without ends isn't one with an end
+-- a text without line ends is not a text with one
 never : (a r b : List ℕ) (e : ℕ) → is_end e ≡ true → NoEnd b → a ++ e ∷ r ≡ b → ⊥
 never [] r [] e ye nb same = absurd (cc)
 never [] r (c ∷ cs) e ye nb same = clash c e (no_head c cs nb) ye (sym (heads e c r cs same))
@@ -73,11 +73,11 @@ module _ (one : (text : List ℕ) (x y : Option Triple) → Line text x → Line
       ∙ ap (λ (l : List (Option Triple)). triples_of_lines l) (lines_are p.lines q.lines p.front p.last q.front q.last p.last_line q.last_line p.ended p.no_end p.is_line q.ended q.no_end q.is_line (sym p.cut ∙ q.cut))
       ∙ sym q.triples_are
 
--- the text of a line, with its end or the last
+-- the text of a line, which is followed by a line end or is the last one
 Piece : List ℕ → List ℕ → Type 0
 Piece text tail = ((e : ℕ) × (rest : List ℕ) × (is_end e ≡ true) × (tail ≡ text ++ e ∷ rest)) ⊎ (tail ≡ text)
 
--- where a document has a piece behind some lines, it is a line
+-- after some lines of a document, the next piece is a valid line
 piece_is : (ys : List (Option Triple)) (text tail front' last' : List ℕ) (y : Option Triple) → NoEnd text → Piece text tail → EndedLines ys front' → NoEnd last' → Line last' y
     → tail ≡ front' ++ last' → (x : Option Triple) × Line text x
 unfolding Piece
@@ -141,7 +141,7 @@ module _ (apart : (text : List ℕ) (x : Option Triple) (fault : TermFault) → 
   behind_front bytes ts fault limit front xs None given p short ended took h = absurd took
   behind_front bytes ts fault limit front xs (Some r) given p short ended took h = by_reason bytes front r ts xs fault.reason fault.column limit given p short ended took h
 
-  -- an error of a document tells of the reader or of memory
+  -- for a document, the only errors are a failed read and out of memory
   pub no_fault : (bytes : List ℕ) (ts : List Triple) (fault : LineFault) (limit : ℕ) (given : Option (List ℕ)) → Document bytes ts → length bytes ≤ limit → FaultInDocument fault limit (Some bytes) given
       → (fault.reason ≡ reasons.Read) ⊎ (fault.reason ≡ reasons.OutOfMemory)
   no_fault bytes ts fault limit given p short h = behind_front bytes ts fault limit h.front h.lines h.rest given p short h.ended h.consumed h.fault_is

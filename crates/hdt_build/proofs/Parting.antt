@@ -1,4 +1,4 @@
--- The sections of triples, and the numbers of their strings.
+-- The sections of triples, and the IDs of their strings.
 use Rattle.std.proofs.Common.{◌≡◌, ◌∙◌, inl, inr, ℕ, ◌<◌, Bool, true, false, List, [], ◌++◌, map, length, get_or, refl, ap, sym, subst}
 use Rattle.std.specs.List.{All, Contains}
 use Rattle.std.proofs.lemmas.List.Elements.{All-contains}
@@ -22,7 +22,7 @@ use Rattle.hdt_build.proofs.Naming.{term_in}
 use Rattle.hdt_build.proofs.Runs.{either}
 
 module _ (xs : List (List ℕ)) (ids : List Triple) where
-  -- ---- what triples use in a role, and the strings that their graph has there
+  -- ---- the indices that triples use in a role, and the strings of their graph in it
 
   part_at : (role : Role) (t : Triple) → part role (string_triple_at xs t) ≡ get_or xs (part role t) []
   part_at Subject t = refl
@@ -58,7 +58,7 @@ module _ (xs : List (List ℕ)) (ids : List Triple) where
     used_within : (role : Role) (k : ℕ) → Uses ids role k → k < length xs
     used_within role k used = let t = Contains-from_map (part role) ids k used in subst (λ (n : ℕ). n < length xs) t.2 (All-contains (λ t. part role t < length xs) ids t.0 (role_within within role) t.1)
 
-    -- a string that is used in two roles stands at one place
+    -- a string that is used in two roles has one index
     meet : (a b : Role) (n m : ℕ) → Uses ids a n → Uses ids b m → get_or xs n [] ≡ get_or xs m [] → n ≡ m
     meet a b n m u v same = (Distinct-ascending xs up).one n m (used_within a n u) (used_within b m v) same
 
@@ -66,7 +66,7 @@ module _ (xs : List (List ℕ)) (ids : List Triple) where
       off : (role : Role) (flags : List Bool) → AreUsed ids role flags → (k : ℕ) → flag_at flags k ≡ false → Uses ids role k → ⊥
       off role flags u k no' used = let e = (u k).1 used in absurd cc
 
-      -- what was filled has the string of each place that is kept
+      -- the section has the string at each index that passes the filter
       filled_has : (keeps : ℕ → Type 0) (count : ℕ) (strings : List (List ℕ)) (before after : List ℕ) → IsFilled xs keeps count strings before after → (k : ℕ) (x : List ℕ) → keeps k → get_or xs k [] ≡ x → Contains strings x
       filled_has keeps count strings before after h k x keep is =
           let e = (h.numbers k keep).is_number in
@@ -118,7 +118,7 @@ module _ (xs : List (List ℕ)) (ids : List Triple) where
           );
         }
 
-        -- the number of a shared string stays as it is where the others are written
+        -- writing the other sections leaves the ID of a shared string unchanged
         shared_number : (k : ℕ) → flag_at s k ≡ true → flag_at o k ≡ true → (back : List (List ℕ)) → IsNumberOf (sh ++ back) (get_or xs k []) (get_or n3 k 0)
         shared_number k on both back =
             let same : get_or n3 k 0 ≡ get_or n1 k 0 = e.others k (λ keep. let f = keep.1 in absurd cc) ∙ b.others k (λ keep. let f = keep.1 in absurd cc) in

@@ -1,4 +1,4 @@
--- A section of a graph, put from two runs.
+-- Writing a section of a graph from two runs.
 use Rattle.std.proofs.Common.{◌≡◌, ◌≢◌, ◌∙◌, inl, inr, ℕ, ◌+◌, ◌<◌, ◌≤◌, List, [], ◌∷◌, ◌++◌, length, set, refl, ap, sym, subst, arith}
 use Rattle.std.specs.declared.cmp.Ordering.{Ordering}
 use Rattle.std.specs.declared.cmp.Ordering.TheVariants.{Less, Equal, Greater}
@@ -26,7 +26,7 @@ module _ (g : GraphParts) (h : IsGraph g) (p : Part) (count : ℕ) (before : Lis
   abbrev pub text : ℕ → List ℕ
   text k = string_of g (role_of p) (k + 1)
 
-  -- what was written where the one run stands at i, and the other at j
+  -- what has been written, if the runs are at i and j
   abbrev pub Written : ℕ → ℕ → List (List ℕ) → List ℕ → Type 0
   Written i j strings after = InWork (λ k. KeepsNumber g p (k + 1)) text (Ahead i (cut_of g p) j (end_of g p)) count strings before after
 
@@ -37,7 +37,7 @@ module _ (g : GraphParts) (h : IsGraph g) (p : Part) (count : ℕ) (before : Lis
 
   module _ (one two : Run) (a : IsRunOfStrings g p one) (a_end : one.end ≡ cut_of g p) (b : IsRunOfStrings g p two) (b_end : two.end ≡ end_of g p) (b_from : cut_of g p ≤ two.at)
       (strings : List (List ℕ)) (after : List ℕ) (work : Written one.at two.at strings after) where
-    -- the strings at which the runs stand come after the last one that was written
+    -- the current strings of the runs are greater than the string written last
     pub both_tell : one.at < one.end → two.at < two.end → Agrees (last_in strings) one → Agrees (last_in strings) two → Tell one two
     both_tell one_there two_there one_same two_same =
         tell (last_in strings) one two (one_same one_there) (two_same two_there)

@@ -1,4 +1,4 @@
--- The sections of a graph that is written anew, and the numbers of its triples.
+-- The sections of a graph that is rewritten, and the new IDs of its triples.
 use Rattle.std.proofs.Common.{◌≡◌, ◌∙◌, ◌⊎◌, inl, inr, ℕ, ◌+◌, ◌-◌, ◌<◌, ◌≤◌, List, [], ◌∷◌, ◌++◌, map, length, get_or, refl, ap, sym, subst, arith}
 use Rattle.std.specs.List.{All, Contains}
 use Rattle.std.proofs.lemmas.Bool.{cases_lt}
@@ -30,7 +30,7 @@ use Rattle.hdt_build.proofs.Naming.{string_triple, same_strings, term_is, term_i
 use Rattle.hdt_build.proofs.RunOrder.{used_range, kept_used}
 use Rattle.hdt_triples.specs.Order.{IsInRange, AreAscending}
 
--- where a string of two lists stands
+-- the position of a string in two concatenated lists
 side : (xs ys : List (List ℕ)) (n : ℕ) → 1 ≤ n → n ≤ length (xs ++ ys) → ((n ≤ length xs) × (get_or xs (n - 1) [] ≡ term_numbered (xs ++ ys) n)) ⊎ Contains ys (term_numbered (xs ++ ys) n)
 side xs ys n from to = elim (cases_lt (n - 1) (length xs)) [
   | inl front ↦ inl (omega (arith, from, front), sym (term_is (xs ++ ys) n from ∙ get_or_append_left xs ys [] (n - 1) front))
@@ -43,7 +43,7 @@ part_of g Predicate t = refl
 part_of g Object t = refl
 
 module _ (g : GraphParts) (h : IsGraph g) where
-  -- ---- what is used in a role is what the graph denotes there
+  -- ---- the strings used in a role are those of the denoted graph
 
   named : (role : Role) (x : List ℕ) (n : ℕ) → Uses g.triples role n → string_of g role n ≡ x → Contains (map (part role) (denoted_by g)) x
   named role x n used is =
@@ -57,7 +57,7 @@ module _ (g : GraphParts) (h : IsGraph g) where
       let t = Contains-from_map (strings_for g) g.triples s.0 s.1 in
       (part role t.0, Contains-map (part role) g.triples t.0 t.1, sym (part_of g role t.0) ∙ (ap (part role) t.2 ∙ s.2))
 
-  -- ---- a string that is a subject and an object is shared
+  -- ---- a string that is both a subject and an object is shared
 
   at_shared : (n : ℕ) → 1 ≤ n → n ≤ length g.dictionary.shared → string_of g Subject n ≡ string_of g Object n
   at_shared n from to =
@@ -101,7 +101,7 @@ module _ (g : GraphParts) (h : IsGraph g) where
     | inr absent ↦ inr (λ both. absent (named Subject (string_of g Object m) m both.1 (at_shared m (used_range g h Object m used).0 both.0)))
   ]
 
-  -- ---- what was put
+  -- ---- the written sections
 
   module _ (p : Part) (count : ℕ) (strings : List (List ℕ)) (before after : List ℕ) (put : IsPut g p count strings before after) where
     back : (n : ℕ) → Uses g.triples (role_of p) n → n - 1 + 1 ≡ n
@@ -198,7 +198,7 @@ module _ (g : GraphParts) (h : IsGraph g) where
         objects_are = λ n used. let r = used_range g h Object n used in subst (IsNumberOf (sh ++ ob) (string_of g Object n)) (sym (o n r.0 (omega (arith, r.1, o_long)))) (object_number n used);
       }
 
-  -- ---- the triples by their new numbers
+  -- ---- the triples with new IDs
 
   module _ (d : FourLists) (numbers : Numbers) (r : AreRewritten g d numbers) where
     one_in_range : (t : Triple) → IsOf g t → IsInRange (counts_of d) (renumbered numbers t)

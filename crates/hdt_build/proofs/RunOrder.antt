@@ -22,7 +22,7 @@ use Rattle.hdt_build.proofs.Distinct.{Distinct, Distinct-ascending, Distinct-app
 use Rattle.hdt_build.proofs.Keeping.{IsOf, all_of}
 use Rattle.hdt_build.proofs.Naming.{term_is}
 
--- ---- the string at a place, counted from 0
+-- ---- the string at an index, from 0
 
 term_there : (xs : List (List ℕ)) (k : ℕ) → term_numbered xs (k + 1) ≡ get_or xs k []
 term_there xs k = term_is xs (k + 1) (omega arith) ∙ ap (λ (i : ℕ). get_or xs i []) (omega arith)
@@ -46,7 +46,7 @@ module _ (xs ys : List (List ℕ)) (k m : ℕ) where
   up_two h e lt in' (inr back) = up_back e back lt in'
 
 module _ (g : GraphParts) (h : IsGraph g) where
-  -- a number that is used is that of a string
+  -- an ID in use is that of a string
   pub used_range : (role : Role) (n : ℕ) → Uses g.triples role n → (1 ≤ n) × (n ≤ length (strings_in g.dictionary role))
   used_range role n used =
       let t = Contains-from_map (part role) g.triples n used in
@@ -58,7 +58,7 @@ module _ (g : GraphParts) (h : IsGraph g) where
   distinct Predicate = Distinct-ascending _ h.predicates.ascend
   distinct Object = Distinct-append g.dictionary.shared g.dictionary.objects h.shared_objects (Distinct-ascending _ h.shared.ascend) (Distinct-ascending _ h.objects.ascend)
 
-  -- ---- the runs of the strings that a section may keep
+  -- ---- the two runs of a section
 
   pub kept_used : (p : Part) (n : ℕ) → KeepsNumber g p n → Uses g.triples (role_of p) n
   kept_used parts.Shared n k = k.1

@@ -1,4 +1,4 @@
--- A run over the lines of an input, which takes the strings of its triples.
+-- Reading the lines of an input, and collecting the strings of its triples.
 use Rattle.std.proofs.Common.{◌≡◌, ◌≢◌, ℕ, ◌<◌, ◌≤◌, Bool, true, false, List, [], ◌∷◌, ◌++◌, length, map, eqb, not, Option, Some, None, ◌⊎◌, inl, inr, refl, sym, ap, subst, ◌∙◌, arith}
 use Rattle.std.specs.Io.KnownBytes.{IsAtEnd, prepend_known}
 use Rattle.std.specs.List.{All}
@@ -41,11 +41,11 @@ strings_more graph triples triple s p o is t =
     let one : let l : StringTriple = (s, p, o) in l ≡ term_strings triple = same_strings _ _ _ _ _ _ t.s_is t.p_is t.o_is in
     (λ i. is i ++ one i ∷ []) ∙ sym (map_push term_strings triples triple)
 
--- behind a last line without an end nothing is left
+-- nothing is left after a last line without a line end
 nothing_left : (old new : State) (x y : Option (List ℕ)) (triple : Triple) → TakesTriple old new x y triple → new.ended ≡ true → (new.held ≡ []) × IsAtEnd y
 nothing_left old new x y triple t e = elim t.4.3 [ inl w ↦ absurd (let f : new.ended ≡ false = w.3 in cc) | inr w ↦ (w.2, w.3) ]
 
--- the reader is at its end where nothing is held and nothing is left
+-- the reader is at its end if no bytes are buffered and none are left
 pub at_end : (held : List ℕ) (given : Option (List ℕ)) → held ≡ [] → IsAtEnd (prepend_known held given) → IsAtEnd given
 at_end held None none e = tt
 at_end held (Some xs) none e = sym (ap (λ (ys : List ℕ). ys ++ xs) none) ∙ e
@@ -64,7 +64,7 @@ run_on s new input mid after graph triple a b c r still are on last taken = reco
   end = λ e. nothing_left s new mid after triple taken e;
 }
 
--- ---- texts
+-- ---- strings
 
 text_of : (x : List ℕ) → terms.IsText x → IsDictionaryString x
 text_of x h = record {
@@ -80,7 +80,7 @@ texts_more graph triple s p o h are a b c = record {
   objects_are = subst (All IsDictionaryString) (sym (map_push (λ (t : StringTriple). t.2) graph (s, p, o))) (All-push IsDictionaryString (objects_of graph) o h.objects_are (subst IsDictionaryString (sym are.o_is) (text_of (str triple.o) c)));
 }
 
--- no triples have no strings
+-- no triples, no strings
 pub no_texts : AreTexts []
 no_texts = record {
   subjects_are = λ k d lt. absurd (omega arith);
@@ -88,11 +88,11 @@ no_texts = record {
   objects_are = λ k d lt. absurd (omega arith);
 }
 
--- the line of a triple that was taken
+-- the line of a triple that was read
 pub line_of : (x y : Option (List ℕ)) (old new : State) (triple : Triple) → TakesTriple old new x y triple → (text : List ℕ) × SpelledTriple text triple
 line_of x y old new triple t = (t.4.0, t.4.1.1)
 
--- ---- each line with a triple has a byte
+-- ---- each line with a triple has at least one byte
 
 behind : (a b : List ℕ) → 0 < length b → 0 < length (a ++ b)
 behind a b lt = omega (arith, length-append a b)
@@ -107,7 +107,7 @@ triple_size x y old new triple t =
     let some : 0 < length t.1 = elim t.4.3 [ inl w ↦ omega (arith, ap length w.2, length-append t.4.0 (w.0 ∷ [])) | inr w ↦ subst (λ l. 0 < length l) (sym w.0) (triple_some t.4.0 triple t.4.1.1) ] in
     (omega (arith, t.2.taken, length-append t.0 t.1), omega (arith, t.2.within, t.2.limit), t.2.limit)
 
--- ---- the ends of a run
+-- ---- the start and the end of reading
 
 pub run_begins : (s : State) (input : Option (List ℕ)) (graph : List StringTriple) → s ≡ start most → graph ≡ [] → Ran most (start most) input (left (start most) input) [] → Run s input (left s input) graph
 run_begins s input graph e none h = record {
@@ -126,11 +126,11 @@ empty_map : (triples : List Triple) → map term_strings triples ≡ [] → trip
 empty_map [] e = refl
 empty_map (t ∷ ts) e = absurd cc
 
--- a graph without triples is that of a document without triples
+-- an empty graph is that of a document without triples
 pub no_triples : (input : Option (List ℕ)) (graph : List StringTriple) → IsGraphIn input graph → graph ≡ [] → IsDocument most input []
 no_triples input graph h none = subst (IsDocument most input) (empty_map h.triples (sym h.strings ∙ none)) h.document
 
--- an error that doesn't tell of the reader comes of an error that doesn't
+-- if the error of building is not a failed read, neither is that of the line
 pub not_read : (fault : LineFault) (told : BuildFault) → IsToldAs fault told → (ReadFailed told → ⊥) → fault.reason ≢ Read
 not_read fault told (inl memory) unread e = absurd cc
 not_read fault told (inr line) unread e = unread (subst ReadFailed (sym line.1) e)

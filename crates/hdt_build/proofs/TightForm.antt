@@ -1,4 +1,4 @@
--- The number triples of a graph use all the strings of its sections.
+-- The ID triples of an encoded graph use all strings of its sections.
 use Rattle.std.proofs.Common.{◌≡◌, ◌∙◌, ℕ, ◌<◌, ◌≤◌, List, length, ap, subst, inl, inr}
 use Rattle.std.specs.List.{Contains}
 use Rattle.std.proofs.lemmas.List.Elements.{All-contains, Contains-append_cases}

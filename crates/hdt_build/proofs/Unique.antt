@@ -1,4 +1,4 @@
--- One graph has one dictionary and one list of number triples.
+-- A graph has only one dictionary and one list of ID triples.
 use Rattle.std.proofs.Common.{◌≡◌, ◌∙◌, ℕ, List, map, ap, subst}
 use Rattle.std.specs.List.{Contains}
 use Rattle.std.specs.Cmp.Lexicographic.{nat_list_cmp_total}
@@ -31,7 +31,7 @@ split_same d s p o h = record {
   objects = λ x. (λ a. let r = (h.objects x).0 a in ((o x).0 r.0, λ b. r.1 ((s x).1 b)), λ r. (h.objects x).1 ((o x).1 r.0, λ b. r.1 ((s x).0 b)));
 }
 
--- the sections of three lists are determined
+-- the sections of three lists of strings are unique
 same_sections : (a b c d e f g h : List (List ℕ)) → a ≡ e → b ≡ f → c ≡ g → d ≡ h → let l : FourLists = record { shared = a; subjects = b; predicates = c; objects = d } in let r : FourLists = record { shared = e; subjects = f; predicates = g; objects = h } in l ≡ r
 same_sections a b c d e f g h p q r s = cc
 
@@ -45,7 +45,7 @@ split_unique d e h g = same_sections _ _ _ _ _ _ _ _
 same_triple : (a b c d e f : ℕ) → a ≡ b → c ≡ d → e ≡ f → let l : Triple = (a, c, e) in let r : Triple = (b, d, f) in l ≡ r
 same_triple a b c d e f p q r = cc
 
--- number triples in range that stand for one string triple are one
+-- ID triples in range that denote the same string triple are equal
 pub triple_unique : {ss ps os : List (List ℕ)} (d : FourLists) → IsSplit ss ps os d → (m n : Triple) → IsInRange (counts_of d) m → IsInRange (counts_of d) n → string_triple d m ≡ string_triple d n → m ≡ n
 triple_unique d h m n a b same =
     same_triple m.0 n.0 m.1 n.1 m.2 n.2
@@ -53,7 +53,7 @@ triple_unique d h m n a b same =
     (number_unique (strings_in d Predicate) (predicates_distinct d h) m.1 n.1 a.1.0 a.1.1 b.1.0 b.1.1 (ap (λ (t : StringTriple). t.1) same))
     (number_unique (strings_in d Object) (objects_distinct d h) m.2 n.2 a.2.0 a.2.1 b.2.0 b.2.1 (ap (λ (t : StringTriple). t.2) same))
 
--- a triple of the one list is in the other
+-- a triple of one list is in the other one
 carried : {g : List StringTriple} (d : FourLists) (ts us : List Triple) → IsForm g d ts → IsForm g d us → (n : Triple) → Contains ts n → Contains us n
 carried {g} d ts us p q n there =
     let shown : Contains (map (string_triple d) us) (string_triple d n) = (q.denotes (string_triple d n)).1 ((p.denotes (string_triple d n)).0 (Contains-map (string_triple d) ts n there)) in

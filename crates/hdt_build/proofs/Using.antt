@@ -1,4 +1,4 @@
--- Which numbers the first triples of a list have in a role.
+-- The indices that the first triples of a list use in a role.
 use Rattle.std.proofs.Common.{◌≡◌, ◌∙◌, ℕ, ◌+◌, ◌<◌, ◌≤◌, Bool, true, false, List, length, get_or, set, refl, ap, sym, subst, inl, inr, arith}
 use Rattle.std.specs.List.{Contains}
 use Rattle.std.proofs.lemmas.Bool.{cases_lt, cases_eq}
@@ -14,7 +14,7 @@ module _ (ts : List Triple) (role : Role) where
   abbrev number : ℕ → ℕ
   number m = part role (get_or ts m (0, 0, 0))
 
-  -- there is a yes exactly at the numbers of the first i triples
+  -- the flags are true exactly at the indices of the first i triples
   pub record AreSeen (i : ℕ) (flags : List Bool) : Type 0 where
     pub yes : (k : ℕ) → flag_at flags k ≡ true → (m : ℕ) × (m < i) × (part role (get_or ts m (0, 0, 0)) ≡ k)
     pub all : (m : ℕ) → m < i → flag_at flags (part role (get_or ts m (0, 0, 0))) ≡ true

@@ -1,4 +1,4 @@
--- Triples that waited, over strings that are known now.
+-- Queued triples, after their strings were looked up.
 use Rattle.std.proofs.Common.{◌≡◌, ◌∙◌, ℕ, ◌<◌, List, [], ◌∷◌, ◌++◌, length, get_or, refl, ap, arith}
 use Rattle.std.specs.List.{All}
 use Rattle.std.proofs.lemmas.List.Elements.{All-append, All-weaker}
@@ -10,17 +10,17 @@ use Rattle.hdt_build.specs.Graph.{string_triple_at, string_triples_of}
 use Rattle.hdt_build.specs.Inside.Texts.{GoesOn}
 use Rattle.hdt_build.proofs.Grown.{graph_kept}
 
--- each of the first strings of xs stands in ys, at the place that ns have for it
+-- the first strings of xs are in ys, at the indices ns
 pub record AreFound (xs ys : List (List ℕ)) (ns : List ℕ) : Type 0 where
   pub within : (k : ℕ) → k < length ns → get_or ns k 0 < length ys
   pub is : (k : ℕ) → k < length ns → get_or ys (get_or ns k 0) [] ≡ get_or xs k []
 
--- where no triples are listed, there are no places of any
+-- if there are no string triples, there are no index triples
 pub no_ids : (xs : List (List ℕ)) (ids : List Triple) (rest : List StringTriple) → string_triples_of xs ids ++ rest ≡ [] → ids ≡ []
 no_ids xs [] rest e = refl
 no_ids xs (t ∷ ids) rest e = absurd cc
 
--- triples behind others, whose strings are kept
+-- triples appended to others, whose strings are unchanged
 module _ (xs ys : List (List ℕ)) (g : GoesOn xs ys) (ids more : List Triple) (h : AreBelow (length xs) ids) (m : AreBelow (length ys) more) where
   pub joined_is : string_triples_of ys (ids ++ more) ≡ string_triples_of xs ids ++ string_triples_of ys more
   joined_is = map-append (string_triple_at ys) ids more ∙ ap (λ ts. ts ++ string_triples_of ys more) (graph_kept xs ys g ids h)

@@ -1,4 +1,4 @@
--- The canonical file of a graph: of all layouts that hold it, the one that is written.
+-- The canonical file of a graph: of all valid encodings, the one that is written.
 use Rattle.std.specs.Prelude.{◌≡◌, ℕ, ◌<◌, List, [], ◌++◌, length}
 use Rattle.hdt_wire.specs.declared.control.Kind.TheVariants as kinds
 use Rattle.hdt_wire.specs.Control.{control}
@@ -10,16 +10,17 @@ use Rattle.hdt_file.specs.Denoted.{StringTriple}
 use Rattle.hdt_build.specs.Graph.{IsForm}
 use Rattle.hdt_build.specs.Header.{length_property}
 
--- the head of a file: the global block without properties, the header block with the length of the header body, the body
+-- the head of a file: global control information without properties, that of the header with the length of the header
+-- body, and the body
 unfoldable pub canonical_head : List ℕ → List ℕ
 canonical_head header = control kinds.Global [] ++ (control kinds.Header (length_property (length header)) ++ header)
 
--- the bytes of a header body, a dictionary in blocks of b and number triples: the head, the dictionary, the triples
+-- the bytes of a file: the head, the dictionary with b strings a block, and the ID triples
 unfoldable pub canonical_file : List ℕ → ℕ → FourLists → List Triple → List ℕ
 canonical_file header b d ts = canonical_head header ++ (canonical_dictionary b d ++ canonical_triples ts)
 
--- The bytes are the canonical file of a header body, a set of string triples, of which there is one at least, and a block
--- size. The set is given as a list, in any order and with repeats.
+-- The bytes are the canonical file of a header body, a non-empty set of string triples, and a block size. The set is
+-- given as a list in any order, with duplicates.
 pub record IsCanonical (header : List ℕ) (graph : List StringTriple) (b : ℕ) (bytes : List ℕ) : Type 0 where
   pub dictionary : FourLists
   pub triples : List Triple

@@ -1,4 +1,4 @@
--- A graph as string triples, and its dictionary and number triples (HDT submission, dictionary and triples).
+-- A graph as string triples, and its encoding as a dictionary and ID triples (HDT submission, dictionary and triples).
 use Rattle.std.specs.Prelude.{ℕ, List, [], map, slice_index, slice_index_or}
 use Rattle.std.specs.List.{All}
 use Rattle.hdt_dict.specs.Split.{IsSplit}
@@ -19,23 +19,23 @@ predicates_of g = map (λ t. t.1) g
 abbrev pub objects_of : List StringTriple → List (List ℕ)
 objects_of g = map (λ t. t.2) g
 
--- The dictionary and the number triples of a graph: the sections hold exactly the strings that it uses in their roles,
--- the triples ascend, and a file of these, whatever its header body, denotes exactly the graph.
+-- The dictionary and the ID triples encode the graph: the sections have exactly the strings that it uses in their
+-- roles, the triples ascend, and a file with these, whatever its header body, denotes exactly the graph.
 pub record IsForm (g : List StringTriple) (d : FourLists) (ts : List Triple) : Type 0 where
   pub sections : IsSplit (subjects_of g) (predicates_of g) (objects_of g) d
   pub ascending : AreAscending ts
   pub in_range : All (IsInRange (counts_of d)) ts
   pub denotes : SameMembers (denoted_by (graph_parts_of [] d ts)) g
 
--- ---- triples as places in a list of strings
+-- ---- triples of indices into a list of strings
 
 abbrev pub string_triple_at : List (List ℕ) → Triple → StringTriple
 string_triple_at xs t = (slice_index_or xs t.0 [], slice_index_or xs t.1 [], slice_index_or xs t.2 [])
 
--- their string triples
+-- the string triples of index triples
 abbrev pub string_triples_of : List (List ℕ) → List Triple → List StringTriple
 string_triples_of xs ids = map (string_triple_at xs) ids
 
--- what three lists of numbers have at the places of a triple
+-- an index triple, mapped through one list for each role
 abbrev pub renumbered_triple : (sn pn on : List ℕ) → Triple → Triple
 renumbered_triple sn pn on t = (slice_index sn t.0, slice_index pn t.1, slice_index on t.2)

@@ -1,4 +1,4 @@
--- The header of a file that is built (HDT submission, header): two triples about the file, as N-Triples.
+-- The header of a file that is built (HDT submission, header): two triples in N-Triples.
 use Rattle.std.specs.Prelude.{ℕ, List, ◌∷◌, ◌++◌, codes}
 use Rattle.std.specs.Fmt.{decimal}
 
@@ -14,6 +14,6 @@ count_line base count = 60 ∷ (base ++ (codes "> <http://rdfs.org/ns/void#tripl
 unfoldable pub header_body : List ℕ → ℕ → List ℕ
 header_body base count = type_line base ++ count_line base count
 
--- the property text of a header body that is so long
+-- the property text of a header body of n bytes
 unfoldable pub length_property : ℕ → List ℕ
 length_property n = codes "length=" ++ (decimal n ++ codes ";")

@@ -1,4 +1,4 @@
--- What a canonical file is, to those who read it.
+-- What reading a canonical file gives.
 use Rattle.std.specs.Prelude.{◌≡◌, ℕ, List, [], ◌∷◌, length, Ok}
 use Rattle.hdt_wire.specs.Exact.{seen}
 use Rattle.hdt_dict.specs.Dictionary.{FourLists}
@@ -11,11 +11,11 @@ use Rattle.hdt_file.specs.Views.{lens_of}
 use Rattle.hdt_triples.specs.Counting.{Triple}
 use Rattle.hdt_build.specs.declared.report.Report.{Report}
 
--- the graph that a file denotes: all its triples, each number replaced by its string
+-- the graph that a file denotes: its triples, with the string of each ID
 abbrev pub denoted_by : GraphParts → List StringTriple
 denoted_by g = denoted g g.triples
 
--- the file as its users see it
+-- a graph of a header body, a dictionary and ID triples
 abbrev pub graph_parts_of : List ℕ → FourLists → List Triple → GraphParts
 graph_parts_of header d ts = record {
   header = header;
@@ -23,17 +23,18 @@ graph_parts_of header d ts = record {
   triples = ts;
 }
 
--- the five numbers of a report that tell of what is in a file
+-- the counts of a report: triples, then shared, subjects, predicates and objects
 abbrev pub lens_told : Report → List ℕ
 lens_told r = r.triples ∷ r.shared ∷ r.subjects ∷ r.predicates ∷ r.objects ∷ []
 
--- The report has the numbers that `verify` and `verify_tight` of hdt_file answer of the bytes, and how many bytes there are.
+-- The report has the counts that `verify` and `verify_tight` of hdt_file return for the bytes, and their length.
 pub record IsVerified (bytes : List ℕ) (report : Report) : Type 0 where
   pub verified : seen lens_of (graph_in bytes) ≡ Ok (lens_told report)
   pub tight : seen lens_of (tight_in bytes) ≡ Ok (lens_told report)
   pub bytes_are : report.bytes ≡ length bytes
 
--- The bytes are a tight layout with this header body, and what they denote lists exactly the graph's triples, each once.
+-- The bytes are a valid file with this header body and without unused strings. The file has exactly the triples of the
+-- graph, each once.
 pub record IsLayoutOf (header : List ℕ) (graph : List StringTriple) (bytes : List ℕ) : Type 0 where
   pub parts : GraphParts
   pub layout : IsLayout bytes parts

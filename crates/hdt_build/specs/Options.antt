@@ -1,13 +1,13 @@
--- Which options a builder takes.
+-- Valid options.
 use Rattle.std.specs.Prelude.{ℕ, ◌≤◌}
 use Rattle.hdt_terms.specs.Terms.{IsIri}
 use Rattle.hdt_build.specs.declared.options.Options.{Options}
 
--- a block size that is written: 1 to 65,535
+-- a valid block size: 1 to 65,535
 abbrev pub IsBlockSize : ℕ → Type 0
 IsBlockSize b = (1 ≤ b) × (b ≤ 65535)
 
--- the block size is from 1 to 65,535, and the base is an absolute IRI without excluded characters
+-- The block size is 1 to 65,535, and the base is an absolute IRI without characters that IRIs exclude.
 pub record AreRight (o : Options) : Type 0 where
   pub some : 1 ≤ o.block_size
   pub most : o.block_size ≤ 65535

@@ -1,4 +1,4 @@
--- The graph of an N-Triples document, and the errors of one.
+-- The graph of an N-Triples document, and errors in it.
 use Rattle.std.specs.Prelude.{◌≡◌, ◌≢◌, ◌⊎◌, ℕ, List, [], map, Option, ⊤}
 use Rattle.std.specs.List.{All}
 use Rattle.hdt_dict.specs.Texts.{IsDictionaryString}
@@ -12,7 +12,7 @@ use Rattle.hdt_build.specs.declared.fault.BuildFault.TheVariants as faults
 use Rattle.hdt_file.specs.Denoted.{StringTriple}
 use Rattle.hdt_build.specs.Graph.{subjects_of, predicates_of, objects_of}
 
--- how many bytes an input can have: 2^63 - 1
+-- the greatest length of an input in bytes: 2^63 - 1
 abbrev pub most : ℕ
 most = 9223372036854775807
 
@@ -20,19 +20,19 @@ most = 9223372036854775807
 abbrev pub term_strings : Triple → StringTriple
 term_strings t = (str t.s, str t.p, str t.o)
 
--- the input is a document, and these are the strings of its triples, in their order and with repeats
+-- the input is a document, and these are its triples as dictionary strings, in input order, with duplicates
 pub record IsGraphIn (input : Option (List ℕ)) (graph : List StringTriple) : Type 0 where
   pub triples : List Triple
   pub document : IsDocument most input triples
   pub strings : graph ≡ map term_strings triples
 
--- each string is UTF-8 without a zero byte
+-- all strings are UTF-8 without zero bytes
 pub record AreTexts (graph : List StringTriple) : Type 0 where
   pub subjects_are : All IsDictionaryString (subjects_of graph)
   pub predicates_are : All IsDictionaryString (predicates_of graph)
   pub objects_are : All IsDictionaryString (objects_of graph)
 
--- what an error tells of the input before the call and after it, where the options are right
+-- what an error means for the input before and after the call, if the options are valid
 abbrev pub TellsBuildFault : Option (List ℕ) → Option (List ℕ) → BuildFault → Type 0
 TellsBuildFault before after (faults.Line fault) = FaultInDocument fault most before after × (fault.reason ≢ OutOfMemory)
 TellsBuildFault before after faults.NoTriples = IsDocument most before []
@@ -40,11 +40,11 @@ TellsBuildFault before after faults.BadOptions = ⊥
 TellsBuildFault before after faults.OutOfMemory = ⊤
 TellsBuildFault before after (faults.Write n) = ⊥
 
--- the error of a document, as a builder tells it
+-- the error of a line, as an error of building
 abbrev pub IsToldAs : LineFault → BuildFault → Type 0
 IsToldAs fault told = ((fault.reason ≡ OutOfMemory) × (told ≡ faults.OutOfMemory)) ⊎ ((fault.reason ≢ OutOfMemory) × (told ≡ faults.Line fault))
 
--- the error tells that the reader failed
+-- the error is that the reader failed
 abbrev pub ReadFailed : BuildFault → Type 0
 ReadFailed (faults.Line fault) = fault.reason ≡ Read
 ReadFailed faults.NoTriples = ⊥

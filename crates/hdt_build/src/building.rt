@@ -19,7 +19,7 @@ use hdt_wire::Counted;
 use std::alloc::{AllocError, Global};
 use std::io::{Read, Write};
 
-/// The canonical file of a document's graph under the options, and its counts.
+/// Encodes the graph of a document as its canonical file; returns the bytes and the counts.
 fn built(
     alloc: Global,
     document: Document,
@@ -38,11 +38,11 @@ fn built(
 }
 
 /// Builds the canonical file of an N-Triples document's graph in memory. Returns its bytes and its counts. The input
-/// may have up to 2^63 - 1 bytes. The order of its lines, repeats and comments make no difference.
+/// may have up to 2^63 - 1 bytes. The order of the lines, duplicates and comments make no difference.
 ///
-/// Time is that of reading the lines once and of sorting the strings and the triples, whatever the strings are. Memory:
-/// each distinct string once, whatever its roles, and again if the cache has lost it, with some 50 bytes for each; 24
-/// bytes for the triple of each line; the sections; and the file.
+/// Time: one pass over the lines, and sorting the strings and the triples, whatever the strings are. Memory: each
+/// distinct string once for all roles (again if the cache loses it) with some 50 bytes of overhead; 24 bytes for the
+/// triple of each line; the sections; and the file.
 ///
 /// ```text
 /// let (bytes, report) = build_bytes(alloc, &mut input, &options)?;
@@ -82,8 +82,8 @@ pub fn build_bytes<R: Read>(
     Ok(built(alloc, document, options)?)
 }
 
-/// Builds the canonical file of an N-Triples document's graph, and then writes it: the bytes of [`build_bytes`].
-/// Nothing is written before the file is complete. Time and memory are those of [`build_bytes`].
+/// Builds the canonical file of an N-Triples document's graph, as [`build_bytes`] does, and then writes it. Nothing is
+/// written before the file is complete in memory.
 ///
 /// # Errors
 ///
@@ -103,7 +103,7 @@ pub fn build<R: Read, W: Write>(
     // BadOptions is returned exactly if the options are not valid, and then nothing was read.
     ensures bad { IsErrOf result BuildFault.BadOptions ↔ (AreRight options.now → ⊥) }
     ensures unread { IsErrOf result BuildFault.BadOptions → input.new ≡ input.old }
-    // Any other error than that of writing is the first one of the input.
+    // Any other error, except a failed write, is the first one of the input.
     ensures told { IfErr result (λ e. e ≢ BuildFault.BadOptions → ((n : ℕ) → e ≢ BuildFault.Write n) → TellsBuildFault (R.remaining (inner input.old)) (R.remaining (inner input.new)) e) }
     // The reader failed in this call, once, if the error says so; else it has not failed.
     ensures read { IfErr result (λ e. ReadFailed e → failures input.new ≡ failures input.old + 1) }

@@ -9,8 +9,8 @@ use crate::triples::replace;
 use hdt_dict::Arena;
 use std::alloc::{AllocError, Global};
 
-/// The triples of a document, as indices into one list of strings for all roles. The last triples are queued, so that
-/// their strings are looked up together.
+/// The triples of a document, as indices into one list of strings for all roles. New triples are queued, and their
+/// strings are looked up in batches.
 #[derive(Drop)]
 pub struct Document {
     terms: Interner,
@@ -31,7 +31,7 @@ impl Document {
         })
     }
 
-    /// Adds a triple. After an error the document can't be used any more.
+    /// Adds a triple. After an error, drop the document.
     pub fn add(&mut self, alloc: Global, s: &[u8], p: &[u8], o: &[u8]) -> Result<(), AllocError>
         requires { IsSound self.old }
         ensures graph { OnOk result (document_graph self.new ≡ document_graph self.old ++ (s.now, p.now, o.now) ∷ []) }
@@ -53,7 +53,7 @@ impl Document {
         self.look_up(alloc)
     }
 
-    /// Looks up the strings of the queued triples. After an error the document can't be used any more.
+    /// Looks up the strings of the queued triples, and empties the queue. After an error, drop the document.
     fn look_up(&mut self, alloc: Global) -> Result<(), AllocError>
         requires { IsSound self.old }
         ensures graph { OnOk result (string_triples_of self.new.terms self.new.ids.items ≡ document_graph self.old) }
@@ -79,7 +79,7 @@ impl Document {
         self.ids.is_empty() && self.queue.ids.is_empty()
     }
 
-    /// The strings, without the cache of their indices, and the triples.
+    /// Returns the strings and the triples, and frees the cache of the interner.
     pub fn into_parts(self, alloc: Global) -> Result<(Arena, Vec<(u64, u64, u64)>), AllocError>
         requires { IsSound self }
         ensures graph { IfOk result (λ parts. string_triples_of parts.0 parts.1.items ≡ document_graph self) }

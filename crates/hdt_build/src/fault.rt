@@ -10,7 +10,7 @@ use thiserror::Error;
 /// Why no file was built, or why it was not written completely.
 #[derive(Clone, Copy, Debug, PartialEq, Eq, Error)]
 pub enum BuildFault {
-    /// The input has this error, or the reader failed; nothing was written. The reason is never `OutOfMemory`.
+    /// A line is not valid, or the reader failed; nothing was written. The reason is never `OutOfMemory`.
     #[error("the input has a fault: {0}")]
     Line(LineFault),
     /// The input is a document without triples; nothing was written. A file has at least one triple.
@@ -19,7 +19,7 @@ pub enum BuildFault {
     /// The block size or the base is not valid; nothing was read or written.
     #[error("the options are not ones that can be taken")]
     BadOptions,
-    /// Memory ran out; nothing was written. With more memory the call can be repeated, over the input from its start.
+    /// Memory ran out; nothing was written. A retry needs the input from its start.
     #[error("out of memory")]
     OutOfMemory,
     /// The writer failed after this number of bytes, which are the first ones of the file.
@@ -49,7 +49,7 @@ pub enum RewriteFault {
     /// The block size is not valid; nothing was written.
     #[error("the options are not ones that can be taken")]
     BadOptions,
-    /// Memory ran out; nothing was written. With more memory the call can be repeated.
+    /// Memory ran out; nothing was written.
     #[error("out of memory")]
     OutOfMemory,
     /// The writer failed after this number of bytes, which are the first ones of the file.

@@ -15,7 +15,8 @@ use hdt_triples::put_triples;
 use hdt_wire::{Kind, put_control};
 use std::alloc::{AllocError, Global};
 
-/// Appends the head of a file: global control information, that of the header, and the header body.
+/// Appends the head of a file: the global control information, that of the header, and the header body. An error may
+/// leave its first bytes.
 #[tactic(auto, using(crate::proofs::Heads::length_no_zero))]
 pub fn put_head(alloc: Global, header: &[u8], out: &mut Vec<u8>) -> Result<(), AllocError>
     ensures { OnOk result (out.new.items ≡ out.old.items ++ canonical_head header.now) }
@@ -26,8 +27,7 @@ pub fn put_head(alloc: Global, header: &[u8], out: &mut Vec<u8>) -> Result<(), A
     out.extend_from_slice(header)
 }
 
-/// The canonical file of a header body, four sections and ID triples. The sections are freed before the triples are
-/// written.
+/// The bytes of the canonical file. The sections are freed before the triples are written.
 fn canonical_file(alloc: Global, header: &[u8], form: Form) -> Result<Vec<u8>, AllocError>
     requires sections { AreSections (sections_in_work form.sections) }
     requires triples { AreWritable form.triples.items }
@@ -48,7 +48,7 @@ fn canonical_file(alloc: Global, header: &[u8], form: Form) -> Result<Vec<u8>, A
     Ok(bytes)
 }
 
-/// The canonical file of a header body, four sections and ID triples, and its counts.
+/// The bytes of the canonical file of a header body, four sections and ID triples, and its counts.
 #[tactic(auto, unfolding(crate::specs::Built::report_of))]
 pub fn whole_file(alloc: Global, header: &[u8], form: Form) -> Result<(Vec<u8>, Report), AllocError>
     requires sections { AreSections (sections_in_work form.sections) }

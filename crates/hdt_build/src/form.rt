@@ -20,8 +20,8 @@ pub struct Form {
     pub triples: Vec<(u64, u64, u64)>,
 }
 
-/// The sections and the ID triples of the graph whose triples are indices into a list of strings. Strings are copied
-/// only into their sections; the triples are converted in place.
+/// Encodes a graph, whose triples are indices into a list of strings, as four sections and ID triples. Strings are
+/// copied only into their sections; the triples are converted in place.
 pub fn form_of(
     alloc: Global,
     list: Arena,

@@ -6,14 +6,14 @@ ghost use Rattle.hdt_build.specs.Header.{header_body, length_property, type_line
 use hdt_wire::put_decimal;
 use std::alloc::{AllocError, Global};
 
-/// What follows the base in the line with the type.
+/// The rest of the type line, after the base.
 const DATASET: &[u8] =
     b"> <http://www.w3.org/1999/02/22-rdf-syntax-ns#type> <http://purl.org/HDT/hdt#Dataset> .\n";
 
-/// What is between the base and the count in the line with the number of triples.
+/// The text between the base and the count in the count line.
 const TRIPLES: &[u8] = b"> <http://rdfs.org/ns/void#triples> \"";
 
-/// Appends the line with the type.
+/// Appends the type line: the base is an `hdt:Dataset`.
 fn put_type(base: &[u8], out: &mut Vec<u8>) -> Result<(), AllocError>
     ensures { OnOk result (out.new.items ≡ out.old.items ++ type_line base.now) }
 {
@@ -22,7 +22,7 @@ fn put_type(base: &[u8], out: &mut Vec<u8>) -> Result<(), AllocError>
     out.extend_from_slice(DATASET)
 }
 
-/// Appends the line with the number of triples.
+/// Appends the count line: the base has this number of triples.
 fn put_count(base: &[u8], count: u64, out: &mut Vec<u8>) -> Result<(), AllocError>
     ensures { OnOk result (out.new.items ≡ out.old.items ++ count_line base.now count) }
 {
@@ -34,7 +34,7 @@ fn put_count(base: &[u8], count: u64, out: &mut Vec<u8>) -> Result<(), AllocErro
     Ok(())
 }
 
-/// The header body of a base IRI and a number of triples: that the base is a dataset, and has so many triples.
+/// The header body of a base IRI and a number of triples: its two lines.
 #[tactic(auto, using(std::proofs::Common::append_assoc), unfolding(crate::specs::Header::header_body))]
 pub fn header_body(alloc: Global, base: &[u8], count: u64) -> Result<Vec<u8>, AllocError>
     ensures { IfOk result (λ body. body.items ≡ header_body base.now count) }
@@ -45,7 +45,7 @@ pub fn header_body(alloc: Global, base: &[u8], count: u64) -> Result<Vec<u8>, Al
     Ok(body)
 }
 
-/// The properties of a header body of this length.
+/// The property text of the header: the length of its body in bytes.
 #[tactic(auto, using(std::proofs::Common::append_assoc), unfolding(crate::specs::Header::length_property))]
 pub fn length_property(alloc: Global, len: u64) -> Result<Vec<u8>, AllocError>
     ensures { IfOk result (λ text. text.items ≡ length_property len) }

@@ -1,4 +1,4 @@
-//! A list of distinct strings, as far as a cache of their indices remembers them.
+//! String interning with a bounded cache: a string has one index, unless the cache loses it.
 ghost use Rattle.std.specs.Prelude.{◌≡◌, ◌<◌, ◌≤◌, ◌++◌, ◌∷◌, [], ℕ, List, ◌+◌, IfSome, length, slice_index_or, vec_len, IfOk, OnOk, OnErr};
 ghost use Rattle.hdt_build.specs.Inside.Placed.{AreRanks};
 ghost use Rattle.hdt_build.specs.Inside.Texts.{GoesOn};
@@ -8,15 +8,15 @@ use std::alloc::{AllocError, Global};
 use std::hash::{FoldHasher, Hasher};
 use std::marker::Model;
 
-/// The number of slots that a string may be in, from that of its hash on.
+/// The number of consecutive slots that an entry may be in, from the slot of its hash.
 const PROBES: usize = 8;
 
-/// The number of slots at first.
+/// The initial number of slots.
 const FIRST: usize = 1024;
 
-/// A list of strings with a cache of their indices. A look-up probes a few slots and no more. If many strings have the
-/// same hash, which anyone can arrange, the cache loses some of them; a lost string is listed again, and sorting drops
-/// the duplicate. So no choice of strings makes look-ups slow.
+/// A list of strings with a cache of their indices. A look-up probes eight slots at most. If many strings have the same
+/// hash, which an attacker can arrange, the cache loses some of them. A lost string is appended again, and sorting
+/// drops the duplicate. So no choice of strings makes look-ups slow.
 #[derive(Drop)]
 pub struct Interner {
     list: Arena,
@@ -32,14 +32,14 @@ impl Model for Interner {
     ghost invariant = { λ s. 8 ≤ vec_len s.slots };
 }
 
-/// The hash of a text. The result of a build doesn't depend on it.
+/// The hash of a string. The result of a build doesn't depend on it.
 fn hash(text: &[u8]) -> u64 {
     let mut hasher = FoldHasher::default();
     hasher.write(text);
     hasher.finish()
 }
 
-/// The first slot of those for a hash.
+/// The first slot for a hash.
 fn first_slot(slots: &[u64], hash: u64) -> usize
     requires { 8 ≤ length slots.now }
     ensures { result + 8 ≤ length slots.now }
@@ -48,7 +48,7 @@ fn first_slot(slots: &[u64], hash: u64) -> usize
     ((hash >> 32) as u128 * (room + 1) as u128 >> 32) as usize
 }
 
-/// The index of a text in the list, if the cache has it.
+/// The index of a string in the list, if one of the slots has it.
 fn find(list: &Arena, slots: &[u64], text: &[u8], hash: u64) -> Option<usize>
     ensures { IfSome result (λ i. (i < length list.now) × (slice_index_or list.now i [] ≡ text.now)) }
 {
@@ -74,7 +74,8 @@ fn hashes_of(alloc: Global, strings: &Arena) -> Result<Vec<u64>, AllocError>
     Ok(made)
 }
 
-/// The index of some entry with a hash, or one past all indices. No step depends on the previous one.
+/// The index of some entry with this hash, or `usize::MAX`. No iteration depends on the previous one, so the loads
+/// overlap.
 fn guess(slots: &[u64], hash: u64) -> usize {
     let mut place = 0;
     for entry in slots {
@@ -85,7 +86,7 @@ fn guess(slots: &[u64], hash: u64) -> usize {
     (place as usize).wrapping_sub(1)
 }
 
-/// The sum of the first and the last slot of each hash: a prefetch, with no branch between the loads.
+/// Prefetches the slots of the hashes: the sum of the first and the last one of each, with no branch between the loads.
 fn looked_at(slots: &[u64], hashes: &[u64]) -> u64
     requires { 8 ≤ length slots.now }
 {
@@ -99,12 +100,12 @@ fn looked_at(slots: &[u64], hashes: &[u64]) -> u64
     sum
 }
 
-/// The indices that strings with these hashes may have.
+/// A guess at the index of each string, by its hash only.
 fn guesses_of(alloc: Global, slots: &[u64], hashes: &[u64]) -> Result<Vec<usize>, AllocError>
     requires { 8 ≤ length slots.now }
     ensures { IfOk result (λ made. length made.items ≡ length hashes.now) }
 {
-    // (The sum means nothing; its use keeps the loads.)
+    // The sum has no meaning; using it keeps the loads from being optimized away.
     let room = hashes
         .len()
         .saturating_add(looked_at(slots, hashes).min(1) as usize);
@@ -116,13 +117,13 @@ fn guesses_of(alloc: Global, slots: &[u64], hashes: &[u64]) -> Result<Vec<usize>
     Ok(made)
 }
 
-/// Whether a string of a list has the first and the last byte of a text. Most strings are so short that comparing them
-/// whole reads no other cache line.
+/// Whether the string at an index has the first and the last byte of another one. For most strings these two loads
+/// prefetch every cache line that a full comparison reads.
 fn is_alike(list: &Arena, at: usize, text: &[u8]) -> bool {
     at < list.len() && list.get(at).first() == text.first() && list.get(at).last() == text.last()
 }
 
-/// Drops the guesses whose strings begin or end otherwise. Their loads don't depend on each other.
+/// Drops guesses whose first or last byte differs. The loads don't depend on each other.
 fn check(list: &Arena, strings: &Arena, guesses: &mut Vec<usize>)
     requires { length guesses.old.items ≡ length strings.now }
     ensures { length guesses.new.items ≡ length guesses.old.items }
@@ -134,7 +135,7 @@ fn check(list: &Arena, strings: &Arena, guesses: &mut Vec<usize>)
     }
 }
 
-/// Puts an entry into the first free slot of its hash, or over the last one if there is none.
+/// Stores an entry in the first free slot for its hash; if there is none, it overwrites the last one.
 fn put(slots: &mut [u64], entry: u64)
     requires { 8 ≤ length slots.old }
 {
@@ -148,7 +149,7 @@ fn put(slots: &mut [u64], entry: u64)
     slots[from + PROBES - 1] = entry;
 }
 
-/// Adds the index of a string to the cache, if an entry can hold it.
+/// Adds the index of a string to the cache, if it fits in 32 bits.
 fn remember(slots: &mut [u64], hash: u64, at: usize)
     requires { 8 ≤ length slots.old }
 {
@@ -157,7 +158,7 @@ fn remember(slots: &mut [u64], hash: u64, at: usize)
     }
 }
 
-/// The slots for twice as many strings; an entry is lost if those of its hash are full.
+/// Rehashes the entries into twice as many slots. An entry may be lost if the slots for its hash are full.
 fn doubled(alloc: Global, slots: &[u64]) -> Result<Vec<u64>, AllocError>
     requires { 8 ≤ length slots.now }
     ensures { IfOk result (λ made. 8 ≤ vec_len made) }
@@ -172,6 +173,7 @@ fn doubled(alloc: Global, slots: &[u64]) -> Result<Vec<u64>, AllocError>
 }
 
 impl Interner {
+    /// An empty list, with an empty cache.
     pub fn new(alloc: Global) -> Result<Interner, AllocError>
         ensures { IfOk result (λ made. made ≡ []) }
     {
@@ -181,7 +183,7 @@ impl Interner {
         })
     }
 
-    /// The strings, without the cache.
+    /// Returns the strings, and frees the cache.
     pub fn into_list(self) -> Arena
         ensures { result ≡ self }
     {
@@ -189,7 +191,7 @@ impl Interner {
         list
     }
 
-    /// An index of a string in the list. The string is appended if neither the guess nor the cache has it.
+    /// Returns an index of a string. Appends the string if neither the guess nor the cache finds it.
     fn place_of(
         &mut self,
         alloc: Global,
@@ -212,7 +214,7 @@ impl Interner {
         }
     }
 
-    /// An index in the list for each of other strings, which are appended if the cache doesn't have them.
+    /// Returns an index for each of these strings. Appends those that the cache doesn't have.
     pub fn places_of(&mut self, alloc: Global, strings: &Arena) -> Result<Vec<u64>, AllocError>
         ensures places { IfOk result (λ made. AreRanks strings.now self.new made.items) }
         ensures list { OnOk result (GoesOn self.old self.new) }

@@ -1,4 +1,4 @@
-//! Which strings of a graph the sections of its canonical file have.
+//! Rewriting: the strings of a graph that each new section retains.
 ghost use Rattle.std.specs.Prelude.{◌≡◌, ◌<◌, ◌≤◌, ◌+◌, ◌↔◌, ℕ, IsTrue};
 ghost use Rattle.hdt_file.specs.Views.{graph_seen};
 ghost use Rattle.hdt_build.specs.Inside.Kept.{role_of, IsBoth, KeepsNumber, cut_of, end_of};
@@ -16,7 +16,7 @@ pub enum Part {
     Objects,
 }
 
-/// The role whose IDs the strings of a section have.
+/// The role whose IDs identify the strings of a section.
 pub fn role_of(part: Part) -> Role
     ensures { result ≡ role_of part }
 {
@@ -27,7 +27,7 @@ pub fn role_of(part: Part) -> Role
     }
 }
 
-/// Whether an ID is that of a shared string that is used as a subject and as an object.
+/// Whether an ID is that of a shared string that triples use both as a subject and as an object.
 fn is_both(graph: &Graph<'_>, n: u64, steps: &mut Steps) -> bool
     ensures { IsTrue result ↔ IsBoth (graph_seen graph.now) n }
 {
@@ -35,7 +35,7 @@ fn is_both(graph: &Graph<'_>, n: u64, steps: &mut Steps) -> bool
     n <= shared && graph.uses(Role::Subject, n, steps) && graph.uses(Role::Object, n, steps)
 }
 
-/// Whether the new section has the string with an ID of its role.
+/// Whether the new section retains the string with this ID of its role.
 fn is_kept(graph: &Graph<'_>, part: Part, n: u64, steps: &mut Steps) -> bool
     ensures { IsTrue result ↔ KeepsNumber (graph_seen graph.now) part n }
 {
@@ -47,7 +47,7 @@ fn is_kept(graph: &Graph<'_>, part: Part, n: u64, steps: &mut Steps) -> bool
     }
 }
 
-/// The first index from a given one on, and before the end, whose string the section has; or the end.
+/// The first index in a range whose string the section retains, or the end of the range. An index is an ID - 1.
 pub fn kept_from(graph: &Graph<'_>, part: Part, from: u64, end: u64) -> u64
     requires { from ≤ end }
     ensures from { from ≤ result }
@@ -64,8 +64,8 @@ pub fn kept_from(graph: &Graph<'_>, part: Part, from: u64, end: u64) -> u64
     end
 }
 
-/// The ends of the two ascending runs of strings from which a section takes its own: the first begins with the first
-/// string of the role, the second follows it.
+/// Returns the ends of the two ascending runs of a role's strings in which a section finds its own. The first run
+/// begins at index 0, and the second one follows it.
 pub fn ends_of(graph: &Graph<'_>, part: Part) -> (u64, u64)
     ensures cut { result.0 ≡ cut_of (graph_seen graph.now) part }
     ensures end { result.1 ≡ end_of (graph_seen graph.now) part }

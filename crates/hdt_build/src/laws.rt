@@ -1,4 +1,4 @@
-//! Laws of canonical files: empty functions whose contracts other crates use.
+//! Laws of canonical files: functions that do nothing, whose contracts are theorems.
 ghost use Rattle.std.specs.Prelude.{◌≡◌, ◌≤◌, ◌<◌, ◌^◌, ◌⊎◌, ℕ, List, [], Option, Some, length};
 ghost use Rattle.hdt_wire.specs.Rows.{IsBytes};
 ghost use Rattle.hdt_dict.specs.Strings.{SameMembers};
@@ -20,8 +20,8 @@ ghost use Rattle.hdt_build.specs.declared.report.Report.{Report};
 use hdt_file::{one_layout, one_tight_layout};
 use hdt_terms::line_or_fault;
 
-/// A canonical file is a layout with its header body, so `open` of hdt_file accepts it; its graph has exactly the
-/// triples that it was made of, each once. So has what is built.
+/// A canonical file is a valid file with its header body: `open` of hdt_file accepts it, and its graph has exactly the
+/// given triples, each once. The same holds for a file that is built.
 pub fn canonical_files_are_layouts()
     ensures canonical { (header : List ℕ) (graph : List StringTriple) (b : ℕ) (bytes : List ℕ) (file : IsCanonical header graph b bytes)
         → 1 ≤ b → b < 2 ^ 64 → length bytes < 2 ^ 64 → length file.triples < 2 ^ 64 → IsLayoutOf header graph bytes }
@@ -29,8 +29,8 @@ pub fn canonical_files_are_layouts()
         → length bytes < 2 ^ 64 → report.triples < 2 ^ 64 → IsLayoutOf (header_body options.base.items report.triples) graph bytes }
 {}
 
-/// The counts that are reported of a file that is built or rewritten are those that `verify` and `verify_tight` of
-/// hdt_file return for it, and its length.
+/// The report of a file that is built or rewritten has the counts that `verify` and `verify_tight` of hdt_file return
+/// for it, and its length in bytes.
 pub fn reports_are_verified()
     ensures built { (options : Options) (graph : List StringTriple) (bytes : List ℕ) (report : Report) → AreRight options → IsBuilt options graph bytes report
         → IsBytes bytes → length bytes < 2 ^ 64 → report.triples < 2 ^ 64 → IsVerified bytes report }
@@ -41,13 +41,13 @@ pub fn reports_are_verified()
     one_tight_layout();
 }
 
-/// There is one canonical file of a header body, a set of triples and a block size.
+/// A header body, a set of triples and a block size have only one canonical file.
 pub fn one_canonical_file()
     ensures { (header : List ℕ) (g h : List StringTriple) (b : ℕ) (x y : List ℕ) → SameMembers g h
         → IsCanonical header g b x → IsCanonical header h b y → x ≡ y }
 {}
 
-/// Equal graphs under equal options have equal files and equal reports.
+/// Equal sets of triples under equal options have equal files and equal reports.
 pub fn equal_graphs_equal_files()
     ensures file { (options : Options) (g h : List StringTriple) (x y : List ℕ) (r s : Report) → SameMembers g h
         → IsBuilt options g x r → IsBuilt options h y s → x ≡ y }
@@ -55,15 +55,15 @@ pub fn equal_graphs_equal_files()
         → IsBuilt options g x r → IsBuilt options h y s → r ≡ s }
 {}
 
-/// An input is at most one document.
+/// An input is one document at most: its triples are determined.
 pub fn one_document()
     ensures { (bytes : List ℕ) (ts us : List Triple) → Document bytes ts → Document bytes us → ts ≡ us }
 {
     line_or_fault();
 }
 
-/// Nothing is built of a document without triples: this is reported, unless the reader fails or memory runs out, and it
-/// is reported of no other document.
+/// Nothing is built from a document without triples. The error is then `NoTriples`, unless the reader fails or memory
+/// runs out.
 pub fn no_triples_are_told()
     ensures unbuilt { (options : Options) (bytes made : List ℕ) (report : Report) → Builds options (Some bytes) made report → Document bytes [] → ⊥ }
     ensures told { (bytes : List ℕ) (after : Option (List ℕ)) (e : BuildFault) → TellsBuildFault (Some bytes) after e → Document bytes [] → length bytes ≤ most

@@ -1,8 +1,7 @@
-//! Building HDT files (HDT format version 1): from N-Triples, or from another HDT file, in canonical form.
+//! Building HDT files (HDT format version 1) in canonical form, from N-Triples or from another HDT file.
 //!
-//! What this crate promises: `build` writes the canonical file of the document's graph, byte for byte, whatever the
-//! order of its lines and however often they repeat. `open` of hdt_file accepts it, and its graph has exactly the
-//! document's triples, each once.
+//! [`build`] writes the canonical file of the document's graph: its bytes don't depend on the order of the lines or on
+//! duplicates. `open` of hdt_file accepts it, and its graph has exactly the document's triples, each once.
 //!
 //! Functions that state no cost take constant time and allocate nothing. Laws do nothing when called.
 //!
@@ -12,21 +11,19 @@
 //! let graph = open(alloc, &bytes)?; // report.triples triples
 //! ```
 //!
-//! And: `rewrite` writes the canonical file of exactly the triples of a graph, with its header body.
+//! [`rewrite`] writes the canonical file of the triples of a graph, with its header body.
 //!
 //! ```text
 //! let graph = open(alloc, bytes)?;
 //! let (canonical, report) = rewrite_bytes(alloc, &graph, &options)?; // without the strings that no triple uses
 //! ```
 //!
-//! In reading order: `options`, `report` and `fault`, what is asked for and what is answered; `interner`, strings
-//! kept once, and where they stand; `queue`, triples that wait until their strings are looked up; `document`, triples as
-//! places of strings; `reading`, the lines of an input; `keys`, `ties`, `merging` and `placed`, the places in the strings'
-//! order; `looking`, a look ahead at strings; `once`, the strings each once; `used`, which of them triples use in a role; `parted`, the sections as filters of
-//! them, with their numbers; `triples` and `form`, the four sections and triples as numbers; `header` and `file`, the bytes;
-//! `building`, all of it; `laws`. For rewriting: `kept`, which strings the new sections have; `run`, these one after
-//! another; `sections`, written from two runs each, with the new numbers, which `renumbering` keeps; then `triples`, and
-//! `rewriting` in place of `building`; `rewriting_laws`.
+//! Modules, in reading order. Building: `options`, `report` and `fault`; `interner`, the list of strings; `queue` and
+//! `document`, triples as indices of strings; `reading`, the lines of the input; `keys`, `ties`, `merging` and
+//! `string_sort`, sorting the strings; `prefetch`; `dedup`, dropping duplicates; `used` and `section_filter`, the four
+//! sections and the IDs; `triples` and `encoding`, the encoded graph; `header` and `file`, its bytes; `building` and
+//! `laws`. Rewriting: `retained`, which strings remain; `section_run`, a cursor over them; `sections` and `id_map`, the
+//! new sections and IDs; `rewriting` and `rewriting_laws`.
 #![tactic(auto)]
 
 mod building;

@@ -1,14 +1,14 @@
-//! Prefetching strings that are anywhere in memory: the first and the last byte of several are loaded, with no branch
+//! Prefetching strings that are scattered in memory: the first and the last byte of several are loaded without a branch
 //! on them, so that the loads overlap.
 ghost use Rattle.std.specs.Prelude.{◌≢◌, ◌<◌, ◌-◌, length, IsTrue, IsFalse};
 ghost use Rattle.hdt_build.specs.Inside.Placed.{placed_key};
 
 use hdt_dict::Arena;
 
-/// The number of strings that are prefetched together.
+/// The number of strings that are prefetched at a time.
 pub const AHEAD: usize = 64;
 
-/// The sum of the first and the last byte of a text: a short text is in their cache lines.
+/// The sum of the first and the last byte of a string: their cache lines hold all of a short string.
 pub fn ends(text: &[u8]) -> usize {
     if text.is_empty() {
         return 0;
@@ -16,12 +16,13 @@ pub fn ends(text: &[u8]) -> usize {
     usize::from(text[0]) + usize::from(text[text.len() - 1])
 }
 
-/// The new end of what is prefetched. (The sum means nothing; its use keeps the loads.)
+/// Returns the index up to which strings are prefetched. The sum has no meaning; using it keeps the loads from being
+/// optimized away.
 pub fn seen_up_to(end: usize, sum: usize) -> usize {
     end.saturating_sub(sum.min(1))
 }
 
-/// Whether an entry has the key of the previous one.
+/// Whether an entry has the same key as the previous one.
 pub fn is_tied(entries: &[(u64, usize)], at: usize) -> bool
     requires { at < length entries.now }
     ensures some { IsTrue result → 0 < at }
@@ -30,7 +31,7 @@ pub fn is_tied(entries: &[(u64, usize)], at: usize) -> bool
     at > 0 && entries[at].0 == entries[at - 1].0
 }
 
-/// The same sum for the string at an index of a list.
+/// The same sum for the string at an index; 0 past the end.
 fn ends_at(list: &Arena, place: usize) -> usize {
     if place < list.len() {
         ends(list.get(place))
@@ -39,7 +40,8 @@ fn ends_at(list: &Arena, place: usize) -> usize {
     }
 }
 
-/// Prefetches the strings of the next entries with equal keys, unless they are already; returns the new end.
+/// Prefetches the strings of the next entries with equal keys, unless this was done; returns the index up to which
+/// entries are prefetched.
 pub fn looked_at(list: &Arena, entries: &[(u64, usize)], at: usize, seen: usize) -> usize {
     if at < seen {
         return seen;

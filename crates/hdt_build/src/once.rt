@@ -8,7 +8,7 @@ use crate::looking::{is_tied, looked_at};
 use hdt_dict::Arena;
 use std::alloc::{AllocError, Global};
 
-/// Whether a text is the last string of a list.
+/// Whether a string is the last one of a list.
 fn is_last(strings: &[&[u8]], text: &[u8]) -> bool
     ensures { IsTrue result ↔ IsLast (lent_texts strings.now) text.now }
 {
@@ -18,7 +18,8 @@ fn is_last(strings: &[&[u8]], text: &[u8]) -> bool
     }
 }
 
-/// Appends a string to a list, unless it is the last one; returns its index. It is compared only if the keys are equal.
+/// Appends a string to a list, unless it equals the last one; returns its index. Strings are compared only if the keys
+/// are equal.
 fn join<'a>(strings: &mut Vec<&'a [u8]>, text: &'a [u8], tied: bool) -> Result<usize, AllocError>
     requires apart { IsFalse tied → IsLast (lent_texts strings.old.items) text.now → ⊥ }
     ensures joined { OnOk result (IsJoined (lent_texts strings.old.items) text.now (lent_texts strings.new.items)) }
@@ -30,8 +31,8 @@ fn join<'a>(strings: &mut Vec<&'a [u8]>, text: &'a [u8], tied: bool) -> Result<u
     Ok(strings.len() - 1)
 }
 
-/// The distinct strings of a list in ascending order, borrowed, and for each index of the list that of its string among
-/// them.
+/// Returns the strings in ascending order without duplicates, borrowed; and for each index of the list, the index of
+/// its string among them.
 pub fn distinct<'a>(
     alloc: Global,
     list: &'a Arena,

@@ -10,10 +10,9 @@ const MOST: u32 = 65_535;
 /// The options of a file that is built.
 #[derive(Debug, Drop)]
 pub struct Options {
-    /// The number of strings of a dictionary block: 1 to 65,535. Larger blocks make a smaller file with slower
-    /// look-ups.
+    /// The number of strings in a dictionary block: 1 to 65,535. Larger blocks make smaller files and slower look-ups.
     pub block_size: u32,
-    /// The subject of the statements in the header, in UTF-8: an absolute IRI without characters that IRIs exclude.
+    /// The subject of the triples in the header, in UTF-8: an absolute IRI without characters that IRIs exclude.
     pub base: Vec<u8>,
 }
 

@@ -1,4 +1,4 @@
-//! Writing the four sections: each is a filter of the sorted strings.
+//! Writing the four sections: each is a filter of the sorted strings by role.
 ghost use Rattle.std.specs.Prelude.{◌≡◌, ◌≤◌, ◌<◌, ℕ, [], length, slice_index_or, IsTrue, ◌↔◌, IfOk};
 ghost use Rattle.hdt_front.specs.Canonical.{lent_texts};
 ghost use Rattle.hdt_wire.specs.Control.{HasNoZero};
@@ -16,7 +16,7 @@ use hdt_dict::Role;
 use hdt_front::SectionWriter;
 use std::alloc::{AllocError, Global};
 
-/// The strings of a section: those that are used in one role, and also, or not, in the other.
+/// Selects the strings of a section: those used in one role, and also (`wanted`) or not in another one.
 #[derive(Clone, Copy)]
 struct Filter<'a> {
     used: &'a [bool],
@@ -33,7 +33,8 @@ fn has(filter: Filter<'_>, at: usize) -> bool
     filter.used[at] && filter.other[at] == filter.wanted
 }
 
-/// Prefetches the strings of a filter among the next ones, unless they are already; returns the new end.
+/// Prefetches those of the next strings that the filter selects, unless this was done; returns the index up to which
+/// strings are prefetched.
 fn looked_at(strings: &[&[u8]], filter: Filter<'_>, at: usize, seen: usize) -> usize
     requires used { length filter.used.now ≡ length strings.now }
     requires other { length filter.other.now ≡ length strings.now }
@@ -51,7 +52,7 @@ fn looked_at(strings: &[&[u8]], filter: Filter<'_>, at: usize, seen: usize) -> u
     seen_up_to(end, sum)
 }
 
-/// Writes the section of a filter, and stores the ID of each of its strings at the index of the string. IDs count from
+/// Writes the section of a filter, and stores the ID of each of its strings at the index of the string. The first ID is
 /// `count + 1`.
 fn put(
     alloc: Global,
@@ -84,18 +85,18 @@ fn put(
     Ok(out)
 }
 
-/// The sections of triples, and the IDs of the strings.
+/// The sections, and the IDs of the strings.
 #[derive(Drop)]
 pub struct Numbered {
     pub sections: Sections,
-    /// The ID of each string as a subject or an object: shared strings have one ID in both roles, others only one role.
+    /// The ID of each string as a subject or an object. A shared string has the same ID in both roles.
     pub nodes: Vec<u64>,
     /// The ID of each string as a predicate.
     pub predicates: Vec<u64>,
 }
 
-/// The sections of triples over sorted strings, and the IDs of the strings. Each section is written as a filter of the
-/// strings by the roles in which the triples use them.
+/// Writes the sections of triples over ascending strings without duplicates, and returns them with the IDs of the
+/// strings. Each section has the strings that triples use in its roles.
 pub fn parted(
     alloc: Global,
     strings: &[&[u8]],

@@ -1,4 +1,4 @@
-//! Triples whose strings are not looked up yet.
+//! Triples whose strings have not been looked up yet.
 ghost use Rattle.std.specs.Prelude.{◌≡◌, ◌<◌, ◌++◌, ◌∷◌, [], length, slice_index_or, IfOk, OnOk, IsTrue, IsFalse, ◌≤◌, ◌⊎◌};
 ghost use Rattle.std.specs.List.{All};
 ghost use Rattle.hdt_build.specs.Inside.Documents.{waiting_in, IsQueue};
@@ -7,20 +7,20 @@ ghost use Rattle.hdt_build.specs.Inside.Texts.{GoesOn};
 use hdt_dict::Arena;
 use std::alloc::{AllocError, Global};
 
-/// The greatest number of queued triples: enough strings are looked up together for their loads to overlap, and few
-/// enough to stay in the cache.
+/// The greatest number of queued triples: enough for the loads of look-ups to overlap, and few enough to fit in the
+/// processor's cache.
 const MOST: usize = 256;
 
-/// The greatest number of bytes of their strings before the last triple.
+/// The greatest number of bytes of their strings, before that of the last triple.
 const MOST_BYTES: usize = 65_536;
 
-/// Triples as indices into a list of their own strings. Strings are repeated in it, except a subject that is that of
-/// the previous triple.
+/// Triples as indices into a list of their own strings. The list has duplicates, but a subject that equals that of the
+/// previous triple is shared.
 #[derive(Drop)]
 pub struct Queue {
     pub strings: Arena,
     pub ids: Vec<(u64, u64, u64)>,
-    /// The number of bytes of the triples' strings.
+    /// The total length of the strings in bytes, counting shared subjects again.
     bytes: usize,
 }
 
@@ -35,7 +35,7 @@ fn listed(list: &mut Arena, text: &[u8]) -> Result<usize, AllocError>
     Ok(at)
 }
 
-/// The index of a subject in the list. It is appended unless it is that of the previous triple.
+/// Returns the index of a subject in the list. Appends it, unless it is that of the previous triple.
 fn subject_place(
     list: &mut Arena,
     ids: &[(u64, u64, u64)],
@@ -56,7 +56,7 @@ fn subject_place(
 }
 
 impl Queue {
-    /// An empty queue, with capacity for all that it can have, except long strings of its last triple.
+    /// An empty queue, with capacity for a full one, except for long strings of the last triple.
     pub fn new(alloc: Global) -> Result<Queue, AllocError>
         ensures ids { IfOk result (λ made. made.ids.items ≡ []) }
         ensures sound { IfOk result IsQueue }
@@ -68,7 +68,7 @@ impl Queue {
         })
     }
 
-    /// Adds a triple. After an error the queue can't be used any more.
+    /// Adds a triple. After an error, drop the queue.
     pub fn add(&mut self, s: &[u8], p: &[u8], o: &[u8]) -> Result<(), AllocError>
         requires { IsQueue self.old }
         ensures graph { OnOk result (waiting_in self.new ≡ waiting_in self.old ++ (s.now, p.now, o.now) ∷ []) }

@@ -16,7 +16,7 @@ use std::io::Read;
 /// The greatest length of an input in bytes.
 const MOST: u64 = 9_223_372_036_854_775_807;
 
-/// The error of a document, as an error of building.
+/// Converts an error of a line into one of building.
 fn fault_of(fault: LineFault) -> BuildFault
     ensures { IsToldAs fault result }
 {
@@ -26,7 +26,7 @@ fn fault_of(fault: LineFault) -> BuildFault
     }
 }
 
-/// The triples of a document.
+/// Reads all triples of a document, up to its end or its first error.
 pub fn read_graph<R: Read>(alloc: Global, input: &mut Counted<R>) -> Result<Document, BuildFault>
     ensures found { IfOk result (λ document. IsGraphIn (R.remaining (inner input.old)) (document_graph document)) }
     ensures sound { IfOk result IsSound }

@@ -1,15 +1,15 @@
-//! The new IDs of a role.
+//! Mapping the old IDs of a role to new ones.
 ghost use Rattle.std.specs.Prelude.{◌≡◌, ◌<◌, ◌≤◌, ◌+◌, ◌-◌, ℕ, length, slice_index, IsTrue};
 ghost use Rattle.hdt_build.specs.Inside.Kept.{new_number};
 
-/// The new ID of each ID of a role. In a file without unused strings IDs don't change, and none is looked up.
+/// A map from old to new IDs of a role. If no ID changes, as in a canonical file, it needs no memory.
 #[derive(Drop)]
 pub enum Numbering {
     Same,
     Listed(Vec<u64>),
 }
 
-/// Whether each ID is the same as before.
+/// Whether each new ID equals the old one.
 fn are_same(numbers: &[u64]) -> bool
     ensures { IsTrue result → (k : ℕ) → k < length numbers.now → slice_index numbers.now k ≡ k + 1 }
 {
@@ -21,7 +21,7 @@ fn are_same(numbers: &[u64]) -> bool
     true
 }
 
-/// The map from old IDs to these new ones.
+/// The map to these new IDs, of the old IDs 1, 2, ..
 pub fn numbering_of(numbers: Vec<u64>) -> Numbering
     ensures { (n : ℕ) → 1 ≤ n → n ≤ length numbers.items → new_number result n ≡ slice_index numbers.items (n - 1) }
 {
@@ -32,7 +32,7 @@ pub fn numbering_of(numbers: Vec<u64>) -> Numbering
 }
 
 impl Numbering {
-    /// The new ID of an old one.
+    /// Returns the new ID of an old one.
     pub fn new_number(&self, old: u64) -> u64
         ensures { result ≡ new_number self.now old }
     {
@@ -43,7 +43,7 @@ impl Numbering {
     }
 }
 
-/// The new ID in a list of them, by the old one.
+/// The new ID in the list; 0 if the old one is not valid.
 fn number_in(numbers: &[u64], old: u64) -> u64
     ensures { result ≡ slice_index numbers.now (old - 1) }
 {

@@ -1,4 +1,4 @@
-//! The counts of a file that was made.
+//! The counts of a file that was built or rewritten.
 
 /// The counts of a file that was built or rewritten.
 #[derive(Clone, Copy, Debug, PartialEq, Eq)]

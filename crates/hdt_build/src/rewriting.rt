@@ -1,4 +1,4 @@
-//! Rewriting an open graph as its canonical file.
+//! Rewriting a graph as its canonical file.
 ghost use Rattle.std.specs.Prelude.{◌≡◌, ◌≢◌, ◌+◌, ◌↔◌, ℕ, IfOk, IfErr, OnOk, IsErrOf};
 ghost use Rattle.hdt_wire.specs.Counted.{inner, failures};
 ghost use Rattle.hdt_file.specs.Views.{graph_seen};
@@ -18,8 +18,8 @@ use hdt_wire::Counted;
 use std::alloc::{AllocError, Global};
 use std::io::Write;
 
-/// The canonical file of a graph's triples, with its header body, and its counts. Each section is freed once it is in
-/// the file, and the triples are searched after that.
+/// The canonical file of a graph's triples with its header body, and its counts. Each section is freed once it is
+/// written, before the triples are listed.
 fn rewritten(
     alloc: Global,
     graph: &Graph<'_>,
@@ -55,9 +55,9 @@ fn rewritten(
     Ok((bytes, report))
 }
 
-/// Rewrites an open file as the canonical file of the same triples, in memory. Returns its bytes and its counts. The
-/// header body stays the same, byte for byte; strings that no triple uses are left out. Only the block size of the
-/// options is used. Strings need not be terms. Linear time, except for sorting the triples if the order of IDs changes.
+/// Rewrites a graph as the canonical file of the same triples, in memory. Returns its bytes and its counts. The header
+/// body is unchanged; strings that no triple uses are dropped. Of the options, only the block size is used. Strings
+/// need not be RDF terms. Linear time, except for sorting the triples if the order of their IDs changes.
 ///
 /// ```text
 /// let graph = open(alloc, bytes)?;
@@ -73,7 +73,7 @@ pub fn rewrite_bytes(
     graph: &Graph<'_>,
     options: &Options,
 ) -> Result<(Vec<u8>, Report), RewriteFault>
-    // This is the canonical file of the graph's triples with its header body, and the counts of that file.
+    // Returns the canonical file of the graph's triples, with its header body, and its counts.
     ensures made { IfOk result (λ made. IsRewritten options.now.block_size (graph_seen graph.now) made.0.items made.1) }
     // BadOptions is returned exactly if the block size is not valid.
     ensures bad { IsErrOf result RewriteFault.BadOptions ↔ (IsBlockSize options.now.block_size → ⊥) }
@@ -86,8 +86,8 @@ pub fn rewrite_bytes(
     Ok(rewritten(alloc, graph, options.block_size)?)
 }
 
-/// Rewrites an open file, and then writes it: the bytes of [`rewrite_bytes`]. Nothing is written before the file is
-/// complete. Time and memory are those of [`rewrite_bytes`].
+/// Rewrites a graph, as [`rewrite_bytes`] does, and then writes the file. Nothing is written before it is complete in
+/// memory.
 ///
 /// # Errors
 ///

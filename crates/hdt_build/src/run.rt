@@ -1,4 +1,4 @@
-//! The strings of an ascending run that a new section has.
+//! Rewriting: the strings of an ascending run that a new section retains.
 ghost use Rattle.std.specs.Prelude.{◌≡◌, ◌<◌, ◌≤◌, ◌+◌, List, ℕ, length, IsTrue, IsFalse, IfOk, OnOk};
 ghost use Rattle.hdt_front.specs.InWork.{last_string};
 ghost use Rattle.hdt_front.specs.Searching.{agreed};
@@ -12,19 +12,19 @@ use hdt_file::Graph;
 use hdt_front::{SectionWriter, compared_from};
 use std::alloc::{AllocError, Global};
 
-/// A cursor over those strings of a role, from one index up to another, that a new section has. The others are decoded
-/// only if one that it has follows them. All of a run takes linear time in the front-coded bytes of its strings.
+/// A cursor over the strings of a role, from one index up to another, that a new section retains. Other strings are
+/// decoded only if a retained one follows. A complete run takes linear time in the front-coded bytes of its strings.
 #[derive(Drop)]
 pub struct Run<'a> {
     strings: Strings<'a>,
     /// The index of the current string, or the end.
     pub at: u64,
     end: u64,
-    /// The length of the longest common prefix of the current string and the one that was written last.
+    /// The length of the longest common prefix of the current string and the string written last.
     pub same: usize,
 }
 
-/// Advances to a later string; returns a lower bound of its longest common prefix with the previous one.
+/// Advances to the string with a greater ID; returns a lower bound of its common prefix with the previous one.
 fn go_to(strings: &mut Strings<'_>, number: u64) -> Result<usize, AllocError>
     requires { strings.old.given < number }
     ensures stands { OnOk result ((all : List (List ℕ)) → HasGiven all strings.old → number ≤ length all → StandsBehind all number strings.new) }
@@ -46,7 +46,7 @@ fn go_to(strings: &mut Strings<'_>, number: u64) -> Result<usize, AllocError>
 impl<'a> Run<'a> {
     ghost use Rattle.hdt_build.specs.Inside.Kept.{IsRunOfStrings};
 
-    /// The run from one index up to another, with nothing written yet.
+    /// The run from one index up to another, before anything is written.
     pub fn new(
         alloc: Global,
         graph: &Graph<'a>,
@@ -70,8 +70,8 @@ impl<'a> Run<'a> {
         Ok(run)
     }
 
-    /// Advances to the first string from an index on that the section has; returns a lower bound of its longest common
-    /// prefix with the previous one.
+    /// Advances to the first retained string from an index on; returns a lower bound of its common prefix with the
+    /// previous one.
     fn seek(&mut self, graph: &Graph<'_>, part: Part, from: u64) -> Result<usize, AllocError>
         requires stands { HasGiven (strings_in (graph_seen graph.now).dictionary (role_of part)) self.old.strings }
         requires behind { self.old.strings.given ≤ from }
@@ -89,8 +89,8 @@ impl<'a> Run<'a> {
         Ok(0)
     }
 
-    /// Advances to the next string, if the current one was written last. Only bytes that the next one doesn't share by
-    /// its entries are compared.
+    /// Advances to the next string. The current one must be the string written last. Only bytes after the prefix that
+    /// the entries share are compared.
     pub fn step(
         &mut self,
         graph: &Graph<'_>,

@@ -1,4 +1,4 @@
-//! The sections of the strings that triples use, and their new IDs.
+//! Rewriting: writing the sections of the strings that triples use, and their new IDs.
 ghost use Rattle.std.specs.Prelude.{◌≡◌, ◌≢◌, ◌<◌, ◌≤◌, ◌+◌, ◌^◌, ◌++◌, ◌∷◌, [], ℕ, length, set, slice_index, IsTrue, IsFalse, IfOk, OnOk};
 ghost use Rattle.std.specs.declared.cmp.Ordering.TheVariants.{Less};
 ghost use Rattle.hdt_front.specs.InWork.{last_string};
@@ -20,8 +20,8 @@ use hdt_front::{SectionWriter, compared_from};
 use std::alloc::{AllocError, Global};
 use std::cmp::Ordering;
 
-/// Compares the current strings of two runs; returns also the length of their longest common prefix. The one that has
-/// more in common with the string that was written last is less; else they are compared after that prefix.
+/// Compares the current strings of two runs; also returns the length of their longest common prefix. The one with the
+/// longer common prefix with the string written last is less. If both are equally long, the bytes after it decide.
 fn compared(one: &Run<'_>, two: &Run<'_>) -> (Ordering, usize)
     requires { Tell one.now two.now }
     ensures order { result.0 ≡ string_cmp one.now.strings.last two.now.strings.last }
@@ -36,8 +36,8 @@ fn compared(one: &Run<'_>, two: &Run<'_>) -> (Ordering, usize)
     compared_from(one.string(), two.string(), one.same)
 }
 
-/// Whether the next string of two runs is that of the first one, and the length of their longest common prefix, if both
-/// have one.
+/// Whether the next string is that of the first run; and if both runs have one, the length of their longest common
+/// prefix.
 fn comes_first(one: &Run<'_>, two: &Run<'_>) -> (bool, usize)
     requires { one.now.at < one.now.end → two.now.at < two.now.end → Tell one.now two.now }
     ensures first { IsTrue result.0 → (one.now.at < one.now.end) × (two.now.at < two.now.end → string_cmp one.now.strings.last two.now.strings.last ≡ Less) }
@@ -51,7 +51,7 @@ fn comes_first(one: &Run<'_>, two: &Run<'_>) -> (bool, usize)
     (order.is_lt(), same)
 }
 
-/// Writes the current string of a run, stores its new ID, and advances. IDs count from `count + 1`.
+/// Writes the current string of a run, stores its new ID at its old index, and advances. New IDs start at `count + 1`.
 fn take(
     graph: &Graph<'_>,
     part: Part,
@@ -77,9 +77,9 @@ fn take(
     run.step(graph, part, out)
 }
 
-/// Writes a new section, and stores the new ID of each of its strings at its old index. IDs count from `count + 1`.
-/// Linear time in the front-coded bytes of the role and those that are written: each decoded byte is compared at most
-/// twice, since a run knows the common prefix of its current string and the one that was written last.
+/// Writes a new section by merging two runs, and stores the new ID of each string at its old index. New IDs start at
+/// `count + 1`. Linear time in the front-coded bytes that are read and written: each decoded byte is compared at most
+/// twice, because a run records the common prefix of its current string and the string written last.
 fn put(
     alloc: Global,
     graph: &Graph<'_>,
@@ -114,7 +114,7 @@ fn put(
     Ok(out)
 }
 
-/// Four sections that are written.
+/// The writers of the four sections.
 #[derive(Drop)]
 pub struct Sections {
     pub shared: SectionWriter,
@@ -124,7 +124,7 @@ pub struct Sections {
 }
 
 impl Sections {
-    /// The number of strings of each: shared, subjects, predicates, objects.
+    /// Returns the number of strings of each section: shared, subjects, predicates, objects.
     pub fn lens(&self) -> [u64; 4]
         ensures { result ≡ length (sections_in_work self.now).shared ∷ length (sections_in_work self.now).subjects ∷ length (sections_in_work self.now).predicates ∷ length (sections_in_work self.now).objects ∷ [] }
     {
@@ -145,7 +145,7 @@ pub struct Numbers {
     pub objects: Numbering,
 }
 
-/// The new IDs of objects: those of shared strings are the same as for subjects, the others still 0.
+/// The new IDs of objects, by old index: those of shared strings are the same as for subjects, all others are 0 so far.
 fn object_numbers(
     alloc: Global,
     graph: &Graph<'_>,
@@ -163,8 +163,8 @@ fn object_numbers(
     Ok(made)
 }
 
-/// The sections of the strings that triples use, and their new IDs. Each string is decoded once, those of the section
-/// shared up to five times.
+/// Rewrites the four sections with the strings that triples use, and returns them with the new IDs. Each string is
+/// decoded once; shared strings up to five times.
 pub fn new_sections(
     alloc: Global,
     graph: &Graph<'_>,

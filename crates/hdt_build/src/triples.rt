@@ -19,7 +19,7 @@ const ANY: Pattern = Pattern {
     o: None,
 };
 
-/// Replaces each index of triples by what the list of its role has there.
+/// Maps each index of triples through the list of its role, in place.
 pub fn replace(
     triples: &mut Vec<(u64, u64, u64)>,
     subjects: &[u64],
@@ -41,7 +41,7 @@ pub fn replace(
     }
 }
 
-/// Whether each triple is less than the next.
+/// Whether the triples strictly ascend.
 fn are_ascending(triples: &[(u64, u64, u64)]) -> bool
     ensures { IsTrue result → AreAscending triples.now }
 {
@@ -53,7 +53,7 @@ fn are_ascending(triples: &[(u64, u64, u64)]) -> bool
     true
 }
 
-/// Sorts triples and drops duplicates. Ascending triples are only checked.
+/// Sorts triples and drops duplicates. If they ascend already, this takes one pass.
 pub fn order(triples: &mut Vec<(u64, u64, u64)>)
     ensures ascending { AreAscending triples.new.items }
     ensures same { SameMembers triples.new.items triples.old.items }
@@ -65,7 +65,7 @@ pub fn order(triples: &mut Vec<(u64, u64, u64)>)
     triples.dedup();
 }
 
-/// The triples of a graph with new IDs, in their old order.
+/// The triples of a graph with new IDs, not sorted again.
 fn renumbered(
     alloc: Global,
     graph: &Graph<'_>,

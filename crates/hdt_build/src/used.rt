@@ -1,4 +1,4 @@
-//! Which strings triples use in a role.
+//! The strings that triples use in a role.
 ghost use Rattle.std.specs.Prelude.{◌≡◌, ◌↔◌, ◌<◌, ℕ, length, slice_index_or, true, false, IfOk};
 ghost use Rattle.std.specs.List.{All};
 ghost use Rattle.hdt_triples.specs.Uses.{part, Uses};
@@ -7,7 +7,7 @@ ghost use Rattle.hdt_build.specs.Inside.Parted.{AreUsed};
 use hdt_dict::Role;
 use std::alloc::{AllocError, Global};
 
-/// The index that a triple has in a role.
+/// The index of a triple in a role.
 fn number_in(triple: &(u64, u64, u64), role: Role) -> u64
     ensures { result ≡ part role triple.now }
 {
@@ -19,7 +19,7 @@ fn number_in(triple: &(u64, u64, u64), role: Role) -> u64
     }
 }
 
-/// Which of so many indices triples have in a role.
+/// For each index less than `count`, whether triples use it in a role.
 pub fn used(
     alloc: Global,
     triples: &[(u64, u64, u64)],

@@ -1,4 +1,4 @@
--- A control block and four sections, appended one after another.
+-- Appending control information and four sections, one after another.
 use Rattle.std.proofs.Common.{◌≡◌, Result, Ok, Err, ◌+◌, ◌++◌, ◌<◌, ◌≤◌, ◌^◌, ℕ, List, [], length, append_assoc, append-nil, ap, sym, subst, ◌∙◌}
 use Rattle.std.specs.Result.{OnOk}
 use Rattle.hdt_wire.specs.declared.control.Kind.TheVariants as kinds
@@ -10,7 +10,7 @@ use Rattle.hdt_dict.specs.Dictionary.{IsDictionary, FourLists}
 use Rattle.hdt_dict.specs.Writing.{AreSections, mapping, canonical_dictionary, canonical_dictionary_parts}
 use Rattle.hdt_dict.specs.Laws.Writing.{dictionary_stands}
 
--- one more part behind what was appended
+-- one more piece after those that were appended
 more : (old x r s y : List ℕ) → r ≡ old ++ x → s ≡ r ++ y → s ≡ old ++ (x ++ y)
 more old x r s y e f = f ∙ ap (λ (l : List ℕ). l ++ y) e ∙ append_assoc old x y
 
@@ -24,7 +24,7 @@ appended b d old r0 r1 r2 r3 r4 e0 e1 e2 e3 e4 =
     more old _ r3 r4 (canonical b d.objects) (more old _ r2 r3 (canonical b d.predicates) (more old _ r1 r2 (canonical b d.subjects) (more old _ r0 r1 (canonical b d.shared) e0 e1) e2) e3) e4
     ∙ ap (λ (l : List ℕ). old ++ l) (regrouped (control kinds.Dictionary mapping) (canonical b d.shared) (canonical b d.subjects) (canonical b d.predicates) (canonical b d.objects))
 
--- what was appended is a dictionary
+-- the appended bytes are a dictionary
 pub dictionary_appended : (b : ℕ) (d : FourLists) (old new : List ℕ) → 1 ≤ b → b < 2 ^ 64 → AreSections d → length new < 2 ^ 64 → new ≡ old ++ canonical_dictionary b d
     → IsDictionary (canonical_dictionary_parts b d (length old)) new (length old)
 dictionary_appended b d old new some low are small e =
@@ -32,7 +32,7 @@ dictionary_appended b d old new some low are small e =
     dictionary_stands b d new (length old) (length old + length text) some low are small
     (subst (λ (l : List ℕ). Stands l (length old) text (length old + length text)) (append-nil (old ++ text) ∙ sym e) (Stands-after old text []))
 
--- what follows at Ok of two facts
+-- what follows from two facts at `Ok`
 pub on_ok_both : {E P Q R : Type 0} (r : Result (Unit {0}) E) → (P → Q → R) → OnOk r P → OnOk r Q → OnOk r R
 on_ok_both (Ok done) f p q = f p q
 on_ok_both (Err error) f p q = tt

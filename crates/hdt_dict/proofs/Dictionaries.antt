@@ -1,4 +1,4 @@
--- The strings of a dictionary's roles: none stands twice, and they are few.
+-- The strings of each role are distinct, and there are no more than its sections allow.
 use Rattle.std.proofs.Common.{◌≡◌, ◌+◌, ◌≤◌, arith, length, length-append, ℕ, ◌++◌, List, Option, Some, ◌↔◌, subst}
 use Rattle.std.proofs.lemmas.List.Elements.{Contains-append_left}
 use Rattle.hdt_front.specs.declared.section.Section.{Section}

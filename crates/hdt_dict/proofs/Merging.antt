@@ -1,4 +1,4 @@
--- What comes next of two ascending lists that are merged.
+-- The next string of two ascending lists that are merged.
 use Rattle.std.proofs.Common.{◌≡◌, ◌≢◌, ℕ, ◌+◌, ◌<◌, ◌≤◌, ◌⊎◌, true, false, List, [], length, get_or, below_more, refl, ap, sym, ◌∙◌, inl, inr, arith, eq-or-lt_of_le}
 use Rattle.std.specs.declared.cmp.Ordering.{Ordering}
 use Rattle.std.specs.declared.cmp.Ordering.TheVariants.{Less, Equal, Greater}
@@ -18,7 +18,7 @@ use Rattle.hdt_dict.specs.Laws.Strings.{Contains-has}
 itself : (x : List ℕ) → string_cmp x x ≡ Equal
 itself x = tied_itself nat_list_cmp_total x
 
--- the other way round
+-- the comparison reversed
 pub turned : (x y : List ℕ) → string_cmp x y ≡ Greater → string_cmp y x ≡ Less
 turned x y h = nat_list_cmp_total.antisymm y x ∙ ap ordering_reverse h
 
@@ -32,12 +32,12 @@ differ : (x y : List ℕ) → string_cmp x y ≡ Less → (b : _) → bytes_eq y
 differ x y less true e = let bad : Less ≡ Equal = sym less ∙ ap (string_cmp x) ((bytes_eq-Decides y x).0 e) ∙ itself x in cc
 differ x y less false e = refl
 
--- a string that is less than one is less than those from there on
+-- a string that is less than one string is less than all after it
 less_on : (ys : List (List ℕ)) (j m : ℕ) (x : List ℕ) → IsAscending ys → string_cmp x (get_or ys j []) ≡ Less → (j ≡ m) ⊎ (j < m) → m < length ys → string_cmp x (get_or ys m []) ≡ Less
 less_on ys j m x up less (inl e) within = ap (λ k. string_cmp x (get_or ys k [])) (sym e) ∙ less
 less_on ys j m x up less (inr after) within = nat_list_cmp_total.trans x (get_or ys j []) (get_or ys m []) less (Less-from_sorted string_cmp ys j m [] up after within)
 
--- one string more is passed
+-- one more string is passed
 pass_one : (xs ys : List (List ℕ)) (i j : ℕ) → i < length xs → ArePassed xs i ys j → (k : ℕ) → j ≤ k → ((m : ℕ) → k ≤ m → m < length ys → string_cmp (get_or xs i []) (get_or ys m []) ≡ Less)
     → ArePassed xs (i + 1) ys k
 pass_one xs ys i j here passed k after less m from within =

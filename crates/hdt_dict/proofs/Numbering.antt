@@ -1,4 +1,4 @@
--- Numbers of strings, and strings of numbers.
+-- IDs of strings, and strings of IDs.
 use Rattle.std.proofs.Common.{◌≡◌, ℕ, zero, suc, ◌+◌, ◌≤◌, ◌++◌, ◌||◌, Bool, true, false, cond, List, [], ◌∷◌, length, Option, Some, None, refl, sym, ap, ◌∙◌, arith, ◌↔◌}
 use Rattle.std.specs.Prelude.{option_map, slice_get}
 use Rattle.std.specs.Str.{bytes_eq}
@@ -36,7 +36,7 @@ both_no : (b : Bool) → b ≡ true → b ≡ false → ⊥
 both_no true h k = cc
 both_no false h k = cc
 
--- ---- lists without repeats
+-- ---- lists without duplicates
 
 abbrev pub Distinct : List (List ℕ) → Type 0
 Distinct [] = Unit {0}
@@ -61,7 +61,7 @@ distinct-append (x ∷ xs) ys dx dy n =
       distinct-append xs ys dx.1 dy (λ z a b. n z (suc a.0, omega (arith, a.1), a.2) b),
     )
 
--- ---- numbers of two lists, one after the other
+-- ---- IDs over two consecutive lists
 
 abbrev pub in_two : Option ℕ → ℕ → Option ℕ → Option ℕ
 in_two (Some n) k r = Some n
@@ -87,7 +87,7 @@ place-append (y ∷ xs) ys x =
     ap (λ r. cond (bytes_eq y x) (Some 1) (option_map (λ n. n + 1) r)) (place-append xs ys x)
     ∙ append_by (bytes_eq y x) (place xs x) (length xs) (place ys x)
 
--- ---- a number is that of its string
+-- ---- an ID is that of its string
 
 some_is : (x y : List ℕ) → (let r : Option (List ℕ) = Some x in r) ≡ Some y → x ≡ y
 some_is x y e = cc
@@ -139,7 +139,7 @@ numbered_within : (xs : List (List ℕ)) (x : List ℕ) (n : ℕ) → numbered x
 numbered_within xs x zero e = omega arith
 numbered_within xs x (suc i) e = omega (arith, slice_get_within xs i x e)
 
--- a number is at most the length
+-- an ID is at most the length
 pub place_within : (xs : List (List ℕ)) (x : List ℕ) (n : ℕ) → place xs x ≡ Some n → n ≤ length xs
 place_within xs x n e = numbered_within xs x n (string_of_number xs x n e)
 
@@ -147,7 +147,7 @@ there : (xs : List (List ℕ)) (x : List ℕ) (n : ℕ) → numbered xs n ≡ So
 there xs x zero e = absurd (cc)
 there xs x (suc i) e = has-Contains xs x (member xs x i e)
 
--- a string of the one list has no number in another that has none of its strings
+-- a string of one list has no ID in a disjoint list
 pub place_apart : (xs ys : List (List ℕ)) (x : List ℕ) (n : ℕ) → AreApart xs ys → place ys x ≡ Some n → place xs x ≡ None
 place_apart xs ys x n apart is = by (place xs x) refl
   where
@@ -155,7 +155,8 @@ place_apart xs ys x n apart is = by (place xs x) refl
     by None e = e
     by (Some m) e = absurd (apart x (there xs x m (string_of_number xs x m e)) (there ys x n (string_of_number ys x n is)))
 
--- where the second list is searched first: the number in it, moved on, is that in both, and without one it is that in the first
+-- If the second list is searched first: its ID, plus the length of the first list, is the ID in both; if it has none,
+-- that of the first list is.
 pub found_behind : (xs ys : List (List ℕ)) (x : List ℕ) (n : ℕ) → AreApart xs ys → option_map (λ m. length xs + m) (place ys x) ≡ Some n → place (xs ++ ys) x ≡ Some n
 found_behind xs ys x n apart is = place-append xs ys x ∙ by (place ys x) refl is
   where

@@ -1,4 +1,4 @@
--- Strings that are appended one after another.
+-- Appending strings, one after another.
 use Rattle.std.proofs.Common.{◌≡◌, ℕ, zero, suc, ◌+◌, ◌-◌, ◌*◌, ◌<◌, ◌≤◌, List, [], ◌∷◌, ◌++◌, length, take, slice_index, slice_index_or, refl, sym, ap, ◌∙◌, arith, append_assoc, length-append}
 use Rattle.std.specs.List.{concat}
 use Rattle.std.specs.Prelude.{Result, Ok, Err, OnErr}
@@ -7,7 +7,7 @@ use Rattle.std.proofs.lemmas.List.{take_more, map-append, append-nil, get_or_app
 use Rattle.std.proofs.lemmas.List.Folds.{concat-append}
 use Rattle.hdt_dict.specs.Many.{AscendTo, ends_from, strings_by_number}
 
--- one string more
+-- one more string
 pub strings_more : (xs : List (List ℕ)) (ns : List ℕ) (i : ℕ) → i < length ns → strings_by_number xs (take (i + 1) ns) ≡ strings_by_number xs (take i ns) ++ slice_index_or xs (slice_index ns i - 1) [] ∷ []
 strings_more xs ns i h = ap (strings_by_number xs) (take_more ns i 0 h) ∙ map-append (λ n. slice_index_or xs (n - 1) []) (take i ns) (slice_index ns i ∷ [])
 
@@ -36,7 +36,7 @@ ends_more xs ns i n old new ends after more h e size f g =
     g ∙ ap (λ l. l ++ n ∷ []) f ∙ append_assoc ends (ends_from (length old) before) (n ∷ [])
     ∙ ap (λ l. ends ++ l) (ap (λ (n : ℕ). ends_from (length old) before ++ n ∷ []) place ∙ sym (ends_push (length old) before s) ∙ ap (ends_from (length old)) (sym (strings_more xs ns i h)))
 
--- the number before the next one
+-- the ID before the next one
 pub before_next : (ns : List ℕ) (i : ℕ) → slice_index (0 ∷ ns) (i + 1) ≡ slice_index ns i
 before_next ns i = let next : i + 1 ≡ suc i = omega arith in ap (slice_index (0 ∷ ns)) next
 
@@ -47,7 +47,7 @@ before_within ns n (suc i) a h = (a i (omega (arith, h))).1
 pub one_more : (i m : ℕ) → (i + 1) * m ≡ i * m + m
 one_more i m = grind arith
 
--- strings of the first of two lists
+-- the strings of the first of two lists
 pub in_first : (xs ys : List (List ℕ)) (ns : List ℕ) → ((i : ℕ) → i < length ns → (1 ≤ slice_index ns i) × (slice_index ns i ≤ length xs)) → strings_by_number (xs ++ ys) ns ≡ strings_by_number xs ns
 in_first xs ys [] h = refl
 in_first xs ys (n ∷ ns) h =
@@ -55,7 +55,7 @@ in_first xs ys (n ∷ ns) h =
     ap (λ (s : List ℕ). s ∷ strings_by_number (xs ++ ys) ns) (get_or_append_left xs ys [] (n - 1) (omega (arith, k.0, k.1)))
     ∙ ap (λ l. slice_index_or xs (n - 1) [] ∷ l) (in_first xs ys ns (λ i lt. h (suc i) (omega (arith, lt))))
 
--- after an error something may be left behind what was there
+-- an error may leave bytes after the old ones
 pub left_behind : {T E : Type 0} (result : Result T E) (old new more : List ℕ) → new ≡ old ++ more → OnErr result (Keeps old new)
 left_behind (Ok x) old new more e = tt
 left_behind (Err x) old new more e = ap (take (length old)) e ∙ take-append-le (length old) old more (omega arith) ∙ whole old

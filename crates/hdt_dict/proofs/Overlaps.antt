@@ -1,4 +1,4 @@
--- The first string that stands in another list, by the order of both.
+-- The first string that is in another list, if both ascend.
 use Rattle.std.proofs.Common.{◌≡◌, ◌≢◌, ℕ, ◌<◌, ◌||◌, Bool, true, false, cond, List, [], ◌∷◌, length, drop, Option, Some, refl, sym, ap, ◌∙◌, subst, arith, Ordering}
 use Rattle.std.specs.Prelude.{Result, Ok, Err, IfOk}
 use Rattle.std.specs.declared.alloc.AllocError.{AllocError}
@@ -33,7 +33,7 @@ apart y x h = sym (is_eq-slice_cmp y x) ∙ not_eq (order y x) h
 trans : (x y z : List ℕ) → precedes x y ≡ true → precedes y z ≡ true → precedes x z ≡ true
 trans x y z h k = ap is_lt (nat_list_cmp_total.trans x y z (less_is (order x y) h) (less_is (order y z) k))
 
--- a string that isn't after s isn't one that is
+-- a string that is not greater than s is none of those that are
 not_after : (s p x : List ℕ) (o : Ordering) → order p x ≡ o → precedes s p ≡ true → precedes s x ≡ false → (bytes_eq p x ≡ false) × (precedes p x ≡ false)
 not_after s p x Less e h k = let both : true ≡ false = sym (trans s p x h (ap is_lt e)) ∙ k in absurd (cc)
 not_after s p x Equal e h k =
@@ -62,7 +62,7 @@ first_is_by : (b : Bool) (x : List ℕ) (p : Placed) (ps : List Placed) → prec
 first_is_by true x p ps e a rest = rest ∙ sym (ap (λ b. b || is_string_of ps x) (apart p.string x e))
 first_is_by false x p ps e a rest = is_eq-slice_cmp p.string x ∙ or_false (bytes_eq p.string x) (is_string_of ps x) (not_ahead p.string x ps a e)
 
--- the string comes next where it is one of the list
+-- the string is next exactly if it is in the list
 pub first_is : (x : List ℕ) (ps : List Placed) → PlacedAscend ps → is_first x (not_less x ps) ≡ is_string_of ps x
 first_is x [] a = refl
 first_is x (p ∷ ps) a = first_is_by (precedes p.string x) x p ps refl a (first_is x ps (ascends_tail p.string ps a))
@@ -72,7 +72,7 @@ among_left_by : (b : Bool) (x z : List ℕ) (p : Placed) (ps : List Placed) → 
 among_left_by true x z p ps e h rest = rest ∙ sym (ap (λ b. b || is_string_of ps z) (apart p.string z (trans p.string x z e h)))
 among_left_by false x z p ps e h rest = refl
 
--- of the strings after it none is passed
+-- no string that is greater than x is passed
 pub among_left : (x z : List ℕ) (ps : List Placed) → precedes x z ≡ true → is_string_of (not_less x ps) z ≡ is_string_of ps z
 among_left x z [] h = refl
 among_left x z (p ∷ ps) h = among_left_by (precedes p.string x) x z p ps refl h (among_left x z ps h)
@@ -85,7 +85,7 @@ pub ascends_left : (x : List ℕ) (ps : List Placed) → PlacedAscend ps → Pla
 ascends_left x [] a = tt
 ascends_left x (p ∷ ps) a = ascends_left_by (precedes p.string x) x p ps a (ascends_left x ps (ascends_tail p.string ps a))
 
--- ---- one turn of `reaches`
+-- ---- one iteration of `reaches`
 
 pub passes : (x : List ℕ) (v : List Placed) → first_order v x ≡ Less → not_less x (drop 1 v) ≡ not_less x v
 passes x [] e = absurd (cc)
@@ -104,7 +104,7 @@ pub stops : (x : List ℕ) (v : List Placed) → first_order v x ≢ Less → v 
 stops x [] ne = refl
 stops x (p ∷ ps) ne = sym (ap (λ b. cond b (not_less x ps) (p ∷ ps)) (not_lt (first_order (p ∷ ps) x) ne))
 
--- ---- one turn over a list, for any test
+-- ---- one iteration over a list, for any test
 
 same_first : (s : List ℕ) (ps : List Placed) (f g : List ℕ → Bool) → After s ps → ((z : List ℕ) → precedes s z ≡ true → f z ≡ g z) → first_place f ps ≡ first_place g ps
 same_first s [] f g a same = refl
@@ -115,7 +115,7 @@ same_first s (p ∷ ps) f g a same =
 string_of : (p : Placed) (ps : List Placed) (x : List ℕ) → first_string (p ∷ ps) ≡ Some x → p.string ≡ x
 string_of p ps x e = cc
 
--- a string that doesn't pass the test, and a test that answers the same of the strings after it
+-- a string that fails the test, and another test with the same result for all strings after it
 pub turns : (v : List Placed) (x : List ℕ) (f g : List ℕ → Bool) → first_string v ≡ Some x → PlacedAscend v → f x ≡ false → ((z : List ℕ) → precedes x z ≡ true → g z ≡ f z)
     → first_place g (drop 1 v) ≡ first_place f v
 turns [] x f g e a fails same = absurd (cc)
@@ -132,7 +132,7 @@ pub ascends_drop : (v : List Placed) → PlacedAscend v → PlacedAscend (drop 1
 ascends_drop [] a = tt
 ascends_drop (p ∷ ps) a = ascends_tail p.string ps a
 
--- ---- what `reaches` answers, and what it leaves
+-- ---- the result of `reaches`, and the remaining strings
 
 pub reached : (x : List ℕ) (v w : List Placed) (b : Bool) → PlacedAscend v → b ≡ is_first x w → w ≡ not_less x v → b ≡ is_string_of v x
 reached x v w b a found left = found ∙ ap (is_first x) left ∙ first_is x v a
@@ -165,7 +165,7 @@ or_none a b e f = ap (λ a. a || b) e ∙ f
 pub or_both : (a b c d : Bool) → a ≡ c → b ≡ d → (a || b) ≡ (c || d)
 or_both a b c d e f = ap (λ a. a || b) e ∙ ap (λ b. c || b) f
 
--- ---- the cursors stand before their sections
+-- ---- the cursors are at the start of their sections
 
 pub answered : (r : Result (Option ℕ) AllocError) (list one two list' one' two' : List Placed)
     → IfOk r (λ r. r ≡ first_place (λ x. is_string_of one x || is_string_of two x) list) → list ≡ list' → one ≡ one' → two ≡ two'

@@ -1,4 +1,4 @@
--- Merging two sections gives the checks of the strings that are in both.
+-- Merging two sections gives the result of the check that they are disjoint.
 use Rattle.std.proofs.Common.{◌≡◌, ℕ, zero, suc, ◌+◌, ◌<◌, ◌||◌, not, Bool, true, false, cond, List, [], ◌∷◌, ◌++◌, length, get_or, Option, Some, refl, sym, ap, ◌∙◌, arith, add-zero, zero-add}
 use Rattle.std.specs.Str.{bytes_eq}
 use Rattle.std.specs.Prelude.{Result}
@@ -30,7 +30,7 @@ pub has-append : (xs ys : List (List ℕ)) (x : List ℕ) → has (xs ++ ys) x �
 has-append [] ys x = refl
 has-append (y ∷ xs) ys x = ap (λ b. bytes_eq y x || b) (has-append xs ys x) ∙ or_assoc (bytes_eq y x) (has xs x) (has ys x)
 
--- ---- the strings of a section with their offsets, by their numbers
+-- ---- the strings of a section with their byte offsets, by ID
 
 pub nowhere : Placed
 nowhere = record { string = []; place = 0 }
@@ -67,7 +67,7 @@ placed_is s j h =
     ∙ ap (λ k. (let x : Placed = record { string = before_at p.block (suc k) bytes; place = place_at p (rest_at p.block k bytes) } in x)) (zero-add j)
     ∙ ap (λ t. (let x : Placed = record { string = t; place = place_at p (rest_at p.block j bytes) } in x)) (sym (string_is p.block s.packed.count j bytes lt))
 
--- ---- the first place is the first check that fails
+-- ---- the first string found is that of the first check that fails
 
 met_by : (b : Bool) (place : ℕ) (r : Option ℕ) → (demand (not b) place SectionsOverlap >>= (λ _. none_met r)) ≡ none_met (cond b (Some place) r)
 met_by true place r = refl

@@ -1,4 +1,4 @@
--- What the walks along the ascending lists answer is the split.
+-- Merging the ascending lists divides them into the sections.
 use Rattle.std.proofs.Common.{◌≡◌, ℕ, List, Bool, not}
 use Rattle.std.specs.List.{Contains, filter}
 use Rattle.std.proofs.lemmas.List.Kept.{IsStrictlySortedBy-filter}
@@ -10,19 +10,19 @@ use Rattle.hdt_dict.specs.Laws.Merge.{lacks, lacks-back}
 use Rattle.hdt_dict.specs.Split.{IsSplit}
 use Rattle.hdt_dict.specs.Dictionary.{FourLists}
 
--- what is left of an ascending list ascends
+-- a filter of an ascending list ascends
 pub filter_ascends : (p : List ℕ → Bool) (xs r : List (List ℕ)) → r ≡ filter p xs → IsAscending xs → IsAscending r
 filter_ascends p xs r is up = rw is (IsStrictlySortedBy-filter string_cmp _ _ up)
 
 module _ (ss os s o : List (List ℕ)) (same_s : SameMembers s ss) (same_o : SameMembers o os) (sh : List (List ℕ)) (is : sh ≡ filter (has o) s) where
-  -- the strings of s that o has
+  -- the strings of s that are in o
   shared_of : (x : List ℕ) → (Contains sh x → Contains ss x × Contains os x) × (Contains ss x × Contains os x → Contains sh x)
   shared_of x = rw is (
     λ h. let g = Contains-from_filter (has o) s x h in ((same_s x).0 g.0, (same_o x).0 (has-Contains o x g.1)),
     λ h. Contains-filter (has o) s x ((same_s x).1 h.0) (Contains-has o x ((same_o x).1 h.1)),
   )
 
--- the strings of s that o lacks
+-- the strings of s that are not in o
 rest_of : (ss os s o r : List (List ℕ)) → SameMembers s ss → SameMembers o os → r ≡ filter (λ x. not (has o x)) s → (x : List ℕ) → (Contains r x → Contains ss x × ¬ Contains os x) × (Contains ss x × ¬ Contains os x → Contains r x)
 rest_of ss os s o r same_s same_o is x = rw is (
   λ h. let g = Contains-from_filter (λ y. not (has o y)) s x h in ((same_s x).0 g.0, λ there. lacks-back o x g.1 ((same_o x).1 there)),

@@ -36,11 +36,11 @@ front_kept_by : (w : Way) (ps : List Placed) (k : ℕ) → k ≤ first_agreed ps
 front_kept_by w [] k h = omega (arith, h)
 front_kept_by w (p ∷ ps) k h = agree_back k p.string w.last h
 
--- the next string keeps so much of the previous one
+-- the next string shares this many bytes with the previous one
 pub front_kept : (w v : Way) (k : ℕ) → k ≤ first_agreed w.ahead w.last → v ≡ further w → k ≤ agreed w.last v.last
 front_kept w v k h e = subst (λ (v : Way). k ≤ agreed w.last v.last) (sym e) (front_kept_by w w.ahead k h)
 
--- ---- the section behind it
+-- ---- the section after it
 
 pub behind : (w u : Way) (s : Section) → w.ahead ≡ [] → u ≡ record { last = []; ahead = placed_of s } → strings w.ahead ++ strings_of s ≡ strings u.ahead
 behind w u s e f = ap (λ ps. strings ps ++ strings_of s) e ∙ sym (strings_placed s) ∙ sym (ap (λ (u : Way). strings u.ahead) f)

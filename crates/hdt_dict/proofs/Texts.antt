@@ -1,4 +1,4 @@
--- Lent strings seen as lists of bytes: what a sort and a `dedup` leave of them, and what a loop adds to them.
+-- Borrowed strings as lists of bytes: sorting and `dedup` of them, and appending to them in a loop.
 use Rattle.std.proofs.Common.{◌≡◌, List, [], ◌∷◌, ◌++◌, ℕ, ◌+◌, ◌<◌, length, get_or, map, take, ap, sym, ◌∙◌, arith}
 use Rattle.std.specs.List.{dedup}
 use Rattle.std.specs.List.Sorted.{IsSorted, IsPermutation}
@@ -26,7 +26,7 @@ same_dedup vs ws moved =
     (λ x. (λ h. Contains-permutation _ _ x (IsPermutation-sym _ _ there) (Contains-from_dedup bytes_eq _ x h), λ h. Contains-dedup nat_list_eq_equiv (λ a b. (bytes_eq-Decides a b).0) _ x (Contains-permutation _ _ x there h)))
 
 module _ {X Y : Type 0} (f : X → List ℕ) (g : Y → List ℕ) where
-  -- one more string of the same bytes goes to the end of those taken so far
+  -- one more string with the same bytes is appended
   pub one_more : (vs : List X) (ws : List Y) (i : ℕ) (v : X) (w : Y) → i < length vs → f (get_or vs i v) ≡ g w → map g ws ≡ take i (map f vs) → map g (ws ++ w ∷ []) ≡ take (i + 1) (map f vs)
   one_more vs ws i v w below same front =
       let at : get_or (map f vs) i (g w) ≡ g w = get_or-map f vs i v (g w) below ∙ same in

@@ -1,4 +1,4 @@
--- How what was found of two strings tells of the strings that they give way to.
+-- Updating the comparison of two strings after one of them advanced.
 use Rattle.std.proofs.Common.{◌≡◌, ℕ, ◌≤◌, Bool, List, [], ◌∷◌, drop, Some, sym, ap, ◌∙◌, subst, arith, Ordering}
 use Rattle.std.specs.declared.cmp.Ordering.TheVariants.{Less, Equal, Greater}
 use Rattle.std.specs.Bool.{◌==◌}
@@ -9,7 +9,7 @@ use Rattle.hdt_front.specs.Walking.{Placed, PlacedAscend, first_string, next_agr
 use Rattle.hdt_dict.specs.Inside.Overlap.{is_string_of, not_less, Lies, Turns}
 use Rattle.hdt_dict.proofs.Overlaps.{reached}
 
--- ---- the cursor moves on
+-- ---- the cursor advances
 
 pub other_turns : (k : ℕ) (lie : Ordering × ℕ) (v : List Placed) (x : List ℕ) → Lies lie v x → k ≤ next_agreed v → Turns k lie (drop 1 v) x
 other_turns k lie [] x l h = (λ more. absurd (omega (arith, more, h)), λ le. omega (arith, h))
@@ -22,9 +22,9 @@ other_turns k lie (p ∷ q ∷ ps) x l h = (
 pub other_turned : (k : ℕ) (lie : Ordering × ℕ) (v w : List Placed) (x : List ℕ) → Lies lie v x → k ≤ next_agreed v → w ≡ drop 1 v → Turns k lie w x
 other_turned k lie v w x l h e = subst (λ (w : List Placed). Turns k lie w x) (sym e) (other_turns k lie v x l h)
 
--- ---- the list moves on
+-- ---- the list advances
 
--- what was found tells of the first string of a list
+-- a comparison to be updated, with the first string of a list if there is one
 abbrev pub FirstTurns : ℕ → Ordering × ℕ → List Placed → List Placed → Type 0
 FirstTurns k lie v [] = Unit {0}
 FirstTurns k lie v (q ∷ qs) = Turns k lie v q.string
@@ -51,7 +51,7 @@ list_turns k lie v (p ∷ q ∷ ps) x e l h = list_turns_by k lie v q.string x l
 pub list_turned : (k : ℕ) (lie : Ordering × ℕ) (v list w : List Placed) (x : List ℕ) → first_string list ≡ Some x → Lies lie v x → k ≤ next_agreed list → w ≡ drop 1 list → FirstTurns k lie v w
 list_turned k lie v list w x s l h e = subst (λ (w : List Placed). FirstTurns k lie v w) (sym e) (list_turns k lie v list x s l h)
 
--- ---- what was found says whether the string is among the others
+-- ---- the comparison decides whether the string is in the other list
 
 tells : (o : Ordering) (b : Bool) → b ≡ (ordering_index o == 1) → is_eq o ≡ b
 tells Less b e = sym e

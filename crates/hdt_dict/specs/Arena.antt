@@ -1,16 +1,16 @@
--- A list of strings as bytes and where each string begins.
+-- The strings of an `Arena`: concatenated bytes, and the index at which each string starts.
 use Rattle.std.specs.Prelude.{◌≡◌, ℕ, ◌+◌, ◌-◌, ◌<◌, ◌≤◌, List, map, length, slice_index}
 use Rattle.std.specs.List.{slice_range, range_with_len}
 
--- the string i
+-- string i, from 0
 abbrev pub arena_text : List ℕ → List ℕ → ℕ → List ℕ
 arena_text bytes starts i = slice_range bytes (slice_index starts i) (slice_index starts (i + 1))
 
--- the strings, of which there is one less than there are starts
+-- all strings: one fewer than there are starts
 unfoldable pub arena_texts : List ℕ → List ℕ → List (List ℕ)
 arena_texts bytes starts = map (arena_text bytes starts) (range_with_len 0 (length starts - 1))
 
--- the starts ascend within the bytes, and the last one is their end
+-- The starts never descend, are within the bytes, and the last one is their end.
 pub record AreTextStarts (bytes starts : List ℕ) : Type 0 where
   pub some : 0 < length starts
   pub ascend : (i : ℕ) → i + 1 < length starts → slice_index starts i ≤ slice_index starts (i + 1)

@@ -1,6 +1,5 @@
--- The dictionary (HDT submission, dictionary; rdfhdt.org, "HDT binary format", Four Sections): control information, then
--- the sections of shared strings, subjects, predicates and objects. No string is in two of shared, subjects and
--- objects.
+-- The dictionary (HDT submission, dictionary; rdfhdt.org, "HDT binary format", Four Sections): control information,
+-- then the sections shared, subjects, predicates and objects. No string is in two of shared, subjects and objects.
 use Rattle.std.specs.Prelude.{ℕ, zero, suc, not, List, [], ◌++◌, length, slice_index_or, Result, Ok}
 use Rattle.std.specs.List.{Contains}
 use Rattle.hdt_wire.specs.declared.fault.Fault.{Fault}
@@ -14,14 +13,14 @@ use Rattle.hdt_dict.specs.Strings.{has}
 use Rattle.hdt_wire.specs.declared.role.Role.{Role}
 use Rattle.hdt_wire.specs.declared.role.Role.TheVariants.{Subject, Predicate, Object}
 
--- a dictionary: its four sections, with their offsets
+-- a dictionary: its four sections, with their byte offsets
 pub record DictionaryParts : Type 0 where
   pub shared : SectionParts
   pub subjects : SectionParts
   pub predicates : SectionParts
   pub objects : SectionParts
 
--- the strings of four sections
+-- the strings of the four sections
 pub record FourLists : Type 0 where
   pub shared : List (List ℕ)
   pub subjects : List (List ℕ)
@@ -32,24 +31,25 @@ pub record FourLists : Type 0 where
 abbrev pub sections_of : DictionaryParts → FourLists
 sections_of d = record { shared = d.shared.strings; subjects = d.subjects.strings; predicates = d.predicates.strings; objects = d.objects.strings }
 
--- the strings of a role in the order of their numbers, which count from 1
+-- the strings of a role, in the order of their IDs: ID 1 is the first
 abbrev pub strings_in : FourLists → Role → List (List ℕ)
 strings_in d Subject = d.shared ++ d.subjects
 strings_in d Predicate = d.predicates
 strings_in d Object = d.shared ++ d.objects
 
--- the sections by their numbers in the file, which count from 0
+-- the section at an index, from 0, in file order
 abbrev pub section_number : DictionaryParts → ℕ → SectionParts
 section_number d zero = d.shared
 section_number d (suc zero) = d.subjects
 section_number d (suc (suc zero)) = d.predicates
 section_number d (suc (suc (suc i))) = d.objects
 
--- no string is in both
+-- no string is in both lists
 abbrev pub AreApart : List (List ℕ) → List (List ℕ) → Type 0
 AreApart xs ys = (x : List ℕ) → Contains xs x → Contains ys x → ⊥
 
--- the dictionary is encoded at the offset: control information with some properties, and the sections, one after another
+-- The dictionary is encoded at the offset: control information with any properties, then the four sections. No string
+-- is in two of shared, subjects and objects.
 pub record IsDictionary (d : DictionaryParts) (bytes : List ℕ) (at : ℕ) : Type 0 where
   pub control : Block
   pub block : IsBlock kinds.Dictionary control bytes at
@@ -63,15 +63,15 @@ pub record IsDictionary (d : DictionaryParts) (bytes : List ℕ) (at : ℕ) : Ty
 
 -- ---- the checks
 
--- string i of a section isn't among the others
+-- string i of a section is not one of the others
 unfoldable pub apart_row : List (List ℕ) → SectionParts → ℕ → Result (Unit {0}) Fault
 apart_row others s i = demand (not (has others (slice_index_or s.strings i []))) (string_place s i) SectionsOverlap
 
--- none of its strings is
+-- no string of a section is one of the others
 abbrev pub apart_at : List (List ℕ) → SectionParts → Result (Unit {0}) Fault
 apart_at others s = rows_from (apart_row others s) 0 (length s.strings)
 
--- the checks of a dictionary in turn: the dictionary, or the first error
+-- all checks in order: the dictionary, or the first error
 unfoldable pub dictionary_at : List ℕ → ℕ → Result DictionaryParts Fault
 dictionary_at bytes at = do
   control ← control_at kinds.Dictionary bytes at
@@ -83,7 +83,7 @@ dictionary_at bytes at = do
   _ ← apart_at (shared.strings ++ subjects.strings) objects
   Ok (record { shared = shared; subjects = subjects; predicates = predicates; objects = objects })
 
--- those of them that stand above all strings: the control block, and the first section down to its strings
+-- the checks before any string is decoded: the control information, and the header of the first section
 unfoldable pub rows_above_strings : List ℕ → ℕ → Result PackedParts Fault
 rows_above_strings bytes at = do
   control ← control_at kinds.Dictionary bytes at

@@ -1,4 +1,4 @@
--- The strings of the section that an iteration over a role goes on with.
+-- The strings of the second section of an iteration over a role, if it has one.
 use Rattle.std.specs.Prelude.{ℕ, List, [], Option, Some, None}
 use Rattle.hdt_front.specs.declared.section.Section.{Section}
 use Rattle.hdt_front.specs.Strings.{strings_of}

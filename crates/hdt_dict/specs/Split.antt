@@ -1,5 +1,5 @@
--- The strings of three roles, parted into the four sections of a dictionary (HDT submission, dictionary): what is both
--- subject and object is kept once, in the shared section.
+-- Dividing the strings of three roles into the four sections of a dictionary (HDT submission, dictionary). A string
+-- that is both a subject and an object is stored once, in the shared section.
 use Rattle.std.specs.Prelude.{ℕ, List, ◌↔◌}
 use Rattle.std.specs.List.{Contains}
 use Rattle.hdt_front.specs.Canonical.{lent_texts, texts}
@@ -17,13 +17,13 @@ lists_of p = record { shared = texts p.shared.items; subjects = texts p.subjects
 unfoldable pub lent_lists_of : LentParts → FourLists
 lent_lists_of p = record { shared = lent_texts p.shared.items; subjects = lent_texts p.subjects.items; predicates = lent_texts p.predicates.items; objects = lent_texts p.objects.items }
 
--- the strings of four sections in work
+-- the strings that four section writers have been given
 abbrev pub lists_in_work : SectionInWork → SectionInWork → SectionInWork → SectionInWork → FourLists
 lists_in_work s u p o = record { shared = s.strings; subjects = u.strings; predicates = p.strings; objects = o.strings }
 
--- the four lists are the sections of the subjects ss, the predicates ps and the objects os: each ascends; a string is shared exactly
--- where it is a subject and an object, in subjects exactly where it is a subject alone, in objects exactly where it is
--- an object alone
+-- The four lists are the sections of the subjects ss, the predicates ps and the objects os. Each list ascends. A string
+-- is in shared exactly if it is both a subject and an object, in subjects exactly if it is only a subject, and in
+-- objects exactly if it is only an object. Predicates have a section of their own.
 pub record IsSplit (ss ps os : List (List ℕ)) (d : FourLists) : Type 0 where
   pub shared_ascend : IsAscending d.shared
   pub subjects_ascend : IsAscending d.subjects

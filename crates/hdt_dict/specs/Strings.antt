@@ -1,4 +1,4 @@
--- Lists of strings as lists of byte lists, and their order.
+-- Strings as lists of bytes, and lists of them.
 use Rattle.std.specs.Prelude.{◌≡◌, ℕ, ◌<◌, Bool, List, [], slice_index_or, ◌↔◌}
 use Rattle.std.specs.declared.cmp.Ordering.TheVariants.{Less}
 use Rattle.std.specs.List.{Contains, list_any}
@@ -10,18 +10,18 @@ use Rattle.std.specs.Borrow.{Bor}
 abbrev pub Lent : Type 0
 Lent = Bor (List ℕ)
 
--- what a place past the end of a list of borrowed strings holds
+-- the default for an index past the end of a list of borrowed strings
 abbrev pub nothing : Lent
 nothing = record { ref_ptr = (0, 0); now = [] }
 
--- the same members, in any order and any number of times
+-- the lists have the same members, in any order and any number of times
 abbrev pub SameMembers : {X : Type 0} → List X → List X → Type 0
 SameMembers {X} xs ys = (x : X) → Contains xs x ↔ Contains ys x
 
--- the list has the string
+-- the string is in the list
 abbrev pub has : List (List ℕ) → List ℕ → Bool
 has ys x = list_any (λ y. bytes_eq y x) ys
 
--- each of the first n strings is less than x
+-- the first n strings are less than x
 abbrev pub FirstBelow : List (List ℕ) → ℕ → List ℕ → Type 0
 FirstBelow ys n x = (k : ℕ) → k < n → string_cmp (slice_index_or ys k x) x ≡ Less

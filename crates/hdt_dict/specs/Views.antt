@@ -1,4 +1,4 @@
--- The view of a `Dictionary`.
+-- What contracts see of a `Dictionary`.
 use Rattle.std.specs.Prelude.{ℕ, ◌-◌, ◌&&◌, nat_le, cond, length, List, []}
 use Rattle.hdt_front.specs.Strings.{strings_of, section_of, packed_block}
 use Rattle.hdt_front.specs.declared.section.Section.{Section}
@@ -7,20 +7,21 @@ use Rattle.hdt_wire.specs.declared.role.Role.TheVariants.{Subject, Predicate, Ob
 use Rattle.hdt_dict.specs.declared.dictionary.Dictionary.{Dictionary}
 use Rattle.hdt_dict.specs.Dictionary.{DictionaryParts}
 
--- a `Dictionary`, without its addresses
+-- its four sections
 unfoldable pub dictionary_of : Dictionary → DictionaryParts
 dictionary_of d = record { shared = section_of d.shared; subjects = section_of d.subjects; predicates = section_of d.predicates; objects = section_of d.objects }
 
--- ---- what looking a string up reads
+-- ---- the bytes that decoding a string reads
 
--- the front-coded bytes of the block of string n, from 1; where there is no such string, none
+-- the front-coded bytes of the block of the string with ID n, from 1; empty if there is no such string
 abbrev pub string_bytes : Section → ℕ → List ℕ
 string_bytes s n = cond (nat_le 1 n && nat_le n (length (strings_of s))) (packed_block s (n - 1)) []
 
--- the same of two sections, one after the other
+-- the same over two consecutive sections
 abbrev pub string_bytes_of_two : Section → Section → ℕ → List ℕ
 string_bytes_of_two a b n = cond (nat_le n (length (strings_of a))) (string_bytes a n) (string_bytes b (n - length (strings_of a)))
 
+-- the same for a role
 unfoldable pub role_string_bytes : Dictionary → Role → ℕ → List ℕ
 role_string_bytes d Subject n = string_bytes_of_two d.shared d.subjects n
 role_string_bytes d Predicate n = string_bytes d.predicates n

@@ -1,14 +1,14 @@
--- The strings of a role, given one after another.
+-- Iterating over the strings of a role.
 use Rattle.std.specs.Prelude.{ℕ, ◌+◌, List, [], ◌∷◌, Option, Some, None}
 
--- the state of an iteration: the number of strings so far, which is the ID of the last one; the last one; and
--- those still to come
+-- The state of an iteration: the number of strings returned so far, which is the ID of the last one; the last string;
+-- and the remaining strings.
 pub record Progress : Type 0 where
   pub given : ℕ
   pub last : List ℕ
   pub ahead : List (List ℕ)
 
--- one string further; at the end nothing moves
+-- the state after one more string; unchanged at the end
 abbrev pub stepped_by : Progress → List (List ℕ) → Progress
 stepped_by w [] = w
 stepped_by w (x ∷ xs) = record { given = w.given + 1; last = x; ahead = xs }
@@ -16,7 +16,7 @@ stepped_by w (x ∷ xs) = record { given = w.given + 1; last = x; ahead = xs }
 abbrev pub stepped : Progress → Progress
 stepped w = stepped_by w w.ahead
 
--- the number of the next string
+-- the ID of the next string
 abbrev pub next_number : Progress → List (List ℕ) → Option ℕ
 next_number w [] = None
 next_number w (x ∷ xs) = Some (w.given + 1)

@@ -1,4 +1,4 @@
--- Writing a dictionary in its canonical form.
+-- The canonical encoding of a dictionary.
 use Rattle.std.specs.Prelude.{ℕ, ◌+◌, List, ◌++◌, codes, length}
 use Rattle.hdt_wire.specs.declared.control.Kind.TheVariants as kinds
 use Rattle.hdt_wire.specs.Control.{control}
@@ -6,8 +6,8 @@ use Rattle.hdt_front.specs.Section.{AreStrings}
 use Rattle.hdt_front.specs.Canonical.{canonical, canonical_parts}
 use Rattle.hdt_dict.specs.Dictionary.{DictionaryParts, AreApart, FourLists}
 
--- four lists that a dictionary can hold: each as a section can hold it, and no string in two of shared, subjects and
--- objects
+-- The four lists are valid sections of a dictionary: each is a valid section, and no string is in two of shared,
+-- subjects and objects.
 pub record AreSections (d : FourLists) : Type 0 where
   pub shared : AreStrings d.shared
   pub subjects : AreStrings d.subjects
@@ -17,15 +17,15 @@ pub record AreSections (d : FourLists) : Type 0 where
   pub shared_objects : AreApart d.shared d.objects
   pub subjects_objects : AreApart d.subjects d.objects
 
--- the property text that is written: object numbers go on from the shared section
+-- the property text: IDs of objects continue those of the shared section
 abbrev pub mapping : List ℕ
 mapping = codes "mapping=1;"
 
--- the canonical bytes of a dictionary in blocks of b: control information and four canonical sections
+-- the canonical bytes with b strings a block: control information and four canonical sections
 unfoldable pub canonical_dictionary : ℕ → FourLists → List ℕ
 canonical_dictionary b d = control kinds.Dictionary mapping ++ (canonical b d.shared ++ (canonical b d.subjects ++ (canonical b d.predicates ++ canonical b d.objects)))
 
--- what they encode at an offset
+-- the dictionary that these bytes encode at an offset
 unfoldable pub canonical_dictionary_parts : ℕ → FourLists → ℕ → DictionaryParts
 canonical_dictionary_parts b d at =
     let a : ℕ = at + length (control kinds.Dictionary mapping) in

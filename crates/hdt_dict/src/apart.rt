@@ -1,4 +1,4 @@
-//! The checks after the four sections: no string is in two of shared, subjects and objects.
+//! The checks after reading the four sections: no string is in two of shared, subjects and objects.
 ghost use Rattle.std.specs.Prelude.{◌≡◌, ◌||◌, ◌++◌, IfOk};
 ghost use Rattle.hdt_wire.specs.Rows.{Gives};
 ghost use Rattle.hdt_front.specs.Faults.{read_fault_of};
@@ -12,7 +12,7 @@ use hdt_front::{Cursor, ReadFault, Section};
 use hdt_wire::{Fault, Reason};
 use std::alloc::{AllocError, Global};
 
-/// The check of the first string that is in another section, if there is one.
+/// Returns an error at the byte offset of a string that was found in another section, if one was.
 fn none_met(met: Option<usize>) -> Result<(), Fault>
     ensures { result ≡ none_met met }
 {
@@ -25,7 +25,7 @@ fn none_met(met: Option<usize>) -> Result<(), Fault>
     }
 }
 
-/// The offset of the first string of subjects that is in shared.
+/// The byte offset of the first string of subjects that is in shared.
 fn shared_subject(
     alloc: Global,
     shared: &Section<'_>,
@@ -38,7 +38,7 @@ fn shared_subject(
     first_in(&mut list, &mut other)
 }
 
-/// The offset of the first string of objects that is in shared or in subjects.
+/// The byte offset of the first string of objects that is in shared or in subjects.
 fn other_object(
     alloc: Global,
     shared: &Section<'_>,

@@ -1,4 +1,4 @@
-//! A list of byte strings in one vector.
+//! A list of byte strings, stored in one vector.
 ghost use Rattle.std.specs.Prelude.{◌≡◌, ◌<◌, ◌≤◌, ◌++◌, ◌∷◌, [], ℕ, List, map, length, slice_index_or, IfOk, OnOk, OnErr};
 ghost use Rattle.std.specs.List.{slice_range};
 ghost use Rattle.hdt_dict.specs.Arena.{arena_texts, AreTextStarts};
@@ -6,7 +6,7 @@ ghost use Rattle.hdt_dict.specs.Arena.{arena_texts, AreTextStarts};
 use std::alloc::{AllocError, Global};
 use std::marker::Model;
 
-/// A list of byte strings, concatenated in one vector. Contracts see the list.
+/// A list of byte strings, concatenated in one vector. In contracts it is the list of the strings.
 ///
 /// ```text
 /// let mut arena = Arena::new(alloc)?;
@@ -16,11 +16,11 @@ use std::marker::Model;
 #[derive(Drop)]
 pub struct Arena {
     bytes: Vec<u8>,
-    /// The index at which each string begins, and at which the last one ends.
+    /// The byte offset at which each string begins, and at which the last one ends.
     starts: Vec<usize>,
 }
 
-/// The bytes from one index up to another.
+/// The bytes from one offset up to another.
 fn part(bytes: &[u8], from: usize, end: usize) -> &[u8]
     requires ascend { from ≤ end }
     requires within { end ≤ length bytes.now }
@@ -38,14 +38,14 @@ impl Model for Arena {
 }
 
 impl Arena {
-    /// Returns an arena without strings. It allocates 8 bytes.
+    /// Returns an empty arena. Allocates 8 bytes.
     pub fn new(alloc: Global) -> Result<Arena, AllocError>
         ensures { IfOk result (λ made. made ≡ []) }
     {
         Arena::with_room(alloc, 0, 0)
     }
 
-    /// Returns an arena without strings, with capacity for so many strings of so many bytes in all.
+    /// Returns an empty arena with capacity for this number of strings and their total length in bytes.
     pub fn with_room(alloc: Global, strings: usize, bytes: usize) -> Result<Arena, AllocError>
         ensures { IfOk result (λ made. made ≡ []) }
     {
@@ -55,7 +55,8 @@ impl Arena {
         Ok(Arena { bytes, starts })
     }
 
-    /// Returns an arena of concatenated strings, given the index at which each begins, and at which the last one ends.
+    /// Returns an arena of concatenated strings, given the byte offset at which each begins, and at which the last one
+    /// ends.
     pub fn of(bytes: Vec<u8>, starts: Vec<usize>) -> Arena
         requires { AreTextStarts bytes.items starts.items }
         ensures { result ≡ arena_texts bytes.items starts.items }

@@ -1,4 +1,4 @@
-//! A dictionary that was read: four sections, and look-ups by role.
+//! Reading a dictionary, and look-ups by role.
 ghost use Rattle.std.specs.Prelude.{◌≡◌, ◌<◌, ◌≤◌, ◌+◌, ◌-◌, ◌^◌, ◌↔◌, ◌++◌, ◌∷◌, [], ℕ, length, Ok, Err, Some, None, IsOk, OnErr, IfOk};
 ghost use Rattle.hdt_wire.specs.Rows.{Gives};
 ghost use Rattle.hdt_wire.specs.declared.fault.Fault.{Fault as FaultIs};
@@ -18,7 +18,7 @@ use hdt_seq::Steps;
 use hdt_wire::{Kind, Role, read_control};
 use std::alloc::{AllocError, Global};
 
-/// A dictionary that was read. It borrows the input, in which its strings are searched, and owns nothing.
+/// A dictionary that was read. It borrows the input and owns no memory.
 ///
 /// ```text
 /// let (dictionary, end) = Dictionary::read(alloc, bytes, at)?;
@@ -41,7 +41,7 @@ impl<'a> Dictionary<'a> {
     ghost use Rattle.hdt_dict.specs.Looks.{role_looks, role_block};
     ghost use Rattle.hdt_dict.specs.Views.{dictionary_of, role_string_bytes};
 
-    /// Reads a dictionary, check by check.
+    /// Reads a dictionary. The contract states the checks in order.
     #[tactic(auto, unfolding(crate::specs::Dictionary::dictionary_at, crate::specs::Dictionary::rows_above_strings, crate::specs::Views::dictionary_of, hdt_front::specs::Strings::section_of, hdt_wire::specs::Control::block_of))]
     fn read_rows(
         alloc: Global,
@@ -72,26 +72,26 @@ impl<'a> Dictionary<'a> {
 
     /// Reads the dictionary at a byte offset, from 0. Returns it with the offset after it. More bytes may follow.
     ///
-    /// Linear time in the bytes: each string is decoded once to check its section, and once more to find strings that
-    /// are in two sections. At most three strings are held at a time, and nothing when it returns.
+    /// Linear time in the bytes: each string is decoded twice, to check its section and to find strings that are in two
+    /// sections. Holds at most three strings at a time, and frees them.
     ///
     /// # Errors
     ///
-    /// The first of these, in this order: those of the control information, those of the sections shared, subjects,
-    /// predicates and objects, then `SectionsOverlap` at the first string of subjects that is in shared, else at the
-    /// first string of objects that is in shared or in subjects. Or [`ReadFault::OutOfMemory`].
+    /// The first error in this order: in the control information; in the sections shared, subjects, predicates and
+    /// objects; then `SectionsOverlap` at the first string of subjects that is in shared, else at the first string of
+    /// objects that is in shared or in subjects. Or [`ReadFault::OutOfMemory`].
     pub fn read(
         alloc: Global,
         bytes: &'a [u8],
         at: usize,
     ) -> Result<(Dictionary<'a>, usize), ReadFault>
-        // What is returned is encoded there.
+        // The returned dictionary is encoded at the offset.
         ensures found { IfOk result (λ r. IsDictionary (dictionary_of r.0) bytes.now at) }
-        // Whatever is encoded there is returned, unless memory ran out.
+        // If a dictionary is encoded at the offset, it is returned, unless memory runs out.
         ensures only { (d : DictionaryParts) → IsDictionary d bytes.now at → Gives read_fault_of (λ r. dictionary_of r.0) result (Ok d) }
-        // Otherwise it is the first error.
+        // Otherwise the first error is returned.
         ensures exact { Gives read_fault_of (λ r. dictionary_of r.0) result (dictionary_at bytes.now at) }
-        // An error before the first string is found without allocating.
+        // An error before the first string is found without allocating memory.
         ensures without_memory { (f : FaultIs) → rows_above_strings bytes.now at ≡ Err f → result ≡ Err (FaultOf f) }
         ensures next { IfOk result (λ r. r.1 ≡ (dictionary_of r.0).objects.end) }
         // A role has at most as many strings as the input has bytes.
@@ -101,8 +101,8 @@ impl<'a> Dictionary<'a> {
         Dictionary::read_rows(alloc, bytes, at)
     }
 
-    /// The law that the strings of each section are UTF-8 without zero bytes and ascend, and that no string is in two
-    /// of shared, subjects and objects.
+    /// Law: the strings of each section are UTF-8 without zero bytes and ascend, and no string is in two of shared,
+    /// subjects and objects. Does nothing when called.
     #[tactic(auto, unfolding(crate::specs::Views::dictionary_of, hdt_front::specs::Strings::section_of))]
     pub fn are_sections(&self)
         ensures shared { AreStrings (dictionary_of self.now).shared.strings }
@@ -144,7 +144,7 @@ impl<'a> Dictionary<'a> {
         }
     }
 
-    /// Searches a string in the sections of a role.
+    /// Searches for a string in the sections of a role.
     #[tactic(auto, unfolding(crate::specs::Views::dictionary_of, crate::specs::Looks::role_looks, hdt_front::specs::Strings::section_of))]
     fn place_in(&self, role: Role, x: &[u8], steps: &mut Steps) -> Option<u64>
         ensures place { result ≡ place (strings_in (sections_of (dictionary_of self.now)) role) x.now }
@@ -161,7 +161,7 @@ impl<'a> Dictionary<'a> {
 
     /// Returns the ID of a string in a role, from 1, or `None` if the role has no such string.
     ///
-    /// In each section of the role: a binary search over its blocks, then a scan of one block.
+    /// For each section of the role: a binary search over its blocks, then a scan of one block.
     pub fn number_of(&self, role: Role, x: &[u8], steps: &mut Steps) -> Option<u64>
         // It is n exactly if n is the ID of the string.
         ensures exact { (n : ℕ) → (result ≡ Some n) ↔ (numbered (strings_in (sections_of (dictionary_of self.now)) role) n ≡ Some x.now) }
@@ -172,10 +172,10 @@ impl<'a> Dictionary<'a> {
         self.place_in(role, x, steps)
     }
 
-    /// Appends the string of a role with ID n, from 1, and returns true; or returns false if there is none, with `out`
-    /// unchanged. If memory runs out, `out` is unchanged.
+    /// Appends the string of a role with ID n, from 1, to `out`, and returns true. Returns false if n is not a valid
+    /// ID. In this case, and if memory runs out, `out` is unchanged.
     ///
-    /// It decodes the block of the string up to the string.
+    /// Decodes the block of the string from its start up to the string.
     #[tactic(auto, unfolding(crate::specs::Views::dictionary_of, crate::specs::Looks::role_block, hdt_front::specs::Strings::section_of))]
     pub fn string_of(
         &self,
@@ -197,8 +197,8 @@ impl<'a> Dictionary<'a> {
         }
     }
 
-    /// Returns the front-coded bytes of the block of the string of a role with ID n, from 1, borrowed from the input:
-    /// decoding the string needs no others. None if there is no such string. Two memory accesses.
+    /// Returns the front-coded bytes of the block that has the string of a role with ID n, from 1, borrowed from the
+    /// input: decoding the string reads no others. Empty if n is not a valid ID. Two memory accesses.
     #[tactic(auto, unfolding(crate::specs::Views::role_string_bytes))]
     pub fn block(&self, role: Role, n: u64) -> &'a [u8]
         ensures { result.now ≡ role_string_bytes self.now role n }
@@ -210,8 +210,8 @@ impl<'a> Dictionary<'a> {
         }
     }
 
-    /// Returns the byte offset of string n, from 1, of a section in the input, as errors report it. Sections count from
-    /// 0 in the order of the file: shared, subjects, predicates, objects. It scans at most one block.
+    /// Returns the byte offset in the input of string n, from 1, of a section, as errors report it. Sections are 0
+    /// shared, 1 subjects, 2 predicates, 3 objects. Scans at most one block.
     #[tactic(auto, unfolding(crate::specs::Views::dictionary_of, hdt_front::specs::Strings::section_of))]
     pub fn string_start(&self, section: usize, n: u64) -> u64
         requires section { section < 4 }

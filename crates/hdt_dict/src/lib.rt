@@ -1,8 +1,8 @@
 //! The dictionary of an HDT file (HDT format version 1): four sections of front-coded strings, which give the strings
 //! of each role their IDs.
 //!
-//! What this crate promises: look-ups by ID and by string are inverse in each role, no string is in two of shared,
-//! subjects and objects, and a role has at most as many strings as the input has bytes.
+//! Look-ups by ID and by string are inverse in each role. No string is in two of shared, subjects and objects. A role
+//! has at most as many strings as the input has bytes.
 //!
 //! Functions that state no cost take constant time and allocate nothing. Laws do nothing when called.
 //!
@@ -11,13 +11,14 @@
 //! let number = dictionary.number_of(Role::Subject, b"http://a/", &mut steps);
 //! let mut objects = dictionary.strings(alloc, Role::Object);
 //! while let Some(number) = objects.next()? {
-//!     // the object of this number is objects.last()
+//!     // the object with ID `number` is objects.last()
 //! }
 //! ```
 //!
-//! [`Dictionary::read`] reads a dictionary; [`split`] and [`put_dictionary`] write one, or four [`SectionWriter`]s,
-//! string by string, and [`put_written_dictionary`]. Contracts see its four sections with their offsets, by
-//! `dictionary_of` of specs/, and a role as the list of its strings. An [`Arena`] keeps many strings in one vector.
+//! [`Dictionary::read`] reads a dictionary. [`split`] and [`put_dictionary`] write one at once; four [`SectionWriter`]s
+//! and [`put_written_dictionary`] write one string by string. In contracts a dictionary is its four sections with their
+//! byte offsets (`dictionary_of` of specs/), and a role is the list of its strings. An [`Arena`] stores many strings in
+//! one vector.
 #![tactic(auto)]
 
 mod apart;

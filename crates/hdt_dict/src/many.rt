@@ -1,4 +1,4 @@
-//! Many strings at once.
+//! Looking up the strings of many IDs at once.
 ghost use Rattle.std.specs.Prelude.{◌≡◌, ◌<◌, ◌≤◌, ◌+◌, ◌-◌, ◌*◌, ◌++◌, ◌^◌, [], ℕ, true, false, length, max, slice_index_or, slice_index, IsOk, IfOk, OnOk, OnErr};
 ghost use Rattle.hdt_wire.specs.Control.{Keeps};
 ghost use Rattle.hdt_front.specs.Strings.{strings_of, block_size};
@@ -14,7 +14,7 @@ use hdt_seq::Steps;
 use hdt_wire::{Role, cut_on_error};
 use std::alloc::{AllocError, Global};
 
-/// Whether each number is an ID of so many strings, from 1.
+/// Whether all numbers are valid IDs: from 1 to `count`.
 fn are_numbers(numbers: &[u64], count: u64) -> bool
     ensures yes { result ≡ true → (i : ℕ) → i < length numbers.now → (1 ≤ slice_index numbers.now i) × (slice_index numbers.now i ≤ count) }
     ensures no { result ≡ false → ((i : ℕ) → i < length numbers.now → (1 ≤ slice_index numbers.now i) × (slice_index numbers.now i ≤ count)) → ⊥ }
@@ -27,7 +27,7 @@ fn are_numbers(numbers: &[u64], count: u64) -> bool
     true
 }
 
-/// Appends the string with ID n of two sections, one after the other, the first of which has `many` strings.
+/// Appends the string with ID n of two consecutive sections, the first of which has `many` strings.
 fn append_next(
     first: &mut Seeker<'_>,
     second: &mut Seeker<'_>,
@@ -55,8 +55,8 @@ fn append_next(
     out.extend_from_slice(second.last())
 }
 
-/// Appends the strings of two sections, one after the other, with these IDs, and where each ends. An error may leave
-/// some of them.
+/// Appends the strings of two consecutive sections with these IDs, and the offset at which each ends. An error may
+/// leave some of them in the buffers.
 fn append_all<'a>(
     alloc: Global,
     first: &Section<'a>,
@@ -90,7 +90,7 @@ fn append_all<'a>(
     Ok(())
 }
 
-/// The same; if memory runs out, `out` and `ends` are unchanged.
+/// The same, but if memory runs out, `out` and `ends` are unchanged.
 fn append_whole<'a>(
     alloc: Global,
     first: &Section<'a>,
@@ -116,7 +116,7 @@ fn append_whole<'a>(
     cut_on_error(appended, start, out)
 }
 
-/// Appends the strings of a section with these IDs, if each has one.
+/// Appends the strings of a section with these IDs, if all IDs are valid; returns whether they are.
 fn strings_in_one(
     alloc: Global,
     section: &Section<'_>,
@@ -135,12 +135,12 @@ fn strings_in_one(
     if !are_numbers(numbers, section.len()) {
         return Ok(false);
     }
-    // (no ID is one of the second section)
+    // The second section is not used, as no ID is greater than the length of the first one.
     append_whole(alloc, section, section, numbers, out, ends, steps)?;
     Ok(true)
 }
 
-/// The same of two sections, one after the other.
+/// The same for two consecutive sections.
 fn strings_in_two(
     alloc: Global,
     first: &Section<'_>,
@@ -167,11 +167,11 @@ fn strings_in_two(
 
 impl<'a> Dictionary<'a> {
     /// Appends the strings of a role with these IDs, from 1, to `out`, and the byte offset in `out` at which each ends
-    /// to `ends`. Returns true; or false if one of the IDs is 0 or greater than [`count`](Dictionary::count), with
-    /// `out` and `ends` unchanged. If memory runs out, both are unchanged.
+    /// to `ends`. Returns true; or false if one of the IDs is 0 or greater than [`count`](Dictionary::count). In this
+    /// case, and if memory runs out, `out` and `ends` are unchanged.
     ///
-    /// Each string takes at most as many steps as [`string_of`](Dictionary::string_of). If the IDs ascend (duplicates
-    /// allowed), each block is decoded once, and all strings together take at most as many steps as the last ID.
+    /// Each string takes at most as many steps as [`string_of`](Dictionary::string_of). If the IDs never descend, each
+    /// block is decoded once, and all strings together take at most as many steps as the last ID.
     #[tactic(auto, unfolding(crate::specs::Views::dictionary_of, crate::specs::Looks::role_block, hdt_front::specs::Strings::section_of))]
     pub fn strings_of(
         &self,

@@ -10,8 +10,8 @@ ghost use Rattle.hdt_front.specs.Order.{IsAscending};
 use std::alloc::{AllocError, Global};
 use std::cmp::Ordering;
 
-/// Which of two ascending lists has the next string, after i strings of the first and j of the second: `Less` the
-/// first, `Greater` the second, `Equal` both.
+/// Which of two ascending lists has the next string, after i strings of the first and j of the second: `Less` for the
+/// first, `Greater` for the second, `Equal` for both.
 fn next_of(xs: &[&[u8]], i: usize, ys: &[&[u8]], j: usize) -> Ordering
     requires some { (i < length xs.now) ⊎ (j < length ys.now) }
     requires xs_ascending { IsAscending (lent_texts xs.now) }
@@ -31,13 +31,13 @@ fn next_of(xs: &[&[u8]], i: usize, ys: &[&[u8]], j: usize) -> Ordering
     xs[i].cmp(ys[j])
 }
 
-/// Two ascending lists, divided.
+/// The strings of two ascending lists, by the lists that have them.
 pub(crate) struct Merged<'a> {
-    /// The strings of both lists.
+    /// The strings that are in both lists.
     pub both: Vec<&'a [u8]>,
-    /// Those of the first list only.
+    /// The strings that are only in the first list.
     pub first: Vec<&'a [u8]>,
-    /// Those of the second list only.
+    /// The strings that are only in the second list.
     pub second: Vec<&'a [u8]>,
 }
 

@@ -1,4 +1,4 @@
-//! Finding strings that are in two sections, by merging the sections.
+//! Finding strings that are in two sections, by merging them.
 ghost use Rattle.std.specs.Prelude.{◌≡◌, ◌||◌, List, Bool, ℕ, OnOk, IfOk};
 ghost use Rattle.hdt_dict.specs.Inside.Overlap.{is_string_of, first_place, not_less, Lies, Turns};
 ghost use Rattle.hdt_front.specs.Walking.{PlacedAscend};
@@ -7,9 +7,9 @@ use hdt_front::Cursor;
 use std::alloc::AllocError;
 use std::cmp::Ordering;
 
-/// Updates the comparison of a cursor's string with another one, and the length of their longest common prefix, after
-/// one of the two advanced to a string whose entry shares `kept` bytes with it. If that is more than the prefix,
-/// nothing changes; else the two are compared from there on.
+/// Updates the ordering of a cursor's string and another one, and the length of their longest common prefix, after one
+/// of them advanced to a string that shares `kept` bytes with it. If `kept` is greater than that length, nothing
+/// changes; else the strings are compared from byte `kept` on.
 fn turned(cursor: &Cursor<'_>, x: &[u8], kept: usize, lie: (Ordering, usize)) -> (Ordering, usize)
     requires { Turns kept lie cursor.now x.now }
     ensures { Lies result cursor.now x.now }
@@ -20,8 +20,8 @@ fn turned(cursor: &Cursor<'_>, x: &[u8], kept: usize, lie: (Ordering, usize)) ->
     cursor.compared(x, kept)
 }
 
-/// Skips the strings that are less than another one, and compares the next one with it. Each entry is compared at most
-/// once.
+/// Advances a cursor to the first string that is not less than another one, and compares it. Each entry is compared at
+/// most once.
 fn reaches(
     cursor: &mut Cursor<'_>,
     x: &[u8],
@@ -40,7 +40,7 @@ fn reaches(
     Ok(lie)
 }
 
-/// The offset of the first string of a section that is in another one.
+/// The byte offset of the first string of a section that is in another one.
 pub(crate) fn first_in(
     list: &mut Cursor<'_>,
     other: &mut Cursor<'_>,
@@ -61,7 +61,7 @@ pub(crate) fn first_in(
     Ok(None)
 }
 
-/// The offset of the first string of a section that is in one of two others.
+/// The byte offset of the first string of a section that is in one of two others.
 pub(crate) fn first_in_two(
     list: &mut Cursor<'_>,
     one: &mut Cursor<'_>,

@@ -34,8 +34,8 @@ pub(crate) struct LentParts<'a> {
     pub objects: Vec<&'a [u8]>,
 }
 
-/// Divides the strings of three roles, in any order and with duplicates, into the four sections, without copying them.
-/// It sorts each list, and merges those of subjects and objects.
+/// Divides the strings of three roles, in any order and with duplicates, into the four sections, without copying them:
+/// sorts each list, and merges subjects with objects.
 #[tactic(auto, unfolding(crate::specs::Split::lent_lists_of))]
 fn split_lent<'a>(
     alloc: Global,
@@ -72,8 +72,8 @@ fn copied(alloc: Global, list: &[&[u8]]) -> Result<Vec<Vec<u8>>, AllocError>
     Ok(made)
 }
 
-/// Divides the strings of three roles, in any order and with duplicates, into the four sections of a dictionary. Time
-/// is that of sorting the strings; memory that of the result.
+/// Divides the strings of three roles, in any order and with duplicates, into the four sections of a dictionary. Time:
+/// sorting the strings. Memory: the strings of the result, and a reference to each.
 ///
 /// ```text
 /// let parts = split(alloc, &subjects, &predicates, &objects)?;

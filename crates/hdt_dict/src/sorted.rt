@@ -6,15 +6,15 @@ ghost use Rattle.hdt_front.specs.Order.{IsAscending};
 
 use std::alloc::{AllocError, Global};
 
-/// The same borrowed strings in a vector.
+/// Copies a list of borrowed strings into a vector.
 fn listed<'a>(alloc: Global, list: &[&'a [u8]]) -> Result<Vec<&'a [u8]>, AllocError>
     ensures { IfOk result (λ made. made.items ≡ list.now) }
 {
     Vec::from_slice(alloc, list)
 }
 
-/// Returns the distinct strings of a list in ascending order: by unsigned bytes, a prefix before longer strings. No
-/// string is copied; the cost is that of one sort.
+/// Returns the distinct strings of a list in ascending order: by unsigned bytes, a prefix before longer strings. Time:
+/// one sort. No string is copied.
 pub(crate) fn ascending_strings<'a>(alloc: Global, list: &[&'a [u8]]) -> Result<Vec<&'a [u8]>, AllocError>
     ensures ascending { IfOk result (λ made. IsAscending (lent_texts made.items)) }
     ensures same { IfOk result (λ made. SameMembers (lent_texts made.items) (lent_texts list.now)) }

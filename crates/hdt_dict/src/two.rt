@@ -1,4 +1,4 @@
-//! Look-ups in two sections, one after the other.
+//! Look-ups in two consecutive sections, as those of a role: IDs of the second one continue those of the first.
 ghost use Rattle.std.specs.Prelude.{◌≡◌, ◌<◌, ◌≤◌, ◌+◌, ◌^◌, ◌++◌, length, max, None, IsOk, OnErr, IfOk, option_map};
 ghost use Rattle.hdt_front.specs.Looks.{section_looks};
 ghost use Rattle.hdt_front.specs.Strings.{strings_of, section_of, block_size};
@@ -11,7 +11,7 @@ use hdt_front::Section;
 use hdt_seq::Steps;
 use std::alloc::AllocError;
 
-/// The ID of a string of the second of two sections, after those of the first.
+/// The ID of a string in the second of two consecutive sections.
 fn number_in_second(
     first: &Section<'_>,
     second: &Section<'_>,
@@ -29,8 +29,8 @@ fn number_in_second(
     }
 }
 
-/// The ID of a string in two sections, one after the other, that have no string in common. The longer one, with most
-/// strings, is searched first.
+/// The ID of a string in two consecutive sections that have no string in common. The one with more strings is searched
+/// first.
 pub(crate) fn number_in_two(
     first: &Section<'_>,
     second: &Section<'_>,
@@ -55,7 +55,7 @@ pub(crate) fn number_in_two(
     }
 }
 
-/// Appends the string of a section with ID n, if there is one.
+/// Appends the string of a section with ID n; returns whether there is one.
 pub(crate) fn string_in_one(
     section: &Section<'_>,
     n: u64,
@@ -75,7 +75,7 @@ pub(crate) fn string_in_one(
     Ok(true)
 }
 
-/// Appends the string of two sections, one after the other, with ID n, if there is one.
+/// Appends the string of two consecutive sections with ID n; returns whether there is one.
 pub(crate) fn string_in_two(
     first: &Section<'_>,
     second: &Section<'_>,
@@ -95,7 +95,7 @@ pub(crate) fn string_in_two(
     string_in_one(second, n - first.len(), out, steps)
 }
 
-/// The front-coded bytes of the block of string n of a section; none if there is no such string.
+/// The front-coded bytes of the block that has the string of a section with ID n; empty if there is none.
 pub(crate) fn bytes_in_one<'a>(section: &Section<'a>, n: u64) -> &'a [u8]
     ensures { result.now ≡ string_bytes section.now n }
 {
@@ -106,7 +106,7 @@ pub(crate) fn bytes_in_one<'a>(section: &Section<'a>, n: u64) -> &'a [u8]
     }
 }
 
-/// The same of two sections, one after the other.
+/// The same for two consecutive sections.
 pub(crate) fn bytes_in_two<'a>(first: &Section<'a>, second: &Section<'a>, n: u64) -> &'a [u8]
     ensures { result.now ≡ string_bytes_of_two first.now second.now n }
 {

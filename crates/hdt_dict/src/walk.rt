@@ -1,4 +1,4 @@
-//! An iteration over the strings of a role.
+//! A cursor over the strings of a role.
 ghost use Rattle.std.specs.Prelude.{◌≡◌, ◌≤◌, [], IsOk, OnOk, OnErr, IfOk};
 ghost use Rattle.hdt_front.specs.Searching.{agreed};
 ghost use Rattle.hdt_dict.specs.Dictionary.{strings_in, sections_of};
@@ -11,12 +11,13 @@ use hdt_wire::Role;
 use std::alloc::{AllocError, Global};
 use std::marker::Model;
 
-/// An iteration over the strings of a role in the order of their IDs, each decoded once, over the previous one.
+/// A cursor over the strings of a role in the order of their IDs. Each is decoded once, into the buffer of the previous
+/// one.
 ///
 /// ```text
 /// let mut strings = dictionary.strings(alloc, Role::Subject);
 /// while let Some(number) = strings.next()? {
-///     // string number `number` is strings.last()
+///     // the string with ID `number` is strings.last()
 /// }
 /// ```
 #[derive(Drop)]
@@ -45,7 +46,7 @@ impl<'a> Strings<'a> {
     ghost use Rattle.hdt_front.specs.Strings.{strings_of};
     ghost use Rattle.hdt_dict.specs.Following.{following};
 
-    /// An iteration over the strings of a section, and then those of another one.
+    /// A cursor over the strings of a section, and then those of another one.
     #[tactic(auto, using(crate::proofs::Steps::starts))]
     fn over(alloc: Global, first: &Section<'a>, then: Option<Section<'a>>) -> Strings<'a>
         requires { length (strings_of first.now ++ following then) < 2 ^ 64 }
@@ -59,14 +60,14 @@ impl<'a> Strings<'a> {
         }
     }
 
-    /// Returns the last string, or nothing if there is none yet.
+    /// Returns the last string; empty if there is none yet.
     pub fn last(&self) -> &[u8]
         ensures { result.now ≡ self.now.last }
     {
         self.walk.last()
     }
 
-    /// Decodes the next string and returns its ID, or `None` at the end. If memory runs out, nothing changes.
+    /// Decodes the next string and returns its ID, or `None` at the end. If memory runs out, the cursor is unchanged.
     pub fn next(&mut self) -> Result<Option<u64>, AllocError>
         ensures number { IfOk result (λ r. r ≡ next_number self.old self.old.ahead) }
         ensures ok { OnOk result (self.new ≡ stepped self.old) }
@@ -77,9 +78,9 @@ impl<'a> Strings<'a> {
         Ok(number)
     }
 
-    /// Decodes the next string as [`next`](Strings::next) does, and returns also how many bytes its entry shares with
-    /// the previous string: a lower bound of their common prefix. That is 0 at the end, and where a section begins.
-    /// Linear time in the bytes that it doesn't share.
+    /// Decodes the next string as [`next`](Strings::next) does, and also returns how many bytes its entry shares
+    /// with the previous string: a lower bound of their common prefix. It is 0 at the end, and for the first string of
+    /// a section. Linear time in the bytes that are not shared.
     pub fn next_kept(&mut self) -> Result<(Option<u64>, usize), AllocError>
         ensures number { IfOk result (λ r. r.0 ≡ next_number self.old self.old.ahead) }
         ensures kept { IfOk result (λ r. r.1 ≤ agreed self.old.last self.new.last) }
@@ -109,7 +110,7 @@ impl<'a> Strings<'a> {
 }
 
 impl<'a> Dictionary<'a> {
-    /// Returns an iteration over the strings of a role, in the order of their IDs. It allocates nothing yet.
+    /// Returns a cursor over the strings of a role, in the order of their IDs. Allocates nothing yet.
     #[tactic(auto, unfolding(crate::specs::Views::dictionary_of, hdt_front::specs::Strings::section_of))]
     pub fn strings(&self, alloc: Global, role: Role) -> Strings<'a>
         ensures { result ≡ record { given = 0; last = []; ahead = strings_in (sections_of (dictionary_of self.now)) role } }

@@ -55,7 +55,7 @@ pub fn put_dictionary(
     cut_on_error(appended, start, out)
 }
 
-/// Appends a dictionary of section writers; an error may leave its first bytes.
+/// Appends the dictionary of four section writers; an error may leave its first bytes.
 #[tactic(auto, using(crate::specs::Laws::Writing::mapping_no_zero))]
 fn append_written(
     shared: SectionWriter,
@@ -78,7 +78,7 @@ fn append_written(
 }
 
 /// Appends the canonical dictionary of four sections that were written string by string, as [`put_dictionary`] does.
-/// They must have the same block size. Each writer is freed once its section is written.
+/// The writers must have the same block size. Each is freed once its section is written.
 pub fn put_written_dictionary(
     shared: SectionWriter,
     subjects: SectionWriter,

@@ -1,4 +1,4 @@
--- The triples of a document over strings that are kept once.
+-- The triples of a document, as indices into its list of strings.
 use Rattle.std.specs.Prelude.{ℕ, ◌<◌, ◌++◌, List, length}
 use Rattle.std.specs.List.{All}
 use Rattle.hdt_triples.specs.Counting.{Triple}
@@ -7,25 +7,25 @@ use Rattle.hdt_build.specs.Graph.{string_triples_of}
 use Rattle.hdt_build.specs.declared.document.Document.{Document}
 use Rattle.hdt_build.specs.declared.queue.Queue.{Queue}
 
--- each number of the triples is below n
+-- all indices of the triples are less than n
 pub record AreBelow (n : ℕ) (ids : List Triple) : Type 0 where
   pub subjects : All (λ t. t.0 < n) ids
   pub predicates : All (λ t. t.1 < n) ids
   pub objects : All (λ t. t.2 < n) ids
 
--- the string triples of a queue, in the order in which they came, with repeats
+-- the string triples of a queue, in input order, with duplicates
 abbrev pub waiting_in : Queue → List StringTriple
 waiting_in q = string_triples_of q.strings q.ids.items
 
--- each number of a triple that waits is the place of a string
+-- all indices of queued triples are those of strings
 abbrev pub IsQueue : Queue → Type 0
 IsQueue q = AreBelow (length q.strings) q.ids.items
 
--- the string triples, in the order in which they came, with repeats
+-- the string triples of a document, in input order, with duplicates
 abbrev pub document_graph : Document → List StringTriple
 document_graph d = string_triples_of d.terms d.ids.items ++ waiting_in d.queue
 
--- each number of a triple is the place of a string
+-- all indices of the triples, queued or not, are those of strings
 pub record IsSound (d : Document) : Type 0 where
   pub known : AreBelow (length d.terms) d.ids.items
   pub waiting : IsQueue d.queue

@@ -1,4 +1,4 @@
--- The sections of triples over a list of strings in order.
+-- The sections of triples over an ascending list of strings.
 use Rattle.std.specs.Prelude.{◌≡◌, ◌↔◌, ℕ, Bool, true, false, List, [], length, slice_index, slice_index_or}
 use Rattle.std.specs.List.{Contains}
 use Rattle.hdt_wire.specs.declared.role.Role.{Role}
@@ -12,20 +12,20 @@ use Rattle.hdt_build.specs.Inside.Kept.{IsNumberBehind}
 use Rattle.hdt_build.specs.Inside.Numbers.{IsNumberOf}
 use Rattle.hdt_dict.specs.Dictionary.{FourLists, strings_in}
 
--- whether there is a yes at a place; none past the end
+-- the flag at an index; false past the end
 abbrev pub flag_at : List Bool → ℕ → Bool
 flag_at flags k = slice_index_or flags k false
 
--- there is a yes exactly at the numbers that triples have in the role
+-- the flags are true exactly at the indices that triples use in the role
 abbrev pub AreUsed : List Triple → Role → List Bool → Type 0
 AreUsed ids role flags = (k : ℕ) → (flag_at flags k ≡ true) ↔ Uses ids role k
 
--- the section has the string at a place: its flag is a yes, and the other one is as it is wanted
+-- the section has the string at index k: it is used in one role, and also, or not, in the other
 abbrev pub IsWanted : List Bool → List Bool → Bool → ℕ → Type 0
 IsWanted used other wanted k = (flag_at used k ≡ true) × (flag_at other k ≡ wanted)
 
--- The strings are those of xs at the places that are kept, in ascending order. At each of these the numbers now have the number
--- of its string behind so many others, and at any other place what they had.
+-- The strings are those of xs at the indices that pass the filter, in ascending order. Their IDs, after `count` other
+-- strings, are stored at these indices; all other entries are unchanged.
 pub record IsFilled (xs : List (List ℕ)) (keeps : ℕ → Type 0) (count : ℕ) (strings : List (List ℕ)) (before after : List ℕ) : Type 0 where
   pub ascend : IsAscending strings
   pub each : (x : List ℕ) → Contains strings x → (k : ℕ) × keeps k × (slice_index_or xs k [] ≡ x)
@@ -33,11 +33,11 @@ pub record IsFilled (xs : List (List ℕ)) (keeps : ℕ → Type 0) (count : ℕ
   pub others : (k : ℕ) → (keeps k → ⊥) → slice_index after k ≡ slice_index before k
   pub long : length after ≡ length before
 
--- at each place that triples use in a role the numbers have that of its string among the terms
+-- at each index that triples use in a role, the ID of its string among the terms is stored
 abbrev pub AreNumbered : List (List ℕ) → List Triple → Role → List (List ℕ) → List ℕ → Type 0
 AreNumbered xs ids role terms numbers = (k : ℕ) → Uses ids role k → IsNumberOf terms (slice_index_or xs k []) (slice_index numbers k)
 
--- The four lists are the sections of the triples, and each string that they use has its numbers: one as a subject or an object,
+-- The four lists are the sections of the triples, and each string in use has its IDs: one as a subject or an object,
 -- and one as a predicate.
 pub record ArePartsOf (xs : List (List ℕ)) (ids : List Triple) (d : FourLists) (nodes predicates : List ℕ) : Type 0 where
   pub sections : IsSplit (subjects_of (string_triples_of xs ids)) (predicates_of (string_triples_of xs ids)) (objects_of (string_triples_of xs ids)) d

@@ -1,7 +1,7 @@
--- A list of strings that may have grown.
+-- A list of strings to which others may have been appended.
 use Rattle.std.specs.Prelude.{◌≡◌, ℕ, ◌<◌, ◌≤◌, List, [], length, slice_index_or}
 
--- ys has each string of xs at its place, and maybe more behind them
+-- ys is xs, with any strings appended
 pub record GoesOn (xs ys : List (List ℕ)) : Type 0 where
   pub longer : length xs ≤ length ys
   pub kept : (k : ℕ) → k < length xs → slice_index_or ys k [] ≡ slice_index_or xs k []

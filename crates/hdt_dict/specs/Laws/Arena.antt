@@ -1,4 +1,4 @@
--- Strings by where they begin: how many there are, which one stands at a place, and one more at the end.
+-- The strings of an arena: their number, the string at an index, and appending one.
 use Rattle.std.proofs.Common.{◌≡◌, ℕ, ◌+◌, ◌-◌, ◌<◌, ◌≤◌, List, [], ◌∷◌, ◌++◌, map, length, get_or, drop, refl, ap, sym, ◌∙◌, inl, inr, arith}
 use Rattle.std.specs.List.{range_with_len}
 use Rattle.std.proofs.lemmas.Bool.{cases_lt}
@@ -14,7 +14,7 @@ pub text_is : (bytes starts : List ℕ) (i : ℕ) → i + 1 < length starts → 
 unfolding arena_texts
 text_is bytes starts i below = get_or-map-range_with_len (arena_text bytes starts) 0 (length starts - 1) i i [] (omega arith) (omega arith)
 
--- no bytes and the one block offset 0 are no strings
+-- an arena without bytes, whose only start is 0, has no strings
 pub none : arena_texts [] (0 ∷ []) ≡ []
 unfolding arena_texts
 none = refl
@@ -33,7 +33,7 @@ map_range f g n same =
     same_lists _ _ (long ∙ sym (length-map-range_with_len g 0 n))
     (λ k d below. let lt : k < n = omega arith in get_or-map-range_with_len f 0 n k k d lt (omega arith) ∙ same k lt ∙ sym (get_or-map-range_with_len g 0 n k k d lt (omega arith)))
 
--- bytes behind the last string, and the place where they end, are one string more
+-- appending the bytes x, and the offset e at which they end, appends one string
 module _ (bytes starts x : List ℕ) (e : ℕ) (h : AreTextStarts bytes starts) (end : e ≡ length bytes + length x) where
   front : (i : ℕ) → i < length starts → get_or (starts ++ e ∷ []) i 0 ≡ get_or starts i 0
   front i below = get_or_append_left starts (e ∷ []) 0 i below

@@ -1,4 +1,4 @@
--- The checks of a dictionary are exact: what they give is encoded there, and what is encoded there they give.
+-- The checks of a dictionary are exact: they return a dictionary exactly if it is encoded at the offset.
 use Rattle.std.proofs.Common.{◌≡◌, ℕ, Bool, true, false, not, List, [], ◌++◌, length, get_or, inl, inr, refl, sym, subst, ◌∙◌}
 use Rattle.std.specs.List.{Contains}
 use Rattle.std.proofs.lemmas.List.{get_or_default}
@@ -17,7 +17,7 @@ use Rattle.hdt_dict.specs.Strings.{has}
 use Rattle.hdt_dict.specs.Laws.Strings.{has-Contains, Contains-has}
 use Rattle.hdt_dict.specs.Dictionary.{DictionaryParts, AreApart, IsDictionary, apart_row, apart_at, dictionary_at}
 
--- ---- strings of two sections
+-- ---- strings in two sections
 
 not-made : (b : Bool) → (b ≡ true → ⊥) → not b ≡ true
 not-made true h = absurd (h refl)

@@ -1,4 +1,4 @@
--- Laws of members of lists: of one more element, of a filter and a `map`, and of strictly ascending lists.
+-- Membership in lists: of an appended element, a filter and a `map`, and of strictly ascending lists.
 use Rattle.std.proofs.Common.{◌≡◌, ℕ, ◌<◌, suc, zero, Bool, true, false, cond, List, [], ◌∷◌, length, get_or, map, refl, ap, subst, sym, ◌∙◌, inl, inr, ◌⊎◌, arith}
 use Rattle.std.specs.List.{All, Contains, filter}
 use Rattle.std.specs.List.Sorted.{IsStrictlySortedBy}
@@ -50,7 +50,7 @@ module _ {X : Type 0} where
   Contains-filter p [] x h is = absurd (Contains-nil x h)
   Contains-filter p (y ∷ xs) x h is = to_step p y xs x (p y) refl is (λ g. Contains-filter p xs x g is) (Contains-cons_cases y x xs h)
 
--- members of a `map`
+-- the members of a `map`
 module _ {X Y : Type 0} (f : X → Y) where
   pub Contains-map : (xs : List X) (x : X) → Contains xs x → Contains (map f xs) (f x)
   Contains-map [] x h = absurd (Contains-nil x h)
@@ -81,11 +81,11 @@ module _ {X : Type 0} where
   pub SameMembers-trans : (xs ys zs : List X) → SameMembers xs ys → SameMembers ys zs → SameMembers xs zs
   SameMembers-trans xs ys zs h g x = (λ there. (g x).0 ((h x).0 there), λ there. (h x).1 ((g x).1 there))
 
-  -- what holds of each member holds of each element
+  -- what holds for every member holds for every element
   pub All-from_members : (P : X → Type 0) (xs : List X) → ((x : X) → Contains xs x → P x) → All P xs
   All-from_members P xs h k d below = h (get_or xs k d) (Contains-get_or xs k d below)
 
-  -- an element at a place, of a list that has the same members as another of whose elements P holds
+  -- P holds for every element of a list, if it holds for those of a list with the same members
   pub All-same_members : (P : X → Type 0) (xs ys : List X) → SameMembers ys xs → All P xs → All P ys
   All-same_members P xs ys h all = All-from_members P ys (λ x there. All-contains P xs x all ((h x).0 there))
 

@@ -1,4 +1,4 @@
--- Merging two ascending lists: what is below a place, whether a string is there, and the step to the next string.
+-- Merging two ascending lists: which strings are less than another one, whether it is in the list, and one step.
 use Rattle.std.proofs.Common.{◌≡◌, ◌≢◌, ℕ, ◌+◌, ◌<◌, ◌≤◌, Bool, true, false, cond, not, List, [], ◌∷◌, ◌++◌, length, get_or, take, refl, ap, sym, ◌∙◌, inl, inr, arith}
 use Rattle.std.specs.declared.cmp.Ordering.{Ordering}
 use Rattle.std.specs.declared.cmp.Ordering.TheVariants.{Less, Equal, Greater}
@@ -27,7 +27,7 @@ not_Less Greater h = λ e. cc
 itself : (x : List ℕ) → string_cmp x x ≡ Equal
 itself x = tied_itself nat_list_cmp_total x
 
--- where a member of an ascending list stands: at the first place that isn't below it
+-- a member of an ascending list is at the first index whose string is not less than it
 module _ (ys : List (List ℕ)) (at : ℕ) (x : List ℕ) (up : IsAscending ys) (below : FirstBelow ys at x) where
   stands_by : (k : ℕ) → k < length ys → get_or ys k x ≡ x → (at < length ys → string_cmp (get_or ys at x) x ≢ Less) → (at < length ys) × (get_or ys at x ≡ x)
   stands_by k in' is stops =
@@ -47,7 +47,7 @@ module _ (ys : List (List ℕ)) (at : ℕ) (x : List ℕ) (up : IsAscending ys) 
   pub stands : (at < length ys → string_cmp (get_or ys at x) x ≢ Less) → Contains ys x → (at < length ys) × (get_or ys at x ≡ x)
   stands stops h = stands_by h.0 h.1 h.2 stops
 
-  -- the answer of the test at that place
+  -- the result of the test at that index
   pub has_here : at < length ys → string_cmp (get_or ys at x) x ≢ Less → (y : List ℕ) → get_or ys at x ≡ y → bytes_eq y x ≡ has ys x
   has_here here stops y is =
       both_ways _ _
@@ -89,7 +89,7 @@ module _ (ys : List (List ℕ)) (x : List ℕ) where
   by absent true e = absurd (absent (has-Contains ys x e))
   by absent false e = refl
 
-  -- a list lacks a string where it isn't a member
+  -- a string that is not a member is not in the list
   pub lacks : ¬ Contains ys x → not (has ys x) ≡ true
   lacks absent = by absent (has ys x) refl
 

@@ -1,4 +1,4 @@
--- The sections of strings that are UTF-8 without a zero byte are what a dictionary can hold.
+-- Dividing strings that are UTF-8 without zero bytes gives valid sections of a dictionary.
 use Rattle.std.proofs.Common.{ℕ, List, []}
 use Rattle.std.specs.List.{All}
 use Rattle.std.proofs.lemmas.List.Elements.{All-contains}

@@ -1,4 +1,4 @@
--- Laws of lists of strings: a string by its place, a `dedup` and a sort seen through a function of the elements.
+-- Lists of strings: the string at an index, and `dedup` and sorting seen through a function of the elements.
 use Rattle.std.proofs.Common.{◌≡◌, ℕ, ◌+◌, ◌<◌, Bool, true, false, cond, List, [], ◌∷◌, length, get_or, map, refl, ap, subst, arith}
 use Rattle.std.proofs.Common.{inl, inr, ◌⊎◌}
 use Rattle.std.specs.List.{Contains}
@@ -33,11 +33,11 @@ sorted_map f R (x ∷ xs) h = λ k d low high.
     let short : k < length (x ∷ xs) = omega arith in
     rw (get_or-map f (x ∷ xs) (k + 1) x d long, get_or-map f (x ∷ xs) k x d short) (h k x low long)
 
--- the string at a place, as an index reads it
+-- the string at an index
 pub string_at : (vs : List Lent) (i : ℕ) (v : Lent) (d : List ℕ) → i < length vs → get_or (lent_texts vs) i d ≡ (get_or vs i v).now
 string_at vs i v d below = get_or-map (λ (w : Lent). w.now) vs i v d below
 
--- a list has a string where it is a member
+-- a string is in the list exactly if it is a member
 pub has-Contains : (ys : List (List ℕ)) (x : List ℕ) → has ys x ≡ true → Contains ys x
 has-Contains ys x h =
     let a = Any-from_list_any (λ y. bytes_eq y x) ys h in
@@ -46,7 +46,7 @@ has-Contains ys x h =
 pub Contains-has : (ys : List (List ℕ)) (x : List ℕ) → Contains ys x → has ys x ≡ true
 Contains-has ys x h = list_any_at (λ y. bytes_eq y x) ys h.0 x h.1 ((bytes_eq-Decides (get_or ys h.0 x) x).1 h.2)
 
--- a string is a member of a list or not
+-- a string is a member of a list, or it is not
 pub member_cases : (ys : List (List ℕ)) (x : List ℕ) → Contains ys x ⊎ (Contains ys x → ⊥)
 member_cases ys x = by (has ys x) refl
   where

@@ -1,4 +1,4 @@
--- The bytes that are written for a dictionary are those of that dictionary.
+-- The canonical bytes of a dictionary encode it.
 use Rattle.std.proofs.Common.{ℕ, ◌+◌, ◌<◌, ◌≤◌, ◌^◌, List, ◌++◌, length, eqb, not, refl}
 use Rattle.std.proofs.lemmas.Bool.{eqb-false}
 use Rattle.std.proofs.lemmas.List.Sums.{AllPass-from_list_all}
