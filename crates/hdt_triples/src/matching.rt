@@ -350,9 +350,9 @@ impl<'a> ListedTriples<'a> {
         }
     }
 
-    /// Returns the number of matches of a pattern. Allocates nothing. Cost by what is given: constant for nothing or
-    /// only an object; logarithmic if a subject is; linear in the predicate's pairs for only a predicate, and at most a
-    /// scan of all triples; linear in the object's triples for a predicate and an object.
+    /// Returns the number of matches of a pattern. Allocates nothing. Cost, by what is given: constant for nothing or
+    /// only an object; logarithmic with a subject; for only a predicate, two searches for each of its pairs, but at
+    /// most a scan of all triples; for a predicate and an object, a scan of the object's triples.
     pub fn matching(&self, pattern: Pattern, steps: &mut Steps) -> u64
         ensures is { result ≡ length (matches pattern (triples_of (bitmap_read (triples_listed self.now)))) }
         // The steps are bounded by the table, and by that for the shorter of two lists.
