@@ -36,8 +36,8 @@ triple_at f j = (subject_at f (pair_of f j), slice_index f.ys (pair_of f j), sli
 unfoldable pub triples_of : BitmapTriples → List Triple
 triples_of f = map (triple_at f) (range_with_len 0 (length f.zs))
 
--- The sequences are consistent: bitmaps are as long as their arrays, both end in a 1-bit, and each pair has a group of
--- triples.
+-- The sequences are consistent: each bitmap is as long as its array and ends in a 1-bit, and bitmap Z has a 1-bit for
+-- each pair.
 pub record IsMarked (f : BitmapTriples) : Type 0 where
   pub pairs : length f.my ≡ length f.ys
   pub triples : length f.mz ≡ length f.zs

@@ -73,10 +73,10 @@ impl<'a> ListedTriples<'a> {
 
     /// Finds the matches of a pattern: the triples that have each given ID, once each, in order. Allocates nothing.
     ///
-    /// A subject is found by the rank/select indexes. Given a subject and an object, the subject's triples are scanned,
-    /// and long stretches without a match are skipped by the object's list. Given no subject, a predicate is found by
-    /// its list of pairs, an object by its list of triples, and both by the list that needs fewer steps. Given nothing,
-    /// all triples are scanned.
+    /// A subject is found by the rank/select indexes, and a pair in it by binary search. Given a subject and an object
+    /// but no predicate, the subject's triples are scanned, and long stretches without a match are skipped by the
+    /// object's list. Given no subject, a predicate is found by its list of pairs, an object by its list of triples,
+    /// and both by the list that needs fewer steps. Given nothing, all triples are scanned.
     #[tactic(auto, using(crate::proofs::PredicateObjectLaws::shorter), unfolding(crate::specs::Bounds::most_steps, crate::specs::Bounds::short_steps))]
     pub fn find(&self, pattern: Pattern) -> Matches<'_>
         ensures items { left_of result ≡ matches pattern (triples_of (bitmap_read (triples_listed self.now))) }
