@@ -19,7 +19,7 @@ parts_of_lists xs greatest starts flat l = record {
 pub keys_of : (marks : List Bool) (xs : List ℕ) (count : ℕ) → AreGrouped marks xs count → All (IsListKey count) xs
 keys_of marks xs count g = All-from_get_or (IsListKey count) xs 0 (λ i h. (g.from i h, g.to i h))
 
--- No position has a key that is out of range.
+-- A key that doesn't occur has no positions.
 none_kept : (n : ℕ) (xs : List ℕ) (k a : ℕ) → ((i : ℕ) → a ≤ i → i < a + n → slice_index xs i ≢ k) → filter (λ i. slice_index xs i == k) (range_with_len a n) ≡ []
 none_kept zero xs k a none = refl
 none_kept (suc n) xs k a none =

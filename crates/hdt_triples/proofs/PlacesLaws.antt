@@ -61,7 +61,7 @@ pub held_at : (xs js : List ℕ) (k i : ℕ) → js ≡ places_of xs k → i < l
 held_at xs js k i is h =
     subst (λ (l : List ℕ). IsPlaceOf xs k (slice_index l i)) (sym is) (among_places xs k i 0 (omega (arith, h, ap length is)))
 
--- Matching the triples of a list of indexes is filtering the indexes.
+-- Matching the triples of a list of indices is filtering the indices.
 mapped_by : (p : Pattern) (f : BitmapTriples) (j : ℕ) (js : List ℕ) (b : Bool) → agrees p (triple_at f j) ≡ b
     → length (filter (agrees p) (map (triple_at f) js)) ≡ length (filter (λ j. agrees p (triple_at f j)) js)
     → length (filter (agrees p) (map (triple_at f) (j ∷ js))) ≡ length (filter (λ j. agrees p (triple_at f j)) (j ∷ js))

@@ -38,7 +38,7 @@ pub pays_on : (s : ℕ) (f : BitmapTriples) (j steps after : ℕ) → j < length
 unfolding limit subject_price jump
 pays_on s f j steps after h own few pays = omega (arith, few, pays, ap length (matches_taken (of_subject s) f j h (own_subject s (triple_at f j) own)))
 
--- Up to index j, the last triple of pair q, no triple has subject s, as the next pair is the first one of s.
+-- Pair q is the last one before those of s, so no triple up to one of pair q has subject s.
 pub before_start : (f : BitmapTriples) (s q j : ℕ) → marks_before f.my q + 2 ≡ s → marks_before f.mz j ≡ q → (i : ℕ) → i ≤ j → subject_at f (pair_of f i) ≢ s
 before_start f s q j y z i h same =
     omega (arith, y, same, marks_mono f.my (pair_of f i) q (let e : pair_of f i ≤ q = omega (arith, z, marks_mono f.mz i j h) in e))

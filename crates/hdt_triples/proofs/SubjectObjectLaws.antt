@@ -62,7 +62,7 @@ later_subject f s from at pair found i reached l is found_is ne h same =
     let last : subject_at f (pair_of f at) ≤ subject_at f (pair_of f i) = omega (arith, marks_mono f.my (pair_of f at) (pair_of f i) (marks_mono f.mz at i h)) in
     ne (omega (arith, here, first, last, reached, same))
 
--- From a later index on there are no more matches than from a former one.
+-- From a later index on there are at most as many matches.
 later_by : (n : ℕ) (p : Pattern) (f : BitmapTriples) (at k : ℕ) → at + n ≡ k → k ≤ length f.zs → length (matches p (triples_from f k)) ≤ length (matches p (triples_from f at))
 later_by zero p f at k e h = let same : at ≡ k = omega (arith, e) in omega (arith, ap (λ j. length (matches p (triples_from f j))) same)
 later_by (suc n) p f at k e h =

@@ -62,7 +62,7 @@ jumped_by (suc n) p f j k e h none =
     matches_passed p f j (omega (arith, e, h)) (none j (omega arith) (omega (arith, e)))
     ∙ jumped_by n p f (j + 1) k (omega (arith, e)) h (λ i l w. none i (omega (arith, l)) w)
 
--- Indexes without a match can be passed over.
+-- Indices without a match can be passed over.
 pub jumped : (p : Pattern) (f : BitmapTriples) (j k : ℕ) → j ≤ k → k ≤ length f.zs → ((i : ℕ) → j ≤ i → i < k → agrees p (triple_at f i) ≡ false)
     → matches p (triples_from f j) ≡ matches p (triples_from f k)
 jumped p f j k l h none = jumped_by (k - j) p f j k (omega (arith, l)) h none

@@ -119,7 +119,7 @@ impl<'a> ListedTriples<'a> {
             + places.len() as u128
     }
 
-    /// Returns the indexes of a predicate's pairs, ascending. Two steps.
+    /// Returns the indices of a predicate's pairs, ascending. Two steps.
     #[tactic(auto, using(crate::proofs::ListsLaws::parts_of_lists), unfolding(crate::specs::Views::bitmap_read))]
     pub(crate) fn pairs_of(&self, predicate: u64, steps: &mut Steps) -> &[u64]
         ensures is { result.now ≡ places_of (bitmap_read (triples_listed self.now)).ys predicate }
@@ -129,7 +129,7 @@ impl<'a> ListedTriples<'a> {
         part(&self.pair_starts, &self.pairs, predicate, steps)
     }
 
-    /// Returns the indexes of an object's triples, ascending. Two steps.
+    /// Returns the indices of an object's triples, ascending. Two steps.
     #[tactic(auto, using(crate::proofs::ListsLaws::parts_of_lists), unfolding(crate::specs::Views::bitmap_read))]
     pub(crate) fn places_of(&self, object: u64, steps: &mut Steps) -> &[u64]
         ensures is { result.now ≡ places_of (bitmap_read (triples_listed self.now)).zs object }

@@ -281,7 +281,7 @@ bits_stand bytes at end xs some few h = record {
   places = refl;
 }
 
--- Four valid sequences whose lengths and entries fit 64 bits.
+-- Four valid sequences whose lengths and entries are below 2^64.
 record CanStand (counts : Counts) (f : BitmapTriples) : Type 0 where
   fit : AreTriples counts f
   some_pairs : 0 < length f.my
