@@ -1,5 +1,5 @@
--- The triples that four sequences encode (rdfhdt.org, "HDT binary format", Bitmap Triples). A 1-bit marks the last
--- entry of a group; the group of an entry is the number of 1-bits before it.
+-- The triples that four sequences encode (rdfhdt.org, "HDT binary format", Bitmap Triples). A 1-bit ends a
+-- group; the group of an entry is the number of 1-bits before it.
 use Rattle.std.specs.Prelude.{◌≡◌, ℕ, ◌+◌, ◌-◌, ◌≤◌, ◌<◌, List, Bool, true, length, map, slice_index, slice_get, Some}
 use Rattle.std.specs.List.{range_with_len}
 use Rattle.hdt_seq.specs.Marks.{marks_before}
@@ -7,8 +7,8 @@ use Rattle.hdt_seq.specs.Marks.{marks_before}
 abbrev pub Triple : Type 0
 Triple = ℕ × ℕ × ℕ
 
--- The four sequences of bitmap triples. `my` (bitmap Y) and `ys` (array Y) have one entry for each pair of a subject
--- and a predicate, `mz` (bitmap Z) and `zs` (array Z) one for each triple. `ys` holds predicates, `zs` objects.
+-- The four sequences of bitmap triples. Bitmap Y and array Y have one entry for each pair of a subject and a predicate;
+-- the array holds the predicate. Bitmap Z and array Z have one entry for each triple; the array holds the object.
 pub record BitmapTriples : Type 0 where
   pub my : List Bool
   pub mz : List Bool
@@ -32,7 +32,7 @@ pair_of f j = marks_before f.mz j
 abbrev pub triple_at : BitmapTriples → ℕ → Triple
 triple_at f j = (subject_at f (pair_of f j), slice_index f.ys (pair_of f j), slice_index f.zs j)
 
--- All triples, one for each entry of `zs`.
+-- All triples, one for each entry of array Z.
 unfoldable pub triples_of : BitmapTriples → List Triple
 triples_of f = map (triple_at f) (range_with_len 0 (length f.zs))
 

@@ -33,7 +33,8 @@ impl<'a> IndexedTriples<'a> {
         digits_of(pairs) + digits_of(triples) + 20
     }
 
-    /// Returns the bound on finding an object in a pair: twice that bound, and a binary search among all triples.
+    /// Returns the bound on finding an object in a pair: two searches by rank and select, and a binary search among all
+    /// triples.
     #[tactic(auto, unfolding(crate::specs::Bounds::pair_look, crate::specs::Views::bitmap_read))]
     pub(crate) fn pair_look(&self) -> u64
         ensures { result ≡ pair_look (bitmap_read (triples_indexed self.now)) }
