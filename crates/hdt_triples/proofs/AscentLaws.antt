@@ -1,15 +1,15 @@
--- Neighbours that ascend, and all that follow.
+-- From ascending neighbours to all pairs of entries.
 use Rattle.std.proofs.Common.{◌≡◌, ℕ, ◌+◌, ◌-◌, ◌<◌, ◌≤◌, zero, suc, length, slice_index, ap, sym, ◌∙◌, arith}
 use Rattle.hdt_triples.specs.Counting.{BitmapTriples, Counts, AreTriples, subject_at, pair_of}
 use Rattle.hdt_seq.specs.Marks.{marks_before}
 use Rattle.hdt_seq.specs.Laws.Marks.{marks_mono}
 
--- predicates ascend within a subject, and objects within a pair
+-- Predicates ascend within a subject, and objects within a pair.
 pub record Ascend (f : BitmapTriples) : Type 0 where
   pub predicates : (q r : ℕ) → q < r → r < length f.ys → subject_at f q ≡ subject_at f r → slice_index f.ys q < slice_index f.ys r
   pub objects : (i j : ℕ) → i < j → j < length f.zs → pair_of f i ≡ pair_of f j → slice_index f.zs i < slice_index f.zs j
 
--- entries of one group, where groups never go down and neighbours of a group ascend
+-- Two entries of one group ascend if group numbers don't decrease and neighbours of a group ascend.
 ascends : (n : ℕ) (group xs : ℕ → ℕ) (len i : ℕ) → ((a b : ℕ) → a ≤ b → group a ≤ group b) → ((a : ℕ) → a + 1 < len → group a ≡ group (a + 1) → xs a < xs (a + 1))
     → i + n + 1 < len → group i ≡ group (i + n + 1) → xs i < xs (i + n + 1)
 ascends zero group xs len i mono next within same =

@@ -1,4 +1,4 @@
--- The number before an entry in its group.
+-- The previous number in the group of an entry.
 use Rattle.std.proofs.Common.{List, Bool, true, false, cond, add-one, slice_index, ◌≡◌, ℕ, ◌+◌, refl, ap, ◌∙◌, slice_get, Some}
 use Rattle.std.proofs.lemmas.Option.{get_or_from_slice_get}
 use Rattle.hdt_triples.specs.Triples.{earlier}

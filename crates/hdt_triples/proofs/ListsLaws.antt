@@ -1,4 +1,4 @@
--- What the lists by key say of one key.
+-- The list of one key in an inverted index.
 use Rattle.std.proofs.Common.{◌≡◌, ◌≢◌, ◌⊎◌, inl, inr, ℕ, ◌+◌, ◌-◌, ◌<◌, ◌≤◌, ◌==◌, zero, suc, List, [], ◌∷◌, length, drop, slice_index, filter, refl, ap, sym, ◌∙◌, arith, Bool, true, false, cond, subst, eq-or-lt_of_le}
 use Rattle.std.proofs.lemmas.Bool.{ne_eqb, cases_lt, eqb-true, eqb-false}
 use Rattle.std.proofs.lemmas.List.{drop_more}
@@ -15,11 +15,11 @@ parts_of_lists xs greatest starts flat l = record {
   within = λ k h. omega (arith, l.begins k (omega (arith, h, l.starts_len)), l.flat_len, below_le xs (k + 1));
 }
 
--- numbers in groups are keys
+-- Numbers in ascending groups are keys.
 pub keys_of : (marks : List Bool) (xs : List ℕ) (count : ℕ) → AreGrouped marks xs count → All (IsListKey count) xs
 keys_of marks xs count g = All-from_get_or (IsListKey count) xs 0 (λ i h. (g.from i h, g.to i h))
 
--- no place has another key
+-- A key that doesn't occur has no positions.
 none_kept : (n : ℕ) (xs : List ℕ) (k a : ℕ) → ((i : ℕ) → a ≤ i → i < a + n → slice_index xs i ≢ k) → filter (λ i. slice_index xs i == k) (range_with_len a n) ≡ []
 none_kept zero xs k a none = refl
 none_kept (suc n) xs k a none =
@@ -39,7 +39,7 @@ key_part xs greatest k starts flat l low high =
 pub places_from_start : (xs : List ℕ) (k : ℕ) → places_of xs k ≡ places_from xs k 0
 places_from_start xs k = ap (λ n. filter (λ i. slice_index xs i == k) (range_with_len 0 n)) (let e : length xs ≡ length xs - 0 = omega arith in e)
 
--- the first place from a on, and those behind it
+-- The first position from a on, and those after it.
 pub record IsFirstPlace (xs : List ℕ) (k a q : ℕ) (qs : List ℕ) : Type 0 where
   pub from : a ≤ q
   pub within : q < length xs
@@ -54,7 +54,7 @@ not_yet : (xs : List ℕ) (k a i : ℕ) → slice_index xs a ≢ k → (a ≡ i)
 not_yet xs k a i ne (inl e) later = subst (λ j. slice_index xs j ≢ k) e ne
 not_yet xs k a i ne (inr h) later = later (omega (arith, h))
 
--- where the first of them is tried
+-- The first position, by whether index a has the key.
 first_by : (n : ℕ) (xs : List ℕ) (k a q : ℕ) (qs : List ℕ) (b : Bool) → a + suc n ≡ length xs → (slice_index xs a == k) ≡ b
     → ((q ∷ qs ≡ kept_from xs k (a + 1) n) → IsFirstPlace xs k (a + 1) q qs)
     → q ∷ qs ≡ cond b (a ∷ kept_from xs k (a + 1) n) (kept_from xs k (a + 1) n) → IsFirstPlace xs k a q qs
@@ -92,7 +92,7 @@ first_cases xs k a q qs is (inr h) = let none : places_from xs k a ≡ [] = ap (
 pub first_place : (xs : List ℕ) (k a q : ℕ) (qs : List ℕ) → q ∷ qs ≡ places_from xs k a → IsFirstPlace xs k a q qs
 first_place xs k a q qs is = first_cases xs k a q qs is (cases_lt a (length xs))
 
--- there is none from a on
+-- There is no position from a on.
 none_by : (n : ℕ) (xs : List ℕ) (k a : ℕ) (b : Bool) → (slice_index xs a == k) ≡ b → ([] ≡ kept_from xs k (a + 1) n → (i : ℕ) → a + 1 ≤ i → i < a + 1 + n → slice_index xs i ≢ k)
     → [] ≡ cond b (a ∷ kept_from xs k (a + 1) n) (kept_from xs k (a + 1) n) → (i : ℕ) → a ≤ i → i < a + suc n → slice_index xs i ≢ k
 none_by n xs k a true test later is = absurd (cc)
@@ -106,7 +106,7 @@ none_of (suc n) xs k a is i l w = none_by n xs k a (slice_index xs a == k) refl 
 pub no_place : (xs : List ℕ) (k a : ℕ) → [] ≡ places_from xs k a → (i : ℕ) → a ≤ i → i < length xs → slice_index xs i ≢ k
 no_place xs k a is i l w = none_of (length xs - a) xs k a is i l (omega (arith, l, w))
 
--- the first of what is left
+-- A non-empty list is its first element and the rest.
 rest_first : (rest : List ℕ) → 0 < length rest → rest ≡ slice_index rest 0 ∷ drop 1 rest
 rest_first rest h = drop_more rest 0 0 h
 

@@ -1,4 +1,4 @@
--- How many triples agree.
+-- Counting matches.
 use Rattle.std.proofs.Common.{◌≡◌, ℕ, ◌+◌, ◌-◌, ◌*◌, ◌<◌, ◌≤◌, ◌==◌, zero, suc, List, [], ◌∷◌, length, map, min, drop, slice_get, ap, sym, ◌∙◌, arith, Bool, true, false, Some, None, slice_index, eq-eqb, refl}
 use Rattle.std.proofs.Math.Nat.{mul-le-mul_left}
 use Rattle.std.specs.Int.{from_bool}
@@ -23,13 +23,13 @@ use Rattle.hdt_triples.proofs.AgreeLaws.{admitted, has_subject, other_subject, o
 use Rattle.hdt_triples.proofs.PredicateLaws.{Begins, predicate_entered, next_of}
 use Rattle.hdt_triples.proofs.ObjectLaws.{among_first, among_places, object_law, object_step}
 
--- one triple is taken or passed
+-- One triple is counted or not.
 pub count_on : (p : Pattern) (f : BitmapTriples) (j : ℕ) (b : Bool) (one : ℕ) → j < length f.zs → agrees p (triple_at f j) ≡ b → one ≡ from_bool b
     → length (matches p (triples_from f j)) ≡ one + length (matches p (triples_from f (j + 1)))
 count_on p f j true one h is more = omega (arith, more, ap length (matches_taken p f j h is))
 count_on p f j false one h is none = omega (arith, none, ap length (matches_passed p f j h is))
 
--- all of a run are taken
+-- All triples of a run are counted.
 run_by : (n : ℕ) (p : Pattern) (f : BitmapTriples) (at end : ℕ) → at + n ≡ end → end ≤ length f.zs → ((i : ℕ) → at ≤ i → i < end → agrees p (triple_at f i) ≡ true)
     → length (matches p (triples_from f at)) + at ≡ end + length (matches p (triples_from f end))
 run_by zero p f at end e within all =
@@ -46,7 +46,7 @@ run_to : (p : Pattern) (f : BitmapTriples) (at end : ℕ) → at ≤ end → end
     → length (matches p (triples_from f at)) + at ≡ end + length (matches p (triples_from f end))
 run_to p f at end ordered within all = run_by (end - at) p f at end (omega (arith, ordered)) within all
 
--- those that stand together
+-- If the matches are consecutive, their number is the length of the range.
 pub count_between : (f : BitmapTriples) (p : Pattern) (at end : ℕ) → AreBetween f p at end → length (matches p (triples_of f)) + at ≡ end
 count_between f p at end r =
     omega (
@@ -59,7 +59,7 @@ count_between f p at end r =
 pub run_between : (f : BitmapTriples) (p : Pattern) (s q at end : ℕ) → IsRunOfTriples f p s q at end → ((i : ℕ) → i < at → agrees p (triple_at f i) ≡ false) → AreBetween f p at end
 run_between f p s q at end r before = record { ordered = r.ordered; within = r.within; before = before; all = r.all; over = r.over }
 
--- where nothing is given they are all
+-- If nothing is given, all triples match.
 pub all_between : (f : BitmapTriples) (p : Pattern) → p.s ≡ None → p.p ≡ None → p.o ≡ None → AreBetween f p 0 (length f.zs)
 all_between f p no_s no_p no_o = record {
   ordered = omega arith;
@@ -95,7 +95,7 @@ subject_between f s low high last at end marked pairs next e = record {
 other_by : (p : Pattern) (s : ℕ) (t : Triple) → p.s ≡ Some s → agrees (of_subject s) t ≡ false → agrees p t ≡ false
 other_by p s t given other = other_subject p s t given (λ e. let own = own_subject s t e in absurd (cc))
 
--- none of the subject stands before its triples, and none behind them
+-- No triple of the subject is before or after its range.
 pub in_subject_first : (f : BitmapTriples) (p : Pattern) (s at end : ℕ) → p.s ≡ Some s → AreBetween f (of_subject s) at end → matches p (triples_from f at) ≡ matches p (triples_of f)
 in_subject_first f p s at end given r =
     sym (skipped p f at (omega (arith, r.ordered, r.within)) (λ i h. other_by p s (triple_at f i) given (r.before i h)))
@@ -104,7 +104,7 @@ pub in_subject_over : (f : BitmapTriples) (p : Pattern) (s at end i : ℕ) → p
 in_subject_over f p s at end i given r h within =
     none_left p f i within (λ j l w. other_by p s (triple_at f j) given (r.over j (omega (arith, h, l)) w))
 
--- a triple of the subject agrees as its object does
+-- A triple of the subject matches if its object does.
 object_tells : (p : Pattern) (f : BitmapTriples) (s o i : ℕ) → p.s ≡ Some s → p.p ≡ None → p.o ≡ Some o → subject_at f (pair_of f i) ≡ s → agrees p (triple_at f i) ≡ (o == slice_index f.zs i)
 object_tells p f s o i given_s free given_o own =
     tells p (triple_at f i) true true (o == slice_index f.zs i) (admitted p.s s (triple_at f i).0 given_s own) (ap (λ a. admits a (triple_at f i).1) free) (ap (λ a. admits a (triple_at f i).2) given_o)
@@ -115,7 +115,7 @@ in_subject_on f p s o at end i z one given_s free given_o r l h is more =
     count_on p f i (o == z) one (omega (arith, h, r.within))
     (object_tells p f s o i given_s free given_o (has_subject s (triple_at f i) (r.all i l h)) ∙ ap (λ n. o == n) (sym is)) more
 
--- a place of the object agrees where it is among those of the subject
+-- A triple of the object matches if it is in the range of the subject.
 pub both_count : (f : BitmapTriples) (p : Pattern) (s o from to low high : ℕ) (js : List ℕ) → p.s ≡ Some s → p.p ≡ None → p.o ≡ Some o → AreBetween f (of_subject s) from to → js ≡ places_of f.zs o
     → low ≤ length js → high ≤ length js → ((i : ℕ) → i < low → slice_index js i < from) → ((i : ℕ) → low ≤ i → i < length js → from ≤ slice_index js i)
     → ((i : ℕ) → i < high → slice_index js i < to) → ((i : ℕ) → high ≤ i → i < length js → to ≤ slice_index js i)
@@ -139,7 +139,7 @@ both_count f p s o from to low high js given_s free given_o between is low_in hi
 
 -- ---- a predicate
 
--- a pair of one triple
+-- A pair of one triple ends after it.
 pub one_triple : (f : BitmapTriples) (q last at : ℕ) → at < length f.zs → pair_of f at ≡ q → ((i : ℕ) → i < at → pair_of f i < q) → q ≡ last → slice_get f.mz at ≡ Some true → Edges f q last at (at + 1)
 one_triple f q last at h is earlier same marked = record {
   some = omega arith;
@@ -150,7 +150,7 @@ one_triple f q last at h is earlier same marked = record {
   ends = omega (arith, is, same, marks_marked f.mz at marked);
 }
 
--- the triples of its next pair
+-- The triples of the next pair of the predicate.
 pub predicate_on : (f : BitmapTriples) (p at q start end : ℕ) (rest qs : List ℕ) → IsMarked f → Between f p rest at → rest ≡ q ∷ qs → Edges f q q start end
     → length (matches (of_predicate p) (triples_from f at)) + start ≡ end + length (matches (of_predicate p) (triples_from f end))
 predicate_on f p at q start end rest qs marked s split e =
@@ -172,12 +172,12 @@ between_on f p at q start end rest qs s split e =
       earlier = λ i h. omega (arith, e.ends, e.to i h);
     }
 
--- each pair's own steps
+-- The steps of each pair.
 pub pairs_pay_on : (f : BitmapTriples) (k before steps after : ℕ) → after ≤ steps + (2 * digits (groups f.mz) + 18)
     → steps ≤ before + (2 * digits (groups f.mz) + 18) * k → after ≤ before + (2 * digits (groups f.mz) + 18) * (k + 1)
 pairs_pay_on f k before steps after few pays = omega (arith, few, pays)
 
--- no more pairs than there are, and no more than are asked for
+-- At most as many pairs are read as there are, and at most `most`.
 pub pairs_paid : (f : BitmapTriples) (k rest n most before after : ℕ) → k + rest ≡ n → k ≤ most
     → after ≤ before + (2 * digits (groups f.mz) + 18) * k → after ≤ before + (2 * digits (groups f.mz) + 18) * min most n
 pairs_paid f k rest n most before after split few pays =
@@ -186,13 +186,13 @@ pairs_paid f k rest n most before after split few pays =
 
 -- ---- an object
 
--- a triple of the object agrees as its predicate does
+-- A triple of the object matches if its predicate does.
 predicate_tells : (p : Pattern) (f : BitmapTriples) (q o i n : ℕ) → p.s ≡ None → p.p ≡ Some q → p.o ≡ Some o → IsPlaceOf f.zs o i → n ≡ slice_index f.ys (pair_of f i) → agrees p (triple_at f i) ≡ (q == n)
 predicate_tells p f q o i n free given_p given_o place is =
     tells p (triple_at f i) true (q == n) true (ap (λ a. admits a (triple_at f i).0) free) (ap (λ a. admits a (triple_at f i).1) given_p ∙ ap (λ m. q == m) (sym is)) (admitted p.o o (triple_at f i).2 given_o place.1)
     ∙ and-true (q == n)
 
--- the triple at the first of its places is taken or passed
+-- The first remaining triple of the object is counted or not.
 object_on : (p : Pattern) (f : BitmapTriples) (rest js : List ℕ) (at : ℕ) (b : Bool) (one : ℕ) → 0 < length rest → at ≡ slice_index rest 0 → js ≡ drop 1 rest → agrees p (triple_at f at) ≡ b → one ≡ from_bool b
     → length (matches p (map (triple_at f) rest)) ≡ one + length (matches p (map (triple_at f) js))
 object_on p f rest js at true one h first behind is more = omega (arith, more, ap length (object_step p f rest js at true h first behind is))
@@ -206,13 +206,13 @@ places_count (j ∷ js) f o all =
     let rest : All (IsPlaceOf f.zs o) js = All-rest (IsPlaceOf f.zs o) j js (j ∷ js) refl all in
     omega (arith, ap length (object_step (of_object o) f (j ∷ js) js j true (omega arith) refl refl own), places_count js f o rest)
 
--- the same by its predicate
+-- The same, by its predicate.
 pub in_object_on : (p : Pattern) (f : BitmapTriples) (q o : ℕ) (rest js : List ℕ) (at n one : ℕ) → p.s ≡ None → p.p ≡ Some q → p.o ≡ Some o → All (IsPlaceOf f.zs o) rest → 0 < length rest → at ≡ slice_index rest 0 → js ≡ drop 1 rest
     → n ≡ slice_index f.ys (pair_of f at) → one ≡ from_bool (q == n) → length (matches p (map (triple_at f) rest)) ≡ one + length (matches p (map (triple_at f) js))
 in_object_on p f q o rest js at n one free given_p given_o all some first behind is more =
     object_on p f rest js at (q == n) one some first behind (predicate_tells p f q o at n free given_p given_o (among_first f.zs o rest at some first all) is) more
 
--- as many as its list is long
+-- The matches of an object are as many as its list is long.
 pub object_count : (f : BitmapTriples) (o : ℕ) → length (places_of f.zs o) ≡ length (matches (of_object o) (triples_of f))
 object_count f o = sym (places_count (places_of f.zs o) f o (among_places f.zs o)) ∙ ap length (object_law (of_object o) f o refl)
 

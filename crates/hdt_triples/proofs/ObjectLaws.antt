@@ -1,4 +1,4 @@
--- The triples at an object's places.
+-- The triples of an object.
 use Rattle.std.proofs.Common.{◌≡◌, ℕ, ◌+◌, ◌<◌, ◌≤◌, ◌==◌, List, [], ◌∷◌, length, map, filter, drop, refl, ap, sym, ◌∙◌, arith, Bool, true, false, cond, Some, slice_index, subst, eq-eqb}
 use Rattle.std.proofs.lemmas.Bool.{eqb-true, eqb-false}
 use Rattle.std.proofs.lemmas.List.{nil_from_length}
@@ -21,7 +21,7 @@ among_places xs k =
     let within : All (λ i. i < length xs) (places_of xs k) = All-filter keep (λ i. i < length xs) (range_with_len 0 (length xs)) range in
     λ i d h. (within i d h, eqb-true _ _ (filter_passes keep (range_with_len 0 (length xs)) i d h))
 
--- what a test leaves out doesn't matter where none of it agrees
+-- A filter that drops only triples without a match doesn't change the matches.
 by_test : (p : Pattern) (t : ℕ → Triple) (keep : ℕ → Bool) (j : ℕ) (js : List ℕ) (b c : Bool) → (b ≡ false → c ≡ false) → filter (agrees p) (map t (filter keep js)) ≡ filter (agrees p) (map t js)
     → agrees p (t j) ≡ c → filter (agrees p) (map t (cond b (j ∷ filter keep js) (filter keep js))) ≡ cond c (t j ∷ filter (agrees p) (map t js)) (filter (agrees p) (map t js))
 by_test p t keep j js true c none rest is =
@@ -32,7 +32,7 @@ kept_matches : (p : Pattern) (t : ℕ → Triple) (keep : ℕ → Bool) (js : Li
 kept_matches p t keep [] none = refl
 kept_matches p t keep (j ∷ js) none = by_test p t keep j js (keep j) (agrees p (t j)) (none j) (kept_matches p t keep js none) refl
 
--- the matches are those at the object's places
+-- The matches are among the triples of the object.
 pub object_law : (p : Pattern) (f : BitmapTriples) (o : ℕ) → p.o ≡ Some o → matches p (map (triple_at f) (places_of f.zs o)) ≡ matches p (triples_of f)
 unfolding matches triples_of
 object_law p f o given = kept_matches p (triple_at f) (λ j. slice_index f.zs j == o) (range_with_len 0 (length f.zs)) (λ j no. other_object p o (triple_at f j) given (eqb-false (slice_index f.zs j) o no))

@@ -1,4 +1,4 @@
--- Counting in an ascending list of places.
+-- Counting in an ascending list of positions.
 use Rattle.std.proofs.Common.{◌≡◌, ◌⊎◌, inl, inr, ◌∙◌, ℕ, ◌+◌, ◌-◌, ◌<◌, ◌≤◌, ◌==◌, zero, suc, List, [], ◌∷◌, length, filter, map, slice_index, refl, ap, sym, subst, arith, Bool, true, false, cond, eq-eqb, eq-or-lt_of_le}
 use Rattle.std.proofs.lemmas.Bool.{cases_lt}
 use Rattle.std.specs.List.{range_with_len}
@@ -11,7 +11,7 @@ use Rattle.hdt_triples.specs.Lists.{places_of, IsPlaceOf}
 use Rattle.hdt_triples.specs.Patterns.{agrees, matches}
 use Rattle.hdt_triples.proofs.ObjectLaws.{among_places}
 
--- those that are kept stand together, from `low` on and before `high`
+-- The elements that are kept are those from `low` to `high`.
 pub record Holds (js : List ℕ) (keep : ℕ → Bool) (low high : ℕ) : Type 0 where
   pub ordered : low ≤ high
   pub within : high ≤ length js
@@ -28,12 +28,12 @@ behind j js keep low high l h low_is high_is holds = record {
   over = λ i a b. holds.over (suc i) (omega (arith, high_is, a)) (omega (arith, b));
 }
 
--- what is kept of the first and of the rest
+-- What is kept of the first element and of the rest.
 first_kept : (j : ℕ) (js : List ℕ) (keep : ℕ → Bool) (b : Bool) → keep j ≡ b → length (filter keep (j ∷ js)) ≡ cond b 1 0 + length (filter keep js)
 first_kept j js keep true is = omega (arith, ap (λ b. length (cond b (j ∷ filter keep js) (filter keep js))) is)
 first_kept j js keep false is = omega (arith, ap (λ b. length (cond b (j ∷ filter keep js) (filter keep js))) is)
 
--- so many are kept
+-- The number of elements that are kept.
 pub part_count : (js : List ℕ) (keep : ℕ → Bool) (low high : ℕ) → Holds js keep low high → length (filter keep js) + low ≡ high
 part_count [] keep low high h = omega (arith, h.ordered, h.within)
 part_count (j ∷ js) keep low zero h =
@@ -48,7 +48,7 @@ range_rises a n k h =
     let within : k + 1 < n = omega (arith, h, length-range_with_len a n) in
     omega (arith, get_or-range_with_len a n k 0 (omega (arith, within)), get_or-range_with_len a n (k + 1) 0 within)
 
--- the places of a key ascend
+-- The positions of a key ascend.
 places_ascend : (xs : List ℕ) (k i j : ℕ) → i < j → j < length (places_of xs k) → slice_index (places_of xs k) i < slice_index (places_of xs k) j
 places_ascend xs k i j less within =
     AllPairs-from_increasing (places_of xs k) (IsStrictlyIncreasing-filter (λ i. slice_index xs i == k) (range_with_len 0 (length xs)) (range_rises 0 (length xs))) i j 0 less within
@@ -56,12 +56,12 @@ places_ascend xs k i j less within =
 pub list_ascends : (xs js : List ℕ) (k : ℕ) → js ≡ places_of xs k → (i j : ℕ) → i < j → j < length js → slice_index js i < slice_index js j
 list_ascends xs js k is = subst (λ (l : List ℕ). (i j : ℕ) → i < j → j < length l → slice_index l i < slice_index l j) (sym is) (places_ascend xs k)
 
--- each of them is one
+-- Each of them is a position of the key.
 pub held_at : (xs js : List ℕ) (k i : ℕ) → js ≡ places_of xs k → i < length js → IsPlaceOf xs k (slice_index js i)
 held_at xs js k i is h =
     subst (λ (l : List ℕ). IsPlaceOf xs k (slice_index l i)) (sym is) (among_places xs k i 0 (omega (arith, h, ap length is)))
 
--- matches at places are the places whose triples match
+-- Matching the triples of a list of indices is filtering the indices.
 mapped_by : (p : Pattern) (f : BitmapTriples) (j : ℕ) (js : List ℕ) (b : Bool) → agrees p (triple_at f j) ≡ b
     → length (filter (agrees p) (map (triple_at f) js)) ≡ length (filter (λ j. agrees p (triple_at f j)) js)
     → length (filter (agrees p) (map (triple_at f) (j ∷ js))) ≡ length (filter (λ j. agrees p (triple_at f j)) (j ∷ js))
@@ -75,7 +75,7 @@ unfolding matches
 matches_mapped p f [] = refl
 matches_mapped p f (j ∷ js) = mapped_by p f j js (agrees p (triple_at f j)) refl (matches_mapped p f js)
 
--- ---- where a place stands in its list
+-- ---- membership of a position in its list
 
 abbrev StandsIn : List ℕ → ℕ → Type 0
 StandsIn js i = (m : ℕ) × (m < length js) × (slice_index js m ≡ i)
@@ -110,13 +110,13 @@ behind_by : (js : List ℕ) (from next i m : ℕ) → ((i j : ℕ) → i < j →
 behind_by js from next i m up below h is l (inl less) = absurd (omega (arith, below m less, is, l))
 behind_by js from next i m up below h is l (inr more) = omega (arith, is, at_or_behind js next m up h (eq-or-lt_of_le more))
 
--- where those before `next` stand before place `from`, no place from there on stands before that of `next`
+-- If the elements before `next` are below `from`, element `next` is the first position from `from` on.
 pub next_is_first : (xs js : List ℕ) (k from next i : ℕ) → js ≡ places_of xs k → ((i : ℕ) → i < next → slice_index js i < from) → from ≤ i → i < length xs → slice_index xs i ≡ k → slice_index js next ≤ i
 next_is_first xs js k from next i is below l h own =
     let m = place_stands xs js k i is (h, own) in
     behind_by js from next i m.0 (list_ascends xs js k is) below m.1 m.2 l (cases_lt m.0 next)
 
--- and where these are all there is none
+-- If all elements are below `from`, there is no position from `from` on.
 pub none_behind : (xs js : List ℕ) (k from next i : ℕ) → js ≡ places_of xs k → length js ≤ next → ((i : ℕ) → i < next → slice_index js i < from) → from ≤ i → i < length xs → slice_index xs i ≡ k → ⊥
 none_behind xs js k from next i is all below l h own =
     let m = place_stands xs js k i is (h, own) in

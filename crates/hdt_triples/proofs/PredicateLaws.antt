@@ -1,4 +1,4 @@
--- The triples of a predicate's pairs.
+-- The triples of a predicate, pair by pair.
 use Rattle.std.proofs.Common.{◌≡◌, ℕ, ◌+◌, ◌*◌, ◌<◌, ◌≤◌, suc, List, [], ◌∷◌, length, refl, ap, sym, ◌∙◌, arith, Bool, true, false, not, Some, slice_index, slice_get}
 use Rattle.hdt_seq.specs.Width.{digits}
 use Rattle.hdt_seq.specs.Directory.{groups}
@@ -17,19 +17,19 @@ use Rattle.hdt_triples.proofs.AgreeLaws.{other_predicate, own_predicate}
 use Rattle.std.proofs.Math.Nat.{lt_of_not-le}
 use Rattle.hdt_triples.proofs.ListsLaws.{IsFirstPlace, first_place, no_place, places_from_start}
 
--- where no pair is left no triple is
+-- If no pair remains, no triple does.
 pub predicate_over : (f : BitmapTriples) (p at : ℕ) (rest : List ℕ) → IsMarked f → Between f p rest at → rest ≡ [] → matches (of_predicate p) (triples_from f at) ≡ []
 predicate_over f p at rest marked s none =
     none_left (of_predicate p) f at s.within
     (λ i l w. other_predicate (of_predicate p) p (triple_at f i) refl (no_place f.ys p (pair_of f at) (sym none ∙ s.rest_is) (pair_of f i) (marks_mono f.mz at i l) (pair_within f marked i w)))
 
--- a place where pair q begins
+-- Index `at` has the first triple of pair q.
 pub record Begins (f : BitmapTriples) (q at : ℕ) : Type 0 where
   pub within : at < length f.zs
   pub is : pair_of f at ≡ q
   pub earlier : (i : ℕ) → i < at → pair_of f i < q
 
--- the next pair of the predicate
+-- The next pair of the predicate.
 pub next_of : (f : BitmapTriples) (p at q : ℕ) (rest qs : List ℕ) → Between f p rest at → rest ≡ q ∷ qs → IsFirstPlace f.ys p (pair_of f at) q qs
 next_of f p at q rest qs s split = first_place f.ys p (pair_of f at) q qs (sym split ∙ s.rest_is)
 
@@ -51,7 +51,7 @@ inside_entered f p q at start subject rest qs s split b subject_is =
       subject_is = subject_is ∙ ap (subject_at f) (sym b.is);
     }
 
--- the next triple is of the same pair
+-- After a 0-bit the next triple is of the same pair.
 pub inside_goes_on : (f : BitmapTriples) (p at subject : ℕ) (rest : List ℕ) → IsMarked f → IsInRun f p rest at subject → slice_get f.mz at ≡ Some false → IsInRun f p rest (at + 1) subject
 inside_goes_on f p at subject rest marked s mark =
     let e : pair_of f (at + 1) ≡ pair_of f at = marks_unmarked f.mz at mark in
@@ -64,7 +64,7 @@ inside_goes_on f p at subject rest marked s mark =
       subject_is = s.subject_is ∙ ap (subject_at f) (sym e);
     }
 
--- the pair ends
+-- After a 1-bit the pair has ended.
 pub inside_ends : (f : BitmapTriples) (p at subject : ℕ) (rest : List ℕ) → IsInRun f p rest at subject → slice_get f.mz at ≡ Some true → Between f p rest (at + 1)
 inside_ends f p at subject rest s mark =
     let e : pair_of f (at + 1) ≡ pair_of f at + 1 = marks_marked f.mz at mark in
@@ -99,7 +99,7 @@ predicate_pays_on f p at start subject steps after rest jump s few pays =
     ap length (jump ∙ predicate_taken f p start subject rest s) in
     omega (arith, few, pays, ap (λ n. (digits (groups f.my) + digits (groups f.mz) + 20) * n) count)
 
--- the spot after a begun pair's triple
+-- The position after a triple of the current pair.
 pub left_spot : (f : BitmapTriples) (p : ℕ) (s : Spot) (last : Bool) → IsMarked f → s.inside ≡ true → slice_get f.mz s.at ≡ Some last → InPairs f p s
     → InPairs f p (record { rest = s.rest; at = s.at + 1; subject = s.subject; inside = not last })
 left_spot f p s true marked inside is st = record {

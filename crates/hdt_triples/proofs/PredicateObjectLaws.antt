@@ -1,4 +1,4 @@
--- An object looked up in each pair of a predicate.
+-- The search for an object in each pair of a predicate.
 use Rattle.std.proofs.Common.{◌≡◌, ◌≢◌, ◌⊎◌, inl, inr, ℕ, ◌+◌, ◌*◌, ◌<◌, ◌≤◌, List, [], ◌∷◌, length, slice_index, ap, sym, ◌∙◌, arith, true, false, Some, None}
 use Rattle.std.proofs.lemmas.Bool.{cases_lt}
 use Rattle.hdt_seq.specs.Directory.{groups}
@@ -26,7 +26,7 @@ use Rattle.hdt_triples.proofs.WalkLaws.{jumped, matches_taken, none_left, not_le
 pair_here : (f : BitmapTriples) (q start end i : ℕ) → Edges f q q start end → start ≤ i → i < end → pair_of f i ≡ q
 pair_here f q start end i e l h = omega (arith, e.begins, marks_mono f.mz start i l, e.to i h)
 
--- its objects ascend
+-- The objects of a pair ascend.
 pub edges_ascend : (f : BitmapTriples) (q start end : ℕ) → Ascend f → Edges f q q start end → (i j : ℕ) → start ≤ i → i < j → j < end → slice_index f.zs i < slice_index f.zs j
 edges_ascend f q start end up e i j l m h =
     up.objects i j m (omega (arith, h, e.within)) (pair_here f q start end i e l (omega (arith, m, h)) ∙ sym (pair_here f q start end j e (omega (arith, l, m)) h))
@@ -69,7 +69,7 @@ at_before : (f : BitmapTriples) (r o at q here end : ℕ) (rest qs : List ℕ) �
 at_before f r o at q here end rest qs between split s =
     not_less at s.start (λ l. omega (arith, between.earlier s.start l, s.edges.begins, (next_of f r at q rest qs between split).from))
 
--- where it has the object, that triple is the next match
+-- If the pair has the object, that triple is the next match.
 pub next_found : (p : Pattern) (f : BitmapTriples) (r o at q here end : ℕ) (rest qs : List ℕ) → p.s ≡ None → p.p ≡ Some r → p.o ≡ Some o → Between f r rest at → rest ≡ q ∷ qs → IsObjectIn f q o here end → here < end
     → matches p (triples_from f at) ≡ (subject_at f q, r, o) ∷ matches p (triples_from f end)
 next_found p f r o at q here end rest qs free given_p given_o between split s h =
@@ -87,7 +87,7 @@ next_found p f r o at q here end rest qs free given_p given_o between split s h 
     ∙ ap (λ ts. (subject_at f q, r, o) ∷ ts) (jumped p f (here + 1) end (omega (arith, h)) s.edges.within
     (λ i l w. passed_by p f r o at q end here i rest qs given_p given_o between split s (omega (arith, l, start, s.from)) w (λ e. omega (arith, e, l)) (cases_lt i s.start)))
 
--- and where it doesn't, none of it matches
+-- If it doesn't, no triple of the pair matches.
 pub next_missed : (p : Pattern) (f : BitmapTriples) (r o at q here end : ℕ) (rest qs : List ℕ) → p.p ≡ Some r → p.o ≡ Some o → Between f r rest at → rest ≡ q ∷ qs → IsObjectIn f q o here end → end ≤ here
     → matches p (triples_from f at) ≡ matches p (triples_from f end)
 next_missed p f r o at q here end rest qs given_p given_o between split s h =
@@ -95,7 +95,7 @@ next_missed p f r o at q here end rest qs given_p given_o between split s h =
     jumped p f at end (omega (arith, start, s.from, s.to)) s.edges.within
     (λ i l w. passed_by p f r o at q end here i rest qs given_p given_o between split s l w (λ e. omega (arith, e, w, h)) (cases_lt i s.start))
 
--- where no pair is left no match is
+-- If no pair remains, no match does.
 pub over : (p : Pattern) (f : BitmapTriples) (r at : ℕ) (rest : List ℕ) → IsMarked f → p.p ≡ Some r → Between f r rest at → rest ≡ [] → matches p (triples_from f at) ≡ []
 over p f r at rest marked given between none =
     none_left p f at between.within
@@ -107,14 +107,14 @@ pub look_is : (f : BitmapTriples) → 2 * digits (groups f.mz) + 27 + digits (le
 unfolding pair_look jump
 look_is f = omega arith
 
--- one pair is paid for
+-- The steps of one pair are within the budget.
 pub look_paid : (f : BitmapTriples) (q steps after most : ℕ) (rest qs : List ℕ) → rest ≡ q ∷ qs → after ≤ steps + (2 * digits (groups f.mz) + 27 + digits (length f.zs))
     → steps + pair_look f * length rest ≤ most → after + pair_look f * length qs ≤ most
 look_paid f q steps after most rest qs split few pays =
     let count : length rest ≡ length qs + 1 = omega (arith, ap length split) in
     omega (arith, few, look_is f, pays, ap (λ k. pair_look f * k) count)
 
--- the limit by the shorter list is no more than the other
+-- The bound for the shorter list is at most the other one.
 pub shorter : (m : Matches) → short_limit_of m ≤ limit_of m
 unfolding short_limit_of limit_of
 shorter Empty = omega arith

@@ -21,7 +21,7 @@ has_none : (f : BitmapTriples) (s q : ℕ) → IsMarked f → (s ≡ 0) ⊎ (mar
 has_none f s q marked (inl zero_is) h e = absurd (omega (arith, zero_is, e))
 has_none f s q marked (inr over) h e = absurd (omega (arith, over, e, marks_before_last f.my q marked.last_pair (omega (arith, h, marked.pairs))))
 
--- a subject that never pair has
+-- A subject without pairs.
 pub no_pairs : (f : BitmapTriples) (s : ℕ) → IsMarked f → (s ≡ 0) ⊎ (marks_before f.my (length f.my) < s) → PairsOf f s 0 0
 no_pairs f s marked out = record {
   ordered = omega arith;
@@ -31,7 +31,7 @@ no_pairs f s marked out = record {
   to = λ q h e. has_none f s q marked out h e;
 }
 
--- from behind 1-bit s - 1 to behind 1-bit s
+-- The pairs of subject s are those after 1-bit s - 1, up to 1-bit s.
 pub pairs_between : (f : BitmapTriples) (s low high : ℕ) → IsMarked f → 0 < s → low ≤ high → high ≤ length f.my → marks_before f.my low + 1 ≡ s → marks_before f.my high ≡ s
     → ((q : ℕ) → q < low → marks_before f.my q + 1 < s) → ((q : ℕ) → q < high → marks_before f.my q < s) → PairsOf f s low high
 pairs_between f s low high marked some ordered within at_low at_high below below_high = record {
@@ -56,11 +56,11 @@ only_found f s p low high q r up pairs l h below above is =
       )),
     )
 
--- predicates of a subject's pairs ascend
+-- The predicates of a subject's pairs ascend.
 pub pairs_ascend : (f : BitmapTriples) (s low high : ℕ) → Ascend f → PairsOf f s low high → (i j : ℕ) → low ≤ i → i < j → j < high → slice_index f.ys i < slice_index f.ys j
 pairs_ascend f s low high up pairs i j l m h = up.predicates i j m (omega (arith, h, pairs.within)) (pairs.inside i l (omega (arith, m, h)) ∙ sym (pairs.inside j (omega (arith, l, m)) h))
 
--- no triple agrees where there is never such pair
+-- If there is no such pair, no triple matches.
 other_pair : (f : BitmapTriples) (pattern : Pattern) (s p i : ℕ) → pattern.s ≡ Some s → pattern.p ≡ Some p → (subject_at f (pair_of f i) ≡ s → slice_index f.ys (pair_of f i) ≡ p → ⊥) → agrees pattern (triple_at f i) ≡ false
 other_pair f pattern s p i given_s given_p none =
     elim (cases_eq (subject_at f (pair_of f i)) s) [
@@ -68,7 +68,7 @@ other_pair f pattern s p i given_s given_p none =
       | inr ne ↦ other_subject pattern s (triple_at f i) given_s ne
     ]
 
--- nothing at all
+-- Without a match the range is empty.
 empty_run : (f : BitmapTriples) (pattern : Pattern) (s p : ℕ) → ((i : ℕ) → i < length f.zs → agrees pattern (triple_at f i) ≡ false) → IsRunOfTriples f pattern s p 0 0
 empty_run f pattern s p none = record {
   ordered = omega arith;
@@ -82,7 +82,7 @@ empty_run f pattern s p none = record {
 pub no_run : (f : BitmapTriples) (pattern : Pattern) (s p : ℕ) → IsMarked f → pattern.s ≡ Some s → pattern.p ≡ Some p → ((q : ℕ) → IsPairOf f s p q → ⊥) → IsRunOfTriples f pattern s p 0 0
 no_run f pattern s p marked given_s given_p none = empty_run f pattern s p (λ i h. other_pair f pattern s p i given_s given_p (λ e w. none (pair_of f i) (pair_within f marked i h, e, w)))
 
--- what is known of the one pair and its places
+-- The pair of the subject and the predicate, and the range of its triples.
 pub record IsPairRun (f : BitmapTriples) (s p q at end : ℕ) : Type 0 where
   pub pair : IsPairOf f s p q
   pub only : (r : ℕ) → IsPairOf f s p r → q ≡ r
@@ -106,7 +106,7 @@ run_ordered f s p q at end r = not_less at end (λ l. omega (arith, r.earlier en
 agree_parts : (pattern : Pattern) (s p : ℕ) (t : Triple) → pattern.s ≡ Some s → pattern.p ≡ Some p → t.0 ≡ s → t.1 ≡ p → admits pattern.o t.2 ≡ true → agrees pattern t ≡ true
 agree_parts pattern s p t given_s given_p first second third = tells pattern t true true true (admitted pattern.s s t.0 given_s first) (admitted pattern.p p t.1 given_p second) third
 
--- all triples of the pair
+-- If no object is given, all triples of the pair match.
 pub whole_run : (f : BitmapTriples) (pattern : Pattern) (s p q at end : ℕ) → IsMarked f → pattern.s ≡ Some s → pattern.p ≡ Some p → pattern.o ≡ None → IsPairRun f s p q at end → IsRunOfTriples f pattern s p at end
 whole_run f pattern s p q at end marked given_s given_p free r =
     let subject : (i : ℕ) → at ≤ i → i < end → subject_at f (pair_of f i) ≡ s = λ i l h. ap (subject_at f) (pair_here f s p q at end i r l h) ∙ r.pair.1 in
@@ -123,7 +123,7 @@ whole_run f pattern s p q at end marked given_s given_p free r =
 pub before_run : (f : BitmapTriples) (pattern : Pattern) (s p q at end i : ℕ) → IsMarked f → pattern.s ≡ Some s → pattern.p ≡ Some p → IsPairRun f s p q at end → i < at → agrees pattern (triple_at f i) ≡ false
 before_run f pattern s p q at end i marked given_s given_p r h = outside f pattern s p q at end i marked given_s given_p r (omega (arith, h, r.low)) (λ e. omega (arith, e, r.earlier i h))
 
--- objects of the pair ascend
+-- The objects of the pair ascend.
 pub objects_ascend : (f : BitmapTriples) (s p q at end : ℕ) → Ascend f → IsPairRun f s p q at end → (i j : ℕ) → at ≤ i → i < j → j < end → slice_index f.zs i < slice_index f.zs j
 objects_ascend f s p q at end up r i j l m h = up.objects i j m (omega (arith, h, r.within)) (pair_here f s p q at end i r l (omega (arith, m, h)) ∙ sym (pair_here f s p q at end j r (omega (arith, l, m)) h))
 
@@ -133,7 +133,7 @@ apart_by f pattern s p o q at end i marked given_s given_p given_o r h ne (inl l
 apart_by f pattern s p o q at end i marked given_s given_p given_o r h ne (inr l) (inl w) = other_object pattern o (triple_at f i) given_o (ne l w)
 apart_by f pattern s p o q at end i marked given_s given_p given_o r h ne (inr l) (inr w) = outside f pattern s p q at end i marked given_s given_p r h (λ e. omega (arith, e, r.above i w))
 
--- the one triple, where it stands at place j
+-- If triple j has the object, it is the only match.
 pub one_before : (f : BitmapTriples) (pattern : Pattern) (s p o q at end j i : ℕ) → IsMarked f → pattern.s ≡ Some s → pattern.p ≡ Some p → pattern.o ≡ Some o → IsPairRun f s p q at end → j < end
     → ((i : ℕ) → at ≤ i → i < j → slice_index f.zs i < o) → i < j → agrees pattern (triple_at f i) ≡ false
 one_before f pattern s p o q at end j i marked given_s given_p given_o r h below l =
@@ -157,12 +157,12 @@ one_run f pattern s p o q at end j marked up given_s given_p given_o r l h is =
           (λ b c e. omega (arith, e, is, objects_ascend f s p q at end up r j i l (omega (arith, a)) c)) (cases_lt i at) (cases_lt i end);
     }
 
--- and where it doesn't stand
+-- If no triple of the pair has the object, there is no match.
 pub none_run : (f : BitmapTriples) (pattern : Pattern) (s p o q at end : ℕ) → IsMarked f → pattern.s ≡ Some s → pattern.p ≡ Some p → pattern.o ≡ Some o → IsPairRun f s p q at end
     → ((i : ℕ) → at ≤ i → i < end → slice_index f.zs i ≢ o) → IsRunOfTriples f pattern s p 0 0
 none_run f pattern s p o q at end marked given_s given_p given_o r none = empty_run f pattern s p (λ i h. apart_by f pattern s p o q at end i marked given_s given_p given_o r h (none i) (cases_lt i at) (cases_lt i end))
 
--- the iterator
+-- ---- the iterator
 pub run_over : (f : BitmapTriples) (pattern : Pattern) (s p at end : ℕ) → IsRunOfTriples f pattern s p at end → end ≤ at → matches pattern (triples_from f at) ≡ []
 run_over f pattern s p at end r h =
     none_left pattern f at (omega (arith, r.ordered, r.within)) (λ i l w. r.over i (omega (arith, h, l)) w)
@@ -209,11 +209,11 @@ pair_run f s p q at end pair only low begins earlier within below above = record
   above = above;
 }
 
--- fewer 1-bits stand before an earlier place
+-- An index with fewer 1-bits before it is lower.
 pub ordered : (bits : List Bool) (low high s : ℕ) → marks_before bits low + 1 ≡ s → marks_before bits high ≡ s → low ≤ high
 ordered bits low high s at_low at_high = not_less low high (λ l. omega (arith, at_low, at_high, marks_mono bits high low (omega (arith, l))))
 
--- no entry of the part is o
+-- No number of the range is o.
 pub not_there : (f : BitmapTriples) (at end j o : ℕ) → ((i : ℕ) → at ≤ i → i < j → slice_index f.zs i < o) → ((i : ℕ) → j ≤ i → i < end → o ≤ slice_index f.zs i)
     → ((i k : ℕ) → at ≤ i → i < k → k < end → slice_index f.zs i < slice_index f.zs k) → at ≤ j → (j < end → slice_index f.zs j ≢ o) → (i : ℕ) → at ≤ i → i < end → slice_index f.zs i ≢ o
 not_there f at end j o below above up l ne i a w = λ same.

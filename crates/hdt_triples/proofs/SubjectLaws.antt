@@ -1,4 +1,4 @@
--- The triples of a subject stand together.
+-- The triples of a subject are consecutive.
 use Rattle.std.proofs.Common.{◌≡◌, ◌≢◌, ℕ, ◌+◌, ◌<◌, ◌≤◌, [], length, refl, ap, arith, Some}
 use Rattle.hdt_seq.specs.Width.{digits}
 use Rattle.hdt_seq.specs.Directory.{groups}
@@ -18,7 +18,7 @@ pub matches_skipped : (p : Pattern) (s : ℕ) (f : BitmapTriples) (j : ℕ) → 
     → matches p (triples_of f) ≡ matches p (triples_from f j)
 matches_skipped p s f j given h before = skipped p f j h (λ i l. other_subject p s (triple_at f i) given (before i l))
 
--- where a later subject stands none of this one is left
+-- From a later subject on there are no triples of this one.
 pub matches_over : (p : Pattern) (s : ℕ) (f : BitmapTriples) (at : Place) → p.s ≡ Some s → StandsAt f at → s < at.subject → matches p (triples_from f at.at) ≡ []
 matches_over p s f at given st later =
     none_left p f at.at st.within
@@ -26,19 +26,19 @@ matches_over p s f at given st later =
     (let e : subject_at f (pair_of f at.at) ≤ subject_at f (pair_of f i) = omega (arith, marks_mono f.my (pair_of f at.at) (pair_of f i) (marks_mono f.mz at.at i l)) in
     λ same. omega (arith, e, same, later, st.subject_is, ap (subject_at f) st.pair_is)))
 
--- the call's own steps can be paid
+-- The steps of the call are within the budget.
 pub pays_first : (s : ℕ) (f : BitmapTriples) (j steps : ℕ) → j ≤ length f.zs → ((i : ℕ) → i < j → subject_at f (pair_of f i) ≢ s) → steps ≤ digits (groups f.my) + digits (groups f.mz) + 17
     → Pays (subject_price f s) f steps (triples_from f j)
 unfolding limit subject_price jump
 pays_first s f j steps h before few = omega (arith, few, ap length (matches_skipped (of_subject s) s f j refl h before))
 
--- and the four steps of one triple
+-- So are the four steps of each triple.
 pub pays_on : (s : ℕ) (f : BitmapTriples) (j steps after : ℕ) → j < length f.zs → subject_at f (pair_of f j) ≡ s → after ≤ steps + 4 → Pays (subject_price f s) f steps (triples_from f j)
     → Pays (subject_price f s) f after (triples_from f (j + 1))
 unfolding limit subject_price jump
 pays_on s f j steps after h own few pays = omega (arith, few, pays, ap length (matches_taken (of_subject s) f j h (own_subject s (triple_at f j) own)))
 
--- where the subject's first pair q begins at place j, what stands before is of earlier subjects
+-- Pair q is the last one before those of s, so no triple up to one of pair q has subject s.
 pub before_start : (f : BitmapTriples) (s q j : ℕ) → marks_before f.my q + 2 ≡ s → marks_before f.mz j ≡ q → (i : ℕ) → i ≤ j → subject_at f (pair_of f i) ≢ s
 before_start f s q j y z i h same =
     omega (arith, y, same, marks_mono f.my (pair_of f i) q (let e : pair_of f i ≤ q = omega (arith, z, marks_mono f.mz i j h) in e))

@@ -1,4 +1,4 @@
--- The triples of a subject that have an object.
+-- The triples of a subject with an object.
 use Rattle.std.proofs.Common.{◌≡◌, ◌≢◌, ◌⊎◌, inl, inr, ℕ, ◌+◌, ◌-◌, ◌*◌, ◌<◌, ◌≤◌, zero, suc, List, [], ◌∷◌, length, slice_index, ap, sym, ◌∙◌, arith, Bool, true, false, Some, None, refl, subst}
 use Rattle.std.proofs.lemmas.Bool.{cases_eq}
 use Rattle.hdt_seq.specs.Directory.{groups}
@@ -17,7 +17,7 @@ use Rattle.hdt_triples.proofs.MatchingLaws.{list_digits}
 use Rattle.hdt_triples.proofs.SubjectLaws.{matches_skipped, pays_on}
 use Rattle.hdt_triples.proofs.WalkLaws.{jumped, matches_passed, matches_taken, none_left, parts_are}
 
--- a triple of the subject with the object
+-- A triple with the subject and the object matches.
 pub both_agree : (p : Pattern) (f : BitmapTriples) (s o i : ℕ) → p.s ≡ Some s → p.p ≡ None → p.o ≡ Some o → subject_at f (pair_of f i) ≡ s → slice_index f.zs i ≡ o → agrees p (triple_at f i) ≡ true
 both_agree p f s o i given_s free given_o own object =
     tells p (triple_at f i) true true true (admitted p.s s (triple_at f i).0 given_s own) (ap (λ a. admits a (triple_at f i).1) free) (admitted p.o o (triple_at f i).2 given_o object)
@@ -28,7 +28,7 @@ both_taken p f s o q i given_s free given_o h pair own object =
     let is : triple_at f i ≡ (s, slice_index f.ys q, o) = parts_are f i s (slice_index f.ys q) own (ap (slice_index f.ys) (sym pair)) ∙ ap (λ z. let t : Triple = (s, slice_index f.ys q, z) in t) object in
     matches_taken p f i h (both_agree p f s o i given_s free given_o own object) ∙ ap (λ t. t ∷ matches p (triples_from f (i + 1))) is
 
--- the triple where a walk stands
+-- A match found by the scan,
 pub walk_taken : (p : Pattern) (f : BitmapTriples) (s o : ℕ) (at : Place) → p.s ≡ Some s → p.p ≡ None → p.o ≡ Some o → StandsAt f at → at.at < length f.zs → at.subject ≡ s → slice_index f.zs at.at ≡ o
     → matches p (triples_from f at.at) ≡ (s, slice_index f.ys at.pair, o) ∷ matches p (triples_from f (at.at + 1))
 walk_taken p f s o at given_s free given_o st h own object =
@@ -37,7 +37,7 @@ walk_taken p f s o at given_s free given_o st h own object =
 pub walk_missed : (p : Pattern) (f : BitmapTriples) (o i : ℕ) → p.o ≡ Some o → i < length f.zs → slice_index f.zs i ≢ o → matches p (triples_from f i) ≡ matches p (triples_from f (i + 1))
 walk_missed p f o i given h ne = matches_passed p f i h (other_object p o (triple_at f i) given ne)
 
--- and the one that was looked up
+-- and one found in the object's list.
 pub next_taken : (p : Pattern) (f : BitmapTriples) (s o from : ℕ) (at : Place) → p.s ≡ Some s → p.p ≡ None → p.o ≡ Some o → IsNextOf f s o from at
     → matches p (triples_from f from) ≡ (s, slice_index f.ys at.pair, o) ∷ matches p (triples_from f (at.at + 1))
 next_taken p f s o from at given_s free given_o n =
@@ -54,7 +54,7 @@ pub no_next : (p : Pattern) (f : BitmapTriples) (s o from : ℕ) → p.s ≡ Som
 no_next p f s o from given_s given_o h none =
     none_left p f from h (λ i l w. none_by p f s o i given_s given_o (none i l w) (cases_eq (slice_index f.zs i) o))
 
--- behind a place of another subject that isn't before it the subject doesn't stand
+-- After a triple of a later subject there is no triple of this one.
 pub later_subject : (f : BitmapTriples) (s from at pair found i : ℕ) → s ≤ subject_at f (pair_of f from) → from ≤ at → pair ≡ pair_of f at → found ≡ subject_at f pair → found ≢ s → at ≤ i → subject_at f (pair_of f i) ≢ s
 later_subject f s from at pair found i reached l is found_is ne h same =
     let here : found ≡ subject_at f (pair_of f at) = found_is ∙ ap (subject_at f) is in
@@ -62,7 +62,7 @@ later_subject f s from at pair found i reached l is found_is ne h same =
     let last : subject_at f (pair_of f at) ≤ subject_at f (pair_of f i) = omega (arith, marks_mono f.my (pair_of f at) (pair_of f i) (marks_mono f.mz at i h)) in
     ne (omega (arith, here, first, last, reached, same))
 
--- a later place has no more before it
+-- From a later index on there are at most as many matches.
 later_by : (n : ℕ) (p : Pattern) (f : BitmapTriples) (at k : ℕ) → at + n ≡ k → k ≤ length f.zs → length (matches p (triples_from f k)) ≤ length (matches p (triples_from f at))
 later_by zero p f at k e h = let same : at ≡ k = omega (arith, e) in omega (arith, ap (λ j. length (matches p (triples_from f j))) same)
 later_by (suc n) p f at k e h =
@@ -75,17 +75,18 @@ later_by (suc n) p f at k e h =
 pub fewer_left : (p : Pattern) (f : BitmapTriples) (at k : ℕ) → at ≤ k → k ≤ length f.zs → length (matches p (triples_from f k)) ≤ length (matches p (triples_from f at))
 fewer_left p f at k l h = later_by (k - at) p f at k (omega (arith, l)) h
 
--- what was spared pays
+-- The saved steps pay for a search in the list.
 pub spared : (s : ℕ) (f : BitmapTriples) (at k steps after : ℕ) → at ≤ k → k ≤ length f.zs → after ≤ steps → Pays (subject_price f s) f steps (triples_from f at) → Pays (subject_price f s) f after (triples_from f k)
 unfolding limit subject_price
 spared s f at k steps after l h few pays = omega (arith, few, pays, fewer_left (of_subject s) f at k l h)
 
--- ---- the steps by matches: `price` is that of a look-up, `most` the limit, `left` how many matches there are
+-- ---- the bound by matches: `price` is the cost of a search in the list, `most` the bound, `left` the remaining
+-- matches
 
 abbrev pub Goes : ℕ → ℕ → ℕ → ℕ → ℕ → Type 0
 Goes price most steps left spare = steps + 4 * price * (1 + left) ≤ most + 3 * spare
 
--- at the start
+-- At the start.
 pub first_price : (f : BitmapTriples) (o n : ℕ) (js : List ℕ) → js ≡ places_of f.zs o → n ≡ digits (length js) → n + 20 ≡ skip_price f o
 unfolding skip_price
 first_price f o n js is digits_is = omega (arith, digits_is, list_digits f o js is)
@@ -110,7 +111,7 @@ pub some_price : (f : BitmapTriples) (o : ℕ) → 20 ≤ skip_price f o
 unfolding skip_price
 some_price f o = omega arith
 
--- and on
+-- In each iteration.
 pub pays_after : (s : ℕ) (f : BitmapTriples) (j next steps after : ℕ) → j < length f.zs → subject_at f (pair_of f j) ≡ s → after ≤ steps + 4 → next ≡ j + 1 → Pays (subject_price f s) f steps (triples_from f j)
     → Pays (subject_price f s) f after (triples_from f next)
 pays_after s f j next steps after h own few is pays = subst (λ k. Pays (subject_price f s) f after (triples_from f k)) (sym is) (pays_on s f j steps after h own few pays)

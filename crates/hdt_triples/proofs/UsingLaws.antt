@@ -1,4 +1,4 @@
--- The numbers that triples use, by the sequences that hold them.
+-- Which IDs occur in triples, by the sequences that encode them.
 use Rattle.std.proofs.Common.{◌≡◌, ◌∙◌, ℕ, zero, suc, ◌+◌, ◌-◌, ◌<◌, ◌≤◌, Bool, true, not, eqb, leb, List, [], ◌∷◌, length, slice_index, ap, sym, subst, arith}
 use Rattle.std.proofs.lemmas.Bool.{leb-true, le-leb, ne_eqb}
 use Rattle.std.proofs.lemmas.Bool.Decides.{same_from_decides}
@@ -16,7 +16,7 @@ use Rattle.hdt_triples.specs.Laws.Uses.{uses_decides}
 use Rattle.hdt_triples.proofs.ListsLaws.{first_place, no_place, places_from_start}
 use Rattle.hdt_triples.proofs.SubjectLaws.{subject_above}
 
--- a place has so many 1-bits before it, of each number of 1-bits below all of them
+-- For each number of 1-bits below the total, some index has that many before it.
 some_at : (bits : List Bool) (k : ℕ) → k < marks_before bits (length bits) → (j : ℕ) × (j < length bits) × (marks_before bits j ≡ k)
 some_at bits zero h = (zero, omega (arith, h, marks_le bits (length bits)), none_before bits)
 some_at bits (suc k) h =
@@ -24,7 +24,7 @@ some_at bits (suc k) h =
     let through = marks_through bits (suc k) place.0 place.2 in
     (place.0 + 1, sooner bits (place.0 + 1) (length bits) (omega (arith, through, h)), through)
 
--- a pair has a triple
+-- Each pair has a triple.
 pub pair_used : (f : BitmapTriples) (q : ℕ) → IsMarked f → q < length f.ys → (j : ℕ) × (j < length f.zs) × (pair_of f j ≡ q)
 pair_used f q marked lt =
     let some = some_at f.mz q (omega (arith, lt, marked.each_pair)) in
@@ -44,7 +44,7 @@ used_by f role n h =
     let lt : h.0 < length f.zs = omega (arith, h.1, length-triples f, length-map (triples_of f) (part role)) in
     (h.0, lt, sym (ap (part role) (triple_is f h.0 lt)) ∙ (sym (get_or-map (part role) (triples_of f) h.0 (0, 0, 0) n (omega (arith, lt, length-triples f))) ∙ h.2))
 
--- ---- subjects: those up to how many there are
+-- ---- subjects: an ID occurs if it is from 1 to the number of subjects
 
 subject_used : (f : BitmapTriples) (s : ℕ) → IsMarked f → 1 ≤ s → s ≤ marks_before f.my (length f.my) → Uses (triples_of f) Subject s
 subject_used f s marked from to =
@@ -65,7 +65,7 @@ no_subject f s none =
     (λ h. absurd (omega (arith, none, leb-true 1 s h)), λ h. let j = used_by f Subject s h in absurd (omega (arith, none, j.2)))
     (uses_decides (triples_of f) Subject s)
 
--- ---- predicates and objects: those whose lists aren't empty
+-- ---- predicates and objects: an ID occurs if its list is not empty
 
 some_of : (xs : List ℕ) (k : ℕ) (qs : List ℕ) → qs ≡ places_of xs k → not (eqb (length qs) 0) ≡ true → (q : ℕ) × (q < length xs) × (slice_index xs q ≡ k)
 some_of xs k [] is some = absurd (cc)

@@ -1,4 +1,4 @@
--- What is left from a place on follows from its triple.
+-- The matches from an index on, by whether its triple matches.
 use Rattle.std.proofs.Common.{◌≡◌, ℕ, ◌+◌, ◌-◌, ◌^◌, ◌<◌, ◌≤◌, [], ◌∷◌, zero, suc, length, slice_index, map, ap, sym, ◌∙◌, arith, true, false, cond}
 use Rattle.std.proofs.Math.Nat.{lt_of_not-le}
 use Rattle.std.specs.List.{filter, range_with_len}
@@ -24,7 +24,7 @@ range_none a b h = let e : b - a ≡ 0 = omega arith in ap (range_with_len a) e
 pub parts_are : (f : BitmapTriples) (j s p : ℕ) → subject_at f (pair_of f j) ≡ s → slice_index f.ys (pair_of f j) ≡ p → triple_at f j ≡ (s, p, slice_index f.zs j)
 parts_are f j s p e h = ap (λ x. let t : Triple = (x, slice_index f.ys (pair_of f j), slice_index f.zs j) in t) e ∙ ap (λ y. let t : Triple = (s, y, slice_index f.zs j) in t) h
 
--- from the first place on there are all
+-- The triples from index 0 on are all triples.
 pub from_start : (f : BitmapTriples) → triples_from f 0 ≡ triples_of f
 unfolding triples_from triples_of
 from_start f = let e : length f.zs - 0 ≡ length f.zs = omega arith in ap (λ (n : ℕ). map (triple_at f) (range_with_len 0 n)) e
@@ -62,25 +62,25 @@ jumped_by (suc n) p f j k e h none =
     matches_passed p f j (omega (arith, e, h)) (none j (omega arith) (omega (arith, e)))
     ∙ jumped_by n p f (j + 1) k (omega (arith, e)) h (λ i l w. none i (omega (arith, l)) w)
 
--- past places where none agrees
+-- Indices without a match can be passed over.
 pub jumped : (p : Pattern) (f : BitmapTriples) (j k : ℕ) → j ≤ k → k ≤ length f.zs → ((i : ℕ) → j ≤ i → i < k → agrees p (triple_at f i) ≡ false)
     → matches p (triples_from f j) ≡ matches p (triples_from f k)
 jumped p f j k l h none = jumped_by (k - j) p f j k (omega (arith, l)) h none
 
--- none agrees before a place
+-- There is no match before index j.
 pub skipped : (p : Pattern) (f : BitmapTriples) (j : ℕ) → j ≤ length f.zs → ((i : ℕ) → i < j → agrees p (triple_at f i) ≡ false) → matches p (triples_of f) ≡ matches p (triples_from f j)
 skipped p f j h none = ap (matches p) (sym (from_start f)) ∙ jumped p f 0 j (omega arith) h (λ i l w. none i w)
 
--- none from a place on
+-- There is no match from index j on.
 pub none_left : (p : Pattern) (f : BitmapTriples) (j : ℕ) → j ≤ length f.zs → ((i : ℕ) → j ≤ i → i < length f.zs → agrees p (triple_at f i) ≡ false) → matches p (triples_from f j) ≡ []
 none_left p f j h none = jumped p f j (length f.zs) h (omega arith) none ∙ matches_none p f (length f.zs) (omega arith)
 
--- no more matches than triples
+-- There are at most as many matches as triples,
 pub matches_few : (p : Pattern) (f : BitmapTriples) → length (matches p (triples_of f)) ≤ length f.zs
 unfolding matches
 matches_few p f = omega (arith, length-filter (agrees p) (triples_of f), count_by-le-length (agrees p) (triples_of f), length-triples f)
 
--- so they can be counted
+-- so their number is below 2^64.
 pub matches_fit : (p : Pattern) (t : Triples) → length (matches p (triples_of (bitmap_read t))) < 2 ^ 64
 unfolding bitmap_read
 matches_fit p t = omega (arith, matches_few p (bitmap_read t), numbers_below t.zs)

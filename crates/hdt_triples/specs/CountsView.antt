@@ -1,4 +1,4 @@
--- How many strings each role has, as the layout sees it.
+-- The view of `Counts` as a record of numbers.
 use Rattle.hdt_triples.specs.Counting as counting
 use Rattle.hdt_triples.specs.declared.counts.Counts.{Counts}
 

@@ -1,4 +1,5 @@
--- Matches: those that are still to come, the steps that they may take in all by either table, and the steps so far.
+-- Views of an iterator over matches: the remaining matches, the bounds on its steps by either table, and the steps so
+-- far.
 use Rattle.std.specs.Prelude.{ℕ, ◌+◌, ◌*◌, List, [], length, map, min}
 use Rattle.hdt_triples.specs.Bounds.{jump, limit, object_price, of_predicate, pair_look, pair_price, predicate_price, skip_price, subject_price, triples_with}
 use Rattle.hdt_triples.specs.Counting.{Triple, triple_at}
@@ -9,7 +10,7 @@ use Rattle.hdt_triples.specs.Walking.{triples_from}
 use Rattle.hdt_triples.specs.declared.matches.Matches.{Matches}
 use Rattle.hdt_triples.specs.declared.matches.Matches.TheVariants.{Empty, Walk, Subject, SubjectObject, Pair, Predicate, PredicateObject, Object}
 
--- the triples that agree from a place on, or among the places of an object that are left
+-- The remaining matches: among the triples from the current one on, or among the remaining triples of an object.
 unfoldable pub left_of : Matches → List Triple
 left_of Empty = []
 left_of (Walk m) = matches m.pattern (triples_from (bitmap_read m.triples) m.place.at)

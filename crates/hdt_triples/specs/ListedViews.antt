@@ -1,4 +1,4 @@
--- Triples with indexes, as the layout sees them, and the numbers that they keep.
+-- Views of triples with indexes, and the size of the indexes.
 use Rattle.std.specs.Prelude.{ℕ, ◌+◌, length}
 use Rattle.hdt_seq.specs.Directory.{groups}
 use Rattle.hdt_triples.specs.Counting.{BitmapTriples, Counts}
@@ -7,22 +7,22 @@ use Rattle.hdt_triples.specs.declared.triples.Triples.{Triples}
 use Rattle.hdt_triples.specs.declared.indexed.IndexedTriples.{IndexedTriples}
 use Rattle.hdt_triples.specs.declared.listed.ListedTriples.{ListedTriples}
 
--- the triples of these indexes
+-- The triples without the rank/select indexes.
 abbrev pub triples_indexed : IndexedTriples → Triples
 triples_indexed t = t.triples
 
--- the triples whose lists these are
+-- The triples without any index.
 abbrev pub triples_listed : ListedTriples → Triples
 triples_listed t = triples_indexed t.indexed
 
--- how many strings each role has, of which the triples are
+-- The number of strings of each role, which the triples were checked against.
 abbrev pub roles_of : Triples → Counts
 roles_of t = counts_seen t.counts
 
--- a count for each group, and the total, of the 1-bits of both kinds
+-- The rank/select indexes hold, for each bitmap, a count for each group and the total.
 abbrev pub directories_held : BitmapTriples → ℕ
 directories_held f = groups f.my + 1 + (groups f.mz + 1)
 
--- each pair in the list of its predicate, each triple in the list of its object, and where each list begins and ends
+-- The inverted indexes hold each pair, each triple, and the bounds of each list.
 abbrev pub lists_held : Counts → BitmapTriples → ℕ
 lists_held counts f = length f.ys + counts.predicates + length f.zs + counts.objects + 2

@@ -1,40 +1,40 @@
--- Lists of triples: their order, their range, and those that can be written.
+-- Lists of triples: their order, the range of their IDs, and which of them can be written.
 use Rattle.std.specs.Prelude.{◌≡◌, ◌⊎◌, ℕ, ◌+◌, ◌<◌, ◌≤◌, ◌^◌, List, length, slice_index_or}
 use Rattle.hdt_triples.specs.Counting.{Triple, Counts}
 
--- triple i of a list
+-- Triple i of a list.
 abbrev pub triple_in : List Triple → ℕ → Triple
 triple_in ts i = slice_index_or ts i (0, 0, 0)
 
--- by the subjects, then by the predicates, then by the objects
+-- Triples compare by subject, then by predicate, then by object.
 abbrev pub TripleLess : Triple → Triple → Type 0
 TripleLess a b = (a.0 < b.0) ⊎ ((a.0 ≡ b.0) × ((a.1 < b.1) ⊎ ((a.1 ≡ b.1) × (a.2 < b.2))))
 
--- each triple comes before the next
+-- The triples strictly ascend.
 abbrev pub AreAscending : List Triple → Type 0
 AreAscending ts = (i : ℕ) → i + 1 < length ts → TripleLess (triple_in ts i) (triple_in ts (i + 1))
 
--- from 1 to the count
+-- IDs are 1 to the count.
 abbrev pub IsFrom1 : ℕ → ℕ → Type 0
 IsFrom1 n count = (1 ≤ n) × (n ≤ count)
 
--- each number is that of a string of its role
+-- Each ID is from 1 to the count of its role.
 abbrev pub IsInRange : Counts → Triple → Type 0
 IsInRange counts t = IsFrom1 t.0 counts.subjects × IsFrom1 t.1 counts.predicates × IsFrom1 t.2 counts.objects
 
 abbrev pub AreInRange : Counts → List Triple → Type 0
 AreInRange counts ts = (i : ℕ) → i < length ts → IsInRange counts (triple_in ts i)
 
--- no number is above the count of its role
+-- No ID is above the count of its role.
 abbrev pub AreWithin : Counts → List Triple → Type 0
 AreWithin counts ts = (i : ℕ) → i < length ts → ((triple_in ts i).0 ≤ counts.subjects) × ((triple_in ts i).1 ≤ counts.predicates) × ((triple_in ts i).2 ≤ counts.objects)
 
--- the counts of predicates and objects fit 64 bits
+-- The counts of predicates and of objects are below 2^64.
 abbrev pub AreFew : Counts → Type 0
 AreFew counts = (counts.predicates < 2 ^ 64) × (counts.objects < 2 ^ 64)
 
--- triples that can be written: at least one, ascending, their subjects 1, 2, 3, .. without a gap, and each predicate and
--- object from 1
+-- The triples can be written: there is at least one, they strictly ascend, their subjects are 1, 2, 3, .. without a
+-- gap, and each predicate and object is at least 1.
 pub record AreWritable (ts : List Triple) : Type 0 where
   pub some : 0 < length ts
   pub ascend : AreAscending ts

@@ -1,4 +1,4 @@
--- Writing triples in their canonical form.
+-- The canonical encoding of a list of triples.
 use Rattle.std.specs.Prelude.{ℕ, ◌+◌, ◌&&◌, List, Bool, ◌++◌, codes, nat_eq, length, map}
 use Rattle.std.specs.List.{dedup}
 use Rattle.hdt_wire.specs.declared.control.Kind.TheVariants as kinds
@@ -13,16 +13,16 @@ use Rattle.hdt_triples.specs.Triples.{TripleParts}
 abbrev pub pair_eq : ℕ × ℕ → ℕ × ℕ → Bool
 pair_eq x y = nat_eq x.0 y.0 && nat_eq x.1 y.1
 
--- the subject and the predicate of each triple
+-- The pair of each triple: its subject and its predicate.
 abbrev pub all_pairs : List Triple → List (ℕ × ℕ)
 all_pairs ts = map (λ t. (t.0, t.1)) ts
 
--- the pairs of subject and predicate, each once
+-- The distinct pairs, in order.
 abbrev pub pairs_of : List Triple → List (ℕ × ℕ)
 pairs_of ts = dedup pair_eq (all_pairs ts)
 
--- the four sequences of a list of triples: a 1-bit at each pair that is the last of its subject, a 1-bit at each triple
--- that is the last of its pair, the predicates of the pairs, the objects of the triples
+-- The four sequences of a list of triples. Bitmap Y has a 1-bit for the last pair of each subject, bitmap Z one for the
+-- last triple of each pair. Array Y has the predicates of the pairs, array Z the objects of the triples.
 unfoldable pub sequences_of : List Triple → BitmapTriples
 sequences_of ts = record {
   my = last_marks nat_eq (map (λ p. p.0) (pairs_of ts));
@@ -31,15 +31,15 @@ sequences_of ts = record {
   zs = map (λ t. t.2) ts;
 }
 
--- the property text that is written: triples in the order of their subjects
+-- The property text: triples are sorted by subject, predicate, object.
 abbrev pub ordered : List ℕ
 ordered = codes "order=1;"
 
--- the canonical bytes of four sequences: control information and each in its canonical encoding
+-- The canonical bytes of four sequences: control information, then each sequence in its canonical encoding.
 unfoldable pub canonical_sequences : BitmapTriples → List ℕ
 canonical_sequences f = control kinds.Triples ordered ++ (bits_spelling f.my ++ (bits_spelling f.mz ++ (numbers_spelling f.ys ++ numbers_spelling f.zs)))
 
--- what they encode at an offset
+-- What these bytes decode to at byte offset `at`.
 unfoldable pub sequences_parts : BitmapTriples → ℕ → TripleParts
 sequences_parts f at =
     let a : ℕ = at + length (control kinds.Triples ordered) in
@@ -54,10 +54,10 @@ sequences_parts f at =
       zs = record { items = f.zs; places = numbers_places_from d (width_of f.zs) (length f.zs); end = d + length (numbers_spelling f.zs) };
     }
 
--- the canonical bytes of a list of triples
+-- The canonical bytes of a list of triples.
 abbrev pub canonical_triples : List Triple → List ℕ
 canonical_triples ts = canonical_sequences (sequences_of ts)
 
--- what they encode at an offset
+-- What these bytes decode to at byte offset `at`.
 abbrev pub canonical_triples_parts : List Triple → ℕ → TripleParts
 canonical_triples_parts ts at = sequences_parts (sequences_of ts) at

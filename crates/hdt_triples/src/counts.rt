@@ -1,12 +1,12 @@
 //! The number of strings of each role.
 
-/// The number of strings of each role: its IDs are 1 to this number.
+/// The number of strings of each role. The IDs of a role are 1 to its count.
 #[derive(Clone, Copy, Debug, PartialEq, Eq)]
 pub struct Counts {
-    /// The number of strings of shared and subjects.
+    /// Shared and subject-only strings.
     pub subjects: u64,
-    /// The number of strings of predicates.
+    /// Predicates.
     pub predicates: u64,
-    /// The number of strings of shared and objects.
+    /// Shared and object-only strings.
     pub objects: u64,
 }

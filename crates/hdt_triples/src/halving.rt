@@ -1,4 +1,4 @@
-//! Binary search in an ascending part of a sequence, and in an ascending list.
+//! Binary search.
 ghost use Rattle.std.specs.Prelude.{◌≤◌, ◌<◌, ◌+◌, ◌-◌, ℕ, length, slice_index};
 ghost use Rattle.hdt_seq.specs.Numbers.{numbers_of};
 ghost use Rattle.hdt_seq.specs.Width.{digits};
@@ -6,7 +6,7 @@ ghost use Rattle.hdt_seq.specs.Width.{digits};
 use crate::look::{entry, listed};
 use hdt_seq::{Numbers, Steps};
 
-/// The first index of an ascending part whose entry is x or more, or its end, by binary search.
+/// Returns the first index from `from` to `to` whose number is at least x, or else `to`. The range must ascend.
 #[tactic(auto, using(hdt_seq::specs::Laws::Width::digits_split))]
 pub(crate) fn place_from(xs: &Numbers<'_>, from: u64, to: u64, x: u64, steps: &mut Steps) -> u64
     requires order { from ≤ to }
@@ -32,7 +32,7 @@ pub(crate) fn place_from(xs: &Numbers<'_>, from: u64, to: u64, x: u64, steps: &m
     low
 }
 
-/// The first index of an ascending list whose entry is x or more, or its end, by binary search.
+/// Returns the first index of an ascending list whose number is at least x, or else its length.
 #[tactic(auto, using(hdt_seq::specs::Laws::Width::digits_split))]
 pub(crate) fn first_from(xs: &[u64], x: u64, steps: &mut Steps) -> usize
     requires ascend { (i j : ℕ) → i < j → j < length xs.now → slice_index xs.now i < slice_index xs.now j }

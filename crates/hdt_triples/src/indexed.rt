@@ -1,4 +1,4 @@
-//! Triples with rank/select indexes over their bitmaps, which find a subject and a pair.
+//! Triples with rank/select indexes over their bitmaps.
 ghost use Rattle.std.specs.Prelude.{◌≡◌, ◌≢◌, ◌≤◌, ◌<◌, ◌+◌, ◌*◌, ℕ, length, IfOk, IfErr, IfSome, Some};
 ghost use Rattle.hdt_seq.specs.Directory.{IsDirectoryOf, groups};
 ghost use Rattle.hdt_seq.specs.Marks.{marks_before};
@@ -12,8 +12,8 @@ use crate::triples::Triples;
 use hdt_seq::{Directory, Steps};
 use std::alloc::Global;
 
-/// Triples with rank/select indexes over both bitmaps, which find a subject and a pair in few steps. They borrow the
-/// input, and keep only the indexes.
+/// Triples with rank/select indexes over both bitmaps, which find a subject or a pair by binary search. They borrow the
+/// input and own only the indexes.
 #[derive(Drop)]
 pub struct IndexedTriples<'a> {
     pub(crate) triples: Triples<'a>,
@@ -26,8 +26,8 @@ pub struct IndexedTriples<'a> {
 impl<'a> Triples<'a> {
     ghost use Rattle.hdt_triples.specs.ListedViews.{triples_indexed};
 
-    /// Builds the rank/select indexes in one pass over the bitmaps: 8 bytes for each 512 bits, and 16 more. If memory
-    /// runs out, the error is the triples themselves.
+    /// Builds the rank/select indexes in one pass over the bitmaps: 8 bytes for each group of 512 bits, and 8 more for
+    /// each bitmap. On allocation failure the error is `self`.
     #[tactic(auto, unfolding(crate::specs::Views::bitmap_read))]
     pub fn with_directories(self, alloc: Global) -> Result<IndexedTriples<'a>, Triples<'a>>
         ensures indexed { IfOk result (λ t. triples_indexed t ≡ self.entry) }
@@ -50,19 +50,19 @@ impl<'a> Triples<'a> {
 impl<'a> IndexedTriples<'a> {
     ghost use Rattle.hdt_triples.specs.ListedViews.{directories_held, triples_indexed};
 
-    /// Returns how many numbers of 8 bytes the indexes keep.
+    /// Returns the size of the indexes, in numbers of 8 bytes.
     #[tactic(auto, unfolding(crate::specs::Views::bitmap_read))]
     pub fn held(&self) -> u128
         ensures { result ≡ directories_held (bitmap_read (triples_indexed self.now)) }
     {
-        // (the pattern names every field, so a new one doesn't compile until it is counted here)
+        // The pattern names every field, so that a new one doesn't compile until it is counted here.
         let IndexedTriples { triples, y, z } = self;
         let _borrowed: &Triples<'a> = triples;
         let (y, z): (&Directory, &Directory) = (y, z);
         y.held() + z.held()
     }
 
-    /// The number of subjects of the triples. One step.
+    /// Returns the number of subjects of the triples. One step.
     #[tactic(auto, unfolding(crate::specs::Views::bitmap_read))]
     pub(crate) fn subjects(&self, steps: &mut Steps) -> u64
         ensures is { result ≡ marks_before (bitmap_read (triples_indexed self.now)).my (length (bitmap_read (triples_indexed self.now)).my) }
@@ -71,7 +71,7 @@ impl<'a> IndexedTriples<'a> {
         self.y.rank(&self.triples.my, self.triples.my.len(), steps)
     }
 
-    /// The subject of a pair.
+    /// Returns the subject of a pair.
     #[tactic(auto, unfolding(crate::specs::Views::bitmap_read))]
     pub(crate) fn subject_of_pair(&self, pair: u64, steps: &mut Steps) -> u64
         requires { pair < length (bitmap_read (triples_indexed self.now)).ys }
@@ -82,7 +82,7 @@ impl<'a> IndexedTriples<'a> {
         self.y.rank(&self.triples.my, pair, steps) + 1
     }
 
-    /// The index of a pair's first triple.
+    /// Returns the index of a pair's first triple.
     #[tactic(auto, unfolding(crate::specs::Views::bitmap_read))]
     pub(crate) fn start_of_pair(&self, pair: u64, steps: &mut Steps) -> u64
         requires { pair < length (bitmap_read (triples_indexed self.now)).ys }
@@ -98,7 +98,7 @@ impl<'a> IndexedTriples<'a> {
         self.z.select(&self.triples.mz, pair, steps) + 1
     }
 
-    /// The index after a pair's last triple.
+    /// Returns the index after a pair's last triple.
     #[tactic(auto, unfolding(crate::specs::Views::bitmap_read))]
     pub(crate) fn end_of_pair(&self, pair: u64, steps: &mut Steps) -> u64
         requires { pair < length (bitmap_read (triples_indexed self.now)).ys }
@@ -112,7 +112,7 @@ impl<'a> IndexedTriples<'a> {
         self.z.select(&self.triples.mz, pair + 1, steps) + 1
     }
 
-    /// The position of a subject's first triple, or the end.
+    /// Returns the position of a subject's first triple, or the end if it has none.
     #[tactic(auto, unfolding(crate::specs::Views::bitmap_read))]
     pub(crate) fn start_of(&self, subject: u64, steps: &mut Steps) -> Place
         ensures stands { StandsAt (bitmap_read (triples_indexed self.now)) result }

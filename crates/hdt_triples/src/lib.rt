@@ -1,10 +1,11 @@
 //! The triples of an HDT file: bitmap triples (HDT submission, Triples; rdfhdt.org, "HDT binary format").
 //!
-//! What this crate promises: a reader returns the triples that are encoded at the offset, in range and strictly
-//! ascending; if there are none, it returns the first error with its offset. What is written of a list is read back as
-//! that list. A search gives exactly the matching triples, in order, in a stated number of steps.
+//! What is proved: reading returns exactly the triples that are encoded at the offset, in range and strictly ascending,
+//! or the first error with its byte offset. A list that is written is read back unchanged. A search returns exactly the
+//! matching triples, in order, within a stated number of steps.
 //!
-//! Functions that state no cost take constant time and allocate nothing. Laws do nothing when called.
+//! Unless its comment states a cost, a function takes constant time and allocates nothing. Laws are theorems: calling
+//! one does nothing.
 //!
 //! ```text
 //! let counts = Counts { subjects, predicates, objects };
@@ -16,14 +17,12 @@
 //! let same = listed.matching(pattern, &mut Steps::new());
 //! ```
 //!
-//! In reading order: `counts`, the number of strings of each role; `rows`, the checks of the four sequences; `triples`,
-//! what was read; `fitting`, which lists can be written; `sequences`, the four sequences of a list, and `writing`,
-//! their bytes; `laws`. specs/Counting defines the triples of four sequences.
+//! Reading and writing: [`Counts`], the number of strings of each role; [`Triples`]; [`are_writable`];
+//! [`put_triples`]. `triples_of` in specs/TripleSequences defines the triples that four sequences encode.
 //!
-//! Searching: `matches`, the iterator; `walk`, a scan of all triples; `indexed`, the rank/select indexes, which
-//! `subject` and `pair` use; `listed`, the inverted indexes by predicate and by object, which `counting` builds and the
-//! other searches use. specs/Bounds has the table of the steps that each takes at most. `matching` counts matches;
-//! `uses` tells which IDs occur in a triple.
+//! Searching: [`Matches`], the iterator, with one case for each search strategy. [`Triples`] scans all triples;
+//! [`IndexedTriples`] adds rank/select indexes, which find a subject and a pair; [`ListedTriples`] adds inverted
+//! indexes by predicate and by object. specs/Bounds has the table of the maximal number of steps.
 #![tactic(auto)]
 
 mod counting;

@@ -11,8 +11,8 @@ use crate::triples::Triples;
 use hdt_seq::Steps;
 use std::alloc::Global;
 
-/// Triples with rank/select indexes, and with two inverted indexes: the pairs of each predicate and the triples of each
-/// object, ascending. Each of the eight patterns is found in few steps. They borrow the input, and keep only the
+/// Triples with rank/select indexes and two inverted indexes: the pairs of each predicate and the triples of each
+/// object, ascending. No pattern that gives an ID needs a scan of all triples. They borrow the input and own only the
 /// indexes.
 ///
 /// ```text
@@ -24,17 +24,17 @@ use std::alloc::Global;
 #[derive(Drop)]
 pub struct ListedTriples<'a> {
     pub(crate) indexed: IndexedTriples<'a>,
-    // the end in `pairs` of each predicate's pairs, which is the start of those of the next one
+    // by predicate, from 0: the end of its list in `pairs`, which is the start of the next one
     pub(crate) pair_starts: Vec<u64>,
     pub(crate) pairs: Vec<u64>,
-    // the end in `places` of each object's triples, which is the start of those of the next one
+    // by object, from 0: the end of its list in `places`, which is the start of the next one
     pub(crate) triple_starts: Vec<u64>,
     pub(crate) places: Vec<u64>,
     ghost by_predicate: { AreLists (bitmap_read indexed.triples).ys indexed.triples.counts.predicates pair_starts.items pairs.items },
     ghost by_object: { AreLists (bitmap_read indexed.triples).zs indexed.triples.counts.objects triple_starts.items places.items },
 }
 
-/// The part of an inverted index for a key. Two steps.
+/// Returns the list of a key in an inverted index. Two steps.
 fn part<'a>(starts: &[u64], flat: &'a [u64], key: u64, steps: &mut Steps) -> &'a [u64]
     requires { AreBounds starts.now flat.now }
     ensures is { (xs : List ℕ) (greatest : ℕ) → AreLists xs greatest starts.now flat.now → All (IsListKey greatest) xs → result.now ≡ places_of xs key }
@@ -53,8 +53,8 @@ fn part<'a>(starts: &[u64], flat: &'a [u64], key: u64, steps: &mut Steps) -> &'a
 impl<'a> IndexedTriples<'a> {
     ghost use Rattle.hdt_triples.specs.ListedViews.{triples_indexed, triples_listed};
 
-    /// Builds the inverted indexes by counting sort. Linear time in the triples and the strings. If memory runs out,
-    /// the error is the value itself.
+    /// Builds the inverted indexes by counting sort: 8 bytes for each pair, triple, predicate and object, and 16 more.
+    /// Linear time in the triples and the strings. On allocation failure the error is `self`.
     #[tactic(auto, using(crate::proofs::ListsLaws::keys_of), unfolding(crate::specs::Views::bitmap_read))]
     pub fn with_lists(self, alloc: Global) -> Result<ListedTriples<'a>, IndexedTriples<'a>>
         ensures listed { IfOk result (λ t. triples_listed t ≡ triples_indexed self.entry) }
@@ -82,26 +82,26 @@ impl<'a> IndexedTriples<'a> {
 impl<'a> ListedTriples<'a> {
     ghost use Rattle.hdt_triples.specs.ListedViews.{directories_held, lists_held, roles_of, triples_indexed, triples_listed};
 
-    /// Returns the triples without indexes.
+    /// Returns the triples without their indexes.
     pub fn triples(&self) -> &Triples<'a>
         ensures { result.now ≡ triples_listed self.now }
     {
         &self.indexed.triples
     }
 
-    /// Returns the triples with their rank/select indexes only.
+    /// Returns the triples with only their rank/select indexes.
     pub fn indexed(&self) -> &IndexedTriples<'a>
         ensures { triples_indexed result.now ≡ triples_listed self.now }
     {
         &self.indexed
     }
 
-    /// Returns how many numbers of 8 bytes the indexes keep.
+    /// Returns the size of the indexes, in numbers of 8 bytes.
     #[tactic(auto, unfolding(crate::specs::Views::bitmap_read))]
     pub fn held(&self) -> u128
         ensures { result ≡ directories_held (bitmap_read (triples_listed self.now)) + lists_held (roles_of (triples_listed self.now)) (bitmap_read (triples_listed self.now)) }
     {
-        // (the pattern names every field, so a new one doesn't compile until it is counted here)
+        // The pattern names every field, so that a new one doesn't compile until it is counted here.
         let ListedTriples {
             indexed,
             pair_starts,
@@ -119,7 +119,7 @@ impl<'a> ListedTriples<'a> {
             + places.len() as u128
     }
 
-    /// The pairs of a predicate, ascending. Two steps.
+    /// Returns the indices of a predicate's pairs, ascending. Two steps.
     #[tactic(auto, using(crate::proofs::ListsLaws::parts_of_lists), unfolding(crate::specs::Views::bitmap_read))]
     pub(crate) fn pairs_of(&self, predicate: u64, steps: &mut Steps) -> &[u64]
         ensures is { result.now ≡ places_of (bitmap_read (triples_listed self.now)).ys predicate }
@@ -129,7 +129,7 @@ impl<'a> ListedTriples<'a> {
         part(&self.pair_starts, &self.pairs, predicate, steps)
     }
 
-    /// The triples of an object, ascending. Two steps.
+    /// Returns the indices of an object's triples, ascending. Two steps.
     #[tactic(auto, using(crate::proofs::ListsLaws::parts_of_lists), unfolding(crate::specs::Views::bitmap_read))]
     pub(crate) fn places_of(&self, object: u64, steps: &mut Steps) -> &[u64]
         ensures is { result.now ≡ places_of (bitmap_read (triples_listed self.now)).zs object }

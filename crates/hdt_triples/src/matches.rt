@@ -17,8 +17,8 @@ use crate::subject_object::SubjectObjectMatches;
 use crate::walk::WalkMatches;
 use hdt_seq::Steps;
 
-/// An iterator over the matches of a pattern, in order. Its cases are the ways to find them; all give the same. It
-/// allocates nothing.
+/// An iterator over the matches of a pattern, in order. Its variants are the search strategies; all return the same
+/// triples. It allocates nothing.
 ///
 /// ```text
 /// let mut matches = listed.find(pattern);
@@ -30,17 +30,17 @@ pub enum Matches<'a> {
     Empty,
     /// A scan of all triples.
     Walk(WalkMatches<'a>),
-    /// A scan of the triples of a subject.
+    /// A scan of a subject's triples.
     Subject(SubjectMatches<'a>),
-    /// The triples of a subject and an object: a scan of the subject's, with jumps by those of the object.
+    /// The triples of a subject and an object: a scan of the subject's, which skips by those of the object.
     SubjectObject(SubjectObjectMatches<'a>),
-    /// The triples of a subject and a predicate, which are consecutive, or the one with the object.
+    /// The triples of a subject and a predicate, which are consecutive, or the one of them with a given object.
     Pair(PairMatches<'a>),
-    /// The triples of a predicate, by its pairs.
+    /// The triples of a predicate, pair by pair.
     Predicate(PredicateMatches<'a>),
-    /// The triples of a predicate and an object: a search of the object in each pair of the predicate.
+    /// The triples of a predicate and an object: a binary search for the object in each pair of the predicate.
     PredicateObject(PredicateObjectMatches<'a>),
-    /// A scan of the triples of an object.
+    /// A scan of an object's triples.
     Object(ObjectMatches<'a>),
 }
 
@@ -48,15 +48,15 @@ impl<'a> IndexedTriples<'a> {
     ghost use Rattle.hdt_triples.specs.Left.{left_of, limit_of};
     ghost use Rattle.hdt_triples.specs.ListedViews.{triples_indexed};
 
-    /// Finds the matches of a pattern: exactly the triples with each ID that is given, once each, in order. A subject
-    /// is found by the rank/select indexes; without one, all triples are scanned. It allocates nothing.
+    /// Finds the matches of a pattern: the triples that have each given ID, once each, in order. A subject is found by
+    /// the rank/select indexes; without one, all triples are scanned. Allocates nothing.
     #[tactic(auto, unfolding(crate::specs::Bounds::most_steps))]
     pub fn find(&self, pattern: Pattern) -> Matches<'_>
         ensures items { left_of result ≡ matches pattern (triples_of (bitmap_read (triples_indexed self.now))) }
         ensures fits { length (left_of result) < 2 ^ 64 }
-        // With a subject, the steps of this call and of all its items are at most those of the table.
+        // With a subject, the steps of this call and of all its items are bounded by the table.
         ensures few { IsSome pattern.s → limit_of result ≡ most_steps (bitmap_read (triples_indexed self.now)) pattern }
-        // Without one, those of the scan.
+        // Without one, they are bounded by those of a scan.
         ensures walked { pattern.s ≡ None → limit_of result ≡ 4 * length (bitmap_read (triples_indexed self.now)).zs }
     {
         match (pattern.s, pattern.p) {
@@ -71,17 +71,19 @@ impl<'a> ListedTriples<'a> {
     ghost use Rattle.hdt_triples.specs.Left.{left_of, limit_of, short_limit_of};
     ghost use Rattle.hdt_triples.specs.ListedViews.{triples_listed};
 
-    /// Finds the matches of a pattern: exactly the triples with each ID that is given, once each, in order. A subject
-    /// is found by the rank/select indexes, only a predicate by its pairs, only an object by its triples, and a
-    /// predicate with an object by what takes fewer steps; a subject's triples with an object are found by those of the
-    /// object if many don't have it. If nothing is given it scans all triples. It allocates nothing.
+    /// Finds the matches of a pattern: the triples that have each given ID, once each, in order. Allocates nothing.
+    ///
+    /// A subject is found by the rank/select indexes, and a pair in it by binary search. Given a subject and an object
+    /// but no predicate, the subject's triples are scanned, and long stretches without a match are skipped by the
+    /// object's list. Given no subject, a predicate is found by its list of pairs, an object by its list of triples,
+    /// and both by the list that needs fewer steps. Given nothing, all triples are scanned.
     #[tactic(auto, using(crate::proofs::PredicateObjectLaws::shorter), unfolding(crate::specs::Bounds::most_steps, crate::specs::Bounds::short_steps))]
     pub fn find(&self, pattern: Pattern) -> Matches<'_>
         ensures items { left_of result ≡ matches pattern (triples_of (bitmap_read (triples_listed self.now))) }
         ensures fits { length (left_of result) < 2 ^ 64 }
-        // The steps of this call and of all its items are at most those of the table.
+        // The steps of this call and of all its items are bounded by the table.
         ensures few { limit_of result ≡ most_steps (bitmap_read (triples_listed self.now)) pattern }
-        // And they are at most those of the table for the shorter of two lists.
+        // They are also bounded by the table for the shorter of two lists.
         ensures short { short_limit_of result ≤ short_steps (bitmap_read (triples_listed self.now)) pattern }
     {
         match (pattern.s, pattern.p, pattern.o) {
@@ -106,7 +108,7 @@ impl<'a> Iterator for Matches<'a> {
     ghost use Rattle.std.specs.Prelude.{⊤};
     ghost use Rattle.hdt_triples.specs.Left.{left_of, limit_of, short_limit_of, steps_of};
 
-    // It gives the first of the remaining matches; both limits of the steps stay, and the steps don't decrease.
+    // Returns the first of the remaining matches. Both bounds on the steps are unchanged; the steps don't decrease.
     ghost next_gives = { λ old result new. YieldsFirst left_of old result new × (limit_of new ≡ limit_of old) × (steps_of old ≤ steps_of new) × (short_limit_of new ≡ short_limit_of old) };
 
     ghost remaining = { item_count left_of };
@@ -132,12 +134,12 @@ impl<'a> Iterator for Matches<'a> {
 impl<'a> Matches<'a> {
     ghost use Rattle.hdt_triples.specs.Left.{limit_of, short_limit_of, steps_of};
 
-    /// The law that the steps since the call of `find` are always within its limit.
+    /// Law: the steps since the call of `find` never exceed its bound.
     pub fn steps_are_few(&self)
         ensures { steps_of self.now ≤ limit_of self.now }
     {}
 
-    /// The law that they are also within the limit for the shorter of two lists.
+    /// Law: nor do they exceed its bound for the shorter of two lists.
     pub fn steps_are_fewer(&self)
         ensures { steps_of self.now ≤ short_limit_of self.now }
     {

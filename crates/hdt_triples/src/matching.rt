@@ -1,4 +1,4 @@
-//! Counting the matches of a pattern.
+//! Counting the matches of a pattern without returning them.
 ghost use Rattle.std.specs.Prelude.{◌≡◌, ◌≤◌, ◌<◌, ◌+◌, ◌-◌, ◌*◌, ◌^◌, length, min, slice_index, Some, None, IsSome};
 ghost use Rattle.hdt_seq.specs.Directory.{groups};
 ghost use Rattle.hdt_seq.specs.Width.{digits};
@@ -19,7 +19,7 @@ use crate::triples::Triples;
 use hdt_seq::Steps;
 
 impl<'a> Triples<'a> {
-    /// The number of matches, but at most `most`, by a scan of the triples that ends there.
+    /// Returns the number of matches, but at most `most`, by a scan that stops there.
     pub(crate) fn count_all(&self, pattern: Pattern, most: u64, steps: &mut Steps) -> u64
         ensures is { result ≡ min most (length (matches pattern (triples_of (bitmap_read self.now)))) }
         ensures cost { steps.new ≤ steps.old + 4 * length (bitmap_read self.now).zs }
@@ -35,8 +35,7 @@ impl<'a> Triples<'a> {
         count
     }
 
-    /// The number of triples of a subject, which are those from one index up to another, with this object. One step
-    /// each.
+    /// Returns how many of a subject's triples, those with index `from` to `to`, have this object. One step each.
     fn count_between(
         &self,
         pattern: Pattern,
@@ -62,8 +61,8 @@ impl<'a> Triples<'a> {
         count
     }
 
-    /// Returns the number of matches of a pattern, but at most `most`. It scans the triples, in at most four steps
-    /// each, until `most` are counted, unless nothing is given. It allocates nothing.
+    /// Returns the number of matches of a pattern, but at most `most`. Scans triples, in at most four steps each, until
+    /// `most` matches are counted; given nothing, constant time. Allocates nothing.
     #[tactic(auto, unfolding(crate::specs::Bounds::walking_steps))]
     pub fn matching_up_to(&self, pattern: Pattern, most: u64, steps: &mut Steps) -> u64
         ensures is { result ≡ min most (length (matches pattern (triples_of (bitmap_read self.now)))) }
@@ -76,8 +75,8 @@ impl<'a> Triples<'a> {
         }
     }
 
-    /// Returns the number of matches of a pattern. It scans all triples, in at most four steps each, unless nothing is
-    /// given. It allocates nothing.
+    /// Returns the number of matches of a pattern. Scans all triples, in at most four steps each; given nothing,
+    /// constant time. Allocates nothing.
     pub fn matching(&self, pattern: Pattern, steps: &mut Steps) -> u64
         ensures is { result ≡ length (matches pattern (triples_of (bitmap_read self.now))) }
         ensures cost { steps.new ≤ steps.old + walking_steps (bitmap_read self.now) pattern }
@@ -90,7 +89,8 @@ impl<'a> Triples<'a> {
 impl<'a> IndexedTriples<'a> {
     ghost use Rattle.hdt_triples.specs.ListedViews.{triples_indexed};
 
-    /// Where the triples of consecutive pairs begin and end. Most pairs have one triple, as its bit tells.
+    /// Returns the range of the triples of consecutive pairs: the index of the first one and the index after the last
+    /// one. Most pairs have one triple; its bit shows that without a second select.
     #[tactic(auto, using(hdt_seq::specs::Laws::Marks::sooner))]
     pub(crate) fn edges(&self, first: u64, last: u64, steps: &mut Steps) -> (u64, u64)
         requires order { first ≤ last }
@@ -107,7 +107,7 @@ impl<'a> IndexedTriples<'a> {
         (at, end)
     }
 
-    /// Where the triples of a subject begin and end.
+    /// Returns the range of a subject's triples.
     fn triples_of_subject(&self, subject: u64, steps: &mut Steps) -> (u64, u64)
         ensures are { AreBetween (bitmap_read (triples_indexed self.now)) (of_subject subject) result.0 result.1 }
         ensures cost { steps.new ≤ steps.old + (2 * digits (groups (bitmap_read (triples_indexed self.now)).my) + 2 * digits (groups (bitmap_read (triples_indexed self.now)).mz) + 34) }
@@ -120,7 +120,7 @@ impl<'a> IndexedTriples<'a> {
         self.edges(low, high - 1, steps)
     }
 
-    /// The number of triples with this subject.
+    /// Returns the number of triples with this subject.
     #[tactic(auto, unfolding(crate::specs::Bounds::jump))]
     fn count_of_subject(&self, subject: u64, steps: &mut Steps) -> u64
         ensures is { result ≡ length (matches (of_subject subject) (triples_of (bitmap_read (triples_indexed self.now)))) }
@@ -131,7 +131,7 @@ impl<'a> IndexedTriples<'a> {
         end - at
     }
 
-    /// The number of triples with this subject and this object, by a scan of the subject's triples.
+    /// Returns the number of triples with this subject and this object, by a scan of the subject's triples.
     #[tactic(auto, unfolding(crate::specs::Bounds::jump))]
     fn count_in_subject(
         &self,
@@ -152,7 +152,7 @@ impl<'a> IndexedTriples<'a> {
             .count_between(pattern, subject, object, from, to, steps)
     }
 
-    /// The predicate of a triple, by rank.
+    /// Returns the predicate of a triple, by rank.
     #[tactic(auto, using(crate::specs::Laws::Order::pair_within), unfolding(crate::specs::Views::bitmap_read))]
     fn predicate_at(&self, at: u64, steps: &mut Steps) -> u64
         requires { at < length (bitmap_read (triples_indexed self.now)).zs }
@@ -164,7 +164,7 @@ impl<'a> IndexedTriples<'a> {
         entry(&self.triples.ys, pair, steps)
     }
 
-    /// The number of triples with this subject and this predicate, and the object if one is given.
+    /// Returns the number of triples with this subject, this predicate, and the object if one is given.
     #[tactic(auto, unfolding(crate::specs::Bounds::jump))]
     fn count_of_pair(
         &self,
@@ -183,9 +183,7 @@ impl<'a> IndexedTriples<'a> {
         end - at
     }
 
-    /// The number of matches of a pattern, but at most `most`. With a subject, the rank/select indexes tell where its
-    /// triples, or those of the pair, begin and end; with an object and no predicate, the subject's triples are
-    /// scanned. Without a subject it is the scan of [`Triples::matching_up_to`].
+    /// As [`matching`](IndexedTriples::matching), but at most `most`.
     #[tactic(auto, unfolding(crate::specs::Bounds::counting_steps))]
     pub(crate) fn matching_up_to(&self, pattern: Pattern, most: u64, steps: &mut Steps) -> u64
         ensures is { result ≡ min most (length (matches pattern (triples_of (bitmap_read (triples_indexed self.now))))) }
@@ -205,14 +203,14 @@ impl<'a> IndexedTriples<'a> {
         }
     }
 
-    /// Returns the number of matches of a pattern. With a subject, the rank/select indexes tell where its triples, or
-    /// those of the pair, begin and end; with an object and no predicate, the subject's triples are scanned. Without a
-    /// subject it is the scan of [`Triples::matching`]. It allocates nothing.
+    /// Returns the number of matches of a pattern. Given a subject, its triples or those of the pair are found by rank
+    /// and select; given also an object and no predicate, they are scanned. Given no subject, all triples are scanned,
+    /// as by [`Triples::matching`]. Allocates nothing.
     pub fn matching(&self, pattern: Pattern, steps: &mut Steps) -> u64
         ensures is { result ≡ length (matches pattern (triples_of (bitmap_read (triples_indexed self.now)))) }
-        // With a subject, the steps are at most those of the table.
+        // With a subject, the steps are bounded by the table.
         ensures cost { IsSome pattern.s → steps.new ≤ steps.old + counting_steps (bitmap_read (triples_indexed self.now)) pattern }
-        // Without one, those of the scan.
+        // Without one, they are bounded by those of a scan.
         ensures walked { pattern.s ≡ None → steps.new ≤ steps.old + walking_steps (bitmap_read (triples_indexed self.now)) pattern }
         ensures more { steps.old ≤ steps.new }
     {
@@ -223,8 +221,8 @@ impl<'a> IndexedTriples<'a> {
 impl<'a> ListedTriples<'a> {
     ghost use Rattle.hdt_triples.specs.ListedViews.{triples_listed};
 
-    /// The number of triples of these pairs of a predicate, but at most `most`, by the lengths of the pairs. Each pair
-    /// has a triple, so at most `most` of them are read.
+    /// Returns the number of triples of a predicate's pairs, but at most `most`. Each pair has a triple, so at most
+    /// `most` pairs are read.
     fn count_of_pairs(&self, predicate: u64, pairs: &[u64], most: u64, steps: &mut Steps) -> u64
         requires { pairs.now ≡ places_of (bitmap_read (triples_listed self.now)).ys predicate }
         ensures is { result ≡ min most (length (matches (of_predicate predicate) (triples_of (bitmap_read (triples_listed self.now))))) }
@@ -242,8 +240,8 @@ impl<'a> ListedTriples<'a> {
         count.min(most)
     }
 
-    /// The number of triples with this predicate, but at most `most`: by the lengths of its pairs, or by a scan of all
-    /// triples if that is cheaper.
+    /// Returns the number of triples with this predicate, but at most `most`: pair by pair, or by a scan of all triples
+    /// if that is cheaper.
     #[tactic(auto, unfolding(crate::specs::Bounds::jump))]
     fn count_of_predicate(
         &self,
@@ -268,8 +266,8 @@ impl<'a> ListedTriples<'a> {
         self.count_of_pairs(predicate, pairs, most, steps)
     }
 
-    /// The number of triples with this subject and this object: the triples of the object that are among those of the
-    /// subject, by two binary searches, or by a scan of the subject's triples if that takes fewer steps.
+    /// Returns the number of triples with this subject and this object: by two binary searches in the object's list, or
+    /// by a scan of the subject's triples if that is cheaper.
     #[tactic(auto, unfolding(crate::specs::Bounds::jump))]
     fn count_of_both(&self, pattern: Pattern, subject: u64, object: u64, steps: &mut Steps) -> u64
         requires subject_given { pattern.s ≡ Some subject }
@@ -291,7 +289,7 @@ impl<'a> ListedTriples<'a> {
         (high - low) as u64
     }
 
-    /// The number of triples with this object.
+    /// Returns the number of triples with this object.
     fn count_of_object(&self, object: u64, steps: &mut Steps) -> u64
         ensures is { result ≡ length (matches (of_object object) (triples_of (bitmap_read (triples_listed self.now)))) }
         ensures cost { steps.new ≤ steps.old + 2 }
@@ -300,7 +298,7 @@ impl<'a> ListedTriples<'a> {
         self.places_of(object, steps).len() as u64
     }
 
-    /// The number of triples with this predicate and this object, but at most `most`, by a scan of the object's
+    /// Returns the number of triples with this predicate and this object, but at most `most`, by a scan of the object's
     /// triples.
     fn count_in_object(
         &self,
@@ -327,15 +325,12 @@ impl<'a> ListedTriples<'a> {
         count
     }
 
-    /// Returns the number of matches of a pattern, but at most `most`: with 1, whether there is one. If nothing is
-    /// given, or a subject, a subject and a predicate, all three, or only an object, the steps don't grow with the
-    /// matches; with a subject and an object they grow with the logarithm of the object's triples. The pairs of only a
-    /// predicate, and the triples of an object with a predicate, are scanned until `most` matches are counted. It
-    /// allocates nothing.
+    /// Returns the number of matches of a pattern, but at most `most`; with 1, whether there is one. Cost as of
+    /// [`matching`](ListedTriples::matching), but scans stop once `most` matches are counted. Allocates nothing.
     #[tactic(auto, unfolding(crate::specs::Bounds::counting_steps, crate::specs::Bounds::short_counting_steps, crate::specs::Bounds::walking_steps))]
     pub fn matching_up_to(&self, pattern: Pattern, most: u64, steps: &mut Steps) -> u64
         ensures is { result ≡ min most (length (matches pattern (triples_of (bitmap_read (triples_listed self.now))))) }
-        // The steps are at most those of the table, and those of the table for the shorter of two lists.
+        // The steps are bounded by the table, and by that for the shorter of two lists.
         ensures cost { steps.new ≤ steps.old + counting_steps (bitmap_read (triples_listed self.now)) pattern }
         ensures short { steps.new ≤ steps.old + short_counting_steps (bitmap_read (triples_listed self.now)) most pattern }
         ensures more { steps.old ≤ steps.new }
@@ -355,14 +350,12 @@ impl<'a> ListedTriples<'a> {
         }
     }
 
-    /// Returns the number of matches of a pattern. If nothing is given, or a subject, a subject and a predicate, all
-    /// three, or only an object, the steps don't grow with the matches; with a subject and an object they grow with the
-    /// logarithm of the object's triples. Only a predicate takes at most two searches for each of its pairs, and no
-    /// more than a scan of all triples; a predicate with an object takes a scan of the object's triples. It allocates
-    /// nothing.
+    /// Returns the number of matches of a pattern. Allocates nothing. Cost, by what is given: constant for nothing or
+    /// only an object; logarithmic with a subject; for only a predicate, two searches for each of its pairs, but at
+    /// most a scan of all triples; for a predicate and an object, a scan of the object's triples.
     pub fn matching(&self, pattern: Pattern, steps: &mut Steps) -> u64
         ensures is { result ≡ length (matches pattern (triples_of (bitmap_read (triples_listed self.now)))) }
-        // The steps are at most those of the table, and those of the table for the shorter of two lists.
+        // The steps are bounded by the table, and by that for the shorter of two lists.
         ensures cost { steps.new ≤ steps.old + counting_steps (bitmap_read (triples_listed self.now)) pattern }
         ensures short { steps.new ≤ steps.old + short_counting_steps (bitmap_read (triples_listed self.now)) (2 ^ 64 - 1) pattern }
         ensures more { steps.old ≤ steps.new }

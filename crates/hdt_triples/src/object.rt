@@ -1,4 +1,4 @@
-//! The matches of a pattern with an object and no subject.
+//! Search by an object.
 ghost use Rattle.std.specs.Prelude.{◌≡◌, ◌≤◌, ◌+◌, ◌<◌, ◌^◌, map, Some, length};
 ghost use Rattle.std.specs.List.{All};
 ghost use Rattle.hdt_triples.specs.Bounds.{object_price, Pays, limit};
@@ -14,8 +14,7 @@ use crate::matches::Matches;
 use crate::pattern::Pattern;
 use hdt_seq::Steps;
 
-/// The matches of a pattern with an object and no subject, in order: each triple of the object is compared with the
-/// pattern.
+/// The matches of a pattern with an object, in order, by a scan of the object's triples.
 #[derive(Drop)]
 pub struct ObjectMatches<'a> {
     indexed: &'a IndexedTriples<'a>,
@@ -31,7 +30,7 @@ pub struct ObjectMatches<'a> {
 impl<'a> IndexedTriples<'a> {
     ghost use Rattle.hdt_triples.specs.ListedViews.{triples_indexed};
 
-    /// A triple of an object: its pair and its subject by rank.
+    /// Returns a triple of an object. Its pair and subject are found by rank.
     #[tactic(auto, using(crate::specs::Laws::Order::pair_within), unfolding(crate::specs::Views::bitmap_read))]
     fn triple_of_object(&self, at: u64, object: u64, steps: &mut Steps) -> (u64, u64, u64)
         requires { IsPlaceOf (bitmap_read (triples_indexed self.now)).zs object at }
@@ -50,7 +49,7 @@ impl<'a> ListedTriples<'a> {
     ghost use Rattle.hdt_triples.specs.Left.{left_of, limit_of};
     ghost use Rattle.hdt_triples.specs.ListedViews.{triples_listed};
 
-    /// The matches of a pattern with this object, after a few steps.
+    /// Finds the matches of a pattern with this object, after up to 18 earlier steps.
     #[tactic(auto, unfolding(crate::specs::Left::left_of, crate::specs::Left::limit_of))]
     pub(crate) fn find_object(&self, pattern: Pattern, object: u64, steps: Steps) -> Matches<'_>
         requires given { pattern.o ≡ Some object }

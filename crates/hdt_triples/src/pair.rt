@@ -1,4 +1,4 @@
-//! The matches of a pattern with a subject and a predicate.
+//! Search by a subject and a predicate.
 ghost use Rattle.std.specs.Prelude.{◌≡◌, ◌≤◌, ◌<◌, ◌+◌, ◌*◌, ◌^◌, ℕ, length, Some, IfSome, false};
 ghost use Rattle.hdt_seq.specs.Directory.{groups};
 ghost use Rattle.hdt_seq.specs.Width.{digits};
@@ -17,7 +17,7 @@ use crate::pattern::Pattern;
 use crate::triples::Triples;
 use hdt_seq::Steps;
 
-/// The matches of a pattern with a subject and a predicate, in order: they are consecutive.
+/// The matches of a pattern with a subject and a predicate, in order. They are consecutive.
 #[derive(Drop)]
 pub struct PairMatches<'a> {
     triples: Triples<'a>,
@@ -35,7 +35,7 @@ impl<'a> IndexedTriples<'a> {
     ghost use Rattle.hdt_triples.specs.Left.{left_of, limit_of};
     ghost use Rattle.hdt_triples.specs.ListedViews.{triples_indexed};
 
-    /// Where the pairs of a subject begin and end.
+    /// Returns the range of a subject's pairs: the index of the first one and the index after the last one.
     #[tactic(auto, unfolding(crate::specs::Views::bitmap_read))]
     pub(crate) fn pairs_of_subject(&self, subject: u64, steps: &mut Steps) -> (u64, u64)
         ensures are { PairsOf (bitmap_read (triples_indexed self.now)) subject result.0 result.1 }
@@ -56,7 +56,7 @@ impl<'a> IndexedTriples<'a> {
         )
     }
 
-    /// The pair of a subject and a predicate, if there is one.
+    /// Returns the pair of a subject and a predicate, if there is one.
     #[tactic(auto, unfolding(crate::specs::Views::bitmap_read))]
     fn pair_with(&self, subject: u64, predicate: u64, steps: &mut Steps) -> Option<u64>
         ensures found { IfSome result (λ q. IsPairOf (bitmap_read (triples_indexed self.now)) subject predicate q) }
@@ -72,7 +72,7 @@ impl<'a> IndexedTriples<'a> {
         None
     }
 
-    /// Where the matches begin and end.
+    /// Returns the range of the matches: the index of the first one and the index after the last one.
     #[tactic(auto, unfolding(crate::specs::Views::bitmap_read))]
     pub(crate) fn run_of(
         &self,
@@ -103,7 +103,8 @@ impl<'a> IndexedTriples<'a> {
         (0, 0)
     }
 
-    /// The index of the triple of a pair with this object, or the end of the pair, and the end of the pair.
+    /// Returns the index of a pair's triple with this object, or else the pair's end, and the pair's end: the index
+    /// after its last triple.
     #[tactic(auto, unfolding(crate::specs::Views::bitmap_read))]
     pub(crate) fn object_in_pair(&self, pair: u64, object: u64, steps: &mut Steps) -> (u64, u64)
         requires { pair < length (bitmap_read (triples_indexed self.now)).ys }
@@ -119,7 +120,7 @@ impl<'a> IndexedTriples<'a> {
         (end, end)
     }
 
-    /// The matches of a pattern with this subject and this predicate.
+    /// Finds the matches of a pattern with this subject and this predicate.
     #[tactic(auto, unfolding(crate::specs::Left::left_of, crate::specs::Left::limit_of))]
     pub(crate) fn find_pair(&self, pattern: Pattern, subject: u64, predicate: u64) -> Matches<'a>
         requires subject_given { pattern.s ≡ Some subject }

@@ -1,19 +1,20 @@
-//! Patterns of a search.
+//! Triple patterns.
 ghost use Rattle.std.specs.Prelude.{◌≡◌};
 ghost use Rattle.hdt_triples.specs.Patterns.{admits, agrees};
 
-/// A triple pattern: an ID or any, for each of the three roles.
+/// A triple pattern: for each role an ID, from 1, or `None` for any. An ID that doesn't occur, such as 0, matches
+/// nothing.
 #[derive(Clone, Copy, Debug, PartialEq, Eq)]
 pub struct Pattern {
-    /// The ID of the subject.
+    /// The subject ID.
     pub s: Option<u64>,
-    /// The ID of the predicate.
+    /// The predicate ID.
     pub p: Option<u64>,
-    /// The ID of the object.
+    /// The object ID.
     pub o: Option<u64>,
 }
 
-/// Whether an ID matches that of the pattern.
+/// Whether nothing is given, or this ID.
 fn admits(given: Option<u64>, number: u64) -> bool
     ensures { result ≡ admits given number }
 {
@@ -24,7 +25,7 @@ fn admits(given: Option<u64>, number: u64) -> bool
 }
 
 impl Pattern {
-    /// Returns whether a triple has each ID that is given.
+    /// Returns whether a triple has each given ID.
     pub fn takes(&self, triple: (u64, u64, u64)) -> bool
         ensures { result ≡ agrees self.now triple }
     {

@@ -1,4 +1,4 @@
-//! The position of a scan of triples.
+//! The position of a scan over the triples.
 ghost use Rattle.std.specs.Prelude.{◌≡◌, ◌+◌, ◌<◌, ◌≤◌, length};
 ghost use Rattle.hdt_seq.specs.Marks.{marks_before};
 ghost use Rattle.hdt_triples.specs.Counting.{triple_at};
@@ -9,7 +9,7 @@ use crate::look::{entry, mark};
 use crate::triples::Triples;
 use hdt_seq::Steps;
 
-/// A position in the triples: triple `at`, from 0, with its pair, from 0, and its subject, from 1.
+/// A position in the triples: the index of a triple, that of its pair, both from 0, and the ID of its subject.
 #[derive(Clone, Copy)]
 pub(crate) struct Place {
     pub at: u64,
@@ -19,7 +19,7 @@ pub(crate) struct Place {
 
 #[tactic(auto, unfolding(crate::specs::Views::bitmap_read))]
 impl<'a> Triples<'a> {
-    /// The position of the first triple.
+    /// Returns the position of the first triple.
     #[tactic(auto, using(hdt_seq::specs::Laws::Marks::none_before), unfolding(crate::specs::Views::bitmap_read))]
     pub(crate) fn first(&self) -> Place
         ensures at { result.at ≡ 0 }
@@ -32,7 +32,7 @@ impl<'a> Triples<'a> {
         }
     }
 
-    /// The end, after all triples, which have so many subjects.
+    /// Returns the end position, given the number of subjects.
     pub(crate) fn end(&self, subjects: u64) -> Place
         requires { subjects ≡ marks_before (bitmap_read self.now).my (length (bitmap_read self.now).my) }
         ensures at { result.at ≡ length (bitmap_read self.now).zs }
@@ -45,7 +45,7 @@ impl<'a> Triples<'a> {
         }
     }
 
-    /// The triple at a position. Two steps.
+    /// Returns the triple at a position. Two steps.
     pub(crate) fn look(&self, place: Place, steps: &mut Steps) -> (u64, u64, u64)
         requires stands { StandsAt (bitmap_read self.now) place }
         requires within { place.at < length (bitmap_read self.now).zs }
@@ -59,7 +59,7 @@ impl<'a> Triples<'a> {
         )
     }
 
-    /// The next position. At most two steps.
+    /// Returns the next position. At most two steps.
     pub(crate) fn go_on(&self, place: Place, steps: &mut Steps) -> Place
         requires stands { StandsAt (bitmap_read self.now) place }
         requires within { place.at < length (bitmap_read self.now).zs }
@@ -69,7 +69,7 @@ impl<'a> Triples<'a> {
         ensures cost { steps.new ≤ steps.old + 2 }
         ensures more { steps.old ≤ steps.new }
     {
-        // No branches: which triples end a pair, and which pairs a subject, is unpredictable.
+        // Branch-free, since the bits are unpredictable.
         let ends_pair = mark(&self.mz, place.at, steps);
         let ends_subject = ends_pair & mark(&self.my, place.pair, steps);
         Place {

@@ -1,4 +1,4 @@
-//! The matches of a pattern with only a predicate.
+//! Search by a predicate only.
 ghost use Rattle.std.specs.Prelude.{◌≡◌, ◌≤◌, ◌<◌, ◌^◌, length};
 ghost use Rattle.hdt_triples.specs.Bounds.{of_predicate, predicate_price, Pays, limit};
 ghost use Rattle.hdt_triples.specs.Counting.{triples_of};
@@ -14,7 +14,7 @@ use crate::matches::Matches;
 use crate::spot::Spot;
 use hdt_seq::Steps;
 
-/// The triples of a predicate, in order: its pairs by the inverted index, the triples of each pair by their bits.
+/// The triples of a predicate, in order. The inverted index has its pairs; bitmap Z shows the end of each pair.
 #[derive(Drop)]
 pub struct PredicateMatches<'a> {
     indexed: &'a IndexedTriples<'a>,
@@ -29,7 +29,7 @@ impl<'a> ListedTriples<'a> {
     ghost use Rattle.hdt_triples.specs.Left.{left_of, limit_of};
     ghost use Rattle.hdt_triples.specs.ListedViews.{triples_listed};
 
-    /// The triples of a predicate.
+    /// Finds the triples of a predicate.
     #[tactic(auto, unfolding(crate::specs::Left::left_of, crate::specs::Left::limit_of))]
     pub(crate) fn find_predicate(&self, predicate: u64) -> Matches<'_>
         ensures items { left_of result ≡ matches (of_predicate predicate) (triples_of (bitmap_read (triples_listed self.now))) }

@@ -1,4 +1,4 @@
-//! The matches of a pattern with a predicate and an object, and no subject.
+//! Search by a predicate and an object.
 ghost use Rattle.std.specs.Prelude.{◌≡◌, ◌≤◌, ◌+◌, ◌*◌, ◌<◌, ◌^◌, Some, None, length};
 ghost use Rattle.hdt_triples.specs.Bounds.{limit, object_price, pair_look};
 ghost use Rattle.hdt_triples.specs.Counting.{triples_of};
@@ -14,15 +14,15 @@ use crate::matches::Matches;
 use crate::pattern::Pattern;
 use hdt_seq::Steps;
 
-/// The matches of a pattern with a predicate and an object, and no subject, in order: the object is searched in each
-/// pair of the predicate.
+/// The matches of a pattern with a predicate and an object but no subject, in order, by a binary search for the object
+/// in each pair of the predicate.
 #[derive(Drop)]
 pub struct PredicateObjectMatches<'a> {
     indexed: &'a IndexedTriples<'a>,
     pattern: Pattern,
     predicate: u64,
     object: u64,
-    // the pairs that are still to come, and the end of the previous one
+    // the remaining pairs, and the end of the previous one
     rest: &'a [u64],
     at: u64,
     steps: Steps,
@@ -38,8 +38,8 @@ impl<'a> ListedTriples<'a> {
     ghost use Rattle.hdt_triples.specs.Left.{left_of, limit_of, short_limit_of};
     ghost use Rattle.hdt_triples.specs.ListedViews.{triples_listed};
 
-    /// The matches of a pattern with this predicate and this object, and no subject: by the pairs of the predicate, or
-    /// by the triples of the object if that takes fewer steps.
+    /// Finds the matches of a pattern with this predicate, this object and no subject: by the pairs of the predicate,
+    /// or by the triples of the object if that is cheaper.
     #[tactic(auto, unfolding(crate::specs::Left::left_of, crate::specs::Left::limit_of, crate::specs::Left::short_limit_of))]
     pub(crate) fn find_predicate_object(
         &self,

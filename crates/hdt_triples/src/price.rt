@@ -1,4 +1,4 @@
-//! Upper bounds of the cost of a search, computed before it begins and without steps.
+//! Upper bounds on the cost of a search, computed before it starts. Computing them takes no steps.
 ghost use Rattle.std.specs.Prelude.{◌≡◌, ◌≤◌};
 ghost use Rattle.hdt_seq.specs.Width.{digits};
 ghost use Rattle.hdt_triples.specs.Bounds.{jump, pair_look};
@@ -6,10 +6,10 @@ ghost use Rattle.hdt_triples.specs.Views.{bitmap_read};
 
 use crate::indexed::IndexedTriples;
 
-/// The number of bits of a group of a rank/select index.
+/// Bits per group of a rank/select index.
 const GROUP: u64 = 512;
 
-/// The number of binary digits of a number: the steps of a binary search in a list of so many entries.
+/// Returns the number of binary digits of n: the most steps of a binary search among n numbers.
 #[tactic(auto, using(hdt_seq::specs::Laws::Width::digits_by_zeros))]
 pub(crate) fn digits_of(n: u64) -> u64
     ensures is { result ≡ digits n }
@@ -21,7 +21,8 @@ pub(crate) fn digits_of(n: u64) -> u64
 impl<'a> IndexedTriples<'a> {
     ghost use Rattle.hdt_triples.specs.ListedViews.{triples_indexed};
 
-    /// A binary search of the groups of both bitmaps, and 20 more.
+    /// Returns the bound on finding a subject or a pair by rank and select: a binary search of the groups of both
+    /// bitmaps, and 20 more.
     #[tactic(auto, unfolding(crate::specs::Bounds::jump, crate::specs::Views::bitmap_read))]
     pub(crate) fn jump(&self) -> u64
         ensures is { result ≡ jump (bitmap_read (triples_indexed self.now)) }
@@ -32,7 +33,8 @@ impl<'a> IndexedTriples<'a> {
         digits_of(pairs) + digits_of(triples) + 20
     }
 
-    /// The greatest cost of finding an object in a pair: two jumps, and a binary search of the triples.
+    /// Returns the bound on finding an object in a pair: two searches by rank and select, and a binary search among all
+    /// triples.
     #[tactic(auto, unfolding(crate::specs::Bounds::pair_look, crate::specs::Views::bitmap_read))]
     pub(crate) fn pair_look(&self) -> u64
         ensures { result ≡ pair_look (bitmap_read (triples_indexed self.now)) }

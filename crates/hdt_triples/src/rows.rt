@@ -1,4 +1,4 @@
-//! The checks of the four sequences.
+//! The checks of the four sequences as they are read.
 ghost use Rattle.std.specs.Prelude.{◌≡◌, ℕ, ◌≤◌, ◌<◌, ◌+◌, ◌-◌, ◌^◌, length, slice_index, IfOk, OnOk, codes};
 ghost use Rattle.hdt_wire.specs.Property.{property_value};
 ghost use Rattle.hdt_seq.specs.Marks.{marks_before};
@@ -25,7 +25,7 @@ fn last_marked(marks: &Bits<'_>) -> Result<(), Fault>
     )
 }
 
-/// The number of 1-bits before a position, counted from the first bit on.
+/// Returns the number of 1-bits before an index, counted from the start. Linear time.
 pub fn marks_before(marks: &Bits<'_>, place: u64) -> u64
     requires { place ≤ length (bits_of marks.now) }
     ensures is { result ≡ marks_before (bits_of marks.now) place }
@@ -40,7 +40,7 @@ pub fn marks_before(marks: &Bits<'_>, place: u64) -> u64
     before
 }
 
-/// The checks of an entry, given the previous one.
+/// Checks that an entry is from 1 to `count`, and greater than the previous one of its group, which is 0 at its start.
 #[tactic(auto, unfolding(crate::specs::Triples::entry_row))]
 fn entry_stands(
     marks: &Bits<'_>,
@@ -65,7 +65,7 @@ fn entry_stands(
     demand(before < entry, xs.entry_place(i) as usize, ascent)
 }
 
-/// The checks of a pair, given its subject and the previous predicate.
+/// Checks the subject and the predicate of a pair, given the previous predicate of the subject, or 0.
 #[tactic(auto, unfolding(crate::specs::Triples::pair_row))]
 fn pair_stands(
     counts: &Counts,
@@ -101,7 +101,7 @@ fn pair_stands(
     )
 }
 
-/// The checks of all pairs.
+/// Checks all pairs.
 #[tactic(auto, using(hdt_wire::specs::Laws::Item::rows_passed, hdt_wire::specs::Laws::Item::rows_stopped, hdt_wire::specs::Laws::Item::rows_over))]
 fn pairs_stand(counts: &Counts, my: &Bits<'_>, ys: &Numbers<'_>) -> Result<(), Fault>
     requires same { length (bits_of my.now) ≡ length (numbers_of ys.now) }
@@ -123,7 +123,7 @@ fn pairs_stand(counts: &Counts, my: &Bits<'_>, ys: &Numbers<'_>) -> Result<(), F
     Ok(())
 }
 
-/// The checks of all objects.
+/// Checks all objects.
 #[tactic(auto, using(hdt_wire::specs::Laws::Item::rows_passed, hdt_wire::specs::Laws::Item::rows_stopped, hdt_wire::specs::Laws::Item::rows_over))]
 fn objects_stand(mz: &Bits<'_>, zs: &Numbers<'_>, count: u64) -> Result<(), Fault>
     requires { length (bits_of mz.now) ≡ length (numbers_of zs.now) }
@@ -151,7 +151,7 @@ fn objects_stand(mz: &Bits<'_>, zs: &Numbers<'_>, count: u64) -> Result<(), Faul
     Ok(())
 }
 
-/// Whether the property `order` is `1`.
+/// Whether the property `order` is `1`: subject, predicate, object.
 pub fn in_order(properties: &[u8]) -> bool
     ensures { result ≡ is_one (property_value properties.now (codes "order")) }
 {
@@ -161,7 +161,7 @@ pub fn in_order(properties: &[u8]) -> bool
     }
 }
 
-/// The checks of the four sequences together.
+/// Checks the four sequences against each other and against the counts.
 #[tactic(auto, unfolding(crate::specs::Triples::fit_at))]
 fn fit_rows(
     counts: &Counts,
@@ -196,7 +196,7 @@ fn fit_rows(
     objects_stand(mz, zs, counts.objects)
 }
 
-/// The checks of the four sequences together, and what holds if none fails.
+/// As `fit_rows`, with the meaning of success: the four sequences encode valid triples.
 pub fn fit(
     counts: &Counts,
     my: &Bits<'_>,

@@ -1,4 +1,4 @@
-//! The four sequences of a list of triples.
+//! The four sequences that encode a list of triples.
 ghost use Rattle.std.specs.Prelude.{◌≡◌, ◌<◌, false, length, map, nat_eq, slice_index_or, IfOk};
 ghost use Rattle.hdt_triples.specs.Groups.{last_marks};
 ghost use Rattle.hdt_triples.specs.Writing.{all_pairs, pair_eq, sequences_of};
@@ -6,20 +6,20 @@ ghost use Rattle.hdt_triples.specs.Inside.SequencesView.{bitmap_made};
 
 use std::alloc::{AllocError, Global};
 
-/// The four sequences of bitmap triples.
+/// The four sequences of bitmap triples, to be written.
 #[derive(Drop)]
 pub struct Sequences {
     /// Bitmap Y: a 1-bit for each pair that is the last of its subject.
     pub my: Vec<bool>,
     /// Bitmap Z: a 1-bit for each triple that is the last of its pair.
     pub mz: Vec<bool>,
-    /// Sequence Y: the predicates of the pairs.
+    /// Array Y: the predicates of the pairs.
     pub ys: Vec<u64>,
-    /// Sequence Z: the objects of the triples.
+    /// Array Z: the objects of the triples.
     pub zs: Vec<u64>,
 }
 
-/// Whether no equal pair follows.
+/// Whether a triple is the last of its pair.
 fn ends_pair(pairs: &[(u64, u64)], at: usize) -> bool
     requires { at < length pairs.now }
     ensures { result ≡ slice_index_or (last_marks pair_eq pairs.now) at false }
@@ -27,7 +27,7 @@ fn ends_pair(pairs: &[(u64, u64)], at: usize) -> bool
     at + 1 == pairs.len() || pairs[at + 1] != pairs[at]
 }
 
-/// Whether no pair of the same subject follows.
+/// Whether a pair is the last of its subject.
 fn ends_subject(pairs: &[(u64, u64)], at: usize) -> bool
     requires { at < length pairs.now }
     ensures { result ≡ slice_index_or (last_marks nat_eq (map (λ p. p.0) pairs.now)) at false }
@@ -35,7 +35,7 @@ fn ends_subject(pairs: &[(u64, u64)], at: usize) -> bool
     at + 1 == pairs.len() || pairs[at + 1].0 != pairs[at].0
 }
 
-/// A 1-bit for each pair that is not followed by an equal one.
+/// Builds bitmap Z from the pair of each triple.
 fn pair_marks(alloc: Global, pairs: &[(u64, u64)]) -> Result<Vec<bool>, AllocError>
     ensures { IfOk result (λ made. made.items ≡ last_marks pair_eq pairs.now) }
 {
@@ -46,7 +46,7 @@ fn pair_marks(alloc: Global, pairs: &[(u64, u64)]) -> Result<Vec<bool>, AllocErr
     Ok(made)
 }
 
-/// A 1-bit for each pair that is not followed by one of the same subject.
+/// Builds bitmap Y from the distinct pairs.
 fn subject_marks(alloc: Global, pairs: &[(u64, u64)]) -> Result<Vec<bool>, AllocError>
     ensures { IfOk result (λ made. made.items ≡ last_marks nat_eq (map (λ p. p.0) pairs.now)) }
 {
@@ -57,28 +57,28 @@ fn subject_marks(alloc: Global, pairs: &[(u64, u64)]) -> Result<Vec<bool>, Alloc
     Ok(made)
 }
 
-/// The subject and the predicate of each triple.
+/// Returns the pair of each triple: its subject and predicate.
 fn pairs(alloc: Global, triples: &[(u64, u64, u64)]) -> Result<Vec<(u64, u64)>, AllocError>
     ensures { IfOk result (λ made. made.items ≡ all_pairs triples.now) }
 {
     triples.iter().map(|t| (t.0, t.1)).collect(alloc)
 }
 
-/// The predicates of pairs.
+/// Returns the predicates of pairs.
 fn predicates(alloc: Global, pairs: &[(u64, u64)]) -> Result<Vec<u64>, AllocError>
     ensures { IfOk result (λ made. made.items ≡ map (λ p. p.1) pairs.now) }
 {
     pairs.iter().map(|p| p.1).collect(alloc)
 }
 
-/// The objects of triples.
+/// Returns the objects of triples.
 fn objects(alloc: Global, triples: &[(u64, u64, u64)]) -> Result<Vec<u64>, AllocError>
     ensures { IfOk result (λ made. made.items ≡ map (λ t. t.2) triples.now) }
 {
     triples.iter().map(|t| t.2).collect(alloc)
 }
 
-/// The four sequences of a list of triples.
+/// Builds the four sequences of an ascending list of triples. Linear time.
 pub fn sequences_of(alloc: Global, triples: &[(u64, u64, u64)]) -> Result<Sequences, AllocError>
     ensures { IfOk result (λ made. bitmap_made made ≡ sequences_of triples.now) }
 {

@@ -1,4 +1,4 @@
-//! The position of a search by a predicate.
+//! The position of a search by predicate.
 ghost use Rattle.std.specs.Prelude.{◌≡◌, ◌≤◌, ◌<◌, ◌+◌, ℕ, length, true, false};
 ghost use Rattle.hdt_seq.specs.Directory.{groups};
 ghost use Rattle.hdt_seq.specs.Width.{digits};
@@ -13,24 +13,24 @@ use crate::look::{listed, mark};
 use crate::triples::Triples;
 use hdt_seq::Steps;
 
-/// The position of a search by a predicate: before a pair of the predicate, or within one.
+/// The position of a search by predicate: before a pair of the predicate, or within one.
 #[derive(Clone, Copy)]
 pub(crate) struct Spot<'a> {
-    /// The pairs of the predicate that are still to come.
+    /// The remaining pairs of the predicate.
     pub rest: &'a [u64],
-    /// The index of the next triple of the current pair, or the index after the last triple that was returned.
+    /// Within a pair the index of its next triple; before one the index after the last triple that was returned.
     pub at: u64,
     /// The subject of the current pair.
     pub subject: u64,
-    /// Whether there is a current pair.
+    /// Whether the position is within a pair.
     pub inside: bool,
 }
 
 impl<'a> IndexedTriples<'a> {
     ghost use Rattle.hdt_triples.specs.ListedViews.{triples_indexed};
 
-    /// The position itself within a pair, else that of the first triple of the next pair, by one rank for the pair's
-    /// subject and one select for its first triple.
+    /// Returns the position unchanged if it is within a pair, and else that of the first triple of the next pair: one
+    /// rank for the pair's subject, one select for its first triple.
     #[tactic(auto, unfolding(crate::specs::Views::bitmap_read))]
     pub(crate) fn enter<'b>(&self, spot: Spot<'b>, predicate: u64, steps: &mut Steps) -> Spot<'b>
         requires stands { InPairs (bitmap_read (triples_indexed self.now)) predicate spot }
@@ -57,7 +57,8 @@ impl<'a> IndexedTriples<'a> {
 }
 
 impl<'a> Triples<'a> {
-    /// The position after a triple of the current pair, by its bit. One step.
+    /// Returns the position after a triple of the current pair. Its bit in bitmap Z shows whether the pair ends. One
+    /// step.
     #[tactic(auto, unfolding(crate::specs::Views::bitmap_read))]
     pub(crate) fn leave<'b>(&self, spot: Spot<'b>, steps: &mut Steps) -> Spot<'b>
         requires inside { spot.inside ≡ true }

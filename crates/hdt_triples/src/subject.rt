@@ -1,4 +1,4 @@
-//! The matches of a pattern with a subject and no predicate.
+//! Search by a subject.
 ghost use Rattle.std.specs.Prelude.{◌≡◌, ◌≤◌, ◌<◌, ◌^◌, length, Some};
 ghost use Rattle.hdt_triples.specs.Bounds.{subject_price, Pays, limit};
 ghost use Rattle.hdt_triples.specs.Counting.{triples_of};
@@ -13,7 +13,7 @@ use crate::place::Place;
 use crate::triples::Triples;
 use hdt_seq::Steps;
 
-/// The matches of a pattern with a subject and no predicate, in order: a scan of the subject's triples.
+/// The matches of a pattern with a subject, in order, by a scan of the subject's triples.
 #[derive(Drop)]
 pub struct SubjectMatches<'a> {
     triples: Triples<'a>,
@@ -31,7 +31,7 @@ impl<'a> IndexedTriples<'a> {
     ghost use Rattle.hdt_triples.specs.ListedViews.{triples_indexed};
     ghost use Rattle.hdt_triples.specs.Left.{left_of, limit_of};
 
-    /// The matches of a pattern with this subject.
+    /// Finds the matches of a pattern with this subject.
     #[tactic(auto, using(crate::proofs::SubjectLaws::matches_skipped), unfolding(crate::specs::Left::left_of, crate::specs::Left::limit_of))]
     pub(crate) fn find_subject(&self, pattern: Pattern, subject: u64) -> Matches<'a>
         requires { pattern.s ≡ Some subject }

@@ -1,4 +1,4 @@
-//! The matches of a pattern with a subject and an object, and no predicate.
+//! Search by a subject and an object.
 ghost use Rattle.std.specs.Prelude.{◌≡◌, ◌≢◌, ◌≤◌, ◌<◌, ◌+◌, ◌*◌, ◌^◌, ℕ, length, slice_index, IfSome, Some, None};
 ghost use Rattle.hdt_seq.specs.Width.{digits};
 ghost use Rattle.hdt_triples.specs.Bounds.{jump, limit, of_subject, Pays, skip_price, subject_price, triples_with};
@@ -19,9 +19,11 @@ use crate::place::Place;
 use crate::price::digits_of;
 use hdt_seq::Steps;
 
-/// The matches of a pattern with a subject and an object, and no predicate, in order: a scan of the subject's triples.
-/// Each triple that doesn't match costs one step less than the table allows; once these pay for a binary search in the
-/// triples of the object, the next match is found by that.
+/// The matches of a pattern with a subject and an object but no predicate, in order, by a scan of the subject's
+/// triples.
+///
+/// A triple that doesn't match costs one step less than the table allows. Once the saved steps equal the cost of a
+/// binary search in the object's list, that search finds the next match.
 #[derive(Drop)]
 pub struct SubjectObjectMatches<'a> {
     indexed: &'a IndexedTriples<'a>,
@@ -49,8 +51,8 @@ pub struct SubjectObjectMatches<'a> {
 impl<'a> IndexedTriples<'a> {
     ghost use Rattle.hdt_triples.specs.ListedViews.{triples_indexed};
 
-    /// The position of the first triple, from one on, that has this object, by the triples of the object, if it has the
-    /// subject.
+    /// Returns the position of the first triple from index `from` on that has this object, if it has this subject too,
+    /// by a binary search in the object's list.
     #[tactic(auto, unfolding(crate::specs::Views::bitmap_read))]
     fn next_of(
         &self,
@@ -85,7 +87,7 @@ impl<'a> ListedTriples<'a> {
     ghost use Rattle.hdt_triples.specs.Left.{left_of, limit_of, short_limit_of};
     ghost use Rattle.hdt_triples.specs.ListedViews.{triples_listed};
 
-    /// The matches of a pattern with this subject and this object, and no predicate.
+    /// Finds the matches of a pattern with this subject, this object and no predicate.
     #[tactic(auto, unfolding(crate::specs::Left::left_of, crate::specs::Left::limit_of, crate::specs::Left::short_limit_of))]
     pub(crate) fn find_subject_object(
         &self,
@@ -123,7 +125,7 @@ impl<'a> SubjectObjectMatches<'a> {
     ghost use Rattle.hdt_triples.specs.declared.matches.Matches.TheVariants.{SubjectObject};
     ghost use Rattle.std.specs.Iterator.{YieldsFirst};
 
-    /// The next match, by the triples of the object.
+    /// Returns the next match, found in the object's list.
     #[tactic(auto, unfolding(crate::specs::Left::left_of, crate::specs::Left::limit_of, crate::specs::Left::short_limit_of, crate::specs::Left::steps_of))]
     fn skip(&mut self) -> Option<(u64, u64, u64)>
         requires within { self.old.place.at < length (bitmap_read self.old.indexed.now.triples).zs }

@@ -11,7 +11,7 @@ use crate::rows::{fit, in_order, marks_before};
 use hdt_seq::{Bits, Numbers};
 use hdt_wire::{Fault, Kind, Reason, demand, read_control};
 
-/// Triples that were read. They borrow the input, in which they are searched.
+/// Validated triples. They borrow the input and decode it on each access.
 ///
 /// ```text
 /// let (triples, next) = Triples::read(bytes, at, counts)?;
@@ -38,7 +38,7 @@ impl<'a> Triples<'a> {
     ghost use Rattle.hdt_triples.specs.ListedViews.{roles_of};
     ghost use Rattle.hdt_triples.specs.Views.{bitmap_read, read_of, parts_read, triples_in};
 
-    /// Reads triples, check by check.
+    /// Decodes triples, one check after another.
     #[tactic(auto, unfolding(crate::specs::Triples::triples_at, crate::specs::Views::bitmap_read))]
     fn read_rows(bytes: &'a [u8], at: usize, counts: Counts) -> Result<(Triples<'a>, usize), Fault>
         requires subjects { counts.subjects < 2 ^ 63 }
@@ -71,25 +71,27 @@ impl<'a> Triples<'a> {
         ))
     }
 
-    /// Reads the triples at a byte offset, from 0, whose IDs are those of so many strings. Returns them with the offset
-    /// after them. More bytes may follow. One pass over the pairs and one over the triples.
+    /// Reads the triples section at byte offset `at`, from 0, and checks that each ID is at most the count of its role.
+    /// Returns the triples and the byte offset after them; more bytes may follow. Linear time, no allocation: one pass
+    /// over the pairs and one over the triples.
     ///
     /// # Errors
     ///
-    /// The first of these, in this order: those of the control information, `TripleOrder`, those of the four sequences,
-    /// `LengthsDiffer`, `LastMark`, `MarkCount`, those of each pair, those of each object.
+    /// The first failed check, in this order: the control information, `TripleOrder`, the encodings of the four
+    /// sequences, `LengthsDiffer`, `LastMark`, `MarkCount`, each pair (`SubjectRange`, `PredicateRange`,
+    /// `PredicatesNotAscending`), each object (`ObjectRange`, `ObjectsNotAscending`).
     pub fn read(bytes: &'a [u8], at: usize, counts: Counts) -> Result<(Triples<'a>, usize), Fault>
         requires subjects { counts.subjects ≤ length bytes.now }
         requires predicates { counts.predicates ≤ length bytes.now }
         requires objects { counts.objects ≤ length bytes.now }
-        // What is returned is encoded there.
+        // Sound: what is returned is encoded there.
         ensures found { IfOk result (λ r. Seen parts_read (λ t. IsTriples (counts_seen counts) t bytes.now at) (read_of r)) }
-        // Whatever is encoded there is returned.
+        // Complete: whatever is encoded there is returned.
         ensures only { (t : TripleParts) → IsTriples (counts_seen counts) t bytes.now at → Reads read_of result (Ok (parts_read t)) }
-        // Otherwise it is the first error.
+        // The result is that of the checks, so an error is the first one.
         ensures exact { Reads read_of result (triples_in (counts_seen counts) bytes.now at) }
         ensures end { IfOk result (λ r. r.1 ≤ length bytes.now) }
-        // Their IDs are those of so many strings.
+        // The triples keep the counts they were checked against.
         ensures roles { IfOk result (λ r. roles_of r.0 ≡ counts_seen counts) }
     {
         Triples::read_rows(bytes, at, counts)
@@ -102,8 +104,8 @@ impl<'a> Triples<'a> {
         self.zs.len()
     }
 
-    /// Returns the subject, predicate and object of triple j, from 0. It scans the bitmaps from the first bit on:
-    /// linear time in j.
+    /// Returns the subject, predicate and object IDs of triple j, from 0. Linear time in j, as it counts the 1-bits of
+    /// the bitmaps from the start. The caller shows `j < len`.
     #[tactic(auto, using(crate::specs::Laws::Order::pair_within), unfolding(crate::specs::Views::bitmap_read))]
     pub fn get(&self, j: u64) -> (u64, u64, u64)
         requires { j < length (bitmap_read self.now).zs }

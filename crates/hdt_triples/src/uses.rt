@@ -1,4 +1,4 @@
-//! Which IDs the triples use.
+//! Which IDs occur in the triples.
 ghost use Rattle.std.specs.Prelude.{◌≡◌, ◌≤◌, ◌+◌, ◌↔◌, IsTrue};
 ghost use Rattle.hdt_wire.specs.declared.role.Role.TheVariants as roles;
 ghost use Rattle.hdt_triples.specs.Counting.{triples_of};
@@ -12,7 +12,7 @@ use hdt_wire::Role;
 impl<'a> ListedTriples<'a> {
     ghost use Rattle.hdt_triples.specs.ListedViews.{triples_listed};
 
-    /// Whether a triple has this subject: there is no gap in the IDs of subjects.
+    /// Whether a triple has this subject. Subject IDs have no gaps, so the number of subjects decides.
     fn uses_subject(&self, subject: u64, steps: &mut Steps) -> bool
         ensures is { result ≡ uses (triples_of (bitmap_read (triples_listed self.now))) roles.Subject subject }
         ensures cost { steps.new ≤ steps.old + 2 }
@@ -36,7 +36,8 @@ impl<'a> ListedTriples<'a> {
         !self.places_of(object, steps).is_empty()
     }
 
-    /// Returns whether a triple has the ID n, from 1, in the role; none has 0. At most two steps.
+    /// Returns whether a triple has the ID n in the role. IDs start at 1, so the result is false for 0. At most two
+    /// steps.
     pub fn uses(&self, role: Role, n: u64, steps: &mut Steps) -> bool
         ensures exact { IsTrue result ↔ Uses (triples_of (bitmap_read (triples_listed self.now))) role n }
         ensures is { result ≡ uses (triples_of (bitmap_read (triples_listed self.now))) role n }

@@ -1,4 +1,4 @@
-//! The matches of a pattern by a scan of all triples.
+//! Search by a scan of all triples.
 ghost use Rattle.std.specs.Prelude.{◌≡◌, ◌≤◌, ◌*◌, ◌<◌, ◌^◌, length};
 ghost use Rattle.hdt_triples.specs.Counting.{triples_of};
 ghost use Rattle.hdt_triples.specs.Patterns.{matches};
@@ -11,7 +11,7 @@ use crate::place::Place;
 use crate::triples::Triples;
 use hdt_seq::Steps;
 
-/// The matches of a pattern, in order: each triple is compared with it.
+/// The matches of a pattern, in order, by a scan of all triples.
 #[derive(Drop)]
 pub struct WalkMatches<'a> {
     triples: Triples<'a>,
@@ -25,12 +25,12 @@ pub struct WalkMatches<'a> {
 impl<'a> Triples<'a> {
     ghost use Rattle.hdt_triples.specs.Left.{left_of, limit_of};
 
-    /// Finds the matches of a pattern: exactly the triples with each ID that is given, once each, in order. It scans
-    /// all triples, in at most four steps each, and allocates nothing.
+    /// Finds the matches of a pattern: the triples that have each given ID, once each, in order. Scans all triples, in
+    /// at most four steps each. Allocates nothing.
     #[tactic(auto, using(crate::proofs::WalkLaws::from_start), unfolding(crate::specs::Left::left_of, crate::specs::Left::limit_of))]
     pub fn find(&self, pattern: Pattern) -> Matches<'a>
         ensures items { left_of result ≡ matches pattern (triples_of (bitmap_read self.now)) }
-        // Their number fits 64 bits.
+        // There are fewer than 2^64.
         ensures fits { length (left_of result) < 2 ^ 64 }
         ensures few { limit_of result ≡ 4 * length (bitmap_read self.now).zs }
     {

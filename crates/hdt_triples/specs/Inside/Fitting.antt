@@ -1,9 +1,9 @@
--- What makes triples writable, one by one.
+-- Which triples can be written, one at a time.
 use Rattle.std.specs.Prelude.{◌≡◌, ℕ, ◌+◌, ◌≤◌, List}
 use Rattle.hdt_triples.specs.Counting.{Triple}
 use Rattle.hdt_triples.specs.Order.{triple_in, TripleLess}
 
--- triple i can follow the previous one
+-- Triple i has no ID 0, and can follow the previous one; the first triple has subject 1.
 pub record CanFollow (ts : List Triple) (i : ℕ) : Type 0 where
   pub predicate : 1 ≤ (triple_in ts i).1
   pub object : 1 ≤ (triple_in ts i).2

@@ -1,4 +1,4 @@
--- Consecutive matches.
+-- Ranges of pairs and of triples. A range has the index of its first element and the index after its last one.
 use Rattle.std.specs.Prelude.{ℕ, ◌≡◌, ◌≢◌, ◌≤◌, ◌<◌, ◌+◌, length, slice_index, true, false}
 use Rattle.hdt_triples.specs.Counting.{BitmapTriples, pair_of, subject_at, triple_at}
 use Rattle.hdt_triples.specs.Patterns.{agrees}
@@ -6,11 +6,11 @@ use Rattle.hdt_triples.specs.Walking.{StandsAt}
 use Rattle.hdt_triples.specs.declared.pattern.Pattern.{Pattern}
 use Rattle.hdt_triples.specs.declared.place.Place.{Place}
 
--- pair q has this subject and this predicate
+-- Pair q has this subject and this predicate.
 abbrev pub IsPairOf : BitmapTriples → ℕ → ℕ → ℕ → Type 0
 IsPairOf f s p q = (q < length f.ys) × (subject_at f q ≡ s) × (slice_index f.ys q ≡ p)
 
--- the pairs of a subject are those from `low` to `high`
+-- The pairs of subject s are those from `low` to `high`.
 pub record PairsOf (f : BitmapTriples) (s low high : ℕ) : Type 0 where
   pub ordered : low ≤ high
   pub within : high ≤ length f.ys
@@ -18,7 +18,7 @@ pub record PairsOf (f : BitmapTriples) (s low high : ℕ) : Type 0 where
   pub from : (q : ℕ) → q < length f.ys → subject_at f q ≡ s → low ≤ q
   pub to : (q : ℕ) → q < length f.ys → subject_at f q ≡ s → q < high
 
--- from `at` to `end` all triples agree, and have this subject and this predicate; none does from `end` on
+-- From `at` to `end` all triples match, and have this subject and this predicate; from `end` on none matches.
 pub record IsRunOfTriples (f : BitmapTriples) (pattern : Pattern) (s p at end : ℕ) : Type 0 where
   pub ordered : at ≤ end
   pub within : end ≤ length f.zs
@@ -27,7 +27,7 @@ pub record IsRunOfTriples (f : BitmapTriples) (pattern : Pattern) (s p at end : 
   pub predicate_is : (i : ℕ) → at ≤ i → i < end → slice_index f.ys (pair_of f i) ≡ p
   pub over : (i : ℕ) → end ≤ i → i < length f.zs → agrees pattern (triple_at f i) ≡ false
 
--- the triples of the pairs from `first` to `last` are those from `at` on and before `end`
+-- The triples of the pairs `first` to `last`, both included, are those from `at` to `end`.
 pub record Edges (f : BitmapTriples) (first last at end : ℕ) : Type 0 where
   pub some : at < end
   pub within : end ≤ length f.zs
@@ -36,7 +36,7 @@ pub record Edges (f : BitmapTriples) (first last at end : ℕ) : Type 0 where
   pub to : (i : ℕ) → i < end → pair_of f i ≤ last
   pub ends : pair_of f end ≡ last + 1
 
--- the triples of pair q end at `end`; the one that has object o is at place `here`, which is `end` where there is none
+-- The triples of pair q end at `end`. The one with object o has the index `here`; if there is none, `here` is `end`.
 pub record IsObjectIn (f : BitmapTriples) (q o here end : ℕ) : Type 0 where
   pub start : ℕ
   pub edges : Edges f q q start end
@@ -45,7 +45,7 @@ pub record IsObjectIn (f : BitmapTriples) (q o here end : ℕ) : Type 0 where
   pub is : here < end → slice_index f.zs here ≡ o
   pub other : (i : ℕ) → start ≤ i → i < end → i ≢ here → slice_index f.zs i ≢ o
 
--- the triples that agree are those from `at` on and before `end`
+-- The triples that match are those from `at` to `end`.
 pub record AreBetween (f : BitmapTriples) (pattern : Pattern) (at end : ℕ) : Type 0 where
   pub ordered : at ≤ end
   pub within : end ≤ length f.zs
@@ -53,7 +53,7 @@ pub record AreBetween (f : BitmapTriples) (pattern : Pattern) (at end : ℕ) : T
   pub all : (i : ℕ) → at ≤ i → i < end → agrees pattern (triple_at f i) ≡ true
   pub over : (i : ℕ) → end ≤ i → i < length f.zs → agrees pattern (triple_at f i) ≡ false
 
--- the first triple from place `from` on that has object o is this one, of subject s
+-- p is the position of the first triple from index `from` on that has object o, and its subject is s.
 pub record IsNextOf (f : BitmapTriples) (s o from : ℕ) (p : Place) : Type 0 where
   pub stands : StandsAt f p
   pub later : from ≤ p.at

@@ -1,4 +1,4 @@
--- Four sequences that were made, as lists.
+-- The view of four built sequences as lists.
 use Rattle.hdt_triples.specs.Counting.{BitmapTriples}
 use Rattle.hdt_triples.specs.declared.sequences.Sequences.{Sequences}
 

@@ -1,15 +1,15 @@
--- The triples that four sequences hold, one by one.
+-- The triples that four sequences encode, by index.
 use Rattle.std.proofs.Common.{◌≡◌, ℕ, ◌<◌, length, arith}
 use Rattle.std.specs.Prelude.{slice_index_or}
 use Rattle.std.proofs.lemmas.List.FromFn.{length-map-range_with_len, get_or-map-range_with_len}
 use Rattle.hdt_triples.specs.Counting.{BitmapTriples, triple_at, triples_of}
 
--- there is one for each object
+-- There are as many triples as entries of array Z.
 pub length-triples : (f : BitmapTriples) → length (triples_of f) ≡ length f.zs
 unfolding triples_of
 length-triples f = length-map-range_with_len (triple_at f) 0 (length f.zs)
 
--- and triple j is that of its place
+-- Element j of the list is triple j.
 pub triple_is : (f : BitmapTriples) (j : ℕ) → j < length f.zs → slice_index_or (triples_of f) j (0, 0, 0) ≡ triple_at f j
 unfolding triples_of
 triple_is f j lt = get_or-map-range_with_len (triple_at f) 0 (length f.zs) j j (0, 0, 0) lt (omega arith)

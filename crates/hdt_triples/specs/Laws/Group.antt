@@ -1,4 +1,4 @@
--- Groups of equal neighbours: their 1-bits, their first elements, and how the two go together.
+-- Groups of equal neighbours: their bitmap, their first elements, and how both correspond.
 use Rattle.std.proofs.Common.{◌≡◌, ◌≢◌, ℕ, ◌+◌, ◌-◌, ◌<◌, ◌≤◌, suc, zero, Bool, true, false, not, cond, List, [], ◌∷◌, ◌++◌, length, get_or, take, map, slice_get, Some, refl, ap, sym, ◌∙◌, subst, arith, eqb}
 use Rattle.std.specs.List.{dedup, dedup_from}
 use Rattle.std.proofs.lemmas.List.{take_all, take_more}
@@ -21,12 +21,12 @@ module _ {X : Type 0} (same : X → X → Bool) where
   length-last_marks [] = refl
   length-last_marks (x ∷ xs) = length-last_marks_from x xs
 
-  -- the last place is marked
+  -- The last bit is 1.
   pub last_marked : (k : X) (xs : List X) → slice_get (last_marks_from same k xs) (length xs) ≡ Some true
   last_marked k [] = refl
   last_marked k (x ∷ xs) = last_marked x xs
 
-  -- the 1-bit at a place that isn't the last
+  -- A bit before the last one is 1 if the next element differs.
   pub mark_inside : (xs : List X) (i : ℕ) (d : X) → i + 1 < length xs → get_or (last_marks same xs) i false ≡ not (same (get_or xs (i + 1) d) (get_or xs i d))
   mark_inside [] i d h = absurd (omega arith)
   mark_inside (x ∷ []) i d h = absurd (omega arith)
@@ -35,7 +35,7 @@ module _ {X : Type 0} (same : X → X → Bool) where
       let e : suc (i + 1) ≡ suc i + 1 = omega arith in
       mark_inside (y ∷ xs) i d (omega arith) ∙ ap (λ j. not (same (get_or (x ∷ y ∷ xs) j d) (get_or (y ∷ xs) i d))) e
 
-  -- and at the last
+  -- The last bit is 1.
   pub mark_at_end : (xs : List X) (i : ℕ) → i + 1 ≡ length xs → get_or (last_marks same xs) i false ≡ true
   mark_at_end [] i h = absurd (omega arith)
   mark_at_end (x ∷ []) zero h = refl
@@ -52,7 +52,7 @@ module _ {X : Type 0} (same : X → X → Bool) where
       by false l e = refl
 
   module _ (exact : (x y : X) → same x y ≡ true → x ≡ y) where
-    -- the element of the group of a place
+    -- The 1-bits before index i count the groups before it, so they give the index of its group.
     at_step : (k x : X) (xs : List X) (i : ℕ) (d : X) (b : Bool) → same x k ≡ b
         → get_or (dedup_from same x xs) (marks_before (last_marks_from same x xs) i) d ≡ get_or (x ∷ xs) i d
         → get_or (cond b (dedup_from same k xs) (k ∷ dedup_from same x xs)) (cond (not b) 1 0 + marks_before (last_marks_from same x xs) i) d ≡ get_or (x ∷ xs) i d
@@ -76,7 +76,7 @@ module _ {X : Type 0} (same : X → X → Bool) where
     group_at [] i d h = absurd (omega arith)
     group_at (x ∷ xs) i d h = group_at_from x xs i d h
 
-    -- as many 1-bits as groups
+    -- There are as many 1-bits as groups.
     count_step : (k x : X) (xs : List X) (b : Bool) → same x k ≡ b → (n : ℕ) → n ≡ length (dedup_from same x xs) → cond (not b) 1 0 + n ≡ length (cond b (dedup_from same k xs) (k ∷ dedup_from same x xs))
     count_step k x xs true e n h = let f = ap (λ y. length (dedup_from same y xs)) (exact x k e) in omega arith
     count_step k x xs false e n h = omega arith
@@ -89,21 +89,21 @@ module _ {X : Type 0} (same : X → X → Bool) where
     groups [] = none_before []
     groups (x ∷ xs) = ap (marks_before (last_marks_from same x xs)) (length-last_marks_from x xs) ∙ groups_from x xs
 
--- the last place of a list that isn't empty is marked
+-- The last bit of a non-empty list is 1.
 pub last_is_marked : {X : Type 0} (same : X → X → Bool) (xs : List X) → 0 < length xs → slice_get (last_marks same xs) (length (last_marks same xs) - 1) ≡ Some true
 last_is_marked same [] h = absurd (omega arith)
 last_is_marked same (x ∷ xs) h =
     let e : length (last_marks_from same x xs) - 1 ≡ length xs = omega (arith, length-last_marks_from same x xs) in
     ap (slice_get (last_marks_from same x xs)) e ∙ last_marked same x xs
 
--- a loop's step over 1-bits
+-- One iteration of a loop that builds the bitmap.
 pub marks_more : {X : Type 0} (same : X → X → Bool) (xs : List X) (made : List Bool) (i : ℕ) (b : Bool) → i < length xs → b ≡ get_or (last_marks same xs) i false → made ≡ take i (last_marks same xs) → made ++ b ∷ [] ≡ take (i + 1) (last_marks same xs)
 marks_more same xs made i b h is front = (λ j. front j ++ is j ∷ []) ∙ sym (take_more (last_marks same xs) i false (omega (arith, length-last_marks same xs)))
 
 pub marks_all : {X : Type 0} (same : X → X → Bool) (xs : List X) (made : List Bool) (i : ℕ) → length xs ≤ i → made ≡ take i (last_marks same xs) → made ≡ last_marks same xs
 marks_all same xs made i h is = is ∙ take_all i (last_marks same xs) (omega (arith, length-last_marks same xs))
 
--- what holds of all elements holds of the groups
+-- What holds for all elements holds for all groups.
 module _ {X : Type 0} (same : X → X → Bool) (P : X → Type 0) where
   abbrev Each : List X → Type 0
   Each ys = (i : ℕ) (d : X) → i < length ys → P (get_or ys i d)
@@ -122,14 +122,14 @@ module _ {X : Type 0} (same : X → X → Bool) (P : X → Type 0) where
   all_groups [] h i d lt = absurd (omega arith)
   all_groups (x ∷ xs) h i d lt = all_from x xs (h 0 x (omega arith)) (λ i d lt. h (suc i) d (omega arith)) i d lt
 
--- each 1-bit's group is there
+-- The group of each element exists.
 module _ {X : Type 0} (same : X → X → Bool) (exact : (x y : X) → same x y ≡ true → x ≡ y) where
   pub group_within : (xs : List X) (i : ℕ) → i < length xs → marks_before (last_marks same xs) i < length (dedup same xs)
   group_within xs i h =
       let long = length-last_marks same xs in
       omega (arith, marks_before_last (last_marks same xs) i (last_is_marked same xs (omega (arith, h))) (omega (arith, h, long)), groups same exact xs)
 
-  -- what holds of neighbours that differ holds of neighbouring groups
+  -- What holds for neighbours that differ holds for neighbouring groups.
   module _ (R : X → X → Type 0) where
     abbrev Linked : List X → ℕ → X → Type 0
     Linked xs i d = R (get_or xs i d) (get_or xs (i + 1) d)
@@ -157,7 +157,7 @@ module _ {X : Type 0} (same : X → X → Bool) (exact : (x y : X) → same x y 
     linked_groups [] h i d lt = absurd (omega arith)
     linked_groups (x ∷ xs) h i d lt = linked_from x xs h i d lt
 
--- numbers that go up by at most one: each is the first and the 1-bits before it
+-- If numbers rise by at most one, each is the first number plus the 1-bits before it.
 module _ where
   step_by : (x y : ℕ) (b : Bool) → eqb y x ≡ b → x ≤ y → y ≤ x + 1 → y ≡ x + cond (not b) 1 0
   step_by x y true e low high = omega (arith, eqb-true y x e)
@@ -178,7 +178,7 @@ module _ where
   counted [] first h q d lt = absurd (omega arith)
   counted (x ∷ xs) first h q d lt = omega (arith, counted_from x xs h q d lt, first d (omega arith))
 
--- an element of a `map`, with the default along
+-- An element of a `map`, for a mapped default.
 pub get_or-map_any : {X Y : Type 0} (f : X → Y) (xs : List X) (i : ℕ) (d : X) → get_or (map f xs) i (f d) ≡ f (get_or xs i d)
 get_or-map_any f [] i d = refl
 get_or-map_any f (x ∷ xs) zero d = refl

@@ -1,4 +1,4 @@
--- The triples that four sequences hold ascend, and are in range.
+-- The triples of four valid sequences ascend and are in range.
 use Rattle.std.proofs.Common.{◌≡◌, ◌⊎◌, ℕ, ◌+◌, ◌<◌, Bool, true, false, List, length, get_or, slice_get, slice_index, Some, inl, inr, sym, ap, subst, arith}
 use Rattle.std.proofs.lemmas.Option.{slice_get-get_or}
 use Rattle.hdt_seq.specs.Marks.{marks_before}
@@ -11,11 +11,11 @@ step_by : (marks : List Bool) (i : ℕ) (b : Bool) → slice_get marks i ≡ Som
 step_by marks i true h = inl (marks_marked marks i h)
 step_by marks i false h = inr (marks_unmarked marks i h)
 
--- the next entry begins a group or goes on with one
+-- The next entry begins a group or continues one.
 step : (marks : List Bool) (i : ℕ) → i < length marks → (marks_before marks (i + 1) ≡ marks_before marks i + 1) ⊎ (marks_before marks (i + 1) ≡ marks_before marks i)
 step marks i lt = step_by marks i (get_or marks i false) (slice_get-get_or marks i false lt)
 
--- each triple has its pair
+-- The pair of each triple exists.
 pub pair_within : (f : BitmapTriples) → IsMarked f → (j : ℕ) → j < length f.zs → pair_of f j < length f.ys
 pair_within f m j lt = omega (arith, marks_before_last f.mz j m.last_triple (omega (arith, m.triples, lt)), m.each_pair)
 

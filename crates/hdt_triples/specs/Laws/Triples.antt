@@ -1,4 +1,4 @@
--- The checks of triples are exact.
+-- The checks of the triples section are exact: they pass exactly for a valid encoding.
 use Rattle.std.proofs.Common.{◌≡◌, ℕ, zero, suc, ◌+◌, ◌-◌, ◌<◌, ◌≤◌, ◌&&◌, Bool, true, false, List, length, get_or, slice_get, slice_index, eqb, ltb, leb, Option, Some, None, inl, inr, refl, sym, ap, subst, ◌∙◌, arith, add-one, cond}
 use Rattle.std.specs.Prelude.{codes, OnOk, Result, Ok, Err}
 use Rattle.hdt_wire.specs.declared.fault.Fault.{Fault}
@@ -26,7 +26,7 @@ use Rattle.hdt_wire.specs.Laws.ExactLeaves.{control_exact}
 use Rattle.hdt_triples.specs.Counting.{AreGrouped, AreTriples, Counts}
 use Rattle.hdt_triples.specs.Triples.{TripleParts, IsTriples, sequences_bitmap, fit_at, is_one, earlier, entry_row, pair_row, last_is, pairs_at, objects_at, triples_at}
 
--- ---- the order of triples, and the last 1-bits
+-- ---- the property `order`, and the last bits
 
 one_found : (value : Option (List ℕ)) → is_one value ≡ true → value ≡ Some (codes "1")
 one_found None e = absurd (cc)
@@ -44,7 +44,7 @@ mark_here marks i e =
 
 -- ---- numbers in groups
 
--- what the checks of an entry say
+-- What the checks of an entry establish.
 record EntryHolds (marks : List Bool) (xs : List ℕ) (count i : ℕ) : Type 0 where
   from : 1 ≤ slice_index xs i
   to : slice_index xs i ≤ count
@@ -66,7 +66,7 @@ earlier_by : (marks : List Bool) (xs : List ℕ) (i : ℕ) (b : Bool) → get_or
 unfolding earlier
 earlier_by marks xs i b h = ap (earlier marks xs) (add-one i) ∙ ap (λ b. cond b 0 (slice_index xs i)) h
 
--- entry i + 1 goes on with the group of entry i, or begins one
+-- Entry i + 1 continues the group of entry i, or begins one.
 ascend_by : (marks : List Bool) (xs : List ℕ) (i : ℕ) (b : Bool) → i < length marks → get_or marks i false ≡ b → earlier marks xs (i + 1) < slice_index xs (i + 1)
     → marks_before marks i ≡ marks_before marks (i + 1) → slice_index xs i < slice_index xs (i + 1)
 ascend_by marks xs i true lt is later same = absurd (omega (arith, same, marks_marked marks i (mark_here marks i is)))
@@ -179,7 +179,7 @@ fit_exact counts my mz ys zs = record {
       rw (t2, t3, t4, t5, t6, r6, r7) refl;
 }
 
--- what a reading of the checks shows where none fails
+-- What the four sequences satisfy if no check fails.
 pub fit_found : (counts : Counts) (my mz : Sequence Bool) (ys zs : Sequence ℕ) (r : Result (Unit {0}) Fault) → r ≡ fit_at counts my mz ys zs → OnOk r (AreTriples counts (sequences_bitmap my mz ys zs))
 fit_found counts my mz ys zs (Ok u) e = (fit_exact counts my mz ys zs).found u (sym e)
 fit_found counts my mz ys zs (Err f) e = tt

@@ -1,4 +1,4 @@
--- Whether triples use a number, as a fact and as a yes or a no.
+-- `Uses` and its truth value `uses` agree.
 use Rattle.std.proofs.Common.{◌≡◌, ℕ, ◌==◌, Bool, true, eq-eqb, subst}
 use Rattle.std.proofs.lemmas.Bool.{eqb-true}
 use Rattle.std.proofs.lemmas.Bool.Decides.{Decides-at}
@@ -25,6 +25,6 @@ uses_only ts role n h =
 pub uses_decides : (ts : List Triple) (role : Role) (n : ℕ) → Decides (uses ts role n) (Uses ts role n)
 uses_decides ts role n = (uses_found ts role n, uses_only ts role n)
 
--- what tells it as a yes or a no tells it as a fact
+-- A truth value that equals `uses` decides `Uses`.
 pub uses_means : (ts : List Triple) (role : Role) (n : ℕ) (b : Bool) → b ≡ uses ts role n → Decides b (Uses ts role n)
 uses_means ts role n b is = Decides-at b (uses ts role n) is (uses_decides ts role n)

@@ -1,5 +1,5 @@
--- The four sequences of triples that can be written fit together, their triples by counting are those triples, and
--- their bytes are read back, whatever precedes and follows them.
+-- The four sequences of writable triples are valid and encode these triples. Their bytes are read back, whatever
+-- precedes and follows them.
 use Rattle.std.proofs.Common.{◌≡◌, ℕ, ◌+◌, ◌<◌, ◌≤◌, ◌^◌, ◌&&◌, Bool, true, false, nat_eq, List, [], ◌∷◌, ◌++◌, length, get_or, map, codes, Some, inl, inr, refl, ap, sym, ◌∙◌, subst, arith, eqb, not}
 use Rattle.std.proofs.lemmas.Bool.{cases_lt, and_parts, eqb-true, eq-eqb, eqb-false}
 use Rattle.std.proofs.lemmas.List.{get_or-map, get_or_past, length-map, get_or_default, same_lists}
@@ -43,7 +43,7 @@ same_triple a b c d e f p q r = cc
 abbrev Rises : ℕ → ℕ → Type 0
 Rises a b = (a ≤ b) × (b ≤ a + 1)
 
--- a pair and the next one: the subject goes on or is the next, and within a subject the predicate ascends
+-- A pair and the next one: the subject is the same or the next ID; within a subject the predicate ascends.
 record Follows (a b : ℕ × ℕ) : Type 0 where
   subject : Rises a.0 b.0
   predicate : a.0 ≡ b.0 → a.1 < b.1
@@ -120,7 +120,7 @@ module _ (ts : List Triple) (can : AreWritable ts) where
       ∙ ap (λ (p : ℕ × ℕ). p.0) (first_group pair_eq (all_pairs ts) (0, 0) ∙ pair_is 0 (0, 0) can.some)
       ∙ can.first
 
-  -- the subject of pair q, counted
+  -- The subject of pair q, by counting 1-bits.
   subject_is : (q : ℕ) → q < length (pairs_of ts) → marks_before f.my q + 1 ≡ (get_or (pairs_of ts) q (0, 0)).0
   unfolding sequences_of
   subject_is q lt = sym (counted subjects subjects_first subjects_rise q 0 (omega (arith, many_subjects, lt))) ∙ get_or-map_any (λ (p : ℕ × ℕ). p.0) (pairs_of ts) q (0, 0)
@@ -133,7 +133,7 @@ module _ (ts : List Triple) (can : AreWritable ts) where
   unfolding sequences_of
   object_is j = get_or-map_any (λ (t : Triple). t.2) ts j (0, 0, 0)
 
-  -- ---- the triples by counting
+  -- ---- the encoded triples
 
   pair_there : (j : ℕ) → j < length ts → marks_before f.mz j < length (pairs_of ts)
   unfolding sequences_of
@@ -164,7 +164,7 @@ module _ (ts : List Triple) (can : AreWritable ts) where
       let within : k < length ts = omega (arith, size, length-map-range_with_len (triple_at f) 0 (length f.zs), below) in
       get_or-map-range_with_len (triple_at f) 0 (length f.zs) k k d (omega (arith, size, within)) (omega arith) ∙ counted_triple k within ∙ get_or_default ts k (0, 0, 0) d within)
 
-  -- ---- the sequences fit together
+  -- ---- the sequences are consistent
 
   marked : IsMarked f
   unfolding sequences_of
@@ -181,7 +181,7 @@ module _ (ts : List Triple) (can : AreWritable ts) where
         each_pair = groups pair_eq pair_exact (all_pairs ts) ∙ sym many_predicates;
       }
 
-  -- at least one pair, and no more than triples
+  -- There is at least one pair, and at most as many as triples.
   pairs_few : (0 < length f.ys) × (length f.ys ≤ length ts)
   unfolding sequences_of
   pairs_few =
@@ -191,7 +191,7 @@ module _ (ts : List Triple) (can : AreWritable ts) where
       let size = length-last_marks pair_eq (all_pairs ts) ∙ size_is in
       (omega (arith, many_predicates, here), omega (arith, many_predicates, each, most, size))
 
-  -- there are 1-bits of both kinds
+  -- Neither bitmap is empty.
   pub some_marks : (0 < length f.my) × (0 < length f.mz)
   some_marks = let m = marked in let pairs = pairs_few in let size = many_objects in let some = can.some in (omega (arith, m.pairs, pairs.0), omega (arith, m.triples, size, some))
 
@@ -255,7 +255,7 @@ module _ (ts : List Triple) (can : AreWritable ts) where
 
 -- ---- the bytes
 
--- the property text has no zero byte
+-- The property text has no zero byte.
 pub ordered_no_zero : HasNoZero ordered
 ordered_no_zero = λ k d lt. eqb-false _ _ (not-true _ (AllPass-from_list_all (λ b. not (eqb b 0)) ordered refl k d lt))
 
@@ -281,7 +281,7 @@ bits_stand bytes at end xs some few h = record {
   places = refl;
 }
 
--- four sequences of so many entries fit where they are written
+-- Four valid sequences whose lengths and entries are below 2^64.
 record CanStand (counts : Counts) (f : BitmapTriples) : Type 0 where
   fit : AreTriples counts f
   some_pairs : 0 < length f.my

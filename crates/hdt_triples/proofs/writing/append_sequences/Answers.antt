@@ -8,7 +8,7 @@ use Rattle.hdt_triples.specs.Inside.SequencesView.{bitmap_made}
 use Rattle.hdt_triples.specs.Writing.{ordered, canonical_sequences}
 use Rattle.hdt_triples.proofs.writing.append_sequences.Goals as goal
 
--- one more part behind what was appended
+-- Appending twice appends the concatenation.
 more : (old x r s y : List ℕ) → r ≡ old ++ x → s ≡ r ++ y → s ≡ old ++ (x ++ y)
 more old x r s y e f = f ∙ ap (λ (l : List ℕ). l ++ y) e ∙ append_assoc old x y
 

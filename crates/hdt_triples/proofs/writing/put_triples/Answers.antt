@@ -17,7 +17,7 @@ pub put_sequences-requires-clause-some_triples : goal.put_sequences-requires-cla
 unfolding bitmap_made
 put_sequences-requires-clause-some_triples c = subst (λ (f : BitmapTriples). 0 < length f.mz) (sym c.in_ok-made.ensures) (some_marks c.args.triples.now c.requires).1
 
--- what was appended stands behind what was there
+-- The appended bytes follow the previous ones.
 appended_stands : (old text new : List ℕ) → new ≡ old ++ text → Stands new (length old) text (length old + length text)
 appended_stands old text new e = subst (λ (l : List ℕ). Stands l (length old) text (length old + length text)) (append-nil (old ++ text) ∙ sym e) (Stands-after old text [])
 
