@@ -1,13 +1,13 @@
-//! Calls of hdt_dict: arenas.
+//! Calls of hdt_dict: arenas of strings.
 
 use hdt_dict::Arena;
 use hdt_probe::{Ask, Say};
 use std::alloc::{AllocError, Global};
 
-/// The words, each with the count of its arguments.
+/// The words of this module, each with its number of arguments.
 pub const WORDS: &str = "arena 2+ arena_of 0+";
 
-/// Answers a request of one of these words.
+/// Answers a request with one of these words. Returns false if the word is not one of them.
 pub fn answer(word: &str, ask: &mut Ask<'_>, say: &mut Say) -> bool {
     match word {
         "arena" => say_arena(ask, say),
@@ -17,7 +17,7 @@ pub fn answer(word: &str, ask: &mut Ask<'_>, say: &mut Say) -> bool {
     true
 }
 
-/// How many strings an arena has, and its strings, one by one and lent together.
+/// The number of strings of an arena, each string by its index, and all of them by `slices`.
 fn say_strings(arena: &Arena, ask: &Ask<'_>, say: &mut Say) {
     say.size(arena.len());
     for at in 0..arena.len() {
@@ -29,7 +29,7 @@ fn say_strings(arena: &Arena, ask: &Ask<'_>, say: &mut Say) {
     }
 }
 
-/// An arena with room for so many strings and bytes, or without where both are 0, to which strings are added.
+/// An arena with capacity for so many strings and bytes, or with none if both are 0, to which strings are added.
 fn say_arena(ask: &mut Ask<'_>, say: &mut Say) {
     let room = ask.size();
     let bytes = ask.size();
@@ -49,7 +49,7 @@ fn say_arena(ask: &mut Ask<'_>, say: &mut Say) {
     say_strings(&arena, ask, say)
 }
 
-/// An arena of strings that are put one behind another, and of where each begins.
+/// The arena of strings that were concatenated, and of the offset at which each begins.
 fn arena_of(alloc: Global, strings: &[Vec<u8>]) -> Result<Arena, AllocError> {
     let mut bytes = Vec::new(alloc);
     let mut starts = Vec::new(alloc);

@@ -1,4 +1,4 @@
-//! Calls of hdt_dict: strings that are split into sections, and dictionaries that are written.
+//! Calls of hdt_dict: splitting strings into sections, and writing dictionaries.
 ghost use Rattle.std.specs.Prelude.{◌≡◌, ◌≤◌, IsTrue, IfOk, All};
 ghost use Rattle.hdt_front.specs.Section.{AreStrings};
 ghost use Rattle.hdt_front.specs.Canonical.{lent_texts, texts};
@@ -14,11 +14,11 @@ use hdt_front::lent_strings;
 use hdt_probe::{Ask, Say};
 use std::alloc::{AllocError, Global};
 
-/// The words, each with the count of its arguments.
+/// The words of this module, each with its number of arguments.
 pub const WORDS: &str =
     "ascending_strings 0+ split 3+ split_lent 3+ put_dictionary 5+ put_lent_dictionary 5+ put_written_dictionary 5+";
 
-/// Answers a request of one of these words.
+/// Answers a request with one of these words. Returns false if the word is not one of them.
 pub fn answer(word: &str, ask: &mut Ask<'_>, say: &mut Say) -> bool {
     match word {
         "ascending_strings" => say_ascending_strings(ask, say),
@@ -51,7 +51,7 @@ struct Given {
     objects: Vec<Vec<u8>>,
 }
 
-/// The next arguments: how many strings each role has, and the strings.
+/// Reads the number of strings of each role, and the strings.
 fn given_by(ask: &mut Ask<'_>) -> Given {
     let subjects = ask.number();
     let predicates = ask.number();
@@ -63,7 +63,7 @@ fn given_by(ask: &mut Ask<'_>) -> Given {
     }
 }
 
-/// A section: how many strings, and these.
+/// The number of strings of a section, and the strings.
 fn say_lent_section(strings: &[&[u8]], say: &mut Say) {
     say.size(strings.len());
     say.strings(strings)
@@ -95,7 +95,7 @@ fn say_split(ask: &mut Ask<'_>, say: &mut Say) {
     }
 }
 
-/// Says the four sections of lent strings.
+/// The four sections of borrowed strings.
 fn say_split_of(
     alloc: Global,
     subjects: &[&[u8]],
@@ -135,7 +135,7 @@ fn is_text(bytes: &[u8]) -> bool
     std::str::from_utf8(bytes).is_ok() && !bytes.contains(&0)
 }
 
-/// Whether all of them are.
+/// Whether all strings are UTF-8 without a zero byte.
 fn are_texts(list: &[&[u8]]) -> bool
     ensures { IsTrue result → All IsDictionaryString (lent_texts list.now) }
 {
@@ -147,7 +147,7 @@ fn are_texts(list: &[&[u8]]) -> bool
     true
 }
 
-/// Whether all vectors hold UTF-8 without a zero byte.
+/// The same of strings in vectors.
 fn hold_texts(alloc: Global, list: &[Vec<u8>]) -> Result<bool, AllocError>
     ensures { IfOk result (λ held. IsTrue held → All IsDictionaryString (texts list.now)) }
 {
@@ -155,7 +155,7 @@ fn hold_texts(alloc: Global, list: &[Vec<u8>]) -> Result<bool, AllocError>
     Ok(are_texts(slices.as_slice()))
 }
 
-/// A section in work with these strings.
+/// A section writer that has these strings.
 fn in_work(alloc: Global, strings: &[&[u8]], block_size: u32) -> Result<SectionWriter, AllocError>
     requires strings { AreStrings (lent_texts strings.now) }
     requires block { 1 ≤ block_size }
@@ -168,7 +168,7 @@ fn in_work(alloc: Global, strings: &[&[u8]], block_size: u32) -> Result<SectionW
     Ok(writer)
 }
 
-/// The dictionary of lent strings, each handed in by itself.
+/// Appends the dictionary of borrowed strings, written by four section writers.
 fn put_one_by_one(
     alloc: Global,
     parts: &LentParts<'_>,
@@ -185,7 +185,7 @@ fn put_one_by_one(
     put_written_dictionary(shared, subjects, predicates, objects, out)
 }
 
-/// Appends the dictionary of these strings, if it can hold them.
+/// Appends the dictionary of these strings. Returns false if the strings or the block size are not valid.
 fn write_owned(
     alloc: Global,
     subjects: &[Vec<u8>],
@@ -211,7 +211,7 @@ fn write_owned(
     Ok(true)
 }
 
-/// The same of lent strings, handed in at once or one by one.
+/// The same of borrowed strings, written at once or string by string.
 fn write_lent(
     alloc: Global,
     subjects: &[&[u8]],
@@ -242,7 +242,7 @@ fn write_lent(
     Ok(true)
 }
 
-/// Says what was written, or why not.
+/// The buffer after the call, or why nothing was written.
 fn say_written(written: Result<bool, AllocError>, bytes: &[u8], say: &mut Say) {
     match written {
         Ok(true) => say.bytes(bytes),
