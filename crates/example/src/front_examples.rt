@@ -45,10 +45,10 @@ pub fn walk_example(
     starts: &mut Vec<usize>,
     text: &mut Vec<u8>,
 ) -> Result<(), ExampleFault> {
-    let mut walk = Walk::new(alloc, &section);
-    while let Some(start) = walk.next()? {
+    let mut strings = Walk::new(alloc, &section);
+    while let Some(start) = strings.next()? {
         starts.push(start)?;
-        text.extend_from_slice(walk.last())?;
+        text.extend_from_slice(strings.last())?;
     }
     Ok(())
 }
