@@ -5,6 +5,7 @@ from __future__ import annotations
 import gzip
 import re
 import sys
+import textwrap
 from pathlib import Path
 from typing import NamedTuple
 
@@ -23,6 +24,8 @@ BLOCKS = {
     "CONTRIBUTING.md": {"sh": 1},
     "docs/PROBES.md": {"sh": 1},
 }
+# At least so many examples in Rust do the comments of the sources have.
+EXAMPLES = 36
 # Shell commands that end with a status other than 0, by how they begin.
 STATUSES = {"printf '<u:a> ? ?\\n? x ?\\n": 1}
 # What commands print, as the comments after them say.
@@ -172,6 +175,45 @@ def test_printed_commands_are_documented() -> None:
     lines = [line.partition(" #")[0].strip() for name in documents() for block in blocks(name, "sh")
              for line in block.text.splitlines() if " #" in line]
     assert [command for command in PRINTED if command not in lines] == []
+
+
+# ---- examples in comments
+
+
+def examples() -> dict[str, list[str]]:
+    """The lines of each Rust block in the documentation comments of the sources, by file and line."""
+    found = {}
+    for path in sorted(TOP.glob("crates/*/src/*.rt")):
+        start, block = 0, list[str]()
+        for number, line in enumerate(path.read_text().splitlines(), 1):
+            comment = re.fullmatch(r" *//[/!] ?(.*)", line)
+            text = comment[1] if comment else ""
+            if start and text != "```":
+                block.append(text)
+            elif start:
+                found[f"{path.relative_to(TOP)}:{start}"] = block
+                start, block = 0, []
+            elif text == "```rust":
+                start = number
+    return found
+
+
+def is_compiled(block: list[str]) -> bool:
+    """Whether the lines are consecutive lines of the program crates/example, indentation aside."""
+    wanted = "\n".join(block)
+    for path in TOP.glob("crates/example/src/*.rt"):
+        lines = path.read_text().splitlines()
+        windows = (lines[start:start + len(block)] for start in range(len(lines)))
+        if any(textwrap.dedent("\n".join(window)) == wanted for window in windows):
+            return True
+    return False
+
+
+def test_examples_in_comments() -> None:
+    """Each example in the documentation comments of the sources is compiled and proved, as a part of crates/example."""
+    found = examples()
+    assert [place for place, block in found.items() if not is_compiled(block)] == []
+    assert len(found) >= EXAMPLES
 
 
 # ---- the tables of errors

@@ -2,6 +2,17 @@
 //! file in memory and opens that.
 #![tactic(auto)]
 
+mod build_examples;
+mod dict_examples;
+mod example_fault;
+mod file_examples;
+mod front_examples;
+mod seq_examples;
+mod terms_examples;
+mod triples_examples;
+mod usage_examples;
+mod wire_examples;
+
 use hdt_build::{BuildFault, Options, build_bytes};
 use hdt_dict::Role;
 use hdt_file::{DumpFault, Graph, OpenFault, open, write_graph};

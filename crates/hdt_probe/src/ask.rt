@@ -1,4 +1,4 @@
-//! What a request asks: its arguments, and the bytes that are kept.
+//! The arguments of a request.
 
 use crate::sink::Sink;
 use crate::source::{Failure, Pieces, Source};
@@ -6,8 +6,8 @@ use hdt_wire::{Counted, Kind, Reason, Role};
 use hex::FromHexError;
 use std::alloc::Global;
 
-/// The arguments that are left, each behind a space, and the bytes that the last `file` gave. A missing or misspelt argument
-/// is 0 or no bytes, and is noted.
+/// The remaining arguments of a request, each after a space, and the bytes of the last request `file`. A missing or
+/// malformed argument is read as 0 or no bytes, and noted.
 #[derive(Drop)]
 pub struct Ask<'a> {
     pub alloc: Global,
@@ -18,7 +18,7 @@ pub struct Ask<'a> {
 }
 
 impl<'a> Ask<'a> {
-    /// The arguments of a request, without its word.
+    /// Returns the arguments of a request, without its word.
     pub fn new(alloc: Global, file: &'a [u8], rest: Option<&'a str>) -> Ask<'a> {
         Ask {
             alloc,
@@ -29,32 +29,32 @@ impl<'a> Ask<'a> {
         }
     }
 
-    /// Whether an argument was missing or misspelt.
+    /// Returns whether an argument was missing or malformed.
     pub fn is_wrong(&self) -> bool {
         self.is_wrong
     }
 
-    /// Whether memory was refused for an argument.
+    /// Returns whether memory ran out for an argument.
     pub fn has_no_memory(&self) -> bool {
         self.has_no_memory
     }
 
-    /// Whether an argument is left.
+    /// Returns whether there is another argument.
     pub fn more(&self) -> bool {
         self.rest.is_some()
     }
 
-    /// Notes an argument that is misspelt.
+    /// Notes a malformed argument.
     pub fn wrong(&mut self) {
         self.is_wrong = true;
     }
 
-    /// Notes that memory was refused.
+    /// Notes that memory ran out.
     pub fn refused(&mut self) {
         self.has_no_memory = true;
     }
 
-    /// The next argument as it is.
+    /// Returns the next argument as text.
     pub fn word(&mut self) -> &'a str {
         let Some(rest) = self.rest else {
             self.is_wrong = true;
@@ -83,18 +83,18 @@ impl<'a> Ask<'a> {
         }
     }
 
-    /// The next argument, a number in decimal.
+    /// Reads the next argument, a number in decimal.
     pub fn number(&mut self) -> u64 {
         let word = self.word();
         self.number_in(word)
     }
 
-    /// The same as an offset or a length.
+    /// Reads the next argument as a byte offset or a length.
     pub fn size(&mut self) -> usize {
         self.number() as usize
     }
 
-    /// The same as a number of 32 bits.
+    /// Reads the next argument as a number of 32 bits.
     pub fn number32(&mut self) -> u32 {
         match u32::try_from(self.number()) {
             Ok(number) => number,
@@ -105,7 +105,7 @@ impl<'a> Ask<'a> {
         }
     }
 
-    /// The next argument, 1 for true and 0 for false.
+    /// Reads the next argument: 0 for false, any other number for true.
     pub fn truth(&mut self) -> bool {
         self.number() != 0
     }
@@ -118,13 +118,13 @@ impl<'a> Ask<'a> {
         Some(self.number_in(text))
     }
 
-    /// The next argument, a number, or `-` for none.
+    /// Reads the next argument, a number, or `-` for none.
     pub fn maybe(&mut self) -> Option<u64> {
         let word = self.word();
         self.maybe_in(word)
     }
 
-    /// The next three arguments, numbers, each of which may be none; or none in place of all three.
+    /// Reads the next three arguments, each a number or `-`; or one argument `none` in place of the three.
     pub fn maybe_three(&mut self) -> Option<(Option<u64>, Option<u64>, Option<u64>)> {
         let word = self.word();
         if word == "none" {
@@ -149,13 +149,13 @@ impl<'a> Ask<'a> {
         }
     }
 
-    /// The next argument, bytes in hexadecimal.
+    /// Reads the next argument, bytes in hexadecimal.
     pub fn bytes(&mut self) -> Vec<u8> {
         let word = self.word();
         self.bytes_in(word)
     }
 
-    /// The next argument, bytes, or `-` for none.
+    /// Reads the next argument, bytes in hexadecimal, or `-` for none.
     pub fn maybe_bytes(&mut self) -> Option<Vec<u8>> {
         let word = self.word();
         if word == "-" {
@@ -164,7 +164,7 @@ impl<'a> Ask<'a> {
         Some(self.bytes_in(word))
     }
 
-    /// So many arguments, or all that are left, bytes in hexadecimal.
+    /// Reads at most `most` arguments, each bytes in hexadecimal.
     pub fn strings(&mut self, most: u64) -> Vec<Vec<u8>> {
         let mut strings = Vec::new(self.alloc);
         for _ in 0..most {
@@ -178,7 +178,7 @@ impl<'a> Ask<'a> {
         strings
     }
 
-    /// So many arguments, bytes in hexadecimal.
+    /// Reads exactly `count` arguments, each bytes in hexadecimal.
     pub fn list(&mut self, count: u64) -> Vec<Vec<u8>> {
         let strings = self.strings(count);
         if (strings.len() as u64) < count {
@@ -187,7 +187,7 @@ impl<'a> Ask<'a> {
         strings
     }
 
-    /// All arguments that are left, numbers.
+    /// Reads all remaining arguments, numbers in decimal.
     pub fn numbers(&mut self) -> Vec<u64> {
         let mut numbers = Vec::new(self.alloc);
         for _ in 0..u64::MAX {
@@ -201,7 +201,7 @@ impl<'a> Ask<'a> {
         numbers
     }
 
-    /// A kind of control block, by the byte that stands for it.
+    /// Reads a kind of control information, by its type byte.
     pub fn kind(&mut self) -> Kind {
         match self.number() {
             1 => Kind::Global,
@@ -215,7 +215,7 @@ impl<'a> Ask<'a> {
         }
     }
 
-    /// A role, by its number.
+    /// Reads a role, by its number in docs/PROBES.md.
     pub fn role(&mut self) -> Role {
         match self.number() {
             0 => Role::Subject,
@@ -228,7 +228,7 @@ impl<'a> Ask<'a> {
         }
     }
 
-    /// A reason of a fault, by its number.
+    /// Reads the reason of an error, by its number.
     pub fn reason(&mut self) -> Reason {
         match crate::reason::reason_of(self.number()) {
             Some(reason) => reason,
@@ -252,7 +252,7 @@ impl<'a> Ask<'a> {
         }
     }
 
-    /// When and how a reader or a writer fails, if ever, and whether that is counted in bytes, by an `@` before.
+    /// Reads the point and the kind of a failure, if there is one, and whether the point counts bytes, as an `@` says.
     fn failing(&mut self) -> (Option<u64>, Failure, bool) {
         let word = self.word();
         let (count, by_bytes) = match word.split_once('@') {
@@ -268,8 +268,8 @@ impl<'a> Ask<'a> {
         }
     }
 
-    /// How a reader gives its bytes, by the next two arguments: its step, which may begin with that of the first call and a
-    /// slash, and when it fails.
+    /// Reads the two arguments of a reader: its step, which may begin with that of the first call and a slash; and when
+    /// it fails.
     pub fn pieces(&mut self) -> Pieces {
         let word = self.word();
         let (first, step) = match word.split_once('/') {
@@ -285,12 +285,12 @@ impl<'a> Ask<'a> {
         }
     }
 
-    /// A reader of these bytes, by the next two arguments.
+    /// Returns a reader of these bytes, as the next two arguments describe it.
     pub fn source<'b>(&mut self, bytes: &'b [u8]) -> Counted<Source<'b>> {
         self.pieces().source(bytes)
     }
 
-    /// A writer, by the next two arguments: its step, and when it fails.
+    /// Returns a writer, as the next two arguments describe it: its step, and when it fails.
     pub fn sink(&mut self) -> Counted<Sink> {
         let step = self.size();
         let (count, how, by_bytes) = self.failing();

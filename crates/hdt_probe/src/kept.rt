@@ -1,11 +1,11 @@
-//! What a program keeps from one request to the next.
+//! What a probe program keeps from one request to the next.
 
 use crate::ask::Ask;
 use crate::say::Say;
 use crate::seen::Seen;
 use std::alloc::{AllocError, Global};
 
-/// What a program keeps: the bytes of the last `file`, and what the last reader and the last writer were asked for.
+/// What a probe program keeps: the bytes of the last request `file`, and the call counts of the last reader and writer.
 #[derive(Drop)]
 pub struct Kept {
     pub file: Vec<u8>,
@@ -14,7 +14,7 @@ pub struct Kept {
 }
 
 impl Kept {
-    /// Nothing yet.
+    /// Returns the state before the first request.
     pub fn new(alloc: Global) -> Kept {
         Kept {
             file: Vec::new(alloc),
@@ -23,7 +23,7 @@ impl Kept {
         }
     }
 
-    /// Keeps the bytes of a request `file`, and puts the line that answers it.
+    /// Keeps the bytes of a request `file`, and appends its answer. If memory runs out, nothing is kept.
     pub fn take_file(
         &mut self,
         alloc: Global,
@@ -38,7 +38,7 @@ impl Kept {
         Ok(())
     }
 
-    /// Keeps what the reader and the writer of a request were asked for.
+    /// Keeps the call counts of the reader and the writer of a request, if it had them.
     pub fn note(&mut self, reads: Option<Seen>, writes: Option<Seen>) {
         if let Some(seen) = reads {
             self.reads = seen;
@@ -49,7 +49,7 @@ impl Kept {
     }
 }
 
-/// The word of a request, and what follows the space behind it.
+/// Splits a request into its word and what follows the first space.
 pub fn word_of(line: &str) -> (&str, Option<&str>) {
     match line.split_once(' ') {
         Some((word, rest)) => (word, Some(rest)),

@@ -1,11 +1,11 @@
-//! What the probe programs share: requests, answers, and readers and writers that work in pieces and fail.
+//! The common part of the probe programs: requests, answers, and readers and writers that work in pieces and fail.
 //!
-//! A probe program hands calls of the libraries to a test: it reads requests line by line and prints one line for each. A
-//! request is a word and its arguments, each behind one space: numbers in decimal, bytes in hexadecimal, `-` for none. An
-//! answer is `ok` and values, or the reason why there are none.
+//! A probe program makes calls of the libraries for a test. It reads requests line by line and prints one line for
+//! each. A request is a word and its arguments, each after one space: numbers in decimal, bytes in hexadecimal, `-` for
+//! none. An answer is `ok` and values, or the error. docs/PROBES.md lists all words.
 //!
-//! Arguments and values are read and made without a `Result`: what is missing, misspelt or refused is noted, and the line
-//! that is put at the end says it. So a word is a short function.
+//! Arguments and values need no `Result`: a malformed argument and an allocation failure are noted, and the answer
+//! reports them at the end. So each word takes only a short function.
 #![tactic(auto)]
 
 mod ask;

@@ -1,8 +1,8 @@
-//! The reasons of faults, by their numbers.
+//! The reasons of errors, by their numbers.
 
 use hdt_wire::Reason;
 
-/// Those of numbers, blocks and sequences.
+/// Reasons of numbers, control information and sequences.
 fn low_reason(number: u64) -> Option<Reason> {
     match number {
         1 => Some(Reason::Truncated),
@@ -21,7 +21,7 @@ fn low_reason(number: u64) -> Option<Reason> {
     }
 }
 
-/// Those of sections.
+/// Reasons of sections.
 fn middle_reason(number: u64) -> Option<Reason> {
     match number {
         13 => Some(Reason::Width),
@@ -39,7 +39,7 @@ fn middle_reason(number: u64) -> Option<Reason> {
     }
 }
 
-/// Those of triples and of whole files.
+/// Reasons of triples and of files.
 fn high_reason(number: u64) -> Option<Reason> {
     match number {
         24 => Some(Reason::NoTriples),
@@ -57,7 +57,7 @@ fn high_reason(number: u64) -> Option<Reason> {
     }
 }
 
-/// The reason with this number.
+/// Returns the reason with this number.
 pub fn reason_of(number: u64) -> Option<Reason> {
     if number < 13 {
         return low_reason(number);

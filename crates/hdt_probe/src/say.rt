@@ -1,4 +1,4 @@
-//! What is answered: values, each behind a space, or why there are none.
+//! The answer to a request: values, each after a space, or an error.
 
 use crate::ask::Ask;
 use crate::seen::Seen;
@@ -8,25 +8,25 @@ use hdt_wire::{Counted, Fault, Role, put_decimal};
 use std::alloc::{AllocError, Global};
 use std::cmp::Ordering;
 
-/// A word.
+/// Appends a space and a word.
 fn put_word(text: &str, out: &mut Vec<u8>) -> Result<(), AllocError> {
     out.extend_from_slice(b" ")?;
     out.extend_from_slice(text.as_bytes())
 }
 
-/// A number in decimal.
+/// Appends a space and a number in decimal.
 fn put_number(number: u64, out: &mut Vec<u8>) -> Result<(), AllocError> {
     out.extend_from_slice(b" ")?;
     put_decimal(number, out)
 }
 
-/// Bytes in hexadecimal.
+/// Appends a space and bytes in hexadecimal.
 fn put_bytes(bytes: &[u8], out: &mut Vec<u8>) -> Result<(), AllocError> {
     let text = hex::encode(*out.allocator(), bytes)?;
     put_word(text.as_str(), out)
 }
 
-/// An answer that is being made: values, and the reason why there are none or no more.
+/// An answer: its values, and the error after which there are no more.
 #[derive(Drop)]
 pub struct Say {
     alloc: Global,
@@ -39,7 +39,7 @@ pub struct Say {
 }
 
 impl Say {
-    /// An answer without values.
+    /// Returns an answer without values.
     pub fn new(alloc: Global) -> Say {
         Say {
             alloc,
@@ -52,48 +52,48 @@ impl Say {
         }
     }
 
-    /// Memory was refused for the answer itself.
+    /// Notes that memory ran out for the answer itself.
     pub fn lost(&mut self) {
         self.has_no_memory = true;
     }
 
-    /// Notes the outcome of making a part of the answer.
+    /// Notes whether a part of the answer could be appended.
     fn done(&mut self, done: Result<(), AllocError>) {
         if done.is_err() {
             self.has_no_memory = true;
         }
     }
 
-    /// A reason why there are no values, or no more.
+    /// Appends a text to the error.
     pub fn stop(&mut self, reason: &str) {
         let done = self.stop.extend_from_slice(reason.as_bytes());
         self.done(done)
     }
 
-    /// A number of the reason.
+    /// Appends a number to the error.
     pub fn stop_number(&mut self, number: u64) {
         let done = put_number(number, &mut self.stop);
         self.done(done)
     }
 
-    /// There is no such word.
+    /// Notes that there is no such word.
     pub fn unknown(&mut self) {
         self.is_unknown = true;
     }
 
-    /// Memory was refused, where no other reason was given before.
+    /// Reports that a call ran out of memory, unless another error was reported before.
     pub fn no_memory(&mut self) {
         if self.stop.is_empty() {
             self.stop("out of memory")
         }
     }
 
-    /// The condition of the call does not hold.
+    /// Reports that the precondition of the call does not hold.
     pub fn refused(&mut self) {
         self.stop("refused")
     }
 
-    /// A fault, up to its name.
+    /// Reports an error by its number and name.
     pub fn fault_of(&mut self, number: u8, name: &str) {
         self.stop("fault");
         self.stop_number(u64::from(number));
@@ -101,54 +101,54 @@ impl Say {
         self.done(done)
     }
 
-    /// A fault of a file.
+    /// Reports an error in a file.
     pub fn fault(&mut self, fault: Fault) {
         self.fault_of(fault.reason.number(), fault.reason.name());
         self.stop_number(fault.place)
     }
 
-    /// A string of a role that is no term.
+    /// Reports a string of a role that is not a term.
     pub fn not_a_term(&mut self, role: Role, number: u64) {
         self.stop("not a term");
         self.stop_number(role_number(role));
         self.stop_number(number)
     }
 
-    /// A writer failed after so many bytes.
+    /// Reports that a writer failed after so many bytes.
     pub fn written(&mut self, count: u64) {
         self.stop("written");
         self.stop_number(count)
     }
 
-    /// A word.
+    /// Appends a word to the values.
     pub fn word(&mut self, text: &str) {
         let done = put_word(text, &mut self.values);
         self.done(done)
     }
 
-    /// A number.
+    /// Appends a number in decimal.
     pub fn number(&mut self, number: u64) {
         let done = put_number(number, &mut self.values);
         self.done(done)
     }
 
-    /// An offset or a length.
+    /// Appends a byte offset or a length.
     pub fn size(&mut self, size: usize) {
         self.number(size as u64)
     }
 
-    /// Bytes.
+    /// Appends bytes in hexadecimal.
     pub fn bytes(&mut self, bytes: &[u8]) {
         let done = put_bytes(bytes, &mut self.values);
         self.done(done)
     }
 
-    /// Whether something holds.
+    /// Appends `true` or `false`.
     pub fn truth(&mut self, holds: bool) {
         self.word(if holds { "true" } else { "false" })
     }
 
-    /// A number, or none.
+    /// Appends a number, or `none`.
     pub fn maybe(&mut self, found: Option<u64>) {
         match found {
             Some(number) => self.number(number),
@@ -156,14 +156,14 @@ impl Say {
         }
     }
 
-    /// Three numbers.
+    /// Appends the three IDs of a triple.
     pub fn triple(&mut self, triple: (u64, u64, u64)) {
         self.number(triple.0);
         self.number(triple.1);
         self.number(triple.2)
     }
 
-    /// How one string lies to another one.
+    /// Appends the result of a comparison.
     pub fn order(&mut self, order: Ordering) {
         self.word(match order {
             Ordering::Less => "less",
@@ -172,7 +172,7 @@ impl Say {
         })
     }
 
-    /// The bytes that a call appended to, or that memory was refused.
+    /// Appends the buffer of a call that appends, and reports whether it ran out of memory.
     pub fn appended(&mut self, done: Result<(), AllocError>, bytes: &[u8]) {
         if done.is_err() {
             self.no_memory();
@@ -180,7 +180,7 @@ impl Say {
         self.bytes(bytes)
     }
 
-    /// A text that was made, or that memory was refused.
+    /// Appends a text, or notes that memory ran out for it.
     pub fn made(&mut self, made: Result<String, AllocError>) {
         match made {
             Ok(text) => self.bytes(text.as_bytes()),
@@ -188,21 +188,21 @@ impl Say {
         }
     }
 
-    /// Lent strings.
+    /// Appends strings.
     pub fn strings(&mut self, strings: &[&[u8]]) {
         for string in strings {
             self.bytes(string);
         }
     }
 
-    /// Takes what a reader was asked for, and answers how many bytes it still has.
+    /// Keeps the call counts of a reader, and returns how many bytes it still has.
     pub fn read(&mut self, input: Counted<Source<'_>>) -> u64 {
         let source = input.into_inner();
         self.reads = Some(source.seen());
         source.left()
     }
 
-    /// Calls of the reader behind its end or its failure.
+    /// Returns the number of calls of the reader after its end or its failure.
     pub fn late(&self) -> u64 {
         match self.reads {
             Some(seen) => seen.after_end.saturating_add(seen.after_failure),
@@ -210,7 +210,7 @@ impl Say {
         }
     }
 
-    /// Takes what a writer was asked for, and says what it took.
+    /// Keeps the call counts of a writer, and appends the bytes that it took.
     pub fn wrote(&mut self, out: Counted<Sink>) {
         let sink = out.into_inner();
         self.writes = Some(sink.seen());
@@ -220,17 +220,17 @@ impl Say {
         self.bytes(sink.taken())
     }
 
-    /// What a reader was asked for in this request.
+    /// Returns the call counts of this request's reader, if it had one.
     pub fn reads(&self) -> Option<Seen> {
         self.reads
     }
 
-    /// What a writer was asked for in this request.
+    /// Returns the call counts of this request's writer, if it had one.
     pub fn writes(&self) -> Option<Seen> {
         self.writes
     }
 
-    /// What a reader or a writer was asked for.
+    /// Appends call counts.
     pub fn seen(&mut self, seen: Seen) {
         self.number(seen.calls);
         self.number(seen.bytes);
@@ -241,7 +241,7 @@ impl Say {
         self.number(seen.largest)
     }
 
-    /// Appends the line.
+    /// Appends the line of the answer to `out`.
     pub fn put_line(&self, ask: &Ask<'_>, out: &mut Vec<u8>) -> Result<(), AllocError> {
         if self.is_unknown {
             return out.extend_from_slice(b"? unknown\n");
@@ -262,7 +262,7 @@ impl Say {
     }
 }
 
-/// The number of a role.
+/// Returns the number of a role in requests and answers.
 pub fn role_number(role: Role) -> u64 {
     match role {
         Role::Subject => 0,

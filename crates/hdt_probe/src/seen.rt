@@ -1,30 +1,30 @@
-//! What a reader or a writer was asked for.
+//! Call counts of a reader or a writer.
 
-/// What a reader or a writer was asked for.
+/// Call counts of a reader or a writer.
 #[derive(Clone, Copy)]
 pub struct Seen {
-    /// Calls of it.
+    /// The number of calls.
     pub calls: u64,
-    /// Bytes that it gave or took.
+    /// The number of bytes that it gave or took.
     pub bytes: u64,
-    /// Calls after it had said that it is at its end.
+    /// The number of calls after it had reported its end.
     pub after_end: u64,
-    /// Calls after it had failed.
+    /// The number of calls after it had failed.
     pub after_failure: u64,
-    /// Flushes.
+    /// The number of flushes.
     pub flushes: u64,
-    /// The length of the shortest buffer; the greatest number where there was no call.
+    /// The length of the shortest buffer, or `u64::MAX` if there was no call.
     pub smallest: u64,
     /// The length of the longest buffer.
     pub largest: u64,
-    /// Whether it has said that it is at its end.
+    /// Whether it has reported its end.
     pub has_ended: bool,
     /// Whether it has failed.
     pub has_failed: bool,
 }
 
 impl Seen {
-    /// Nothing yet.
+    /// Returns the counts before the first call.
     pub fn new() -> Seen {
         Seen {
             calls: 0,
@@ -52,7 +52,7 @@ impl Seen {
         self.largest = self.largest.max(len as u64);
     }
 
-    /// Counts bytes that were given or taken.
+    /// Counts bytes that it gave or took.
     pub fn moved(&mut self, count: usize) {
         self.bytes = self.bytes.saturating_add(count as u64);
     }

@@ -1,4 +1,4 @@
-//! A writer in pieces, which fails.
+//! A writer that takes its bytes piece by piece and can fail.
 
 use crate::seen::Seen;
 use crate::source::Failure;
@@ -6,7 +6,7 @@ use std::alloc::Global;
 use std::io;
 use std::io::Write;
 
-/// A writer that keeps what it took, at most `step` bytes a call, and fails after so many calls, or bytes.
+/// A writer that keeps what it takes, at most `step` bytes a call, and fails after a number of calls or bytes.
 #[derive(Drop)]
 pub struct Sink {
     taken: Vec<u8>,
@@ -19,7 +19,7 @@ pub struct Sink {
 }
 
 impl Sink {
-    /// A writer of this step, which fails after so many calls and after so many bytes, if ever.
+    /// Returns a writer with this step, which fails after so many calls or bytes, if these are given.
     pub(crate) fn new(
         alloc: Global,
         step: usize,
@@ -38,22 +38,22 @@ impl Sink {
         }
     }
 
-    /// All that it took.
+    /// Returns all bytes that it took.
     pub fn taken(&self) -> &[u8] {
         &self.taken
     }
 
-    /// What it was asked for.
+    /// Returns its call counts.
     pub fn seen(&self) -> Seen {
         self.seen
     }
 
-    /// Whether memory was refused for what it was to keep.
+    /// Returns whether memory ran out for the bytes that it took.
     pub fn is_lost(&self) -> bool {
         self.is_lost
     }
 
-    /// Fails: by no bytes at `Ok`.
+    /// Fails: by an error, or at `Ok` by taking no bytes.
     fn fail(&mut self) -> io::Result<()> {
         match self.how {
             Failure::Error => {
@@ -75,7 +75,7 @@ impl Sink {
         }
     }
 
-    /// How many bytes of a buffer it takes, and counts them.
+    /// The number of bytes that the next call takes of a buffer, which it counts.
     fn most(&mut self, room: usize) -> usize {
         let mut most = room.min(self.step);
         if let Some(left) = self.left {

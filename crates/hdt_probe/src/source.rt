@@ -1,4 +1,4 @@
-//! A reader in pieces, which fails.
+//! A reader that gives its bytes piece by piece and can fail.
 
 use crate::seen::Seen;
 use hdt_wire::Counted;
@@ -8,7 +8,7 @@ use std::io::Read;
 /// How a reader or a writer fails.
 #[derive(Clone, Copy)]
 pub enum Failure {
-    /// By an error, at each call from then on.
+    /// By an error, at every later call.
     Error,
     /// By `Interrupted`, once.
     Interrupted,
@@ -16,8 +16,8 @@ pub enum Failure {
     Zero,
 }
 
-/// How a reader gives its bytes: the step of the first call, where it is another one, that of the later ones, and after how
-/// many bytes it fails, if ever.
+/// How a reader gives its bytes: the step of the first call, if it differs; that of the later calls; and the number of
+/// bytes after which it fails, if ever.
 #[derive(Clone, Copy)]
 pub struct Pieces {
     pub(crate) first: Option<usize>,
@@ -27,13 +27,13 @@ pub struct Pieces {
 }
 
 impl Pieces {
-    /// A reader of these bytes.
+    /// Returns a reader of these bytes.
     pub fn source<'a>(&self, bytes: &'a [u8]) -> Counted<Source<'a>> {
         Counted::new(Source::new(bytes, *self))
     }
 }
 
-/// A reader of bytes, which gives at most `step` of them a call, and fails once `left` are given.
+/// A reader of bytes, which gives at most `step` bytes a call, and fails once it gave `left` bytes.
 #[derive(Drop)]
 pub struct Source<'a> {
     bytes: &'a [u8],
@@ -57,17 +57,17 @@ impl<'a> Source<'a> {
         }
     }
 
-    /// What it was asked for.
+    /// Returns its call counts.
     pub fn seen(&self) -> Seen {
         self.seen
     }
 
-    /// How many bytes it still has.
+    /// Returns the number of bytes that it still has.
     pub fn left(&self) -> u64 {
         self.bytes.len() as u64
     }
 
-    /// How many bytes a call of this room gives.
+    /// The number of bytes that a call with a buffer of this length gives.
     fn most(&mut self, room: usize) -> usize {
         let step = match self.first {
             Some(first) => first,
@@ -81,7 +81,7 @@ impl<'a> Source<'a> {
         }
     }
 
-    /// Fails: by no bytes at `Ok`.
+    /// Fails: by an error, or at `Ok` by giving no bytes.
     fn fail(&mut self) -> io::Result<()> {
         match self.how {
             Failure::Error => {

@@ -1,10 +1,10 @@
-//! One request and its answer.
+//! Answers one request.
 
 use crate::{build, command, faults, graph, layout, open, run, texts};
 use hdt_probe::{Ask, Kept, Say, word_of};
 use std::alloc::{AllocError, Global};
 
-/// The words, each with the count of its arguments.
+/// The words of this module, each with its number of arguments.
 fn say_help(say: &mut Say) {
     say.word("file 1 help 0 reads 0 writes 0");
     say.word(open::WORDS);
@@ -17,7 +17,7 @@ fn say_help(say: &mut Say) {
     say.word(run::WORDS)
 }
 
-/// Answers a request of a word that calls a library.
+/// Answers a request that calls a library. Returns false if there is no such word.
 fn answer_call(word: &str, ask: &mut Ask<'_>, say: &mut Say) -> bool {
     open::answer(word, ask, say)
         || graph::answer(word, ask, say)
@@ -29,7 +29,7 @@ fn answer_call(word: &str, ask: &mut Ask<'_>, say: &mut Say) -> bool {
         || run::answer(word, ask, say)
 }
 
-/// Puts the line that answers a request.
+/// Appends the answer to a request, one line.
 pub fn answer_line(
     alloc: Global,
     line: &str,

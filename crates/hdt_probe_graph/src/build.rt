@@ -1,4 +1,4 @@
-//! Calls of hdt_build.
+//! Calls of hdt_build: building and rewriting files.
 
 use crate::faults::{say_build_fault, say_rewrite_fault};
 use crate::open::graph_of;
@@ -6,10 +6,10 @@ use hdt_build::{Options, Report, build, build_bytes, rewrite, rewrite_bytes};
 use hdt_probe::{Ask, Say};
 use std::hash::{FoldHasher, Hasher};
 
-/// The words, each with the count of its arguments.
+/// The words of this module, each with its number of arguments.
 pub const WORDS: &str = "build_bytes 4 build 6 rewrite_bytes 2 rewrite 4 fold_hash 0+";
 
-/// Answers a request of one of these words.
+/// Answers a request with one of these words. Returns false if the word is not one of them.
 pub fn answer(word: &str, ask: &mut Ask<'_>, say: &mut Say) -> bool {
     match word {
         "build_bytes" => say_build_bytes(ask, say),
@@ -51,7 +51,7 @@ fn say_build_bytes(ask: &mut Ask<'_>, say: &mut Say) {
     let _left = say.read(input);
 }
 
-/// The report or the fault, and what the writer took.
+/// The report or the error, and the bytes that the writer took.
 fn say_build(ask: &mut Ask<'_>, say: &mut Say) {
     let options = options_of(ask);
     let mut input = ask.source(ask.file);
@@ -77,7 +77,7 @@ fn say_rewrite_bytes(ask: &mut Ask<'_>, say: &mut Say) {
     }
 }
 
-/// The report or the fault, and what the writer took.
+/// The report or the error, and the bytes that the writer took.
 fn say_rewrite(ask: &mut Ask<'_>, say: &mut Say) {
     let Some(graph) = graph_of(ask, say) else {
         return;
@@ -91,7 +91,7 @@ fn say_rewrite(ask: &mut Ask<'_>, say: &mut Say) {
     say.wrote(out)
 }
 
-/// The hashes of strings, as the builder takes them.
+/// The hashes of strings, as the builder computes them.
 fn say_fold_hash(ask: &mut Ask<'_>, say: &mut Say) {
     for string in &ask.strings(u64::MAX) {
         let mut hasher = FoldHasher::default();

@@ -1,4 +1,4 @@
-//! Calls of hdt_command and hdt_usage: the words of a command line, and what they ask for.
+//! Calls of hdt_command and hdt_usage: parsing command-line arguments.
 
 use hdt_build::Options;
 use hdt_command::{
@@ -7,10 +7,10 @@ use hdt_command::{
 use hdt_probe::{Ask, Say, role_number};
 use hdt_usage::table_of;
 
-/// The words, each with the count of its arguments.
+/// The words of this module, each with its number of arguments.
 pub const WORDS: &str = "parse_words 0+ parse_all_words 0+ table 3+";
 
-/// Answers a request of one of these words.
+/// Answers a request with one of these words. Returns false if the word is not one of them.
 pub fn answer(word: &str, ask: &mut Ask<'_>, say: &mut Say) -> bool {
     match word {
         "parse_words" => say_parse_words(ask, say),
@@ -21,7 +21,7 @@ pub fn answer(word: &str, ask: &mut Ask<'_>, say: &mut Say) -> bool {
     true
 }
 
-/// Words as texts; none of them where one is not UTF-8.
+/// The arguments as texts, or `None` if one of them is not UTF-8.
 pub fn texts_of<'a>(words: &'a [Vec<u8>], ask: &mut Ask<'_>) -> Option<Vec<&'a str>> {
     let mut texts = Vec::new(ask.alloc);
     for word in words {
@@ -35,7 +35,7 @@ pub fn texts_of<'a>(words: &'a [Vec<u8>], ask: &mut Ask<'_>) -> Option<Vec<&'a s
     Some(texts)
 }
 
-/// Why words give no request.
+/// Reports why command-line arguments give no request.
 pub fn say_usage_fault(fault: &UsageFault, ask: &Ask<'_>, say: &mut Say) {
     say.stop("usage");
     match usage_line(ask.alloc, fault) {
@@ -47,7 +47,7 @@ pub fn say_usage_fault(fault: &UsageFault, ask: &Ask<'_>, say: &mut Say) {
     }
 }
 
-/// A text, or none.
+/// Appends a text, or `none`.
 fn say_maybe(text: Option<&[u8]>, say: &mut Say) {
     match text {
         Some(text) => say.bytes(text),
@@ -55,7 +55,7 @@ fn say_maybe(text: Option<&[u8]>, say: &mut Say) {
     }
 }
 
-/// The number of a form.
+/// The number of an output format.
 fn form_number(form: Form) -> u64 {
     match form {
         Form::Lines => 0,
@@ -64,7 +64,7 @@ fn form_number(form: Form) -> u64 {
     }
 }
 
-/// The strings that triples are to have.
+/// The strings of a pattern.
 fn say_given(given: &[Option<Vec<u8>>; 3], say: &mut Say) {
     for string in given {
         say_maybe(string.as_deref(), say);
@@ -85,7 +85,7 @@ fn say_options(options: &Options, say: &mut Say) {
     say.bytes(&options.base)
 }
 
-/// An action that looks for triples, or makes a file.
+/// An action that searches triples or makes a file.
 fn say_search(action: &Action, say: &mut Say) {
     match action {
         Action::Find { given, numbers } => {
@@ -109,7 +109,7 @@ fn say_search(action: &Action, say: &mut Say) {
     }
 }
 
-/// An action of any kind.
+/// Any action.
 fn say_action(action: &Action, say: &mut Say) {
     match action {
         Action::Head => say.word("head"),
@@ -133,7 +133,7 @@ fn say_action(action: &Action, say: &mut Say) {
     }
 }
 
-/// The path of the file that is read, that of the file that is written, and the action.
+/// The path of the input file, that of the output file, and the action.
 fn say_request(request: &Request, say: &mut Say) {
     say.bytes(request.file.as_bytes());
     match &request.out {
@@ -168,7 +168,7 @@ fn say_parse_all_words(ask: &mut Ask<'_>, say: &mut Say) {
     }
 }
 
-/// The command that words name by the table, or the text of the error.
+/// The command that the arguments name, or the text of the error.
 fn say_found(roles: &[&str], texts: &[&str], ask: &Ask<'_>, say: &mut Say) {
     let Ok(table) = table_of(ask.alloc, roles) else {
         return say.no_memory();

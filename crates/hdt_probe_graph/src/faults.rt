@@ -1,4 +1,4 @@
-//! Faults of files, documents and writers, and how they are printed.
+//! Errors of files, documents and writers, and their texts.
 
 use hdt_build::{BuildFault, RewriteFault};
 use hdt_file::{DumpFault, OpenFault};
@@ -6,11 +6,11 @@ use hdt_probe::{Ask, Say};
 use hdt_terms::{LineFault, LineReason};
 use hdt_wire::Fault;
 
-/// The words, each with the count of its arguments.
+/// The words of this module, each with its number of arguments.
 pub const WORDS: &str =
     "open_fault_text 1+ dump_fault_text 1+ build_fault_text 1+ rewrite_fault_text 1+";
 
-/// Answers a request of one of these words.
+/// Answers a request with one of these words. Returns false if the word is not one of them.
 pub fn answer(word: &str, ask: &mut Ask<'_>, say: &mut Say) -> bool {
     match word {
         "open_fault_text" => say_open_fault_text(ask, say),
@@ -22,7 +22,7 @@ pub fn answer(word: &str, ask: &mut Ask<'_>, say: &mut Say) -> bool {
     true
 }
 
-/// A fault of a file.
+/// Reports an error in a file.
 pub fn say_open_fault(fault: OpenFault, say: &mut Say) {
     match fault {
         OpenFault::Fault(fault) => say.fault(fault),
@@ -30,7 +30,7 @@ pub fn say_open_fault(fault: OpenFault, say: &mut Say) {
     }
 }
 
-/// A fault of a text.
+/// Reports an error of an N-Triples text.
 pub fn say_dump_fault(fault: DumpFault, say: &mut Say) {
     match fault {
         DumpFault::NotATerm(role, number) => say.not_a_term(role, number),
@@ -39,14 +39,14 @@ pub fn say_dump_fault(fault: DumpFault, say: &mut Say) {
     }
 }
 
-/// A fault of a line.
+/// Reports an error in a line.
 pub fn say_line_fault(fault: LineFault, say: &mut Say) {
     say.fault_of(fault.reason.number(), fault.reason.name());
     say.stop_number(fault.line);
     say.stop_number(fault.column)
 }
 
-/// A fault of building.
+/// Reports an error of building.
 pub fn say_build_fault(fault: BuildFault, say: &mut Say) {
     match fault {
         BuildFault::Line(fault) => say_line_fault(fault, say),
@@ -57,7 +57,7 @@ pub fn say_build_fault(fault: BuildFault, say: &mut Say) {
     }
 }
 
-/// A fault of rewriting.
+/// Reports an error of rewriting.
 pub fn say_rewrite_fault(fault: RewriteFault, say: &mut Say) {
     match fault {
         RewriteFault::BadOptions => say.stop("bad options"),
@@ -66,7 +66,7 @@ pub fn say_rewrite_fault(fault: RewriteFault, say: &mut Say) {
     }
 }
 
-/// The fault of a file that the next arguments are.
+/// Reads an error in a file: its byte offset and reason.
 fn file_fault_of(ask: &mut Ask<'_>) -> Fault {
     Fault {
         place: ask.number(),
@@ -74,7 +74,7 @@ fn file_fault_of(ask: &mut Ask<'_>) -> Fault {
     }
 }
 
-/// The reason with the number that is the next argument.
+/// Reads a reason, by its number.
 pub fn line_reason_of(ask: &mut Ask<'_>) -> LineReason {
     match ask.number() {
         1 => LineReason::Syntax,
@@ -93,7 +93,7 @@ pub fn line_reason_of(ask: &mut Ask<'_>) -> LineReason {
     }
 }
 
-/// The fault of a line that the next arguments are.
+/// Reads an error in a line: its line, column and reason.
 fn line_fault_of(ask: &mut Ask<'_>) -> LineFault {
     LineFault {
         line: ask.number(),

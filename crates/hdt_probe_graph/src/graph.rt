@@ -1,4 +1,4 @@
-//! Calls of hdt_file: graphs that are asked.
+//! Calls of hdt_file: look-ups and searches in graphs.
 
 use crate::open::graph_of;
 use hdt_dict::Strings;
@@ -6,11 +6,11 @@ use hdt_probe::{Ask, Say};
 use hdt_seq::Steps;
 use hdt_triples::{Matches, Pattern};
 
-/// The words, each with the count of its arguments.
+/// The words of this module, each with its number of arguments.
 pub const WORDS: &str =
     "search 3+ search_count 4+ find_strings 3 pattern 3 number_of 1+ string_of 3 strings_of 2+ uses_of 1+ strings 1";
 
-/// Answers a request of one of these words.
+/// Answers a request with one of these words. Returns false if the word is not one of them.
 pub fn answer(word: &str, ask: &mut Ask<'_>, say: &mut Say) -> bool {
     match word {
         "search" => say_search(ask, say),
@@ -27,7 +27,7 @@ pub fn answer(word: &str, ask: &mut Ask<'_>, say: &mut Say) -> bool {
     true
 }
 
-/// A pattern: three numbers, each of which may be any.
+/// Reads a pattern: three IDs, each of which may be `-` for any.
 pub fn pattern_of(ask: &mut Ask<'_>) -> Pattern {
     let s = ask.maybe();
     let p = ask.maybe();
@@ -35,7 +35,7 @@ pub fn pattern_of(ask: &mut Ask<'_>) -> Pattern {
     Pattern { s, p, o }
 }
 
-/// How many items there are.
+/// The number of items.
 pub fn count(mut matches: Matches<'_>) -> u64 {
     let mut count = 0_u64;
     for _ in 0..u64::MAX {
@@ -47,7 +47,7 @@ pub fn count(mut matches: Matches<'_>) -> u64 {
     count
 }
 
-/// All items, and whether there are any behind the end.
+/// Appends all items, and `again` if the iterator returns one after its end.
 pub fn say_items(mut matches: Matches<'_>, say: &mut Say) {
     for _ in 0..u64::MAX {
         match matches.next() {
@@ -60,7 +60,7 @@ pub fn say_items(mut matches: Matches<'_>, say: &mut Say) {
     }
 }
 
-/// For each pattern how many match by counting, how many by searching, and these.
+/// For each pattern: the number of matches by counting, that by searching, and the matches.
 fn say_search(ask: &mut Ask<'_>, say: &mut Say) {
     let Some(graph) = graph_of(ask, say) else {
         return;
@@ -76,7 +76,7 @@ fn say_search(ask: &mut Ask<'_>, say: &mut Say) {
     }
 }
 
-/// For each pattern how many match, but at most so many.
+/// For each pattern: the number of matches, counted up to a limit.
 fn say_matching_up_to(ask: &mut Ask<'_>, say: &mut Say) {
     let Some(graph) = graph_of(ask, say) else {
         return;
@@ -102,7 +102,7 @@ fn say_find_strings(ask: &mut Ask<'_>, say: &mut Say) {
     say_items(graph.find(given, &mut Steps::new()), say)
 }
 
-/// A number of a pattern, or that it may be any.
+/// An ID of a pattern, or `-` for any.
 fn say_part(part: Option<u64>, say: &mut Say) {
     match part {
         Some(number) => say.number(number),
@@ -110,7 +110,7 @@ fn say_part(part: Option<u64>, say: &mut Say) {
     }
 }
 
-/// A pattern, or none.
+/// Appends a pattern, or `none`.
 pub fn say_pattern(pattern: Option<Pattern>, say: &mut Say) {
     match pattern {
         Some(pattern) => {
@@ -143,7 +143,7 @@ fn say_number_of(ask: &mut Ask<'_>, say: &mut Say) {
     }
 }
 
-/// Whether there is such a string, the bytes with it, and whether a triple uses it.
+/// Whether there is such a string, the buffer after the call, and whether a triple uses the string.
 fn say_string_of(ask: &mut Ask<'_>, say: &mut Say) {
     let Some(graph) = graph_of(ask, say) else {
         return;
@@ -159,7 +159,7 @@ fn say_string_of(ask: &mut Ask<'_>, say: &mut Say) {
     say.truth(graph.uses(role, number, &mut Steps::new()))
 }
 
-/// Whether there are all these strings, the bytes with them, and the ends behind that of the bytes before.
+/// Whether all these strings exist, the buffer after the call, and the end of the bytes before and of each string.
 fn say_all_of(ask: &mut Ask<'_>, say: &mut Say) {
     let Some(graph) = graph_of(ask, say) else {
         return;
@@ -182,7 +182,7 @@ fn say_all_of(ask: &mut Ask<'_>, say: &mut Say) {
     }
 }
 
-/// For each number of a role, whether a triple uses it.
+/// For each ID of a role, whether a triple has it.
 fn say_uses_of(ask: &mut Ask<'_>, say: &mut Say) {
     let Some(graph) = graph_of(ask, say) else {
         return;
@@ -193,7 +193,7 @@ fn say_uses_of(ask: &mut Ask<'_>, say: &mut Say) {
     }
 }
 
-/// The strings of a walk in order, each behind its ID.
+/// The strings of an iteration in order, each after its ID.
 pub fn say_strings(mut strings: Strings<'_>, say: &mut Say) {
     for _ in 0..u64::MAX {
         match strings.next() {

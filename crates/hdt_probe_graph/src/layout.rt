@@ -1,4 +1,4 @@
-//! Calls of hdt_file: layouts that are asked, by themselves and of a graph.
+//! Calls of hdt_file: look-ups and searches in layouts, read by themselves or taken from a graph.
 
 use crate::graph::{count, pattern_of, say_items, say_pattern, say_strings};
 use crate::open::{graph_of, layout_of};
@@ -6,11 +6,11 @@ use hdt_file::Layout;
 use hdt_probe::{Ask, Say};
 use hdt_seq::Steps;
 
-/// The words, each with the count of its arguments.
+/// The words of this module, each with its number of arguments.
 pub const WORDS: &str =
     "layout_search 3+ graph_layout_search 3+ layout_search_count 4+ graph_layout_search_count 4+ layout_pattern 3 graph_layout_pattern 3 layout_number_of 1+ layout_string_of 3 layout_strings 1";
 
-/// Answers a request of one of these words.
+/// Answers a request with one of these words. Returns false if the word is not one of them.
 pub fn answer(word: &str, ask: &mut Ask<'_>, say: &mut Say) -> bool {
     match word {
         "layout_search" => say_layout_search(ask, say),
@@ -27,7 +27,7 @@ pub fn answer(word: &str, ask: &mut Ask<'_>, say: &mut Say) -> bool {
     true
 }
 
-/// For each pattern how many match by counting, how many by searching, and these.
+/// For each pattern: the number of matches by counting, that by searching, and the matches.
 fn say_search(layout: &Layout<'_>, ask: &mut Ask<'_>, say: &mut Say) {
     for _ in 0..u64::MAX {
         let pattern = pattern_of(ask);
@@ -52,7 +52,7 @@ fn say_graph_layout_search(ask: &mut Ask<'_>, say: &mut Say) {
     }
 }
 
-/// For each pattern how many match, but at most so many.
+/// For each pattern: the number of matches, counted up to a limit.
 fn say_matching_up_to(layout: &Layout<'_>, ask: &mut Ask<'_>, say: &mut Say) {
     let most = ask.number();
     for _ in 0..u64::MAX {
@@ -75,7 +75,7 @@ fn say_graph_layout_matching_up_to(ask: &mut Ask<'_>, say: &mut Say) {
     }
 }
 
-/// The pattern of three strings, each of which may be any.
+/// The pattern of three strings, each of which may be `-` for any.
 fn say_pattern_of(layout: &Layout<'_>, ask: &mut Ask<'_>, say: &mut Say) {
     let s = ask.maybe_bytes();
     let p = ask.maybe_bytes();
@@ -106,7 +106,7 @@ fn say_number_of(ask: &mut Ask<'_>, say: &mut Say) {
     }
 }
 
-/// Whether there is such a string, and the bytes with it.
+/// Whether there is such a string, and the buffer after the call.
 fn say_string_of(ask: &mut Ask<'_>, say: &mut Say) {
     let Some(layout) = layout_of(ask, say) else {
         return;

@@ -1,5 +1,5 @@
-//! Calls of hdt_file, hdt_build, hdt_command and hdt_usage for tests: a request a line from standard input, an answer a
-//! line to standard output. hdt_probe says what both are; the request `help` lists the words.
+//! Makes calls of hdt_file, hdt_build, hdt_command and hdt_usage for tests. It reads one request a line from standard
+//! input and prints one answer a line. docs/PROBES.md describes both; the request `help` lists the words.
 #![tactic(auto)]
 
 mod answer;

@@ -1,4 +1,4 @@
-//! Calls of hdt_file: files that are read.
+//! Calls of hdt_file: reading files.
 
 use crate::faults::say_open_fault;
 use hdt_dict::Role;
@@ -6,11 +6,11 @@ use hdt_file::{Graph, Layout, open, open_tight, read_dictionary, read_head, veri
 use hdt_probe::{Ask, Say};
 use hdt_wire::Control;
 
-/// The words, each with the count of its arguments.
+/// The words of this module, each with its number of arguments.
 pub const WORDS: &str =
     "head 0 read_dictionary 0 open 0 open_tight 0 verify 0 verify_tight 0 graph 0 layout 0";
 
-/// Answers a request of one of these words.
+/// Answers a request with one of these words. Returns false if the word is not one of them.
 pub fn answer(word: &str, ask: &mut Ask<'_>, say: &mut Say) -> bool {
     match word {
         "head" => say_head(ask, say),
@@ -33,7 +33,7 @@ fn say_control(block: Control<'_>, say: &mut Say) {
     say.size(block.end())
 }
 
-/// Both blocks, the body and the end.
+/// The global and the header's control information, the header body, and the offset after the head.
 fn say_head(ask: &mut Ask<'_>, say: &mut Say) {
     match read_head(ask.file) {
         Ok(head) => {
@@ -47,7 +47,7 @@ fn say_head(ask: &mut Ask<'_>, say: &mut Say) {
     }
 }
 
-/// The end of the head, the lengths of the sections, and the end.
+/// The offset after the head, the numbers of strings of the sections, and the offset after the dictionary.
 fn say_read_dictionary(ask: &mut Ask<'_>, say: &mut Say) {
     match read_dictionary(ask.alloc, ask.file) {
         Ok((head, dictionary, end)) => {
@@ -59,14 +59,14 @@ fn say_read_dictionary(ask: &mut Ask<'_>, say: &mut Say) {
     }
 }
 
-/// Lengths.
+/// Appends lengths.
 fn say_lens(lens: &[u64], say: &mut Say) {
     for len in lens {
         say.number(*len);
     }
 }
 
-/// The graph of the input, or its fault.
+/// Opens the input as a graph, or reports its error.
 pub fn graph_of<'a>(ask: &Ask<'a>, say: &mut Say) -> Option<Graph<'a>> {
     match open(ask.alloc, ask.file) {
         Ok(graph) => Some(graph),
@@ -77,7 +77,7 @@ pub fn graph_of<'a>(ask: &Ask<'a>, say: &mut Say) -> Option<Graph<'a>> {
     }
 }
 
-/// The layout of the input, or its fault.
+/// Opens the input as a layout, or reports its error.
 pub fn layout_of<'a>(ask: &Ask<'a>, say: &mut Say) -> Option<Layout<'a>> {
     match Layout::read(ask.alloc, ask.file) {
         Ok(layout) => Some(layout),
@@ -88,7 +88,7 @@ pub fn layout_of<'a>(ask: &Ask<'a>, say: &mut Say) -> Option<Layout<'a>> {
     }
 }
 
-/// How many triples, the lengths of the sections, and how many numbers are kept.
+/// The number of triples, the numbers of strings of the sections, and how many numbers the graph keeps.
 fn say_numbers(graph: &Graph<'_>, say: &mut Say) {
     say.number(graph.len());
     say_lens(&graph.section_lens(), say);
@@ -122,7 +122,7 @@ fn say_verify_tight(ask: &mut Ask<'_>, say: &mut Say) {
     }
 }
 
-/// The header body, the counts of the roles, and the lengths by the layout.
+/// The header body, the counts of the roles, and the lengths of the graph's layout.
 fn say_graph(ask: &mut Ask<'_>, say: &mut Say) {
     if let Some(graph) = graph_of(ask, say) {
         say.bytes(graph.header());

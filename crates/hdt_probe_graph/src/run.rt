@@ -1,4 +1,4 @@
-//! Calls of hdt_command: what a command does and tells.
+//! Calls of hdt_command: running commands, and what they print.
 
 use crate::command::{say_usage_fault, texts_of};
 use crate::faults::{line_reason_of, say_line_fault};
@@ -12,11 +12,11 @@ use hdt_terms::{LineFault, TermFault};
 use hdt_wire::Fault;
 use std::alloc::AllocError;
 
-/// The words, each with the count of its arguments.
+/// The words of this module, each with its number of arguments.
 pub const WORDS: &str =
     "run 4+ run_in 5+ run_made 5+ answer_requests 8 answer_file 11 fault_line 1+ usage_line 1+";
 
-/// Answers a request of one of these words.
+/// Answers a request with one of these words. Returns false if the word is not one of them.
 pub fn answer(word: &str, ask: &mut Ask<'_>, say: &mut Say) -> bool {
     match word {
         "run" => say_run(ask, say),
@@ -31,7 +31,7 @@ pub fn answer(word: &str, ask: &mut Ask<'_>, say: &mut Say) -> bool {
     true
 }
 
-/// The fault of a command.
+/// Reports the error of a command.
 fn say_tool_fault(fault: ToolFault, say: &mut Say) {
     match fault {
         ToolFault::File(fault) => say.fault(fault),
@@ -47,7 +47,7 @@ fn say_tool_fault(fault: ToolFault, say: &mut Say) {
     }
 }
 
-/// The request of the words that are left, or why there is none.
+/// Parses the remaining arguments, those of a command line; or reports why they give no request.
 fn request_of(ask: &mut Ask<'_>, say: &mut Say) -> Option<Request> {
     let words = ask.strings(u64::MAX);
     let Some(texts) = texts_of(&words, ask) else {
@@ -63,7 +63,7 @@ fn request_of(ask: &mut Ask<'_>, say: &mut Say) -> Option<Request> {
     }
 }
 
-/// What the writer took and what was made, or the fault before these.
+/// The bytes that the writer took and the bytes that were made, after the error if there is one.
 fn say_ran(ask: &mut Ask<'_>, say: &mut Say, mut made: Vec<u8>) {
     let mut input = ask.source(ask.file);
     let mut out = ask.sink();
@@ -103,7 +103,7 @@ fn say_run_in(ask: &mut Ask<'_>, say: &mut Say) {
     say.bytes(&made)
 }
 
-/// What is printed of the answers to requests, and how these are written.
+/// Reads the options of `answer`.
 fn asking_of(ask: &mut Ask<'_>) -> Asking {
     let form = match ask.number() {
         0 => Form::Lines,
@@ -122,7 +122,7 @@ fn asking_of(ask: &mut Ask<'_>) -> Asking {
     }
 }
 
-/// Whether an answer is a fault, or why no more was answered.
+/// Whether an answer is an error, or the error that ended the call.
 fn say_answered(answered: Result<bool, ToolFault>, say: &mut Say) {
     match answered {
         Ok(is_faulty) => say.truth(is_faulty),
@@ -159,14 +159,14 @@ fn say_answer_file(ask: &mut Ask<'_>, say: &mut Say) {
     say.wrote(out)
 }
 
-/// The fault of a file that the next arguments are: its reason, and where it is.
+/// Reads an error in a file: its reason and byte offset.
 fn file_fault_of(ask: &mut Ask<'_>) -> Fault {
     let reason = ask.reason();
     let place = ask.number();
     Fault { place, reason }
 }
 
-/// The fault of a line that the next arguments are: its reason, and where it is.
+/// Reads an error in a line: its reason, line and column.
 fn line_fault_of(ask: &mut Ask<'_>) -> LineFault {
     let reason = line_reason_of(ask);
     LineFault {
@@ -176,7 +176,7 @@ fn line_fault_of(ask: &mut Ask<'_>) -> LineFault {
     }
 }
 
-/// The fault that the next arguments are.
+/// Reads the error of a command.
 fn tool_fault_of(ask: &mut Ask<'_>) -> ToolFault {
     match ask.word() {
         "file" => ToolFault::File(file_fault_of(ask)),
@@ -196,7 +196,7 @@ fn tool_fault_of(ask: &mut Ask<'_>) -> ToolFault {
     }
 }
 
-/// A status and a line.
+/// Appends an exit status and a line.
 fn say_status(told: Result<(u8, String), AllocError>, say: &mut Say) {
     match told {
         Ok((status, line)) => {
@@ -207,14 +207,14 @@ fn say_status(told: Result<(u8, String), AllocError>, say: &mut Say) {
     }
 }
 
-/// The status and the line of a fault, and how it is printed as an error.
+/// The exit status and the line of an error, and its text.
 fn say_fault_line(ask: &mut Ask<'_>, say: &mut Say) {
     let fault = tool_fault_of(ask);
     say_status(fault_line(ask.alloc, &fault), say);
     say.made(format!(in ask.alloc; "{fault}"))
 }
 
-/// A word of a command line that is a term.
+/// Reads which argument of a command line has the error.
 fn word_of(ask: &mut Ask<'_>) -> Word {
     match ask.number() {
         0 => Word::Term,
@@ -228,7 +228,7 @@ fn word_of(ask: &mut Ask<'_>) -> Word {
     }
 }
 
-/// The text that the next argument is.
+/// Reads a text, in hexadecimal.
 fn text_of(ask: &mut Ask<'_>) -> String {
     let bytes = ask.bytes();
     match std::str::from_utf8(&bytes) {
@@ -241,7 +241,7 @@ fn text_of(ask: &mut Ask<'_>) -> String {
     String::new(ask.alloc)
 }
 
-/// The fault of a word that the next arguments are.
+/// Reads an error in an argument: which argument, its reason and column.
 fn word_fault_of(ask: &mut Ask<'_>) -> UsageFault {
     let word = word_of(ask);
     let reason = line_reason_of(ask);

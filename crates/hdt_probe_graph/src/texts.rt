@@ -1,4 +1,4 @@
-//! Calls of hdt_file: texts of graphs.
+//! Calls of hdt_file: the N-Triples text of graphs.
 
 use crate::faults::say_dump_fault;
 use crate::open::{graph_of, layout_of};
@@ -9,11 +9,11 @@ use hdt_probe::{Ask, Say, role_number};
 use hdt_triples::Pattern;
 use std::alloc::AllocError;
 
-/// The words, each with the count of its arguments.
+/// The words of this module, each with its number of arguments.
 pub const WORDS: &str =
     "graph_text 1+ layout_text 2+ append_graph_text 1+ write_graph 3+";
 
-/// Answers a request of one of these words.
+/// Answers a request with one of these words. Returns false if the word is not one of them.
 pub fn answer(word: &str, ask: &mut Ask<'_>, say: &mut Say) -> bool {
     match word {
         "graph_text" => say_graph_text(ask, say),
@@ -25,7 +25,7 @@ pub fn answer(word: &str, ask: &mut Ask<'_>, say: &mut Say) -> bool {
     true
 }
 
-/// A pattern, or none of them.
+/// Reads a pattern, or `none`.
 fn whole_of(ask: &mut Ask<'_>) -> Option<Pattern> {
     match ask.maybe_three() {
         Some((s, p, o)) => Some(Pattern { s, p, o }),
@@ -33,7 +33,7 @@ fn whole_of(ask: &mut Ask<'_>) -> Option<Pattern> {
     }
 }
 
-/// A text, or why there is none.
+/// Appends a text, or reports why there is none.
 fn say_text(text: Result<Vec<u8>, DumpFault>, say: &mut Say) {
     match text {
         Ok(text) => say.bytes(&text),
@@ -56,7 +56,7 @@ fn say_layout_text(ask: &mut Ask<'_>, say: &mut Say) {
     }
 }
 
-/// Whether a text was appended, or why not.
+/// Appends whether a text was appended, or why not.
 fn say_done(done: Result<(), DumpFault>, say: &mut Say) {
     match done {
         Ok(()) => say.word("done"),
@@ -69,7 +69,7 @@ fn say_done(done: Result<(), DumpFault>, say: &mut Say) {
     }
 }
 
-/// Appends the text of each pattern, all spelled by one speller.
+/// Appends the text of each pattern to `out`, all with one speller.
 fn append_all(
     graph: &Graph<'_>,
     ask: &mut Ask<'_>,
@@ -100,7 +100,7 @@ fn say_append_graph_text(ask: &mut Ask<'_>, say: &mut Say) {
     say.bytes(&out)
 }
 
-/// How many bytes were written, or why no more, and what the writer took.
+/// The number of bytes that were written, or the error, and the bytes that the writer took.
 fn say_write_graph(ask: &mut Ask<'_>, say: &mut Say) {
     let Some(graph) = graph_of(ask, say) else {
         return;

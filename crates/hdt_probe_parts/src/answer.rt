@@ -1,4 +1,4 @@
-//! One request and its answer.
+//! Answers one request.
 
 use crate::{
     arena, counted, dict, dict_writing, front, front_writing, search, seq, triples, walks, wire,
@@ -6,7 +6,7 @@ use crate::{
 use hdt_probe::{Ask, Kept, Say, word_of};
 use std::alloc::{AllocError, Global};
 
-/// The words, each with the count of its arguments.
+/// The words of this module, each with its number of arguments.
 fn say_help(say: &mut Say) {
     say.word("file 1 help 0 reads 0 writes 0");
     say.word(wire::WORDS);
@@ -22,7 +22,7 @@ fn say_help(say: &mut Say) {
     say.word(search::WORDS)
 }
 
-/// Answers a request of a word that calls a library.
+/// Answers a request that calls a library. Returns false if there is no such word.
 fn answer_call(word: &str, ask: &mut Ask<'_>, say: &mut Say) -> bool {
     wire::answer(word, ask, say)
         || counted::answer(word, ask, say)
@@ -37,7 +37,7 @@ fn answer_call(word: &str, ask: &mut Ask<'_>, say: &mut Say) -> bool {
         || search::answer(word, ask, say)
 }
 
-/// Puts the line that answers a request.
+/// Appends the answer to a request, one line.
 pub fn answer_line(
     alloc: Global,
     line: &str,

@@ -25,7 +25,7 @@ fn say_strings(arena: &Arena, say: &mut Say) {
     }
 }
 
-/// An arena with room for so many strings and bytes, or without where both are 0, to which strings are added.
+/// An arena with a capacity of strings and bytes, or none if both are 0, to which strings are added.
 fn say_arena(ask: &mut Ask<'_>, say: &mut Say) {
     let room = ask.size();
     let bytes = ask.size();
@@ -45,7 +45,7 @@ fn say_arena(ask: &mut Ask<'_>, say: &mut Say) {
     say_strings(&arena, say)
 }
 
-/// An arena of strings that are put one behind another, and of where each begins.
+/// An arena of concatenated strings and the offset of each.
 fn arena_of(alloc: Global, strings: &[Vec<u8>]) -> Result<Arena, AllocError> {
     let mut bytes = Vec::new(alloc);
     let mut starts = Vec::new(alloc);

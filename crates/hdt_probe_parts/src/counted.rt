@@ -1,15 +1,15 @@
-//! Calls of hdt_wire: rows, faults, and counted readers and writers.
+//! Calls of hdt_wire: checks, errors, and counted readers and writers.
 
 use hdt_probe::{Ask, Say};
 use hdt_seq::Steps;
 use hdt_wire::{Counted, Failed, Fault, Tally, cut_on_error, demand};
 use std::mem::size_of;
 
-/// The words, each with the count of its arguments.
+/// The words of this module, each with its number of arguments.
 pub const WORDS: &str =
     "demand 3 fault_text 2 failed_text 0 cut_on_error 3 sizes 0 counted_read 2+ counted_write 2+ counted_write_all 3";
 
-/// Answers a request of one of these words.
+/// Answers a request with one of these words. Returns false if the word is not one of them.
 pub fn answer(word: &str, ask: &mut Ask<'_>, say: &mut Say) -> bool {
     match word {
         "demand" => say_demand(ask, say),
@@ -33,7 +33,7 @@ fn say_demand(ask: &mut Ask<'_>, say: &mut Say) {
     }
 }
 
-/// How a fault is printed.
+/// The text of an error.
 fn say_fault_text(ask: &mut Ask<'_>, say: &mut Say) {
     let place = ask.number();
     let reason = ask.reason();
@@ -41,7 +41,7 @@ fn say_fault_text(ask: &mut Ask<'_>, say: &mut Say) {
     say.made(format!(in ask.alloc; "{fault}"))
 }
 
-/// Whether appending succeeded, and the bytes.
+/// Whether the call succeeded, and the buffer after it.
 fn say_cut_on_error(ask: &mut Ask<'_>, say: &mut Say) {
     let appended: Result<(), u64> = if ask.truth() { Ok(()) } else { Err(1) };
     let len = ask.size();
@@ -51,7 +51,7 @@ fn say_cut_on_error(ask: &mut Ask<'_>, say: &mut Say) {
     say.bytes(&bytes)
 }
 
-/// How many bytes counters take, and a counted byte.
+/// The sizes in bytes of the counters, and of a counted byte.
 fn say_sizes(say: &mut Say) {
     let mut tally = Tally::new();
     tally.tick();
@@ -62,7 +62,7 @@ fn say_sizes(say: &mut Say) {
     say.size(size_of::<Steps>())
 }
 
-/// What each call of the reader gives, by a buffer of each length.
+/// What each call of the reader gives, with a buffer of each length.
 fn say_counted_read(ask: &mut Ask<'_>, say: &mut Say) {
     let mut input = ask.source(ask.file);
     for len in &ask.numbers() {
@@ -79,7 +79,7 @@ fn say_counted_read(ask: &mut Ask<'_>, say: &mut Say) {
     let _left = say.read(input);
 }
 
-/// How much of each text the writer takes in a call, and all that it took.
+/// The number of bytes of each text that the writer takes in one call, and all bytes that it took.
 fn say_counted_write(ask: &mut Ask<'_>, say: &mut Say) {
     let mut out = ask.sink();
     for text in &ask.strings(u64::MAX) {

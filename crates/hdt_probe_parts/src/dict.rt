@@ -1,4 +1,4 @@
-//! Calls of hdt_dict: dictionaries that are read.
+//! Calls of hdt_dict: reading dictionaries.
 ghost use Rattle.std.specs.Prelude.{◌≡◌, ◌<◌, length};
 ghost use Rattle.hdt_dict.specs.Views.{dictionary_of};
 ghost use Rattle.hdt_dict.specs.Dictionary.{section_number};
@@ -8,11 +8,11 @@ use hdt_dict::{Dictionary, Role};
 use hdt_probe::{Ask, Say};
 use hdt_seq::Steps;
 
-/// The words, each with the count of its arguments.
+/// The words of this module, each with its number of arguments.
 pub const WORDS: &str =
     "dictionary 1 dictionary_number_of 2+ dictionary_string_of 4 dictionary_strings_of 3+ dictionary_block 3 dictionary_string_start 3 dictionary_strings 2 dictionary_strings_kept 2";
 
-/// Answers a request of one of these words.
+/// Answers a request with one of these words. Returns false if the word is not one of them.
 pub fn answer(word: &str, ask: &mut Ask<'_>, say: &mut Say) -> bool {
     match word {
         "dictionary" => say_dictionary(ask, say),
@@ -28,7 +28,7 @@ pub fn answer(word: &str, ask: &mut Ask<'_>, say: &mut Say) -> bool {
     true
 }
 
-/// The dictionary at an offset, or its fault.
+/// Reads the dictionary at an offset, or reports its error.
 fn dictionary_at<'a>(ask: &mut Ask<'a>, say: &mut Say) -> Option<(Dictionary<'a>, usize)> {
     match Dictionary::read(ask.alloc, ask.file, ask.size()) {
         Ok(read) => Some(read),
@@ -64,7 +64,7 @@ fn say_number_of(ask: &mut Ask<'_>, say: &mut Say) {
     }
 }
 
-/// Whether there is such a string, and the bytes with it.
+/// Whether there is such a string, and the buffer after the call.
 fn say_string_of(ask: &mut Ask<'_>, say: &mut Say) {
     let Some((dictionary, _)) = dictionary_at(ask, say) else {
         return;
@@ -79,7 +79,7 @@ fn say_string_of(ask: &mut Ask<'_>, say: &mut Say) {
     say.bytes(&string)
 }
 
-/// Whether there are all these strings, the bytes with them, and the ends behind that of the bytes before.
+/// Whether all these strings exist, the buffer after the call, and the end of the bytes before and of each string.
 fn say_strings_of(ask: &mut Ask<'_>, say: &mut Say) {
     let Some((dictionary, _)) = dictionary_at(ask, say) else {
         return;
@@ -110,7 +110,7 @@ fn say_block(ask: &mut Ask<'_>, say: &mut Say) {
     say.bytes(dictionary.block(role, ask.number()))
 }
 
-/// How many strings a section has.
+/// The number of strings of a section.
 fn section_len(dictionary: &Dictionary<'_>, section: usize) -> u64
     requires { section < 4 }
     ensures { result ≡ length (section_number (dictionary_of dictionary.now) section).strings }
@@ -136,7 +136,7 @@ fn say_string_start(ask: &mut Ask<'_>, say: &mut Say) {
     say.number(dictionary.string_start(section, n))
 }
 
-/// The strings of a role in order, each behind its ID.
+/// The strings of a role in order, each after its ID.
 fn say_strings(ask: &mut Ask<'_>, say: &mut Say) {
     let Some((dictionary, _)) = dictionary_at(ask, say) else {
         return;
@@ -154,7 +154,7 @@ fn say_strings(ask: &mut Ask<'_>, say: &mut Say) {
     }
 }
 
-/// The same, with how many bytes each keeps of the one before; then what is kept at the end.
+/// The same, with the length of the prefix that each keeps of the previous one; then `none` and what the end returns.
 fn say_strings_kept(ask: &mut Ask<'_>, say: &mut Say) {
     let Some((dictionary, _)) = dictionary_at(ask, say) else {
         return;

@@ -98,7 +98,7 @@ fn hold_texts(alloc: Global, list: &[Vec<u8>]) -> Result<bool, AllocError>
     Ok(are_texts(slices.as_slice()))
 }
 
-/// A section in work with these strings.
+/// A section writer that has been given these strings.
 fn in_work(alloc: Global, strings: &[&[u8]], block_size: u32) -> Result<SectionWriter, AllocError>
     requires strings { AreStrings (lent_texts strings.now) }
     requires block { 1 ≤ block_size }

@@ -1,14 +1,14 @@
-//! Calls of hdt_front: sections that are read, and how strings lie to one another.
+//! Calls of hdt_front: reading sections, and comparing strings.
 
 use hdt_front::{ReadFault, Section, are_strings, common_prefix, compared_from, lent_strings};
 use hdt_probe::{Ask, Say};
 use hdt_seq::Steps;
 
-/// The words, each with the count of its arguments.
+/// The words of this module, each with its number of arguments.
 pub const WORDS: &str =
     "section_read 1 section_string 3 section_strings 1+ section_place_of 1+ section_head 2 section_block 2 are_strings 0+ common_prefix 2 compared_from 3";
 
-/// Answers a request of one of these words.
+/// Answers a request with one of these words. Returns false if the word is not one of them.
 pub fn answer(word: &str, ask: &mut Ask<'_>, say: &mut Say) -> bool {
     match word {
         "section_read" => say_section_read(ask, say),
@@ -25,7 +25,7 @@ pub fn answer(word: &str, ask: &mut Ask<'_>, say: &mut Say) -> bool {
     true
 }
 
-/// A fault of what was read, or that memory was refused.
+/// Reports an error in the input, or that memory ran out.
 pub fn say_read_fault(fault: ReadFault, say: &mut Say) {
     match fault {
         ReadFault::Fault(fault) => say.fault(fault),
@@ -33,7 +33,7 @@ pub fn say_read_fault(fault: ReadFault, say: &mut Say) {
     }
 }
 
-/// The section at an offset, or its fault.
+/// Reads the section at an offset, or reports its error.
 pub fn section_at<'a>(ask: &mut Ask<'a>, say: &mut Say) -> Option<(Section<'a>, usize)> {
     match Section::read(ask.alloc, ask.file, ask.size()) {
         Ok(read) => Some(read),
@@ -44,7 +44,7 @@ pub fn section_at<'a>(ask: &mut Ask<'a>, say: &mut Say) -> Option<(Section<'a>, 
     }
 }
 
-/// How many strings and blocks, and the end.
+/// The numbers of strings and blocks, and the offset after the section.
 fn say_section_read(ask: &mut Ask<'_>, say: &mut Say) {
     let Some((section, end)) = section_at(ask, say) else {
         return;
@@ -68,7 +68,7 @@ fn say_section_string(ask: &mut Ask<'_>, say: &mut Say) {
     say.appended(done, &string)
 }
 
-/// Strings by their numbers.
+/// Strings by their IDs.
 fn say_section_strings(ask: &mut Ask<'_>, say: &mut Say) {
     let Some((section, _)) = section_at(ask, say) else {
         return;
@@ -103,7 +103,7 @@ fn say_section_head(ask: &mut Ask<'_>, say: &mut Say) {
     say.bytes(section.head(block))
 }
 
-/// The packed bytes of the block of a string, and the offset of the string.
+/// The front-coded bytes of the block of a string, and the byte offset of the string.
 fn say_section_block(ask: &mut Ask<'_>, say: &mut Say) {
     let Some((section, _)) = section_at(ask, say) else {
         return;

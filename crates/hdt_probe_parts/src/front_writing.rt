@@ -1,15 +1,15 @@
-//! Calls of hdt_front: sections that are written.
+//! Calls of hdt_front: writing sections.
 
 use crate::wire::has_no_zero;
 use hdt_front::{SectionWriter, are_strings, common_prefix, lent_strings, put_section};
 use hdt_probe::{Ask, Say};
 use std::alloc::{AllocError, Global};
 
-/// The words, each with the count of its arguments.
+/// The words of this module, each with its number of arguments.
 pub const WORDS: &str =
     "put_section 2+ write_section 2+ write_section_agreeing 2+ section_writer 1+";
 
-/// Answers a request of one of these words.
+/// Answers a request with one of these words. Returns false if the word is not one of them.
 pub fn answer(word: &str, ask: &mut Ask<'_>, say: &mut Say) -> bool {
     match word {
         "put_section" => say_put_section(ask, say),
@@ -53,7 +53,7 @@ fn put_one_by_one(
     Ok(true)
 }
 
-/// The same, the writer told how far each agrees with the one before.
+/// The same, where the caller passes the common prefix of each string with the previous one.
 fn put_agreeing(
     alloc: Global,
     strings: &[&[u8]],
@@ -72,7 +72,7 @@ fn put_agreeing(
     Ok(true)
 }
 
-/// The section of strings that are handed in one at a time.
+/// The buffer with the section of strings that are pushed one at a time.
 fn say_write_section(ask: &mut Ask<'_>, say: &mut Say, agreeing: bool) {
     let mut bytes = ask.bytes();
     let block_size = ask.number32();
@@ -95,7 +95,7 @@ fn say_write_section(ask: &mut Ask<'_>, say: &mut Say, agreeing: bool) {
     }
 }
 
-/// How many strings a writer has, and the last one, behind each.
+/// The number of strings of a writer and its last string, after each push.
 fn say_section_writer(ask: &mut Ask<'_>, say: &mut Say) {
     let block_size = ask.number32();
     if block_size == 0 {

@@ -1,15 +1,15 @@
-//! Calls of hdt_triples: searches.
+//! Calls of hdt_triples: searching triples.
 
 use crate::triples::{indexed_at, listed_at, pattern_of, triples_at};
 use hdt_probe::{Ask, Say};
 use hdt_seq::Steps;
 use hdt_triples::Matches;
 
-/// The words, each with the count of its arguments.
+/// The words of this module, each with its number of arguments.
 pub const WORDS: &str =
     "find 7+ indexed_find 7+ listed_find 7+ matching 7+ indexed_matching 7+ listed_matching 7+ matching_up_to 8+ listed_matching_up_to 8+ handed_back 7+ empty_matches 0";
 
-/// Answers a request of one of these words.
+/// Answers a request with one of these words. Returns false if the word is not one of them.
 pub fn answer(word: &str, ask: &mut Ask<'_>, say: &mut Say) -> bool {
     match word {
         "find" => say_find(ask, say),
@@ -27,7 +27,7 @@ pub fn answer(word: &str, ask: &mut Ask<'_>, say: &mut Say) -> bool {
     true
 }
 
-/// How many items there are.
+/// The number of items.
 fn count(mut matches: Matches<'_>) -> u64 {
     let mut count = 0_u64;
     for _ in 0..u64::MAX {
@@ -39,7 +39,7 @@ fn count(mut matches: Matches<'_>) -> u64 {
     count
 }
 
-/// All items, and whether there are any behind the end.
+/// Appends all items, and `again` if the iterator returns one after its end.
 fn say_items(mut matches: Matches<'_>, say: &mut Say) {
     for _ in 0..u64::MAX {
         match matches.next() {
@@ -156,8 +156,8 @@ fn say_listed_matching_up_to(ask: &mut Ask<'_>, say: &mut Say) {
     }
 }
 
-/// Searches by the directories alone, also where memory was refused for the lists, and by the triples alone where it was
-/// refused for the directories.
+/// Searches with the rank/select indexes, also if memory ran out for the inverted indexes; and without any index if
+/// memory ran out for the rank/select indexes.
 fn say_handed_back(ask: &mut Ask<'_>, say: &mut Say) {
     let Some((triples, _)) = triples_at(ask, say) else {
         return;
@@ -182,7 +182,7 @@ fn say_handed_back(ask: &mut Ask<'_>, say: &mut Say) {
     }
 }
 
-/// What no matches give.
+/// The items of `Matches::Empty`.
 fn say_empty_matches(say: &mut Say) {
     say_items(Matches::Empty, say);
     say.number(count(Matches::Empty))

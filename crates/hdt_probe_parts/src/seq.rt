@@ -1,4 +1,4 @@
-//! Calls of hdt_seq.
+//! Calls of hdt_seq: log arrays, bitmaps, and rank and select.
 
 use hdt_probe::{Ask, Say};
 use hdt_seq::{
@@ -6,11 +6,11 @@ use hdt_seq::{
 };
 use std::alloc::AllocError;
 
-/// The words, each with the count of its arguments.
+/// The words of this module, each with its number of arguments.
 pub const WORDS: &str =
     "numbers 2 number 2 entries 1+ put_numbers 1+ width_of 0+ bits 2 bit 2 put_bits 1+ rank 1+ select 1+ held 1 byte_at 1 code8_at 2 packed_at 2";
 
-/// Answers a request of one of these words.
+/// Answers a request with one of these words. Returns false if the word is not one of them.
 pub fn answer(word: &str, ask: &mut Ask<'_>, say: &mut Say) -> bool {
     match word {
         "numbers" => say_numbers(ask, say),
@@ -32,7 +32,7 @@ pub fn answer(word: &str, ask: &mut Ask<'_>, say: &mut Say) -> bool {
     true
 }
 
-/// The sequence at an offset, or its fault.
+/// Reads the log array at an offset, or reports its error.
 fn numbers_at<'a>(ask: &mut Ask<'a>, say: &mut Say) -> Option<(Numbers<'a>, usize)> {
     match Numbers::read(ask.file, ask.size()) {
         Ok(read) => Some(read),
@@ -43,7 +43,7 @@ fn numbers_at<'a>(ask: &mut Ask<'a>, say: &mut Say) -> Option<(Numbers<'a>, usiz
     }
 }
 
-/// The bits at an offset, or their fault.
+/// Reads the bitmap at an offset, or reports its error.
 fn bits_at<'a>(ask: &mut Ask<'a>, say: &mut Say) -> Option<(Bits<'a>, usize)> {
     match Bits::read(ask.file, ask.size()) {
         Ok(read) => Some(read),
@@ -54,7 +54,7 @@ fn bits_at<'a>(ask: &mut Ask<'a>, say: &mut Say) -> Option<(Bits<'a>, usize)> {
     }
 }
 
-/// How many entries, the offset of their count, the end, and the entries up to a most.
+/// The number of entries, its byte offset, the offset after the array, and the first entries, at most so many.
 fn say_numbers(ask: &mut Ask<'_>, say: &mut Say) {
     let Some((numbers, end)) = numbers_at(ask, say) else {
         return;
@@ -67,7 +67,7 @@ fn say_numbers(ask: &mut Ask<'_>, say: &mut Say) {
     }
 }
 
-/// An entry and its offset.
+/// An entry and its byte offset.
 fn say_number(ask: &mut Ask<'_>, say: &mut Say) {
     let Some((numbers, _)) = numbers_at(ask, say) else {
         return;
@@ -81,7 +81,7 @@ fn say_number(ask: &mut Ask<'_>, say: &mut Say) {
     say.number(copy.entry_place(i))
 }
 
-/// Entries.
+/// The entries at these indexes.
 fn say_entries(ask: &mut Ask<'_>, say: &mut Say) {
     let Some((numbers, _)) = numbers_at(ask, say) else {
         return;
@@ -100,7 +100,7 @@ fn say_put_numbers(ask: &mut Ask<'_>, say: &mut Say) {
     say.appended(done, &bytes)
 }
 
-/// How many bits, the offset of their count, the end, and the bits up to a most.
+/// The number of bits, its byte offset, the offset after the bitmap, and the first bits, at most so many.
 fn say_bits(ask: &mut Ask<'_>, say: &mut Say) {
     let Some((bits, end)) = bits_at(ask, say) else {
         return;
@@ -113,7 +113,7 @@ fn say_bits(ask: &mut Ask<'_>, say: &mut Say) {
     }
 }
 
-/// A bit and its offset.
+/// A bit and the byte offset of its byte.
 fn say_bit(ask: &mut Ask<'_>, say: &mut Say) {
     let Some((bits, _)) = bits_at(ask, say) else {
         return;
@@ -144,7 +144,7 @@ fn say_put_bits(ask: &mut Ask<'_>, say: &mut Say) {
     }
 }
 
-/// How many marks stand before each bit.
+/// The number of 1-bits before each position.
 fn say_rank(ask: &mut Ask<'_>, say: &mut Say) {
     let Some((bits, _)) = bits_at(ask, say) else {
         return;
@@ -160,7 +160,7 @@ fn say_rank(ask: &mut Ask<'_>, say: &mut Say) {
     }
 }
 
-/// Where each mark stands.
+/// The position of each 1-bit, by its number from 1.
 fn say_select(ask: &mut Ask<'_>, say: &mut Say) {
     let Some((bits, _)) = bits_at(ask, say) else {
         return;

@@ -1,4 +1,4 @@
-//! Calls of hdt_triples: triples that are read and written.
+//! Calls of hdt_triples: reading and writing triples.
 
 use hdt_probe::{Ask, Say};
 use hdt_seq::Steps;
@@ -6,11 +6,11 @@ use hdt_triples::{
     Counts, IndexedTriples, ListedTriples, Pattern, Triples, are_writable, put_triples,
 };
 
-/// The words, each with the count of its arguments.
+/// The words of this module, each with its number of arguments.
 pub const WORDS: &str =
     "triples 4 triple 4+ uses 4+ indexed_held 4 listed_held 4 are_writable 0+ put_triples 1+ takes 6";
 
-/// Answers a request of one of these words.
+/// Answers a request with one of these words. Returns false if the word is not one of them.
 pub fn answer(word: &str, ask: &mut Ask<'_>, say: &mut Say) -> bool {
     match word {
         "triples" => say_triples(ask, say),
@@ -26,7 +26,7 @@ pub fn answer(word: &str, ask: &mut Ask<'_>, say: &mut Say) -> bool {
     true
 }
 
-/// The triples at an offset, of so many strings in each role, and the end; or their fault.
+/// Reads the triples at an offset, with the number of strings of each role; or reports their error.
 pub fn triples_at<'a>(ask: &mut Ask<'a>, say: &mut Say) -> Option<(Triples<'a>, usize)> {
     let at = ask.size();
     let counts = Counts {
@@ -48,7 +48,7 @@ pub fn triples_at<'a>(ask: &mut Ask<'a>, say: &mut Say) -> Option<(Triples<'a>, 
     }
 }
 
-/// The same with directories.
+/// The same with rank/select indexes.
 pub fn indexed_at<'a>(ask: &mut Ask<'a>, say: &mut Say) -> Option<IndexedTriples<'a>> {
     let Some((triples, _)) = triples_at(ask, say) else {
         return None;
@@ -62,7 +62,7 @@ pub fn indexed_at<'a>(ask: &mut Ask<'a>, say: &mut Say) -> Option<IndexedTriples
     }
 }
 
-/// The same with lists.
+/// The same with inverted indexes as well.
 pub fn listed_at<'a>(ask: &mut Ask<'a>, say: &mut Say) -> Option<ListedTriples<'a>> {
     let Some(indexed) = indexed_at(ask, say) else {
         return None;
@@ -97,7 +97,7 @@ fn say_triple(ask: &mut Ask<'_>, say: &mut Say) {
     }
 }
 
-/// For each role and number, whether a triple has it.
+/// For each role and ID, whether a triple has that ID in the role.
 fn say_uses(ask: &mut Ask<'_>, say: &mut Say) {
     let Some(listed) = listed_at(ask, say) else {
         return;
@@ -123,7 +123,7 @@ fn say_listed_held(ask: &mut Ask<'_>, say: &mut Say) {
     }
 }
 
-/// All arguments that are left, by threes.
+/// Reads all remaining arguments, three numbers a triple.
 fn triples_of(ask: &mut Ask<'_>) -> Vec<(u64, u64, u64)> {
     let mut triples = Vec::new(ask.alloc);
     for _ in 0..u64::MAX {
@@ -153,7 +153,7 @@ fn say_put_triples(ask: &mut Ask<'_>, say: &mut Say) {
     say.appended(done, &bytes)
 }
 
-/// A pattern: three numbers, each of which may be any.
+/// Reads a pattern: three IDs, each of which may be `-` for any.
 pub fn pattern_of(ask: &mut Ask<'_>) -> Pattern {
     let s = ask.maybe();
     let p = ask.maybe();

@@ -1,15 +1,15 @@
-//! Calls of hdt_front: walks and cursors over the strings of a section.
+//! Calls of hdt_front: iterating over the strings of a section.
 
 use crate::front::section_at;
 use hdt_front::{Cursor, Seeker, Walk};
 use hdt_probe::{Ask, Say};
 use hdt_seq::Steps;
 
-/// The words, each with the count of its arguments.
+/// The words of this module, each with its number of arguments.
 pub const WORDS: &str =
     "section_walk 1 section_walk_kept 1 section_cursor 2 section_cursor_compared 3 section_seek 1+";
 
-/// Answers a request of one of these words.
+/// Answers a request with one of these words. Returns false if the word is not one of them.
 pub fn answer(word: &str, ask: &mut Ask<'_>, say: &mut Say) -> bool {
     match word {
         "section_walk" => say_section_walk(ask, say),
@@ -22,7 +22,7 @@ pub fn answer(word: &str, ask: &mut Ask<'_>, say: &mut Say) -> bool {
     true
 }
 
-/// The string of each number, by one seeker.
+/// The string of each ID, by one seeker.
 fn say_section_seek(ask: &mut Ask<'_>, say: &mut Say) {
     let Some((section, _)) = section_at(ask, say) else {
         return;
@@ -40,7 +40,7 @@ fn say_section_seek(ask: &mut Ask<'_>, say: &mut Say) {
     }
 }
 
-/// All strings in order, each behind its offset.
+/// All strings in order, each after its byte offset.
 fn say_section_walk(ask: &mut Ask<'_>, say: &mut Say) {
     let Some((section, _)) = section_at(ask, say) else {
         return;
@@ -58,7 +58,8 @@ fn say_section_walk(ask: &mut Ask<'_>, say: &mut Say) {
     }
 }
 
-/// All strings in order, each behind its offset and how many bytes it keeps; then what is kept at the end.
+/// All strings in order, each after its byte offset and the length of the prefix that it keeps; then `none` and what
+/// the end returns.
 fn say_section_walk_kept(ask: &mut Ask<'_>, say: &mut Say) {
     let Some((section, _)) = section_at(ask, say) else {
         return;
@@ -80,7 +81,7 @@ fn say_section_walk_kept(ask: &mut Ask<'_>, say: &mut Say) {
     }
 }
 
-/// All strings in order, each with how it lies to a string.
+/// All strings in order, each with how it compares to a string.
 fn say_section_cursor(ask: &mut Ask<'_>, say: &mut Say) {
     let Some((section, _)) = section_at(ask, say) else {
         return;
@@ -101,7 +102,7 @@ fn say_section_cursor(ask: &mut Ask<'_>, say: &mut Say) {
     }
 }
 
-/// How the string under a cursor lies to another one, and how far they agree, compared from where they may differ.
+/// How the current string compares to another one, and their common prefix, compared from a length that they share.
 fn say_compared(cursor: &Cursor<'_>, from: usize, sought: &[u8], say: &mut Say) {
     let (_, agreed) = cursor.compared(sought, 0);
     let (order, same) = cursor.compared(sought, from.min(agreed));
@@ -109,7 +110,8 @@ fn say_compared(cursor: &Cursor<'_>, from: usize, sought: &[u8], say: &mut Say) 
     say.size(same)
 }
 
-/// All strings in order: the offset, the string, how it lies to a string and how far they agree, and what the next keeps.
+/// All strings in order: the byte offset, the string, how it compares to a string, their common prefix, and the prefix
+/// that the next string keeps.
 fn say_section_cursor_compared(ask: &mut Ask<'_>, say: &mut Say) {
     let Some((section, _)) = section_at(ask, say) else {
         return;

@@ -1,4 +1,4 @@
-//! Calls of hdt_wire: numbers, check codes, control blocks and texts.
+//! Calls of hdt_wire: VByte numbers, CRCs, control information and texts.
 ghost use Rattle.std.specs.Prelude.{IsTrue};
 ghost use Rattle.hdt_wire.specs.Control.{HasNoZero};
 
@@ -8,11 +8,11 @@ use hdt_wire::{
     read_control, read_vbyte, text_at, vbyte_len, zero_in,
 };
 
-/// The words, each with the count of its arguments.
+/// The words of this module, each with its number of arguments.
 pub const WORDS: &str =
     "read_vbyte 1 put_vbyte 2+ vbyte_len 1 check8 0 check16 0 check32 0 read_control 2 put_control 3 property 2 put_decimal 2+ bytes_at 2 text_at 1 zero_in 0";
 
-/// Answers a request of one of these words.
+/// Answers a request with one of these words. Returns false if the word is not one of them.
 pub fn answer(word: &str, ask: &mut Ask<'_>, say: &mut Say) -> bool {
     match word {
         "read_vbyte" => say_read_vbyte(ask, say),
@@ -43,7 +43,7 @@ fn say_read_vbyte(ask: &mut Ask<'_>, say: &mut Say) {
     }
 }
 
-/// The numbers, one behind another; up to where memory was refused.
+/// The encoded numbers, one after another, up to the one for which memory ran out.
 fn say_put_vbyte(ask: &mut Ask<'_>, say: &mut Say) {
     let mut bytes = ask.bytes();
     for number in &ask.numbers() {
@@ -97,7 +97,7 @@ fn say_property(ask: &mut Ask<'_>, say: &mut Say) {
     }
 }
 
-/// The numbers, one behind another; up to where memory was refused.
+/// The encoded numbers, one after another, up to the one for which memory ran out.
 fn say_put_decimal(ask: &mut Ask<'_>, say: &mut Say) {
     let mut bytes = ask.bytes();
     for number in &ask.numbers() {

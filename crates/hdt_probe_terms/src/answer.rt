@@ -1,10 +1,10 @@
-//! One request and its answer.
+//! Answers one request.
 
 use crate::{faults, lines, requests, terms};
 use hdt_probe::{Ask, Kept, Say, word_of};
 use std::alloc::{AllocError, Global};
 
-/// The words, each with the count of its arguments.
+/// The words of this module, each with its number of arguments.
 fn say_help(say: &mut Say) {
     say.word("file 1 help 0 reads 0 writes 0");
     say.word(terms::WORDS);
@@ -13,7 +13,7 @@ fn say_help(say: &mut Say) {
     say.word(requests::WORDS)
 }
 
-/// Answers a request of a word that calls a library.
+/// Answers a request that calls a library. Returns false if there is no such word.
 fn answer_call(word: &str, ask: &mut Ask<'_>, say: &mut Say) -> bool {
     terms::answer(word, ask, say)
         || faults::answer(word, ask, say)
@@ -21,7 +21,7 @@ fn answer_call(word: &str, ask: &mut Ask<'_>, say: &mut Say) -> bool {
         || requests::answer(word, ask, say)
 }
 
-/// Puts the line that answers a request.
+/// Appends the answer to a request, one line.
 pub fn answer_line(
     alloc: Global,
     line: &str,

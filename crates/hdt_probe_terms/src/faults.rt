@@ -1,12 +1,12 @@
-//! Calls of hdt_terms: faults of texts, and how they are printed.
+//! Calls of hdt_terms: errors and their texts.
 
 use hdt_probe::{Ask, Say};
 use hdt_terms::{LineFault, LineReason, StringFault, TermFault};
 
-/// The words, each with the count of its arguments.
+/// The words of this module, each with its number of arguments.
 pub const WORDS: &str = "line_reason 1 term_fault_text 2 line_fault_text 3 string_fault_text 1";
 
-/// Answers a request of one of these words.
+/// Answers a request with one of these words. Returns false if the word is not one of them.
 pub fn answer(word: &str, ask: &mut Ask<'_>, say: &mut Say) -> bool {
     match word {
         "line_reason" => say_line_reason(ask, say),
@@ -18,7 +18,7 @@ pub fn answer(word: &str, ask: &mut Ask<'_>, say: &mut Say) -> bool {
     true
 }
 
-/// A fault of a text.
+/// Reports an error in the text of a term.
 pub fn say_term_fault(fault: TermFault, say: &mut Say) {
     match fault.reason {
         LineReason::OutOfMemory => say.no_memory(),
@@ -29,7 +29,7 @@ pub fn say_term_fault(fault: TermFault, say: &mut Say) {
     }
 }
 
-/// A fault of a line.
+/// Reports an error in a line.
 pub fn say_line_fault(fault: LineFault, say: &mut Say) {
     match fault.reason {
         LineReason::OutOfMemory => say.no_memory(),
@@ -41,7 +41,7 @@ pub fn say_line_fault(fault: LineFault, say: &mut Say) {
     }
 }
 
-/// A fault of a dictionary string.
+/// Reports an error of a dictionary string.
 pub fn say_string_fault(fault: StringFault, say: &mut Say) {
     match fault {
         StringFault::NotATerm => say.stop("not a term"),
@@ -49,7 +49,7 @@ pub fn say_string_fault(fault: StringFault, say: &mut Say) {
     }
 }
 
-/// The reason with the number that is the next argument.
+/// Reads a reason, by its number.
 fn reason_of(ask: &mut Ask<'_>) -> LineReason {
     match ask.number() {
         1 => LineReason::Syntax,

@@ -6,11 +6,11 @@ use hdt_probe::{Ask, Say, Source};
 use hdt_terms::{LineFault, Lines, Triple};
 use hdt_wire::Counted;
 
-/// The words, each with the count of its arguments.
+/// The words of this module, each with its number of arguments.
 pub const WORDS: &str =
     "line_triples 3 line_strings 3 line_texts 3 line_fronts 4 line_calls 4+";
 
-/// Answers a request of one of these words.
+/// Answers a request with one of these words. Returns false if the word is not one of them.
 pub fn answer(word: &str, ask: &mut Ask<'_>, say: &mut Say) -> bool {
     match word {
         "line_triples" => say_line_triples(ask, say),
@@ -23,7 +23,7 @@ pub fn answer(word: &str, ask: &mut Ask<'_>, say: &mut Say) -> bool {
     true
 }
 
-/// Lines of so many bytes at most, over a reader of the input.
+/// The lines of a reader of the input, with a limit on its bytes.
 fn lines_of<'a>(ask: &mut Ask<'a>, say: &mut Say) -> Option<(Lines, Counted<Source<'a>>)> {
     let limit = ask.number();
     if limit >= 1 << 63 {
@@ -47,14 +47,14 @@ fn say_triple(triple: &Triple, ask: &Ask<'_>, say: &mut Say) {
     say_string_of(&triple.o, ask, say)
 }
 
-/// A fault as a value.
+/// Appends an error to the values.
 fn say_fault(fault: LineFault, say: &mut Say) {
     say.word(fault.reason.name());
     say.number(fault.line);
     say.number(fault.column)
 }
 
-/// The end, or the fault, and whether the next call answered anything else.
+/// The end or the error, and `changed` if the next call returned anything else.
 fn say_end(end: Result<(), LineFault>, again: Result<bool, LineFault>, say: &mut Say) {
     match end {
         Ok(()) => {
@@ -72,7 +72,7 @@ fn say_end(end: Result<(), LineFault>, again: Result<bool, LineFault>, say: &mut
     }
 }
 
-/// Whether there is a next triple.
+/// Whether a call returned a triple.
 fn is_triple(found: Result<Option<Triple>, LineFault>) -> Result<bool, LineFault> {
     match found {
         Ok(triple) => Ok(triple.is_some()),
@@ -99,7 +99,7 @@ fn say_line_triples(ask: &mut Ask<'_>, say: &mut Say) {
     let _left = say.read(input);
 }
 
-/// A vector that holds something.
+/// A buffer that is not empty, so that a test sees whether the call clears it.
 fn filled(ask: &mut Ask<'_>) -> Vec<u8> {
     let mut bytes = Vec::new(ask.alloc);
     if bytes.push(b'x').is_err() {
@@ -134,7 +134,7 @@ fn say_line_strings(ask: &mut Ask<'_>, say: &mut Say) {
     let _left = say.read(input);
 }
 
-/// A line: its number, its text, and whether the next one is held.
+/// A line: its number, its text, and whether the next one is buffered.
 fn say_text(lines: &Lines, text: &[u8], say: &mut Say) {
     say.number(lines.line_number());
     say.bytes(text);
@@ -187,7 +187,7 @@ fn say_line_fronts(ask: &mut Ask<'_>, say: &mut Say) {
     let _left = say.read(input);
 }
 
-/// One call of next_triple.
+/// One call of `next_triple`.
 fn say_next_triple(
     lines: &mut Lines,
     input: &mut Counted<Source<'_>>,
@@ -207,7 +207,7 @@ fn say_next_triple(
     }
 }
 
-/// One call of next_strings, and what the buffers hold then.
+/// One call of `next_strings`, and the buffers after it.
 fn say_next_strings(
     lines: &mut Lines,
     input: &mut Counted<Source<'_>>,
@@ -228,7 +228,7 @@ fn say_next_strings(
     say.strings(&[&s, &p, &o])
 }
 
-/// One call of next_front, and what the buffer holds then.
+/// One call of `next_text`, and the buffer after it.
 fn say_next_text(
     lines: &mut Lines,
     input: &mut Counted<Source<'_>>,
@@ -247,7 +247,7 @@ fn say_next_text(
     say_text(lines, &text, say)
 }
 
-/// A call for each argument that is left: 0 for a triple, 1 for its strings, 2 for the text of a line.
+/// One call for each remaining argument: 0 for a triple, 1 for its strings, 2 for the text of a line.
 fn say_line_calls(ask: &mut Ask<'_>, say: &mut Say) {
     let Some((mut lines, mut input)) = lines_of(ask, say) else {
         return;

@@ -1,13 +1,13 @@
-//! Calls of hdt_terms: lines that ask for triples.
+//! Calls of hdt_terms: parsing requests of `answer`.
 
 use crate::faults::say_term_fault;
 use hdt_probe::{Ask, Say};
 use hdt_terms::{TermFault, read_raw_request, read_request};
 
-/// The words, each with the count of its arguments.
+/// The words of this module, each with its number of arguments.
 pub const WORDS: &str = "request 1 raw_request 1";
 
-/// Answers a request of one of these words.
+/// Answers a request with one of these words. Returns false if the word is not one of them.
 pub fn answer(word: &str, ask: &mut Ask<'_>, say: &mut Say) -> bool {
     match word {
         "request" => say_request(ask, say),
@@ -17,7 +17,7 @@ pub fn answer(word: &str, ask: &mut Ask<'_>, say: &mut Say) -> bool {
     true
 }
 
-/// A string, or that it may be any.
+/// A string, or `-` if none is given.
 fn say_part(is_given: bool, string: &[u8], say: &mut Say) {
     if is_given {
         say.bytes(string)
@@ -26,7 +26,7 @@ fn say_part(is_given: bool, string: &[u8], say: &mut Say) {
     }
 }
 
-/// Which strings are given, and these; or the fault.
+/// The strings that are given; or the error.
 fn say_asked(
     asked: Result<Option<[bool; 3]>, TermFault>,
     s: &[u8],
@@ -45,7 +45,7 @@ fn say_asked(
     }
 }
 
-/// A vector that holds something.
+/// A buffer that is not empty, so that a test sees whether the call clears it.
 fn filled(ask: &mut Ask<'_>) -> Vec<u8> {
     let mut bytes = Vec::new(ask.alloc);
     if bytes.push(b'x').is_err() {

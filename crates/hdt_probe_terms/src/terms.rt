@@ -7,11 +7,11 @@ use hdt_terms::{
     term_string,
 };
 
-/// The words, each with the count of its arguments.
+/// The words of this module, each with its number of arguments.
 pub const WORDS: &str =
     "parse_term 1 parse_string 2 term_string 1 string_term 1 put_term 2 put_string 2 is_iri 1 same_term 2";
 
-/// Answers a request of one of these words.
+/// Answers a request with one of these words. Returns false if the word is not one of them.
 pub fn answer(word: &str, ask: &mut Ask<'_>, say: &mut Say) -> bool {
     match word {
         "parse_term" => say_parse_term(ask, say),
@@ -27,7 +27,7 @@ pub fn answer(word: &str, ask: &mut Ask<'_>, say: &mut Say) -> bool {
     true
 }
 
-/// A term by its case and its texts.
+/// The case of a term, and its texts.
 fn say_term(term: &Term, say: &mut Say) {
     match term {
         Term::Iri(text) => {
@@ -68,7 +68,7 @@ pub fn say_string_of(term: &Term, ask: &Ask<'_>, say: &mut Say) {
     }
 }
 
-/// The term of the text that is the next argument, or its fault.
+/// Parses the next argument, the text of a term; or reports its error.
 fn parsed(ask: &mut Ask<'_>, say: &mut Say) -> Option<Term> {
     match parse_term(ask.alloc, &ask.bytes()) {
         Ok(term) => Some(term),
@@ -79,7 +79,7 @@ fn parsed(ask: &mut Ask<'_>, say: &mut Say) -> Option<Term> {
     }
 }
 
-/// The term of the dictionary string that is the next argument, or why there is none.
+/// The term of the next argument, a dictionary string; or reports that there is none.
 fn term_of(ask: &mut Ask<'_>, say: &mut Say) -> Option<Term> {
     match string_term(ask.alloc, &ask.bytes()) {
         Ok(term) => Some(term),
@@ -126,7 +126,7 @@ fn say_put_term(ask: &mut Ask<'_>, say: &mut Say) {
     }
 }
 
-/// The kind of the term of a dictionary string.
+/// The kind of a term.
 fn say_kind(kind: Kind, say: &mut Say) {
     say.word(match kind {
         Kind::Iri => "iri",
@@ -145,7 +145,7 @@ fn say_put_string(ask: &mut Ask<'_>, say: &mut Say) {
     say.bytes(&text)
 }
 
-/// Whether a copy of a term is another term.
+/// Whether a copy of a term equals another term.
 fn say_same_term(ask: &mut Ask<'_>, say: &mut Say) {
     let Some(one) = parsed(ask, say) else {
         return;
