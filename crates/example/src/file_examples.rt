@@ -27,7 +27,7 @@ pub fn crate_example<'a>(
     // A single request needs no index.
     let layout = Layout::read(alloc, bytes)?;
     let pattern = layout.pattern([Some(b"http://a/"), None, None], &mut steps);
-    let text = layout_text(alloc, &layout, pattern)?;
+    let text = layout_text(alloc, &layout, pattern, None)?;
     objects.push(subjects.min(end as u64))?;
     Ok((base, text))
 }
@@ -51,7 +51,7 @@ pub fn layout_example(alloc: Global, bytes: &[u8]) -> Result<(u64, Vec<u8>), Exa
     let layout = Layout::read(alloc, bytes)?;
     let subjects = layout.count(Role::Subject);
     let pattern = layout.pattern([Some(b"u:a"), None, None], &mut Steps::new());
-    let text = layout_text(alloc, &layout, pattern)?;
+    let text = layout_text(alloc, &layout, pattern, None)?;
     Ok((subjects, text))
 }
 

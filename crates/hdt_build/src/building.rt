@@ -44,7 +44,9 @@ fn built(
 /// distinct string once for all roles (again if the cache loses it) with some 50 bytes of overhead; 24 bytes for the
 /// triple of each line; the sections; and the file.
 ///
-/// ```text
+/// ```rust
+/// let document: &[u8] = b"<http://a/s> <http://a/p> \"one\"@en .\n";
+/// let mut input = Counted::new(document);
 /// let (bytes, report) = build_bytes(alloc, &mut input, &options)?;
 /// ```
 ///

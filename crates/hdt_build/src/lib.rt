@@ -5,17 +5,20 @@
 //!
 //! Functions that state no cost take constant time and allocate nothing. Laws do nothing when called.
 //!
-//! ```text
-//! let options = Options { block_size: 16, base: Vec::from_slice(alloc, b"http://example.org/dataset")? };
-//! let (bytes, report) = build_bytes(alloc, &mut Counted::new(input), &options)?;
+//! ```rust
+//! let options = Options {
+//!     block_size: 16,
+//!     base: Vec::from_slice(alloc, b"http://example.org/dataset")?,
+//! };
+//! let (bytes, report) = build_bytes(alloc, &mut Counted::new(document), &options)?;
 //! let graph = open(alloc, &bytes)?; // report.triples triples
 //! ```
 //!
 //! [`rewrite`] writes the canonical file of the triples of a graph, with its header body.
 //!
-//! ```text
+//! ```rust
 //! let graph = open(alloc, bytes)?;
-//! let (canonical, report) = rewrite_bytes(alloc, &graph, &options)?; // without the strings that no triple uses
+//! let (canonical, report) = rewrite_bytes(alloc, &graph, &options)?; // without unused strings
 //! ```
 //!
 //! Modules, in reading order. Building: `options`, `report` and `fault`; `interner`, the list of strings; `queue` and

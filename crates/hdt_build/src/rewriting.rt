@@ -59,7 +59,7 @@ fn rewritten(
 /// body is unchanged; strings that no triple uses are dropped. Of the options, only the block size is used. Strings
 /// need not be RDF terms. Linear time, except for sorting the triples if the order of their IDs changes.
 ///
-/// ```text
+/// ```rust
 /// let graph = open(alloc, bytes)?;
 /// let (canonical, report) = rewrite_bytes(alloc, &graph, &options)?;
 /// ```

@@ -8,7 +8,7 @@ use std::marker::Model;
 
 /// A list of byte strings, concatenated in one vector. In contracts it is the list of the strings.
 ///
-/// ```text
+/// ```rust
 /// let mut arena = Arena::new(alloc)?;
 /// arena.push(b"u:a")?;
 /// let first = arena.get(0); // b"u:a"

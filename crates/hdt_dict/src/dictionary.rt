@@ -20,10 +20,12 @@ use std::alloc::{AllocError, Global};
 
 /// A dictionary that was read. It borrows the input and owns no memory.
 ///
-/// ```text
+/// ```rust
 /// let (dictionary, end) = Dictionary::read(alloc, bytes, at)?;
-/// let number = dictionary.number_of(Role::Predicate, b"http://a/", &mut steps);
-/// let found = dictionary.string_of(Role::Object, 7, &mut text, &mut steps)?;
+/// let mut steps = Steps::new();
+/// let id = dictionary.number_of(Role::Predicate, b"http://a/", &mut steps);
+/// let mut string = Vec::new(alloc);
+/// let found = dictionary.string_of(Role::Object, 7, &mut string, &mut steps)?;
 /// ```
 #[derive(Clone, Copy)]
 pub struct Dictionary<'a> {

@@ -6,12 +6,13 @@
 //!
 //! Functions that state no cost take constant time and allocate nothing. Laws do nothing when called.
 //!
-//! ```text
+//! ```rust
 //! let (dictionary, end) = Dictionary::read(alloc, bytes, at)?;
-//! let number = dictionary.number_of(Role::Subject, b"http://a/", &mut steps);
+//! let subject = dictionary.number_of(Role::Subject, b"http://a/", &mut Steps::new());
 //! let mut objects = dictionary.strings(alloc, Role::Object);
-//! while let Some(number) = objects.next()? {
-//!     // the object with ID `number` is objects.last()
+//! while let Some(id) = objects.next()? {
+//!     ids.push(id)?;
+//!     text.extend_from_slice(objects.last())?;
 //! }
 //! ```
 //!

@@ -75,8 +75,9 @@ fn copied(alloc: Global, list: &[&[u8]]) -> Result<Vec<Vec<u8>>, AllocError>
 /// Divides the strings of three roles, in any order and with duplicates, into the four sections of a dictionary. Time:
 /// sorting the strings. Memory: the strings of the result, and a reference to each.
 ///
-/// ```text
-/// let parts = split(alloc, &subjects, &predicates, &objects)?;
+/// ```rust
+/// let parts = split(alloc, subjects, predicates, objects)?;
+/// let mut out = Vec::new(alloc);
 /// put_dictionary(alloc, &parts, 16, &mut out)?;
 /// ```
 #[tactic(auto, unfolding(crate::specs::Split::lent_lists_of, crate::specs::Split::lists_of))]

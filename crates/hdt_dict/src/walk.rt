@@ -14,10 +14,11 @@ use std::marker::Model;
 /// A cursor over the strings of a role in the order of their IDs. Each is decoded once, into the buffer of the previous
 /// one.
 ///
-/// ```text
-/// let mut strings = dictionary.strings(alloc, Role::Subject);
-/// while let Some(number) = strings.next()? {
-///     // the string with ID `number` is strings.last()
+/// ```rust
+/// let mut subjects = dictionary.strings(alloc, Role::Subject);
+/// while let Some(id) = subjects.next()? {
+///     ids.push(id)?;
+///     text.extend_from_slice(subjects.last())?;
 /// }
 /// ```
 #[derive(Drop)]

@@ -35,7 +35,7 @@ fn read_rows<'a>(
 ///
 /// Those of [`read_head`](crate::read_head), then those of `Dictionary::read`.
 ///
-/// ```text
+/// ```rust
 /// let (head, dictionary, end) = read_dictionary(alloc, bytes)?;
 /// let subjects = dictionary.count(Role::Subject);
 /// ```

@@ -14,11 +14,12 @@ use std::alloc::{AllocError, Global};
 /// An open file. It borrows the input, and keeps only the indexes of its triples, which are [`Graph::held`] `u64`
 /// values. `crates/example` is a program that uses it.
 ///
-/// ```text
+/// ```rust
 /// let graph = open(alloc, bytes)?;
-/// let number = graph.number_of(Role::Object, b"\"x\"", &mut steps);
+/// let mut steps = Steps::new();
+/// let id = graph.number_of(Role::Object, b"\"x\"", &mut steps);
 /// let pattern = graph.pattern([Some(b"u:a"), None, None], &mut steps);
-/// write_graph(alloc, &graph, pattern, &mut out)?;
+/// write_graph(alloc, &graph, pattern, &mut Counted::new(writer))?;
 /// ```
 #[derive(Drop)]
 pub struct Graph<'a> {

@@ -18,10 +18,11 @@ use std::alloc::{AllocError, Global};
 /// return the same as those of a [`crate::Graph`], but a search scans all triples. This is faster for a single request,
 /// as no index is built; for more, open the file ([`crate::open`]).
 ///
-/// ```text
+/// ```rust
 /// let layout = Layout::read(alloc, bytes)?;
 /// let subjects = layout.count(Role::Subject);
-/// let text = layout_text(alloc, &layout, Some(pattern), None)?;
+/// let pattern = layout.pattern([Some(b"u:a"), None, None], &mut Steps::new());
+/// let text = layout_text(alloc, &layout, pattern, None)?;
 /// ```
 #[derive(Clone, Copy)]
 pub struct Layout<'a> {

@@ -6,20 +6,21 @@
 //!
 //! Functions that state no cost take constant time and allocate nothing. Laws do nothing when called.
 //!
-//! ```text
+//! ```rust
 //! let (head, dictionary, end) = read_dictionary(alloc, bytes)?;
 //! let base = property(head.global().properties(), b"BaseURI");
-//! let triples_about_the_file = head.body();
 //! let subjects = dictionary.count(Role::Subject);
 //!
 //! let graph = open(alloc, bytes)?;
-//! for (subject, predicate, object) in graph.find([Some(b"http://a/"), None, None], &mut Steps::new()) {
-//!     // each triple of that subject, in order
+//! let mut steps = Steps::new();
+//! for (_, _, object) in graph.find([Some(b"http://a/"), None, None], &mut steps) {
+//!     objects.push(object)?;
 //! }
 //!
-//! // a single request, for which no index is built
+//! // A single request needs no index.
 //! let layout = Layout::read(alloc, bytes)?;
-//! let text = layout_text(alloc, &layout, layout.pattern([Some(b"http://a/"), None, None], &mut Steps::new()), None)?;
+//! let pattern = layout.pattern([Some(b"http://a/"), None, None], &mut steps);
+//! let text = layout_text(alloc, &layout, pattern, None)?;
 //! ```
 #![tactic(auto)]
 

@@ -48,7 +48,7 @@ fn open_rows<'a>(alloc: Global, bytes: &'a [u8]) -> Result<Graph<'a>, OpenFault>
 /// It reads the bytes once, then builds the indexes of the triples. Linear time in the bytes. The graph borrows the
 /// bytes, and keeps [`Graph::held`] `u64` values.
 ///
-/// ```text
+/// ```rust
 /// let graph = open(alloc, bytes)?;
 /// let subjects = graph.count(Role::Subject);
 /// ```

@@ -306,9 +306,9 @@ pub fn graph_text(
     }
 }
 
-/// Appends the same text, with a writer that is new or was used only for this graph. One writer for many texts decodes
-/// frequent predicates only once; [`Speller::keeping`] says how much it caches. After an error it can still be
-/// used, and `out` is unchanged.
+/// Appends the text of the first `most` matches, or of all of them, as [`graph_text`] does, with a writer that is new or
+/// was used only for this graph. One writer for many texts decodes frequent predicates only once;
+/// [`Speller::keeping`] says how much it caches. After an error it can still be used, and `out` is unchanged.
 pub fn append_graph_text(
     alloc: Global,
     graph: &Graph<'_>,
@@ -337,7 +337,8 @@ pub fn append_graph_text(
     )
 }
 
-/// Returns the text of the first `most` matches of a layout, or of all of them, as [`graph_text`] does. It scans the triples.
+/// Returns the text of the first `most` matches of a layout, or of all of them, as [`graph_text`] does. It scans the
+/// triples.
 pub fn layout_text(
     alloc: Global,
     layout: &Layout<'_>,
@@ -361,10 +362,10 @@ pub fn layout_text(
 /// Those of [`graph_text`], with nothing written; [`DumpFault::Write`] with the number of bytes that were written
 /// before the writer failed.
 ///
-/// ```text
-/// let mut out = Counted::new(file);
+/// ```rust
+/// let mut out = Counted::new(writer);
 /// let pattern = graph.pattern([None, Some(b"u:p"), None], &mut Steps::new());
-/// let bytes = write_graph(alloc, &graph, pattern, &mut out)?;
+/// let len = write_graph(alloc, &graph, pattern, &mut out)?;
 /// ```
 pub fn write_graph<W: Write>(
     alloc: Global,

@@ -7,11 +7,13 @@
 //!
 //! A function that states no cost takes constant time and allocates nothing. Laws do nothing when called.
 //!
-//! ```text
+//! ```rust
 //! let (section, next) = Section::read(alloc, bytes, at)?;
 //! let mut steps = Steps::new();
-//! if let Some(n) = section.place_of(b"http://a/b", &mut steps) {
-//!     section.string(n, &mut out, &mut steps)?;
+//! let id = section.place_of(b"http://a/b", &mut steps);
+//! let mut last = Vec::new(alloc);
+//! if section.len() > 0 {
+//!     section.string(section.len(), &mut last, &mut steps)?;
 //! }
 //! ```
 //!

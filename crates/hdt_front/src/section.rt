@@ -13,10 +13,12 @@ use crate::scan::text_len;
 ///
 /// String IDs count from 1, blocks from 0.
 ///
-/// ```text
+/// ```rust
 /// let (section, next) = Section::read(alloc, bytes, at)?;
-/// let mut text = Vec::new(alloc);
-/// section.string(1, &mut text, &mut Steps::new())?;
+/// let mut string = Vec::new(alloc);
+/// if id > 0 && id <= section.len() {
+///     section.string(id, &mut string, &mut Steps::new())?;
+/// }
 /// ```
 #[derive(Clone, Copy)]
 pub struct Section<'a> {

@@ -21,10 +21,12 @@ use std::marker::Model;
 /// last string, in a buffer at most a few times as long as the longest string. Contracts describe it by its block size
 /// and its strings.
 ///
-/// ```text
+/// ```rust
 /// let mut writer = SectionWriter::new(alloc, 16);
-/// writer.push(b"u:a")?;
-/// writer.push(b"u:b")?;
+/// for string in strings {
+///     writer.push(string)?;
+/// }
+/// let mut out = Vec::new(alloc);
 /// writer.finish(&mut out)?;
 /// ```
 #[derive(Drop)]

@@ -13,11 +13,14 @@ use std::marker::Model;
 /// A cursor with random access to the strings of a section. It decodes from the current string if the target comes
 /// later in the same block, else from the first string of the target's block. So ascending IDs decode each block once.
 ///
-/// ```text
+/// ```rust
 /// let mut seeker = Seeker::new(alloc, &section);
-/// for n in numbers {
-///     seeker.seek(*n, &mut steps)?;
-///     out.extend_from_slice(seeker.last())?;
+/// let mut steps = Steps::new();
+/// for id in ids {
+///     if *id > 0 && *id <= section.len() {
+///         seeker.seek(*id, &mut steps)?;
+///         text.extend_from_slice(seeker.last())?;
+///     }
 /// }
 /// ```
 #[derive(Drop)]

@@ -15,10 +15,11 @@ use std::marker::Model;
 /// Iterates over the strings of a section in order. It decodes each string once, over the previous one in one buffer.
 /// A full iteration takes time linear in the front-coded bytes.
 ///
-/// ```text
-/// let mut iter = Walk::new(alloc, &section);
-/// while let Some(offset) = iter.next()? {
-///     out.extend_from_slice(iter.last())?;
+/// ```rust
+/// let mut strings = Walk::new(alloc, &section);
+/// while let Some(start) = strings.next()? {
+///     starts.push(start)?;
+///     text.extend_from_slice(strings.last())?;
 /// }
 /// ```
 #[derive(Drop)]

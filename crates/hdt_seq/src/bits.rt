@@ -8,7 +8,7 @@ use hdt_wire::{Fault, Reason, demand, read_vbyte};
 
 /// A bitmap that was read. It borrows its bytes from the input.
 ///
-/// ```text
+/// ```rust
 /// let (bits, next) = Bits::read(bytes, at)?;
 /// let first = bits.len() > 0 && bits.get(0);
 /// ```

@@ -20,11 +20,15 @@ const WORD: u64 = 64;
 /// It borrows nothing. Each call takes the bitmap, which must be the one that the index was built from. A step is an
 /// access to one count, or to at most 64 consecutive bits of the bitmap.
 ///
-/// ```text
+/// ```rust
+/// let (bits, next) = Bits::read(bytes, at)?;
 /// let directory = Directory::new(alloc, &bits)?;
 /// let mut steps = Steps::new();
-/// let total = directory.rank(&bits, bits.len(), &mut steps);
-/// let last = directory.select(&bits, total, &mut steps);
+/// let ones = directory.rank(&bits, bits.len(), &mut steps);
+/// if ones > 0 {
+///     let last = directory.select(&bits, ones, &mut steps);
+///     positions.push(last)?;
+/// }
 /// ```
 #[derive(Drop)]
 pub struct Directory {

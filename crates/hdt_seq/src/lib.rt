@@ -8,12 +8,12 @@
 //!
 //! Functions that state no cost take constant time and allocate nothing. Laws do nothing when called.
 //!
-//! ```text
+//! ```rust
 //! let (bits, next) = Bits::read(bytes, at)?;
-//! let (numbers, end) = Numbers::read(bytes, next)?;
-//! let first = numbers.get(0);
 //! let directory = Directory::new(alloc, &bits)?;
-//! let total = directory.rank(&bits, bits.len(), &mut steps);
+//! let ones = directory.rank(&bits, bits.len(), &mut Steps::new());
+//! let (numbers, end) = Numbers::read(bytes, next)?;
+//! let count = numbers.len();
 //! ```
 //!
 //! Both sequences borrow the input and are `Copy`. A `Directory` is a rank/select index; it owns only its counts.

@@ -7,9 +7,12 @@ use hdt_wire::{Fault, Reason, demand, read_vbyte};
 
 /// A log sequence that was read. It borrows its packed bytes from the input.
 ///
-/// ```text
+/// ```rust
 /// let (numbers, next) = Numbers::read(bytes, at)?;
-/// let last = numbers.get(numbers.len() - 1); // if there is one
+/// let mut largest = 0;
+/// for i in 0..numbers.len() {
+///     largest = largest.max(numbers.get(i));
+/// }
 /// ```
 #[derive(Clone, Copy)]
 pub struct Numbers<'a> {

@@ -6,10 +6,11 @@
 //!
 //! Functions that state no cost take constant time and allocate nothing. Laws do nothing when called.
 //!
-//! ```
-//! let term = parse_term(alloc, b"\"caf\\u00e9\" @fr")?;
+//! ```rust
+//! let term = parse_term(alloc, b"\"caf\\u00e9\"@fr")?;
 //! let string = term_string(alloc, &term)?; // "café"@fr
-//! put_term(&term, &mut line)?; // the same, as nothing in it is escaped
+//! let mut line = Vec::new(alloc);
+//! put_term(&term, &mut line)?; // the same bytes, as nothing in them needs an escape
 //! ```
 //!
 //! [`parse_string`] parses a text as [`parse_term`] does and appends its dictionary string; [`put_string`] writes the

@@ -23,10 +23,11 @@ use std::marker::Model;
 /// It has one buffer of 64 KiB, which grows if a line is longer, except in [`Lines::next_front`]. Reading a document
 /// takes linear time, and memory for its longest line.
 ///
-/// ```
-/// let mut lines = Lines::new(alloc, limit)?;
+/// ```rust
+/// let mut input = Counted::new(document);
+/// let mut lines = Lines::new(alloc, 1 << 20)?;
 /// while let Some(triple) = lines.next_triple(&mut input)? {
-///     ..
+///     put_term(&triple.s, subjects)?;
 /// }
 /// ```
 #[derive(Drop)]
@@ -468,7 +469,7 @@ impl Lines {
     ///
     /// # Errors
     ///
-    /// [`LineReason::Read`] if the reader failed in this call; [`LineReason::TooLong`] if the input has more bytes than the
+    /// [`LineReason::Read`] if the reader failed; [`LineReason::TooLong`] if the input has more bytes than the
     /// limit and the line has no end within it; [`LineReason::OutOfMemory`]. Later calls return the same error and read
     /// nothing.
     pub fn next_front<R: Read>(

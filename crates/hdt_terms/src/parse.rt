@@ -62,6 +62,13 @@ fn read_whole(alloc: Global, text: &[u8]) -> Result<Term, TermFault>
 /// with nothing before or after it. IRIs must be absolute, U+0000 is an error, and the datatype
 /// `http://www.w3.org/2001/XMLSchema#string` is dropped. Linear time; memory for the term.
 ///
+/// ```rust
+/// let term = parse_term(alloc, b"<http://a/b>")?;
+/// if let Term::Iri(iri) = &term {
+///     out.extend_from_slice(iri.as_bytes())?; // http://a/b
+/// }
+/// ```
+///
 /// # Errors
 ///
 /// The first error of the text, with its column in bytes, from 1. [`LineReason::OutOfMemory`], with the column 0, only

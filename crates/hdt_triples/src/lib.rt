@@ -7,14 +7,21 @@
 //! Unless its comment states a cost, a function takes constant time and allocates nothing. Laws are theorems: calling
 //! one does nothing.
 //!
-//! ```text
-//! let counts = Counts { subjects, predicates, objects };
+//! ```rust
 //! let (triples, end) = Triples::read(bytes, at, counts)?;
-//! let (subject, predicate, object) = triples.get(0);
-//! let indexed = triples.with_directories(alloc).map_err(|_| AllocError)?;
-//! let listed = indexed.with_lists(alloc).map_err(|_| AllocError)?;
-//! let found = listed.find(pattern).count();
-//! let same = listed.matching(pattern, &mut Steps::new());
+//! let Ok(indexed) = triples.with_directories(alloc) else {
+//!     return Err(AllocError.into());
+//! };
+//! let Ok(listed) = indexed.with_lists(alloc) else {
+//!     return Err(AllocError.into());
+//! };
+//! let pattern = Pattern {
+//!     s: None,
+//!     p: Some(1),
+//!     o: None,
+//! };
+//! let count = listed.matching(pattern, &mut Steps::new());
+//! let first = listed.find(pattern).next();
 //! ```
 //!
 //! Reading and writing: [`Counts`], the number of strings of each role; [`Triples`]; [`are_writable`];

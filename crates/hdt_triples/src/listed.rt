@@ -15,11 +15,16 @@ use std::alloc::Global;
 /// object, ascending. No pattern that gives an ID needs a scan of all triples. They borrow the input and own only the
 /// indexes.
 ///
-/// ```text
-/// let (triples, end) = Triples::read(bytes, at, counts)?;
-/// let indexed = triples.with_directories(alloc).map_err(|_| AllocError)?;
-/// let listed = indexed.with_lists(alloc).map_err(|_| AllocError)?;
-/// for (subject, predicate, object) in listed.find(pattern) { .. }
+/// ```rust
+/// let Ok(indexed) = triples.with_directories(alloc) else {
+///     return Err(AllocError.into());
+/// };
+/// let Ok(listed) = indexed.with_lists(alloc) else {
+///     return Err(AllocError.into());
+/// };
+/// for (_, _, object) in listed.find(pattern) {
+///     objects.push(object)?;
+/// }
 /// ```
 #[derive(Drop)]
 pub struct ListedTriples<'a> {

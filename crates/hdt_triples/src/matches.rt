@@ -20,9 +20,11 @@ use hdt_seq::Steps;
 /// An iterator over the matches of a pattern, in order. Its variants are the search strategies; all return the same
 /// triples. It allocates nothing.
 ///
-/// ```text
+/// ```rust
 /// let mut matches = listed.find(pattern);
-/// while let Some((subject, predicate, object)) = matches.next() { .. }
+/// while let Some((subject, _, _)) = matches.next() {
+///     subjects.push(subject)?;
+/// }
 /// ```
 #[derive(Drop)]
 pub enum Matches<'a> {

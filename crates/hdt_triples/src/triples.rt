@@ -13,9 +13,14 @@ use hdt_wire::{Fault, Kind, Reason, demand, read_control};
 
 /// Validated triples. They borrow the input and decode it on each access.
 ///
-/// ```text
+/// ```rust
 /// let (triples, next) = Triples::read(bytes, at, counts)?;
-/// let of_predicate = triples.find(Pattern { s: None, p: Some(1), o: None });
+/// let pattern = Pattern {
+///     s: None,
+///     p: Some(1),
+///     o: None,
+/// };
+/// let first = triples.find(pattern).next();
 /// ```
 #[derive(Clone, Copy)]
 pub struct Triples<'a> {

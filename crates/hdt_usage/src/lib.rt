@@ -5,9 +5,10 @@
 //!
 //! It is a crate of its own because it depends only on hdt_wire, so it is proved in parallel with the others.
 //!
-//! ```text
-//! let command = table_of(alloc, &["subject", "predicate", "object"])?;
-//! let matches = command.try_get_matches_from(words)?;
+//! ```rust
+//! let roles = ["subject", "predicate", "object"];
+//! let command = table_of(alloc, &roles)?;
+//! let matches = command.try_get_matches_from(words);
 //! ```
 #![tactic(auto)]
 

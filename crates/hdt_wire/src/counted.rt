@@ -26,6 +26,14 @@ impl Error for Failed {}
 
 /// A reader or writer with a count of its failures: every `Err`, including `Interrupted`, and every write that returns
 /// 0 for a non-empty slice. The count takes no memory; only contracts see it.
+///
+/// ```rust
+/// let document: &[u8] = b"<u:a> <u:p> <u:b> .\n";
+/// let mut input = Counted::new(document);
+/// let mut buffer = [0; 64];
+/// let count = input.read(&mut buffer)?;
+/// let text = &buffer[..count];
+/// ```
 #[derive(Drop)]
 pub struct Counted<T> {
     inner: T,

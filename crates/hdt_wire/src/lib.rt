@@ -6,9 +6,9 @@
 //!
 //! Functions that state no cost take constant time and allocate nothing. Laws do nothing when called.
 //!
-//! ```text
-//! let block = read_control(bytes, 0, Kind::Global)?;
-//! let base = property(block.properties(), b"base");
+//! ```rust
+//! let control = read_control(bytes, 0, Kind::Global)?;
+//! let base = property(control.properties(), b"BaseURI");
 //! ```
 #![tactic(auto)]
 
