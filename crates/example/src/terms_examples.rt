@@ -1,7 +1,7 @@
 //! The examples in the documentation of hdt_terms.
 
 use crate::example_fault::ExampleFault;
-use hdt_terms::{Kind, Lines, Term, parse_term, put_string, put_term, term_string};
+use hdt_terms::{Kind, Lines, Term, Triple, parse_term, put_string, put_term, term_string};
 use hdt_wire::Counted;
 use std::alloc::Global;
 
@@ -18,12 +18,12 @@ pub fn crate_example(alloc: Global) -> Result<(Vec<u8>, Vec<u8>), ExampleFault> 
 pub fn lines_example(
     alloc: Global,
     document: &[u8],
-    subjects: &mut Vec<u8>,
+    triples: &mut Vec<Triple>,
 ) -> Result<(), ExampleFault> {
     let mut input = Counted::new(document);
     let mut lines = Lines::new(alloc, 1 << 20)?;
     while let Some(triple) = lines.next_triple(&mut input)? {
-        put_term(&triple.s, subjects)?;
+        triples.push(triple)?;
     }
     Ok(())
 }

@@ -5,9 +5,12 @@ use hdt_usage::table_of;
 use std::alloc::Global;
 
 /// Of the crate.
-pub fn crate_example(alloc: Global, words: &[&str]) -> Result<bool, ExampleFault> {
-    let roles = ["subject", "predicate", "object"];
-    let command = table_of(alloc, &roles)?;
+pub fn crate_example<'a>(
+    alloc: Global,
+    roles: &'a [&'a str],
+    words: &'a [&'a str],
+) -> Result<bool, ExampleFault> {
+    let command = table_of(alloc, roles)?; // the roles' names, as subject, predicate, object
     let matches = command.try_get_matches_from(words);
     Ok(matches.is_ok())
 }
