@@ -27,7 +27,7 @@ use std::marker::Model;
 /// let mut input = Counted::new(document);
 /// let mut lines = Lines::new(alloc, 1 << 20)?;
 /// while let Some(triple) = lines.next_triple(&mut input)? {
-///     put_term(&triple.s, subjects)?;
+///     triples.push(triple)?;
 /// }
 /// ```
 #[derive(Drop)]

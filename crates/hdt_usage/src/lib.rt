@@ -6,8 +6,7 @@
 //! It is a crate of its own because it depends only on hdt_wire, so it is proved in parallel with the others.
 //!
 //! ```rust
-//! let roles = ["subject", "predicate", "object"];
-//! let command = table_of(alloc, &roles)?;
+//! let command = table_of(alloc, roles)?; // the roles' names, as subject, predicate, object
 //! let matches = command.try_get_matches_from(words);
 //! ```
 #![tactic(auto)]
