@@ -26,7 +26,7 @@
 //! `string_sort`, sorting the strings; `prefetch`; `dedup`, dropping duplicates; `used` and `section_filter`, the four
 //! sections and the IDs; `triples` and `encoding`, the encoded graph; `header` and `file`, its bytes; `building` and
 //! `laws`. Rewriting: `retained`, which strings remain; `section_run`, a cursor over them; `sections` and `id_map`, the
-//! new sections and IDs; `rewriting` and `rewriting_laws`.
+//! new sections and IDs; `rewriting`; `laws`.
 #![tactic(auto)]
 
 mod building;

@@ -147,7 +147,7 @@ fn found_answer(
     }
 }
 
-/// Appends the answer to a numbered line. Returns whether it is an error. On error `out` is unchanged.
+/// Appends the answer to a line with a number. Returns whether it is an error. On error `out` is unchanged.
 fn line_answer(
     alloc: Global,
     graph: &Graph<'_>,

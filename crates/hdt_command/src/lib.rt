@@ -11,11 +11,11 @@
 //!
 //! - `request` and `fault`: requests, and the errors of a command line and of a command;
 //! - `entries` and `words`: parsing a command line with `clap` and hdt_usage's table of commands;
-//! - `escaping` and the modules `printed_*`: output texts;
+//! - the modules `printed_*`: output texts;
 //! - `whole` and `answer`: the output of each command that only reads; `dialogue`: requests over one graph;
 //! - `running`: all commands, from a reader to a writer;
 //! - `lines`: exit statuses and error messages;
-//! - `progress`, `files`, `replacing` and `status`: the same over files and streams; `process`: the process.
+//! - `progress`, `files`, `replacing`, `output_file` and `status`: the same over files and streams.
 #![tactic(auto)]
 
 mod answer;

@@ -159,7 +159,7 @@ fn append_graph_numbers(
 }
 
 /// Appends the text of a pattern's matches in a graph, up to a limit and in any format; nothing without a pattern. The
-/// search uses the graph's indexes; the speller caches terms for later texts. On error `out` is unchanged.
+/// search uses the graph's indexes; the writer caches terms for later texts. On error `out` is unchanged.
 pub fn append_graph_triples(
     alloc: Global,
     graph: &Graph<'_>,

@@ -69,7 +69,7 @@ fn say_done(done: Result<(), DumpFault>, say: &mut Say) {
     }
 }
 
-/// Appends the text of each pattern to `out`, all with one speller.
+/// Appends the text of each pattern to `out`, all with one writer of terms.
 fn append_all(
     graph: &Graph<'_>,
     ask: &mut Ask<'_>,

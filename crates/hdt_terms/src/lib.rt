@@ -17,15 +17,15 @@
 //! N-Triples text of a dictionary string. Neither allocates a term.
 //!
 //! [`Lines`] returns the triples of a document line by line: [`Lines::next_triple`] as terms, which is simple, and
-//! [`Lines::next_strings`] as dictionary strings in the caller's buffers, which is fast. [`Lines::next_text`] returns
-//! the text of each line, valid or not; [`read_request`] parses a line as a triple pattern. [`read_document`] returns
-//! all triples of an input. How the reader cuts the input into pieces makes no difference to any of them.
+//! [`Lines::next_strings`] as dictionary strings in the caller's buffers, which is fast. [`Lines::next_front`] returns
+//! the text of each line, valid or not; [`read_request`] parses a line as a triple pattern. How the reader cuts the input
+//! into pieces makes no difference to any of them.
 //!
-//! In reading order: `term`, `text` and `triple`, the types; `fault`, the errors; `chars`, character classes;
+//! In reading order: `text` and `triple`, the types; `fault`, the errors; `chars`, character classes;
 //! `byte_runs`, runs of bytes, 16 at a time; `encoding`, UTF-8; the tokens, `escaped_tokens` (the content of IRIs and
 //! strings), `iri`, `label`, `tag` and `literal`; `transcode`, tokens to dictionary strings; `parse`, one term; `line`,
-//! one line; `request` and `raw_request`, a line that requests triples; `buffer`, `line_buffer` and `lines`, the lines
-//! of a reader; `document`, all of them; `term_refs`, terms that borrow their texts; `strings`, dictionary strings;
+//! one line; `request` and `raw_request`, a line that requests triples; `buffer`, `line_buffer`, `lines` and
+//! `line_prefix`, the lines of a reader; `term_refs`, terms that borrow their texts; `strings`, dictionary strings;
 //! `put`, writing; `laws`, properties of all terms and lines.
 #![tactic(auto)]
 

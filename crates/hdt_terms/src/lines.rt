@@ -304,8 +304,7 @@ impl Lines {
     /// # Errors
     ///
     /// The first malformed line, or why reading failed; earlier lines are returned first. Every later call returns the
-    /// same error and reads nothing. [`LineReason::Read`] if the reader failed in this call,
-    /// [`LineReason::OutOfMemory`] only if memory ran out.
+    /// same error and reads nothing.
     pub fn next_triple<R: Read>(
         &mut self,
         input: &mut Counted<R>,
@@ -354,12 +353,9 @@ impl Lines {
         p: &mut Vec<u8>,
         o: &mut Vec<u8>,
     ) -> Result<bool, LineFault>
-        // An error is returned again, and nothing is read or consumed.
         ensures repeated { IfSome self.old.failed (λ f. (result ≡ Err f) × (self.new ≡ self.old) × (input.new ≡ input.old)) }
-        // So is the end.
         ensures ended { self.old.failed ≡ None → self.old.ended ≡ true →
             (result ≡ Ok false) × (self.new ≡ self.old) × (input.new ≡ input.old) }
-        // Until then the result is determined by the remaining input.
         ensures answers { self.old.failed ≡ None → self.old.ended ≡ false →
             AnswersStrings result s.new.items p.new.items o.new.items self.old self.new (left self.old (R.remaining (inner input.old)))
             (left self.new (R.remaining (inner input.new))) (R.remaining (inner input.new)) }
