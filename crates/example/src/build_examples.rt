@@ -7,7 +7,7 @@ use hdt_wire::Counted;
 use std::alloc::Global;
 
 /// Of the crate, on building.
-pub fn crate_example(alloc: Global, document: &[u8]) -> Result<(u64, u64), ExampleFault> {
+pub(crate) fn crate_example(alloc: Global, document: &[u8]) -> Result<(u64, u64), ExampleFault> {
     let options = Options {
         block_size: 16,
         base: Vec::from_slice(alloc, b"http://example.org/dataset")?,
@@ -18,7 +18,7 @@ pub fn crate_example(alloc: Global, document: &[u8]) -> Result<(u64, u64), Examp
 }
 
 /// Of the crate, on rewriting.
-pub fn crate_rewriting_example(
+pub(crate) fn crate_rewriting_example(
     alloc: Global,
     bytes: &[u8],
     options: Options,
@@ -29,7 +29,7 @@ pub fn crate_rewriting_example(
 }
 
 /// Of `build_bytes`.
-pub fn build_bytes_example(
+pub(crate) fn build_bytes_example(
     alloc: Global,
     options: Options,
 ) -> Result<(Vec<u8>, u64), ExampleFault> {
@@ -40,7 +40,7 @@ pub fn build_bytes_example(
 }
 
 /// Of `rewrite_bytes`.
-pub fn rewrite_bytes_example(
+pub(crate) fn rewrite_bytes_example(
     alloc: Global,
     bytes: &[u8],
     options: Options,

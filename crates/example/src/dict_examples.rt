@@ -1,7 +1,7 @@
 //! The examples in the documentation of hdt_dict.
 ghost use Rattle.std.specs.Prelude.{All};
 ghost use Rattle.hdt_front.specs.Canonical.{texts};
-ghost use Rattle.hdt_dict.specs.Texts.{IsDictionaryString};
+ghost use Rattle.hdt_dict.specs.DictionaryString.{IsDictionaryString};
 
 use crate::example_fault::ExampleFault;
 use hdt_dict::{Arena, Dictionary, Role, put_dictionary, split};
@@ -9,7 +9,7 @@ use hdt_seq::Steps;
 use std::alloc::Global;
 
 /// Of the crate.
-pub fn crate_example(
+pub(crate) fn crate_example(
     alloc: Global,
     bytes: &[u8],
     at: usize,
@@ -27,7 +27,7 @@ pub fn crate_example(
 }
 
 /// Of `Dictionary`.
-pub fn dictionary_example(
+pub(crate) fn dictionary_example(
     alloc: Global,
     bytes: &[u8],
     at: usize,
@@ -41,7 +41,7 @@ pub fn dictionary_example(
 }
 
 /// Of `Strings`.
-pub fn strings_example(
+pub(crate) fn strings_example(
     alloc: Global,
     dictionary: Dictionary<'_>,
     ids: &mut Vec<u64>,
@@ -56,7 +56,7 @@ pub fn strings_example(
 }
 
 /// Of `Arena`.
-pub fn arena_example(alloc: Global, out: &mut Vec<u8>) -> Result<(), ExampleFault> {
+pub(crate) fn arena_example(alloc: Global, out: &mut Vec<u8>) -> Result<(), ExampleFault> {
     let mut arena = Arena::new(alloc)?;
     arena.push(b"u:a")?;
     let first = arena.get(0); // b"u:a"
@@ -65,7 +65,7 @@ pub fn arena_example(alloc: Global, out: &mut Vec<u8>) -> Result<(), ExampleFaul
 }
 
 /// Of `split`. The strings are what `put_dictionary` requires: UTF-8 without zero bytes.
-pub fn split_example(
+pub(crate) fn split_example(
     alloc: Global,
     subjects: &[Vec<u8>],
     predicates: &[Vec<u8>],

@@ -10,7 +10,7 @@ use thiserror::Error;
 
 /// An error of an example: that of the call that failed.
 #[derive(Debug, Drop, Error)]
-pub enum ExampleFault {
+pub(crate) enum ExampleFault {
     #[error("out of memory")]
     OutOfMemory,
     #[error("{0}")]

@@ -9,7 +9,7 @@ use std::alloc::Global;
 use std::io::Write;
 
 /// Of the crate.
-pub fn crate_example<'a>(
+pub(crate) fn crate_example<'a>(
     alloc: Global,
     bytes: &'a [u8],
     objects: &mut Vec<u64>,
@@ -33,7 +33,7 @@ pub fn crate_example<'a>(
 }
 
 /// Of `Graph`.
-pub fn graph_example<W: Write + Drop>(
+pub(crate) fn graph_example<W: Write + Drop>(
     alloc: Global,
     bytes: &[u8],
     writer: W,
@@ -47,7 +47,7 @@ pub fn graph_example<W: Write + Drop>(
 }
 
 /// Of `Layout`.
-pub fn layout_example(alloc: Global, bytes: &[u8]) -> Result<(u64, Vec<u8>), ExampleFault> {
+pub(crate) fn layout_example(alloc: Global, bytes: &[u8]) -> Result<(u64, Vec<u8>), ExampleFault> {
     let layout = Layout::read(alloc, bytes)?;
     let subjects = layout.count(Role::Subject);
     let pattern = layout.pattern([Some(b"u:a"), None, None], &mut Steps::new());
@@ -56,20 +56,20 @@ pub fn layout_example(alloc: Global, bytes: &[u8]) -> Result<(u64, Vec<u8>), Exa
 }
 
 /// Of `open`.
-pub fn open_example(alloc: Global, bytes: &[u8]) -> Result<u64, ExampleFault> {
+pub(crate) fn open_example(alloc: Global, bytes: &[u8]) -> Result<u64, ExampleFault> {
     let graph = open(alloc, bytes)?;
     let subjects = graph.count(Role::Subject);
     Ok(subjects)
 }
 
 /// Of `open_tight`.
-pub fn open_tight_example(alloc: Global, bytes: &[u8]) -> Result<u64, ExampleFault> {
+pub(crate) fn open_tight_example(alloc: Global, bytes: &[u8]) -> Result<u64, ExampleFault> {
     let graph = open_tight(alloc, bytes)?;
     Ok(graph.len())
 }
 
 /// Of `read_dictionary`.
-pub fn read_dictionary_example(
+pub(crate) fn read_dictionary_example(
     alloc: Global,
     bytes: &[u8],
 ) -> Result<(usize, u64, usize), ExampleFault> {
@@ -79,7 +79,7 @@ pub fn read_dictionary_example(
 }
 
 /// Of `write_graph`.
-pub fn write_graph_example<W: Write + Drop>(
+pub(crate) fn write_graph_example<W: Write + Drop>(
     alloc: Global,
     graph: Graph<'_>,
     writer: W,

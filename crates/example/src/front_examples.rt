@@ -1,14 +1,14 @@
 //! The examples in the documentation of hdt_front.
-ghost use Rattle.hdt_front.specs.Section.{AreStrings};
-ghost use Rattle.hdt_front.specs.Canonical.{lent_texts};
+ghost use Rattle.hdt_front.specs.Section.{AreSectionStrings};
+ghost use Rattle.hdt_front.specs.Canonical.{borrowed_texts};
 
 use crate::example_fault::ExampleFault;
-use hdt_front::{Section, SectionWriter, Seeker, Walk};
+use hdt_front::{Section, SectionWriter, Seeker, SectionIter};
 use hdt_seq::Steps;
 use std::alloc::Global;
 
 /// Of the crate.
-pub fn crate_example(
+pub(crate) fn crate_example(
     alloc: Global,
     bytes: &[u8],
     at: usize,
@@ -24,7 +24,7 @@ pub fn crate_example(
 }
 
 /// Of `Section`.
-pub fn section_example(
+pub(crate) fn section_example(
     alloc: Global,
     bytes: &[u8],
     at: usize,
@@ -38,14 +38,14 @@ pub fn section_example(
     Ok((string, next))
 }
 
-/// Of `Walk`.
-pub fn walk_example(
+/// Of `SectionIter`.
+pub(crate) fn section_iter_example(
     alloc: Global,
     section: Section<'_>,
     starts: &mut Vec<usize>,
     text: &mut Vec<u8>,
 ) -> Result<(), ExampleFault> {
-    let mut strings = Walk::new(alloc, &section);
+    let mut strings = SectionIter::new(alloc, &section);
     while let Some(start) = strings.next()? {
         starts.push(start)?;
         text.extend_from_slice(strings.last())?;
@@ -54,7 +54,7 @@ pub fn walk_example(
 }
 
 /// Of `Seeker`.
-pub fn seeker_example(
+pub(crate) fn seeker_example(
     alloc: Global,
     section: Section<'_>,
     ids: &[u64],
@@ -72,8 +72,8 @@ pub fn seeker_example(
 }
 
 /// Of `SectionWriter`. The strings are what it requires: UTF-8 without zero bytes, ascending.
-pub fn section_writer_example(alloc: Global, strings: &[&[u8]]) -> Result<Vec<u8>, ExampleFault>
-    requires { AreStrings (lent_texts strings.now) }
+pub(crate) fn section_writer_example(alloc: Global, strings: &[&[u8]]) -> Result<Vec<u8>, ExampleFault>
+    requires { AreSectionStrings (borrowed_texts strings.now) }
 {
     let mut writer = SectionWriter::new(alloc, 16);
     for string in strings {

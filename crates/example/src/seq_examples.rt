@@ -5,7 +5,7 @@ use hdt_seq::{Bits, Directory, Numbers, Steps};
 use std::alloc::Global;
 
 /// Of the crate.
-pub fn crate_example(
+pub(crate) fn crate_example(
     alloc: Global,
     bytes: &[u8],
     at: usize,
@@ -19,7 +19,7 @@ pub fn crate_example(
 }
 
 /// Of `Numbers`.
-pub fn numbers_example(bytes: &[u8], at: usize) -> Result<(u64, usize), ExampleFault> {
+pub(crate) fn numbers_example(bytes: &[u8], at: usize) -> Result<(u64, usize), ExampleFault> {
     let (numbers, next) = Numbers::read(bytes, at)?;
     let mut largest = 0;
     for i in 0..numbers.len() {
@@ -29,14 +29,14 @@ pub fn numbers_example(bytes: &[u8], at: usize) -> Result<(u64, usize), ExampleF
 }
 
 /// Of `Bits`.
-pub fn bits_example(bytes: &[u8], at: usize) -> Result<(bool, usize), ExampleFault> {
+pub(crate) fn bits_example(bytes: &[u8], at: usize) -> Result<(bool, usize), ExampleFault> {
     let (bits, next) = Bits::read(bytes, at)?;
     let first = bits.len() > 0 && bits.get(0);
     Ok((first, next))
 }
 
 /// Of `Directory`.
-pub fn directory_example(
+pub(crate) fn directory_example(
     alloc: Global,
     bytes: &[u8],
     at: usize,

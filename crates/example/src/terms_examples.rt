@@ -1,12 +1,12 @@
 //! The examples in the documentation of hdt_terms.
 
 use crate::example_fault::ExampleFault;
-use hdt_terms::{Kind, Lines, Term, Triple, parse_term, put_string, put_term, term_string};
+use hdt_terms::{TermKind, Lines, Term, Triple, parse_term, put_string, put_term, term_string};
 use hdt_wire::Counted;
 use std::alloc::Global;
 
 /// Of the crate.
-pub fn crate_example(alloc: Global) -> Result<(Vec<u8>, Vec<u8>), ExampleFault> {
+pub(crate) fn crate_example(alloc: Global) -> Result<(Vec<u8>, Vec<u8>), ExampleFault> {
     let term = parse_term(alloc, b"\"caf\\u00e9\"@fr")?;
     let string = term_string(alloc, &term)?; // "café"@fr
     let mut line = Vec::new(alloc);
@@ -15,7 +15,7 @@ pub fn crate_example(alloc: Global) -> Result<(Vec<u8>, Vec<u8>), ExampleFault> 
 }
 
 /// Of `Lines`.
-pub fn lines_example(
+pub(crate) fn lines_example(
     alloc: Global,
     document: &[u8],
     triples: &mut Vec<Triple>,
@@ -29,7 +29,7 @@ pub fn lines_example(
 }
 
 /// Of `parse_term`.
-pub fn parse_term_example(alloc: Global, out: &mut Vec<u8>) -> Result<(), ExampleFault> {
+pub(crate) fn parse_term_example(alloc: Global, out: &mut Vec<u8>) -> Result<(), ExampleFault> {
     let term = parse_term(alloc, b"<http://a/b>")?;
     if let Term::Iri(iri) = &term {
         out.extend_from_slice(iri.as_bytes())?; // http://a/b
@@ -38,8 +38,8 @@ pub fn parse_term_example(alloc: Global, out: &mut Vec<u8>) -> Result<(), Exampl
 }
 
 /// Of `put_string`.
-pub fn put_string_example(alloc: Global) -> Result<(Kind, Vec<u8>), ExampleFault> {
+pub(crate) fn put_string_example(alloc: Global) -> Result<(TermKind, Vec<u8>), ExampleFault> {
     let mut line = Vec::new(alloc);
-    let kind = put_string(b"\"caf\xc3\xa9\"@fr", &mut line)?; // Kind::Literal
+    let kind = put_string(b"\"caf\xc3\xa9\"@fr", &mut line)?; // TermKind::Literal
     Ok((kind, line))
 }

@@ -8,7 +8,7 @@ use hdt_triples::{Counts, ListedTriples, Pattern, Triples};
 use std::alloc::{AllocError, Global};
 
 /// Of the crate.
-pub fn crate_example(
+pub(crate) fn crate_example(
     alloc: Global,
     bytes: &[u8],
     at: usize,
@@ -36,7 +36,7 @@ pub fn crate_example(
 }
 
 /// Of `Triples`.
-pub fn triples_example(
+pub(crate) fn triples_example(
     bytes: &[u8],
     at: usize,
     counts: Counts,
@@ -56,7 +56,7 @@ pub fn triples_example(
 }
 
 /// Of `ListedTriples`.
-pub fn listed_triples_example(
+pub(crate) fn listed_triples_example(
     alloc: Global,
     triples: Triples<'_>,
     pattern: Pattern,
@@ -75,7 +75,7 @@ pub fn listed_triples_example(
 }
 
 /// Of `Matches`.
-pub fn matches_example(
+pub(crate) fn matches_example(
     listed: ListedTriples<'_>,
     pattern: Pattern,
     subjects: &mut Vec<u64>,

@@ -4,14 +4,14 @@ use crate::example_fault::ExampleFault;
 use hdt_wire::{Counted, Kind, property, read_control};
 
 /// Of the crate.
-pub fn crate_example(bytes: &[u8]) -> Result<Option<&[u8]>, ExampleFault> {
+pub(crate) fn crate_example(bytes: &[u8]) -> Result<Option<&[u8]>, ExampleFault> {
     let control = read_control(bytes, 0, Kind::Global)?;
     let base = property(control.properties(), b"BaseURI");
     Ok(base)
 }
 
 /// Of `Counted`.
-pub fn counted_example(out: &mut Vec<u8>) -> Result<(), ExampleFault> {
+pub(crate) fn counted_example(out: &mut Vec<u8>) -> Result<(), ExampleFault> {
     let document: &[u8] = b"<u:a> <u:p> <u:b> .\n";
     let mut input = Counted::new(document);
     let mut buffer = [0; 64];

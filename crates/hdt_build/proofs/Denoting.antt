@@ -11,74 +11,74 @@ use Rattle.hdt_dict.specs.Strings.{SameMembers}
 use Rattle.hdt_dict.specs.Laws.Strings.{member_cases}
 use Rattle.hdt_dict.specs.Split.{IsSplit}
 use Rattle.hdt_dict.specs.Laws.Members.{SameMembers-map, Contains-map, Contains-from_map, All-from_members, All-same_members}
-use Rattle.hdt_build.specs.Inside.Numbers.{term_numbered}
-use Rattle.hdt_build.specs.Inside.Parted.{ArePartsOf}
-use Rattle.hdt_triples.specs.Counting.{Triple}
-use Rattle.hdt_triples.specs.Uses.{part}
+use Rattle.hdt_build.specs.Inside.Ids.{string_of_id}
+use Rattle.hdt_build.specs.Inside.Filtering.{AreSectionsOf}
+use Rattle.hdt_triples.specs.TripleSequences.{Triple}
+use Rattle.hdt_triples.specs.Uses.{role_component}
 use Rattle.hdt_wire.specs.declared.role.Role.TheVariants.{Subject, Predicate, Object}
-use Rattle.hdt_build.proofs.Moving.{map_along}
+use Rattle.hdt_build.proofs.MappedTriples.{map_along}
 use Rattle.hdt_file.specs.Denoted.{StringTriple}
-use Rattle.hdt_build.specs.Graph.{IsForm, string_triple_at, string_triples_of, renumbered_triple}
-use Rattle.hdt_build.proofs.Naming.{string_triple, same_strings, term_in}
+use Rattle.hdt_build.specs.Graph.{IsEncodedGraph, string_triple_at, string_triples_of, mapped_triple}
+use Rattle.hdt_build.proofs.StringsOfIds.{string_triple, same_strings, term_in}
 use Rattle.hdt_build.proofs.Distinct.{number_unique, subjects_distinct}
-use Rattle.hdt_triples.specs.Order.{triple_in, AreWritable, IsInRange, AreAscending}
+use Rattle.hdt_triples.specs.Order.{nth_triple, AreWritable, IsInRange, AreAscending}
 use Rattle.hdt_build.proofs.Order.{triple_total, first_le, triple_cmp, sorted_triples}
 use Rattle.hdt_build.proofs.Unique.{triple_unique}
-use Rattle.hdt_dict.specs.Dictionary.{FourLists, strings_in}
-use Rattle.hdt_file.specs.File.{counts_of}
+use Rattle.hdt_dict.specs.Dictionary.{SectionLists, role_strings}
+use Rattle.hdt_file.specs.File.{role_counts}
 
 -- the strings of a role are those of its sections
-module _ {ss ps os : List (List ℕ)} (d : FourLists) (h : IsSplit ss ps os d) where
-  pub subject_member : (x : List ℕ) → Contains ss x → Contains (strings_in d Subject) x
+module _ {ss ps os : List (List ℕ)} (d : SectionLists) (h : IsSplit ss ps os d) where
+  pub subject_member : (x : List ℕ) → Contains ss x → Contains (role_strings d Subject) x
   subject_member x a =
-      elim (member_cases os x) as (λ _. Contains (strings_in d Subject) x) [
+      elim (member_cases os x) as (λ _. Contains (role_strings d Subject) x) [
         | inl b ↦ Contains-append_left d.shared d.subjects x ((h.shared x).1 (a, b))
         | inr b ↦ Contains-append_right d.shared d.subjects x ((h.subjects x).1 (a, b))
       ]
 
-  pub subject_term : (x : List ℕ) → Contains (strings_in d Subject) x → Contains ss x
+  pub subject_term : (x : List ℕ) → Contains (role_strings d Subject) x → Contains ss x
   subject_term x a =
       elim (Contains-append_cases d.shared d.subjects x a) as (λ _. Contains ss x) [
         | inl b ↦ ((h.shared x).0 b).0
         | inr b ↦ ((h.subjects x).0 b).0
       ]
 
-  pub object_member : (x : List ℕ) → Contains os x → Contains (strings_in d Object) x
+  pub object_member : (x : List ℕ) → Contains os x → Contains (role_strings d Object) x
   object_member x a =
-      elim (member_cases ss x) as (λ _. Contains (strings_in d Object) x) [
+      elim (member_cases ss x) as (λ _. Contains (role_strings d Object) x) [
         | inl b ↦ Contains-append_left d.shared d.objects x ((h.shared x).1 (b, a))
         | inr b ↦ Contains-append_right d.shared d.objects x ((h.objects x).1 (a, b))
       ]
 
 -- the string triples that the IDs denote
-module _ (xs : List (List ℕ)) (ids : List Triple) (d : FourLists) (nodes names : List ℕ) (h : ArePartsOf xs ids d nodes names) where
+module _ (xs : List (List ℕ)) (ids : List Triple) (d : SectionLists) (nodes names : List ℕ) (h : AreSectionsOf xs ids d nodes names) where
   abbrev new : Triple → Triple
-  new t = renumbered_triple nodes names nodes t
+  new t = mapped_triple nodes names nodes t
 
   one_denoted : (t : Triple) → Contains ids t → string_triple d (new t) ≡ string_triple_at xs t
   one_denoted t there = same_strings _ _ _ _ _ _
-      (h.subjects_are t.0 (Contains-map (part Subject) ids t there)).is
-      (h.predicates_are t.1 (Contains-map (part Predicate) ids t there)).is
-      (h.objects_are t.2 (Contains-map (part Object) ids t there)).is
+      (h.subjects_are t.0 (Contains-map (role_component Subject) ids t there)).is
+      (h.predicates_are t.1 (Contains-map (role_component Predicate) ids t there)).is
+      (h.objects_are t.2 (Contains-map (role_component Object) ids t there)).is
 
-  one_in_range : (t : Triple) → Contains ids t → IsInRange (counts_of d) (new t)
+  one_in_range : (t : Triple) → Contains ids t → IsInRange (role_counts d) (new t)
   one_in_range t there =
-      let s = h.subjects_are t.0 (Contains-map (part Subject) ids t there) in
-      let p = h.predicates_are t.1 (Contains-map (part Predicate) ids t there) in
-      let o = h.objects_are t.2 (Contains-map (part Object) ids t there) in
+      let s = h.subjects_are t.0 (Contains-map (role_component Subject) ids t there) in
+      let p = h.predicates_are t.1 (Contains-map (role_component Predicate) ids t there) in
+      let o = h.objects_are t.2 (Contains-map (role_component Object) ids t there) in
       ((s.from_one, s.within), (p.from_one, p.within), (o.from_one, o.within))
 
-  pub parts_form : (ts : List Triple) → AreAscending ts → SameMembers ts (map (renumbered_triple nodes names nodes) ids) → IsForm (string_triples_of xs ids) d ts
+  pub parts_form : (ts : List Triple) → AreAscending ts → SameMembers ts (map (mapped_triple nodes names nodes) ids) → IsEncodedGraph (string_triples_of xs ids) d ts
   parts_form ts up same = record {
     sections = h.sections;
     ascending = up;
-    in_range = All-same_members (IsInRange (counts_of d)) (map new ids) ts same (All-map (IsInRange (counts_of d)) new ids (All-from_members (λ t. IsInRange (counts_of d) (new t)) ids one_in_range));
+    in_range = All-same_members (IsInRange (role_counts d)) (map new ids) ts same (All-map (IsInRange (role_counts d)) new ids (All-from_members (λ t. IsInRange (role_counts d) (new t)) ids one_in_range));
     denotes = subst (SameMembers (map (string_triple d) ts))
         (map_along (string_triple d) new (string_triple_at xs) ids (All-from_members (λ t. string_triple d (new t) ≡ string_triple_at xs t) ids one_denoted))
         (SameMembers-map (string_triple d) ts (map new ids) same);
   }
 
-module _ {g : List StringTriple} (d : FourLists) (ts : List Triple) (h : IsForm g d ts) where
+module _ {g : List StringTriple} (d : SectionLists) (ts : List Triple) (h : IsEncodedGraph g d ts) where
   subject_le : (i j : ℕ) (e : Triple) → i ≤ j → j < length ts → (get_or ts i e).0 ≤ (get_or ts j e).0
   subject_le i j e le below =
       elim (cases_lt i j) as (λ _. (get_or ts i e).0 ≤ (get_or ts j e).0) [
@@ -87,43 +87,43 @@ module _ {g : List StringTriple} (d : FourLists) (ts : List Triple) (h : IsForm 
       ]
 
   -- each subject string occurs in a triple
-  occurs_as : (x : List ℕ) → Contains (strings_in d Subject) x → (t : Triple) × Contains ts t × (term_numbered (strings_in d Subject) t.0 ≡ x)
+  occurs_as : (x : List ℕ) → Contains (role_strings d Subject) x → (t : Triple) × Contains ts t × (string_of_id (role_strings d Subject) t.0 ≡ x)
   occurs_as x in_terms =
       let r = Contains-from_map (λ (t : StringTriple). t.0) g x (subject_term d h.sections x in_terms) in
       let s = Contains-from_map (string_triple d) ts r.0 ((h.denotes r.0).1 r.1) in
       (s.0, s.1, ap (λ (t : StringTriple). t.0) s.2 ∙ r.2)
 
   -- each subject ID occurs in a triple
-  pub occurs : (n : ℕ) → 0 < n → n ≤ length (strings_in d Subject) → (t : Triple) × Contains ts t × (t.0 ≡ n)
+  pub occurs : (n : ℕ) → 0 < n → n ≤ length (role_strings d Subject) → (t : Triple) × Contains ts t × (t.0 ≡ n)
   occurs n a b =
-      let r = occurs_as (term_numbered (strings_in d Subject) n) (term_in (strings_in d Subject) n a b) in
-      let range = All-contains (IsInRange (counts_of d)) ts r.0 h.in_range r.1 in
-      (r.0, r.1, number_unique (strings_in d Subject) (subjects_distinct d h.sections) r.0.0 n range.0.0 range.0.1 a b r.2)
+      let r = occurs_as (string_of_id (role_strings d Subject) n) (term_in (role_strings d Subject) n a b) in
+      let range = All-contains (IsInRange (role_counts d)) ts r.0 h.in_range r.1 in
+      (r.0, r.1, number_unique (role_strings d Subject) (subjects_distinct d h.sections) r.0.0 n range.0.0 range.0.1 a b r.2)
 
   -- the same by index
-  at_place : (n : ℕ) (e : Triple) → 0 < n → n ≤ length (strings_in d Subject) → (j : ℕ) × (j < length ts) × ((get_or ts j e).0 ≡ n)
+  at_place : (n : ℕ) (e : Triple) → 0 < n → n ≤ length (role_strings d Subject) → (j : ℕ) × (j < length ts) × ((get_or ts j e).0 ≡ n)
   at_place n e a b =
       let r = occurs n a b in
       let j = r.1.0 in
       (j, r.1.1, ap (λ (t : Triple). t.0) (get_or_default ts j e r.0 r.1.1 ∙ r.1.2) ∙ r.2)
 
   -- the first subject is 1
-  first_subject : 0 < length ts → (triple_in ts 0).0 ≡ 1
+  first_subject : 0 < length ts → (nth_triple ts 0).0 ≡ 1
   first_subject some =
       let e : Triple = (0, 0, 0) in
       let range = h.in_range 0 e some in
       let low : 0 < (get_or ts 0 e).0 = range.0.0 in
-      let high : (get_or ts 0 e).0 ≤ length (strings_in d Subject) = range.0.1 in
+      let high : (get_or ts 0 e).0 ≤ length (role_strings d Subject) = range.0.1 in
       let r = at_place 1 e (omega arith) (omega arith) in
       let le = subject_le 0 r.0 e (omega arith) r.1 in
       omega (arith, le, r.2)
 
   -- no subject is skipped
-  next_subject : (k : ℕ) → k + 1 < length ts → (triple_in ts (k + 1)).0 ≤ (triple_in ts k).0 + 1
+  next_subject : (k : ℕ) → k + 1 < length ts → (nth_triple ts (k + 1)).0 ≤ (nth_triple ts k).0 + 1
   next_subject k below =
       let e : Triple = (0, 0, 0) in
       let range = h.in_range (k + 1) e below in
-      let high : (get_or ts (k + 1) e).0 ≤ length (strings_in d Subject) = range.0.1 in
+      let high : (get_or ts (k + 1) e).0 ≤ length (role_strings d Subject) = range.0.1 in
       elim (cases_lt ((get_or ts k e).0 + 1) (get_or ts (k + 1) e).0) as (λ _. (get_or ts (k + 1) e).0 ≤ (get_or ts k e).0 + 1) [
         | inl wide ↦
             let r = at_place ((get_or ts k e).0 + 1) e (omega arith) (omega (arith, high, wide)) in
@@ -160,7 +160,7 @@ module _ {g : List StringTriple} (d : FourLists) (ts : List Triple) (h : IsForm 
       differ : Less ≡ Equal → ⊥
       differ e = cc
 
-pub some_triple : (g : List StringTriple) (d : FourLists) (ts : List Triple) → IsForm g d ts → 0 < length g → 0 < length ts
+pub some_triple : (g : List StringTriple) (d : SectionLists) (ts : List Triple) → IsEncodedGraph g d ts → 0 < length g → 0 < length ts
 some_triple g d ts h some =
     let e : StringTriple = ([], [], []) in
     let r = Contains-from_map (string_triple d) ts (get_or g 0 e) ((h.denotes (get_or g 0 e)).1 (Contains-get_or g 0 e some)) in

@@ -9,9 +9,9 @@ use Rattle.std.proofs.lemmas.List.Elements.{Contains-get_or}
 use Rattle.std.proofs.lemmas.Map.Keys.{Less-from_sorted}
 use Rattle.hdt_front.specs.Order.{IsAscending, string_cmp}
 use Rattle.hdt_dict.specs.Split.{IsSplit}
-use Rattle.hdt_build.specs.Inside.Numbers.{term_numbered}
-use Rattle.hdt_build.proofs.Naming.{term_is}
-use Rattle.hdt_dict.specs.Dictionary.{FourLists, strings_in}
+use Rattle.hdt_build.specs.Inside.Ids.{string_of_id}
+use Rattle.hdt_build.proofs.StringsOfIds.{term_is}
+use Rattle.hdt_dict.specs.Dictionary.{SectionLists, role_strings}
 use Rattle.hdt_wire.specs.declared.role.Role.TheVariants.{Subject, Predicate, Object}
 
 -- equal strings have the same index
@@ -64,15 +64,15 @@ module _ (xs ys : List (List ℕ)) (no_both : (x : List ℕ) → Contains xs x �
   }
 
 -- a string has one ID
-pub number_unique : (terms : List (List ℕ)) → Distinct terms → (m n : ℕ) → 0 < m → m ≤ length terms → 0 < n → n ≤ length terms → term_numbered terms m ≡ term_numbered terms n → m ≡ n
+pub number_unique : (terms : List (List ℕ)) → Distinct terms → (m n : ℕ) → 0 < m → m ≤ length terms → 0 < n → n ≤ length terms → string_of_id terms m ≡ string_of_id terms n → m ≡ n
 number_unique terms h m n a b c d same = let e = h.one (m - 1) (n - 1) (omega arith) (omega arith) (sym (term_is terms m a) ∙ same ∙ term_is terms n c) in omega arith
 
-module _ {ss ps os : List (List ℕ)} (d : FourLists) (h : IsSplit ss ps os d) where
-  pub subjects_distinct : Distinct (strings_in d Subject)
+module _ {ss ps os : List (List ℕ)} (d : SectionLists) (h : IsSplit ss ps os d) where
+  pub subjects_distinct : Distinct (role_strings d Subject)
   subjects_distinct = Distinct-append d.shared d.subjects (λ x a b. ((h.subjects x).0 b).1 ((h.shared x).0 a).1) (Distinct-ascending _ h.shared_ascend) (Distinct-ascending _ h.subjects_ascend)
 
-  pub predicates_distinct : Distinct (strings_in d Predicate)
+  pub predicates_distinct : Distinct (role_strings d Predicate)
   predicates_distinct = Distinct-ascending _ h.predicates_ascend
 
-  pub objects_distinct : Distinct (strings_in d Object)
+  pub objects_distinct : Distinct (role_strings d Object)
   objects_distinct = Distinct-append d.shared d.objects (λ x a b. ((h.objects x).0 b).1 ((h.shared x).0 a).0) (Distinct-ascending _ h.shared_ascend) (Distinct-ascending _ h.objects_ascend)

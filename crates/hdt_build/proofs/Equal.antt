@@ -1,10 +1,10 @@
 -- Equal graphs have equal files.
 use Rattle.std.proofs.Common.{◌≡◌, ◌∙◌, ℕ, List, length, ap, sym}
-use Rattle.hdt_dict.specs.Dictionary.{FourLists}
+use Rattle.hdt_dict.specs.Dictionary.{SectionLists}
 use Rattle.hdt_dict.specs.Strings.{SameMembers}
-use Rattle.hdt_triples.specs.Counting.{Triple}
+use Rattle.hdt_triples.specs.TripleSequences.{Triple}
 use Rattle.hdt_build.specs.declared.options.Options.{Options}
-use Rattle.hdt_build.specs.declared.report.Report.{Report}
+use Rattle.hdt_build.specs.declared.options.Report.{Report}
 use Rattle.hdt_build.specs.Built.{report_of, IsBuilt}
 use Rattle.hdt_build.specs.Canonical.{canonical_file, IsCanonical}
 use Rattle.hdt_file.specs.Denoted.{StringTriple}
@@ -14,7 +14,7 @@ use Rattle.hdt_build.proofs.Unique.{canonical_unique, same_file}
 pub one_file : (header : List ℕ) (g h : List StringTriple) (b : ℕ) (x y : List ℕ) → SameMembers g h → IsCanonical header g b x → IsCanonical header h b y → x ≡ y
 one_file header g h b x y same p q = p.bytes_are ∙ same_file (canonical_file header b) g h p.dictionary q.dictionary p.triples q.triples same p.form q.form ∙ sym q.bytes_are
 
-pub count_is : (d : FourLists) (ts : List Triple) (bytes : List ℕ) (r : Report) → r ≡ report_of d ts bytes → r.triples ≡ length ts
+pub count_is : (d : SectionLists) (ts : List Triple) (bytes : List ℕ) (r : Report) → r ≡ report_of d ts bytes → r.triples ≡ length ts
 unfolding report_of
 count_is d ts bytes r e = ap (λ (r : Report). r.triples) e
 

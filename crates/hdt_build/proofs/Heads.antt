@@ -11,8 +11,8 @@ use Rattle.std.proofs.lemmas.List.Elements.{All-append}
 use Rattle.std.proofs.lemmas.List.Splits.{slice_split_at}
 use Rattle.std.proofs.lemmas.List.Sums.{AllPass-from_list_all}
 use Rattle.hdt_wire.specs.Control.{HasNoZero}
-use Rattle.hdt_wire.specs.Property.{property_value, is, value_of}
-use Rattle.hdt_wire.specs.Laws.Row.{not-true}
+use Rattle.hdt_wire.specs.Property.{property_value, is, item_value}
+use Rattle.hdt_wire.specs.Laws.Checks.{not-true}
 use Rattle.hdt_file.specs.Decimal.{Decimal}
 use Rattle.hdt_file.specs.Head.{StatesLength}
 use Rattle.hdt_build.specs.Header.{length_property}
@@ -52,7 +52,7 @@ pieces n small =
     ap (slice_split (is 59)) (sym (append_assoc (codes "length=") (decimal n) (codes ";")))
     ∙ slice_split_at (is 59) (codes "length=" ++ decimal n) 59 [] (no_semicolon n small) refl
 
-value : (ds : List ℕ) → value_of (codes "length") (codes "length=" ++ ds) ≡ Some ds
+value : (ds : List ℕ) → item_value (codes "length") (codes "length=" ++ ds) ≡ Some ds
 value ds =
     let there : ltb 6 (length (codes "length=" ++ ds)) ≡ true = lt-ltb _ _ (omega arith) in
     rw there refl

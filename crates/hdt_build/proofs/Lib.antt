@@ -4,31 +4,31 @@ pub mod Counts
 pub mod Denoting
 pub mod Distinct
 pub mod Equal
-pub mod Grown
+pub mod DocumentExtension
 pub mod Heads
 pub mod KeyOrder
 pub mod Layouts
 pub mod NoTriples
 pub mod OneDocument
 pub mod Order
-pub mod Moving
-pub mod Naming
-mod Filling
-mod Using
-mod Waiting
-mod Parting
-pub mod Placing
-pub mod Ranking
-pub mod Runs
+pub mod MappedTriples
+pub mod StringsOfIds
+mod SectionFilling
+mod UseFlags
+mod QueuedTriples
+mod FilteredSections
+pub mod EntrySorting
+pub mod Deduplication
+pub mod DocumentReading
 pub mod Unique
-mod Agreement
-mod Going
-mod Joining
-mod Putting
-mod Renewing
+mod PrefixOrder
+mod CursorSteps
+mod RunMerging
+mod SectionOfRuns
+mod RewrittenSections
 mod RunOrder
-mod Keeping
+mod DenotedStrings
 mod TightForm
-mod Again
+mod RewrittenFiles
 mod Appending
 mod TwoRuns

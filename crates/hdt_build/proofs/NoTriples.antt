@@ -2,14 +2,14 @@
 use Rattle.std.proofs.Common.{◌≡◌, ℕ, ◌<◌, ◌≤◌, List, [], length, map, Option, Some, ◌⊎◌, inl, inr, refl, ap, ◌∙◌, ⊎_elim, arith}
 use Rattle.hdt_terms.specs.declared.fault.TermFault.{TermFault}
 use Rattle.hdt_terms.specs.declared.triple.Triple.{Triple}
-use Rattle.hdt_terms.specs.LineReading.{LineFaultStands}
+use Rattle.hdt_terms.specs.LineParsing.{LineParseFails}
 use Rattle.hdt_terms.specs.Lines.{Line, Document}
 use Rattle.hdt_build.specs.declared.fault.BuildFault.{BuildFault}
 use Rattle.hdt_build.specs.declared.fault.BuildFault.TheVariants as faults
 use Rattle.hdt_build.specs.declared.options.Options.{Options}
-use Rattle.hdt_build.specs.declared.report.Report.{Report}
+use Rattle.hdt_build.specs.declared.options.Report.{Report}
 use Rattle.hdt_build.specs.Built.{Builds}
-use Rattle.hdt_build.specs.Reading.{most, term_strings, TellsBuildFault, ReadFailed}
+use Rattle.hdt_build.specs.Reading.{most, term_strings, IsBuildFaultOf, ReadFailed}
 use Rattle.hdt_build.proofs.OneDocument.{one_document, no_fault}
 
 -- nothing is built from it
@@ -20,7 +20,7 @@ none_built one options bytes made report h none =
     omega (arith, some, ap length (h.read.strings ∙ ap (λ (ts : List Triple). map term_strings ts) same))
 
 -- the error is this one, or that the reader failed, or out of memory
-pub none_told : (apart : (text : List ℕ) (x : Option Triple) (fault : TermFault) → Line text x → LineFaultStands text fault → ⊥) (bytes : List ℕ) (after : Option (List ℕ)) (e : BuildFault) → TellsBuildFault (Some bytes) after e → Document bytes [] → length bytes ≤ most
+pub none_told : (apart : (text : List ℕ) (x : Option Triple) (fault : TermFault) → Line text x → LineParseFails text fault → ⊥) (bytes : List ℕ) (after : Option (List ℕ)) (e : BuildFault) → IsBuildFaultOf (Some bytes) after e → Document bytes [] → length bytes ≤ most
     → (e ≡ faults.NoTriples) ⊎ ((e ≡ faults.OutOfMemory) ⊎ ReadFailed e)
 none_told apart bytes after (faults.Line fault) h none short = inr (inr (⊎_elim (λ read. read) (λ memory. absurd (h.1 memory)) (no_fault apart bytes [] fault most after none short h.0)))
 none_told apart bytes after faults.NoTriples h none short = inl refl

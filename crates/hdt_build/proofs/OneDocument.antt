@@ -8,22 +8,22 @@ use Rattle.hdt_terms.specs.declared.fault.LineReason.{LineReason}
 use Rattle.hdt_terms.specs.declared.fault.LineReason.TheVariants as reasons
 use Rattle.hdt_terms.specs.declared.fault.TermFault.{TermFault}
 use Rattle.hdt_terms.specs.declared.triple.Triple.{Triple}
-use Rattle.hdt_terms.specs.Chars.{is_end}
+use Rattle.hdt_terms.specs.Chars.{is_line_end}
 use Rattle.hdt_terms.specs.Documents.{FaultInDocument}
-use Rattle.hdt_terms.specs.LineReading.{LineFaultStands}
-use Rattle.hdt_terms.specs.Lines.{NoEnd, Line, EndedLines, Document, triples_of_lines}
-use Rattle.hdt_terms.specs.Taking.{StandsInLine, StandsInText}
+use Rattle.hdt_terms.specs.LineParsing.{LineParseFails}
+use Rattle.hdt_terms.specs.Lines.{HasNoLineEnd, Line, TerminatedLines, Document, triples_of_lines}
+use Rattle.hdt_terms.specs.LinesReader.{IsLineError, IsLineTextError}
 
 -- ---- the first line end of a text is unique
 
-no_head : (c : ℕ) (cs : List ℕ) → NoEnd (c ∷ cs) → is_end c ≡ false
-no_head c cs h = All-head (λ (c : ℕ). is_end c ≡ false) c cs h
+no_head : (c : ℕ) (cs : List ℕ) → HasNoLineEnd (c ∷ cs) → is_line_end c ≡ false
+no_head c cs h = All-head (λ (c : ℕ). is_line_end c ≡ false) c cs h
 
-no_tail : (c : ℕ) (cs : List ℕ) → NoEnd (c ∷ cs) → NoEnd cs
-no_tail c cs h = All-tail (λ (c : ℕ). is_end c ≡ false) c cs h
+no_tail : (c : ℕ) (cs : List ℕ) → HasNoLineEnd (c ∷ cs) → HasNoLineEnd cs
+no_tail c cs h = All-tail (λ (c : ℕ). is_line_end c ≡ false) c cs h
 
-clash : (c e : ℕ) → is_end c ≡ false → is_end e ≡ true → c ≡ e → ⊥
-clash c e isnt is same = let f = ap is_end same in cc
+clash : (c e : ℕ) → is_line_end c ≡ false → is_line_end e ≡ true → c ≡ e → ⊥
+clash c e isnt is same = let f = ap is_line_end same in cc
 
 heads : (a b : ℕ) (x y : List ℕ) → a ∷ x ≡ b ∷ y → a ≡ b
 heads a b x y e = cc
@@ -31,7 +31,7 @@ heads a b x y e = cc
 tails : (a b : ℕ) (x y : List ℕ) → a ∷ x ≡ b ∷ y → x ≡ y
 tails a b x y e = cc
 
-cut : (a r b s : List ℕ) (e f : ℕ) → NoEnd a → is_end e ≡ true → NoEnd b → is_end f ≡ true → a ++ e ∷ r ≡ b ++ f ∷ s → (a ≡ b) × (r ≡ s)
+cut : (a r b s : List ℕ) (e f : ℕ) → HasNoLineEnd a → is_line_end e ≡ true → HasNoLineEnd b → is_line_end f ≡ true → a ++ e ∷ r ≡ b ++ f ∷ s → (a ≡ b) × (r ≡ s)
 cut [] r [] s e f na ye nb yf same = (refl, tails e f r s same)
 cut [] r (c ∷ cs) s e f na ye nb yf same = absurd (clash c e (no_head c cs nb) ye (sym (heads e c r (cs ++ f ∷ s) same)))
 cut (c ∷ cs) r [] s e f na ye nb yf same = absurd (clash c f (no_head c cs na) yf (heads c f (cs ++ e ∷ r) s same))
@@ -41,7 +41,7 @@ cut (c ∷ cs) r (d ∷ ds) s e f na ye nb yf same =
     (ap (λ (x : ℕ). x ∷ cs) head ∙ ap (λ (l : List ℕ). d ∷ l) rest.0, rest.1)
 
 -- a text without line ends is not a text with one
-never : (a r b : List ℕ) (e : ℕ) → is_end e ≡ true → NoEnd b → a ++ e ∷ r ≡ b → ⊥
+never : (a r b : List ℕ) (e : ℕ) → is_line_end e ≡ true → HasNoLineEnd b → a ++ e ∷ r ≡ b → ⊥
 never [] r [] e ye nb same = absurd (cc)
 never [] r (c ∷ cs) e ye nb same = clash c e (no_head c cs nb) ye (sym (heads e c r cs same))
 never (a ∷ as') r [] e ye nb same = absurd (cc)
@@ -50,7 +50,7 @@ never (a ∷ as') r (c ∷ cs) e ye nb same = never as' r cs e ye (no_tail c cs 
 -- ---- the lines of bytes
 
 module _ (one : (text : List ℕ) (x y : Option Triple) → Line text x → Line text y → x ≡ y) where
-  lines_are : (xs ys : List (Option Triple)) (front last front' last' : List ℕ) (x y : Option Triple) → EndedLines xs front → NoEnd last → Line last x → EndedLines ys front' → NoEnd last' → Line last' y
+  lines_are : (xs ys : List (Option Triple)) (front last front' last' : List ℕ) (x y : Option Triple) → TerminatedLines xs front → HasNoLineEnd last → Line last x → TerminatedLines ys front' → HasNoLineEnd last' → Line last' y
       → front ++ last ≡ front' ++ last' → xs ++ x ∷ [] ≡ ys ++ y ∷ []
   lines_are [] [] front last front' last' x y h n l h' n' l' same =
       let texts : last ≡ last' = ap (λ (f : List ℕ). f ++ last) (sym h) ∙ same ∙ ap (λ (f : List ℕ). f ++ last') h' in
@@ -75,10 +75,10 @@ module _ (one : (text : List ℕ) (x y : Option Triple) → Line text x → Line
 
 -- the text of a line, which is followed by a line end or is the last one
 Piece : List ℕ → List ℕ → Type 0
-Piece text tail = ((e : ℕ) × (rest : List ℕ) × (is_end e ≡ true) × (tail ≡ text ++ e ∷ rest)) ⊎ (tail ≡ text)
+Piece text tail = ((e : ℕ) × (rest : List ℕ) × (is_line_end e ≡ true) × (tail ≡ text ++ e ∷ rest)) ⊎ (tail ≡ text)
 
 -- after some lines of a document, the next piece is a valid line
-piece_is : (ys : List (Option Triple)) (text tail front' last' : List ℕ) (y : Option Triple) → NoEnd text → Piece text tail → EndedLines ys front' → NoEnd last' → Line last' y
+piece_is : (ys : List (Option Triple)) (text tail front' last' : List ℕ) (y : Option Triple) → HasNoLineEnd text → Piece text tail → TerminatedLines ys front' → HasNoLineEnd last' → Line last' y
     → tail ≡ front' ++ last' → (x : Option Triple) × Line text x
 unfolding Piece
 piece_is [] text tail front' last' y n (inl w) h' n' l' same = absurd (never text w.1 last' w.0 w.2 n' (sym w.3 ∙ same ∙ ap (λ (f : List ℕ). f ++ last') h'))
@@ -90,7 +90,7 @@ piece_is (z ∷ ys) text tail front' last' y n (inl w) h' n' l' same =
 piece_is (z ∷ ys) text tail front' last' y n (inr w) h' n' l' same =
     absurd (never h'.0 (h'.2 ++ last') text h'.1 h'.4 n (sym (append_assoc h'.0 (h'.1 ∷ h'.2) last') ∙ ap (λ (f : List ℕ). f ++ last') (sym h'.3) ∙ sym same ∙ w))
 
-line_behind : (xs ys : List (Option Triple)) (front text tail front' last' : List ℕ) (y : Option Triple) → EndedLines xs front → NoEnd text → Piece text tail → EndedLines ys front' → NoEnd last' → Line last' y
+line_behind : (xs ys : List (Option Triple)) (front text tail front' last' : List ℕ) (y : Option Triple) → TerminatedLines xs front → HasNoLineEnd text → Piece text tail → TerminatedLines ys front' → HasNoLineEnd last' → Line last' y
     → front ++ tail ≡ front' ++ last' → (x : Option Triple) × Line text x
 line_behind [] ys front text tail front' last' y h n w h' n' l' same = piece_is ys text tail front' last' y n w h' n' l' (ap (λ (f : List ℕ). f ++ tail) (sym h) ∙ same)
 line_behind (z ∷ xs) [] front text tail front' last' y h n w h' n' l' same =
@@ -103,9 +103,9 @@ line_behind (z ∷ xs) (v ∷ ys) front text tail front' last' y h n w h' n' l' 
 
 -- ---- a document has no error
 
-module _ (apart : (text : List ℕ) (x : Option Triple) (fault : TermFault) → Line text x → LineFaultStands text fault → ⊥) where
-  in_text : (bytes front r : List ℕ) (ts : List Triple) (xs : List (Option Triple)) (reason : LineReason) (column taken limit : ℕ) → Document bytes ts → EndedLines xs front → bytes ≡ front ++ r
-      → StandsInText reason column taken limit (Some r) → ⊥
+module _ (apart : (text : List ℕ) (x : Option Triple) (fault : TermFault) → Line text x → LineParseFails text fault → ⊥) where
+  in_text : (bytes front r : List ℕ) (ts : List Triple) (xs : List (Option Triple)) (reason : LineReason) (column taken limit : ℕ) → Document bytes ts → TerminatedLines xs front → bytes ≡ front ++ r
+      → IsLineTextError reason column taken limit (Some r) → ⊥
   unfolding Piece
   in_text bytes front r ts xs reason column taken limit p ended is h =
       let text = h.0 in
@@ -113,7 +113,7 @@ module _ (apart : (text : List ℕ) (x : Option Triple) (fault : TermFault) → 
       let stop : Piece text r → ⊥ = λ piece. let l = line piece in apart text l.0 _ l.1 h.2 in
       by h.3.0 h.3.1 stop
     where
-      by : (after : Option (List ℕ)) → ((e : ℕ) × (is_end e ≡ true) × Consumes (Some r) after (h.0 ++ e ∷ []) × (taken + length h.0 < limit)) ⊎ (Consumes (Some r) after h.0 × IsAtEnd after × (taken + length h.0 ≤ limit)) → (Piece h.0 r → ⊥) → ⊥
+      by : (after : Option (List ℕ)) → ((e : ℕ) × (is_line_end e ≡ true) × Consumes (Some r) after (h.0 ++ e ∷ []) × (taken + length h.0 < limit)) ⊎ (Consumes (Some r) after h.0 × IsAtEnd after × (taken + length h.0 ≤ limit)) → (Piece h.0 r → ⊥) → ⊥
       by None (inl w) stop = absurd w.2
       by None (inr w) stop = absurd w.0
       by (Some a) (inl w) stop = stop (inl (w.0, a, w.1, w.2 ∙ append_assoc h.0 (w.0 ∷ []) a))
@@ -124,8 +124,8 @@ module _ (apart : (text : List ℕ) (x : Option Triple) (fault : TermFault) → 
   too_long bytes front r text past (Some g) limit short is some full took =
       omega (arith, ap length is, length-append front r, ap length took, length-append (text ++ past) g, length-append text past)
 
-  by_reason : (bytes front r : List ℕ) (ts : List Triple) (xs : List (Option Triple)) (reason : LineReason) (column limit : ℕ) (given : Option (List ℕ)) → Document bytes ts → length bytes ≤ limit → EndedLines xs front → bytes ≡ front ++ r
-      → StandsInLine reason column (length front) limit (Some r) given → (reason ≡ reasons.Read) ⊎ (reason ≡ reasons.OutOfMemory)
+  by_reason : (bytes front r : List ℕ) (ts : List Triple) (xs : List (Option Triple)) (reason : LineReason) (column limit : ℕ) (given : Option (List ℕ)) → Document bytes ts → length bytes ≤ limit → TerminatedLines xs front → bytes ≡ front ++ r
+      → IsLineError reason column (length front) limit (Some r) given → (reason ≡ reasons.Read) ⊎ (reason ≡ reasons.OutOfMemory)
   by_reason bytes front r ts xs reasons.Read column limit given p short ended is h = inl refl
   by_reason bytes front r ts xs reasons.OutOfMemory column limit given p short ended is h = inr refl
   by_reason bytes front r ts xs reasons.TooLong column limit given p short ended is h = absurd (too_long bytes front r h.1.0 h.1.1 given limit short is h.1.3 h.1.4 h.1.5)
@@ -136,8 +136,8 @@ module _ (apart : (text : List ℕ) (x : Option Triple) (fault : TermFault) → 
   by_reason bytes front r ts xs reasons.IriCharacter column limit given p short ended is h = absurd (in_text bytes front r ts xs reasons.IriCharacter column (length front) limit p ended is h)
   by_reason bytes front r ts xs reasons.ZeroCharacter column limit given p short ended is h = absurd (in_text bytes front r ts xs reasons.ZeroCharacter column (length front) limit p ended is h)
 
-  behind_front : (bytes : List ℕ) (ts : List Triple) (fault : LineFault) (limit : ℕ) (front : List ℕ) (xs : List (Option Triple)) (rest given : Option (List ℕ)) → Document bytes ts → length bytes ≤ limit → EndedLines xs front
-      → Consumes (Some bytes) rest front → StandsInLine fault.reason fault.column (length front) limit rest given → (fault.reason ≡ reasons.Read) ⊎ (fault.reason ≡ reasons.OutOfMemory)
+  behind_front : (bytes : List ℕ) (ts : List Triple) (fault : LineFault) (limit : ℕ) (front : List ℕ) (xs : List (Option Triple)) (rest given : Option (List ℕ)) → Document bytes ts → length bytes ≤ limit → TerminatedLines xs front
+      → Consumes (Some bytes) rest front → IsLineError fault.reason fault.column (length front) limit rest given → (fault.reason ≡ reasons.Read) ⊎ (fault.reason ≡ reasons.OutOfMemory)
   behind_front bytes ts fault limit front xs None given p short ended took h = absurd took
   behind_front bytes ts fault limit front xs (Some r) given p short ended took h = by_reason bytes front r ts xs fault.reason fault.column limit given p short ended took h
 

@@ -1,42 +1,42 @@
 -- The file that is built from a graph.
 use Rattle.std.specs.Prelude.{◌≡◌, ℕ, ◌<◌, List, length, take, Option}
 use Rattle.std.specs.Io.KnownBytes.{Appends}
-use Rattle.hdt_dict.specs.Dictionary.{FourLists}
-use Rattle.hdt_triples.specs.Counting.{Triple}
+use Rattle.hdt_dict.specs.Dictionary.{SectionLists}
+use Rattle.hdt_triples.specs.TripleSequences.{Triple}
 use Rattle.hdt_build.specs.declared.options.Options.{Options}
-use Rattle.hdt_build.specs.declared.report.Report.{Report}
+use Rattle.hdt_build.specs.declared.options.Report.{Report}
 use Rattle.hdt_build.specs.Canonical.{IsCanonical}
 use Rattle.hdt_file.specs.Denoted.{StringTriple}
 use Rattle.hdt_build.specs.Header.{header_body}
-use Rattle.hdt_build.specs.Reading.{IsGraphIn}
+use Rattle.hdt_build.specs.Reading.{IsInputGraph}
 
 -- the report of a file with these sections, triples and bytes
-unfoldable pub report_of : FourLists → List Triple → List ℕ → Report
+unfoldable pub report_of : SectionLists → List Triple → List ℕ → Report
 report_of d ts bytes = record { triples = length ts; shared = length d.shared; subjects = length d.subjects; predicates = length d.predicates; objects = length d.objects; bytes = length bytes }
 
 -- the canonical file of a header body, a set of string triples and a block size, with its report
-pub record IsMade (header : List ℕ) (graph : List StringTriple) (b : ℕ) (bytes : List ℕ) (report : Report) : Type 0 where
+pub record IsCanonicalWithReport (header : List ℕ) (graph : List StringTriple) (b : ℕ) (bytes : List ℕ) (report : Report) : Type 0 where
   pub file : IsCanonical header graph b bytes
   pub report_is : report ≡ report_of file.dictionary file.triples bytes
 
 -- the canonical file of a set of string triples under the options, with its report
 abbrev pub IsBuilt : Options → List StringTriple → List ℕ → Report → Type 0
-IsBuilt options graph bytes report = IsMade (header_body options.base.items report.triples) graph options.block_size bytes report
+IsBuilt options graph bytes report = IsCanonicalWithReport (header_body options.base.items report.triples) graph options.block_size bytes report
 
 -- the input is a document, and the bytes and the report are built from its graph
 pub record Builds (options : Options) (input : Option (List ℕ)) (bytes : List ℕ) (report : Report) : Type 0 where
   pub graph : List StringTriple
-  pub read : IsGraphIn input graph
+  pub read : IsInputGraph input graph
   pub built : IsBuilt options graph bytes report
 
 -- all bytes that are built from the input were written
-pub record Writes (options : Options) (input before after : Option (List ℕ)) (report : Report) : Type 0 where
+pub record WritesBuilt (options : Options) (input before after : Option (List ℕ)) (report : Report) : Type 0 where
   pub bytes : List ℕ
   pub builds : Builds options input bytes report
   pub written : Appends before after bytes
 
 -- only the first n of these bytes were written
-pub record WritesBeginning (options : Options) (input before after : Option (List ℕ)) (n : ℕ) : Type 0 where
+pub record WritesBuiltPrefix (options : Options) (input before after : Option (List ℕ)) (n : ℕ) : Type 0 where
   pub bytes : List ℕ
   pub report : Report
   pub builds : Builds options input bytes report

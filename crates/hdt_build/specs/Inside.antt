@@ -1,7 +1,7 @@
 pub mod Documents
 pub mod Keys
-pub mod Kept
-pub mod Numbers
-pub mod Parted
-pub mod Placed
-pub mod Texts
+pub mod Rewriting
+pub mod Ids
+pub mod Filtering
+pub mod SortedEntries
+pub mod Extension

@@ -1,22 +1,22 @@
 -- What reading a canonical file gives.
 use Rattle.std.specs.Prelude.{◌≡◌, ℕ, List, [], ◌∷◌, length, Ok}
-use Rattle.hdt_wire.specs.Exact.{seen}
-use Rattle.hdt_dict.specs.Dictionary.{FourLists}
+use Rattle.hdt_wire.specs.Exact.{viewed}
+use Rattle.hdt_dict.specs.Dictionary.{SectionLists}
 use Rattle.hdt_dict.specs.Strings.{SameMembers}
 use Rattle.hdt_file.specs.Denoted.{StringTriple, denoted}
-use Rattle.hdt_file.specs.File.{GraphParts, IsLayout, graph_in}
-use Rattle.hdt_file.specs.StringTriples.{AreOnce}
-use Rattle.hdt_file.specs.Tight.{IsTight, tight_in}
-use Rattle.hdt_file.specs.Views.{lens_of}
-use Rattle.hdt_triples.specs.Counting.{Triple}
-use Rattle.hdt_build.specs.declared.report.Report.{Report}
+use Rattle.hdt_file.specs.File.{GraphParts, IsLayout, decode_graph}
+use Rattle.hdt_file.specs.StringTriples.{AreDistinctTriples}
+use Rattle.hdt_file.specs.Tight.{IsTight, decode_tight_graph}
+use Rattle.hdt_file.specs.GraphView.{graph_counts}
+use Rattle.hdt_triples.specs.TripleSequences.{Triple}
+use Rattle.hdt_build.specs.declared.options.Report.{Report}
 
 -- the graph that a file denotes: its triples, with the string of each ID
 abbrev pub denoted_by : GraphParts → List StringTriple
 denoted_by g = denoted g g.triples
 
 -- a graph of a header body, a dictionary and ID triples
-abbrev pub graph_parts_of : List ℕ → FourLists → List Triple → GraphParts
+abbrev pub graph_parts_of : List ℕ → SectionLists → List Triple → GraphParts
 graph_parts_of header d ts = record {
   header = header;
   dictionary = d;
@@ -24,13 +24,13 @@ graph_parts_of header d ts = record {
 }
 
 -- the counts of a report: triples, then shared, subjects, predicates and objects
-abbrev pub lens_told : Report → List ℕ
-lens_told r = r.triples ∷ r.shared ∷ r.subjects ∷ r.predicates ∷ r.objects ∷ []
+abbrev pub reported_lens : Report → List ℕ
+reported_lens r = r.triples ∷ r.shared ∷ r.subjects ∷ r.predicates ∷ r.objects ∷ []
 
 -- The report has the counts that `verify` and `verify_tight` of hdt_file return for the bytes, and their length.
 pub record IsVerified (bytes : List ℕ) (report : Report) : Type 0 where
-  pub verified : seen lens_of (graph_in bytes) ≡ Ok (lens_told report)
-  pub tight : seen lens_of (tight_in bytes) ≡ Ok (lens_told report)
+  pub verified : viewed graph_counts (decode_graph bytes) ≡ Ok (reported_lens report)
+  pub tight : viewed graph_counts (decode_tight_graph bytes) ≡ Ok (reported_lens report)
   pub bytes_are : report.bytes ≡ length bytes
 
 -- The bytes are a valid file with this header body and without unused strings. The file has exactly the triples of the
@@ -41,4 +41,4 @@ pub record IsLayoutOf (header : List ℕ) (graph : List StringTriple) (bytes : L
   pub header_is : parts.header ≡ header
   pub tight : IsTight parts
   pub exactly : SameMembers (denoted_by parts) graph
-  pub once : AreOnce (denoted_by parts)
+  pub once : AreDistinctTriples (denoted_by parts)

@@ -1,12 +1,12 @@
 -- The graph of an N-Triples document, and errors in it.
 use Rattle.std.specs.Prelude.{◌≡◌, ◌≢◌, ◌⊎◌, ℕ, List, [], map, Option, ⊤}
 use Rattle.std.specs.List.{All}
-use Rattle.hdt_dict.specs.Texts.{IsDictionaryString}
+use Rattle.hdt_dict.specs.DictionaryString.{IsDictionaryString}
 use Rattle.hdt_terms.specs.declared.fault.LineReason.TheVariants.{OutOfMemory, Read}
 use Rattle.hdt_terms.specs.declared.fault.LineFault.{LineFault}
 use Rattle.hdt_terms.specs.declared.triple.Triple.{Triple}
-use Rattle.hdt_terms.specs.Documents.{IsDocument, FaultInDocument}
-use Rattle.hdt_terms.specs.Terms.{str}
+use Rattle.hdt_terms.specs.Documents.{IsDocumentInput, FaultInDocument}
+use Rattle.hdt_terms.specs.Terms.{dictionary_string}
 use Rattle.hdt_build.specs.declared.fault.BuildFault.{BuildFault}
 use Rattle.hdt_build.specs.declared.fault.BuildFault.TheVariants as faults
 use Rattle.hdt_file.specs.Denoted.{StringTriple}
@@ -18,31 +18,31 @@ most = 9223372036854775807
 
 -- the dictionary strings of a triple's terms
 abbrev pub term_strings : Triple → StringTriple
-term_strings t = (str t.s, str t.p, str t.o)
+term_strings t = (dictionary_string t.s, dictionary_string t.p, dictionary_string t.o)
 
 -- the input is a document, and these are its triples as dictionary strings, in input order, with duplicates
-pub record IsGraphIn (input : Option (List ℕ)) (graph : List StringTriple) : Type 0 where
+pub record IsInputGraph (input : Option (List ℕ)) (graph : List StringTriple) : Type 0 where
   pub triples : List Triple
-  pub document : IsDocument most input triples
+  pub document : IsDocumentInput most input triples
   pub strings : graph ≡ map term_strings triples
 
 -- all strings are UTF-8 without zero bytes
-pub record AreTexts (graph : List StringTriple) : Type 0 where
+pub record HasDictionaryStrings (graph : List StringTriple) : Type 0 where
   pub subjects_are : All IsDictionaryString (subjects_of graph)
   pub predicates_are : All IsDictionaryString (predicates_of graph)
   pub objects_are : All IsDictionaryString (objects_of graph)
 
 -- what an error means for the input before and after the call, if the options are valid
-abbrev pub TellsBuildFault : Option (List ℕ) → Option (List ℕ) → BuildFault → Type 0
-TellsBuildFault before after (faults.Line fault) = FaultInDocument fault most before after × (fault.reason ≢ OutOfMemory)
-TellsBuildFault before after faults.NoTriples = IsDocument most before []
-TellsBuildFault before after faults.BadOptions = ⊥
-TellsBuildFault before after faults.OutOfMemory = ⊤
-TellsBuildFault before after (faults.Write n) = ⊥
+abbrev pub IsBuildFaultOf : Option (List ℕ) → Option (List ℕ) → BuildFault → Type 0
+IsBuildFaultOf before after (faults.Line fault) = FaultInDocument fault most before after × (fault.reason ≢ OutOfMemory)
+IsBuildFaultOf before after faults.NoTriples = IsDocumentInput most before []
+IsBuildFaultOf before after faults.BadOptions = ⊥
+IsBuildFaultOf before after faults.OutOfMemory = ⊤
+IsBuildFaultOf before after (faults.Write n) = ⊥
 
 -- the error of a line, as an error of building
-abbrev pub IsToldAs : LineFault → BuildFault → Type 0
-IsToldAs fault told = ((fault.reason ≡ OutOfMemory) × (told ≡ faults.OutOfMemory)) ⊎ ((fault.reason ≢ OutOfMemory) × (told ≡ faults.Line fault))
+abbrev pub IsConvertedTo : LineFault → BuildFault → Type 0
+IsConvertedTo fault told = ((fault.reason ≡ OutOfMemory) × (told ≡ faults.OutOfMemory)) ⊎ ((fault.reason ≢ OutOfMemory) × (told ≡ faults.Line fault))
 
 -- the error is that the reader failed
 abbrev pub ReadFailed : BuildFault → Type 0

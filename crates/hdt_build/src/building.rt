@@ -2,19 +2,18 @@
 ghost use Rattle.std.specs.Prelude.{◌≡◌, ◌≢◌, ◌<◌, ◌+◌, ◌↔◌, ℕ, length, IfOk, IfErr, OnOk, IsErrOf};
 ghost use Rattle.std.specs.Io.KnownBytes.{IsAtEnd};
 ghost use Rattle.hdt_wire.specs.Counted.{inner, failures};
-ghost use Rattle.hdt_build.specs.Built.{IsBuilt, Builds, Writes, WritesBeginning};
-ghost use Rattle.hdt_build.specs.Inside.Documents.{document_graph, IsSound};
-ghost use Rattle.hdt_build.specs.Options.{AreRight};
-ghost use Rattle.hdt_build.specs.Reading.{AreTexts, TellsBuildFault, ReadFailed};
+ghost use Rattle.hdt_build.specs.Built.{IsBuilt, Builds, WritesBuilt, WritesBuiltPrefix};
+ghost use Rattle.hdt_build.specs.Inside.Documents.{document_graph, IsValidDocument};
+ghost use Rattle.hdt_build.specs.Options.{AreValidOptions};
+ghost use Rattle.hdt_build.specs.Reading.{HasDictionaryStrings, IsBuildFaultOf, ReadFailed};
 
 use crate::document::Document;
+use crate::encoding::encode_graph;
 use crate::fault::BuildFault;
-use crate::file::whole_file;
-use crate::form::form_of;
+use crate::file::encode_file;
 use crate::header::header_body;
-use crate::options::{Options, are_right};
-use crate::reading::read_graph;
-use crate::report::Report;
+use crate::options::{Options, Report, are_valid_options};
+use crate::reading::read_triples;
 use hdt_wire::Counted;
 use std::alloc::{AllocError, Global};
 use std::io::{Read, Write};
@@ -25,16 +24,16 @@ fn built(
     document: Document,
     options: &Options,
 ) -> Result<(Vec<u8>, Report), AllocError>
-    requires sound { IsSound document }
-    requires texts { AreTexts (document_graph document) }
+    requires sound { IsValidDocument document }
+    requires texts { HasDictionaryStrings (document_graph document) }
     requires some { 0 < length (document_graph document) }
-    requires right { AreRight options.now }
+    requires right { AreValidOptions options.now }
     ensures { IfOk result (λ made. IsBuilt options.now (document_graph document) made.0.items made.1) }
 {
     let (list, ids) = document.into_parts(alloc)?;
-    let form = form_of(alloc, list, ids, options.block_size)?;
+    let form = encode_graph(alloc, list, ids, options.block_size)?;
     let header = header_body(alloc, options.base.as_slice(), form.triples.len() as u64)?;
-    whole_file(alloc, header.as_slice(), form)
+    encode_file(alloc, header.as_slice(), form)
 }
 
 /// Builds the canonical file of an N-Triples document's graph in memory. Returns its bytes and its counts. The input
@@ -62,22 +61,22 @@ pub fn build_bytes<R: Read>(
     // The input is a document; this is the canonical file of its graph under the options, and its counts.
     ensures found { IfOk result (λ made. Builds options.now (R.remaining (inner input.old)) made.0.items made.1) }
     // The options are valid, and the reader is at its end.
-    ensures right { OnOk result (AreRight options.now) }
+    ensures right { OnOk result (AreValidOptions options.now) }
     ensures end { OnOk result (IsAtEnd (R.remaining (inner input.new))) }
     // BadOptions is returned exactly if the options are not valid, and then nothing was read.
-    ensures bad { IsErrOf result BuildFault.BadOptions ↔ (AreRight options.now → ⊥) }
+    ensures bad { IsErrOf result BuildFault.BadOptions ↔ (AreValidOptions options.now → ⊥) }
     ensures unread { IsErrOf result BuildFault.BadOptions → input.new ≡ input.old }
     // Any other error is the first one of the input.
-    ensures told { IfErr result (λ e. e ≢ BuildFault.BadOptions → TellsBuildFault (R.remaining (inner input.old)) (R.remaining (inner input.new)) e) }
+    ensures told { IfErr result (λ e. e ≢ BuildFault.BadOptions → IsBuildFaultOf (R.remaining (inner input.old)) (R.remaining (inner input.new)) e) }
     // The reader failed in this call, once, if the error says so; else it has not failed.
     ensures read { IfErr result (λ e. ReadFailed e → failures input.new ≡ failures input.old + 1) }
     ensures still { IfErr result (λ e. (ReadFailed e → ⊥) → failures input.new ≡ failures input.old) }
     ensures count { OnOk result (failures input.new ≡ failures input.old) }
 {
-    if !are_right(options) {
+    if !are_valid_options(options) {
         return Err(BuildFault::BadOptions);
     }
-    let document = read_graph(alloc, input)?;
+    let document = read_triples(alloc, input)?;
     if document.is_empty() {
         return Err(BuildFault::NoTriples);
     }
@@ -98,22 +97,22 @@ pub fn build<R: Read, W: Write>(
     options: &Options,
 ) -> Result<Report, BuildFault>
     // The input is a document, and the canonical file of its graph under the options was written.
-    ensures written { IfOk result (Writes options.now (R.remaining (inner input.old)) (W.contents (inner out.old)) (W.contents (inner out.new))) }
+    ensures written { IfOk result (WritesBuilt options.now (R.remaining (inner input.old)) (W.contents (inner out.old)) (W.contents (inner out.new))) }
     // The options are valid, and the reader is at its end.
-    ensures right { OnOk result (AreRight options.now) }
+    ensures right { OnOk result (AreValidOptions options.now) }
     ensures end { OnOk result (IsAtEnd (R.remaining (inner input.new))) }
     // BadOptions is returned exactly if the options are not valid, and then nothing was read.
-    ensures bad { IsErrOf result BuildFault.BadOptions ↔ (AreRight options.now → ⊥) }
+    ensures bad { IsErrOf result BuildFault.BadOptions ↔ (AreValidOptions options.now → ⊥) }
     ensures unread { IsErrOf result BuildFault.BadOptions → input.new ≡ input.old }
     // Any other error, except a failed write, is the first one of the input.
-    ensures told { IfErr result (λ e. e ≢ BuildFault.BadOptions → ((n : ℕ) → e ≢ BuildFault.Write n) → TellsBuildFault (R.remaining (inner input.old)) (R.remaining (inner input.new)) e) }
+    ensures told { IfErr result (λ e. e ≢ BuildFault.BadOptions → ((n : ℕ) → e ≢ BuildFault.Write n) → IsBuildFaultOf (R.remaining (inner input.old)) (R.remaining (inner input.new)) e) }
     // The reader failed in this call, once, if the error says so; else it has not failed.
     ensures read { IfErr result (λ e. ReadFailed e → failures input.new ≡ failures input.old + 1) }
     ensures still { IfErr result (λ e. (ReadFailed e → ⊥) → failures input.new ≡ failures input.old) }
     ensures count { OnOk result (failures input.new ≡ failures input.old) }
     // The writer failed in this call, once, after exactly the first n bytes.
     ensures write { IfErr result (λ e. (n : ℕ) → e ≡ BuildFault.Write n → (failures out.new ≡ failures out.old + 1)
-        × WritesBeginning options.now (R.remaining (inner input.old)) (W.contents (inner out.old)) (W.contents (inner out.new)) n) }
+        × WritesBuiltPrefix options.now (R.remaining (inner input.old)) (W.contents (inner out.old)) (W.contents (inner out.new)) n) }
     // Without an error it has not failed, and at any other error nothing was written.
     ensures well { OnOk result (failures out.new ≡ failures out.old) }
     ensures unwritten { IfErr result (λ e. ((n : ℕ) → e ≢ BuildFault.Write n) → out.new ≡ out.old) }

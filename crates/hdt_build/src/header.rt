@@ -36,7 +36,7 @@ fn put_count(base: &[u8], count: u64, out: &mut Vec<u8>) -> Result<(), AllocErro
 
 /// The header body of a base IRI and a number of triples: its two lines.
 #[tactic(auto, using(std::proofs::Common::append_assoc), unfolding(crate::specs::Header::header_body))]
-pub fn header_body(alloc: Global, base: &[u8], count: u64) -> Result<Vec<u8>, AllocError>
+pub(crate) fn header_body(alloc: Global, base: &[u8], count: u64) -> Result<Vec<u8>, AllocError>
     ensures { IfOk result (λ body. body.items ≡ header_body base.now count) }
 {
     let mut body = Vec::new(alloc);
@@ -47,7 +47,7 @@ pub fn header_body(alloc: Global, base: &[u8], count: u64) -> Result<Vec<u8>, Al
 
 /// The property text of the header: the length of its body in bytes.
 #[tactic(auto, using(std::proofs::Common::append_assoc), unfolding(crate::specs::Header::length_property))]
-pub fn length_property(alloc: Global, len: u64) -> Result<Vec<u8>, AllocError>
+pub(crate) fn length_property(alloc: Global, len: u64) -> Result<Vec<u8>, AllocError>
     ensures { IfOk result (λ text. text.items ≡ length_property len) }
 {
     let mut text = Vec::new(alloc);

@@ -1,7 +1,7 @@
 //! String interning with a bounded cache: a string has one index, unless the cache loses it.
 ghost use Rattle.std.specs.Prelude.{◌≡◌, ◌<◌, ◌≤◌, ◌++◌, ◌∷◌, [], ℕ, List, ◌+◌, IfSome, length, slice_index_or, vec_len, IfOk, OnOk, OnErr};
-ghost use Rattle.hdt_build.specs.Inside.Placed.{AreRanks};
-ghost use Rattle.hdt_build.specs.Inside.Texts.{GoesOn};
+ghost use Rattle.hdt_build.specs.Inside.SortedEntries.{AreIndicesOf};
+ghost use Rattle.hdt_build.specs.Inside.Extension.{ExtendsList};
 
 use hdt_dict::Arena;
 use std::alloc::{AllocError, Global};
@@ -18,7 +18,7 @@ const FIRST: usize = 1024;
 /// hash, which an attacker can arrange, the cache loses some of them. A lost string is appended again, and sorting
 /// drops the duplicate. So no choice of strings makes look-ups slow.
 #[derive(Drop)]
-pub struct Interner {
+pub(crate) struct Interner {
     list: Arena,
     /// The upper half of a string's hash, and its index + 1; 0 is a free slot.
     slots: Vec<u64>,
@@ -87,7 +87,7 @@ fn guess(slots: &[u64], hash: u64) -> usize {
 }
 
 /// Prefetches the slots of the hashes: the sum of the first and the last one of each, with no branch between the loads.
-fn looked_at(slots: &[u64], hashes: &[u64]) -> u64
+fn prefetch_slots(slots: &[u64], hashes: &[u64]) -> u64
     requires { 8 ≤ length slots.now }
 {
     let mut sum: u64 = 0;
@@ -101,14 +101,14 @@ fn looked_at(slots: &[u64], hashes: &[u64]) -> u64
 }
 
 /// A guess at the index of each string, by its hash only.
-fn guesses_of(alloc: Global, slots: &[u64], hashes: &[u64]) -> Result<Vec<usize>, AllocError>
+fn guess_indices(alloc: Global, slots: &[u64], hashes: &[u64]) -> Result<Vec<usize>, AllocError>
     requires { 8 ≤ length slots.now }
     ensures { IfOk result (λ made. length made.items ≡ length hashes.now) }
 {
     // The sum has no meaning; using it keeps the loads from being optimized away.
     let room = hashes
         .len()
-        .saturating_add(looked_at(slots, hashes).min(1) as usize);
+        .saturating_add(prefetch_slots(slots, hashes).min(1) as usize);
     let mut made = Vec::with_capacity(alloc, room)?;
     for hash in hashes {
         let from = first_slot(slots, *hash);
@@ -119,24 +119,24 @@ fn guesses_of(alloc: Global, slots: &[u64], hashes: &[u64]) -> Result<Vec<usize>
 
 /// Whether the string at an index has the first and the last byte of another one. For most strings these two loads
 /// prefetch every cache line that a full comparison reads.
-fn is_alike(list: &Arena, at: usize, text: &[u8]) -> bool {
+fn has_same_ends(list: &Arena, at: usize, text: &[u8]) -> bool {
     at < list.len() && list.get(at).first() == text.first() && list.get(at).last() == text.last()
 }
 
 /// Drops guesses whose first or last byte differs. The loads don't depend on each other.
-fn check(list: &Arena, strings: &Arena, guesses: &mut Vec<usize>)
+fn drop_wrong_guesses(list: &Arena, strings: &Arena, guesses: &mut Vec<usize>)
     requires { length guesses.old.items ≡ length strings.now }
     ensures { length guesses.new.items ≡ length guesses.old.items }
 {
     'strings: for at in 0..strings.len() {
-        if !is_alike(list, guesses[at], strings.get(at)) {
+        if !has_same_ends(list, guesses[at], strings.get(at)) {
             guesses[at] = usize::MAX;
         }
     }
 }
 
 /// Stores an entry in the first free slot for its hash; if there is none, it overwrites the last one.
-fn put(slots: &mut [u64], entry: u64)
+fn insert_entry(slots: &mut [u64], entry: u64)
     requires { 8 ≤ length slots.old }
 {
     let from = first_slot(slots, entry);
@@ -154,19 +154,19 @@ fn remember(slots: &mut [u64], hash: u64, at: usize)
     requires { 8 ≤ length slots.old }
 {
     if at < 0xFFFF_FFFF {
-        put(slots, (hash & 0xFFFF_FFFF_0000_0000) | (at as u64 + 1));
+        insert_entry(slots, (hash & 0xFFFF_FFFF_0000_0000) | (at as u64 + 1));
     }
 }
 
 /// Rehashes the entries into twice as many slots. An entry may be lost if the slots for its hash are full.
-fn doubled(alloc: Global, slots: &[u64]) -> Result<Vec<u64>, AllocError>
+fn double_slots(alloc: Global, slots: &[u64]) -> Result<Vec<u64>, AllocError>
     requires { 8 ≤ length slots.now }
     ensures { IfOk result (λ made. 8 ≤ vec_len made) }
 {
     let mut made = Vec::from_elem(alloc, 0, slots.len().saturating_mul(2))?;
     for entry in slots {
         if *entry != 0 {
-            put(made.as_mut_slice(), *entry);
+            insert_entry(made.as_mut_slice(), *entry);
         }
     }
     Ok(made)
@@ -174,7 +174,7 @@ fn doubled(alloc: Global, slots: &[u64]) -> Result<Vec<u64>, AllocError>
 
 impl Interner {
     /// An empty list, with an empty cache.
-    pub fn new(alloc: Global) -> Result<Interner, AllocError>
+    pub(crate) fn new(alloc: Global) -> Result<Interner, AllocError>
         ensures { IfOk result (λ made. made ≡ []) }
     {
         Ok(Interner {
@@ -184,7 +184,7 @@ impl Interner {
     }
 
     /// Returns the strings, and frees the cache.
-    pub fn into_list(self) -> Arena
+    pub(crate) fn into_list(self) -> Arena
         ensures { result ≡ self }
     {
         let Interner { list, slots: _ } = self;
@@ -192,7 +192,7 @@ impl Interner {
     }
 
     /// Returns an index of a string. Appends the string if neither the guess nor the cache finds it.
-    fn place_of(
+    fn intern(
         &mut self,
         alloc: Global,
         text: &[u8],
@@ -201,7 +201,7 @@ impl Interner {
     ) -> Result<usize, AllocError>
         ensures within { IfOk result (λ i. i < length self.new) }
         ensures is { IfOk result (λ i. slice_index_or self.new i [] ≡ text.now) }
-        ensures list { OnOk result (GoesOn self.old self.new) }
+        ensures list { OnOk result (ExtendsList self.old self.new) }
         ensures err { OnErr result (self.new ≡ self.old) }
     {
         if guess < self.list.len() && self.list.get(guess) == text {
@@ -215,16 +215,16 @@ impl Interner {
     }
 
     /// Returns an index for each of these strings. Appends those that the cache doesn't have.
-    pub fn places_of(&mut self, alloc: Global, strings: &Arena) -> Result<Vec<u64>, AllocError>
-        ensures places { IfOk result (λ made. AreRanks strings.now self.new made.items) }
-        ensures list { OnOk result (GoesOn self.old self.new) }
+    pub(crate) fn intern_all(&mut self, alloc: Global, strings: &Arena) -> Result<Vec<u64>, AllocError>
+        ensures places { IfOk result (λ made. AreIndicesOf strings.now self.new made.items) }
+        ensures list { OnOk result (ExtendsList self.old self.new) }
     {
         let hashes = hashes_of(alloc, strings)?;
-        let mut guesses = guesses_of(alloc, self.slots.as_slice(), hashes.as_slice())?;
-        check(&self.list, strings, &mut guesses);
+        let mut guesses = guess_indices(alloc, self.slots.as_slice(), hashes.as_slice())?;
+        drop_wrong_guesses(&self.list, strings, &mut guesses);
         let mut places = Vec::with_capacity(alloc, strings.len())?;
         'strings: for at in 0..strings.len() {
-            let place = self.place_of(alloc, strings.get(at), hashes[at], guesses[at])?;
+            let place = self.intern(alloc, strings.get(at), hashes[at], guesses[at])?;
             places.push(place as u64)?;
         }
         Ok(places)
@@ -238,7 +238,7 @@ impl Interner {
     {
         let at = self.list.len();
         if at >= self.slots.len() / 2 {
-            self.slots = doubled(alloc, self.slots.as_slice())?;
+            self.slots = double_slots(alloc, self.slots.as_slice())?;
         }
         self.list.push(text)?;
         remember(self.slots.as_mut_slice(), hash, at);

@@ -33,37 +33,34 @@ mod building;
 mod document;
 mod fault;
 mod file;
-mod form;
+mod encoding;
 mod header;
 mod interner;
-mod kept;
+mod retained;
 mod keys;
 mod laws;
-mod looking;
+mod prefetch;
 mod merging;
-mod once;
+mod dedup;
 mod options;
-mod parted;
-mod placed;
+mod section_filter;
+mod string_sort;
 mod queue;
 mod reading;
-mod renumbering;
-mod report;
+mod id_map;
 mod rewriting;
-mod rewriting_laws;
-mod run;
+mod section_run;
 mod sections;
 mod ties;
 mod triples;
-mod used;
 
 pub use building::{build, build_bytes};
 pub use fault::{BuildFault, RewriteFault};
 pub use laws::{
-    canonical_files_are_layouts, equal_graphs_equal_files, no_triples_are_told, one_canonical_file,
+    canonical_files_are_layouts, equal_graphs_equal_files, no_triples_is_reported, one_canonical_file,
     one_document, reports_are_verified,
 };
 pub use options::Options;
-pub use report::Report;
+pub use options::Report;
 pub use rewriting::{rewrite, rewrite_bytes};
-pub use rewriting_laws::{rewriting_again_changes_nothing, rewriting_keeps_the_graph};
+pub use laws::{rewriting_again_changes_nothing, rewriting_keeps_the_graph};

@@ -1,11 +1,11 @@
 //! The options of building.
 ghost use Rattle.std.specs.Prelude.{◌↔◌, IsTrue};
-ghost use Rattle.hdt_build.specs.Options.{AreRight, IsBlockSize};
+ghost use Rattle.hdt_build.specs.Options.{AreValidOptions, IsBlockSize};
 
 use hdt_terms::is_iri;
 
 /// The greatest block size.
-const MOST: u32 = 65_535;
+const MAX_BLOCK_SIZE: u32 = 65_535;
 
 /// The options of a file that is built.
 #[derive(Debug, Drop)]
@@ -17,15 +17,32 @@ pub struct Options {
 }
 
 /// Whether a block size is valid.
-pub fn is_block_size(block_size: u32) -> bool
+pub(crate) fn is_block_size(block_size: u32) -> bool
     ensures { IsTrue result ↔ IsBlockSize block_size }
 {
-    1 <= block_size && block_size <= MOST
+    1 <= block_size && block_size <= MAX_BLOCK_SIZE
 }
 
 /// Whether options are valid. Linear time in the base.
-pub fn are_right(options: &Options) -> bool
-    ensures { IsTrue result ↔ AreRight options.now }
+pub(crate) fn are_valid_options(options: &Options) -> bool
+    ensures { IsTrue result ↔ AreValidOptions options.now }
 {
-    1 <= options.block_size && options.block_size <= MOST && is_iri(options.base.as_slice())
+    1 <= options.block_size && options.block_size <= MAX_BLOCK_SIZE && is_iri(options.base.as_slice())
+}
+
+/// The counts of a file that was built or rewritten.
+#[derive(Clone, Copy, Debug, PartialEq, Eq)]
+pub struct Report {
+    /// The number of triples.
+    pub triples: u64,
+    /// The number of strings that are both subjects and objects.
+    pub shared: u64,
+    /// The number of strings that are only subjects.
+    pub subjects: u64,
+    /// The number of strings that are predicates.
+    pub predicates: u64,
+    /// The number of strings that are only objects.
+    pub objects: u64,
+    /// The length of the file in bytes.
+    pub bytes: u64,
 }

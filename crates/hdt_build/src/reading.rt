@@ -3,22 +3,22 @@ ghost use Rattle.std.specs.Prelude.{◌≡◌, ◌+◌, ◌≢◌, Ok, IfOk, IfE
 ghost use Rattle.std.specs.Io.KnownBytes.{IsAtEnd};
 ghost use Rattle.hdt_wire.specs.Counted.{inner, failures};
 ghost use Rattle.hdt_terms.specs.declared.fault.LineReason.TheVariants as reasons;
-ghost use Rattle.hdt_build.specs.Inside.Documents.{document_graph, IsSound};
-ghost use Rattle.hdt_build.specs.Reading.{IsGraphIn, AreTexts, TellsBuildFault, IsToldAs, ReadFailed};
+ghost use Rattle.hdt_build.specs.Inside.Documents.{document_graph, IsValidDocument};
+ghost use Rattle.hdt_build.specs.Reading.{IsInputGraph, HasDictionaryStrings, IsBuildFaultOf, IsConvertedTo, ReadFailed};
 
 use crate::document::Document;
 use crate::fault::BuildFault;
-use hdt_terms::{LineFault, LineReason, Lines, one_spelled, run_of_lines, strings_are_texts};
+use hdt_terms::{LineFault, LineReason, Lines, text_encodes_one_term, triples_so_far, strings_are_texts};
 use hdt_wire::Counted;
 use std::alloc::Global;
 use std::io::Read;
 
 /// The greatest length of an input in bytes.
-const MOST: u64 = 9_223_372_036_854_775_807;
+const MAX_INPUT_LEN: u64 = 9_223_372_036_854_775_807;
 
 /// Converts an error of a line into one of building.
-fn fault_of(fault: LineFault) -> BuildFault
-    ensures { IsToldAs fault result }
+fn build_fault(fault: LineFault) -> BuildFault
+    ensures { IsConvertedTo fault result }
 {
     match fault.reason {
         LineReason::OutOfMemory => BuildFault::OutOfMemory,
@@ -27,21 +27,21 @@ fn fault_of(fault: LineFault) -> BuildFault
 }
 
 /// Reads all triples of a document, up to its end or its first error.
-pub fn read_graph<R: Read>(alloc: Global, input: &mut Counted<R>) -> Result<Document, BuildFault>
-    ensures found { IfOk result (λ document. IsGraphIn (R.remaining (inner input.old)) (document_graph document)) }
-    ensures sound { IfOk result IsSound }
-    ensures texts { IfOk result (λ document. AreTexts (document_graph document)) }
+pub(crate) fn read_triples<R: Read>(alloc: Global, input: &mut Counted<R>) -> Result<Document, BuildFault>
+    ensures found { IfOk result (λ document. IsInputGraph (R.remaining (inner input.old)) (document_graph document)) }
+    ensures sound { IfOk result IsValidDocument }
+    ensures texts { IfOk result (λ document. HasDictionaryStrings (document_graph document)) }
     ensures end { OnOk result (IsAtEnd (R.remaining (inner input.new))) }
-    ensures told { IfErr result (TellsBuildFault (R.remaining (inner input.old)) (R.remaining (inner input.new))) }
+    ensures told { IfErr result (IsBuildFaultOf (R.remaining (inner input.old)) (R.remaining (inner input.new))) }
     ensures read { IfErr result (λ e. ReadFailed e → failures input.new ≡ failures input.old + 1) }
     ensures still { IfErr result (λ e. (ReadFailed e → ⊥) → failures input.new ≡ failures input.old) }
     ensures some { IfErr result (λ e. e ≢ BuildFault.NoTriples) }
     ensures count { OnOk result (failures input.new ≡ failures input.old) }
 {
-    run_of_lines();
+    triples_so_far();
     strings_are_texts();
-    one_spelled();
-    let mut lines = Lines::new(alloc, MOST)?;
+    text_encodes_one_term();
+    let mut lines = Lines::new(alloc, MAX_INPUT_LEN)?;
     let mut document = Document::new(alloc)?;
     let mut s = Vec::new(alloc);
     let mut p = Vec::new(alloc);
@@ -50,7 +50,7 @@ pub fn read_graph<R: Read>(alloc: Global, input: &mut Counted<R>) -> Result<Docu
         match lines.next_strings(input, &mut s, &mut p, &mut o) {
             Ok(true) => document.add(alloc, s.as_slice(), p.as_slice(), o.as_slice())?,
             Ok(false) => return Ok(document),
-            Err(fault) => return Err(fault_of(fault)),
+            Err(fault) => return Err(build_fault(fault)),
         }
     }
 }

@@ -1,17 +1,16 @@
 //! Rewriting a graph as its canonical file.
 ghost use Rattle.std.specs.Prelude.{◌≡◌, ◌≢◌, ◌+◌, ◌↔◌, ℕ, IfOk, IfErr, OnOk, IsErrOf};
 ghost use Rattle.hdt_wire.specs.Counted.{inner, failures};
-ghost use Rattle.hdt_file.specs.Views.{graph_seen};
+ghost use Rattle.hdt_file.specs.GraphView.{graph_view};
 ghost use Rattle.hdt_build.specs.Options.{IsBlockSize};
-ghost use Rattle.hdt_build.specs.Rewritten.{IsRewritten, WritesAgain, BeginsAgain};
+ghost use Rattle.hdt_build.specs.Rewritten.{IsRewritten, WritesRewritten, WritesRewrittenPrefix};
 
 use crate::fault::RewriteFault;
 use crate::file::put_head;
-use crate::options::{Options, is_block_size};
-use crate::report::Report;
-use crate::sections::{Sections, new_sections};
-use crate::triples::new_triples;
-use hdt_dict::put_written_dictionary;
+use crate::options::{Options, Report, is_block_size};
+use crate::sections::{SectionWriters, rewrite_sections};
+use crate::triples::renumber_triples;
+use hdt_dict::finish_dictionary;
 use hdt_file::Graph;
 use hdt_triples::put_triples;
 use hdt_wire::Counted;
@@ -26,21 +25,21 @@ fn rewritten(
     block_size: u32,
 ) -> Result<(Vec<u8>, Report), AllocError>
     requires { IsBlockSize block_size }
-    ensures { IfOk result (λ made. IsRewritten block_size (graph_seen graph.now) made.0.items made.1) }
+    ensures { IfOk result (λ made. IsRewritten block_size (graph_view graph.now) made.0.items made.1) }
 {
     graph.is_graph();
-    let (sections, numbers) = new_sections(alloc, graph, block_size)?;
+    let (sections, numbers) = rewrite_sections(alloc, graph, block_size)?;
     let lens = sections.lens();
     let mut bytes = Vec::new(alloc);
     put_head(alloc, graph.header(), &mut bytes)?;
-    let Sections {
+    let SectionWriters {
         shared,
         subjects,
         predicates,
         objects,
     } = sections;
-    put_written_dictionary(shared, subjects, predicates, objects, &mut bytes)?;
-    let triples = new_triples(alloc, graph, &numbers)?;
+    finish_dictionary(shared, subjects, predicates, objects, &mut bytes)?;
+    let triples = renumber_triples(alloc, graph, &numbers)?;
     drop(numbers);
     put_triples(alloc, triples.as_slice(), &mut bytes)?;
     let [shared, subjects, predicates, objects] = lens;
@@ -74,7 +73,7 @@ pub fn rewrite_bytes(
     options: &Options,
 ) -> Result<(Vec<u8>, Report), RewriteFault>
     // Returns the canonical file of the graph's triples, with its header body, and its counts.
-    ensures made { IfOk result (λ made. IsRewritten options.now.block_size (graph_seen graph.now) made.0.items made.1) }
+    ensures made { IfOk result (λ made. IsRewritten options.now.block_size (graph_view graph.now) made.0.items made.1) }
     // BadOptions is returned exactly if the block size is not valid.
     ensures bad { IsErrOf result RewriteFault.BadOptions ↔ (IsBlockSize options.now.block_size → ⊥) }
     // There is no writer that could fail.
@@ -100,12 +99,12 @@ pub fn rewrite<W: Write>(
     options: &Options,
 ) -> Result<Report, RewriteFault>
     // The canonical file of the graph's triples, with its header body, was written.
-    ensures written { IfOk result (WritesAgain options.now.block_size (graph_seen graph.now) (W.contents (inner out.old)) (W.contents (inner out.new))) }
+    ensures written { IfOk result (WritesRewritten options.now.block_size (graph_view graph.now) (W.contents (inner out.old)) (W.contents (inner out.new))) }
     // BadOptions is returned exactly if the block size is not valid.
     ensures bad { IsErrOf result RewriteFault.BadOptions ↔ (IsBlockSize options.now.block_size → ⊥) }
     // The writer failed in this call, once, after exactly the first n bytes.
     ensures write { IfErr result (λ e. (n : ℕ) → e ≡ RewriteFault.Write n → (failures out.new ≡ failures out.old + 1)
-        × BeginsAgain options.now.block_size (graph_seen graph.now) (W.contents (inner out.old)) (W.contents (inner out.new)) n) }
+        × WritesRewrittenPrefix options.now.block_size (graph_view graph.now) (W.contents (inner out.old)) (W.contents (inner out.new)) n) }
     // Without an error it has not failed, and at any other error nothing was written.
     ensures well { OnOk result (failures out.new ≡ failures out.old) }
     ensures unwritten { IfErr result (λ e. ((n : ℕ) → e ≢ RewriteFault.Write n) → out.new ≡ out.old) }

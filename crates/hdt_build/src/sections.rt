@@ -1,31 +1,31 @@
 //! Rewriting: writing the sections of the strings that triples use, and their new IDs.
 ghost use Rattle.std.specs.Prelude.{◌≡◌, ◌≢◌, ◌<◌, ◌≤◌, ◌+◌, ◌^◌, ◌++◌, ◌∷◌, [], ℕ, length, set, slice_index, IsTrue, IsFalse, IfOk, OnOk};
 ghost use Rattle.std.specs.declared.cmp.Ordering.TheVariants.{Less};
-ghost use Rattle.hdt_front.specs.InWork.{last_string};
-ghost use Rattle.hdt_front.specs.Searching.{agreed};
+ghost use Rattle.hdt_front.specs.WriterState.{last_string};
+ghost use Rattle.hdt_front.specs.Searching.{lcp_len};
 ghost use Rattle.hdt_front.specs.Order.{string_cmp};
 ghost use Rattle.hdt_file.specs.Denoted.{string_of};
-ghost use Rattle.hdt_file.specs.Views.{graph_seen};
+ghost use Rattle.hdt_file.specs.GraphView.{graph_view};
 ghost use Rattle.hdt_wire.specs.declared.role.Role.TheVariants as roles;
-ghost use Rattle.hdt_build.specs.Inside.Kept.{role_of, end_of, IsRunOfStrings, IsRunFrom, Agrees, Tell, IsPut, AreRewritten, AreBlocks, sections_in_work};
-ghost use Rattle.hdt_dict.specs.Dictionary.{strings_in};
+ghost use Rattle.hdt_build.specs.Inside.Rewriting.{section_role, second_run_end, IsValidRun, IsRunFrom, HasPrefixLength, PrefixesDecideOrder, IsRewrittenSection, AreRewrittenSections, HaveBlockSize, lists_of_sections};
+ghost use Rattle.hdt_dict.specs.Dictionary.{role_strings};
 ghost use Rattle.hdt_wire.specs.declared.role.Role.TheVariants.{Object};
 
-use crate::kept::{Part, ends_of};
-use crate::renumbering::{Numbering, numbering_of};
-use crate::run::Run;
+use crate::retained::{SectionId, run_ends};
+use crate::id_map::{IdMap, id_map_of};
+use crate::section_run::SectionRun;
 use hdt_dict::Role;
 use hdt_file::Graph;
-use hdt_front::{SectionWriter, compared_from};
+use hdt_front::{SectionWriter, cmp_from};
 use std::alloc::{AllocError, Global};
 use std::cmp::Ordering;
 
 /// Compares the current strings of two runs; also returns the length of their longest common prefix. The one with the
 /// longer common prefix with the string written last is less. If both are equally long, the bytes after it decide.
-fn compared(one: &Run<'_>, two: &Run<'_>) -> (Ordering, usize)
-    requires { Tell one.now two.now }
+fn compared(one: &SectionRun<'_>, two: &SectionRun<'_>) -> (Ordering, usize)
+    requires { PrefixesDecideOrder one.now two.now }
     ensures order { result.0 ≡ string_cmp one.now.strings.last two.now.strings.last }
-    ensures same { result.1 ≡ agreed one.now.strings.last two.now.strings.last }
+    ensures same { result.1 ≡ lcp_len one.now.strings.last two.now.strings.last }
 {
     if one.same > two.same {
         return (Ordering::Less, two.same);
@@ -33,46 +33,46 @@ fn compared(one: &Run<'_>, two: &Run<'_>) -> (Ordering, usize)
     if one.same < two.same {
         return (Ordering::Greater, one.same);
     }
-    compared_from(one.string(), two.string(), one.same)
+    cmp_from(one.string(), two.string(), one.same)
 }
 
 /// Whether the next string is that of the first run; and if both runs have one, the length of their longest common
 /// prefix.
-fn comes_first(one: &Run<'_>, two: &Run<'_>) -> (bool, usize)
-    requires { one.now.at < one.now.end → two.now.at < two.now.end → Tell one.now two.now }
+fn comes_first(one: &SectionRun<'_>, two: &SectionRun<'_>) -> (bool, usize)
+    requires { one.now.at < one.now.end → two.now.at < two.now.end → PrefixesDecideOrder one.now two.now }
     ensures first { IsTrue result.0 → (one.now.at < one.now.end) × (two.now.at < two.now.end → string_cmp one.now.strings.last two.now.strings.last ≡ Less) }
     ensures second { IsFalse result.0 → one.now.at < one.now.end → (two.now.at < two.now.end) × (string_cmp one.now.strings.last two.now.strings.last ≢ Less) }
-    ensures same { one.now.at < one.now.end → two.now.at < two.now.end → result.1 ≡ agreed one.now.strings.last two.now.strings.last }
+    ensures same { one.now.at < one.now.end → two.now.at < two.now.end → result.1 ≡ lcp_len one.now.strings.last two.now.strings.last }
 {
-    if !one.is_there() || !two.is_there() {
-        return (one.is_there(), 0);
+    if !one.has_current() || !two.has_current() {
+        return (one.has_current(), 0);
     }
     let (order, same) = compared(one, two);
     (order.is_lt(), same)
 }
 
 /// Writes the current string of a run, stores its new ID at its old index, and advances. New IDs start at `count + 1`.
-fn take(
+fn write_current(
     graph: &Graph<'_>,
-    part: Part,
-    run: &mut Run<'_>,
+    part: SectionId,
+    run: &mut SectionRun<'_>,
     count: u64,
     out: &mut SectionWriter,
     numbers: &mut Vec<u64>,
 ) -> Result<(), AllocError>
-    requires run { IsRunOfStrings (graph_seen graph.now) part run.old }
+    requires run { IsValidRun (graph_view graph.now) part run.old }
     requires there { run.old.at < run.old.end }
     requires noted { run.old.at < length numbers.old.items }
     requires few { count + length out.old.strings + 1 < 2 ^ 64 }
-    requires same { Agrees (last_string out.old) run.old }
-    ensures run { OnOk result (IsRunFrom (graph_seen graph.now) part (run.old.at + 1) run.new) }
+    requires same { HasPrefixLength (last_string out.old) run.old }
+    ensures run { OnOk result (IsRunFrom (graph_view graph.now) part (run.old.at + 1) run.new) }
     ensures end { OnOk result (run.new.end ≡ run.old.end) }
-    ensures string { OnOk result (out.new ≡ record out.old { strings = out.old.strings ++ string_of (graph_seen graph.now) (role_of part) (run.old.at + 1) ∷ [] }) }
-    ensures same { OnOk result (Agrees (last_string out.new) run.new) }
+    ensures string { OnOk result (out.new ≡ record out.old { strings = out.old.strings ++ string_of (graph_view graph.now) (section_role part) (run.old.at + 1) ∷ [] }) }
+    ensures same { OnOk result (HasPrefixLength (last_string out.new) run.new) }
     ensures number { OnOk result (numbers.new.items ≡ set numbers.old.items run.old.at (count + (length out.old.strings + 1))) }
 {
     graph.is_graph();
-    out.push_agreeing(run.string(), run.same)?;
+    out.push_with_lcp(run.string(), run.same)?;
     numbers[run.at as usize] = count + out.len();
     run.step(graph, part, out)
 }
@@ -80,34 +80,34 @@ fn take(
 /// Writes a new section by merging two runs, and stores the new ID of each string at its old index. New IDs start at
 /// `count + 1`. Linear time in the front-coded bytes that are read and written: each decoded byte is compared at most
 /// twice, because a run records the common prefix of its current string and the string written last.
-fn put(
+fn rewrite_section(
     alloc: Global,
     graph: &Graph<'_>,
-    part: Part,
+    part: SectionId,
     block_size: u32,
     count: u64,
     numbers: &mut Vec<u64>,
 ) -> Result<SectionWriter, AllocError>
-    requires long { length numbers.old.items ≡ length (strings_in (graph_seen graph.now).dictionary (role_of part)) }
+    requires long { length numbers.old.items ≡ length (role_strings (graph_view graph.now).dictionary (section_role part)) }
     requires few { count ≤ length numbers.old.items }
     requires block { 1 ≤ block_size }
-    ensures put { IfOk result (λ made. IsPut (graph_seen graph.now) part count made.strings numbers.old.items numbers.new.items) }
-    ensures long { IfOk result (λ made. length numbers.new.items ≡ length (strings_in (graph_seen graph.now).dictionary (role_of part))) }
+    ensures rewrite_section { IfOk result (λ made. IsRewrittenSection (graph_view graph.now) part count made.strings numbers.old.items numbers.new.items) }
+    ensures long { IfOk result (λ made. length numbers.new.items ≡ length (role_strings (graph_view graph.now).dictionary (section_role part))) }
     ensures block { IfOk result (λ made. made.block_size ≡ block_size) }
-    ensures few { IfOk result (λ made. length made.strings ≤ end_of (graph_seen graph.now) part) }
+    ensures few { IfOk result (λ made. length made.strings ≤ second_run_end (graph_view graph.now) part) }
 {
     graph.is_graph();
-    let (cut, end) = ends_of(graph, part);
-    let mut one = Run::new(alloc, graph, part, 0, cut)?;
-    let mut two = Run::new(alloc, graph, part, cut, end)?;
+    let (cut, end) = run_ends(graph, part);
+    let mut one = SectionRun::new(alloc, graph, part, 0, cut)?;
+    let mut two = SectionRun::new(alloc, graph, part, cut, end)?;
     let mut out = SectionWriter::new(alloc, block_size);
-    'strings: while one.is_there() || two.is_there() {
+    'strings: while one.has_current() || two.has_current() {
         let (first, same) = comes_first(&one, &two);
         if first {
-            take(graph, part, &mut one, count, &mut out, numbers)?;
+            write_current(graph, part, &mut one, count, &mut out, numbers)?;
             two.same = same;
         } else {
-            take(graph, part, &mut two, count, &mut out, numbers)?;
+            write_current(graph, part, &mut two, count, &mut out, numbers)?;
             one.same = same;
         }
     }
@@ -116,17 +116,17 @@ fn put(
 
 /// The writers of the four sections.
 #[derive(Drop)]
-pub struct Sections {
-    pub shared: SectionWriter,
-    pub subjects: SectionWriter,
-    pub predicates: SectionWriter,
-    pub objects: SectionWriter,
+pub(crate) struct SectionWriters {
+    pub(crate) shared: SectionWriter,
+    pub(crate) subjects: SectionWriter,
+    pub(crate) predicates: SectionWriter,
+    pub(crate) objects: SectionWriter,
 }
 
-impl Sections {
+impl SectionWriters {
     /// Returns the number of strings of each section: shared, subjects, predicates, objects.
-    pub fn lens(&self) -> [u64; 4]
-        ensures { result ≡ length (sections_in_work self.now).shared ∷ length (sections_in_work self.now).subjects ∷ length (sections_in_work self.now).predicates ∷ length (sections_in_work self.now).objects ∷ [] }
+    pub(crate) fn lens(&self) -> [u64; 4]
+        ensures { result ≡ length (lists_of_sections self.now).shared ∷ length (lists_of_sections self.now).subjects ∷ length (lists_of_sections self.now).predicates ∷ length (lists_of_sections self.now).objects ∷ [] }
     {
         [
             self.shared.len(),
@@ -139,21 +139,21 @@ impl Sections {
 
 /// The new IDs of the three roles.
 #[derive(Drop)]
-pub struct Numbers {
-    pub subjects: Numbering,
-    pub predicates: Numbering,
-    pub objects: Numbering,
+pub(crate) struct NewIds {
+    pub(crate) subjects: IdMap,
+    pub(crate) predicates: IdMap,
+    pub(crate) objects: IdMap,
 }
 
 /// The new IDs of objects, by old index: those of shared strings are the same as for subjects, all others are 0 so far.
-fn object_numbers(
+fn object_ids(
     alloc: Global,
     graph: &Graph<'_>,
     subjects: &[u64],
 ) -> Result<Vec<u64>, AllocError>
-    requires { length (graph_seen graph.now).dictionary.shared ≤ length subjects.now }
-    ensures long { IfOk result (λ made. length made.items ≡ length (strings_in (graph_seen graph.now).dictionary roles.Object)) }
-    ensures shared { IfOk result (λ made. (k : ℕ) → k < length (graph_seen graph.now).dictionary.shared → slice_index made.items k ≡ slice_index subjects.now k) }
+    requires { length (graph_view graph.now).dictionary.shared ≤ length subjects.now }
+    ensures long { IfOk result (λ made. length made.items ≡ length (role_strings (graph_view graph.now).dictionary roles.Object)) }
+    ensures shared { IfOk result (λ made. (k : ℕ) → k < length (graph_view graph.now).dictionary.shared → slice_index made.items k ≡ slice_index subjects.now k) }
 {
     let [shared, _, _, _] = graph.section_lens();
     let mut made = Vec::from_elem(alloc, 0, graph.count(Role::Object) as usize)?;
@@ -165,34 +165,34 @@ fn object_numbers(
 
 /// Rewrites the four sections with the strings that triples use, and returns them with the new IDs. Each string is
 /// decoded once; shared strings up to five times.
-pub fn new_sections(
+pub(crate) fn rewrite_sections(
     alloc: Global,
     graph: &Graph<'_>,
     block_size: u32,
-) -> Result<(Sections, Numbers), AllocError>
+) -> Result<(SectionWriters, NewIds), AllocError>
     requires { 1 ≤ block_size }
-    ensures rewritten { IfOk result (λ made. AreRewritten (graph_seen graph.now) (sections_in_work made.0) made.1) }
-    ensures blocks { IfOk result (λ made. AreBlocks block_size made.0) }
+    ensures rewritten { IfOk result (λ made. AreRewrittenSections (graph_view graph.now) (lists_of_sections made.0) made.1) }
+    ensures blocks { IfOk result (λ made. HaveBlockSize block_size made.0) }
 {
     graph.is_graph();
     let mut s = Vec::from_elem(alloc, 0, graph.count(Role::Subject) as usize)?;
-    let shared = put(alloc, graph, Part::Shared, block_size, 0, &mut s)?;
+    let shared = rewrite_section(alloc, graph, SectionId::Shared, block_size, 0, &mut s)?;
     let count = shared.len();
     let mut p = Vec::from_elem(alloc, 0, graph.count(Role::Predicate) as usize)?;
-    let mut o = object_numbers(alloc, graph, s.as_slice())?;
-    let subjects = put(alloc, graph, Part::Subjects, block_size, count, &mut s)?;
-    let predicates = put(alloc, graph, Part::Predicates, block_size, 0, &mut p)?;
-    let objects = put(alloc, graph, Part::Objects, block_size, count, &mut o)?;
-    let sections = Sections {
+    let mut o = object_ids(alloc, graph, s.as_slice())?;
+    let subjects = rewrite_section(alloc, graph, SectionId::Subjects, block_size, count, &mut s)?;
+    let predicates = rewrite_section(alloc, graph, SectionId::Predicates, block_size, 0, &mut p)?;
+    let objects = rewrite_section(alloc, graph, SectionId::Objects, block_size, count, &mut o)?;
+    let sections = SectionWriters {
         shared,
         subjects,
         predicates,
         objects,
     };
-    let numbers = Numbers {
-        subjects: numbering_of(s),
-        predicates: numbering_of(p),
-        objects: numbering_of(o),
+    let numbers = NewIds {
+        subjects: id_map_of(s),
+        predicates: id_map_of(p),
+        objects: id_map_of(o),
     };
     Ok((sections, numbers))
 }

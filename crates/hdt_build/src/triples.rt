@@ -2,12 +2,12 @@
 ghost use Rattle.std.specs.Prelude.{◌≡◌, ◌<◌, map, length, IsTrue, IfOk};
 ghost use Rattle.std.specs.List.{All};
 ghost use Rattle.hdt_dict.specs.Strings.{SameMembers};
-ghost use Rattle.hdt_file.specs.Views.{graph_seen};
+ghost use Rattle.hdt_file.specs.GraphView.{graph_view};
 ghost use Rattle.hdt_triples.specs.Order.{AreAscending};
-ghost use Rattle.hdt_build.specs.Graph.{renumbered_triple};
-ghost use Rattle.hdt_build.specs.Inside.Kept.{renumbered};
+ghost use Rattle.hdt_build.specs.Graph.{mapped_triple};
+ghost use Rattle.hdt_build.specs.Inside.Rewriting.{with_new_ids};
 
-use crate::sections::Numbers;
+use crate::sections::NewIds;
 use hdt_file::Graph;
 use hdt_triples::Pattern;
 use std::alloc::{AllocError, Global};
@@ -20,7 +20,7 @@ const ANY: Pattern = Pattern {
 };
 
 /// Maps each index of triples through the list of its role, in place.
-pub fn replace(
+pub(crate) fn map_ids(
     triples: &mut Vec<(u64, u64, u64)>,
     subjects: &[u64],
     predicates: &[u64],
@@ -29,7 +29,7 @@ pub fn replace(
     requires subjects_within { All (λ t. t.0 < length subjects.now) triples.old.items }
     requires predicates_within { All (λ t. t.1 < length predicates.now) triples.old.items }
     requires objects_within { All (λ t. t.2 < length objects.now) triples.old.items }
-    ensures { triples.new.items ≡ map (renumbered_triple subjects.now predicates.now objects.now) triples.old.items }
+    ensures { triples.new.items ≡ map (mapped_triple subjects.now predicates.now objects.now) triples.old.items }
 {
     for triple in triples.iter_mut() {
         let (s, p, o) = *triple;
@@ -54,7 +54,7 @@ fn are_ascending(triples: &[(u64, u64, u64)]) -> bool
 }
 
 /// Sorts triples and drops duplicates. If they ascend already, this takes one pass.
-pub fn order(triples: &mut Vec<(u64, u64, u64)>)
+pub(crate) fn sort_dedup_triples(triples: &mut Vec<(u64, u64, u64)>)
     ensures ascending { AreAscending triples.new.items }
     ensures same { SameMembers triples.new.items triples.old.items }
 {
@@ -66,35 +66,35 @@ pub fn order(triples: &mut Vec<(u64, u64, u64)>)
 }
 
 /// The triples of a graph with new IDs, not sorted again.
-fn renumbered(
+fn with_new_ids(
     alloc: Global,
     graph: &Graph<'_>,
-    numbers: &Numbers,
+    numbers: &NewIds,
 ) -> Result<Vec<(u64, u64, u64)>, AllocError>
-    ensures { IfOk result (λ made. made.items ≡ map (renumbered numbers.now) (graph_seen graph.now).triples) }
+    ensures { IfOk result (λ made. made.items ≡ map (with_new_ids numbers.now) (graph_view graph.now).triples) }
 {
     let mut made = Vec::with_capacity(alloc, graph.len() as usize)?;
     let mut triples = graph.search(ANY);
     'triples: while let Some((s, p, o)) = triples.next() {
         made.push((
-            numbers.subjects.new_number(s),
-            numbers.predicates.new_number(p),
-            numbers.objects.new_number(o),
+            numbers.subjects.new_id(s),
+            numbers.predicates.new_id(p),
+            numbers.objects.new_id(o),
         ))?;
     }
     Ok(made)
 }
 
 /// The triples of a graph with new IDs, ascending.
-pub fn new_triples(
+pub(crate) fn renumber_triples(
     alloc: Global,
     graph: &Graph<'_>,
-    numbers: &Numbers,
+    numbers: &NewIds,
 ) -> Result<Vec<(u64, u64, u64)>, AllocError>
     ensures ascending { IfOk result (λ made. AreAscending made.items) }
-    ensures same { IfOk result (λ made. SameMembers made.items (map (renumbered numbers.now) (graph_seen graph.now).triples)) }
+    ensures same { IfOk result (λ made. SameMembers made.items (map (with_new_ids numbers.now) (graph_view graph.now).triples)) }
 {
-    let mut triples = renumbered(alloc, graph, numbers)?;
-    order(&mut triples);
+    let mut triples = with_new_ids(alloc, graph, numbers)?;
+    sort_dedup_triples(&mut triples);
     Ok(triples)
 }

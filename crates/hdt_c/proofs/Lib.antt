@@ -1,3 +1,3 @@
 mod AsBox
 mod Dropping
-pub mod Answering
+pub mod HandleLaws

@@ -2,14 +2,14 @@
 use Rattle.std.specs.Prelude.{◌≡◌, ◌⊎◌, ⊤, ℕ, List, [], ◌∷◌, Option, Some}
 use Rattle.hdt_terms.specs.Reasons.{line_reason_number}
 use Rattle.hdt_build.specs.Built.{Builds}
-use Rattle.hdt_build.specs.Options.{AreRight}
-use Rattle.hdt_build.specs.Reading.{TellsBuildFault}
+use Rattle.hdt_build.specs.Options.{AreValidOptions}
+use Rattle.hdt_build.specs.Reading.{IsBuildFaultOf}
 use Rattle.hdt_build.specs.declared.fault.BuildFault.{BuildFault}
 use Rattle.hdt_build.specs.declared.fault.BuildFault.TheVariants as faults
 use Rattle.hdt_build.specs.declared.options.Options.{Options}
-use Rattle.hdt_build.specs.declared.report.Report.{Report}
-use Rattle.hdt_c.specs.Bytes.{Are, AreNone}
-use Rattle.hdt_c.specs.Told.{no_counts}
+use Rattle.hdt_build.specs.declared.options.Report.{Report}
+use Rattle.hdt_c.specs.Bytes.{HoldsBytes, HoldsNoBytes}
+use Rattle.hdt_c.specs.Verdicts.{no_counts}
 use Rattle.hdt_c.specs.declared.bytes.HdtBytes.{HdtBytes}
 use Rattle.hdt_c.specs.declared.report.HdtReport.{HdtReport}
 
@@ -45,37 +45,37 @@ pub record BuildsText (text base : List ℕ) (b : ℕ) (bytes : List ℕ) (repor
   pub builds : Builds options (Some text) bytes report
 
 -- the options are not valid
-pub record AreBad (base : List ℕ) (b : ℕ) : Type 0 where
+pub record AreInvalidOptions (base : List ℕ) (b : ℕ) : Type 0 where
   pub options : Options
   pub given : AreGivenOptions base b options
-  pub bad : AreRight options → ⊥
+  pub bad : AreValidOptions options → ⊥
 
 -- the text has the error
-pub record InText (text : List ℕ) (fault : BuildFault) : Type 0 where
+pub record HasDocumentFault (text : List ℕ) (fault : BuildFault) : Type 0 where
   pub after : Option (List ℕ)
-  pub told : TellsBuildFault (Some text) after fault
+  pub told : IsBuildFaultOf (Some text) after fault
 
 -- the text or the options have the error; running out of memory says nothing of them
 abbrev pub HasBuildFault : List ℕ → List ℕ → ℕ → BuildFault → Type 0
-HasBuildFault text base b faults.BadOptions = AreBad base b
+HasBuildFault text base b faults.BadOptions = AreInvalidOptions base b
 HasBuildFault text base b faults.OutOfMemory = ⊤
-HasBuildFault text base b fault = InText text fault
+HasBuildFault text base b fault = HasDocumentFault text fault
 
 -- the bytes are the file, and the report says so
 pub record BuildsBytes (text base : List ℕ) (b : ℕ) (out : HdtBytes) (told_is : HdtReport) : Type 0 where
   pub bytes : List ℕ
   pub report : Report
   pub is : BuildsText text base b bytes report
-  pub made : Are out bytes
+  pub made : HoldsBytes out bytes
   pub told : told_is ≡ built report
 
 -- there are no bytes, and the report is that of the error
 pub record FailsToBuild (text base : List ℕ) (b : ℕ) (out : HdtBytes) (told_is : HdtReport) : Type 0 where
   pub fault : BuildFault
   pub stands : HasBuildFault text base b fault
-  pub made : AreNone out
+  pub made : HoldsNoBytes out
   pub told : told_is ≡ report_of_fault fault
 
 -- the result of `hdt_build`
-abbrev pub TellsBuilt : List ℕ → List ℕ → ℕ → HdtBytes → HdtReport → Type 0
-TellsBuilt text base b out report = BuildsBytes text base b out report ⊎ FailsToBuild text base b out report
+abbrev pub ReportsBuild : List ℕ → List ℕ → ℕ → HdtBytes → HdtReport → Type 0
+ReportsBuild text base b out report = BuildsBytes text base b out report ⊎ FailsToBuild text base b out report

@@ -5,20 +5,20 @@ use Rattle.std.specs.Vec.{vec_ptr}
 use Rattle.std.specs.declared.vec.Vec.{Vec}
 use Rattle.std.specs.declared.alloc.Global.{Global}
 use Rattle.hdt_c.specs.declared.bytes.HdtBytes.{HdtBytes}
-use Rattle.hdt_c.specs.declared.kept.Kept.TheVariants as kept
+use Rattle.hdt_c.specs.declared.handle.Resource.TheVariants as resources
 
 -- there are no bytes: all fields are zero
-pub record AreNone (h : HdtBytes) : Type 0 where
+pub record HoldsNoBytes (h : HdtBytes) : Type 0 where
   pub at : h.at.at ≡ null_ptr
   pub len : h.len ≡ 0
   pub state : h.state ≡ 0
-  pub held : h.held.value ≡ None
+  pub resource : h.resource.value ≡ None
 
 -- the bytes are those of a vector that the handle owns; `at` and `len` are its address and length
-pub record Are (h : HdtBytes) (bytes : List ℕ) : Type 0 where
+pub record HoldsBytes (h : HdtBytes) (bytes : List ℕ) : Type 0 where
   pub vector : Vec ℕ Global
   pub items : vector.items ≡ bytes
   pub at : h.at.at ≡ vec_ptr vector
   pub len : h.len ≡ length bytes
   pub state : h.state ≡ 1
-  pub held : h.held.value ≡ Some (kept.Bytes vector)
+  pub resource : h.resource.value ≡ Some (resources.Bytes vector)

@@ -2,9 +2,9 @@
 use Rattle.std.specs.Prelude.{◌≡◌, ◌≢◌, ℕ, List, Some}
 use Rattle.hdt_file.specs.declared.graph.Graph.{Graph}
 use Rattle.hdt_file.specs.File.{GraphParts, IsLayout}
-use Rattle.hdt_file.specs.Views.{graph_seen}
+use Rattle.hdt_file.specs.GraphView.{graph_view}
 use Rattle.hdt_c.specs.declared.handle.HdtGraph.{HdtGraph}
-use Rattle.hdt_c.specs.declared.kept.Kept.TheVariants as kept
+use Rattle.hdt_c.specs.declared.handle.Resource.TheVariants as resources
 
 -- the graph is open
 abbrev pub IsOpen : HdtGraph → Type 0
@@ -16,18 +16,18 @@ IsClosed h = h.state ≢ 1
 
 -- the handle is open, and has this graph
 abbrev pub HoldsGraph : HdtGraph → Graph → Type 0
-HoldsGraph h g = IsOpen h × (h.held.value ≡ Some (kept.Graph g))
+HoldsGraph h g = IsOpen h × (h.resource.value ≡ Some (resources.Graph g))
 
 -- if the handle is open, P is true of its graph
 abbrev pub OfGraph : HdtGraph → (GraphParts → Type 0) → Type 0
-OfGraph h P = (g : Graph) → HoldsGraph h g → P (graph_seen g)
+OfGraph h P = (g : Graph) → HoldsGraph h g → P (graph_view g)
 
 -- the handle is open or closed as before, and has the same graph
 abbrev pub SameGraph : HdtGraph → HdtGraph → Type 0
-SameGraph old new = (new.state ≡ old.state) × (new.held.value ≡ old.held.value)
+SameGraph old new = (new.state ≡ old.state) × (new.resource.value ≡ old.resource.value)
 
 -- the handle is open, and has the graph that the bytes encode
 pub record IsOpened (bytes : List ℕ) (h : HdtGraph) : Type 0 where
   pub graph : Graph
-  pub held : HoldsGraph h graph
-  pub is : IsLayout bytes (graph_seen graph)
+  pub resource : HoldsGraph h graph
+  pub is : IsLayout bytes (graph_view graph)

@@ -1,11 +1,11 @@
-pub mod Answers
+pub mod LookUps
 pub mod Building
 pub mod Bytes
 pub mod Handle
-pub mod Held
-pub mod Many
+pub mod ResourceOwnership
+pub mod StringLists
 pub mod Rewriting
-pub mod Room
+pub mod CallerBuffer
 pub mod Texts
-pub mod Told
+pub mod Verdicts
 pub mod Inside

@@ -1,13 +1,13 @@
 -- The verdict of rewriting a file.
 use Rattle.std.specs.Prelude.{◌≡◌, ◌⊎◌, ℕ, List, Err}
 use Rattle.hdt_wire.specs.declared.fault.Fault.{Fault}
-use Rattle.hdt_file.specs.File.{GraphParts, IsLayout, graph_in}
+use Rattle.hdt_file.specs.File.{GraphParts, IsLayout, decode_graph}
 use Rattle.hdt_build.specs.Options.{IsBlockSize}
 use Rattle.hdt_build.specs.Rewritten.{IsRewritten}
-use Rattle.hdt_build.specs.declared.report.Report.{Report}
+use Rattle.hdt_build.specs.declared.options.Report.{Report}
 use Rattle.hdt_c.specs.Building.{report_counts}
-use Rattle.hdt_c.specs.Bytes.{Are, AreNone}
-use Rattle.hdt_c.specs.Told.{verdict_for, verdict_on}
+use Rattle.hdt_c.specs.Bytes.{HoldsBytes, HoldsNoBytes}
+use Rattle.hdt_c.specs.Verdicts.{verdict_for, verdict_on}
 use Rattle.hdt_c.specs.declared.bytes.HdtBytes.{HdtBytes}
 use Rattle.hdt_c.specs.declared.verdict.HdtVerdict.{HdtVerdict}
 
@@ -16,23 +16,23 @@ abbrev pub rewritten : Report → HdtVerdict
 rewritten r = record { reason = 0; place = 0; counts = report_counts r }
 
 -- the new bytes are the canonical file of the graph that the bytes encode
-pub record IsAgain (bytes : List ℕ) (b : ℕ) (new : List ℕ) (report : Report) : Type 0 where
+pub record IsRewriteOf (bytes : List ℕ) (b : ℕ) (new : List ℕ) (report : Report) : Type 0 where
   pub graph : GraphParts
   pub layout : IsLayout bytes graph
   pub is : IsRewritten b graph new report
 
 -- the verdict if the bytes are not rewritten: their first error, or that the block size is not valid or memory ran out
 abbrev pub RefusesRewriting : List ℕ → ℕ → HdtVerdict → Type 0
-RefusesRewriting bytes b v = ((fault : Fault) × (graph_in bytes ≡ Err fault) × (v ≡ verdict_on (Err fault))) ⊎ (((IsBlockSize b → ⊥) × (v ≡ verdict_for 252)) ⊎ (v ≡ verdict_for 255))
+RefusesRewriting bytes b v = ((fault : Fault) × (decode_graph bytes ≡ Err fault) × (v ≡ verdict_on (Err fault))) ⊎ (((IsBlockSize b → ⊥) × (v ≡ verdict_for 252)) ⊎ (v ≡ verdict_for 255))
 
 -- the bytes are the new file, and the verdict says so
 pub record RewritesBytes (bytes : List ℕ) (b : ℕ) (out : HdtBytes) (v : HdtVerdict) : Type 0 where
   pub new : List ℕ
   pub report : Report
-  pub is : IsAgain bytes b new report
-  pub made : Are out new
+  pub is : IsRewriteOf bytes b new report
+  pub made : HoldsBytes out new
   pub told : v ≡ rewritten report
 
 -- the result of `hdt_rewrite`
-abbrev pub TellsRewritten : List ℕ → ℕ → HdtBytes → HdtVerdict → Type 0
-TellsRewritten bytes b out v = RewritesBytes bytes b out v ⊎ (AreNone out × RefusesRewriting bytes b v)
+abbrev pub ReportsRewrite : List ℕ → ℕ → HdtBytes → HdtVerdict → Type 0
+ReportsRewrite bytes b out v = RewritesBytes bytes b out v ⊎ (HoldsNoBytes out × RefusesRewriting bytes b v)

@@ -1,6 +1,6 @@
 //! Building a file from N-Triples.
 ghost use Rattle.std.specs.Prelude.{◌≡◌, IfOk, IfErr};
-ghost use Rattle.hdt_c.specs.Building.{BuildsText, HasBuildFault, TellsBuilt, built, report_for, report_of_fault};
+ghost use Rattle.hdt_c.specs.Building.{BuildsText, HasBuildFault, ReportsBuild, built, report_for, report_of_fault};
 
 use crate::bytes::HdtBytes;
 use crate::report::HdtReport;
@@ -43,7 +43,7 @@ fn built(report: Report) -> HdtReport
 }
 
 /// The report of an error.
-fn told(fault: BuildFault) -> HdtReport
+fn report_of_fault(fault: BuildFault) -> HdtReport
     ensures { result ≡ report_of_fault fault }
 {
     match fault {
@@ -89,16 +89,16 @@ pub extern "C" fn hdt_build(
     out: &mut HdtBytes,
     report: &mut HdtReport,
 )
-    ensures { TellsBuilt text.now base.now block_size out.new report.new }
+    ensures { ReportsBuild text.now base.now block_size out.new report.new }
 {
     *report = match file_of(alloc, text, base, block_size) {
         Ok((bytes, numbers)) => match out.put(alloc, bytes) {
             Ok(()) => built(numbers),
-            Err(_) => told(BuildFault::OutOfMemory),
+            Err(_) => report_of_fault(BuildFault::OutOfMemory),
         },
         Err(fault) => {
             out.free(alloc);
-            told(fault)
+            report_of_fault(fault)
         }
     };
 }

@@ -1,8 +1,15 @@
 //! Handles of graphs.
-ghost use Rattle.std.specs.Prelude.{◌≡◌, true};
-ghost use Rattle.hdt_c.specs.Inside.Kept.{is_graph};
+ghost use Rattle.std.specs.Prelude.{◌≡◌, true, Option, Some, None, IsSome, ◌≢◌, IfSome};
+ghost use Rattle.hdt_c.specs.Inside.ResourceKind.{is_graph};
+ghost use Rattle.hdt_c.specs.declared.handle.Resource.{Resource};
+ghost use Rattle.hdt_c.specs.ResourceOwnership.{coded_resource, resource_ptr_owns};
+ghost use Rattle.hdt_c.specs.declared.handle.Resource.TheVariants as resources;
 
-use crate::held::Held;
+use crate::raw_box::RawBox;
+use std::alloc::Global;
+use std::marker::Model;
+use std::mem::replace;
+use std::ptr::null_mut;
 
 /// `hdt_graph`: an open graph; or zeros, before it is opened and after it is closed.
 #[repr(C)]
@@ -11,6 +18,111 @@ pub struct HdtGraph {
     /// 1 if the graph is open, else 0.
     pub(crate) state: u64,
     /// What owns the graph.
-    pub(crate) held: Held,
-    ghost is_open: { state ≡ 1 → is_graph held.value ≡ true },
+    pub(crate) resource: ResourcePtr,
+    ghost is_open: { state ≡ 1 → is_graph resource.value ≡ true },
+}
+
+/// The value that a handle owns.
+#[derive(Drop)]
+pub(crate) enum Resource {
+    /// An open graph.
+    Graph(hdt_file::Graph<'static>),
+    /// Bytes that the library made.
+    Bytes(Vec<u8>),
+}
+
+/// A pointer to a value that the library owns, or null.
+#[repr(C)]
+#[derive(Drop)]
+pub struct ResourcePtr {
+    at: *mut u8,
+    alloc: Global,
+    pub(crate) ghost value: { Option Resource } by { coded_resource },
+}
+
+impl Model for ResourcePtr {
+    ghost also_owns = { λ h. resource_ptr_owns h.alloc h.at h.value };
+}
+
+impl ResourcePtr {
+    /// The null pointer.
+    pub(crate) fn none(alloc: Global) -> ResourcePtr
+        ensures { result.value ≡ None }
+    {
+        ResourcePtr {
+            at: null_mut(),
+            alloc,
+        }
+    }
+
+    /// The pointer of a box.
+    pub(crate) fn from_raw_box(parts: RawBox<Resource, Global>) -> ResourcePtr
+        ensures { result.value ≡ Some parts.value }
+    {
+        let RawBox { ptr, alloc } = parts;
+        ResourcePtr {
+            at: ptr as *mut u8,
+            alloc,
+        }
+    }
+
+    /// The box of a pointer that is not null.
+    pub(crate) fn into_raw_box(self) -> RawBox<Resource, Global>
+        requires { IsSome self.value }
+        ensures { Some result.value ≡ self.value }
+    {
+        let ResourcePtr { at, alloc } = self;
+        RawBox {
+            ptr: at as *mut Resource,
+            alloc,
+        }
+    }
+}
+
+impl HdtGraph {
+    /// A closed handle.
+    fn closed(alloc: Global) -> HdtGraph
+        ensures { result.state ≡ 0 }
+    {
+        HdtGraph {
+            state: 0,
+            resource: ResourcePtr::none(alloc),
+        }
+    }
+
+    /// Takes the graph out and leaves the handle closed; returns `None` if it was closed.
+    pub(crate) fn take(&mut self, alloc: Global) -> Option<Box<Resource, Global>>
+        ensures taken { IfSome result (λ b. (self.old.state ≡ 1) × (self.old.resource.value ≡ Some b.value) × (is_graph (Some b.value) ≡ true)) }
+        ensures open { self.old.state ≡ 1 → IsSome result }
+        ensures none { result ≡ None → self.new ≡ self.old }
+        ensures closed { self.new.state ≢ 1 }
+    {
+        if self.state != 1 {
+            return None;
+        }
+        let HdtGraph { state: _, resource } = replace(self, HdtGraph::closed(alloc));
+        Some(resource.into_raw_box().into_box())
+    }
+
+    /// Puts a graph in, and so opens the handle.
+    pub(crate) fn put(&mut self, graph: Box<Resource, Global>)
+        requires { is_graph (Some graph.value) ≡ true }
+        ensures { (self.new.state ≡ 1) × (self.new.resource.value ≡ Some graph.value) }
+    {
+        *self = HdtGraph {
+            state: 1,
+            resource: ResourcePtr::from_raw_box(RawBox::of(graph)),
+        };
+    }
+}
+
+/// The graph that was taken out of a handle.
+pub(crate) fn graph_ref(taken: &Box<Resource, Global>) -> &hdt_file::Graph<'static>
+    requires { is_graph (Some taken.now.value) ≡ true }
+    ensures { taken.now.value ≡ resources.Graph result.now }
+{
+    match &**taken {
+        Resource::Graph(graph) => graph,
+        Resource::Bytes(_) => unreachable!(),
+    }
 }

@@ -8,30 +8,25 @@
 //! and puts it back.
 #![tactic(auto)]
 
-mod address;
-mod asking;
+mod look_ups;
 mod building;
 mod bytes;
 mod finding;
 mod handle;
-mod held;
-mod kept;
-mod making;
+mod bytes_access;
 mod opening;
-mod parts;
+mod raw_box;
 mod report;
 mod rewriting;
-mod room;
+mod caller_buffer;
 mod strings;
-mod taking;
-mod telling;
 mod text;
 mod verdict;
 
-pub use address::Address;
+pub use bytes::Address;
 pub use bytes::HdtBytes;
 pub use handle::HdtGraph;
-pub use held::Held;
+pub use handle::ResourcePtr;
 pub use report::HdtReport;
-pub use telling::HdtTelling;
+pub use report::HdtTelling;
 pub use verdict::HdtVerdict;

@@ -1,16 +1,15 @@
 //! Opening and closing a graph.
 ghost use Rattle.std.specs.Prelude.{◌≡◌, ◌≢◌, OnErr, OnOk};
-ghost use Rattle.hdt_wire.specs.Exact.{seen};
-ghost use Rattle.hdt_wire.specs.Rows.{Gives};
+ghost use Rattle.hdt_wire.specs.Exact.{viewed};
+ghost use Rattle.hdt_wire.specs.Checks.{ReadsUnlessOom};
 ghost use Rattle.hdt_file.specs.Faults.{open_fault_of};
-ghost use Rattle.hdt_file.specs.File.{IsLayout, graph_in};
-ghost use Rattle.hdt_file.specs.Views.{graph_seen, lens_of};
+ghost use Rattle.hdt_file.specs.File.{IsLayout, decode_graph};
+ghost use Rattle.hdt_file.specs.GraphView.{graph_view, graph_counts};
 ghost use Rattle.hdt_c.specs.Handle.{IsClosed, IsOpen, IsOpened};
-ghost use Rattle.hdt_c.specs.Told.{TellsVerdict, verdict_for};
+ghost use Rattle.hdt_c.specs.Verdicts.{IsVerdictOn, verdict_for};
 
-use crate::handle::HdtGraph;
-use crate::kept::Kept;
-use crate::verdict::{HdtVerdict, for_reason, told};
+use crate::handle::{HdtGraph, Resource};
+use crate::verdict::{HdtVerdict, for_reason, verdict_of_result};
 use hdt_file::{Graph, OpenFault, open};
 use std::alloc::Global;
 
@@ -19,7 +18,7 @@ const IS_OPEN: u32 = 254;
 
 /// The number of triples, and of strings in each section.
 fn lens(graph: &Graph<'static>) -> [u64; 5]
-    ensures { result ≡ lens_of (graph_seen graph.now) }
+    ensures { result ≡ graph_counts (graph_view graph.now) }
 {
     let [shared, subjects, predicates, objects] = graph.section_lens();
     [graph.len(), shared, subjects, predicates, objects]
@@ -31,13 +30,13 @@ fn open_into(
     bytes: &'static [u8],
     graph: &mut HdtGraph,
 ) -> Result<[u64; 5], OpenFault>
-    ensures told { Gives open_fault_of (λ lens. lens) result (seen lens_of (graph_in bytes.now)) }
+    ensures told { ReadsUnlessOom open_fault_of (λ lens. lens) result (viewed graph_counts (decode_graph bytes.now)) }
     ensures ok { OnOk result (IsOpened bytes.now graph.new) }
     ensures err { OnErr result (graph.new ≡ graph.old) }
 {
     let opened = open(alloc, bytes)?;
     let counts = lens(&opened);
-    match Box::new(alloc, Kept::Graph(opened)) {
+    match Box::new(alloc, Resource::Graph(opened)) {
         Ok(kept) => {
             graph.put(kept);
             Ok(counts)
@@ -55,7 +54,7 @@ pub extern "C" fn hdt_open(
     verdict: &mut HdtVerdict,
 )
     // The verdict is that on the bytes, or says that memory ran out.
-    ensures told { IsClosed graph.old → TellsVerdict verdict.new (graph_in bytes.now) }
+    ensures told { IsClosed graph.old → IsVerdictOn verdict.new (decode_graph bytes.now) }
     // A graph that is open already is reported, and unchanged.
     ensures refused { IsOpen graph.old → verdict.new ≡ verdict_for 254 }
     // With reason 0 the graph is open, and is that of the bytes; with any other it is unchanged.
@@ -67,8 +66,8 @@ pub extern "C" fn hdt_open(
         return;
     }
     match open_into(alloc, bytes, graph) {
-        Ok(counts) => *verdict = told(Ok(counts)),
-        Err(fault) => *verdict = told(Err(fault)),
+        Ok(counts) => *verdict = verdict_of_result(Ok(counts)),
+        Err(fault) => *verdict = verdict_of_result(Err(fault)),
     }
 }
 

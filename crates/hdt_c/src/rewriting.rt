@@ -1,9 +1,9 @@
 //! Rewriting a file.
 ghost use Rattle.std.specs.Prelude.{◌≡◌, IfOk, IfErr};
-ghost use Rattle.hdt_c.specs.Rewriting.{IsAgain, RefusesRewriting, TellsRewritten, rewritten};
+ghost use Rattle.hdt_c.specs.Rewriting.{IsRewriteOf, RefusesRewriting, ReportsRewrite, rewritten};
 
 use crate::bytes::HdtBytes;
-use crate::verdict::{BAD_OPTIONS, HdtVerdict, OUT_OF_MEMORY, for_reason, told};
+use crate::verdict::{BAD_OPTIONS, HdtVerdict, OUT_OF_MEMORY, for_reason, verdict_of_result};
 use hdt_build::{Options, Report, RewriteFault, rewrite_bytes};
 use hdt_file::open;
 use std::alloc::Global;
@@ -27,12 +27,12 @@ fn rewritten(report: Report) -> HdtVerdict
 
 /// The canonical file of the graph of a file, or the verdict if there is none.
 fn file_of(alloc: Global, bytes: &[u8], block_size: u32) -> Result<(Vec<u8>, Report), HdtVerdict>
-    ensures ok { IfOk result (λ made. IsAgain bytes.now block_size made.0.items made.1) }
+    ensures ok { IfOk result (λ made. IsRewriteOf bytes.now block_size made.0.items made.1) }
     ensures err { IfErr result (RefusesRewriting bytes.now block_size) }
 {
     let graph = match open(alloc, bytes) {
         Ok(graph) => graph,
-        Err(fault) => return Err(told(Err(fault))),
+        Err(fault) => return Err(verdict_of_result(Err(fault))),
     };
     let options = Options {
         block_size,
@@ -54,7 +54,7 @@ pub extern "C" fn hdt_rewrite(
     out: &mut HdtBytes,
     verdict: &mut HdtVerdict,
 )
-    ensures { TellsRewritten bytes.now block_size out.new verdict.new }
+    ensures { ReportsRewrite bytes.now block_size out.new verdict.new }
 {
     *verdict = match file_of(alloc, bytes, block_size) {
         Ok((new, report)) => match out.put(alloc, new) {

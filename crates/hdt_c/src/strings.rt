@@ -1,17 +1,16 @@
 //! The strings of many IDs.
 ghost use Rattle.std.specs.Prelude.{◌≡◌, IfOk, MatchOption, IsOk};
 ghost use Rattle.std.specs.List.{concat};
-ghost use Rattle.hdt_dict.specs.Many.{ends_from};
-ghost use Rattle.hdt_file.specs.Views.{graph_seen};
-ghost use Rattle.hdt_c.specs.Answers.{closed, role_by_number};
+ghost use Rattle.hdt_dict.specs.StringBatch.{ends_from};
+ghost use Rattle.hdt_file.specs.GraphView.{graph_view};
+ghost use Rattle.hdt_c.specs.LookUps.{closed, role_by_number};
 ghost use Rattle.hdt_c.specs.Handle.{IsClosed, OfGraph, SameGraph};
-ghost use Rattle.hdt_c.specs.Many.{AreThere, PutsNone, TellsStrings, strings_numbered};
+ghost use Rattle.hdt_c.specs.StringLists.{AreIdsOfRole, WritesNothing, ReturnsStrings, strings_with_ids};
 
-use crate::asking::{ABSENT, CLOSED, NO_MEMORY, role_at};
 use crate::bytes::HdtBytes;
-use crate::handle::HdtGraph;
-use crate::room::put;
-use crate::taking::opened;
+use crate::caller_buffer::copy_into;
+use crate::handle::{HdtGraph, graph_ref};
+use crate::look_ups::{ABSENT, CLOSED, NO_MEMORY, role_by_number};
 use hdt_file::Graph;
 use hdt_seq::Steps;
 use std::alloc::{AllocError, Global};
@@ -24,13 +23,13 @@ fn strings_of(
     role: u32,
     numbers: &[u64],
 ) -> Result<Option<(Vec<u8>, Vec<u64>)>, AllocError>
-    ensures ok { IfOk result (λ made. MatchOption made (AreThere (graph_seen graph.now) (role_by_number role) numbers.now → ⊥)
-        (λ m. AreThere (graph_seen graph.now) (role_by_number role) numbers.now
-        × (m.0.items ≡ concat (strings_numbered (graph_seen graph.now) (role_by_number role) numbers.now))
-        × (m.1.items ≡ ends_from 0 (strings_numbered (graph_seen graph.now) (role_by_number role) numbers.now)))) }
-    ensures absent { (AreThere (graph_seen graph.now) (role_by_number role) numbers.now → ⊥) → IsOk result }
+    ensures ok { IfOk result (λ made. MatchOption made (AreIdsOfRole (graph_view graph.now) (role_by_number role) numbers.now → ⊥)
+        (λ m. AreIdsOfRole (graph_view graph.now) (role_by_number role) numbers.now
+        × (m.0.items ≡ concat (strings_with_ids (graph_view graph.now) (role_by_number role) numbers.now))
+        × (m.1.items ≡ ends_from 0 (strings_with_ids (graph_view graph.now) (role_by_number role) numbers.now)))) }
+    ensures absent { (AreIdsOfRole (graph_view graph.now) (role_by_number role) numbers.now → ⊥) → IsOk result }
 {
-    let Some(role) = role_at(role) else {
+    let Some(role) = role_by_number(role) else {
         return Ok(None);
     };
     let mut bytes = Vec::new(alloc);
@@ -50,16 +49,16 @@ fn put_strings(
     role: u32,
     numbers: &[u64],
     out: &mut HdtBytes,
-    room: &mut [u64],
+    buffer: &mut [u64],
 ) -> u64
-    ensures { TellsStrings (graph_seen graph.now) (role_by_number role) numbers.now result out.new room.old room.new }
+    ensures { ReturnsStrings (graph_view graph.now) (role_by_number role) numbers.now result out.new buffer.old buffer.new }
 {
     match strings_of(alloc, graph, role, numbers) {
         Ok(Some((bytes, ends))) => {
             let len = bytes.len() as u64;
             match out.put(alloc, bytes) {
                 Ok(()) => {
-                    put(&ends, room);
+                    copy_into(&ends, buffer);
                     len
                 }
                 Err(_) => NO_MEMORY,
@@ -89,8 +88,8 @@ pub extern "C" fn hdt_strings(
     out: &mut HdtBytes,
     ends: &mut [u64],
 ) -> u64
-    ensures exact { OfGraph graph.old (λ g. TellsStrings g (role_by_number role) numbers.now result out.new ends.old ends.new) }
-    ensures closed { IsClosed graph.old → (result ≡ closed) × PutsNone out.new ends.old ends.new }
+    ensures exact { OfGraph graph.old (λ g. ReturnsStrings g (role_by_number role) numbers.now result out.new ends.old ends.new) }
+    ensures closed { IsClosed graph.old → (result ≡ closed) × WritesNothing out.new ends.old ends.new }
     ensures kept { SameGraph graph.old graph.new }
 {
     match graph.take(alloc) {
@@ -99,7 +98,7 @@ pub extern "C" fn hdt_strings(
             CLOSED
         }
         Some(taken) => {
-            let answer = put_strings(alloc, opened(&taken), role, numbers, out, ends);
+            let answer = put_strings(alloc, graph_ref(&taken), role, numbers, out, ends);
             graph.put(taken);
             answer
         }

@@ -1,16 +1,15 @@
 //! The N-Triples text of a graph.
 ghost use Rattle.std.specs.Prelude.{◌≡◌, ◌∷◌, [], IfOk, IfErr};
-ghost use Rattle.hdt_file.specs.Views.{graph_seen};
-ghost use Rattle.hdt_c.specs.Answers.{part_if_given};
-ghost use Rattle.hdt_c.specs.Bytes.{AreNone};
+ghost use Rattle.hdt_file.specs.GraphView.{graph_view};
+ghost use Rattle.hdt_c.specs.LookUps.{string_if_flag};
+ghost use Rattle.hdt_c.specs.Bytes.{HoldsNoBytes};
 ghost use Rattle.hdt_c.specs.Handle.{IsClosed, OfGraph, SameGraph};
-ghost use Rattle.hdt_c.specs.Texts.{IsTextOfMatches, HasTextFault, TellsText, telling_for, role_number, telling_of_fault};
+ghost use Rattle.hdt_c.specs.Texts.{IsTextOfMatches, HasTextFault, ReportsText, telling_for, role_number, telling_of_fault};
 
 use crate::bytes::HdtBytes;
-use crate::finding::{part, pattern_of};
-use crate::handle::HdtGraph;
-use crate::taking::opened;
-use crate::telling::HdtTelling;
+use crate::finding::{pattern_of, string_if_flag};
+use crate::handle::{HdtGraph, graph_ref};
+use crate::report::HdtTelling;
 use crate::verdict::OUT_OF_MEMORY;
 use hdt_dict::Role;
 use hdt_file::{DumpFault, Graph, graph_text};
@@ -45,7 +44,7 @@ fn role_number(role: Role) -> u32
 }
 
 /// The result of an error.
-fn told(fault: DumpFault) -> HdtTelling
+fn telling_of_fault(fault: DumpFault) -> HdtTelling
     ensures { result ≡ telling_of_fault fault }
 {
     match fault {
@@ -64,8 +63,8 @@ fn text_of(
     graph: &Graph<'static>,
     given: [Option<&[u8]>; 3],
 ) -> Result<Vec<u8>, DumpFault>
-    ensures ok { IfOk result (λ text. IsTextOfMatches (graph_seen graph.now) given.entry text.items) }
-    ensures err { IfErr result (HasTextFault (graph_seen graph.now) given.entry) }
+    ensures ok { IfOk result (λ text. IsTextOfMatches (graph_view graph.now) given.entry text.items) }
+    ensures err { IfErr result (HasTextFault (graph_view graph.now) given.entry) }
 {
     graph_text(alloc, graph, pattern_of(graph, given))
 }
@@ -77,16 +76,16 @@ fn put_text(
     given: [Option<&[u8]>; 3],
     out: &mut HdtBytes,
 ) -> HdtTelling
-    ensures { TellsText (graph_seen graph.now) given.entry out.new result }
+    ensures { ReportsText (graph_view graph.now) given.entry out.new result }
 {
     match text_of(alloc, graph, given) {
         Ok(text) => match out.put(alloc, text) {
             Ok(()) => for_reason(0),
-            Err(_) => told(DumpFault::OutOfMemory),
+            Err(_) => telling_of_fault(DumpFault::OutOfMemory),
         },
         Err(fault) => {
             out.free(alloc);
-            told(fault)
+            telling_of_fault(fault)
         }
     }
 }
@@ -105,8 +104,8 @@ pub extern "C" fn hdt_text(
     out: &mut HdtBytes,
     telling: &mut HdtTelling,
 )
-    ensures exact { OfGraph graph.old (λ g. TellsText g (part_if_given has_s s.entry ∷ part_if_given has_p p.entry ∷ part_if_given has_o o.entry ∷ []) out.new telling.new) }
-    ensures closed { IsClosed graph.old → (telling.new ≡ telling_for 253) × AreNone out.new }
+    ensures exact { OfGraph graph.old (λ g. ReportsText g (string_if_flag has_s s.entry ∷ string_if_flag has_p p.entry ∷ string_if_flag has_o o.entry ∷ []) out.new telling.new) }
+    ensures closed { IsClosed graph.old → (telling.new ≡ telling_for 253) × HoldsNoBytes out.new }
     ensures kept { SameGraph graph.old graph.new }
 {
     match graph.take(alloc) {
@@ -115,8 +114,8 @@ pub extern "C" fn hdt_text(
             *telling = for_reason(IS_CLOSED);
         }
         Some(taken) => {
-            let given = [part(has_s, s), part(has_p, p), part(has_o, o)];
-            *telling = put_text(alloc, opened(&taken), given, out);
+            let given = [string_if_flag(has_s, s), string_if_flag(has_p, p), string_if_flag(has_o, o)];
+            *telling = put_text(alloc, graph_ref(&taken), given, out);
             graph.put(taken);
         }
     }

@@ -1,7 +1,7 @@
 //! Verifying a file.
 ghost use Rattle.std.specs.Prelude.{◌≡◌, IsOk};
-ghost use Rattle.hdt_file.specs.File.{graph_in};
-ghost use Rattle.hdt_c.specs.Told.{TellsVerdict, verdict_for, verdict_of_result};
+ghost use Rattle.hdt_file.specs.File.{decode_graph};
+ghost use Rattle.hdt_c.specs.Verdicts.{IsVerdictOn, verdict_for, verdict_of_result};
 
 use hdt_file::{OpenFault, verify};
 use std::alloc::Global;
@@ -25,7 +25,7 @@ pub struct HdtVerdict {
 }
 
 /// The verdict of a result.
-pub(crate) fn told(got: Result<[u64; 5], OpenFault>) -> HdtVerdict
+pub(crate) fn verdict_of_result(got: Result<[u64; 5], OpenFault>) -> HdtVerdict
     ensures exact { result ≡ verdict_of_result got }
     ensures done { result.reason ≡ 0 → IsOk got }
 {
@@ -59,7 +59,7 @@ pub(crate) fn for_reason(reason: u32) -> HdtVerdict
 #[unsafe(no_mangle)]
 pub extern "C" fn hdt_verify(alloc: Global, bytes: &[u8], verdict: &mut HdtVerdict)
     // The verdict is that on the bytes, or says that memory ran out.
-    ensures { TellsVerdict verdict.new (graph_in bytes.now) }
+    ensures { IsVerdictOn verdict.new (decode_graph bytes.now) }
 {
-    *verdict = told(verify(alloc, bytes));
+    *verdict = verdict_of_result(verify(alloc, bytes));
 }

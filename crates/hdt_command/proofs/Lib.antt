@@ -1,10 +1,10 @@
-mod Refused
-mod Outs
-mod Stated
-mod Listing
+mod Refusals
+mod OutPaths
+mod Arguments
+mod StringLines
 mod Pieces
-mod Told
-mod Making
+mod InputFaults
+mod Outputs
 mod Rewriting
 mod Triples
 pub mod Statuses

@@ -9,20 +9,20 @@ use Rattle.hdt_command.specs.declared.fault.ToolFault.TheVariants.{Write, OutOfM
 use Rattle.hdt_command.specs.declared.request.Action.TheVariants.{Strings}
 use Rattle.hdt_wire.specs.declared.role.Role.{Role}
 use Rattle.hdt_file.specs.File.{GraphParts, IsLayout}
-use Rattle.hdt_dict.specs.Dictionary.{strings_in}
-use Rattle.hdt_command.specs.Answer.{AppendsSome, Begins, Consults, FailsAfter, Halts, IsCut, IsTold, Prints, ReadsAll, ReadsWith}
+use Rattle.hdt_dict.specs.Dictionary.{role_strings}
+use Rattle.hdt_command.specs.Outcomes.{AppendsPrefix, WritesOutputPrefix, HasRoleStringsWith, FailsAfter, InterruptsStrings, IsCutShort, IsFaultOfBytes, Prints, ReadsAll, ReadsWith}
 use Rattle.hdt_command.specs.StringsText.{string_lines}
-use Rattle.hdt_command.proofs.Told.{not_write}
+use Rattle.hdt_command.proofs.InputFaults.{not_write}
 
 -- The lines of a role's strings are the output of `strings`.
 pub all_lines : (role : Role) (before after : Option (List ℕ)) (bytes seen : List ℕ) → ReadsAll before after bytes → seen ≡ bytes → (graph : GraphParts) → IsLayout seen graph
-    → ReadsWith before after (λ bytes. Prints (Strings role) bytes (string_lines 1 (strings_in graph.dictionary role)))
-all_lines role before after bytes seen read is graph stands =
-    record { bytes = bytes; read = read; holds = record { graph = graph; stands = subst (λ (b : List ℕ). IsLayout b graph) is stands; holds = refl } }
+    → ReadsWith before after (λ bytes. Prints (Strings role) bytes (string_lines 1 (role_strings graph.dictionary role)))
+all_lines role before after bytes seen read is graph encoded =
+    record { bytes = bytes; read = read; holds = record { graph = graph; encoded = subst (λ (b : List ℕ). IsLayout b graph) is encoded; holds = refl } }
 
 -- An error other than a write error.
-memory_cut : (fault : ToolFault) (text : List ℕ) (a b : Option (List ℕ)) (f g : ℕ) → IsCut fault text a b f g → ((n : ℕ) → fault ≢ Write n)
-    → (fault ≡ OutOfMemory) × (g ≡ f) × AppendsSome a b text
+memory_cut : (fault : ToolFault) (text : List ℕ) (a b : Option (List ℕ)) (f g : ℕ) → IsCutShort fault text a b f g → ((n : ℕ) → fault ≢ Write n)
+    → (fault ≡ OutOfMemory) × (g ≡ f) × AppendsPrefix a b text
 memory_cut (Write n) text a b f g h none = absurd (none n refl)
 memory_cut OutOfMemory text a b f g h none = (refl, h.0, h.1)
 memory_cut fault text a b f g h none = absurd h
@@ -56,36 +56,36 @@ fails_behind a b c all part behind n m f g h within e one same fails =
 pub cut_by : {C : Type 0} (contents : C → Option (List ℕ)) (failed : C → ℕ) (fault : ToolFault) (start out new : C) (all part behind : List ℕ) (n : ℕ) → n ≤ length all → drop n all ≡ part ++ behind
     → Appends (contents start) (contents out) (take n all) → failed out ≡ failed start
     → ((fault ≡ OutOfMemory) × (new ≡ out)) ⊎ ((m : ℕ) × (fault ≡ Write (n + m)) × FailsAfter m part (contents out) (contents new) (failed out) (failed new))
-    → IsCut fault all (contents start) (contents new) (failed start) (failed new)
+    → IsCutShort fault all (contents start) (contents new) (failed start) (failed new)
 cut_by contents failed fault start out new all part behind n within e one same (inl none) =
-    subst (λ (t : ToolFault). IsCut t all (contents start) (contents new) (failed start) (failed new)) (sym none.0) (
+    subst (λ (t : ToolFault). IsCutShort t all (contents start) (contents new) (failed start) (failed new)) (sym none.0) (
       ap failed none.1 ∙ same,
       (n, subst (λ (k : Option (List ℕ)). Appends (contents start) k (take n all)) (sym (ap contents none.1)) one),
     )
 cut_by contents failed fault start out new all part behind n within e one same (inr some) =
-    subst (λ (t : ToolFault). IsCut t all (contents start) (contents new) (failed start) (failed new)) (sym some.1)
+    subst (λ (t : ToolFault). IsCutShort t all (contents start) (contents new) (failed start) (failed new)) (sym some.1)
     (fails_behind (contents start) (contents out) (contents new) all part behind n some.0 (failed start) (failed out) (failed new) within e one same some.2)
 
 -- A run of `strings` with incomplete output.
 pub role_writes : (role : Role) (before after : Option (List ℕ)) (bytes seen : List ℕ) (a b : Option (List ℕ)) (f g : ℕ) (fault : ToolFault) (Same : Type 0) → ReadsAll before after bytes → seen ≡ bytes
-    → (IsTold (Strings role) seen fault × Same) ⊎ Consults seen role (λ strings. IsCut fault (string_lines 1 strings) a b f g)
-    → (n : ℕ) → fault ≡ Write n → (g ≡ f + 1) × Begins (Strings role) before after a b n
+    → (IsFaultOfBytes (Strings role) seen fault × Same) ⊎ HasRoleStringsWith seen role (λ strings. IsCutShort fault (string_lines 1 strings) a b f g)
+    → (n : ℕ) → fault ≡ Write n → (g ≡ f + 1) × WritesOutputPrefix (Strings role) before after a b n
 role_writes role before after bytes seen a b f g fault Same read is (inl told) n e = absurd (not_write (Strings role) seen fault n told.0 e)
 role_writes role before after bytes seen a b f g fault Same read is (inr h) n e =
-    let lines = string_lines 1 (strings_in h.graph.dictionary role) in
-    let cut : FailsAfter n lines a b f g = subst (λ (t : ToolFault). IsCut t lines a b f g) e h.holds in (
+    let lines = string_lines 1 (role_strings h.graph.dictionary role) in
+    let cut : FailsAfter n lines a b f g = subst (λ (t : ToolFault). IsCutShort t lines a b f g) e h.holds in (
       cut.failed,
-      record { text = lines; built = []; yields = (all_lines role before after bytes seen read is h.graph h.stands, refl); within = cut.within; written = cut.written },
+      record { text = lines; built = []; yields = (all_lines role before after bytes seen read is h.graph h.encoded, refl); within = cut.within; written = cut.written },
     )
 
 pub role_halts : (role : Role) (before after : Option (List ℕ)) (bytes seen : List ℕ) (a b : Option (List ℕ)) (f g : ℕ) (fault : ToolFault) (Same : Type 0) → ReadsAll before after bytes → seen ≡ bytes
-    → (IsTold (Strings role) seen fault × Same) ⊎ Consults seen role (λ strings. IsCut fault (string_lines 1 strings) a b f g)
-    → ((n : ℕ) → fault ≢ Write n) → Same ⊎ ((fault ≡ OutOfMemory) × Halts (Strings role) before after a b f g)
+    → (IsFaultOfBytes (Strings role) seen fault × Same) ⊎ HasRoleStringsWith seen role (λ strings. IsCutShort fault (string_lines 1 strings) a b f g)
+    → ((n : ℕ) → fault ≢ Write n) → Same ⊎ ((fault ≡ OutOfMemory) × InterruptsStrings (Strings role) before after a b f g)
 role_halts role before after bytes seen a b f g fault Same read is (inl told) none = inl told.1
 role_halts role before after bytes seen a b f g fault Same read is (inr h) none =
-    let lines = string_lines 1 (strings_in h.graph.dictionary role) in
+    let lines = string_lines 1 (role_strings h.graph.dictionary role) in
     let cut = memory_cut fault lines a b f g h.holds none in
     inr (
       cut.0,
-      record { role = role; asked = refl; text = lines; printed = all_lines role before after bytes seen read is h.graph h.stands; well = cut.1; written = cut.2 },
+      record { role = role; asked = refl; text = lines; printed = all_lines role before after bytes seen read is h.graph h.encoded; well = cut.1; written = cut.2 },
     )

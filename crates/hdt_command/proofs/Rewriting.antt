@@ -2,14 +2,14 @@
 use Rattle.std.proofs.Common.{◌≡◌, ◌≢◌, ◌↔◌, ℕ, List, Result, Ok, Err, ap, arith, refl}
 use Rattle.std.specs.Prelude.{IsErrOf}
 use Rattle.hdt_file.specs.File.{GraphParts, IsLayout}
-use Rattle.hdt_build.specs.Options.{AreRight, IsBlockSize}
+use Rattle.hdt_build.specs.Options.{AreValidOptions, IsBlockSize}
 use Rattle.hdt_build.specs.declared.fault.RewriteFault.{RewriteFault}
 use Rattle.hdt_build.specs.declared.fault.RewriteFault.TheVariants as rewriting
 use Rattle.hdt_command.specs.declared.fault.ToolFault.{ToolFault}
 use Rattle.hdt_command.specs.declared.fault.ToolFault.TheVariants.{BadOptions, Write}
 use Rattle.hdt_command.specs.declared.request.Action.{Action}
 use Rattle.hdt_command.specs.declared.request.Action.TheVariants.{Build, Rewrite}
-use Rattle.hdt_command.specs.Answer.{IfBuild, IsTold}
+use Rattle.hdt_command.specs.Outcomes.{IfBuild, IsFaultOfBytes}
 use Rattle.hdt_command.specs.Faults.{rewrite_fault_of}
 
 -- A block size is valid if it is not invalid.
@@ -18,15 +18,15 @@ size_written b h = grind arith
 
 -- The error of `rewrite` is an error for the bytes.
 pub not_rewritten : (b : ℕ) (bytes : List ℕ) (graph : GraphParts) (fault : RewriteFault) → IsLayout bytes graph
-    → (fault ≡ rewriting.BadOptions → IsBlockSize b → ⊥) → ((n : ℕ) → fault ≢ rewriting.Write n) → IsTold (Rewrite b) bytes (rewrite_fault_of fault)
-not_rewritten b bytes graph rewriting.BadOptions stands bad unwritten = record { graph = graph; stands = stands; holds = bad refl }
-not_rewritten b bytes graph rewriting.OutOfMemory stands bad unwritten = tt
-not_rewritten b bytes graph (rewriting.Write n) stands bad unwritten = absurd (unwritten n refl)
+    → (fault ≡ rewriting.BadOptions → IsBlockSize b → ⊥) → ((n : ℕ) → fault ≢ rewriting.Write n) → IsFaultOfBytes (Rewrite b) bytes (rewrite_fault_of fault)
+not_rewritten b bytes graph rewriting.BadOptions encoded bad unwritten = record { graph = graph; encoded = encoded; holds = bad refl }
+not_rewritten b bytes graph rewriting.OutOfMemory encoded bad unwritten = tt
+not_rewritten b bytes graph (rewriting.Write n) encoded bad unwritten = absurd (unwritten n refl)
 
 -- An equivalence about `BadOptions` carries over from one result to another.
 pub still_bad : {T U : Type 0} (action : Action) (r : Result T ToolFault) (s : Result U ToolFault) → (IsErrOf r BadOptions → IsErrOf s BadOptions)
-    → (IsErrOf s BadOptions → IsErrOf r BadOptions) → IfBuild action (λ options. IsErrOf r BadOptions ↔ (AreRight options → ⊥))
-    → IfBuild action (λ options. IsErrOf s BadOptions ↔ (AreRight options → ⊥))
+    → (IsErrOf s BadOptions → IsErrOf r BadOptions) → IfBuild action (λ options. IsErrOf r BadOptions ↔ (AreValidOptions options → ⊥))
+    → IfBuild action (λ options. IsErrOf s BadOptions ↔ (AreValidOptions options → ⊥))
 still_bad (Build options) r s to from h = (λ e. h.0 (from e), λ bad. to (h.1 bad))
 still_bad action r s to from h = tt
 

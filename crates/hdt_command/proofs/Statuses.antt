@@ -5,13 +5,13 @@ use Rattle.clap.specs.Words.{Text}
 use Rattle.hdt_command.specs.declared.fault.ToolFault.{ToolFault}
 use Rattle.hdt_command.specs.declared.fault.ToolFault.TheVariants.{File, NoTriples, Write, OutOfMemory}
 use Rattle.hdt_command.specs.declared.fault.UsageFault.{UsageFault}
-use Rattle.hdt_command.specs.declared.request.Call.{Call}
+use Rattle.hdt_command.specs.declared.request.Invocation.{Invocation}
 use Rattle.hdt_command.specs.declared.request.Action.{Action}
-use Rattle.hdt_command.specs.Answer.{Reports}
-use Rattle.hdt_command.specs.Words.{IsRefused, WantsSo}
-use Rattle.hdt_command.specs.Lines.{fault_status}
-use Rattle.hdt_command.specs.Status.{Ends, IsCommandStatus, IsRefusalStatus, IsStatusOf}
-use Rattle.hdt_command.proofs.Refused.{so}
+use Rattle.hdt_command.specs.Outcomes.{IsFaultOfOwnedInput}
+use Rattle.hdt_command.specs.CommandLine.{IsRefused, ParsesToInvocation}
+use Rattle.hdt_command.specs.ErrorLines.{fault_status}
+use Rattle.hdt_command.specs.Status.{Ends, IsCommandStatus, IsRefusalStatus, IsActionStatus}
+use Rattle.hdt_command.proofs.Refusals.{parses_to_request}
 
 -- An error is a write error or another one.
 by_writer : {A B : Type 0} (fault : ToolFault) → (((n : ℕ) → fault ≢ Write n) → A) → ((n : ℕ) → fault ≡ Write n → B) → A ⊎ B
@@ -87,9 +87,9 @@ stopped (Err fault) status of unwritten write not = joined (by_writer fault unwr
 
 -- If the output goes to memory, a write error becomes out of memory, and other errors stay.
 pub told_in_memory : (action : Action) (before : Option (List ℕ)) (fault told : ToolFault) → ((n : ℕ) → fault ≡ Write n → told ≡ OutOfMemory) → (((n : ℕ) → fault ≢ Write n) → told ≡ fault)
-    → Reports action before fault → Reports action before told
+    → IsFaultOfOwnedInput action before fault → IsFaultOfOwnedInput action before told
 told_in_memory action before fault told memory other h =
-    ⊎_elim (λ same. subst (Reports action before) (sym same) h) (λ same. subst (Reports action before) (sym same) (record { after = h.after; tells = tt }))
+    ⊎_elim (λ same. subst (IsFaultOfOwnedInput action before) (sym same) h) (λ same. subst (IsFaultOfOwnedInput action before) (sym same) (record { after = h.after; is_fault = tt }))
     (by_writer fault other memory)
 
 pub kept_in_memory : (outcome : Result (Unit {0}) ToolFault) (fault told kind : ToolFault) → outcome ≡ Err fault → (((n : ℕ) → fault ≢ Write n) → told ≡ fault) → ((n : ℕ) → kind ≢ Write n)
@@ -99,9 +99,9 @@ kept_in_memory outcome fault told kind is other not e =
     other (λ n w. not n (sym same ∙ w)) ∙ same
 
 -- The status of the invocation is one that the program may end with.
-pub ends : {X E : Type 0} (texts : X → List Text) (words : Result X E) (asked : Result Call UsageFault) (status : ℕ)
-    → IfOk asked (λ asked. MatchResult words (λ w. WantsSo (texts w) asked) (λ _. ⊥)) → IfErr asked (λ fault. IfOk words (λ w. IsRefused (texts w) fault))
-    → MatchResult asked (λ asked. IsStatusOf asked.request.action status) (λ fault. IsRefusalStatus fault status) → IfOk words (λ w. Ends (texts w) status)
-ends texts (Ok w) (Ok asked) status wanted refused of = inl (record { request = asked.request; wanted = so (texts w) asked wanted; ends = of })
+pub ends : {X E : Type 0} (texts : X → List Text) (words : Result X E) (asked : Result Invocation UsageFault) (status : ℕ)
+    → IfOk asked (λ asked. MatchResult words (λ w. ParsesToInvocation (texts w) asked) (λ _. ⊥)) → IfErr asked (λ fault. IfOk words (λ w. IsRefused (texts w) fault))
+    → MatchResult asked (λ asked. IsActionStatus asked.request.action status) (λ fault. IsRefusalStatus fault status) → IfOk words (λ w. Ends (texts w) status)
+ends texts (Ok w) (Ok asked) status wanted refused of = inl (record { request = asked.request; wanted = parses_to_request (texts w) asked wanted; ends = of })
 ends texts (Ok w) (Err fault) status wanted refused of = inr (record { fault = fault; refused = refused; ends = of })
 ends texts (Err e) asked status wanted refused of = tt

@@ -1,7 +1,7 @@
 -- The output of `build` and `rewrite`.
 use Rattle.std.specs.Prelude.{List, ℕ, [], ◌∷◌, ◌++◌, codes}
 use Rattle.std.specs.Fmt.{decimal}
-use Rattle.hdt_build.specs.declared.report.Report.{Report}
+use Rattle.hdt_build.specs.declared.options.Report.{Report}
 
 -- A line with a word and six counts: triples, the strings of the shared, subjects, predicates and objects sections, and
 -- the bytes of the file.

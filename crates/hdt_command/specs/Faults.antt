@@ -23,13 +23,13 @@ dump_fault_of (dumping.Write n) = Write n
 dump_fault_of dumping.OutOfMemory = OutOfMemory
 
 -- A failed reader and lack of memory are errors of their own, without a line number.
-abbrev pub told_of_reason : LineFault → LineReason → ToolFault
-told_of_reason fault reasons.Read = Read
-told_of_reason fault reasons.OutOfMemory = OutOfMemory
-told_of_reason fault reason = Input fault
+abbrev pub fault_of_reason : LineFault → LineReason → ToolFault
+fault_of_reason fault reasons.Read = Read
+fault_of_reason fault reasons.OutOfMemory = OutOfMemory
+fault_of_reason fault reason = Input fault
 
 abbrev pub line_fault_of : LineFault → ToolFault
-line_fault_of fault = told_of_reason fault fault.reason
+line_fault_of fault = fault_of_reason fault fault.reason
 
 abbrev pub build_fault_of : BuildFault → ToolFault
 build_fault_of (building.Line fault) = line_fault_of fault

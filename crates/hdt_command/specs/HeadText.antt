@@ -1,7 +1,7 @@
 -- The output of `head`: five lines, each with a label, a space and an escaped text; then the header body, unescaped.
 use Rattle.std.specs.Prelude.{ℕ, List, [], ◌∷◌, ◌++◌, codes, length}
 use Rattle.std.specs.Fmt.{decimal}
-use Rattle.hdt_wire.specs.Control.{Block}
+use Rattle.hdt_wire.specs.Control.{ControlInfo}
 use Rattle.hdt_file.specs.Head.{HeadParts}
 use Rattle.hdt_command.specs.Escaping.{escaped}
 
@@ -9,7 +9,7 @@ abbrev pub labelled_line : List ℕ → List ℕ → List ℕ
 labelled_line label text = label ++ 32 ∷ escaped text ++ 10 ∷ []
 
 -- The two lines for control information.
-abbrev pub block_lines : List ℕ → Block → List ℕ
+abbrev pub block_lines : List ℕ → ControlInfo → List ℕ
 block_lines name block = labelled_line name block.format ++ labelled_line (codes "properties") block.properties
 
 abbrev pub length_line : ℕ → List ℕ

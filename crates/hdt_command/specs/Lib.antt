@@ -4,11 +4,11 @@ pub mod StringsText
 pub mod TriplesText
 pub mod Verdict
 pub mod BuiltText
-pub mod Answer
+pub mod Outcomes
 pub mod Dialogue
 pub mod Faults
-pub mod Lines
-pub mod Words
+pub mod ErrorLines
+pub mod CommandLine
 pub mod Status
 pub mod Whole
 pub mod Inside

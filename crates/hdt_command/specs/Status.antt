@@ -1,8 +1,8 @@
 -- The exit statuses of the program.
 use Rattle.std.specs.Prelude.{◌≡◌, ◌⊎◌, ℕ, List}
 use Rattle.clap.specs.Words.{Text}
-use Rattle.hdt_command.specs.Words.{IsRefused, Wants}
-use Rattle.hdt_command.specs.Lines.{fault_status}
+use Rattle.hdt_command.specs.CommandLine.{IsRefused, ParsesToRequest}
+use Rattle.hdt_command.specs.ErrorLines.{fault_status}
 use Rattle.hdt_command.specs.declared.request.Action.{Action}
 use Rattle.hdt_command.specs.declared.request.Action.TheVariants.{Build}
 use Rattle.hdt_command.specs.declared.request.Request.{Request}
@@ -19,22 +19,22 @@ IsBuild (Build options) = Unit {0}
 IsBuild action = ⊥
 
 -- The status of a command, or 2 if `build` would overwrite its input.
-abbrev pub IsStatusOf : Action → ℕ → Type 0
-IsStatusOf action status = IsCommandStatus status ⊎ (IsBuild action × (status ≡ 2))
+abbrev pub IsActionStatus : Action → ℕ → Type 0
+IsActionStatus action status = IsCommandStatus status ⊎ (IsBuild action × (status ≡ 2))
 
 -- Help has status 0, or 3 if it cannot be printed. A usage error has status 2, or 4 if there is no memory for its
 -- message.
 abbrev pub IsRefusalStatus : UsageFault → ℕ → Type 0
 IsRefusalStatus (usage.Help text) status = (status ≡ 0) ⊎ (status ≡ 3)
 IsRefusalStatus (usage.Usage text) status = (status ≡ 2) ⊎ (status ≡ 4)
-IsRefusalStatus (usage.Word word fault) status = (status ≡ 2) ⊎ (status ≡ 4)
+IsRefusalStatus (usage.InvalidTerm word fault) status = (status ≡ 2) ⊎ (status ≡ 4)
 IsRefusalStatus usage.OutOfMemory status = status ≡ 4
 
 -- The command line gives a request, and the status is one of its command.
 pub record EndsCommand (words : List Text) (status : ℕ) : Type 0 where
   pub request : Request
-  pub wanted : Wants words request
-  pub ends : IsStatusOf request.action status
+  pub wanted : ParsesToRequest words request
+  pub ends : IsActionStatus request.action status
 
 -- The command line is refused, and the status is one of its error.
 pub record EndsRefusal (words : List Text) (status : ℕ) : Type 0 where

@@ -1,7 +1,7 @@
 -- The output of `strings`, `string` and `number`.
 use Rattle.std.specs.Prelude.{◌≡◌, ℕ, ◌+◌, List, [], ◌∷◌, ◌++◌, Some}
 use Rattle.std.specs.Fmt.{decimal}
-use Rattle.hdt_dict.specs.Numbered.{numbered}
+use Rattle.hdt_dict.specs.Ids.{string_at_id}
 use Rattle.hdt_command.specs.Escaping.{escaped}
 
 -- A line with a string's ID, a tab and the escaped string.
@@ -16,11 +16,11 @@ string_lines n (x ∷ xs) = string_line n x ++ string_lines (n + 1) xs
 -- The text is the line of the string with ID n.
 pub record PrintsString (strings : List (List ℕ)) (n : ℕ) (text : List ℕ) : Type 0 where
   pub string : List ℕ
-  pub there : numbered strings n ≡ Some string
+  pub there : string_at_id strings n ≡ Some string
   pub printed : text ≡ escaped string ++ 10 ∷ []
 
 -- The text is the line with the ID of the string.
 pub record PrintsNumber (strings : List (List ℕ)) (x text : List ℕ) : Type 0 where
   pub number : ℕ
-  pub there : numbered strings number ≡ Some x
+  pub there : string_at_id strings number ≡ Some x
   pub printed : text ≡ decimal number ++ 10 ∷ []

@@ -16,8 +16,8 @@ query_action query.VerifyTight = VerifyTight
 query_action (query.Nth role n) = Nth role n
 query_action (query.Number role x) = Number role x.now
 query_action (query.Find given numbers) = Find given.now numbers
-query_action (query.Search given form most) = Search given.now form most
-query_action (query.Answer asking) = Answer asking
+query_action (query.Search given format most) = Search given.now format most
+query_action (query.Answer options) = Answer options
 
 -- The action of a command that prints one complete text.
 abbrev pub whole_action : Whole → Action

@@ -1,42 +1,42 @@
 //! The requests of `answer`, served one by one over an open graph.
 ghost use Rattle.std.specs.Prelude.{◌≡◌, ◌≢◌, ◌+◌, ◌-◌, ◌<◌, ◌≤◌, ◌⊎◌, ◌∷◌, [], ◌++◌, ◌||◌, ℕ, List, Option, None, Some, Ok, true, false, length, option_map, if◌then◌else◌, IfOk, IfErr, OnOk, OnErr, IsErrOf, take};
 ghost use Rattle.hdt_wire.specs.Counted.{inner, failures};
-ghost use Rattle.hdt_terms.specs.Documents.{AreLines, FaultBehind};
-ghost use Rattle.hdt_terms.specs.Taking.{HoldsLine, left, line_number};
+ghost use Rattle.hdt_terms.specs.Documents.{AreLines, FaultAfterLines};
+ghost use Rattle.hdt_terms.specs.LinesReader.{HasBufferedLine, left, line_number};
 ghost use Rattle.hdt_terms.specs.declared.fault.LineReason.TheVariants as reasons;
-ghost use Rattle.hdt_file.specs.Kept.{KeepsTerms};
-ghost use Rattle.hdt_file.specs.TextWriting.{chosen, limited};
-ghost use Rattle.hdt_file.specs.Views.{graph_seen};
+ghost use Rattle.hdt_file.specs.CachedTerms.{CachesTerms};
+ghost use Rattle.hdt_file.specs.TextWriting.{matches_if_given, limited};
+ghost use Rattle.hdt_file.specs.GraphView.{graph_view};
 ghost use Rattle.std.specs.Io.KnownBytes.{Appends};
-ghost use Rattle.hdt_command.specs.Answer.{FailsAfter};
-ghost use Rattle.hdt_command.specs.Dialogue.{AnswersFound, AnswersInput, AnswersLine, AnswersSome, Gone, ReadsWanted, asked_in, ended, fault_comment, given_of, lines_left, most_bytes, no_term_comment, wanted_in};
+ghost use Rattle.hdt_command.specs.Outcomes.{FailsAfter};
+ghost use Rattle.hdt_command.specs.Dialogue.{AnswersFound, AnswersInput, AnswersLine, AnswersUntilFault, HasTakenLines, ReadsRequest, bounded_request_in, ended, fault_comment, given_strings, lines_left, max_input_bytes, non_term_comment, request_strings_in};
 ghost use Rattle.hdt_command.specs.TriplesText.{FindsStrings};
 
 use crate::fault::{ToolFault, line_fault};
-use crate::lines::role_name;
+use crate::error_lines::role_name;
 use crate::printed_triples::append_graph_triples;
-use crate::request::Asking;
+use crate::request::AnswerOptions;
 use hdt_dict::Role;
-use hdt_file::{DumpFault, Graph, Speller};
+use hdt_file::{DumpFault, Graph, TermWriter};
 use hdt_seq::Steps;
 use hdt_terms::{
-    LineFault, LineReason, Lines, TermFault, read_raw_request, read_request, run_of_texts,
+    LineFault, LineReason, Lines, TermFault, read_raw_request, read_request, lines_so_far,
 };
 use hdt_triples::Pattern;
-use hdt_wire::{Counted, cut_on_error};
+use hdt_wire::{Counted, truncate_on_error};
 use std::alloc::{AllocError, Global};
 use std::io::{Read, Write};
 
 /// Parses a request line, of N-Triples terms or of dictionary strings, into the buffers. Returns which of the three are
 /// given, or `None` for a blank line or a comment.
-fn read_line(
+fn read_any_request(
     raw: bool,
     text: &[u8],
     subject: &mut Vec<u8>,
     predicate: &mut Vec<u8>,
     object: &mut Vec<u8>,
 ) -> Result<Option<[bool; 3]>, TermFault>
-    ensures { ReadsWanted result subject.new.items predicate.new.items object.new.items (wanted_in raw text.now) }
+    ensures { ReadsRequest result subject.new.items predicate.new.items object.new.items (request_strings_in raw text.now) }
 {
     if raw {
         return read_raw_request(text, subject, predicate, object);
@@ -45,22 +45,22 @@ fn read_line(
 }
 
 /// Parses a request line, or fails with `TooLong` if it exceeds the maximum length.
-fn read_within(
-    asking: Asking,
+fn read_bounded_request(
+    options: AnswerOptions,
     text: &[u8],
     subject: &mut Vec<u8>,
     predicate: &mut Vec<u8>,
     object: &mut Vec<u8>,
 ) -> Result<Option<[bool; 3]>, TermFault>
-    ensures { ReadsWanted result subject.new.items predicate.new.items object.new.items (asked_in asking text.now) }
+    ensures { ReadsRequest result subject.new.items predicate.new.items object.new.items (bounded_request_in options text.now) }
 {
-    if text.len() > asking.longest as usize {
+    if text.len() > options.longest as usize {
         return Err(TermFault {
             column: 0,
             reason: LineReason::TooLong,
         });
     }
-    read_line(asking.raw, text, subject, predicate, object)
+    read_any_request(options.raw, text, subject, predicate, object)
 }
 
 /// The string, if it is given.
@@ -71,21 +71,21 @@ fn given_part(given: bool, string: &[u8]) -> Option<&[u8]>
 }
 
 /// The pattern with the IDs of the given strings; `None` if one of them is not in its role.
-fn asked_pattern(
+fn request_pattern(
     graph: &Graph<'_>,
     given: [bool; 3],
     subject: &[u8],
     predicate: &[u8],
     object: &[u8],
 ) -> Option<Pattern>
-    ensures { FindsStrings (graph_seen graph.now) (given_of given subject.now predicate.now object.now) (chosen (graph_seen graph.now) result) }
+    ensures { FindsStrings (graph_view graph.now) (given_strings given subject.now predicate.now object.now) (matches_if_given (graph_view graph.now) result) }
 {
-    let lent = [
+    let borrowed = [
         given_part(given[0], subject),
         given_part(given[1], predicate),
         given_part(given[2], object),
     ];
-    graph.pattern(lent, &mut Steps::new())
+    graph.pattern(borrowed, &mut Steps::new())
 }
 
 /// The answer to a line with an error: a comment line and an empty line.
@@ -100,8 +100,8 @@ fn fault_answer(alloc: Global, line: u64, fault: TermFault) -> Result<Vec<u8>, A
 }
 
 /// The answer that reports a string that is not a term: a comment line and an empty line.
-fn no_term_answer(alloc: Global, role: Role, number: u64) -> Result<Vec<u8>, AllocError>
-    ensures { IfOk result (λ answer. answer.items ≡ ended (no_term_comment role number)) }
+fn non_term_answer(alloc: Global, role: Role, number: u64) -> Result<Vec<u8>, AllocError>
+    ensures { IfOk result (λ answer. answer.items ≡ ended (non_term_comment role number)) }
 {
     let role = role_name(role);
     let text = format!(in alloc; "# {role} {number} is not a term\n\n")?;
@@ -110,17 +110,17 @@ fn no_term_answer(alloc: Global, role: Role, number: u64) -> Result<Vec<u8>, All
 
 /// Appends the answer for a pattern; it is empty without one. Returns whether it reports a string that is not a term.
 /// On error `out` is unchanged.
-fn found_answer(
+fn matches_answer(
     alloc: Global,
     graph: &Graph<'_>,
-    asking: Asking,
+    options: AnswerOptions,
     pattern: Option<Pattern>,
-    speller: &mut Speller,
+    term_writer: &mut TermWriter,
     out: &mut Vec<u8>,
 ) -> Result<bool, AllocError>
-    requires { KeepsTerms (graph_seen graph.now) speller.old }
-    ensures kept { KeepsTerms (graph_seen graph.now) speller.new }
-    ensures ok { IfOk result (λ fault. (answer : List ℕ) × AnswersFound asking.form (graph_seen graph.now) (limited asking.most (chosen (graph_seen graph.now) pattern)) fault answer
+    requires { CachesTerms (graph_view graph.now) term_writer.old }
+    ensures kept { CachesTerms (graph_view graph.now) term_writer.new }
+    ensures ok { IfOk result (λ fault. (answer : List ℕ) × AnswersFound options.format (graph_view graph.now) (limited options.most (matches_if_given (graph_view graph.now) pattern)) fault answer
         × (out.new.items ≡ out.old.items ++ answer)) }
     ensures left { OnErr result (out.new.items ≡ out.old.items) }
 {
@@ -129,18 +129,18 @@ fn found_answer(
         alloc,
         graph,
         pattern,
-        asking.form,
-        asking.most,
-        speller,
+        options.format,
+        options.most,
+        term_writer,
         out,
     ) {
         Ok(()) => {
             let ended = out.push(b'\n');
-            cut_on_error(ended, start, out)?;
+            truncate_on_error(ended, start, out)?;
             Ok(false)
         }
         Err(DumpFault::NotATerm(role, number)) => {
-            out.extend_from_slice(&no_term_answer(alloc, role, number)?)?;
+            out.extend_from_slice(&non_term_answer(alloc, role, number)?)?;
             Ok(true)
         }
         Err(_) => Err(AllocError),
@@ -151,25 +151,25 @@ fn found_answer(
 fn line_answer(
     alloc: Global,
     graph: &Graph<'_>,
-    asking: Asking,
+    options: AnswerOptions,
     line: u64,
     text: &[u8],
     subject: &mut Vec<u8>,
     predicate: &mut Vec<u8>,
     object: &mut Vec<u8>,
-    speller: &mut Speller,
+    term_writer: &mut TermWriter,
     out: &mut Vec<u8>,
 ) -> Result<bool, AllocError>
-    requires { KeepsTerms (graph_seen graph.now) speller.old }
-    ensures kept { KeepsTerms (graph_seen graph.now) speller.new }
-    ensures ok { IfOk result (λ fault. (answer : List ℕ) × AnswersLine (graph_seen graph.now) asking (line, text.now) fault answer × (out.new.items ≡ out.old.items ++ answer)) }
+    requires { CachesTerms (graph_view graph.now) term_writer.old }
+    ensures kept { CachesTerms (graph_view graph.now) term_writer.new }
+    ensures ok { IfOk result (λ fault. (answer : List ℕ) × AnswersLine (graph_view graph.now) options (line, text.now) fault answer × (out.new.items ≡ out.old.items ++ answer)) }
     ensures left { OnErr result (out.new.items ≡ out.old.items) }
 {
-    match read_within(asking, text, subject, predicate, object) {
+    match read_bounded_request(options, text, subject, predicate, object) {
         Ok(None) => Ok(false),
         Ok(Some(given)) => {
-            let pattern = asked_pattern(graph, given, subject, predicate, object);
-            found_answer(alloc, graph, asking, pattern, speller, out)
+            let pattern = request_pattern(graph, given, subject, predicate, object);
+            matches_answer(alloc, graph, options, pattern, term_writer, out)
         }
         Err(fault) => match fault.reason {
             LineReason::OutOfMemory => Err(AllocError),
@@ -182,7 +182,7 @@ fn line_answer(
 }
 
 /// A limit in bytes that no input exceeds.
-const MOST_BYTES: u64 = 9_223_372_036_854_775_807;
+const MAX_INPUT_BYTES: u64 = 9_223_372_036_854_775_807;
 
 /// Reads the next line into `text`, and returns whether there is one. Of a line above the maximum length it keeps one
 /// byte more than the maximum, which is enough to detect it.
@@ -193,21 +193,21 @@ fn next_line<R: Read>(
     text: &mut Vec<u8>,
 ) -> Result<bool, LineFault>
     requires { lines.old.failed ≡ None }
-    ensures more { (all : Option (List ℕ)) (done : List (ℕ × List ℕ)) → Gone lines.old all (left lines.old (R.remaining (inner input.old))) done → result ≡ Ok true →
-        (line : List ℕ) × (text.new.items ≡ take (longest + 1) line) × Gone lines.new all (left lines.new (R.remaining (inner input.new))) (done ++ (line_number lines.new, line) ∷ []) }
-    ensures all { (all : Option (List ℕ)) (done : List (ℕ × List ℕ)) → Gone lines.old all (left lines.old (R.remaining (inner input.old))) done → result ≡ Ok false →
-        AreLines most_bytes all done }
-    ensures fault { (all : Option (List ℕ)) (done : List (ℕ × List ℕ)) → Gone lines.old all (left lines.old (R.remaining (inner input.old))) done →
-        IfErr result (λ f. FaultBehind f most_bytes all (R.remaining (inner input.new)) done) }
+    ensures more { (all : Option (List ℕ)) (done : List (ℕ × List ℕ)) → HasTakenLines lines.old all (left lines.old (R.remaining (inner input.old))) done → result ≡ Ok true →
+        (line : List ℕ) × (text.new.items ≡ take (longest + 1) line) × HasTakenLines lines.new all (left lines.new (R.remaining (inner input.new))) (done ++ (line_number lines.new, line) ∷ []) }
+    ensures all { (all : Option (List ℕ)) (done : List (ℕ × List ℕ)) → HasTakenLines lines.old all (left lines.old (R.remaining (inner input.old))) done → result ≡ Ok false →
+        AreLines max_input_bytes all done }
+    ensures fault { (all : Option (List ℕ)) (done : List (ℕ × List ℕ)) → HasTakenLines lines.old all (left lines.old (R.remaining (inner input.old))) done →
+        IfErr result (λ f. FaultAfterLines f max_input_bytes all (R.remaining (inner input.new)) done) }
     ensures fewer { result ≡ Ok true → lines_left lines.new < lines_left lines.old }
     ensures well { OnOk result (lines.new.failed ≡ None) }
     ensures read { IfErr result (λ f. f.reason ≡ reasons.Read → failures input.new ≡ failures input.old + 1) }
     ensures still { IfErr result (λ f. f.reason ≢ reasons.Read → failures input.new ≡ failures input.old) }
     ensures count { OnOk result (failures input.new ≡ failures input.old) }
-    ensures unread { HoldsLine lines.old → input.new ≡ input.old }
+    ensures unread { HasBufferedLine lines.old → input.new ≡ input.old }
 {
-    run_of_texts();
-    lines.next_front(longest as usize + 1, input, text)
+    lines_so_far();
+    lines.next_prefix(longest as usize + 1, input, text)
 }
 
 /// Whether at least one is true.
@@ -218,13 +218,13 @@ fn either(one: bool, other: bool) -> bool
 }
 
 /// Pending answers are flushed once they exceed this number of bytes.
-const PIECE: usize = 65_536;
+const FLUSH_BYTES: usize = 65_536;
 
 /// A larger buffer is freed after it is flushed.
-const ROOM: usize = 262_144;
+const MAX_KEPT_CAPACITY: usize = 262_144;
 
 /// Writes the pending answers, which are the last of `count` bytes, and clears the buffer.
-fn write_kept<W: Write>(
+fn write_pending<W: Write>(
     kept: &mut Vec<u8>,
     count: u64,
     out: &mut Counted<W>,
@@ -239,7 +239,7 @@ fn write_kept<W: Write>(
     match out.write_all(kept) {
         Ok(()) => {
             kept.clear();
-            if kept.capacity() > ROOM {
+            if kept.capacity() > MAX_KEPT_CAPACITY {
                 *kept = Vec::new(*kept.allocator());
             }
             Ok(())
@@ -250,7 +250,7 @@ fn write_kept<W: Write>(
 
 /// Adds the newest answer, from `start` on, to the total `count`, and flushes if no request is pending or 64 KiB are
 /// exceeded. If the total overflows 64 bits, drops that answer and fails with `OutOfMemory`.
-fn settle<W: Write>(
+fn flush_if_due<W: Write>(
     start: usize,
     more: bool,
     kept: &mut Vec<u8>,
@@ -269,13 +269,13 @@ fn settle<W: Write>(
 {
     let Some(end) = count.checked_add((kept.len() - start) as u64) else {
         kept.truncate(start);
-        write_kept(kept, count, out)?;
+        write_pending(kept, count, out)?;
         return Err(ToolFault::OutOfMemory);
     };
-    if more && kept.len() <= PIECE {
+    if more && kept.len() <= FLUSH_BYTES {
         return Ok(end);
     }
-    write_kept(kept, end, out)?;
+    write_pending(kept, end, out)?;
     Ok(end)
 }
 
@@ -285,7 +285,7 @@ fn settle<W: Write>(
 /// are buffered. A line above the maximum length, also a comment or a blank line, is answered by `TooLong` and skipped
 /// in linear time.
 ///
-/// Memory: the longest request and the longest answer, what a [`Speller`] keeps, and 64 KiB each of input and output.
+/// Memory: the longest request and the longest answer, what a [`TermWriter`] keeps, and 64 KiB each of input and output.
 /// Time per request: that of its search and its text.
 ///
 /// # Errors
@@ -295,40 +295,40 @@ fn settle<W: Write>(
 pub fn answer_requests<R: Read, W: Write>(
     alloc: Global,
     graph: &Graph<'_>,
-    asking: Asking,
+    options: AnswerOptions,
     input: &mut Counted<R>,
     out: &mut Counted<W>,
 ) -> Result<bool, ToolFault>
     // `out` has gained the answers to all lines, in order; the result is whether any of them is an error.
-    ensures ok { IfOk result (AnswersInput (graph_seen graph.now) asking (R.remaining (inner input.old)) (W.contents (inner out.old)) (W.contents (inner out.new))) }
+    ensures ok { IfOk result (AnswersInput (graph_view graph.now) options (R.remaining (inner input.old)) (W.contents (inner out.old)) (W.contents (inner out.new))) }
     ensures writer_well { OnOk result (failures out.new ≡ failures out.old) }
     // `out` has gained the complete answers to earlier lines, or exactly the first n bytes of the answers if the writer
     // failed. If a line cannot be read, other than for lack of memory, these are the answers to all lines before it.
-    ensures stopped { IfErr result (AnswersSome (graph_seen graph.now) asking (R.remaining (inner input.old)) (R.remaining (inner input.new))
+    ensures stopped { IfErr result (AnswersUntilFault (graph_view graph.now) options (R.remaining (inner input.old)) (R.remaining (inner input.new))
         (W.contents (inner out.old)) (W.contents (inner out.new)) (failures out.old) (failures out.new)) }
     ensures read { IsErrOf result ToolFault.Read → failures input.new ≡ failures input.old + 1 }
     ensures reader_told { IfErr result (λ e. e ≢ ToolFault.Read → failures input.new ≡ failures input.old) }
     ensures reader_well { OnOk result (failures input.new ≡ failures input.old) }
 {
-    run_of_texts();
-    let mut lines = Lines::new(alloc, MOST_BYTES)?;
+    lines_so_far();
+    let mut lines = Lines::new(alloc, MAX_INPUT_BYTES)?;
     let mut text = Vec::new(alloc);
     let mut subject = Vec::new(alloc);
     let mut predicate = Vec::new(alloc);
     let mut object = Vec::new(alloc);
-    let mut speller = Speller::keeping(alloc)?;
+    let mut term_writer = TermWriter::with_cache(alloc)?;
     let mut kept = Vec::new(alloc);
     let mut count = 0;
     let mut faulty = false;
     'lines: loop {
-        match next_line(&mut lines, asking.longest, input, &mut text) {
+        match next_line(&mut lines, options.longest, input, &mut text) {
             Ok(true) => {}
             Ok(false) => {
-                write_kept(&mut kept, count, out)?;
+                write_pending(&mut kept, count, out)?;
                 return Ok(faulty);
             }
             Err(fault) => {
-                write_kept(&mut kept, count, out)?;
+                write_pending(&mut kept, count, out)?;
                 return Err(line_fault(fault));
             }
         }
@@ -337,21 +337,21 @@ pub fn answer_requests<R: Read, W: Write>(
         match line_answer(
             alloc,
             graph,
-            asking,
+            options,
             line,
             &text,
             &mut subject,
             &mut predicate,
             &mut object,
-            &mut speller,
+            &mut term_writer,
             &mut kept,
         ) {
             Ok(is_fault) => {
-                count = settle(start, lines.holds_line(), &mut kept, count, out)?;
+                count = flush_if_due(start, lines.has_buffered_line(), &mut kept, count, out)?;
                 faulty = either(faulty, is_fault);
             }
             Err(AllocError) => {
-                write_kept(&mut kept, count, out)?;
+                write_pending(&mut kept, count, out)?;
                 return Err(ToolFault::OutOfMemory);
             }
         }

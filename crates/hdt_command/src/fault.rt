@@ -4,7 +4,7 @@ ghost use Rattle.std.specs.IoError.{error_kind};
 ghost use Rattle.hdt_command.specs.declared.fault.UsageFault.TheVariants.{OutOfMemory as usage_memory};
 ghost use Rattle.hdt_command.specs.declared.fault.ToolFault.TheVariants.{OutOfMemory, File};
 ghost use Rattle.hdt_command.specs.Faults.{line_fault_of};
-ghost use Rattle.hdt_command.specs.Dialogue.{IsStopFor};
+ghost use Rattle.hdt_command.specs.Dialogue.{IsFaultOfLine};
 
 use hdt_build::{BuildFault, RewriteFault};
 use hdt_dict::Role;
@@ -17,7 +17,7 @@ use thiserror::Error;
 
 /// A command-line argument that is an N-Triples term.
 #[derive(Clone, Copy, Debug, PartialEq, Eq)]
-pub enum Word {
+pub enum TermArgument {
     /// The TERM of `number`.
     Term,
     /// The S of `find`.
@@ -28,18 +28,18 @@ pub enum Word {
     Object,
 }
 
-impl Word {
-    ghost use Rattle.hdt_command.specs.Lines.{word_name};
+impl TermArgument {
+    ghost use Rattle.hdt_command.specs.ErrorLines.{argument_name};
 
     /// The argument's name in the help text.
     pub fn name(self) -> &'static str
-        ensures { result.now ≡ word_name self }
+        ensures { result.now ≡ argument_name self }
     {
         match self {
-            Word::Term => "TERM",
-            Word::Subject => "S",
-            Word::Predicate => "P",
-            Word::Object => "O",
+            TermArgument::Term => "TERM",
+            TermArgument::Subject => "S",
+            TermArgument::Predicate => "P",
+            TermArgument::Object => "O",
         }
     }
 }
@@ -52,9 +52,9 @@ pub enum UsageFault {
     /// Help or the version was requested. The text has no line feed at its end.
     Help(String),
     /// An argument is not an N-Triples term.
-    Word {
+    InvalidTerm {
         /// Which argument.
-        word: Word,
+        word: TermArgument,
         /// What is wrong with it, and at which column; never `OutOfMemory`.
         fault: TermFault,
     },
@@ -63,11 +63,11 @@ pub enum UsageFault {
 }
 
 impl UsageFault {
-    ghost use Rattle.hdt_command.specs.Words.{SaysUsage};
+    ghost use Rattle.hdt_command.specs.CommandLine.{IsUsageText};
 
     /// A usage error with this message.
     pub fn text(alloc: Global, text: &str) -> UsageFault
-        ensures { SaysUsage text.now result }
+        ensures { IsUsageText text.now result }
     {
         match String::from_str(alloc, text) {
             Ok(text) => UsageFault::Usage(text),
@@ -84,7 +84,7 @@ impl From<AllocError> for UsageFault {
     }
 }
 
-/// Why a command failed. The program prints the lines of [`crate::lines::fault_line`], not the `Display` texts.
+/// Why a command failed. The program prints the lines of [`crate::error_lines::fault_line`], not the `Display` texts.
 #[derive(Clone, Copy, Debug, PartialEq, Eq, Error)]
 pub enum ToolFault {
     /// The input is not a valid HDT file.
@@ -121,7 +121,7 @@ pub enum ToolFault {
 }
 
 /// The error for a failed file operation: `OutOfMemory` if the error is of that kind, else `other`.
-pub fn file_fault(error: &io::Error, other: ToolFault) -> ToolFault
+pub(crate) fn file_fault(error: &io::Error, other: ToolFault) -> ToolFault
     ensures memory { error_kind error.now ≡ ErrorKind.OutOfMemory → result ≡ ToolFault.OutOfMemory }
     ensures other { error_kind error.now ≢ ErrorKind.OutOfMemory → result ≡ other }
     ensures either { (result ≡ ToolFault.OutOfMemory) ⊎ (result ≡ other) }
@@ -133,9 +133,9 @@ pub fn file_fault(error: &io::Error, other: ToolFault) -> ToolFault
 }
 
 /// The error for a line that could not be read.
-pub fn line_fault(fault: LineFault) -> ToolFault
+pub(crate) fn line_fault(fault: LineFault) -> ToolFault
     ensures value { result ≡ line_fault_of fault }
-    ensures stop { IsStopFor fault result }
+    ensures stop { IsFaultOfLine fault result }
 {
     match fault.reason {
         LineReason::Read => ToolFault::Read,

@@ -1,29 +1,29 @@
 //! Opening files, and comparing paths by the file that they lead to.
 ghost use Rattle.std.specs.Prelude.{◌≡◌, ◌↔◌, ◌≤ℤ◌, pos, IfOk, IfSome, IsTrue};
 
-use crate::progress::Watched;
+use crate::progress::ProgressReader;
 use std::fs::{self, File, OpenFile};
 use std::io::{self, ErrorKind, Read, Stderr, Stdin};
 use std::os::fd::AsRawFd;
 use std::os::unix::fs::{FileTypeExt, MetadataExt};
 
 /// The path of standard input.
-const INPUT: &str = "/proc/self/fd/0";
+const STDIN_PATH: &str = "/proc/self/fd/0";
 
 /// The path of standard output.
-pub const OUTPUT: &str = "/proc/self/fd/1";
+pub(crate) const STDOUT_PATH: &str = "/proc/self/fd/1";
 
 /// The path of standard error.
-pub const ERRORS: &str = "/proc/self/fd/2";
+pub(crate) const STDERR_PATH: &str = "/proc/self/fd/2";
 
 /// Whether a path names standard input.
-fn is_input(path: &str) -> bool {
+fn is_stdin_path(path: &str) -> bool {
     matches!(path, "/dev/stdin" | "/dev/fd/0" | "/proc/self/fd/0")
 }
 
 /// Moves a file to a descriptor above 2. If a standard stream is closed, the next open file gets its descriptor; reads
 /// and writes of that stream must fail instead of using the file. Fails if no descriptor is free.
-pub fn apart<F: OpenFile + AsRawFd + Drop>(file: F) -> io::Result<F>
+pub(crate) fn move_off_std_streams<F: OpenFile + AsRawFd + Drop>(file: F) -> io::Result<F>
     ensures { IfOk result (λ file. IfSome (F.raw_fd file) (λ number. pos 3 ≤ℤ number)) }
 {
     if file.as_raw_fd() > 2 {
@@ -37,13 +37,13 @@ pub fn apart<F: OpenFile + AsRawFd + Drop>(file: F) -> io::Result<F>
 }
 
 /// Creates or truncates a file for writing.
-pub fn create(rt: &HostRuntime, path: &str) -> io::Result<File> {
-    apart(File::create(rt, path)?)
+pub(crate) fn create(rt: &HostRuntime, path: &str) -> io::Result<File> {
+    move_off_std_streams(File::create(rt, path)?)
 }
 
 /// The input of a command: a file, or standard input.
 #[derive(Drop)]
-pub enum Source {
+pub(crate) enum Source {
     /// A file.
     File(File),
     /// Standard input, from its current position.
@@ -54,17 +54,17 @@ impl Source {
     /// Opens the file at a path. Standard input is used as it is: opening its path again fails for a socket, or for a
     /// pipe of another user.
     fn open(rt: &HostRuntime, path: &str) -> io::Result<Source> {
-        if is_input(path) {
+        if is_stdin_path(path) {
             return Ok(Source::Input(rt.stdin()));
         }
-        Ok(Source::File(apart(File::open(rt, path)?)?))
+        Ok(Source::File(move_off_std_streams(File::open(rt, path)?)?))
     }
 
     /// The length in bytes, if this is a regular file.
     fn size(&self, rt: &HostRuntime) -> Option<u64> {
         let metadata = match self {
             Source::File(file) => file.metadata(),
-            Source::Input(_) => fs::metadata(rt, INPUT),
+            Source::Input(_) => fs::metadata(rt, STDIN_PATH),
         };
         match metadata {
             Ok(metadata) if metadata.is_file() => Some(metadata.len()),
@@ -83,15 +83,15 @@ impl Read for Source {
 }
 
 /// Opens the input, with progress reports to standard error if `progress`.
-pub fn opened(rt: &HostRuntime, path: &str, progress: bool) -> io::Result<Watched<Source, Stderr>> {
+pub(crate) fn open_input(rt: &HostRuntime, path: &str, progress: bool) -> io::Result<ProgressReader<Source, Stderr>> {
     let source = Source::open(rt, path)?;
     let size = source.size(rt);
-    let told = if progress { Some(rt.stderr()) } else { None };
-    Ok(Watched::new(rt.alloc(), source, told, size))
+    let report_to = if progress { Some(rt.stderr()) } else { None };
+    Ok(ProgressReader::new(rt.alloc(), source, report_to, size))
 }
 
 /// The length of the input in bytes, as the initial capacity of a buffer; 0 if it is unknown.
-pub fn room_for(input: &io::Result<Watched<Source, Stderr>>) -> usize {
+pub(crate) fn known_size(input: &io::Result<ProgressReader<Source, Stderr>>) -> usize {
     match input {
         Ok(input) => input.size().unwrap_or(0) as usize,
         Err(_) => 0,
@@ -100,11 +100,11 @@ pub fn room_for(input: &io::Result<Watched<Source, Stderr>>) -> usize {
 
 /// The identity of a file on this system.
 #[derive(Clone, Copy)]
-pub struct Identity {
+pub(crate) struct Identity {
     /// The device number.
-    pub device: u64,
+    pub(crate) device: u64,
     /// The inode number on the device.
-    pub inode: u64,
+    pub(crate) inode: u64,
 }
 
 impl Identity {
@@ -118,7 +118,7 @@ impl Identity {
     }
 
     /// Whether both identify the same file.
-    pub fn is(self, other: Identity) -> bool
+    pub(crate) fn is(self, other: Identity) -> bool
         ensures { IsTrue result ↔ ((self.device ≡ other.device) × (self.inode ≡ other.inode)) }
     {
         self.device == other.device && self.inode == other.inode
@@ -126,7 +126,7 @@ impl Identity {
 }
 
 /// Whether two paths lead to the same file, pipe or device.
-pub fn is_one_file(rt: &HostRuntime, path: &str, other: &str) -> bool {
+pub(crate) fn is_same_file(rt: &HostRuntime, path: &str, other: &str) -> bool {
     match (Identity::at(rt, path), Identity::at(rt, other)) {
         (Ok(one), Ok(two)) => one.is(two),
         _ => false,
@@ -134,11 +134,11 @@ pub fn is_one_file(rt: &HostRuntime, path: &str, other: &str) -> bool {
 }
 
 /// Whether writing to `out` would overwrite `input`: both lead to the same regular file or block device.
-pub fn takes_the_place(rt: &HostRuntime, out: &str, input: &str) -> bool {
+pub(crate) fn would_overwrite(rt: &HostRuntime, out: &str, input: &str) -> bool {
     let keeps = match fs::metadata(rt, out) {
         Ok(there) => there.is_file() || there.file_type().is_block_device(),
         Err(_) => false,
     };
-    let input = if is_input(input) { INPUT } else { input };
-    keeps && is_one_file(rt, input, out)
+    let input = if is_stdin_path(input) { STDIN_PATH } else { input };
+    keeps && is_same_file(rt, input, out)
 }

@@ -3,14 +3,14 @@ ghost use Rattle.std.specs.Prelude.{◌≡◌, ◌+◌, ◌∷◌, ◌++◌, ◌
 ghost use Rattle.std.specs.Fmt.{decimal};
 ghost use Rattle.std.specs.Io.KnownBytes.{Appends};
 ghost use Rattle.hdt_wire.specs.Counted.{inner, failures};
-ghost use Rattle.hdt_dict.specs.Numbered.{numbered};
-ghost use Rattle.hdt_file.specs.LayoutView.{layout_seen};
-ghost use Rattle.hdt_dict.specs.Dictionary.{strings_in};
-ghost use Rattle.hdt_command.specs.Answer.{FailsAfter, IsCut};
+ghost use Rattle.hdt_dict.specs.Ids.{string_at_id};
+ghost use Rattle.hdt_file.specs.LayoutView.{layout_view};
+ghost use Rattle.hdt_dict.specs.Dictionary.{role_strings};
+ghost use Rattle.hdt_command.specs.Outcomes.{FailsAfter, IsCutShort};
 ghost use Rattle.hdt_command.specs.Escaping.{escaped};
 ghost use Rattle.hdt_command.specs.StringsText.{string_line, string_lines, PrintsString, PrintsNumber};
 
-use crate::escaping::put_escaped;
+use crate::printed_reports::put_escaped;
 use crate::fault::ToolFault;
 use hdt_dict::Role;
 use hdt_file::Layout;
@@ -34,7 +34,7 @@ const PIECE: usize = 65_536;
 
 /// Writes a piece of a text of which `written` bytes have been written, and returns the new total. Fails with
 /// `OutOfMemory` if the total overflows 64 bits.
-pub fn write_piece<W: Write>(
+pub(crate) fn write_piece<W: Write>(
     piece: &[u8],
     written: u64,
     out: &mut Counted<W>,
@@ -55,7 +55,7 @@ pub fn write_piece<W: Write>(
 }
 
 /// Writes the pending lines if they fill a piece, and returns the new total of written bytes.
-fn write_full<W: Write>(
+fn write_if_full<W: Write>(
     text: &mut Vec<u8>,
     written: u64,
     out: &mut Counted<W>,
@@ -76,17 +76,17 @@ fn write_full<W: Write>(
 }
 
 /// Writes the lines of all strings of a role, in pieces. Memory: one piece and the line of one string.
-pub fn print_strings<W: Write>(
+pub(crate) fn print_strings<W: Write>(
     alloc: Global,
     layout: &Layout<'_>,
     role: Role,
     out: &mut Counted<W>,
 ) -> Result<(), ToolFault>
     ensures ok { OnOk result (Appends (W.contents (inner out.old)) (W.contents (inner out.new))
-        (string_lines 1 (strings_in (layout_seen layout.now).dictionary role))) }
+        (string_lines 1 (role_strings (layout_view layout.now).dictionary role))) }
     ensures well { OnOk result (failures out.new ≡ failures out.old) }
     // The writer failed or memory ran out, after a prefix of the lines.
-    ensures cut { IfErr result (λ e. IsCut e (string_lines 1 (strings_in (layout_seen layout.now).dictionary role))
+    ensures cut { IfErr result (λ e. IsCutShort e (string_lines 1 (role_strings (layout_view layout.now).dictionary role))
         (W.contents (inner out.old)) (W.contents (inner out.new)) (failures out.old) (failures out.new)) }
 {
     let mut text = Vec::new(alloc);
@@ -94,22 +94,22 @@ pub fn print_strings<W: Write>(
     let mut strings = layout.strings(alloc, role);
     'strings: while let Some(number) = strings.next()? {
         put_string_line(number, strings.last(), &mut text)?;
-        written = write_full(&mut text, written, out)?;
+        written = write_if_full(&mut text, written, out)?;
     }
     write_piece(&text, written, out)?;
     Ok(())
 }
 
 /// The line of the string with this ID in a role.
-pub fn string_text(
+pub(crate) fn string_text(
     alloc: Global,
     layout: &Layout<'_>,
     role: Role,
     number: u64,
 ) -> Result<Vec<u8>, ToolFault>
-    ensures ok { IfOk result (λ text. PrintsString (strings_in (layout_seen layout.now).dictionary role) number text.items) }
+    ensures ok { IfOk result (λ text. PrintsString (role_strings (layout_view layout.now).dictionary role) number text.items) }
     ensures err { IfErr result (λ e. (e ≡ ToolFault.OutOfMemory)
-        ⊎ ((e ≡ ToolFault.NoSuchNumber) × (numbered (strings_in (layout_seen layout.now).dictionary role) number ≡ None))) }
+        ⊎ ((e ≡ ToolFault.NoSuchNumber) × (string_at_id (role_strings (layout_view layout.now).dictionary role) number ≡ None))) }
 {
     let mut string = Vec::new(alloc);
     if !layout.string_of(role, number, &mut string, &mut Steps::new())? {
@@ -122,22 +122,22 @@ pub fn string_text(
 }
 
 /// A line with a number.
-pub fn number_line(alloc: Global, number: u64) -> Result<Vec<u8>, AllocError>
+pub(crate) fn number_line(alloc: Global, number: u64) -> Result<Vec<u8>, AllocError>
     ensures { IfOk result (λ text. text.items ≡ decimal number ++ 10 ∷ []) }
 {
     Ok(format!(in alloc; "{number}\n")?.into_bytes())
 }
 
 /// The line with the ID of a string in a role.
-pub fn number_text(
+pub(crate) fn number_text(
     alloc: Global,
     layout: &Layout<'_>,
     role: Role,
     string: &[u8],
 ) -> Result<Vec<u8>, ToolFault>
-    ensures ok { IfOk result (λ text. PrintsNumber (strings_in (layout_seen layout.now).dictionary role) string.now text.items) }
+    ensures ok { IfOk result (λ text. PrintsNumber (role_strings (layout_view layout.now).dictionary role) string.now text.items) }
     ensures err { IfErr result (λ e. (e ≡ ToolFault.OutOfMemory)
-        ⊎ ((e ≡ ToolFault.NoSuchTerm) × ((n : ℕ) → numbered (strings_in (layout_seen layout.now).dictionary role) n ≢ Some string.now))) }
+        ⊎ ((e ≡ ToolFault.NoSuchTerm) × ((n : ℕ) → string_at_id (role_strings (layout_view layout.now).dictionary role) n ≢ Some string.now))) }
 {
     let Some(number) = layout.number_of(role, string, &mut Steps::new()) else {
         return Err(ToolFault::NoSuchTerm);

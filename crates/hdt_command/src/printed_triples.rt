@@ -1,27 +1,27 @@
 //! The output of `find` and `dump`, and the triples in the answers of `answer`.
 ghost use Rattle.std.specs.Prelude.{◌≡◌, ◌<◌, ◌^◌, ◌++◌, ◌∷◌, [], OnOk, OnErr, IfOk, IfErr, length};
-ghost use Rattle.hdt_wire.specs.Control.{Keeps};
-ghost use Rattle.hdt_file.specs.TextWriting.{chosen, limited};
-ghost use Rattle.hdt_file.specs.Kept.{KeepsTerms};
-ghost use Rattle.hdt_file.specs.LayoutView.{layout_seen};
-ghost use Rattle.hdt_file.specs.Views.{graph_seen};
-ghost use Rattle.hdt_triples.specs.Left.{left_of};
-ghost use Rattle.hdt_command.specs.TriplesText.{AppendsTriples, Finds, PrintsFound, TellsFound, PrintsTriples, TellsTriples, numbers_line, numbers_lines};
+ghost use Rattle.hdt_wire.specs.Control.{IsPrefixOf};
+ghost use Rattle.hdt_file.specs.TextWriting.{matches_if_given, limited};
+ghost use Rattle.hdt_file.specs.CachedTerms.{CachesTerms};
+ghost use Rattle.hdt_file.specs.LayoutView.{layout_view};
+ghost use Rattle.hdt_file.specs.GraphView.{graph_view};
+ghost use Rattle.hdt_triples.specs.Remaining.{remaining_matches};
+ghost use Rattle.hdt_command.specs.TriplesText.{AppendsTriples, Finds, PrintsFound, IsFindFault, PrintsTriples, IsTextFault, numbers_line, numbers_lines};
 
 use crate::fault::ToolFault;
 use crate::printed_strings::number_line;
-use crate::request::Form;
-use hdt_file::{DumpFault, Graph, Layout, Speller, append_graph_text, layout_text};
+use crate::request::OutputFormat;
+use hdt_file::{DumpFault, Graph, Layout, TermWriter, append_graph_text, layout_text};
 use hdt_seq::Steps;
 use hdt_triples::{Matches, Pattern};
-use hdt_wire::{cut_on_error, put_decimal};
+use hdt_wire::{truncate_on_error, put_decimal};
 use std::alloc::{AllocError, Global};
 
 /// Appends a line with the three IDs of a triple. An error may leave a prefix of it.
 #[tactic(auto, using(std::proofs::Common::append_assoc))]
 fn put_numbers(triple: (u64, u64, u64), out: &mut Vec<u8>) -> Result<(), AllocError>
     ensures ok { OnOk result (out.new.items ≡ out.old.items ++ numbers_line triple) }
-    ensures err { OnErr result (Keeps out.old.items out.new.items) }
+    ensures err { OnErr result (IsPrefixOf out.old.items out.new.items) }
 {
     let (subject, predicate, object) = triple;
     put_decimal(subject, out)?;
@@ -38,18 +38,18 @@ fn append_numbers(
     most: Option<u64>,
     out: &mut Vec<u8>,
 ) -> Result<(), AllocError>
-    requires fits { length (left_of found) < 2 ^ 64 }
-    ensures ok { OnOk result (out.new.items ≡ out.old.items ++ numbers_lines (limited most (left_of found.entry))) }
-    ensures err { OnErr result (Keeps out.old.items out.new.items) }
+    requires fits { length (remaining_matches found) < 2 ^ 64 }
+    ensures ok { OnOk result (out.new.items ≡ out.old.items ++ numbers_lines (limited most (remaining_matches found.entry))) }
+    ensures err { OnErr result (IsPrefixOf out.old.items out.new.items) }
 {
     let mut matches = found;
-    let mut room = most.unwrap_or(u64::MAX);
-    'triples: while room > 0 {
+    let mut remaining = most.unwrap_or(u64::MAX);
+    'triples: while remaining > 0 {
         let Some(triple) = matches.next() else {
             return Ok(());
         };
         put_numbers(triple, out)?;
-        room -= 1;
+        remaining -= 1;
     }
     Ok(())
 }
@@ -61,7 +61,7 @@ fn numbers_text(
     pattern: Option<Pattern>,
     most: Option<u64>,
 ) -> Result<Vec<u8>, AllocError>
-    ensures { IfOk result (λ text. text.items ≡ numbers_lines (limited most (chosen (layout_seen layout.now) pattern))) }
+    ensures { IfOk result (λ text. text.items ≡ numbers_lines (limited most (matches_if_given (layout_view layout.now) pattern))) }
 {
     let mut text = Vec::new(alloc);
     if let Some(pattern) = pattern {
@@ -71,8 +71,8 @@ fn numbers_text(
 }
 
 /// The number of a pattern's matches, up to a limit; 0 without a pattern.
-fn count_of(layout: &Layout<'_>, pattern: Option<Pattern>, most: Option<u64>) -> u64
-    ensures { result ≡ length (limited most (chosen (layout_seen layout.now) pattern)) }
+fn count_layout_matches(layout: &Layout<'_>, pattern: Option<Pattern>, most: Option<u64>) -> u64
+    ensures { result ≡ length (limited most (matches_if_given (layout_view layout.now) pattern)) }
 {
     let Some(pattern) = pattern else {
         return 0;
@@ -85,12 +85,12 @@ fn count_of(layout: &Layout<'_>, pattern: Option<Pattern>, most: Option<u64>) ->
 }
 
 /// The pattern with the IDs of the given strings; `None` if one of them is not in its role.
-fn pattern_of(layout: &Layout<'_>, given: &[Option<Vec<u8>>; 3]) -> Option<Pattern>
-    ensures { Finds (layout_seen layout.now) given.now (chosen (layout_seen layout.now) result) }
+fn find_pattern(layout: &Layout<'_>, given: &[Option<Vec<u8>>; 3]) -> Option<Pattern>
+    ensures { Finds (layout_view layout.now) given.now (matches_if_given (layout_view layout.now) result) }
 {
     let [subject, predicate, object] = given;
-    let lent = [subject.as_deref(), predicate.as_deref(), object.as_deref()];
-    layout.pattern(lent, &mut Steps::new())
+    let borrowed = [subject.as_deref(), predicate.as_deref(), object.as_deref()];
+    layout.pattern(borrowed, &mut Steps::new())
 }
 
 /// The text of a pattern's matches, up to a limit and in any format; empty without a pattern. Scans all triples.
@@ -98,37 +98,37 @@ fn layout_triples_text(
     alloc: Global,
     layout: &Layout<'_>,
     pattern: Option<Pattern>,
-    form: Form,
+    format: OutputFormat,
     most: Option<u64>,
 ) -> Result<Vec<u8>, DumpFault>
-    ensures ok { IfOk result (λ text. PrintsTriples form (layout_seen layout.now) (limited most (chosen (layout_seen layout.now) pattern)) text.items) }
-    ensures err { IfErr result (TellsTriples form (layout_seen layout.now) (limited most (chosen (layout_seen layout.now) pattern))) }
+    ensures ok { IfOk result (λ text. PrintsTriples format (layout_view layout.now) (limited most (matches_if_given (layout_view layout.now) pattern)) text.items) }
+    ensures err { IfErr result (IsTextFault format (layout_view layout.now) (limited most (matches_if_given (layout_view layout.now) pattern))) }
 {
-    match form {
-        Form::Lines => layout_text(alloc, layout, pattern, most),
-        Form::Numbers => Ok(numbers_text(alloc, layout, pattern, most)?),
-        Form::Count => Ok(number_line(alloc, count_of(layout, pattern, most))?),
+    match format {
+        OutputFormat::NTriples => layout_text(alloc, layout, pattern, most),
+        OutputFormat::Numbers => Ok(numbers_text(alloc, layout, pattern, most)?),
+        OutputFormat::Count => Ok(number_line(alloc, count_layout_matches(layout, pattern, most))?),
     }
 }
 
 /// The text of the triples with the given strings, up to a limit and in any format.
-pub fn triples_text(
+pub(crate) fn triples_text(
     alloc: Global,
     layout: &Layout<'_>,
     given: &[Option<Vec<u8>>; 3],
-    form: Form,
+    format: OutputFormat,
     most: Option<u64>,
 ) -> Result<Vec<u8>, ToolFault>
-    ensures ok { IfOk result (λ text. PrintsFound (layout_seen layout.now) given.now form most text.items) }
-    ensures err { IfErr result (TellsFound (layout_seen layout.now) given.now form most) }
+    ensures ok { IfOk result (λ text. PrintsFound (layout_view layout.now) given.now format most text.items) }
+    ensures err { IfErr result (IsFindFault (layout_view layout.now) given.now format most) }
 {
-    let pattern = pattern_of(layout, given);
-    Ok(layout_triples_text(alloc, layout, pattern, form, most)?)
+    let pattern = find_pattern(layout, given);
+    Ok(layout_triples_text(alloc, layout, pattern, format, most)?)
 }
 
 /// The number of a pattern's matches in a graph, up to a limit; 0 without a pattern.
-fn graph_count(graph: &Graph<'_>, pattern: Option<Pattern>, most: Option<u64>) -> u64
-    ensures { result ≡ length (limited most (chosen (graph_seen graph.now) pattern)) }
+fn count_graph_matches(graph: &Graph<'_>, pattern: Option<Pattern>, most: Option<u64>) -> u64
+    ensures { result ≡ length (limited most (matches_if_given (graph_view graph.now) pattern)) }
 {
     let Some(pattern) = pattern else {
         return 0;
@@ -147,7 +147,7 @@ fn append_graph_numbers(
     most: Option<u64>,
     out: &mut Vec<u8>,
 ) -> Result<(), AllocError>
-    ensures ok { OnOk result (out.new.items ≡ out.old.items ++ numbers_lines (limited most (chosen (graph_seen graph.now) pattern))) }
+    ensures ok { OnOk result (out.new.items ≡ out.old.items ++ numbers_lines (limited most (matches_if_given (graph_view graph.now) pattern))) }
     ensures left { OnErr result (out.new.items ≡ out.old.items) }
 {
     let Some(pattern) = pattern else {
@@ -155,31 +155,31 @@ fn append_graph_numbers(
     };
     let start = out.len();
     let appended = append_numbers(graph.search(pattern), most, out);
-    cut_on_error(appended, start, out)
+    truncate_on_error(appended, start, out)
 }
 
 /// Appends the text of a pattern's matches in a graph, up to a limit and in any format; nothing without a pattern. The
 /// search uses the graph's indexes; the writer caches terms for later texts. On error `out` is unchanged.
-pub fn append_graph_triples(
+pub(crate) fn append_graph_triples(
     alloc: Global,
     graph: &Graph<'_>,
     pattern: Option<Pattern>,
-    form: Form,
+    format: OutputFormat,
     most: Option<u64>,
-    speller: &mut Speller,
+    term_writer: &mut TermWriter,
     out: &mut Vec<u8>,
 ) -> Result<(), DumpFault>
-    requires { KeepsTerms (graph_seen graph.now) speller.old }
-    ensures kept { KeepsTerms (graph_seen graph.now) speller.new }
-    ensures ok { OnOk result (AppendsTriples form (graph_seen graph.now) (limited most (chosen (graph_seen graph.now) pattern)) out.old.items out.new.items) }
-    ensures err { IfErr result (TellsTriples form (graph_seen graph.now) (limited most (chosen (graph_seen graph.now) pattern))) }
+    requires { CachesTerms (graph_view graph.now) term_writer.old }
+    ensures kept { CachesTerms (graph_view graph.now) term_writer.new }
+    ensures ok { OnOk result (AppendsTriples format (graph_view graph.now) (limited most (matches_if_given (graph_view graph.now) pattern)) out.old.items out.new.items) }
+    ensures err { IfErr result (IsTextFault format (graph_view graph.now) (limited most (matches_if_given (graph_view graph.now) pattern))) }
     ensures left { OnErr result (out.new.items ≡ out.old.items) }
 {
-    match form {
-        Form::Lines => append_graph_text(alloc, graph, pattern, most, speller, out),
-        Form::Numbers => Ok(append_graph_numbers(graph, pattern, most, out)?),
-        Form::Count => {
-            let line = number_line(alloc, graph_count(graph, pattern, most))?;
+    match format {
+        OutputFormat::NTriples => append_graph_text(alloc, graph, pattern, most, term_writer, out),
+        OutputFormat::Numbers => Ok(append_graph_numbers(graph, pattern, most, out)?),
+        OutputFormat::Count => {
+            let line = number_line(alloc, count_graph_matches(graph, pattern, most))?;
             Ok(out.extend_from_slice(&line)?)
         }
     }

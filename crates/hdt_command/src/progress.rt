@@ -15,10 +15,10 @@ const LINES: u64 = 100;
 /// A reader that reports to a writer how many bytes it has read, at intervals and at the end. It ignores failures of
 /// the writer, and lack of memory for a line.
 #[derive(Drop)]
-pub struct Watched<R: Read, W: Write> {
+pub(crate) struct ProgressReader<R: Read, W: Write> {
     alloc: Global,
     input: R,
-    told: Option<Counted<W>>,
+    report_to: Option<Counted<W>>,
     /// The length of the input in bytes, if it is known.
     size: Option<u64>,
     read: u64,
@@ -27,7 +27,7 @@ pub struct Watched<R: Read, W: Write> {
 }
 
 /// A line with the number of bytes read, and the length of the input if it is known.
-fn line_of(alloc: Global, read: u64, size: Option<u64>) -> Result<String, AllocError>
+fn format_progress(alloc: Global, read: u64, size: Option<u64>) -> Result<String, AllocError>
     ensures { IfOk result (λ line. string_bytes line ≡ progress_line read size) }
 {
     match size {
@@ -36,15 +36,15 @@ fn line_of(alloc: Global, read: u64, size: Option<u64>) -> Result<String, AllocE
     }
 }
 
-impl<R: Read, W: Write + Drop> Watched<R, W> {
-    /// A reader of `input`, of `size` bytes if that is known. Without a writer `told` it reports nothing.
-    pub fn new(alloc: Global, input: R, told: Option<W>, size: Option<u64>) -> Watched<R, W>
+impl<R: Read, W: Write + Drop> ProgressReader<R, W> {
+    /// A reader of `input`, of `size` bytes if that is known. Without a writer `report_to` it reports nothing.
+    pub(crate) fn new(alloc: Global, input: R, report_to: Option<W>, size: Option<u64>) -> ProgressReader<R, W>
         ensures { result.input ≡ input }
     {
-        Watched {
+        ProgressReader {
             alloc,
             input,
-            told: told.map(Counted::new),
+            report_to: report_to.map(Counted::new),
             size,
             read: 0,
             next: STEP,
@@ -52,43 +52,43 @@ impl<R: Read, W: Write + Drop> Watched<R, W> {
     }
 
     /// The length of the input in bytes, if it is known.
-    pub fn size(&self) -> Option<u64>
+    pub(crate) fn size(&self) -> Option<u64>
         ensures { result ≡ self.now.size }
     {
         self.size
     }
 
     /// Writes a line, and determines when the next one is due.
-    fn tell(&mut self)
+    fn report(&mut self)
         ensures { self.new.input ≡ self.old.input }
     {
         let step = self.size.unwrap_or(0) / LINES;
         self.next = self.read.saturating_add(step.max(STEP));
-        let Some(out) = &mut self.told else {
+        let Some(out) = &mut self.report_to else {
             return;
         };
-        if let Ok(line) = line_of(self.alloc, self.read, self.size) {
+        if let Ok(line) = format_progress(self.alloc, self.read, self.size) {
             let _ = out.write_all(line.as_bytes());
         }
     }
 
-    /// Counts bytes read into a buffer of `room` bytes, and writes a line if one is due. Nothing is reported
+    /// Counts bytes read into a buffer of `buffer_len` bytes, and writes a line if one is due. Nothing is reported
     /// after the end.
-    fn count(&mut self, bytes: usize, room: usize)
+    fn count(&mut self, bytes: usize, buffer_len: usize)
         ensures { self.new.input ≡ self.old.input }
     {
         self.read = self.read.saturating_add(bytes as u64);
-        let ended = bytes == 0 && room > 0;
+        let ended = bytes == 0 && buffer_len > 0;
         if ended || self.read >= self.next {
-            self.tell();
+            self.report();
         }
         if ended {
-            self.told = None;
+            self.report_to = None;
         }
     }
 }
 
-impl<R: Read, W: Write + Drop> Read for Watched<R, W> {
+impl<R: Read, W: Write + Drop> Read for ProgressReader<R, W> {
     ghost use Rattle.std.specs.Io.{ReadsAtMost};
     ghost use Rattle.std.specs.Io.KnownBytes.{ReadConsumes};
 

@@ -5,9 +5,9 @@ use hdt_dict::Role;
 
 /// The format in which triples are printed.
 #[derive(Clone, Copy, Debug, Drop)]
-pub enum Form {
+pub enum OutputFormat {
     /// N-Triples.
-    Lines,
+    NTriples,
     /// One line per triple, with its three IDs.
     Numbers,
     /// One line with the number of triples.
@@ -16,9 +16,9 @@ pub enum Form {
 
 /// The options of `answer`.
 #[derive(Clone, Copy, Debug, Drop)]
-pub struct Asking {
+pub struct AnswerOptions {
     /// The format of the triples in an answer.
-    pub form: Form,
+    pub format: OutputFormat,
     /// The maximum number of triples in an answer; `None` for no limit.
     pub most: Option<u64>,
     /// Whether requests give dictionary strings instead of N-Triples terms.
@@ -54,12 +54,12 @@ pub enum Action {
         /// The strings of subject, predicate and object; `None` matches any.
         given: [Option<Vec<u8>>; 3],
         /// The format in which they are printed.
-        form: Form,
+        format: OutputFormat,
         /// The maximum number of triples; `None` for no limit.
         most: Option<u64>,
     },
     /// Answers the requests of standard input over a file.
-    Answer(Asking),
+    Answer(AnswerOptions),
     /// Builds an HDT file from an N-Triples document, and prints the counts of its parts.
     Build(Options),
     /// Writes the canonical file of a file's triples, with this block size, and prints the counts of its parts.
@@ -79,7 +79,7 @@ pub struct Request {
 
 /// A request, and whether to report progress.
 #[derive(Debug, Drop)]
-pub struct Call {
+pub struct Invocation {
     /// The request.
     pub request: Request,
     /// Whether to report the progress of reading.

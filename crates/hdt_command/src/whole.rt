@@ -2,13 +2,13 @@
 ghost use Rattle.std.specs.Prelude.{◌≡◌};
 ghost use Rattle.hdt_command.specs.Whole.{printing_action};
 
-use crate::request::{Action, Asking, Form};
+use crate::request::{Action, AnswerOptions, OutputFormat};
 use hdt_build::Options;
 use hdt_dict::Role;
 
 /// A command that prints a complete text and writes no file.
 #[derive(Clone, Copy, Drop)]
-pub enum Query<'a> {
+pub(crate) enum Query<'a> {
     /// As [`Action::Head`].
     Head,
     /// As [`Action::Verify`].
@@ -31,17 +31,17 @@ pub enum Query<'a> {
         /// The strings of subject, predicate and object; `None` matches any.
         given: &'a [Option<Vec<u8>>; 3],
         /// The format in which triples are printed.
-        form: Form,
+        format: OutputFormat,
         /// The maximum number of triples; `None` for no limit.
         most: Option<u64>,
     },
     /// As [`Action::Answer`].
-    Answer(Asking),
+    Answer(AnswerOptions),
 }
 
 /// A command that prints a complete text.
 #[derive(Clone, Copy, Drop)]
-pub enum Whole<'a> {
+pub(crate) enum Whole<'a> {
     /// As [`Action::Build`].
     Build(&'a Options),
     /// As [`Action::Rewrite`].
@@ -52,7 +52,7 @@ pub enum Whole<'a> {
 
 /// A command by how it prints.
 #[derive(Clone, Copy, Drop)]
-pub enum Printing<'a> {
+pub(crate) enum Printing<'a> {
     /// As [`Action::Strings`]: in pieces.
     Pieces(Role),
     /// A complete text.
@@ -60,7 +60,7 @@ pub enum Printing<'a> {
 }
 
 /// How a command prints.
-pub fn printing_of(action: &Action) -> Printing<'_>
+pub(crate) fn printing_of(action: &Action) -> Printing<'_>
     ensures { printing_action result ≡ action.now }
 {
     let query = match action {
@@ -76,12 +76,12 @@ pub fn printing_of(action: &Action) -> Printing<'_>
             given,
             numbers: *numbers,
         },
-        Action::Search { given, form, most } => Query::Search {
+        Action::Search { given, format, most } => Query::Search {
             given,
-            form: *form,
+            format: *format,
             most: *most,
         },
-        Action::Answer(asking) => Query::Answer(*asking),
+        Action::Answer(options) => Query::Answer(*options),
     };
     Printing::Whole(Whole::Query(query))
 }

@@ -1,11 +1,11 @@
-pub mod Texts
+pub mod BorrowedStrings
 pub mod Splitting
 pub mod Merging
 pub mod Overlaps
-pub mod Rows
+pub mod DisjointChecks
 pub mod Numbering
 pub mod Dictionaries
-pub mod Steps
-pub mod Turning
+pub mod IterationSteps
+pub mod ComparisonUpdates
 pub mod Appending
-pub mod OneAfterAnother
+pub mod Concatenation

@@ -11,7 +11,7 @@ use Rattle.std.proofs.lemmas.Map.Lookups.{exact_bytes}
 use Rattle.std.proofs.lemmas.Map.Keys.{Less-from_sorted}
 use Rattle.std.proofs.lemmas.Slice.Eq.{bytes_eq-Decides}
 use Rattle.hdt_dict.specs.Laws.Merge.{has_here, has_past}
-use Rattle.hdt_dict.specs.Inside.Merging.{ArePassed, IsFirstAlone, AreEqual}
+use Rattle.hdt_dict.specs.Inside.Merging.{ArePassed, IsNextInFirstOnly, AreNextInBoth}
 use Rattle.hdt_front.specs.Order.{IsAscending, string_cmp}
 use Rattle.hdt_dict.specs.Laws.Strings.{Contains-has}
 
@@ -45,7 +45,7 @@ pass_one xs ys i j here passed k after less m from within =
     below_more _ _ (passed m (omega (arith, after, from)) within) (ap (λ z. string_cmp z y) (get_or_default xs i y [] here) ∙ less m from within)
 
 pub less_alone : (xs ys : List (List ℕ)) (i j : ℕ) → IsAscending ys → i < length xs → j < length ys → ArePassed xs i ys j → ArePassed ys j xs i → string_cmp (get_or xs i []) (get_or ys j []) ≡ Less
-    → IsFirstAlone xs i ys j
+    → IsNextInFirstOnly xs i ys j
 less_alone xs ys i j up here there xs_passed ys_passed less =
     let x = get_or xs i [] in
     let y = get_or ys j [] in
@@ -58,7 +58,7 @@ less_alone xs ys i j up here there xs_passed ys_passed less =
       ahead = λ m from within. ys_passed m (omega (arith, from)) within;
     }
 
-pub past_alone : (xs ys : List (List ℕ)) (i j : ℕ) → IsAscending ys → i < length xs → length ys ≤ j → ArePassed ys j xs i → IsFirstAlone xs i ys j
+pub past_alone : (xs ys : List (List ℕ)) (i j : ℕ) → IsAscending ys → i < length xs → length ys ≤ j → ArePassed ys j xs i → IsNextInFirstOnly xs i ys j
 past_alone xs ys i j up here past ys_passed = record {
   within = here;
   lacks = sym (has_past ys j (get_or xs i []) up (ys_passed i (omega arith) here) past);
@@ -67,7 +67,7 @@ past_alone xs ys i j up here past ys_passed = record {
 }
 
 pub equal_both : (xs ys : List (List ℕ)) (i j : ℕ) → IsAscending xs → IsAscending ys → i < length xs → j < length ys → ArePassed xs i ys j → ArePassed ys j xs i
-    → string_cmp (get_or xs i []) (get_or ys j []) ≡ Equal → AreEqual xs i ys j
+    → string_cmp (get_or xs i []) (get_or ys j []) ≡ Equal → AreNextInBoth xs i ys j
 equal_both xs ys i j up_x up_y here there xs_passed ys_passed equal =
     let x = get_or xs i [] in
     let y = get_or ys j [] in

@@ -7,14 +7,14 @@ use Rattle.std.specs.Ordering.{is_lt}
 use Rattle.std.proofs.lemmas.Cmp.{nat_list_cmp_total, tied_itself}
 use Rattle.std.proofs.lemmas.Slice.Eq.{bytes_eq-Decides}
 use Rattle.std.proofs.lemmas.Option.{slice_get_within}
-use Rattle.hdt_front.specs.StringRows.{precedes}
-use Rattle.hdt_front.specs.Numbering.{place}
-use Rattle.hdt_front.specs.Walking.{Placed, After, PlacedAscend, strings}
+use Rattle.hdt_front.specs.StringChecks.{precedes}
+use Rattle.hdt_front.specs.StringIds.{id_of}
+use Rattle.hdt_front.specs.Iteration.{LocatedString, After, LocatedAscend, strings}
 use Rattle.hdt_dict.specs.Strings.{has}
-use Rattle.hdt_dict.specs.Dictionary.{AreApart}
-use Rattle.hdt_dict.proofs.Rows.{has-append}
+use Rattle.hdt_dict.specs.Dictionary.{AreDisjoint}
+use Rattle.hdt_dict.proofs.DisjointChecks.{has-append}
 use Rattle.hdt_dict.specs.Laws.Strings.{has-Contains}
-use Rattle.hdt_dict.specs.Numbered.{numbered}
+use Rattle.hdt_dict.specs.Ids.{string_at_id}
 use Rattle.hdt_dict.proofs.Overlaps.{not_ahead}
 
 -- ---- equal strings
@@ -42,18 +42,18 @@ abbrev pub Distinct : List (List ℕ) → Type 0
 Distinct [] = Unit {0}
 Distinct (x ∷ xs) = (has xs x ≡ false) × Distinct xs
 
-distinct_after : (s : List ℕ) (ps : List Placed) → After s ps → Distinct (s ∷ strings ps)
+distinct_after : (s : List ℕ) (ps : List LocatedString) → After s ps → Distinct (s ∷ strings ps)
 distinct_after s [] a = (refl, tt)
 distinct_after s (p ∷ ps) a = (not_ahead s s (p ∷ ps) a (not_itself s), distinct_after p.string ps a.1)
 
-pub distinct_ascending : (ps : List Placed) → PlacedAscend ps → Distinct (strings ps)
+pub distinct_ascending : (ps : List LocatedString) → LocatedAscend ps → Distinct (strings ps)
 distinct_ascending [] a = tt
 distinct_ascending (p ∷ ps) a = distinct_after p.string ps a
 
 is_not : (xs : List (List ℕ)) (x : List ℕ) → (Contains xs x → ⊥) → has xs x ≡ false
 is_not xs x none = false_is (has xs x) (λ h. none (has-Contains xs x h))
 
-pub distinct-append : (xs ys : List (List ℕ)) → Distinct xs → Distinct ys → AreApart xs ys → Distinct (xs ++ ys)
+pub distinct-append : (xs ys : List (List ℕ)) → Distinct xs → Distinct ys → AreDisjoint xs ys → Distinct (xs ++ ys)
 distinct-append [] ys dx dy n = dy
 distinct-append (x ∷ xs) ys dx dy n =
     let other : has ys x ≡ false = is_not ys x (λ there. n x (0, omega arith, refl) there) in (
@@ -80,12 +80,12 @@ append_by : (b : Bool) (o : Option ℕ) (k : ℕ) (r : Option ℕ) → cond b (S
 append_by true o k r = refl
 append_by false o k r = one_more o k r
 
-pub place-append : (xs ys : List (List ℕ)) (x : List ℕ) → place (xs ++ ys) x ≡ in_two (place xs x) (length xs) (place ys x)
-unfolding place
-place-append [] ys x = moved_on (place ys x)
-place-append (y ∷ xs) ys x =
-    ap (λ r. cond (bytes_eq y x) (Some 1) (option_map (λ n. n + 1) r)) (place-append xs ys x)
-    ∙ append_by (bytes_eq y x) (place xs x) (length xs) (place ys x)
+pub id_of-append : (xs ys : List (List ℕ)) (x : List ℕ) → id_of (xs ++ ys) x ≡ in_two (id_of xs x) (length xs) (id_of ys x)
+unfolding id_of
+id_of-append [] ys x = moved_on (id_of ys x)
+id_of-append (y ∷ xs) ys x =
+    ap (λ r. cond (bytes_eq y x) (Some 1) (option_map (λ n. n + 1) r)) (id_of-append xs ys x)
+    ∙ append_by (bytes_eq y x) (id_of xs x) (length xs) (id_of ys x)
 
 -- ---- an ID is that of its string
 
@@ -95,19 +95,19 @@ some_is x y e = cc
 number_is : (m n : ℕ) → (let r : Option ℕ = Some m in r) ≡ Some n → m ≡ n
 number_is m n e = cc
 
-string_by : (b : Bool) (y x : List ℕ) (ys : List (List ℕ)) (r : Option ℕ) (n : ℕ) → bytes_eq y x ≡ b → ((m : ℕ) → r ≡ Some m → numbered ys m ≡ Some x)
-    → cond b (Some 1) (option_map (λ n. n + 1) r) ≡ Some n → numbered (y ∷ ys) n ≡ Some x
-string_by true y x ys r n e rest is = ap (numbered (y ∷ ys)) (sym (number_is 1 n is)) ∙ ap Some (same y x e)
+string_by : (b : Bool) (y x : List ℕ) (ys : List (List ℕ)) (r : Option ℕ) (n : ℕ) → bytes_eq y x ≡ b → ((m : ℕ) → r ≡ Some m → string_at_id ys m ≡ Some x)
+    → cond b (Some 1) (option_map (λ n. n + 1) r) ≡ Some n → string_at_id (y ∷ ys) n ≡ Some x
+string_by true y x ys r n e rest is = ap (string_at_id (y ∷ ys)) (sym (number_is 1 n is)) ∙ ap Some (same y x e)
 string_by false y x ys None n e rest is = absurd (cc)
 string_by false y x ys (Some zero) n e rest is = let no_string = rest 0 refl in absurd (cc)
 string_by false y x ys (Some (suc m)) n e rest is =
     let k : n ≡ suc (suc m) = omega (arith, number_is (suc m + 1) n is) in
-    ap (numbered (y ∷ ys)) k ∙ rest (suc m) refl
+    ap (string_at_id (y ∷ ys)) k ∙ rest (suc m) refl
 
-pub string_of_number : (xs : List (List ℕ)) (x : List ℕ) (n : ℕ) → place xs x ≡ Some n → numbered xs n ≡ Some x
-unfolding place
+pub string_of_number : (xs : List (List ℕ)) (x : List ℕ) (n : ℕ) → id_of xs x ≡ Some n → string_at_id xs n ≡ Some x
+unfolding id_of
 string_of_number [] x n e = absurd (cc)
-string_of_number (y ∷ ys) x n e = string_by (bytes_eq y x) y x ys (place ys x) n refl (λ m h. string_of_number ys x m h) e
+string_of_number (y ∷ ys) x n e = string_by (bytes_eq y x) y x ys (id_of ys x) n refl (λ m h. string_of_number ys x m h) e
 
 member : (xs : List (List ℕ)) (x : List ℕ) (i : ℕ) → slice_get xs i ≡ Some x → has xs x ≡ true
 member [] x i e = absurd (cc)
@@ -118,55 +118,55 @@ member (y ∷ ys) x (suc i) e = second_true (bytes_eq y x) (has ys x) (member ys
     second_true true b h = refl
     second_true false b h = h
 
-number_at : (xs : List (List ℕ)) (x : List ℕ) (i : ℕ) → Distinct xs → slice_get xs i ≡ Some x → place xs x ≡ Some (i + 1)
-unfolding place
+number_at : (xs : List (List ℕ)) (x : List ℕ) (i : ℕ) → Distinct xs → slice_get xs i ≡ Some x → id_of xs x ≡ Some (i + 1)
+unfolding id_of
 number_at [] x i d e = absurd (cc)
 number_at (y ∷ ys) x zero d e =
-    ap (λ b. cond b (Some 1) (option_map (λ n. n + 1) (place ys x))) (ap (λ z. bytes_eq z x) (some_is y x e) ∙ itself x)
+    ap (λ b. cond b (Some 1) (option_map (λ n. n + 1) (id_of ys x))) (ap (λ z. bytes_eq z x) (some_is y x e) ∙ itself x)
 number_at (y ∷ ys) x (suc i) d e =
     let other : bytes_eq y x ≡ false = false_is (bytes_eq y x) (λ h. both_no (has ys x) (member ys x i e) (ap (has ys) (sym (same y x h)) ∙ d.0)) in
     let up : i + 1 + 1 ≡ suc i + 1 = omega arith in
-    ap (λ b. cond b (Some 1) (option_map (λ n. n + 1) (place ys x))) other ∙ ap (option_map (λ n. n + 1)) (number_at ys x i d.1 e) ∙ ap Some up
+    ap (λ b. cond b (Some 1) (option_map (λ n. n + 1) (id_of ys x))) other ∙ ap (option_map (λ n. n + 1)) (number_at ys x i d.1 e) ∙ ap Some up
 
-pub number_of_string : (xs : List (List ℕ)) (x : List ℕ) (n : ℕ) → Distinct xs → numbered xs n ≡ Some x → place xs x ≡ Some n
+pub number_of_string : (xs : List (List ℕ)) (x : List ℕ) (n : ℕ) → Distinct xs → string_at_id xs n ≡ Some x → id_of xs x ≡ Some n
 number_of_string xs x zero d e = absurd (cc)
 number_of_string xs x (suc i) d e = let up : i + 1 ≡ suc i = omega arith in number_at xs x i d e ∙ ap Some up
 
-pub inverse : (xs : List (List ℕ)) (x : List ℕ) (r : Option ℕ) (n : ℕ) → Distinct xs → r ≡ place xs x → (r ≡ Some n ↔ numbered xs n ≡ Some x)
+pub inverse : (xs : List (List ℕ)) (x : List ℕ) (r : Option ℕ) (n : ℕ) → Distinct xs → r ≡ id_of xs x → (r ≡ Some n ↔ string_at_id xs n ≡ Some x)
 inverse xs x r n d e = (λ h. string_of_number xs x n (sym e ∙ h), λ h. e ∙ number_of_string xs x n d h)
 
-numbered_within : (xs : List (List ℕ)) (x : List ℕ) (n : ℕ) → numbered xs n ≡ Some x → n ≤ length xs
+numbered_within : (xs : List (List ℕ)) (x : List ℕ) (n : ℕ) → string_at_id xs n ≡ Some x → n ≤ length xs
 numbered_within xs x zero e = omega arith
 numbered_within xs x (suc i) e = omega (arith, slice_get_within xs i x e)
 
 -- an ID is at most the length
-pub place_within : (xs : List (List ℕ)) (x : List ℕ) (n : ℕ) → place xs x ≡ Some n → n ≤ length xs
+pub place_within : (xs : List (List ℕ)) (x : List ℕ) (n : ℕ) → id_of xs x ≡ Some n → n ≤ length xs
 place_within xs x n e = numbered_within xs x n (string_of_number xs x n e)
 
-there : (xs : List (List ℕ)) (x : List ℕ) (n : ℕ) → numbered xs n ≡ Some x → Contains xs x
+there : (xs : List (List ℕ)) (x : List ℕ) (n : ℕ) → string_at_id xs n ≡ Some x → Contains xs x
 there xs x zero e = absurd (cc)
 there xs x (suc i) e = has-Contains xs x (member xs x i e)
 
 -- a string of one list has no ID in a disjoint list
-pub place_apart : (xs ys : List (List ℕ)) (x : List ℕ) (n : ℕ) → AreApart xs ys → place ys x ≡ Some n → place xs x ≡ None
-place_apart xs ys x n apart is = by (place xs x) refl
+pub place_apart : (xs ys : List (List ℕ)) (x : List ℕ) (n : ℕ) → AreDisjoint xs ys → id_of ys x ≡ Some n → id_of xs x ≡ None
+place_apart xs ys x n apart is = by (id_of xs x) refl
   where
-    by : (r : Option ℕ) → place xs x ≡ r → place xs x ≡ None
+    by : (r : Option ℕ) → id_of xs x ≡ r → id_of xs x ≡ None
     by None e = e
     by (Some m) e = absurd (apart x (there xs x m (string_of_number xs x m e)) (there ys x n (string_of_number ys x n is)))
 
 -- If the second list is searched first: its ID, plus the length of the first list, is the ID in both; if it has none,
 -- that of the first list is.
-pub found_behind : (xs ys : List (List ℕ)) (x : List ℕ) (n : ℕ) → AreApart xs ys → option_map (λ m. length xs + m) (place ys x) ≡ Some n → place (xs ++ ys) x ≡ Some n
-found_behind xs ys x n apart is = place-append xs ys x ∙ by (place ys x) refl is
+pub found_behind : (xs ys : List (List ℕ)) (x : List ℕ) (n : ℕ) → AreDisjoint xs ys → option_map (λ m. length xs + m) (id_of ys x) ≡ Some n → id_of (xs ++ ys) x ≡ Some n
+found_behind xs ys x n apart is = id_of-append xs ys x ∙ by (id_of ys x) refl is
   where
-    by : (r : Option ℕ) → place ys x ≡ r → option_map (λ m. length xs + m) r ≡ Some n → in_two (place xs x) (length xs) (place ys x) ≡ Some n
+    by : (r : Option ℕ) → id_of ys x ≡ r → option_map (λ m. length xs + m) r ≡ Some n → in_two (id_of xs x) (length xs) (id_of ys x) ≡ Some n
     by None e h = absurd (cc)
-    by (Some m) e h = ap (λ p. in_two p (length xs) (place ys x)) (place_apart xs ys x m apart e) ∙ ap (λ r. in_two None (length xs) r) e ∙ h
+    by (Some m) e h = ap (λ p. in_two p (length xs) (id_of ys x)) (place_apart xs ys x m apart e) ∙ ap (λ r. in_two None (length xs) r) e ∙ h
 
 none_behind : (p : Option ℕ) (k : ℕ) (r : Option ℕ) → option_map (λ m. k + m) r ≡ None → in_two p k r ≡ p
 none_behind (Some n) k r h = refl
 none_behind None k r h = h
 
-pub missed_behind : (xs ys : List (List ℕ)) (x : List ℕ) → option_map (λ m. length xs + m) (place ys x) ≡ None → place (xs ++ ys) x ≡ place xs x
-missed_behind xs ys x h = place-append xs ys x ∙ none_behind (place xs x) (length xs) (place ys x) h
+pub missed_behind : (xs ys : List (List ℕ)) (x : List ℕ) → option_map (λ m. length xs + m) (id_of ys x) ≡ None → id_of (xs ++ ys) x ≡ id_of xs x
+missed_behind xs ys x h = id_of-append xs ys x ∙ none_behind (id_of xs x) (length xs) (id_of ys x) h

@@ -8,9 +8,9 @@ use Rattle.std.specs.Ordering.{nat_cmp, is_lt, is_eq}
 use Rattle.std.specs.Cmp.Lexicographic.{slice_cmp}
 use Rattle.std.proofs.lemmas.Cmp.{nat_list_cmp_total, alike_right}
 use Rattle.std.proofs.lemmas.Map.Text.{is_eq-slice_cmp}
-use Rattle.hdt_front.specs.StringRows.{precedes}
-use Rattle.hdt_front.specs.Walking.{Placed, After, PlacedAscend, first_order, first_string, next_place}
-use Rattle.hdt_dict.specs.Inside.Overlap.{is_string_of, first_place, not_less, is_first}
+use Rattle.hdt_front.specs.StringChecks.{precedes}
+use Rattle.hdt_front.specs.Iteration.{LocatedString, After, LocatedAscend, first_order, first_string, next_offset}
+use Rattle.hdt_dict.specs.Inside.Overlap.{contains_string, first_offset, drop_less, is_first}
 
 abbrev order : List ℕ → List ℕ → Ordering
 order x y = slice_cmp nat_cmp x y
@@ -41,13 +41,13 @@ not_after s p x Equal e h k =
     let both : true ≡ false = sym same ∙ k in absurd (cc)
 not_after s p x Greater e h k = (sym (is_eq-slice_cmp p x) ∙ ap is_eq e, ap is_lt e)
 
-pub not_ahead : (s x : List ℕ) (ps : List Placed) → After s ps → precedes s x ≡ false → is_string_of ps x ≡ false
+pub not_ahead : (s x : List ℕ) (ps : List LocatedString) → After s ps → precedes s x ≡ false → contains_string ps x ≡ false
 not_ahead s x [] a h = refl
 not_ahead s x (p ∷ ps) a h =
     let n = not_after s p.string x (order p.string x) refl a.0 h in
-    ap (λ b. b || is_string_of ps x) n.0 ∙ not_ahead p.string x ps a.1 n.1
+    ap (λ b. b || contains_string ps x) n.0 ∙ not_ahead p.string x ps a.1 n.1
 
-pub ascends_tail : (s : List ℕ) (ps : List Placed) → After s ps → PlacedAscend ps
+pub ascends_tail : (s : List ℕ) (ps : List LocatedString) → After s ps → LocatedAscend ps
 ascends_tail s [] a = tt
 ascends_tail s (p ∷ ps) a = a.1
 
@@ -57,41 +57,41 @@ or_false : (b c : Bool) → c ≡ false → b ≡ (b || c)
 or_false true c e = refl
 or_false false c e = sym e
 
-first_is_by : (b : Bool) (x : List ℕ) (p : Placed) (ps : List Placed) → precedes p.string x ≡ b → After p.string ps → (is_first x (not_less x ps) ≡ is_string_of ps x)
-    → is_first x (cond b (not_less x ps) (p ∷ ps)) ≡ is_string_of (p ∷ ps) x
-first_is_by true x p ps e a rest = rest ∙ sym (ap (λ b. b || is_string_of ps x) (apart p.string x e))
-first_is_by false x p ps e a rest = is_eq-slice_cmp p.string x ∙ or_false (bytes_eq p.string x) (is_string_of ps x) (not_ahead p.string x ps a e)
+first_is_by : (b : Bool) (x : List ℕ) (p : LocatedString) (ps : List LocatedString) → precedes p.string x ≡ b → After p.string ps → (is_first x (drop_less x ps) ≡ contains_string ps x)
+    → is_first x (cond b (drop_less x ps) (p ∷ ps)) ≡ contains_string (p ∷ ps) x
+first_is_by true x p ps e a rest = rest ∙ sym (ap (λ b. b || contains_string ps x) (apart p.string x e))
+first_is_by false x p ps e a rest = is_eq-slice_cmp p.string x ∙ or_false (bytes_eq p.string x) (contains_string ps x) (not_ahead p.string x ps a e)
 
 -- the string is next exactly if it is in the list
-pub first_is : (x : List ℕ) (ps : List Placed) → PlacedAscend ps → is_first x (not_less x ps) ≡ is_string_of ps x
+pub first_is : (x : List ℕ) (ps : List LocatedString) → LocatedAscend ps → is_first x (drop_less x ps) ≡ contains_string ps x
 first_is x [] a = refl
 first_is x (p ∷ ps) a = first_is_by (precedes p.string x) x p ps refl a (first_is x ps (ascends_tail p.string ps a))
 
-among_left_by : (b : Bool) (x z : List ℕ) (p : Placed) (ps : List Placed) → precedes p.string x ≡ b → precedes x z ≡ true → is_string_of (not_less x ps) z ≡ is_string_of ps z
-    → is_string_of (cond b (not_less x ps) (p ∷ ps)) z ≡ is_string_of (p ∷ ps) z
-among_left_by true x z p ps e h rest = rest ∙ sym (ap (λ b. b || is_string_of ps z) (apart p.string z (trans p.string x z e h)))
+among_left_by : (b : Bool) (x z : List ℕ) (p : LocatedString) (ps : List LocatedString) → precedes p.string x ≡ b → precedes x z ≡ true → contains_string (drop_less x ps) z ≡ contains_string ps z
+    → contains_string (cond b (drop_less x ps) (p ∷ ps)) z ≡ contains_string (p ∷ ps) z
+among_left_by true x z p ps e h rest = rest ∙ sym (ap (λ b. b || contains_string ps z) (apart p.string z (trans p.string x z e h)))
 among_left_by false x z p ps e h rest = refl
 
 -- no string that is greater than x is passed
-pub among_left : (x z : List ℕ) (ps : List Placed) → precedes x z ≡ true → is_string_of (not_less x ps) z ≡ is_string_of ps z
+pub among_left : (x z : List ℕ) (ps : List LocatedString) → precedes x z ≡ true → contains_string (drop_less x ps) z ≡ contains_string ps z
 among_left x z [] h = refl
 among_left x z (p ∷ ps) h = among_left_by (precedes p.string x) x z p ps refl h (among_left x z ps h)
 
-ascends_left_by : (b : Bool) (x : List ℕ) (p : Placed) (ps : List Placed) → After p.string ps → PlacedAscend (not_less x ps) → PlacedAscend (cond b (not_less x ps) (p ∷ ps))
+ascends_left_by : (b : Bool) (x : List ℕ) (p : LocatedString) (ps : List LocatedString) → After p.string ps → LocatedAscend (drop_less x ps) → LocatedAscend (cond b (drop_less x ps) (p ∷ ps))
 ascends_left_by true x p ps a rest = rest
 ascends_left_by false x p ps a rest = a
 
-pub ascends_left : (x : List ℕ) (ps : List Placed) → PlacedAscend ps → PlacedAscend (not_less x ps)
+pub ascends_left : (x : List ℕ) (ps : List LocatedString) → LocatedAscend ps → LocatedAscend (drop_less x ps)
 ascends_left x [] a = tt
 ascends_left x (p ∷ ps) a = ascends_left_by (precedes p.string x) x p ps a (ascends_left x ps (ascends_tail p.string ps a))
 
 -- ---- one iteration of `reaches`
 
-pub passes : (x : List ℕ) (v : List Placed) → first_order v x ≡ Less → not_less x (drop 1 v) ≡ not_less x v
+pub passes : (x : List ℕ) (v : List LocatedString) → first_order v x ≡ Less → drop_less x (drop 1 v) ≡ drop_less x v
 passes x [] e = absurd (cc)
-passes x (p ∷ ps) e = sym (ap (λ o. cond (is_lt o) (not_less x ps) (p ∷ ps)) e)
+passes x (p ∷ ps) e = sym (ap (λ o. cond (is_lt o) (drop_less x ps) (p ∷ ps)) e)
 
-pub fewer : (x : List ℕ) (v : List Placed) → first_order v x ≡ Less → length (drop 1 v) < length v
+pub fewer : (x : List ℕ) (v : List LocatedString) → first_order v x ≡ Less → length (drop 1 v) < length v
 fewer x [] e = absurd (cc)
 fewer x (p ∷ ps) e = omega arith
 
@@ -100,55 +100,55 @@ not_lt Less ne = absurd (ne refl)
 not_lt Equal ne = refl
 not_lt Greater ne = refl
 
-pub stops : (x : List ℕ) (v : List Placed) → first_order v x ≢ Less → v ≡ not_less x v
+pub stops : (x : List ℕ) (v : List LocatedString) → first_order v x ≢ Less → v ≡ drop_less x v
 stops x [] ne = refl
-stops x (p ∷ ps) ne = sym (ap (λ b. cond b (not_less x ps) (p ∷ ps)) (not_lt (first_order (p ∷ ps) x) ne))
+stops x (p ∷ ps) ne = sym (ap (λ b. cond b (drop_less x ps) (p ∷ ps)) (not_lt (first_order (p ∷ ps) x) ne))
 
 -- ---- one iteration over a list, for any test
 
-same_first : (s : List ℕ) (ps : List Placed) (f g : List ℕ → Bool) → After s ps → ((z : List ℕ) → precedes s z ≡ true → f z ≡ g z) → first_place f ps ≡ first_place g ps
+same_first : (s : List ℕ) (ps : List LocatedString) (f g : List ℕ → Bool) → After s ps → ((z : List ℕ) → precedes s z ≡ true → f z ≡ g z) → first_offset f ps ≡ first_offset g ps
 same_first s [] f g a same = refl
 same_first s (p ∷ ps) f g a same =
-    ap (λ b. cond b (Some p.place) (first_place f ps)) (same p.string a.0)
+    ap (λ b. cond b (Some p.place) (first_offset f ps)) (same p.string a.0)
     ∙ ap (λ r. cond (g p.string) (Some p.place) r) (same_first p.string ps f g a.1 (λ z h. same z (trans s p.string z a.0 h)))
 
-string_of : (p : Placed) (ps : List Placed) (x : List ℕ) → first_string (p ∷ ps) ≡ Some x → p.string ≡ x
+string_of : (p : LocatedString) (ps : List LocatedString) (x : List ℕ) → first_string (p ∷ ps) ≡ Some x → p.string ≡ x
 string_of p ps x e = cc
 
 -- a string that fails the test, and another test with the same result for all strings after it
-pub turns : (v : List Placed) (x : List ℕ) (f g : List ℕ → Bool) → first_string v ≡ Some x → PlacedAscend v → f x ≡ false → ((z : List ℕ) → precedes x z ≡ true → g z ≡ f z)
-    → first_place g (drop 1 v) ≡ first_place f v
+pub turns : (v : List LocatedString) (x : List ℕ) (f g : List ℕ → Bool) → first_string v ≡ Some x → LocatedAscend v → f x ≡ false → ((z : List ℕ) → precedes x z ≡ true → g z ≡ f z)
+    → first_offset g (drop 1 v) ≡ first_offset f v
 turns [] x f g e a fails same = absurd (cc)
 turns (p ∷ ps) x f g e a fails same =
     let is = string_of p ps x e in
     same_first p.string ps g f a (λ z h. same z (ap (λ y. precedes y z) (sym is) ∙ h))
-    ∙ sym (ap (λ b. cond b (Some p.place) (first_place f ps)) (ap f is ∙ fails))
+    ∙ sym (ap (λ b. cond b (Some p.place) (first_offset f ps)) (ap f is ∙ fails))
 
-pub meets : (v : List Placed) (x : List ℕ) (f : List ℕ → Bool) → first_string v ≡ Some x → f x ≡ true → next_place v ≡ first_place f v
+pub meets : (v : List LocatedString) (x : List ℕ) (f : List ℕ → Bool) → first_string v ≡ Some x → f x ≡ true → next_offset v ≡ first_offset f v
 meets [] x f e holds = absurd (cc)
-meets (p ∷ ps) x f e holds = sym (ap (λ b. cond b (Some p.place) (first_place f ps)) (ap f (string_of p ps x e) ∙ holds))
+meets (p ∷ ps) x f e holds = sym (ap (λ b. cond b (Some p.place) (first_offset f ps)) (ap f (string_of p ps x e) ∙ holds))
 
-pub ascends_drop : (v : List Placed) → PlacedAscend v → PlacedAscend (drop 1 v)
+pub ascends_drop : (v : List LocatedString) → LocatedAscend v → LocatedAscend (drop 1 v)
 ascends_drop [] a = tt
 ascends_drop (p ∷ ps) a = ascends_tail p.string ps a
 
 -- ---- the result of `reaches`, and the remaining strings
 
-pub reached : (x : List ℕ) (v w : List Placed) (b : Bool) → PlacedAscend v → b ≡ is_first x w → w ≡ not_less x v → b ≡ is_string_of v x
+pub reached : (x : List ℕ) (v w : List LocatedString) (b : Bool) → LocatedAscend v → b ≡ is_first x w → w ≡ drop_less x v → b ≡ contains_string v x
 reached x v w b a found left = found ∙ ap (is_first x) left ∙ first_is x v a
 
-pub ascends_after : (x : List ℕ) (v w : List Placed) → PlacedAscend v → w ≡ not_less x v → PlacedAscend w
-ascends_after x v w a left = subst PlacedAscend (sym left) (ascends_left x v a)
+pub ascends_after : (x : List ℕ) (v w : List LocatedString) → LocatedAscend v → w ≡ drop_less x v → LocatedAscend w
+ascends_after x v w a left = subst LocatedAscend (sym left) (ascends_left x v a)
 
-pub among_after : (x : List ℕ) (v w : List Placed) → w ≡ not_less x v → (z : List ℕ) → precedes x z ≡ true → is_string_of w z ≡ is_string_of v z
-among_after x v w left z h = ap (λ (l : List Placed). is_string_of l z) left ∙ among_left x z v h
+pub among_after : (x : List ℕ) (v w : List LocatedString) → w ≡ drop_less x v → (z : List ℕ) → precedes x z ≡ true → contains_string w z ≡ contains_string v z
+among_after x v w left z h = ap (λ (l : List LocatedString). contains_string l z) left ∙ among_left x z v h
 
-pub ascends_passed : (v w : List Placed) → PlacedAscend v → w ≡ drop 1 v → PlacedAscend w
-ascends_passed v w a left = subst PlacedAscend (sym left) (ascends_drop v a)
+pub ascends_passed : (v w : List LocatedString) → LocatedAscend v → w ≡ drop 1 v → LocatedAscend w
+ascends_passed v w a left = subst LocatedAscend (sym left) (ascends_drop v a)
 
-pub turned : (v w : List Placed) (x : List ℕ) (f g : List ℕ → Bool) → first_string v ≡ Some x → PlacedAscend v → w ≡ drop 1 v → f x ≡ false → ((z : List ℕ) → precedes x z ≡ true → g z ≡ f z)
-    → first_place g w ≡ first_place f v
-turned v w x f g e a left fails same = ap (first_place g) left ∙ turns v x f g e a fails same
+pub turned : (v w : List LocatedString) (x : List ℕ) (f g : List ℕ → Bool) → first_string v ≡ Some x → LocatedAscend v → w ≡ drop 1 v → f x ≡ false → ((z : List ℕ) → precedes x z ≡ true → g z ≡ f z)
+    → first_offset g w ≡ first_offset f v
+turned v w x f g e a left fails same = ap (first_offset g) left ∙ turns v x f g e a fails same
 
 -- ---- two tests
 
@@ -167,11 +167,11 @@ or_both a b c d e f = ap (λ a. a || b) e ∙ ap (λ b. c || b) f
 
 -- ---- the cursors are at the start of their sections
 
-pub answered : (r : Result (Option ℕ) AllocError) (list one two list' one' two' : List Placed)
-    → IfOk r (λ r. r ≡ first_place (λ x. is_string_of one x || is_string_of two x) list) → list ≡ list' → one ≡ one' → two ≡ two'
-    → IfOk r (λ r. r ≡ first_place (λ x. is_string_of one' x || is_string_of two' x) list')
+pub answered : (r : Result (Option ℕ) AllocError) (list one two list' one' two' : List LocatedString)
+    → IfOk r (λ r. r ≡ first_offset (λ x. contains_string one x || contains_string two x) list) → list ≡ list' → one ≡ one' → two ≡ two'
+    → IfOk r (λ r. r ≡ first_offset (λ x. contains_string one' x || contains_string two' x) list')
 answered (Ok r) list one two list' one' two' h e f g =
-    h ∙ ap (λ v. first_place (λ x. is_string_of v x || is_string_of two x) list) f
-    ∙ ap (λ w. first_place (λ x. is_string_of one' x || is_string_of w x) list) g
-    ∙ ap (first_place (λ x. is_string_of one' x || is_string_of two' x)) e
+    h ∙ ap (λ v. first_offset (λ x. contains_string v x || contains_string two x) list) f
+    ∙ ap (λ w. first_offset (λ x. contains_string one' x || contains_string w x) list) g
+    ∙ ap (first_offset (λ x. contains_string one' x || contains_string two' x)) e
 answered (Err r) list one two list' one' two' h e f g = tt

@@ -8,7 +8,7 @@ use Rattle.hdt_dict.specs.Laws.Members.{Contains-from_filter, Contains-filter}
 use Rattle.hdt_dict.specs.Laws.Strings.{has-Contains, Contains-has}
 use Rattle.hdt_dict.specs.Laws.Merge.{lacks, lacks-back}
 use Rattle.hdt_dict.specs.Split.{IsSplit}
-use Rattle.hdt_dict.specs.Dictionary.{FourLists}
+use Rattle.hdt_dict.specs.Dictionary.{SectionLists}
 
 -- a filter of an ascending list ascends
 pub filter_ascends : (p : List ℕ → Bool) (xs r : List (List ℕ)) → r ≡ filter p xs → IsAscending xs → IsAscending r
@@ -29,7 +29,7 @@ rest_of ss os s o r same_s same_o is x = rw is (
   λ h. Contains-filter (λ y. not (has o y)) s x ((same_s x).1 h.0) (lacks o x (λ there. h.1 ((same_o x).0 there))),
 )
 
-pub are_split : (ss ps os s p o : List (List ℕ)) (d : FourLists)
+pub are_split : (ss ps os s p o : List (List ℕ)) (d : SectionLists)
     → SameMembers s ss → SameMembers p ps → SameMembers o os → IsAscending s → IsAscending p → IsAscending o
     → d.shared ≡ filter (has o) s → d.subjects ≡ filter (λ x. not (has o x)) s → d.objects ≡ filter (λ x. not (has s x)) o → d.predicates ≡ p
     → IsSplit ss ps os d

@@ -5,10 +5,10 @@ use Rattle.std.specs.List.{Contains}
 use Rattle.hdt_wire.specs.declared.fault.Fault.{Fault}
 use Rattle.hdt_wire.specs.declared.fault.Reason.TheVariants.{SectionsOverlap}
 use Rattle.hdt_wire.specs.declared.control.Kind.TheVariants as kinds
-use Rattle.hdt_wire.specs.Rows.{◌>>=◌, demand}
-use Rattle.hdt_wire.specs.Control.{Block, IsBlock, control_at}
-use Rattle.hdt_wire.specs.ExactItems.{rows_from}
-use Rattle.hdt_front.specs.Section.{SectionParts, IsSection, string_place, section_at, PackedParts, packed_parts_at}
+use Rattle.hdt_wire.specs.Checks.{◌>>=◌, demand}
+use Rattle.hdt_wire.specs.Control.{ControlInfo, IsControlAt, control_at}
+use Rattle.hdt_wire.specs.ItemChecks.{checks_from}
+use Rattle.hdt_front.specs.Section.{SectionParts, IsSection, string_offset, section_at, PackedParts, packed_parts_at}
 use Rattle.hdt_dict.specs.Strings.{has}
 use Rattle.hdt_wire.specs.declared.role.Role.{Role}
 use Rattle.hdt_wire.specs.declared.role.Role.TheVariants.{Subject, Predicate, Object}
@@ -21,55 +21,55 @@ pub record DictionaryParts : Type 0 where
   pub objects : SectionParts
 
 -- the strings of the four sections
-pub record FourLists : Type 0 where
+pub record SectionLists : Type 0 where
   pub shared : List (List ℕ)
   pub subjects : List (List ℕ)
   pub predicates : List (List ℕ)
   pub objects : List (List ℕ)
 
 -- the strings of a dictionary
-abbrev pub sections_of : DictionaryParts → FourLists
-sections_of d = record { shared = d.shared.strings; subjects = d.subjects.strings; predicates = d.predicates.strings; objects = d.objects.strings }
+abbrev pub lists_of_dictionary : DictionaryParts → SectionLists
+lists_of_dictionary d = record { shared = d.shared.strings; subjects = d.subjects.strings; predicates = d.predicates.strings; objects = d.objects.strings }
 
 -- the strings of a role, in the order of their IDs: ID 1 is the first
-abbrev pub strings_in : FourLists → Role → List (List ℕ)
-strings_in d Subject = d.shared ++ d.subjects
-strings_in d Predicate = d.predicates
-strings_in d Object = d.shared ++ d.objects
+abbrev pub role_strings : SectionLists → Role → List (List ℕ)
+role_strings d Subject = d.shared ++ d.subjects
+role_strings d Predicate = d.predicates
+role_strings d Object = d.shared ++ d.objects
 
 -- the section at an index, from 0, in file order
-abbrev pub section_number : DictionaryParts → ℕ → SectionParts
-section_number d zero = d.shared
-section_number d (suc zero) = d.subjects
-section_number d (suc (suc zero)) = d.predicates
-section_number d (suc (suc (suc i))) = d.objects
+abbrev pub section_by_index : DictionaryParts → ℕ → SectionParts
+section_by_index d zero = d.shared
+section_by_index d (suc zero) = d.subjects
+section_by_index d (suc (suc zero)) = d.predicates
+section_by_index d (suc (suc (suc i))) = d.objects
 
 -- no string is in both lists
-abbrev pub AreApart : List (List ℕ) → List (List ℕ) → Type 0
-AreApart xs ys = (x : List ℕ) → Contains xs x → Contains ys x → ⊥
+abbrev pub AreDisjoint : List (List ℕ) → List (List ℕ) → Type 0
+AreDisjoint xs ys = (x : List ℕ) → Contains xs x → Contains ys x → ⊥
 
 -- The dictionary is encoded at the offset: control information with any properties, then the four sections. No string
 -- is in two of shared, subjects and objects.
 pub record IsDictionary (d : DictionaryParts) (bytes : List ℕ) (at : ℕ) : Type 0 where
-  pub control : Block
-  pub block : IsBlock kinds.Dictionary control bytes at
+  pub control : ControlInfo
+  pub block : IsControlAt kinds.Dictionary control bytes at
   pub shared : IsSection d.shared bytes control.end
   pub subjects : IsSection d.subjects bytes d.shared.end
   pub predicates : IsSection d.predicates bytes d.subjects.end
   pub objects : IsSection d.objects bytes d.predicates.end
-  pub shared_subjects : AreApart d.shared.strings d.subjects.strings
-  pub shared_objects : AreApart d.shared.strings d.objects.strings
-  pub subjects_objects : AreApart d.subjects.strings d.objects.strings
+  pub shared_subjects : AreDisjoint d.shared.strings d.subjects.strings
+  pub shared_objects : AreDisjoint d.shared.strings d.objects.strings
+  pub subjects_objects : AreDisjoint d.subjects.strings d.objects.strings
 
 -- ---- the checks
 
 -- string i of a section is not one of the others
-unfoldable pub apart_row : List (List ℕ) → SectionParts → ℕ → Result (Unit {0}) Fault
-apart_row others s i = demand (not (has others (slice_index_or s.strings i []))) (string_place s i) SectionsOverlap
+unfoldable pub disjoint_check : List (List ℕ) → SectionParts → ℕ → Result (Unit {0}) Fault
+disjoint_check others s i = demand (not (has others (slice_index_or s.strings i []))) (string_offset s i) SectionsOverlap
 
 -- no string of a section is one of the others
-abbrev pub apart_at : List (List ℕ) → SectionParts → Result (Unit {0}) Fault
-apart_at others s = rows_from (apart_row others s) 0 (length s.strings)
+abbrev pub disjoint_at : List (List ℕ) → SectionParts → Result (Unit {0}) Fault
+disjoint_at others s = checks_from (disjoint_check others s) 0 (length s.strings)
 
 -- all checks in order: the dictionary, or the first error
 unfoldable pub dictionary_at : List ℕ → ℕ → Result DictionaryParts Fault
@@ -79,12 +79,12 @@ dictionary_at bytes at = do
   subjects ← section_at bytes shared.end
   predicates ← section_at bytes subjects.end
   objects ← section_at bytes predicates.end
-  _ ← apart_at shared.strings subjects
-  _ ← apart_at (shared.strings ++ subjects.strings) objects
+  _ ← disjoint_at shared.strings subjects
+  _ ← disjoint_at (shared.strings ++ subjects.strings) objects
   Ok (record { shared = shared; subjects = subjects; predicates = predicates; objects = objects })
 
 -- the checks before any string is decoded: the control information, and the header of the first section
-unfoldable pub rows_above_strings : List ℕ → ℕ → Result PackedParts Fault
-rows_above_strings bytes at = do
+unfoldable pub checks_before_strings : List ℕ → ℕ → Result PackedParts Fault
+checks_before_strings bytes at = do
   control ← control_at kinds.Dictionary bytes at
   packed_parts_at bytes control.end

@@ -7,12 +7,12 @@ use Rattle.std.specs.Str.{bytes_eq}
 use Rattle.std.specs.Borrow.{Bor}
 
 -- a borrowed string, a `&[u8]`
-abbrev pub Lent : Type 0
-Lent = Bor (List ℕ)
+abbrev pub BorrowedString : Type 0
+BorrowedString = Bor (List ℕ)
 
 -- the default for an index past the end of a list of borrowed strings
-abbrev pub nothing : Lent
-nothing = record { ref_ptr = (0, 0); now = [] }
+abbrev pub empty_string : BorrowedString
+empty_string = record { ref_ptr = (0, 0); now = [] }
 
 -- the lists have the same members, in any order and any number of times
 abbrev pub SameMembers : {X : Type 0} → List X → List X → Type 0

@@ -14,15 +14,15 @@ dictionary_of d = record { shared = section_of d.shared; subjects = section_of d
 -- ---- the bytes that decoding a string reads
 
 -- the front-coded bytes of the block of the string with ID n, from 1; empty if there is no such string
-abbrev pub string_bytes : Section → ℕ → List ℕ
-string_bytes s n = cond (nat_le 1 n && nat_le n (length (strings_of s))) (packed_block s (n - 1)) []
+abbrev pub block_bytes : Section → ℕ → List ℕ
+block_bytes s n = cond (nat_le 1 n && nat_le n (length (strings_of s))) (packed_block s (n - 1)) []
 
 -- the same over two consecutive sections
-abbrev pub string_bytes_of_two : Section → Section → ℕ → List ℕ
-string_bytes_of_two a b n = cond (nat_le n (length (strings_of a))) (string_bytes a n) (string_bytes b (n - length (strings_of a)))
+abbrev pub block_bytes_of_two : Section → Section → ℕ → List ℕ
+block_bytes_of_two a b n = cond (nat_le n (length (strings_of a))) (block_bytes a n) (block_bytes b (n - length (strings_of a)))
 
 -- the same for a role
-unfoldable pub role_string_bytes : Dictionary → Role → ℕ → List ℕ
-role_string_bytes d Subject n = string_bytes_of_two d.shared d.subjects n
-role_string_bytes d Predicate n = string_bytes d.predicates n
-role_string_bytes d Object n = string_bytes_of_two d.shared d.objects n
+unfoldable pub role_block_bytes : Dictionary → Role → ℕ → List ℕ
+role_block_bytes d Subject n = block_bytes_of_two d.shared d.subjects n
+role_block_bytes d Predicate n = block_bytes d.predicates n
+role_block_bytes d Object n = block_bytes_of_two d.shared d.objects n

@@ -1,7 +1,7 @@
 //! A list of byte strings, stored in one vector.
 ghost use Rattle.std.specs.Prelude.{◌≡◌, ◌<◌, ◌≤◌, ◌++◌, ◌∷◌, [], ℕ, List, map, length, slice_index_or, IfOk, OnOk, OnErr};
 ghost use Rattle.std.specs.List.{slice_range};
-ghost use Rattle.hdt_dict.specs.Arena.{arena_texts, AreTextStarts};
+ghost use Rattle.hdt_dict.specs.Arena.{arena_strings, AreStringStarts};
 
 use std::alloc::{AllocError, Global};
 use std::marker::Model;
@@ -21,7 +21,7 @@ pub struct Arena {
 }
 
 /// The bytes from one offset up to another.
-fn part(bytes: &[u8], from: usize, end: usize) -> &[u8]
+fn slice_between(bytes: &[u8], from: usize, end: usize) -> &[u8]
     requires ascend { from ≤ end }
     requires within { end ≤ length bytes.now }
     ensures { result.now ≡ slice_range bytes.now from end }
@@ -32,9 +32,9 @@ fn part(bytes: &[u8], from: usize, end: usize) -> &[u8]
 impl Model for Arena {
     ghost Value = { List (List ℕ) };
 
-    ghost view = { λ s. arena_texts s.bytes.items s.starts.items };
+    ghost view = { λ s. arena_strings s.bytes.items s.starts.items };
 
-    ghost invariant = { λ s. AreTextStarts s.bytes.items s.starts.items };
+    ghost invariant = { λ s. AreStringStarts s.bytes.items s.starts.items };
 }
 
 impl Arena {
@@ -42,11 +42,11 @@ impl Arena {
     pub fn new(alloc: Global) -> Result<Arena, AllocError>
         ensures { IfOk result (λ made. made ≡ []) }
     {
-        Arena::with_room(alloc, 0, 0)
+        Arena::with_capacity(alloc, 0, 0)
     }
 
     /// Returns an empty arena with capacity for this number of strings and their total length in bytes.
-    pub fn with_room(alloc: Global, strings: usize, bytes: usize) -> Result<Arena, AllocError>
+    pub fn with_capacity(alloc: Global, strings: usize, bytes: usize) -> Result<Arena, AllocError>
         ensures { IfOk result (λ made. made ≡ []) }
     {
         let mut starts = Vec::with_capacity(alloc, strings.saturating_add(1))?;
@@ -58,8 +58,8 @@ impl Arena {
     /// Returns an arena of concatenated strings, given the byte offset at which each begins, and at which the last one
     /// ends.
     pub fn of(bytes: Vec<u8>, starts: Vec<usize>) -> Arena
-        requires { AreTextStarts bytes.items starts.items }
-        ensures { result ≡ arena_texts bytes.items starts.items }
+        requires { AreStringStarts bytes.items starts.items }
+        ensures { result ≡ arena_strings bytes.items starts.items }
     {
         Arena { bytes, starts }
     }
@@ -78,7 +78,7 @@ impl Arena {
     {
         let from = self.starts[at];
         let end = self.starts[at + 1];
-        part(self.bytes.as_slice(), from, end)
+        slice_between(self.bytes.as_slice(), from, end)
     }
 
     /// Appends a string. If memory runs out, the arena is unchanged.

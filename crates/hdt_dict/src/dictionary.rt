@@ -1,18 +1,18 @@
 //! Reading a dictionary, and look-ups by role.
 ghost use Rattle.std.specs.Prelude.{◌≡◌, ◌<◌, ◌≤◌, ◌+◌, ◌-◌, ◌^◌, ◌↔◌, ◌++◌, ◌∷◌, [], ℕ, length, Ok, Err, Some, None, IsOk, OnErr, IfOk};
-ghost use Rattle.hdt_wire.specs.Rows.{Gives};
+ghost use Rattle.hdt_wire.specs.Checks.{ReadsUnlessOom};
 ghost use Rattle.hdt_wire.specs.declared.fault.Fault.{Fault as FaultIs};
-ghost use Rattle.hdt_front.specs.declared.fault.ReadFault.TheVariants.{Fault as FaultOf};
+ghost use Rattle.hdt_front.specs.declared.section.ReadFault.TheVariants.{Fault as FaultOf};
 ghost use Rattle.hdt_front.specs.Faults.{read_fault_of};
-ghost use Rattle.hdt_front.specs.Numbering.{place};
+ghost use Rattle.hdt_front.specs.StringIds.{id_of};
 ghost use Rattle.hdt_front.specs.Strings.{strings_of, section_of};
-ghost use Rattle.hdt_front.specs.Section.{AreStrings, string_place};
-ghost use Rattle.hdt_dict.specs.Dictionary.{AreApart, DictionaryParts, IsDictionary, section_number, apart_at, dictionary_at, rows_above_strings, strings_in, sections_of};
-ghost use Rattle.hdt_dict.specs.Numbered.{numbered, AppendsString};
+ghost use Rattle.hdt_front.specs.Section.{AreSectionStrings, string_offset};
+ghost use Rattle.hdt_dict.specs.Dictionary.{AreDisjoint, DictionaryParts, IsDictionary, section_by_index, disjoint_at, dictionary_at, checks_before_strings, role_strings, lists_of_dictionary};
+ghost use Rattle.hdt_dict.specs.Ids.{string_at_id, AppendsString};
 ghost use Rattle.hdt_wire.specs.declared.role.Role.{Role};
 
-use crate::apart::{check_objects, check_subjects};
-use crate::two::{bytes_in_one, bytes_in_two, number_in_two, string_in_one, string_in_two};
+use crate::disjoint::{check_objects, check_subjects};
+use crate::section_pair::{block_in_one, block_in_two, find_in_two, append_from_one, append_from_two};
 use hdt_front::{ReadFault, Section};
 use hdt_seq::Steps;
 use hdt_wire::{Kind, Role, read_control};
@@ -35,25 +35,25 @@ pub struct Dictionary<'a> {
     pub(crate) objects: Section<'a>,
     ghost subjects_fit: { length (strings_of shared) + length (strings_of subjects) < 2 ^ 64 },
     ghost objects_fit: { length (strings_of shared) + length (strings_of objects) < 2 ^ 64 },
-    ghost subjects_apart: { apart_at (strings_of shared) (section_of subjects) ≡ Ok tt },
-    ghost objects_apart: { apart_at (strings_of shared ++ strings_of subjects) (section_of objects) ≡ Ok tt },
+    ghost subjects_apart: { disjoint_at (strings_of shared) (section_of subjects) ≡ Ok tt },
+    ghost objects_apart: { disjoint_at (strings_of shared ++ strings_of subjects) (section_of objects) ≡ Ok tt },
 }
 
 impl<'a> Dictionary<'a> {
-    ghost use Rattle.hdt_dict.specs.Looks.{role_looks, role_block};
-    ghost use Rattle.hdt_dict.specs.Views.{dictionary_of, role_string_bytes};
+    ghost use Rattle.hdt_dict.specs.Cost.{role_search_cost, role_decode_cost};
+    ghost use Rattle.hdt_dict.specs.Views.{dictionary_of, role_block_bytes};
 
     /// Reads a dictionary. The contract states the checks in order.
-    #[tactic(auto, unfolding(crate::specs::Dictionary::dictionary_at, crate::specs::Dictionary::rows_above_strings, crate::specs::Views::dictionary_of, hdt_front::specs::Strings::section_of, hdt_wire::specs::Control::block_of))]
-    fn read_rows(
+    #[tactic(auto, unfolding(crate::specs::Dictionary::dictionary_at, crate::specs::Dictionary::checks_before_strings, crate::specs::Views::dictionary_of, hdt_front::specs::Strings::section_of, hdt_wire::specs::Control::control_info_of))]
+    fn read_by_checks(
         alloc: Global,
         bytes: &'a [u8],
         at: usize,
     ) -> Result<(Dictionary<'a>, usize), ReadFault>
-        ensures exact { Gives read_fault_of (λ r. dictionary_of r.0) result (dictionary_at bytes.now at) }
-        ensures without_memory { (f : FaultIs) → rows_above_strings bytes.now at ≡ Err f → result ≡ Err (FaultOf f) }
+        ensures exact { ReadsUnlessOom read_fault_of (λ r. dictionary_of r.0) result (dictionary_at bytes.now at) }
+        ensures without_memory { (f : FaultIs) → checks_before_strings bytes.now at ≡ Err f → result ≡ Err (FaultOf f) }
         ensures next { IfOk result (λ r. r.1 ≡ (dictionary_of r.0).objects.end) }
-        ensures few { IfOk result (λ r. (role : Role) → length (strings_in (sections_of (dictionary_of r.0)) role) ≤ length bytes.now) }
+        ensures few { IfOk result (λ r. (role : Role) → length (role_strings (lists_of_dictionary (dictionary_of r.0)) role) ≤ length bytes.now) }
         ensures end { IfOk result (λ r. (at < r.1) × (r.1 ≤ length bytes.now)) }
     {
         let control = read_control(bytes, at, Kind::Dictionary)?;
@@ -90,35 +90,35 @@ impl<'a> Dictionary<'a> {
         // The returned dictionary is encoded at the offset.
         ensures found { IfOk result (λ r. IsDictionary (dictionary_of r.0) bytes.now at) }
         // If a dictionary is encoded at the offset, it is returned, unless memory runs out.
-        ensures only { (d : DictionaryParts) → IsDictionary d bytes.now at → Gives read_fault_of (λ r. dictionary_of r.0) result (Ok d) }
+        ensures only { (d : DictionaryParts) → IsDictionary d bytes.now at → ReadsUnlessOom read_fault_of (λ r. dictionary_of r.0) result (Ok d) }
         // Otherwise the first error is returned.
-        ensures exact { Gives read_fault_of (λ r. dictionary_of r.0) result (dictionary_at bytes.now at) }
+        ensures exact { ReadsUnlessOom read_fault_of (λ r. dictionary_of r.0) result (dictionary_at bytes.now at) }
         // An error before the first string is found without allocating memory.
-        ensures without_memory { (f : FaultIs) → rows_above_strings bytes.now at ≡ Err f → result ≡ Err (FaultOf f) }
+        ensures without_memory { (f : FaultIs) → checks_before_strings bytes.now at ≡ Err f → result ≡ Err (FaultOf f) }
         ensures next { IfOk result (λ r. r.1 ≡ (dictionary_of r.0).objects.end) }
         // A role has at most as many strings as the input has bytes.
-        ensures few { IfOk result (λ r. (role : Role) → length (strings_in (sections_of (dictionary_of r.0)) role) ≤ length bytes.now) }
+        ensures few { IfOk result (λ r. (role : Role) → length (role_strings (lists_of_dictionary (dictionary_of r.0)) role) ≤ length bytes.now) }
         ensures end { IfOk result (λ r. (at < r.1) × (r.1 ≤ length bytes.now)) }
     {
-        Dictionary::read_rows(alloc, bytes, at)
+        Dictionary::read_by_checks(alloc, bytes, at)
     }
 
     /// Law: the strings of each section are UTF-8 without zero bytes and ascend, and no string is in two of shared,
     /// subjects and objects. Does nothing when called.
     #[tactic(auto, unfolding(crate::specs::Views::dictionary_of, hdt_front::specs::Strings::section_of))]
     pub fn are_sections(&self)
-        ensures shared { AreStrings (dictionary_of self.now).shared.strings }
-        ensures subjects { AreStrings (dictionary_of self.now).subjects.strings }
-        ensures predicates { AreStrings (dictionary_of self.now).predicates.strings }
-        ensures objects { AreStrings (dictionary_of self.now).objects.strings }
-        ensures shared_subjects { AreApart (dictionary_of self.now).shared.strings (dictionary_of self.now).subjects.strings }
-        ensures shared_objects { AreApart (dictionary_of self.now).shared.strings (dictionary_of self.now).objects.strings }
-        ensures subjects_objects { AreApart (dictionary_of self.now).subjects.strings (dictionary_of self.now).objects.strings }
+        ensures shared { AreSectionStrings (dictionary_of self.now).shared.strings }
+        ensures subjects { AreSectionStrings (dictionary_of self.now).subjects.strings }
+        ensures predicates { AreSectionStrings (dictionary_of self.now).predicates.strings }
+        ensures objects { AreSectionStrings (dictionary_of self.now).objects.strings }
+        ensures shared_subjects { AreDisjoint (dictionary_of self.now).shared.strings (dictionary_of self.now).subjects.strings }
+        ensures shared_objects { AreDisjoint (dictionary_of self.now).shared.strings (dictionary_of self.now).objects.strings }
+        ensures subjects_objects { AreDisjoint (dictionary_of self.now).subjects.strings (dictionary_of self.now).objects.strings }
     {
-        self.shared.are_strings();
-        self.subjects.are_strings();
-        self.predicates.are_strings();
-        self.objects.are_strings();
+        self.shared.are_section_strings();
+        self.subjects.are_section_strings();
+        self.predicates.are_section_strings();
+        self.objects.are_section_strings();
     }
 
     /// Returns the number of strings of each section: shared, subjects, predicates, objects.
@@ -137,7 +137,7 @@ impl<'a> Dictionary<'a> {
     /// Returns the number of strings of a role. Their IDs are 1 to this number.
     #[tactic(auto, unfolding(crate::specs::Views::dictionary_of, hdt_front::specs::Strings::section_of))]
     pub fn count(&self, role: Role) -> u64
-        ensures { result ≡ length (strings_in (sections_of (dictionary_of self.now)) role) }
+        ensures { result ≡ length (role_strings (lists_of_dictionary (dictionary_of self.now)) role) }
     {
         match role {
             Role::Subject => self.shared.len() + self.subjects.len(),
@@ -147,17 +147,17 @@ impl<'a> Dictionary<'a> {
     }
 
     /// Searches for a string in the sections of a role.
-    #[tactic(auto, unfolding(crate::specs::Views::dictionary_of, crate::specs::Looks::role_looks, hdt_front::specs::Strings::section_of))]
-    fn place_in(&self, role: Role, x: &[u8], steps: &mut Steps) -> Option<u64>
-        ensures place { result ≡ place (strings_in (sections_of (dictionary_of self.now)) role) x.now }
-        ensures cost { steps.new ≤ steps.old + role_looks (dictionary_of self.now) role }
+    #[tactic(auto, unfolding(crate::specs::Views::dictionary_of, crate::specs::Cost::role_search_cost, hdt_front::specs::Strings::section_of))]
+    fn find_id(&self, role: Role, x: &[u8], steps: &mut Steps) -> Option<u64>
+        ensures place { result ≡ id_of (role_strings (lists_of_dictionary (dictionary_of self.now)) role) x.now }
+        ensures cost { steps.new ≤ steps.old + role_search_cost (dictionary_of self.now) role }
         ensures more { steps.old ≤ steps.new }
     {
         self.are_sections();
         match role {
-            Role::Subject => number_in_two(&self.shared, &self.subjects, x, steps),
+            Role::Subject => find_in_two(&self.shared, &self.subjects, x, steps),
             Role::Predicate => self.predicates.place_of(x, steps),
-            Role::Object => number_in_two(&self.shared, &self.objects, x, steps),
+            Role::Object => find_in_two(&self.shared, &self.objects, x, steps),
         }
     }
 
@@ -166,19 +166,19 @@ impl<'a> Dictionary<'a> {
     /// For each section of the role: a binary search over its blocks, then a scan of one block.
     pub fn number_of(&self, role: Role, x: &[u8], steps: &mut Steps) -> Option<u64>
         // It is n exactly if n is the ID of the string.
-        ensures exact { (n : ℕ) → (result ≡ Some n) ↔ (numbered (strings_in (sections_of (dictionary_of self.now)) role) n ≡ Some x.now) }
-        ensures place { result ≡ place (strings_in (sections_of (dictionary_of self.now)) role) x.now }
-        ensures cost { steps.new ≤ steps.old + role_looks (dictionary_of self.now) role }
+        ensures exact { (n : ℕ) → (result ≡ Some n) ↔ (string_at_id (role_strings (lists_of_dictionary (dictionary_of self.now)) role) n ≡ Some x.now) }
+        ensures place { result ≡ id_of (role_strings (lists_of_dictionary (dictionary_of self.now)) role) x.now }
+        ensures cost { steps.new ≤ steps.old + role_search_cost (dictionary_of self.now) role }
         ensures more { steps.old ≤ steps.new }
     {
-        self.place_in(role, x, steps)
+        self.find_id(role, x, steps)
     }
 
     /// Appends the string of a role with ID n, from 1, to `out`, and returns true. Returns false if n is not a valid
     /// ID. In this case, and if memory runs out, `out` is unchanged.
     ///
     /// Decodes the block of the string from its start up to the string.
-    #[tactic(auto, unfolding(crate::specs::Views::dictionary_of, crate::specs::Looks::role_block, hdt_front::specs::Strings::section_of))]
+    #[tactic(auto, unfolding(crate::specs::Views::dictionary_of, crate::specs::Cost::role_decode_cost, hdt_front::specs::Strings::section_of))]
     pub fn string_of(
         &self,
         role: Role,
@@ -186,29 +186,29 @@ impl<'a> Dictionary<'a> {
         out: &mut Vec<u8>,
         steps: &mut Steps,
     ) -> Result<bool, AllocError>
-        ensures ok { IfOk result (λ b. AppendsString (numbered (strings_in (sections_of (dictionary_of self.now)) role) n) b out.old.items out.new.items) }
+        ensures ok { IfOk result (λ b. AppendsString (string_at_id (role_strings (lists_of_dictionary (dictionary_of self.now)) role) n) b out.old.items out.new.items) }
         ensures err { OnErr result (out.new.items ≡ out.old.items) }
-        ensures cost { steps.new ≤ steps.old + role_block (dictionary_of self.now) role }
-        ensures absent { numbered (strings_in (sections_of (dictionary_of self.now)) role) n ≡ None → IsOk result }
+        ensures cost { steps.new ≤ steps.old + role_decode_cost (dictionary_of self.now) role }
+        ensures absent { string_at_id (role_strings (lists_of_dictionary (dictionary_of self.now)) role) n ≡ None → IsOk result }
         ensures more { steps.old ≤ steps.new }
     {
         match role {
-            Role::Subject => string_in_two(&self.shared, &self.subjects, n, out, steps),
-            Role::Predicate => string_in_one(&self.predicates, n, out, steps),
-            Role::Object => string_in_two(&self.shared, &self.objects, n, out, steps),
+            Role::Subject => append_from_two(&self.shared, &self.subjects, n, out, steps),
+            Role::Predicate => append_from_one(&self.predicates, n, out, steps),
+            Role::Object => append_from_two(&self.shared, &self.objects, n, out, steps),
         }
     }
 
     /// Returns the front-coded bytes of the block that has the string of a role with ID n, from 1, borrowed from the
     /// input: decoding the string reads no others. Empty if n is not a valid ID. Two memory accesses.
-    #[tactic(auto, unfolding(crate::specs::Views::role_string_bytes))]
+    #[tactic(auto, unfolding(crate::specs::Views::role_block_bytes))]
     pub fn block(&self, role: Role, n: u64) -> &'a [u8]
-        ensures { result.now ≡ role_string_bytes self.now role n }
+        ensures { result.now ≡ role_block_bytes self.now role n }
     {
         match role {
-            Role::Subject => bytes_in_two(&self.shared, &self.subjects, n),
-            Role::Predicate => bytes_in_one(&self.predicates, n),
-            Role::Object => bytes_in_two(&self.shared, &self.objects, n),
+            Role::Subject => block_in_two(&self.shared, &self.subjects, n),
+            Role::Predicate => block_in_one(&self.predicates, n),
+            Role::Object => block_in_two(&self.shared, &self.objects, n),
         }
     }
 
@@ -218,8 +218,8 @@ impl<'a> Dictionary<'a> {
     pub fn string_start(&self, section: usize, n: u64) -> u64
         requires section { section < 4 }
         requires from_one { 1 ≤ n }
-        requires within { n ≤ length (section_number (dictionary_of self.now) section).strings }
-        ensures { result ≡ string_place (section_number (dictionary_of self.now) section) (n - 1) }
+        requires within { n ≤ length (section_by_index (dictionary_of self.now) section).strings }
+        ensures { result ≡ string_offset (section_by_index (dictionary_of self.now) section) (n - 1) }
     {
         match section {
             0 => self.shared.string_start(n),

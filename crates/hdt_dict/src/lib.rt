@@ -17,22 +17,21 @@
 //! ```
 //!
 //! [`Dictionary::read`] reads a dictionary. [`split`] and [`put_dictionary`] write one at once; four [`SectionWriter`]s
-//! and [`put_written_dictionary`] write one string by string. In contracts a dictionary is its four sections with their
+//! and [`finish_dictionary`] write one string by string. In contracts a dictionary is its four sections with their
 //! byte offsets (`dictionary_of` of specs/), and a role is the list of its strings. An [`Arena`] stores many strings in
 //! one vector.
 #![tactic(auto)]
 
-mod apart;
+mod disjoint;
 mod arena;
 mod dictionary;
 mod laws;
-mod many;
+mod string_batch;
 mod merge;
 mod overlap;
 mod parts;
-mod sorted;
-mod two;
-mod walk;
+mod section_pair;
+mod role_cursor;
 mod writing;
 
 pub use arena::Arena;
@@ -43,5 +42,5 @@ pub use laws::{
     dictionaries_are_exact, dictionary_is_read_again, one_dictionary, split_makes_sections,
 };
 pub use parts::{Parts, split};
-pub use walk::Strings;
-pub use writing::{put_dictionary, put_written_dictionary};
+pub use role_cursor::RoleCursor;
+pub use writing::{put_dictionary, finish_dictionary};

@@ -2,8 +2,8 @@
 ghost use Rattle.std.specs.Prelude.{◌≡◌, ◌⊎◌, ◌+◌, ◌<◌, ◌≤◌, [], ℕ, length, slice_index_or, IfOk, not, true, false};
 ghost use Rattle.std.specs.declared.cmp.Ordering.TheVariants.{Less, Equal, Greater};
 ghost use Rattle.std.specs.List.{filter};
-ghost use Rattle.hdt_front.specs.Canonical.{lent_texts};
-ghost use Rattle.hdt_dict.specs.Inside.Merging.{ArePassed, IsFirstAlone, AreEqual};
+ghost use Rattle.hdt_front.specs.Canonical.{borrowed_texts};
+ghost use Rattle.hdt_dict.specs.Inside.Merging.{ArePassed, IsNextInFirstOnly, AreNextInBoth};
 ghost use Rattle.hdt_dict.specs.Strings.{has};
 ghost use Rattle.hdt_front.specs.Order.{IsAscending};
 
@@ -12,15 +12,15 @@ use std::cmp::Ordering;
 
 /// Which of two ascending lists has the next string, after i strings of the first and j of the second: `Less` for the
 /// first, `Greater` for the second, `Equal` for both.
-fn next_of(xs: &[&[u8]], i: usize, ys: &[&[u8]], j: usize) -> Ordering
+fn next_side(xs: &[&[u8]], i: usize, ys: &[&[u8]], j: usize) -> Ordering
     requires some { (i < length xs.now) ⊎ (j < length ys.now) }
-    requires xs_ascending { IsAscending (lent_texts xs.now) }
-    requires ys_ascending { IsAscending (lent_texts ys.now) }
-    requires xs_passed { ArePassed (lent_texts xs.now) i (lent_texts ys.now) j }
-    requires ys_passed { ArePassed (lent_texts ys.now) j (lent_texts xs.now) i }
-    ensures first { result ≡ Less → IsFirstAlone (lent_texts xs.now) i (lent_texts ys.now) j }
-    ensures second { result ≡ Greater → IsFirstAlone (lent_texts ys.now) j (lent_texts xs.now) i }
-    ensures both { result ≡ Equal → AreEqual (lent_texts xs.now) i (lent_texts ys.now) j }
+    requires xs_ascending { IsAscending (borrowed_texts xs.now) }
+    requires ys_ascending { IsAscending (borrowed_texts ys.now) }
+    requires xs_passed { ArePassed (borrowed_texts xs.now) i (borrowed_texts ys.now) j }
+    requires ys_passed { ArePassed (borrowed_texts ys.now) j (borrowed_texts xs.now) i }
+    ensures first { result ≡ Less → IsNextInFirstOnly (borrowed_texts xs.now) i (borrowed_texts ys.now) j }
+    ensures second { result ≡ Greater → IsNextInFirstOnly (borrowed_texts ys.now) j (borrowed_texts xs.now) i }
+    ensures both { result ≡ Equal → AreNextInBoth (borrowed_texts xs.now) i (borrowed_texts ys.now) j }
 {
     if j >= ys.len() {
         return Ordering::Less;
@@ -34,11 +34,11 @@ fn next_of(xs: &[&[u8]], i: usize, ys: &[&[u8]], j: usize) -> Ordering
 /// The strings of two ascending lists, by the lists that have them.
 pub(crate) struct Merged<'a> {
     /// The strings that are in both lists.
-    pub both: Vec<&'a [u8]>,
+    pub(crate) both: Vec<&'a [u8]>,
     /// The strings that are only in the first list.
-    pub first: Vec<&'a [u8]>,
+    pub(crate) first: Vec<&'a [u8]>,
     /// The strings that are only in the second list.
-    pub second: Vec<&'a [u8]>,
+    pub(crate) second: Vec<&'a [u8]>,
 }
 
 /// Merges two ascending lists of strings. Linear time.
@@ -47,11 +47,11 @@ pub(crate) fn merge<'a>(
     xs: &[&'a [u8]],
     ys: &[&'a [u8]],
 ) -> Result<Merged<'a>, AllocError>
-    requires xs_ascending { IsAscending (lent_texts xs.now) }
-    requires ys_ascending { IsAscending (lent_texts ys.now) }
-    ensures both { IfOk result (λ m. lent_texts m.both.items ≡ filter (has (lent_texts ys.now)) (lent_texts xs.now)) }
-    ensures first { IfOk result (λ m. lent_texts m.first.items ≡ filter (λ x. not (has (lent_texts ys.now) x)) (lent_texts xs.now)) }
-    ensures second { IfOk result (λ m. lent_texts m.second.items ≡ filter (λ y. not (has (lent_texts xs.now) y)) (lent_texts ys.now)) }
+    requires xs_ascending { IsAscending (borrowed_texts xs.now) }
+    requires ys_ascending { IsAscending (borrowed_texts ys.now) }
+    ensures both { IfOk result (λ m. borrowed_texts m.both.items ≡ filter (has (borrowed_texts ys.now)) (borrowed_texts xs.now)) }
+    ensures first { IfOk result (λ m. borrowed_texts m.first.items ≡ filter (λ x. not (has (borrowed_texts ys.now) x)) (borrowed_texts xs.now)) }
+    ensures second { IfOk result (λ m. borrowed_texts m.second.items ≡ filter (λ y. not (has (borrowed_texts xs.now) y)) (borrowed_texts ys.now)) }
 {
     let mut both = Vec::new(alloc);
     let mut first = Vec::new(alloc);
@@ -59,7 +59,7 @@ pub(crate) fn merge<'a>(
     let mut i = 0;
     let mut j = 0;
     'sides: while i < xs.len() || j < ys.len() {
-        match next_of(xs, i, ys, j) {
+        match next_side(xs, i, ys, j) {
             Ordering::Less => {
                 first.push(xs[i])?;
                 i += 1;

@@ -1,27 +1,27 @@
 //! Writing a dictionary in canonical form.
 ghost use Rattle.std.specs.Prelude.{◌≡◌, ◌≤◌, ◌++◌, length, OnOk, OnErr};
-ghost use Rattle.hdt_wire.specs.Control.{Keeps};
-ghost use Rattle.hdt_dict.specs.Dictionary.{IsDictionary, FourLists};
-ghost use Rattle.hdt_dict.specs.Split.{lists_of, lists_in_work};
+ghost use Rattle.hdt_wire.specs.Control.{IsPrefixOf};
+ghost use Rattle.hdt_dict.specs.Dictionary.{IsDictionary, SectionLists};
+ghost use Rattle.hdt_dict.specs.Split.{lists_of_parts, lists_of_writers};
 ghost use Rattle.hdt_dict.specs.Writing.{AreSections, canonical_dictionary, canonical_dictionary_parts};
 
 use crate::parts::Parts;
 use hdt_front::{SectionWriter, put_section};
-use hdt_wire::{Kind, cut_on_error, put_control};
+use hdt_wire::{Kind, truncate_on_error, put_control};
 use std::alloc::{AllocError, Global};
 
 /// Appends a dictionary; an error may leave its first bytes.
-#[tactic(auto, using(crate::specs::Laws::Writing::mapping_no_zero), unfolding(crate::specs::Writing::canonical_dictionary, crate::specs::Split::lists_of))]
+#[tactic(auto, using(crate::specs::Laws::Writing::mapping_no_zero), unfolding(crate::specs::Writing::canonical_dictionary, crate::specs::Split::lists_of_parts))]
 fn append_dictionary(
     alloc: Global,
     parts: &Parts,
     block_size: u32,
     out: &mut Vec<u8>,
 ) -> Result<(), AllocError>
-    requires sections { AreSections (lists_of parts.now) }
+    requires sections { AreSections (lists_of_parts parts.now) }
     requires block { 1 ≤ block_size }
-    ensures ok { OnOk result (out.new.items ≡ out.old.items ++ canonical_dictionary block_size (lists_of parts.now)) }
-    ensures err { OnErr result (Keeps out.old.items out.new.items) }
+    ensures ok { OnOk result (out.new.items ≡ out.old.items ++ canonical_dictionary block_size (lists_of_parts parts.now)) }
+    ensures err { OnErr result (IsPrefixOf out.old.items out.new.items) }
 {
     put_control(Kind::Dictionary, b"mapping=1;", out)?;
     put_section(alloc, parts.shared.as_slice(), block_size, out)?;
@@ -43,31 +43,31 @@ pub fn put_dictionary(
     block_size: u32,
     out: &mut Vec<u8>,
 ) -> Result<(), AllocError>
-    requires sections { AreSections (lists_of parts.now) }
+    requires sections { AreSections (lists_of_parts parts.now) }
     requires block { 1 ≤ block_size }
-    ensures ok { OnOk result (out.new.items ≡ out.old.items ++ canonical_dictionary block_size (lists_of parts.now)) }
+    ensures ok { OnOk result (out.new.items ≡ out.old.items ++ canonical_dictionary block_size (lists_of_parts parts.now)) }
     // It is read back.
-    ensures dictionary { OnOk result (IsDictionary (canonical_dictionary_parts block_size (lists_of parts.now) (length out.old.items)) out.new.items (length out.old.items)) }
+    ensures dictionary { OnOk result (IsDictionary (canonical_dictionary_parts block_size (lists_of_parts parts.now) (length out.old.items)) out.new.items (length out.old.items)) }
     ensures err { OnErr result (out.new.items ≡ out.old.items) }
 {
     let start = out.len();
     let appended = append_dictionary(alloc, parts, block_size, out);
-    cut_on_error(appended, start, out)
+    truncate_on_error(appended, start, out)
 }
 
 /// Appends the dictionary of four section writers; an error may leave its first bytes.
 #[tactic(auto, using(crate::specs::Laws::Writing::mapping_no_zero))]
-fn append_written(
+fn append_finished(
     shared: SectionWriter,
     subjects: SectionWriter,
     predicates: SectionWriter,
     objects: SectionWriter,
     out: &mut Vec<u8>,
 ) -> Result<(), AllocError>
-    requires sections { AreSections (lists_in_work shared subjects predicates objects) }
+    requires sections { AreSections (lists_of_writers shared subjects predicates objects) }
     requires blocks { (subjects.block_size ≡ shared.block_size) × (predicates.block_size ≡ shared.block_size) × (objects.block_size ≡ shared.block_size) }
-    ensures ok { OnOk result (out.new.items ≡ out.old.items ++ canonical_dictionary shared.block_size (lists_in_work shared subjects predicates objects)) }
-    ensures err { OnErr result (Keeps out.old.items out.new.items) }
+    ensures ok { OnOk result (out.new.items ≡ out.old.items ++ canonical_dictionary shared.block_size (lists_of_writers shared subjects predicates objects)) }
+    ensures err { OnErr result (IsPrefixOf out.old.items out.new.items) }
 {
     put_control(Kind::Dictionary, b"mapping=1;", out)?;
     shared.finish(out)?;
@@ -79,21 +79,21 @@ fn append_written(
 
 /// Appends the canonical dictionary of four sections that were written string by string, as [`put_dictionary`] does.
 /// The writers must have the same block size. Each is freed once its section is written.
-pub fn put_written_dictionary(
+pub fn finish_dictionary(
     shared: SectionWriter,
     subjects: SectionWriter,
     predicates: SectionWriter,
     objects: SectionWriter,
     out: &mut Vec<u8>,
 ) -> Result<(), AllocError>
-    requires sections { AreSections (lists_in_work shared subjects predicates objects) }
+    requires sections { AreSections (lists_of_writers shared subjects predicates objects) }
     requires blocks { (subjects.block_size ≡ shared.block_size) × (predicates.block_size ≡ shared.block_size) × (objects.block_size ≡ shared.block_size) }
-    ensures ok { OnOk result (out.new.items ≡ out.old.items ++ canonical_dictionary shared.block_size (lists_in_work shared subjects predicates objects)) }
-    ensures dictionary { OnOk result (IsDictionary (canonical_dictionary_parts shared.block_size (lists_in_work shared subjects predicates objects) (length out.old.items)) out.new.items (length out.old.items)) }
+    ensures ok { OnOk result (out.new.items ≡ out.old.items ++ canonical_dictionary shared.block_size (lists_of_writers shared subjects predicates objects)) }
+    ensures dictionary { OnOk result (IsDictionary (canonical_dictionary_parts shared.block_size (lists_of_writers shared subjects predicates objects) (length out.old.items)) out.new.items (length out.old.items)) }
     ensures err { OnErr result (out.new.items ≡ out.old.items) }
 {
     shared.has_blocks();
     let before = out.len();
-    let appended = append_written(shared, subjects, predicates, objects, out);
-    cut_on_error(appended, before, out)
+    let appended = append_finished(shared, subjects, predicates, objects, out);
+    truncate_on_error(appended, before, out)
 }

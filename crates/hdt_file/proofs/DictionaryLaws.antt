@@ -1,25 +1,25 @@
 -- The checks of the head and the dictionary are exact: they return what is encoded at the start of the file.
 use Rattle.std.proofs.Common.{ℕ, ◌^◌, ◌<◌, List, length, refl}
-use Rattle.hdt_wire.specs.Rows.{IsBytes}
-use Rattle.hdt_wire.specs.Laws.Row.{bound}
+use Rattle.hdt_wire.specs.Checks.{IsBytes}
+use Rattle.hdt_wire.specs.Laws.Checks.{bind_ok}
 use Rattle.hdt_wire.specs.Exact.{Exactly}
-use Rattle.hdt_wire.specs.Laws.Exact.{answered}
+use Rattle.hdt_wire.specs.Laws.Exact.{holds_of_ok}
 use Rattle.hdt_dict.specs.Dictionary.{dictionary_at}
 use Rattle.hdt_dict.specs.Laws.Dictionary.{dictionary_exact}
-use Rattle.hdt_file.specs.Head.{head_at_start, IsHead}
+use Rattle.hdt_file.specs.Head.{decode_head, IsHead}
 use Rattle.hdt_file.proofs.HeadLaws.{head_found, head_only}
-use Rattle.hdt_file.specs.Dictionary.{HeadAndDictionary, IsHeadAndDictionary, dictionary_after_head}
+use Rattle.hdt_file.specs.Dictionary.{HeadAndDictionary, IsHeadAndDictionary, decode_head_and_dictionary}
 
-pub head_exact : (bytes : List ℕ) → IsBytes bytes → length bytes < 2 ^ 64 → Exactly (head_at_start bytes) (λ h. IsHead h bytes)
+pub head_exact : (bytes : List ℕ) → IsBytes bytes → length bytes < 2 ^ 64 → Exactly (decode_head bytes) (λ h. IsHead h bytes)
 head_exact bytes fits small = record { found = λ h e. head_found bytes h fits e; only = λ h is. head_only bytes h fits small is }
 
-pub front_exact : (bytes : List ℕ) → IsBytes bytes → length bytes < 2 ^ 64 → Exactly (dictionary_after_head bytes) (λ f. IsHeadAndDictionary f bytes)
-unfolding dictionary_after_head
+pub front_exact : (bytes : List ℕ) → IsBytes bytes → length bytes < 2 ^ 64 → Exactly (decode_head_and_dictionary bytes) (λ f. IsHeadAndDictionary f bytes)
+unfolding decode_head_and_dictionary
 front_exact bytes fits small = record {
   found = λ f e.
-      bound (head_at_start bytes) _ _ e (λ head e1 e.
-      bound (dictionary_at bytes head.end) _ _ e (λ dictionary e2 e.
-      answered (λ (f : HeadAndDictionary). IsHeadAndDictionary f bytes) _ _ e (record {
+      bind_ok (decode_head bytes) _ _ e (λ head e1 e.
+      bind_ok (dictionary_at bytes head.end) _ _ e (λ dictionary e2 e.
+      holds_of_ok (λ (f : HeadAndDictionary). IsHeadAndDictionary f bytes) _ _ e (record {
         head = (head_exact bytes fits small).found head e1;
         dictionary = (dictionary_exact bytes head.end fits).found dictionary e2;
       })));

@@ -5,11 +5,11 @@ use Rattle.std.specs.List.{flat_map, AllByRecursion}
 use Rattle.std.proofs.lemmas.List.Elements.{All-nil, All-cons, All-append}
 use Rattle.std.proofs.lemmas.Str.{IsUtf8-nil, IsUtf8-append, IsUtf8-from_ascii}
 use Rattle.std.proofs.lemmas.Str.Ascii.{IsAscii-nil, IsAscii-cons}
-use Rattle.hdt_terms.specs.declared.term.Term.{Term}
+use Rattle.hdt_terms.specs.declared.triple.Term.{Term}
 use Rattle.hdt_terms.specs.declared.triple.Triple.{Triple}
-use Rattle.hdt_terms.specs.Chars.{is_end}
-use Rattle.hdt_terms.specs.Lines.{NoEnd, SpelledTriple, EndedLines, triples_of_lines, Document}
-use Rattle.hdt_terms.specs.Spelling.{Spelled}
+use Rattle.hdt_terms.specs.Chars.{is_line_end}
+use Rattle.hdt_terms.specs.Lines.{HasNoLineEnd, EncodesTriple, TerminatedLines, triples_of_lines, Document}
+use Rattle.hdt_terms.specs.Grammar.{Encodes}
 use Rattle.hdt_terms.specs.Terms.{IsGrammarTerm}
 use Rattle.hdt_terms.specs.Writing.{written}
 use Rattle.hdt_wire.specs.declared.role.Role.TheVariants.{Subject, Predicate}
@@ -32,10 +32,10 @@ line_cut t rest = joined (written t.0) (written t.1) (written t.2) (32 ∷ 46 �
 -- ---- texts without a line end
 
 abbrev IsInner : ℕ → Type 0
-IsInner c = is_end c ≡ false
+IsInner c = is_line_end c ≡ false
 
 abbrev StandsWithin : List ℕ → Type 0
-StandsWithin text = IsUtf8 text × NoEnd text
+StandsWithin text = IsUtf8 text × HasNoLineEnd text
 
 appended : (xs ys : List ℕ) → StandsWithin xs → StandsWithin ys → StandsWithin (xs ++ ys)
 appended xs ys h k = (IsUtf8-append xs ys h.0 k.0, All-append IsInner xs ys h.1 k.1)
@@ -48,14 +48,14 @@ spaced xs ys h k = appended xs (32 ∷ ys) h (appended (32 ∷ []) ys (one_byte 
 
 -- ---- documents
 
-module _ (spelled : (term : Term) → IsGrammarTerm term → Spelled (written term) term) (no_end : (term : Term) → IsGrammarTerm term → NoEnd (written term)) where
+module _ (spelled : (term : Term) → IsGrammarTerm term → Encodes (written term) term) (no_end : (term : Term) → IsGrammarTerm term → HasNoLineEnd (written term)) where
   within : (term : Term) → IsGrammarTerm term → StandsWithin (written term)
   within term h = ((spelled term h).utf8, no_end term h)
 
   body_within : (t : TermTriple) → AreGrammarTerms t → StandsWithin (body t)
   body_within t h = spaced (written t.0) _ (within t.0 h.0) (spaced (written t.1) _ (within t.1 h.1) (spaced (written t.2) _ (within t.2 h.2) (one_byte 46 (omega arith) refl)))
 
-  triple_spelled : (strings : StringTriple) (t : TermTriple) → AreTermsOf strings t → AreGrammarTerms t → SpelledTriple (body t) (triple_of t)
+  triple_spelled : (strings : StringTriple) (t : TermTriple) → AreTermsOf strings t → AreGrammarTerms t → EncodesTriple (body t) (triple_of t)
   triple_spelled strings t is h = record {
     before_s = [];
     before_p = 32 ∷ [];
@@ -69,12 +69,12 @@ module _ (spelled : (term : Term) → IsGrammarTerm term → Spelled (written te
     subject = (spelled t.0 h.0, (is Subject).fits);
     predicate = (spelled t.1 h.1, (is Predicate).fits);
     object = spelled t.2 h.2;
-    bare = record { before = []; comment = []; blanks = refl; is_comment = tt; whole = refl };
+    bare = record { before = []; comment = []; blanks = refl; is_comment_or_end = tt; whole = refl };
     whole = refl;
   }
 
   lines_are : (triples : List StringTriple) (terms : List TermTriple) → Pairwise AreTermsOf triples terms → AllByRecursion AreGrammarTerms terms
-      → EndedLines (map Some (map triple_of terms)) (flat_map line terms)
+      → TerminatedLines (map Some (map triple_of terms)) (flat_map line terms)
   lines_are [] [] each h = refl
   lines_are [] (t ∷ ts) each h = absurd each
   lines_are (x ∷ xs) [] each h = absurd each
@@ -93,8 +93,8 @@ module _ (spelled : (term : Term) → IsGrammarTerm term → Spelled (written te
     lines = map Some (map triple_of h.terms);
     last_line = None;
     cut = sym (append-nil text);
-    ended = subst (EndedLines (map Some (map triple_of h.terms))) (sym h.whole) (lines_are triples h.terms h.each grammar);
+    ended = subst (TerminatedLines (map Some (map triple_of h.terms))) (sym h.whole) (lines_are triples h.terms h.each grammar);
     no_end = All-nil IsInner;
-    is_line = (IsUtf8-nil, record { before = []; comment = []; blanks = refl; is_comment = tt; whole = refl });
+    is_line = (IsUtf8-nil, record { before = []; comment = []; blanks = refl; is_comment_or_end = tt; whole = refl });
     triples_are = triples_are (map triple_of h.terms);
   }

@@ -5,14 +5,14 @@ use Rattle.std.specs.Option.{ok_or, option_and_then}
 use Rattle.hdt_wire.specs.declared.fault.Fault.{Fault}
 use Rattle.hdt_wire.specs.declared.control.Kind.{Kind}
 use Rattle.hdt_wire.specs.declared.control.Kind.TheVariants.{Global, Header}
-use Rattle.hdt_wire.specs.Rows.{bytes_at, IsBytes}
-use Rattle.hdt_wire.specs.Laws.Row.{bound, bytes_found, bytes_only}
-use Rattle.hdt_wire.specs.Control.{Block, IsBlock, block_at, control_at, format_text}
-use Rattle.hdt_wire.specs.Laws.Control.{control_found, control_only, stands_fits}
+use Rattle.hdt_wire.specs.Checks.{bytes_at, IsBytes}
+use Rattle.hdt_wire.specs.Laws.Checks.{bind_ok, bytes_found, bytes_only}
+use Rattle.hdt_wire.specs.Control.{ControlInfo, IsControlAt, control_info_at, control_at, format_text}
+use Rattle.hdt_wire.specs.Laws.Control.{control_found, control_only, control_is_bytes}
 use Rattle.hdt_wire.specs.Property.{property_value}
 use Rattle.hdt_file.specs.Decimal.{Decimal, decimal_number}
 use Rattle.hdt_file.proofs.DecimalLaws.{decimal_found, decimal_only}
-use Rattle.hdt_file.specs.Head.{HeadParts, IsHead, StatesLength, length_in, body_length, head_at_start}
+use Rattle.hdt_file.specs.Head.{HeadParts, IsHead, StatesLength, length_in, body_length, decode_head}
 
 -- ---- the length of the body
 
@@ -45,13 +45,13 @@ same_head : (a b : HeadParts) → done a ≡ done b → a ≡ b
 same_head a b e = cc
 
 -- the head returned is encoded at the start
-pub head_found : (bytes : List ℕ) (head : HeadParts) → IsBytes bytes → head_at_start bytes ≡ Ok head → IsHead head bytes
-unfolding head_at_start
+pub head_found : (bytes : List ℕ) (head : HeadParts) → IsBytes bytes → decode_head bytes ≡ Ok head → IsHead head bytes
+unfolding decode_head
 head_found bytes head fits e =
-    bound (control_at Global bytes 0) _ _ e (λ global e1 e.
-    bound (control_at Header bytes global.end) _ _ e (λ header e2 e.
-    bound (body_length header) _ _ e (λ count e3 e.
-    bound (bytes_at count bytes header.end) _ _ e (λ body e4 e.
+    bind_ok (control_at Global bytes 0) _ _ e (λ global e1 e.
+    bind_ok (control_at Header bytes global.end) _ _ e (λ header e2 e.
+    bind_ok (body_length header) _ _ e (λ count e3 e.
+    bind_ok (bytes_at count bytes header.end) _ _ e (λ body e4 e.
     let b = bytes_found count bytes header.end body e4 in
     let states : StatesLength header.properties count = length_found header.properties count (given _ _ count e3) in
     let made : IsHead (record { global = global; header = header; body = body.0; end = body.1 }) bytes =
@@ -63,26 +63,26 @@ head_found bytes head fits e =
     } in
     subst (λ (h : HeadParts). IsHead h bytes) (same_head _ _ e) made))))
 
-block_is : (kind : Kind) (bytes : List ℕ) (at : ℕ) (block : Block) → IsBlock kind block bytes at → block_at kind block.properties at block.end ≡ block
-block_is kind bytes at block h =
+control_info_is : (kind : Kind) (bytes : List ℕ) (at : ℕ) (block : ControlInfo) → IsControlAt kind block bytes at → control_info_at kind block.properties at block.end ≡ block
+control_info_is kind bytes at block h =
     ap (λ (f : List ℕ). record { format = f; properties = block.properties; properties_at = at + 6 + length (format_text kind); end = block.end }) (sym h.format)
     ∙ ap (λ (n : ℕ). record { format = block.format; properties = block.properties; properties_at = n; end = block.end }) (sym h.properties_at)
 
 -- the head encoded at the start is returned
-pub head_only : (bytes : List ℕ) (head : HeadParts) → IsBytes bytes → length bytes < 2 ^ 64 → IsHead head bytes → head_at_start bytes ≡ Ok head
-unfolding head_at_start
+pub head_only : (bytes : List ℕ) (head : HeadParts) → IsBytes bytes → length bytes < 2 ^ 64 → IsHead head bytes → decode_head bytes ≡ Ok head
+unfolding decode_head
 head_only bytes head fits small h =
     let global : control_at Global bytes 0 ≡ Ok head.global =
-    control_only Global bytes 0 head.global.properties head.global.end (stands_fits Global bytes 0 _ _ fits h.global.spelled) h.global.no_zero h.global.spelled
-    ∙ ap (λ (b : Block). Ok b) (block_is Global bytes 0 head.global h.global) in
+    control_only Global bytes 0 head.global.properties head.global.end (control_is_bytes Global bytes 0 _ _ fits h.global.spelled) h.global.no_zero h.global.spelled
+    ∙ ap (λ (b : ControlInfo). Ok b) (control_info_is Global bytes 0 head.global h.global) in
     let header : control_at Header bytes head.global.end ≡ Ok head.header =
-    control_only Header bytes head.global.end head.header.properties head.header.end (stands_fits Header bytes head.global.end _ _ fits h.header.spelled) h.header.no_zero h.header.spelled
-    ∙ ap (λ (b : Block). Ok b) (block_is Header bytes head.global.end head.header h.header) in
+    control_only Header bytes head.global.end head.header.properties head.header.end (control_is_bytes Header bytes head.global.end _ _ fits h.header.spelled) h.header.no_zero h.header.spelled
+    ∙ ap (λ (b : ControlInfo). Ok b) (control_info_is Header bytes head.global.end head.header h.header) in
     let below : length head.body < 2 ^ 64 = omega (arith, h.body.end_is, h.body.within, small) in
     let count : length_in head.header.properties ≡ Some (length head.body) = length_only head.header.properties (length head.body) below h.length in
     let body = bytes_only (length head.body) bytes head.header.end head.body head.end h.body refl in
     rw (global, header, count, body) refl
 
 -- bytes have at most one head at their start
-pub head_alone : (bytes : List ℕ) (a b : HeadParts) → IsBytes bytes → length bytes < 2 ^ 64 → IsHead a bytes → IsHead b bytes → a ≡ b
-head_alone bytes a b fits small p q = same_head a b (sym (head_only bytes a fits small p) ∙ head_only bytes b fits small q)
+pub head_unique : (bytes : List ℕ) (a b : HeadParts) → IsBytes bytes → length bytes < 2 ^ 64 → IsHead a bytes → IsHead b bytes → a ≡ b
+head_unique bytes a b fits small p q = same_head a b (sym (head_only bytes a fits small p) ∙ head_only bytes b fits small q)

@@ -1,19 +1,19 @@
 -- Laws of the N-Triples text of triples of strings.
 use Rattle.std.proofs.Common.{◌≡◌, ℕ, List, [], ◌∷◌, inl, inr, refl, sym, ap, ◌∙◌}
 use Rattle.std.specs.List.{flat_map}
-use Rattle.hdt_terms.specs.declared.term.Term.{Term}
-use Rattle.hdt_terms.specs.Terms.{str, IsDictionaryTerm}
-use Rattle.hdt_triples.specs.Counting.{Triple}
+use Rattle.hdt_terms.specs.declared.triple.Term.{Term}
+use Rattle.hdt_terms.specs.Terms.{dictionary_string, IsDictionaryTerm}
+use Rattle.hdt_triples.specs.TripleSequences.{Triple}
 use Rattle.hdt_wire.specs.declared.role.Role.{Role}
 use Rattle.hdt_wire.specs.declared.role.Role.TheVariants.{Subject, Predicate, Object}
 use Rattle.hdt_file.specs.File.{GraphParts}
-use Rattle.hdt_triples.specs.Uses.{part}
-use Rattle.hdt_file.specs.Denoted.{StringTriple, strings_for, denoted}
-use Rattle.hdt_file.specs.Text.{TermTriple, IsTermOf, AreTermsOf, Pairwise, line, IsTextOf, IsBefore, IsFirstOf, IsFirstIn}
+use Rattle.hdt_triples.specs.Uses.{role_component}
+use Rattle.hdt_file.specs.Denoted.{StringTriple, denoted_triple, denoted}
+use Rattle.hdt_file.specs.Text.{TermTriple, IsTermOf, AreTermsOf, Pairwise, line, IsTextOf, IsEarlierRole, IsFirstNonTermOfTriple, IsFirstNonTerm}
 
 -- no two dictionary terms have the same string
 abbrev pub OneString : Type 0
-OneString = (s t : Term) → IsDictionaryTerm s → IsDictionaryTerm t → str s ≡ str t → s ≡ t
+OneString = (s t : Term) → IsDictionaryTerm s → IsDictionaryTerm t → dictionary_string s ≡ dictionary_string t → s ≡ t
 
 module _ (one : OneString) where
   same_term : (role : Role) (string : List ℕ) (s t : Term) → IsTermOf role string s → IsTermOf role string t → s ≡ t
@@ -41,21 +41,21 @@ module _ (one : OneString) where
 
 -- ---- triples have a text or a string that is not a term, never both
 
-no_text : (g : GraphParts) (ts : List Triple) (terms : List TermTriple) (role : Role) (number : ℕ) → Pairwise AreTermsOf (denoted g ts) terms → IsFirstIn g ts role number → ⊥
+no_text : (g : GraphParts) (ts : List Triple) (terms : List TermTriple) (role : Role) (number : ℕ) → Pairwise AreTermsOf (denoted g ts) terms → IsFirstNonTerm g ts role number → ⊥
 no_text g [] terms role number p f = f
 no_text g (t ∷ ts) [] role number p f = p
-no_text g (t ∷ ts) (x ∷ xs) role number p (inl f) = f.0.none (part role x) (p.0 role)
+no_text g (t ∷ ts) (x ∷ xs) role number p (inl f) = f.0.none (role_component role x) (p.0 role)
 no_text g (t ∷ ts) (x ∷ xs) role number p (inr f) = no_text g ts xs role number p.1 f.1
 
-pub not_both : (g : GraphParts) (ts : List Triple) (text : List ℕ) (role : Role) (number : ℕ) → IsTextOf (denoted g ts) text → IsFirstIn g ts role number → ⊥
+pub not_both : (g : GraphParts) (ts : List Triple) (text : List ℕ) (role : Role) (number : ℕ) → IsTextOf (denoted g ts) text → IsFirstNonTerm g ts role number → ⊥
 not_both g ts text role number h f = no_text g ts h.terms role number h.each f
 
 -- ---- the first string that is not a term is unique
 
-wrong : {A : Type 0} (role other : Role) (strings : StringTriple) → IsFirstOf strings role → IsFirstOf strings other → IsBefore role other → A
+wrong : {A : Type 0} (role other : Role) (strings : StringTriple) → IsFirstNonTermOfTriple strings role → IsFirstNonTermOfTriple strings other → IsEarlierRole role other → A
 wrong role other strings f g before = let has = g.earlier role before in absurd (f.none has.0 has.1)
 
-same_role : (role other : Role) (strings : StringTriple) → IsFirstOf strings role → IsFirstOf strings other → role ≡ other
+same_role : (role other : Role) (strings : StringTriple) → IsFirstNonTermOfTriple strings role → IsFirstNonTermOfTriple strings other → role ≡ other
 same_role Subject Subject x f g = refl
 same_role Subject Predicate x f g = wrong Subject Predicate x f g tt
 same_role Subject Object x f g = wrong Subject Object x f g tt
@@ -66,11 +66,11 @@ same_role Object Subject x f g = wrong Subject Object x g f tt
 same_role Object Predicate x f g = wrong Predicate Object x g f tt
 same_role Object Object x f g = refl
 
-pub one_first : (g : GraphParts) (ts : List Triple) (role other : Role) (m n : ℕ) → IsFirstIn g ts role m → IsFirstIn g ts other n → (role ≡ other) × (m ≡ n)
+pub one_first : (g : GraphParts) (ts : List Triple) (role other : Role) (m n : ℕ) → IsFirstNonTerm g ts role m → IsFirstNonTerm g ts other n → (role ≡ other) × (m ≡ n)
 one_first g [] role other m n f h = absurd f
 one_first g (t ∷ ts) role other m n (inl f) (inl h) =
-    let e = same_role role other (strings_for g t) f.0 h.0 in
-    (e, f.1 ∙ ap (λ (r : Role). part r t) e ∙ sym h.1)
+    let e = same_role role other (denoted_triple g t) f.0 h.0 in
+    (e, f.1 ∙ ap (λ (r : Role). role_component r t) e ∙ sym h.1)
 one_first g (t ∷ ts) role other m n (inl f) (inr h) = let has = h.0 role in absurd (f.0.none has.0 has.1)
 one_first g (t ∷ ts) role other m n (inr f) (inl h) = let has = f.0 other in absurd (h.0.none has.0 has.1)
 one_first g (t ∷ ts) role other m n (inr f) (inr h) = one_first g ts role other m n f.1 h.1

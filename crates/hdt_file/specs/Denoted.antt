@@ -1,12 +1,12 @@
 -- The graph that a file denotes: triples of strings.
 use Rattle.std.specs.Prelude.{ℕ, List, [], map}
 use Rattle.std.specs.Option.{unwrap_or}
-use Rattle.hdt_dict.specs.Numbered.{numbered}
+use Rattle.hdt_dict.specs.Ids.{string_at_id}
 use Rattle.hdt_wire.specs.declared.role.Role.{Role}
 use Rattle.hdt_wire.specs.declared.role.Role.TheVariants.{Subject, Predicate, Object}
-use Rattle.hdt_triples.specs.Counting.{Triple}
+use Rattle.hdt_triples.specs.TripleSequences.{Triple}
 use Rattle.hdt_file.specs.File.{GraphParts}
-use Rattle.hdt_dict.specs.Dictionary.{strings_in}
+use Rattle.hdt_dict.specs.Dictionary.{role_strings}
 
 -- the strings of subject, predicate and object
 abbrev pub StringTriple : Type 0
@@ -14,12 +14,12 @@ StringTriple = List ℕ × List ℕ × List ℕ
 
 -- the string with ID n, from 1, of a role; the empty string if there is no such ID, which no triple of a layout has
 abbrev pub string_of : GraphParts → Role → ℕ → List ℕ
-string_of g role n = unwrap_or (numbered (strings_in g.dictionary role) n) []
+string_of g role n = unwrap_or (string_at_id (role_strings g.dictionary role) n) []
 
 -- the triple with each ID replaced by its string
-abbrev pub strings_for : GraphParts → Triple → StringTriple
-strings_for g t = (string_of g Subject t.0, string_of g Predicate t.1, string_of g Object t.2)
+abbrev pub denoted_triple : GraphParts → Triple → StringTriple
+denoted_triple g t = (string_of g Subject t.0, string_of g Predicate t.1, string_of g Object t.2)
 
 -- the triples of strings that a graph denotes, in order
 abbrev pub denoted : GraphParts → List Triple → List StringTriple
-denoted g ts = map (strings_for g) ts
+denoted g ts = map (denoted_triple g) ts

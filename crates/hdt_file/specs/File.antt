@@ -3,13 +3,13 @@
 use Rattle.std.specs.Prelude.{◌≡◌, ℕ, ◌==◌, List, length, Result, Ok}
 use Rattle.hdt_wire.specs.declared.fault.Fault.{Fault}
 use Rattle.hdt_wire.specs.declared.fault.Reason.TheVariants.{TrailingBytes}
-use Rattle.hdt_wire.specs.Rows.{◌>>=◌, demand}
-use Rattle.hdt_dict.specs.Dictionary.{DictionaryParts, FourLists, IsDictionary, sections_of, strings_in}
+use Rattle.hdt_wire.specs.Checks.{◌>>=◌, demand}
+use Rattle.hdt_dict.specs.Dictionary.{DictionaryParts, SectionLists, IsDictionary, lists_of_dictionary, role_strings}
 use Rattle.hdt_wire.specs.declared.role.Role.TheVariants.{Subject, Predicate, Object}
-use Rattle.hdt_triples.specs.Counting.{Counts, Triple, triples_of}
-use Rattle.hdt_triples.specs.Triples.{TripleParts, bitmap_of, IsTriples, triples_at}
+use Rattle.hdt_triples.specs.TripleSequences.{Counts, Triple, triples_of}
+use Rattle.hdt_triples.specs.Triples.{TripleParts, bitmap_triples, IsTriples, decode_triple_parts}
 use Rattle.hdt_file.specs.Head.{HeadParts, IsHead}
-use Rattle.hdt_file.specs.Dictionary.{dictionary_after_head}
+use Rattle.hdt_file.specs.Dictionary.{decode_head_and_dictionary}
 
 -- a file, decoded
 pub record FileParts : Type 0 where
@@ -18,26 +18,26 @@ pub record FileParts : Type 0 where
   pub triples : TripleParts
 
 -- the number of strings of each role
-abbrev pub counts_of : FourLists → Counts
-counts_of d = record { subjects = length (strings_in d Subject); predicates = length (strings_in d Predicate); objects = length (strings_in d Object) }
+abbrev pub role_counts : SectionLists → Counts
+role_counts d = record { subjects = length (role_strings d Subject); predicates = length (role_strings d Predicate); objects = length (role_strings d Object) }
 
 -- the number of strings of each role: the IDs of a role are 1 to this number
-abbrev pub counts_in : DictionaryParts → Counts
-counts_in d = counts_of (sections_of d)
+abbrev pub dictionary_counts : DictionaryParts → Counts
+dictionary_counts d = role_counts (lists_of_dictionary d)
 
 -- the bytes, all of them, encode the file
 pub record IsFile (file : FileParts) (bytes : List ℕ) : Type 0 where
   pub head : IsHead file.head bytes
   pub dictionary : IsDictionary file.dictionary bytes file.head.end
-  pub triples : IsTriples (counts_in file.dictionary) file.triples bytes file.dictionary.objects.end
-  pub end : file.triples.zs.end ≡ length bytes
+  pub triples : IsTriples (dictionary_counts file.dictionary) file.triples bytes file.dictionary.objects.end
+  pub end : file.triples.array_z.end ≡ length bytes
 
 -- decodes a file, or returns the first error
-unfoldable pub file_at_start : List ℕ → Result FileParts Fault
-file_at_start bytes = do
-  front ← dictionary_after_head bytes
-  triples ← triples_at (counts_in front.dictionary) bytes front.dictionary.objects.end
-  _ ← demand (triples.zs.end == length bytes) triples.zs.end TrailingBytes
+unfoldable pub decode_file : List ℕ → Result FileParts Fault
+decode_file bytes = do
+  front ← decode_head_and_dictionary bytes
+  triples ← decode_triple_parts (dictionary_counts front.dictionary) bytes front.dictionary.objects.end
+  _ ← demand (triples.array_z.end == length bytes) triples.array_z.end TrailingBytes
   Ok (record { head = front.head; dictionary = front.dictionary; triples = triples })
 
 -- ---- the graph of a file
@@ -45,21 +45,21 @@ file_at_start bytes = do
 -- the graph of a file: the header body, the sections of the dictionary, and the triples as IDs
 pub record GraphParts : Type 0 where
   pub header : List ℕ
-  pub dictionary : FourLists
+  pub dictionary : SectionLists
   pub triples : List Triple
 
 -- the graph of a decoded file
-abbrev pub graph_of : FileParts → GraphParts
-graph_of file = record { header = file.head.body; dictionary = sections_of file.dictionary; triples = triples_of (bitmap_of file.triples) }
+abbrev pub graph_of_file : FileParts → GraphParts
+graph_of_file file = record { header = file.head.body; dictionary = lists_of_dictionary file.dictionary; triples = triples_of (bitmap_triples file.triples) }
 
 -- the bytes are a valid encoding of the graph
 pub record IsLayout (bytes : List ℕ) (graph : GraphParts) : Type 0 where
   pub file : FileParts
   pub is : IsFile file bytes
-  pub of : graph_of file ≡ graph
+  pub of : graph_of_file file ≡ graph
 
 -- decodes a file and returns its graph, or the first error: the first check that fails
-unfoldable pub graph_in : List ℕ → Result GraphParts Fault
-graph_in bytes = do
-  file ← file_at_start bytes
-  Ok (graph_of file)
+unfoldable pub decode_graph : List ℕ → Result GraphParts Fault
+decode_graph bytes = do
+  file ← decode_file bytes
+  Ok (graph_of_file file)

@@ -6,22 +6,22 @@ use Rattle.std.specs.Option.{ok_or, option_and_then}
 use Rattle.hdt_wire.specs.declared.fault.Fault.{Fault}
 use Rattle.hdt_wire.specs.declared.fault.Reason.TheVariants.{HeaderLength}
 use Rattle.hdt_wire.specs.declared.control.Kind.TheVariants.{Global, Header}
-use Rattle.hdt_wire.specs.Rows.{◌>>=◌, bytes_at, Stands}
-use Rattle.hdt_wire.specs.Control.{Block, IsBlock, block_of, control_at}
+use Rattle.hdt_wire.specs.Checks.{◌>>=◌, bytes_at, HasSlice}
+use Rattle.hdt_wire.specs.Control.{ControlInfo, IsControlAt, control_info_of, control_at}
 use Rattle.hdt_wire.specs.Property.{property_value}
 use Rattle.hdt_file.specs.declared.head.Head.{Head}
 use Rattle.hdt_file.specs.Decimal.{Decimal, decimal_number}
 
 -- the head, decoded: the two control informations, the header body, and the byte offset after it
 pub record HeadParts : Type 0 where
-  pub global : Block
-  pub header : Block
+  pub global : ControlInfo
+  pub header : ControlInfo
   pub body : List ℕ
   pub end : ℕ
 
 -- a `Head` without its addresses in memory
-unfoldable pub parts_of : Head → HeadParts
-parts_of h = record { global = block_of h.global; header = block_of h.header; body = h.body.now; end = h.end }
+unfoldable pub head_parts : Head → HeadParts
+head_parts h = record { global = control_info_of h.global; header = control_info_of h.header; body = h.body.now; end = h.end }
 
 -- the property `length` has the value n
 abbrev pub StatesLength : List ℕ → ℕ → Type 0
@@ -29,22 +29,22 @@ StatesLength properties n = IsSomeAnd (property_value properties (codes "length"
 
 -- the head is encoded at the start of the bytes; anything may follow
 pub record IsHead (head : HeadParts) (bytes : List ℕ) : Type 0 where
-  pub global : IsBlock Global head.global bytes 0
-  pub header : IsBlock Header head.header bytes head.global.end
+  pub global : IsControlAt Global head.global bytes 0
+  pub header : IsControlAt Header head.header bytes head.global.end
   pub length : StatesLength head.header.properties (length head.body)
-  pub body : Stands bytes head.header.end head.body head.end
+  pub body : HasSlice bytes head.header.end head.body head.end
 
 -- the value of the property `length`, or None if it is missing or not a decimal number below 2 ^ 64
 unfoldable pub length_in : List ℕ → Option ℕ
 length_in properties = option_and_then decimal_number (property_value properties (codes "length"))
 
 -- the length of the header body, or the error that it is not stated
-abbrev pub body_length : Block → Result ℕ Fault
+abbrev pub body_length : ControlInfo → Result ℕ Fault
 body_length header = ok_or (length_in header.properties) (record { place = header.properties_at; reason = HeaderLength })
 
 -- decodes the head, or returns the first error
-unfoldable pub head_at_start : List ℕ → Result HeadParts Fault
-head_at_start bytes = do
+unfoldable pub decode_head : List ℕ → Result HeadParts Fault
+decode_head bytes = do
   global ← control_at Global bytes 0
   header ← control_at Header bytes global.end
   count ← body_length header

@@ -1,12 +1,12 @@
 -- The graph of a `Layout`.
 use Rattle.hdt_dict.specs.Views.{dictionary_of}
-use Rattle.hdt_triples.specs.Counting.{triples_of}
-use Rattle.hdt_triples.specs.Views.{bitmap_read}
-use Rattle.hdt_file.specs.Head.{parts_of}
+use Rattle.hdt_triples.specs.TripleSequences.{triples_of}
+use Rattle.hdt_triples.specs.Views.{triples_view}
+use Rattle.hdt_file.specs.Head.{head_parts}
 use Rattle.hdt_file.specs.File.{GraphParts}
 use Rattle.hdt_file.specs.declared.layout.Layout.{Layout}
-use Rattle.hdt_dict.specs.Dictionary.{sections_of}
+use Rattle.hdt_dict.specs.Dictionary.{lists_of_dictionary}
 
 -- its header body, the strings of its sections, and its triples as IDs
-unfoldable pub layout_seen : Layout → GraphParts
-layout_seen l = record { header = (parts_of l.head).body; dictionary = sections_of (dictionary_of l.dictionary); triples = triples_of (bitmap_read l.triples) }
+unfoldable pub layout_view : Layout → GraphParts
+layout_view l = record { header = (head_parts l.head).body; dictionary = lists_of_dictionary (dictionary_of l.dictionary); triples = triples_of (triples_view l.triples) }

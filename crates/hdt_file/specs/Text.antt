@@ -2,16 +2,16 @@
 -- which its role allows.
 use Rattle.std.specs.Prelude.{◌≡◌, ℕ, ◌⊎◌, ⊤, List, [], ◌∷◌, ◌++◌}
 use Rattle.std.specs.List.{flat_map}
-use Rattle.hdt_terms.specs.declared.term.Term.{Term}
+use Rattle.hdt_terms.specs.declared.triple.Term.{Term}
 use Rattle.hdt_terms.specs.Lines.{IsSubject, IsPredicate}
-use Rattle.hdt_terms.specs.Terms.{str, IsDictionaryTerm}
+use Rattle.hdt_terms.specs.Terms.{dictionary_string, IsDictionaryTerm}
 use Rattle.hdt_terms.specs.Writing.{written}
 use Rattle.hdt_wire.specs.declared.role.Role.{Role}
 use Rattle.hdt_wire.specs.declared.role.Role.TheVariants.{Subject, Predicate, Object}
-use Rattle.hdt_triples.specs.Counting.{Triple}
+use Rattle.hdt_triples.specs.TripleSequences.{Triple}
 use Rattle.hdt_file.specs.File.{GraphParts}
-use Rattle.hdt_triples.specs.Uses.{part}
-use Rattle.hdt_file.specs.Denoted.{StringTriple, strings_for}
+use Rattle.hdt_triples.specs.Uses.{role_component}
+use Rattle.hdt_file.specs.Denoted.{StringTriple, denoted_triple}
 
 -- the terms of subject, predicate and object
 abbrev pub TermTriple : Type 0
@@ -26,12 +26,12 @@ FitsRole Object term = ⊤
 -- the string is that of the term, which the role allows
 pub record IsTermOf (role : Role) (string : List ℕ) (term : Term) : Type 0 where
   pub dictionary : IsDictionaryTerm term
-  pub is : str term ≡ string
+  pub is : dictionary_string term ≡ string
   pub fits : FitsRole role term
 
 -- each string is that of the term, which its role allows
 abbrev pub AreTermsOf : StringTriple → TermTriple → Type 0
-AreTermsOf strings terms = (role : Role) → IsTermOf role (part role strings) (part role terms)
+AreTermsOf strings terms = (role : Role) → IsTermOf role (role_component role strings) (role_component role terms)
 
 -- the lists have the same length, and P holds at each index
 abbrev pub Pairwise : {X Y : Type 0} → (X → Y → Type 0) → List X → List Y → Type 0
@@ -61,23 +61,23 @@ abbrev pub HasNoTerm : Role → List ℕ → Type 0
 HasNoTerm role string = (term : Term) → IsTermOf role string term → ⊥
 
 -- the order of the roles: subject, predicate, object
-abbrev pub IsBefore : Role → Role → Type 0
-IsBefore Subject Subject = ⊥
-IsBefore Subject Predicate = ⊤
-IsBefore Subject Object = ⊤
-IsBefore Predicate Subject = ⊥
-IsBefore Predicate Predicate = ⊥
-IsBefore Predicate Object = ⊤
-IsBefore Object role = ⊥
+abbrev pub IsEarlierRole : Role → Role → Type 0
+IsEarlierRole Subject Subject = ⊥
+IsEarlierRole Subject Predicate = ⊤
+IsEarlierRole Subject Object = ⊤
+IsEarlierRole Predicate Subject = ⊥
+IsEarlierRole Predicate Predicate = ⊥
+IsEarlierRole Predicate Object = ⊤
+IsEarlierRole Object role = ⊥
 
 -- the role of the first string of the triple that is not a term which its role allows
-pub record IsFirstOf (strings : StringTriple) (role : Role) : Type 0 where
-  pub none : HasNoTerm role (part role strings)
-  pub earlier : (other : Role) → IsBefore other role → HasTerm other (part other strings)
+pub record IsFirstNonTermOfTriple (strings : StringTriple) (role : Role) : Type 0 where
+  pub none : HasNoTerm role (role_component role strings)
+  pub earlier : (other : Role) → IsEarlierRole other role → HasTerm other (role_component other strings)
 
 -- the role and the ID of the first such string of the first such triple
-abbrev pub IsFirstIn : GraphParts → List Triple → Role → ℕ → Type 0
-IsFirstIn g [] role number = ⊥
-IsFirstIn g (t ∷ ts) role number =
-    (IsFirstOf (strings_for g t) role × (number ≡ part role t))
-    ⊎ (((other : Role) → HasTerm other (part other (strings_for g t))) × IsFirstIn g ts role number)
+abbrev pub IsFirstNonTerm : GraphParts → List Triple → Role → ℕ → Type 0
+IsFirstNonTerm g [] role number = ⊥
+IsFirstNonTerm g (t ∷ ts) role number =
+    (IsFirstNonTermOfTriple (denoted_triple g t) role × (number ≡ role_component role t))
+    ⊎ (((other : Role) → HasTerm other (role_component other (denoted_triple g t))) × IsFirstNonTerm g ts role number)

@@ -1,12 +1,12 @@
 //! Reading the head of a file and its dictionary.
 ghost use Rattle.std.specs.Prelude.{◌≡◌, ◌≤◌, ℕ, List, ◌<◌, ◌^◌, length, Ok, IfOk};
-ghost use Rattle.hdt_wire.specs.Rows.{Gives, IsBytes};
+ghost use Rattle.hdt_wire.specs.Checks.{ReadsUnlessOom, IsBytes};
 ghost use Rattle.hdt_wire.specs.Exact.{Exactly};
 ghost use Rattle.hdt_wire.specs.declared.role.Role.{Role};
-ghost use Rattle.hdt_dict.specs.Dictionary.{sections_of, strings_in};
+ghost use Rattle.hdt_dict.specs.Dictionary.{lists_of_dictionary, role_strings};
 ghost use Rattle.hdt_dict.specs.Views.{dictionary_of};
 ghost use Rattle.hdt_file.specs.Faults.{open_fault_of};
-ghost use Rattle.hdt_file.specs.Dictionary.{HeadAndDictionary, IsHeadAndDictionary, described, dictionary_after_head};
+ghost use Rattle.hdt_file.specs.Dictionary.{HeadAndDictionary, IsHeadAndDictionary, head_and_dictionary_of, decode_head_and_dictionary};
 
 use crate::fault::OpenFault;
 use crate::head::{Head, read_head};
@@ -14,14 +14,14 @@ use hdt_dict::Dictionary;
 use std::alloc::Global;
 
 /// Reads the head and the dictionary, one check after another.
-#[tactic(auto, unfolding(crate::specs::Dictionary::dictionary_after_head))]
-fn read_rows<'a>(
+#[tactic(auto, unfolding(crate::specs::Dictionary::decode_head_and_dictionary))]
+fn read_by_checks<'a>(
     alloc: Global,
     bytes: &'a [u8],
 ) -> Result<(Head<'a>, Dictionary<'a>, usize), OpenFault>
-    ensures exact { Gives open_fault_of described result (dictionary_after_head bytes.now) }
+    ensures exact { ReadsUnlessOom open_fault_of head_and_dictionary_of result (decode_head_and_dictionary bytes.now) }
     ensures next { IfOk result (λ r. r.2 ≡ (dictionary_of r.1).objects.end) }
-    ensures few { IfOk result (λ r. (role : Role) → length (strings_in (sections_of (dictionary_of r.1)) role) ≤ length bytes.now) }
+    ensures few { IfOk result (λ r. (role : Role) → length (role_strings (lists_of_dictionary (dictionary_of r.1)) role) ≤ length bytes.now) }
 {
     let head = read_head(bytes)?;
     let (dictionary, end) = Dictionary::read(alloc, bytes, head.end())?;
@@ -44,19 +44,19 @@ pub fn read_dictionary<'a>(
     bytes: &'a [u8],
 ) -> Result<(Head<'a>, Dictionary<'a>, usize), OpenFault>
     // What is returned is encoded at the start of the file.
-    ensures found { IfOk result (λ r. IsHeadAndDictionary (described r) bytes.now) }
+    ensures found { IfOk result (λ r. IsHeadAndDictionary (head_and_dictionary_of r) bytes.now) }
     // What is encoded there is returned, unless memory ran out.
-    ensures only { (front : HeadAndDictionary) → IsHeadAndDictionary front bytes.now → Gives open_fault_of described result (Ok front) }
+    ensures only { (front : HeadAndDictionary) → IsHeadAndDictionary front bytes.now → ReadsUnlessOom open_fault_of head_and_dictionary_of result (Ok front) }
     // Otherwise it is the first error.
-    ensures exact { Gives open_fault_of described result (dictionary_after_head bytes.now) }
+    ensures exact { ReadsUnlessOom open_fault_of head_and_dictionary_of result (decode_head_and_dictionary bytes.now) }
     ensures next { IfOk result (λ r. r.2 ≡ (dictionary_of r.1).objects.end) }
     // A role has at most as many strings as the input has bytes.
-    ensures few { IfOk result (λ r. (role : Role) → length (strings_in (sections_of (dictionary_of r.1)) role) ≤ length bytes.now) }
+    ensures few { IfOk result (λ r. (role : Role) → length (role_strings (lists_of_dictionary (dictionary_of r.1)) role) ≤ length bytes.now) }
 {
-    read_rows(alloc, bytes)
+    read_by_checks(alloc, bytes)
 }
 
 /// The checks of the head and the dictionary are exact: they return what is encoded at the start of the file.
-pub fn fronts_are_exact()
-    ensures { (bytes : List ℕ) → IsBytes bytes → length bytes < 2 ^ 64 → Exactly (dictionary_after_head bytes) (λ front. IsHeadAndDictionary front bytes) }
+pub fn head_and_dictionary_are_exact()
+    ensures { (bytes : List ℕ) → IsBytes bytes → length bytes < 2 ^ 64 → Exactly (decode_head_and_dictionary bytes) (λ front. IsHeadAndDictionary front bytes) }
 {}

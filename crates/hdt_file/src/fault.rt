@@ -1,6 +1,6 @@
 //! The errors of opening a file, and of writing its text.
 ghost use Rattle.std.specs.Prelude.{◌≡◌};
-ghost use Rattle.hdt_file.specs.Faults.{of_part};
+ghost use Rattle.hdt_file.specs.Faults.{open_fault_of_part};
 ghost use Rattle.hdt_file.specs.declared.fault.OpenFault.TheVariants as opens;
 ghost use Rattle.hdt_file.specs.declared.fault.DumpFault.TheVariants as dumps;
 
@@ -29,7 +29,7 @@ impl From<hdt_wire::Fault> for OpenFault {
 }
 
 impl From<ReadFault> for OpenFault {
-    ghost from_gives = { λ fault e. e ≡ of_part fault };
+    ghost from_gives = { λ fault e. e ≡ open_fault_of_part fault };
 
     fn from(fault: ReadFault) -> OpenFault {
         match fault {

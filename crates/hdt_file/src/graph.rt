@@ -1,12 +1,12 @@
 //! The graph of a file.
 ghost use Rattle.std.specs.Prelude.{◌≡◌, ℕ, length, IfOk};
 ghost use Rattle.hdt_dict.specs.Views.{dictionary_of};
-ghost use Rattle.hdt_triples.specs.ListedViews.{roles_of, triples_listed};
-ghost use Rattle.hdt_file.specs.File.{counts_in};
+ghost use Rattle.hdt_triples.specs.IndexViews.{string_counts, triples_listed};
+ghost use Rattle.hdt_file.specs.File.{dictionary_counts};
 
 use crate::head::Head;
 use crate::layout::Layout;
-use hdt_dict::{Dictionary, Role, Strings};
+use hdt_dict::{Dictionary, Role, RoleCursor};
 use hdt_seq::Steps;
 use hdt_triples::ListedTriples;
 use std::alloc::{AllocError, Global};
@@ -26,46 +26,46 @@ pub struct Graph<'a> {
     pub(crate) head: Head<'a>,
     pub(crate) dictionary: Dictionary<'a>,
     pub(crate) triples: ListedTriples<'a>,
-    ghost roles: { roles_of (triples_listed triples) ≡ counts_in (dictionary_of dictionary) },
+    ghost roles: { string_counts (triples_listed triples) ≡ dictionary_counts (dictionary_of dictionary) },
 }
 
-#[tactic(auto, unfolding(crate::specs::Views::graph_seen))]
+#[tactic(auto, unfolding(crate::specs::GraphView::graph_view))]
 impl<'a> Graph<'a> {
     ghost use Rattle.std.specs.Prelude.{◌∷◌, ◌↔◌, ◌≤◌, ◌+◌, ◌*◌, [], Some, None, IsOk, OnErr, IsTrue};
-    ghost use Rattle.hdt_front.specs.Numbering.{place};
-    ghost use Rattle.hdt_dict.specs.Many.{AppendsAll, AreNumbers, AscendTo};
-    ghost use Rattle.hdt_dict.specs.Numbered.{numbered, AppendsString};
+    ghost use Rattle.hdt_front.specs.StringIds.{id_of};
+    ghost use Rattle.hdt_dict.specs.StringBatch.{AppendsAll, AreIds, AscendTo};
+    ghost use Rattle.hdt_dict.specs.Ids.{string_at_id, AppendsString};
     ghost use Rattle.hdt_triples.specs.Uses.{Uses};
     ghost use Rattle.hdt_file.specs.Graph.{IsGraph};
-    ghost use Rattle.hdt_file.specs.LayoutView.{layout_seen};
-    ghost use Rattle.hdt_dict.specs.Looks.{role_block, role_looks};
-    ghost use Rattle.hdt_file.specs.Parts.{dictionary_in, held_by};
-    ghost use Rattle.hdt_file.specs.PartsViews.{graph_parts, layout_parts};
-    ghost use Rattle.hdt_file.specs.Views.{graph_seen};
-    ghost use Rattle.hdt_dict.specs.Dictionary.{strings_in};
+    ghost use Rattle.hdt_file.specs.LayoutView.{layout_view};
+    ghost use Rattle.hdt_dict.specs.Cost.{role_decode_cost, role_search_cost};
+    ghost use Rattle.hdt_file.specs.LayoutParts.{parts_dictionary, parts_held};
+    ghost use Rattle.hdt_file.specs.LayoutPartsViews.{parts_of_graph, parts_of_layout};
+    ghost use Rattle.hdt_file.specs.GraphView.{graph_view};
+    ghost use Rattle.hdt_dict.specs.Dictionary.{role_strings};
 
     /// A law: this is the graph of a valid file. The strings of each section are UTF-8 without zero bytes and strictly
     /// ascend; no string is in two of shared, subjects and objects; there is at least one triple; the triples strictly
     /// ascend; each ID is that of a string of its role.
-    #[tactic(auto, unfolding(crate::specs::Views::graph_seen))]
+    #[tactic(auto, unfolding(crate::specs::GraphView::graph_view))]
     pub fn is_graph(&self)
-        ensures { IsGraph (graph_seen self.now) }
+        ensures { IsGraph (graph_view self.now) }
     {
         self.dictionary.are_sections();
     }
 
     /// Returns the header body, borrowed from the input: N-Triples about the file, which are not parsed.
     pub fn header(&self) -> &'a [u8]
-        ensures { result.now ≡ (graph_seen self.now).header }
+        ensures { result.now ≡ (graph_view self.now).header }
     {
         self.head.body()
     }
 
     /// Returns the same file without indexes.
-    #[tactic(auto, unfolding(crate::specs::Views::graph_seen, crate::specs::LayoutView::layout_seen, crate::specs::PartsViews::graph_parts, crate::specs::PartsViews::layout_parts))]
+    #[tactic(auto, unfolding(crate::specs::GraphView::graph_view, crate::specs::LayoutView::layout_view, crate::specs::LayoutPartsViews::parts_of_graph, crate::specs::LayoutPartsViews::parts_of_layout))]
     pub fn layout(&self) -> Layout<'a>
-        ensures seen { layout_seen result ≡ graph_seen self.now }
-        ensures parts { layout_parts result ≡ graph_parts self.now }
+        ensures seen { layout_view result ≡ graph_view self.now }
+        ensures parts { parts_of_layout result ≡ parts_of_graph self.now }
     {
         Layout {
             head: self.head,
@@ -76,23 +76,23 @@ impl<'a> Graph<'a> {
 
     /// Returns the number of triples.
     pub fn len(&self) -> u64
-        ensures { result ≡ length (graph_seen self.now).triples }
+        ensures { result ≡ length (graph_view self.now).triples }
     {
         self.triples.triples().len()
     }
 
     /// Returns the number of strings of each section: shared, subjects, predicates, objects.
-    #[tactic(auto, unfolding(crate::specs::Views::graph_seen, hdt_dict::specs::Views::dictionary_of))]
+    #[tactic(auto, unfolding(crate::specs::GraphView::graph_view, hdt_dict::specs::Views::dictionary_of))]
     pub fn section_lens(&self) -> [u64; 4]
-        ensures { result ≡ length (graph_seen self.now).dictionary.shared ∷ length (graph_seen self.now).dictionary.subjects ∷ length (graph_seen self.now).dictionary.predicates ∷ length (graph_seen self.now).dictionary.objects ∷ [] }
+        ensures { result ≡ length (graph_view self.now).dictionary.shared ∷ length (graph_view self.now).dictionary.subjects ∷ length (graph_view self.now).dictionary.predicates ∷ length (graph_view self.now).dictionary.objects ∷ [] }
     {
         self.dictionary.section_lens()
     }
 
     /// Returns the number of `u64` values that the graph keeps in memory, besides the input.
-    #[tactic(auto, unfolding(crate::specs::PartsViews::graph_parts))]
+    #[tactic(auto, unfolding(crate::specs::LayoutPartsViews::parts_of_graph))]
     pub fn held(&self) -> u128
-        ensures { result ≡ held_by (graph_parts self.now) }
+        ensures { result ≡ parts_held (parts_of_graph self.now) }
     {
         // (The pattern names every field, so a new one doesn't compile until it is counted here.)
         let Graph {
@@ -108,21 +108,21 @@ impl<'a> Graph<'a> {
 
     /// Returns the number of strings of a role. Their IDs are 1 to this number.
     pub fn count(&self, role: Role) -> u64
-        ensures { result ≡ length (strings_in (graph_seen self.now).dictionary role) }
+        ensures { result ≡ length (role_strings (graph_view self.now).dictionary role) }
     {
         self.dictionary.count(role)
     }
 
     /// Returns a cursor over the strings of a role, in the order of their IDs. Each is decoded once.
-    pub fn strings(&self, alloc: Global, role: Role) -> Strings<'a>
-        ensures { result ≡ record { given = 0; last = []; ahead = strings_in (graph_seen self.now).dictionary role } }
+    pub fn strings(&self, alloc: Global, role: Role) -> RoleCursor<'a>
+        ensures { result ≡ record { given = 0; last = []; ahead = role_strings (graph_view self.now).dictionary role } }
     {
         self.dictionary.strings(alloc, role)
     }
 
     /// Returns whether a triple has the ID n, from 1, in the role, in at most two steps.
     pub fn uses(&self, role: Role, n: u64, steps: &mut Steps) -> bool
-        ensures exact { IsTrue result ↔ Uses (graph_seen self.now).triples role n }
+        ensures exact { IsTrue result ↔ Uses (graph_view self.now).triples role n }
         ensures cost { steps.new ≤ steps.old + 2 }
     {
         self.triples.uses(role, n, steps)
@@ -130,10 +130,10 @@ impl<'a> Graph<'a> {
 
     /// Returns the ID of a string in a role, from 1, or `None` if the role has no such string. It costs a binary search
     /// over the blocks of the role's sections and a scan of one block of each.
-    #[tactic(auto, unfolding(crate::specs::Views::graph_seen, crate::specs::PartsViews::graph_parts))]
+    #[tactic(auto, unfolding(crate::specs::GraphView::graph_view, crate::specs::LayoutPartsViews::parts_of_graph))]
     pub fn number_of(&self, role: Role, x: &[u8], steps: &mut Steps) -> Option<u64>
-        ensures exact { (n : ℕ) → (result ≡ Some n) ↔ (numbered (strings_in (graph_seen self.now).dictionary role) n ≡ Some x.now) }
-        ensures cost { steps.new ≤ steps.old + role_looks (dictionary_in (graph_parts self.now)) role }
+        ensures exact { (n : ℕ) → (result ≡ Some n) ↔ (string_at_id (role_strings (graph_view self.now).dictionary role) n ≡ Some x.now) }
+        ensures cost { steps.new ≤ steps.old + role_search_cost (parts_dictionary (parts_of_graph self.now)) role }
         ensures more { steps.old ≤ steps.new }
     {
         self.dictionary.number_of(role, x, steps)
@@ -141,7 +141,7 @@ impl<'a> Graph<'a> {
 
     /// Appends the string of a role with ID n, from 1, and returns true; or returns false if there is none, with `out`
     /// unchanged. If memory runs out, `out` is unchanged. It decodes the block of the string up to the string.
-    #[tactic(auto, unfolding(crate::specs::Views::graph_seen, crate::specs::PartsViews::graph_parts))]
+    #[tactic(auto, unfolding(crate::specs::GraphView::graph_view, crate::specs::LayoutPartsViews::parts_of_graph))]
     pub fn string_of(
         &self,
         role: Role,
@@ -149,10 +149,10 @@ impl<'a> Graph<'a> {
         out: &mut Vec<u8>,
         steps: &mut Steps,
     ) -> Result<bool, AllocError>
-        ensures ok { IfOk result (λ appended. AppendsString (numbered (strings_in (graph_seen self.now).dictionary role) n) appended out.old.items out.new.items) }
+        ensures ok { IfOk result (λ appended. AppendsString (string_at_id (role_strings (graph_view self.now).dictionary role) n) appended out.old.items out.new.items) }
         ensures err { OnErr result (out.new.items ≡ out.old.items) }
-        ensures cost { steps.new ≤ steps.old + role_block (dictionary_in (graph_parts self.now)) role }
-        ensures absent { numbered (strings_in (graph_seen self.now).dictionary role) n ≡ None → IsOk result }
+        ensures cost { steps.new ≤ steps.old + role_decode_cost (parts_dictionary (parts_of_graph self.now)) role }
+        ensures absent { string_at_id (role_strings (graph_view self.now).dictionary role) n ≡ None → IsOk result }
         ensures more { steps.old ≤ steps.new }
     {
         self.dictionary.string_of(role, n, out, steps)
@@ -164,7 +164,7 @@ impl<'a> Graph<'a> {
     ///
     /// Each string takes at most as many steps as [`string_of`](Graph::string_of). If the IDs ascend (duplicates
     /// allowed), each block is decoded once, and all strings together take at most as many steps as the last ID.
-    #[tactic(auto, unfolding(crate::specs::Views::graph_seen, crate::specs::PartsViews::graph_parts))]
+    #[tactic(auto, unfolding(crate::specs::GraphView::graph_view, crate::specs::LayoutPartsViews::parts_of_graph))]
     pub fn strings_of(
         &self,
         alloc: Global,
@@ -174,12 +174,12 @@ impl<'a> Graph<'a> {
         ends: &mut Vec<u64>,
         steps: &mut Steps,
     ) -> Result<bool, AllocError>
-        ensures ok { IfOk result (λ all. AppendsAll (strings_in (graph_seen self.now).dictionary role) numbers.now all out.old.items out.new.items ends.old.items ends.new.items) }
+        ensures ok { IfOk result (λ all. AppendsAll (role_strings (graph_view self.now).dictionary role) numbers.now all out.old.items out.new.items ends.old.items ends.new.items) }
         ensures err { OnErr result ((out.new.items ≡ out.old.items) × (ends.new.items ≡ ends.old.items)) }
-        ensures cost { steps.new ≤ steps.old + length numbers.now * role_block (dictionary_in (graph_parts self.now)) role }
+        ensures cost { steps.new ≤ steps.old + length numbers.now * role_decode_cost (parts_dictionary (parts_of_graph self.now)) role }
         ensures once { (n : ℕ) → AscendTo numbers.now n → steps.new ≤ steps.old + n }
         ensures more { steps.old ≤ steps.new }
-        ensures absent { (AreNumbers (strings_in (graph_seen self.now).dictionary role) numbers.now → ⊥) → IsOk result }
+        ensures absent { (AreIds (role_strings (graph_view self.now).dictionary role) numbers.now → ⊥) → IsOk result }
     {
         self.dictionary
             .strings_of(alloc, role, numbers, out, ends, steps)

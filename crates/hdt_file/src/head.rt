@@ -1,10 +1,12 @@
 //! The head of a file: global control information, that of the header, and the header body.
-ghost use Rattle.std.specs.Prelude.{◌≡◌, ℕ, List, ◌<◌, ◌^◌, length, Ok, IfOk};
-ghost use Rattle.hdt_wire.specs.Rows.{Reads, IsBytes};
-ghost use Rattle.hdt_wire.specs.Control.{block_of};
-ghost use Rattle.hdt_file.specs.Head.{HeadParts, parts_of, length_in, body_length, head_at_start, IsHead};
+ghost use Rattle.std.specs.Prelude.{◌≡◌, ℕ, List, ◌<◌, ◌^◌, length, Ok, IfOk, ◌+◌, ◌*◌};
+ghost use Rattle.hdt_wire.specs.Checks.{Reads, IsBytes};
+ghost use Rattle.hdt_wire.specs.Control.{control_info_of};
+ghost use Rattle.hdt_file.specs.Head.{HeadParts, head_parts, length_in, body_length, decode_head, IsHead};
+ghost use Rattle.std.specs.Char.{digit_value};
+ghost use Rattle.std.specs.Option.{SomeIff};
+ghost use Rattle.hdt_file.specs.Decimal.{decimal_number};
 
-use crate::decimal::decimal;
 use hdt_wire::{Control, Fault, Kind, Reason, bytes_at, property, read_control};
 
 /// The head of a file. It borrows the input.
@@ -16,36 +18,36 @@ pub struct Head<'a> {
     end: usize,
 }
 
-#[tactic(auto, unfolding(crate::specs::Head::parts_of))]
+#[tactic(auto, unfolding(crate::specs::Head::head_parts))]
 impl<'a> Head<'a> {
     ghost use Rattle.std.specs.Prelude.{◌≡◌};
-    ghost use Rattle.hdt_wire.specs.Control.{block_of};
-    ghost use Rattle.hdt_file.specs.Head.{parts_of};
+    ghost use Rattle.hdt_wire.specs.Control.{control_info_of};
+    ghost use Rattle.hdt_file.specs.Head.{head_parts};
 
     /// Returns the global control information.
     pub fn global(&self) -> Control<'a>
-        ensures { block_of result ≡ (parts_of self.now).global }
+        ensures { control_info_of result ≡ (head_parts self.now).global }
     {
         self.global
     }
 
     /// Returns the control information of the header.
     pub fn header(&self) -> Control<'a>
-        ensures { block_of result ≡ (parts_of self.now).header }
+        ensures { control_info_of result ≡ (head_parts self.now).header }
     {
         self.header
     }
 
     /// Returns the header body: N-Triples about the file, which are not parsed.
     pub fn body(&self) -> &'a [u8]
-        ensures { result.now ≡ (parts_of self.now).body }
+        ensures { result.now ≡ (head_parts self.now).body }
     {
         self.body
     }
 
     /// Returns the byte offset after the header body in the input.
     pub fn end(&self) -> usize
-        ensures { result ≡ (parts_of self.now).end }
+        ensures { result ≡ (head_parts self.now).end }
     {
         self.end
     }
@@ -61,7 +63,7 @@ fn length_in(properties: &[u8]) -> Option<u64>
 
 /// The length of the header body in bytes, as the property `length` states it.
 fn body_length(header: &Control<'_>) -> Result<u64, Fault>
-    ensures { result ≡ body_length (block_of header.now) }
+    ensures { result ≡ body_length (control_info_of header.now) }
 {
     length_in(header.properties()).ok_or(Fault {
         place: header.properties_at() as u64,
@@ -70,9 +72,9 @@ fn body_length(header: &Control<'_>) -> Result<u64, Fault>
 }
 
 /// Reads the head, one check after another.
-#[tactic(auto, unfolding(crate::specs::Head::head_at_start, crate::specs::Head::parts_of))]
-fn read_rows<'a>(bytes: &'a [u8]) -> Result<Head<'a>, Fault>
-    ensures exact { Reads parts_of result (head_at_start bytes.now) }
+#[tactic(auto, unfolding(crate::specs::Head::decode_head, crate::specs::Head::head_parts))]
+fn read_by_checks<'a>(bytes: &'a [u8]) -> Result<Head<'a>, Fault>
+    ensures exact { Reads head_parts result (decode_head bytes.now) }
 {
     let global = read_control(bytes, 0, Kind::Global)?;
     let header = read_control(bytes, global.end(), Kind::Header)?;
@@ -95,13 +97,13 @@ fn read_rows<'a>(bytes: &'a [u8]) -> Result<Head<'a>, Fault>
 /// 2^64; `Truncated`, at the offset of the body, if there are fewer bytes.
 pub fn read_head<'a>(bytes: &'a [u8]) -> Result<Head<'a>, Fault>
     // What is returned is encoded at the start of the file.
-    ensures found { IfOk result (λ head. IsHead (parts_of head) bytes.now) }
+    ensures found { IfOk result (λ head. IsHead (head_parts head) bytes.now) }
     // What is encoded there is returned.
-    ensures only { (head : HeadParts) → IsHead head bytes.now → Reads parts_of result (Ok head) }
+    ensures only { (head : HeadParts) → IsHead head bytes.now → Reads head_parts result (Ok head) }
     // Otherwise it is the first error.
-    ensures exact { Reads parts_of result (head_at_start bytes.now) }
+    ensures exact { Reads head_parts result (decode_head bytes.now) }
 {
-    read_rows(bytes)
+    read_by_checks(bytes)
 }
 
 /// At most one head is encoded at the start of fewer than 2^64 bytes.
@@ -109,3 +111,27 @@ pub fn one_head()
     ensures { (bytes : List ℕ) (a b : HeadParts) → IsBytes bytes → length bytes < 2 ^ 64
         → IsHead a bytes → IsHead b bytes → a ≡ b }
 {}
+
+/// The value after one more digit; `None` if the byte is not a digit or the value would be 2^64 or more.
+fn with_digit(value: u64, byte: u8) -> Option<u64>
+    ensures { SomeIff result ((digit_value byte < 10) × (value * 10 + digit_value byte < 2 ^ 64)) (value * 10 + digit_value byte) }
+{
+    if !byte.is_ascii_digit() {
+        return None;
+    }
+    value.checked_mul(10)?.checked_add(u64::from(byte - b'0'))
+}
+
+/// The value of a decimal number below 2^64: one digit or more, leading zeros allowed. `None` for any other text.
+pub(crate) fn decimal(text: &[u8]) -> Option<u64>
+    ensures { result ≡ decimal_number text.now }
+{
+    if text.is_empty() {
+        return None;
+    }
+    let mut value = 0;
+    'digits: for &byte in text {
+        value = with_digit(value, byte)?;
+    }
+    Some(value)
+}

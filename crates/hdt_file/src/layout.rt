@@ -1,14 +1,14 @@
 //! A file without indexes.
 ghost use Rattle.std.specs.Prelude.{◌≡◌, ℕ, length, IfOk, Ok};
 ghost use Rattle.hdt_dict.specs.Views.{dictionary_of};
-ghost use Rattle.hdt_triples.specs.CountsView.{counts_seen};
-ghost use Rattle.hdt_triples.specs.ListedViews.{roles_of};
-ghost use Rattle.hdt_file.specs.File.{counts_in};
+ghost use Rattle.hdt_triples.specs.CountsView.{counts_view};
+ghost use Rattle.hdt_triples.specs.IndexViews.{string_counts};
+ghost use Rattle.hdt_file.specs.File.{dictionary_counts};
 
 use crate::dictionary::read_dictionary;
 use crate::fault::OpenFault;
 use crate::head::Head;
-use hdt_dict::{Dictionary, Role, Strings};
+use hdt_dict::{Dictionary, Role, RoleCursor};
 use hdt_seq::Steps;
 use hdt_triples::{Counts, Matches, Pattern, Triples};
 use hdt_wire::{Reason, demand};
@@ -29,12 +29,12 @@ pub struct Layout<'a> {
     pub(crate) head: Head<'a>,
     pub(crate) dictionary: Dictionary<'a>,
     pub(crate) triples: Triples<'a>,
-    ghost roles: { roles_of triples ≡ counts_in (dictionary_of dictionary) },
+    ghost roles: { string_counts triples ≡ dictionary_counts (dictionary_of dictionary) },
 }
 
 /// The number of strings of each role of a dictionary.
-fn counts_in(dictionary: &Dictionary<'_>) -> Counts
-    ensures { counts_seen result ≡ counts_in (dictionary_of dictionary.now) }
+fn dictionary_counts(dictionary: &Dictionary<'_>) -> Counts
+    ensures { counts_view result ≡ dictionary_counts (dictionary_of dictionary.now) }
 {
     Counts {
         subjects: dictionary.count(Role::Subject),
@@ -43,32 +43,32 @@ fn counts_in(dictionary: &Dictionary<'_>) -> Counts
     }
 }
 
-#[tactic(auto, unfolding(crate::specs::LayoutView::layout_seen))]
+#[tactic(auto, unfolding(crate::specs::LayoutView::layout_view))]
 impl<'a> Layout<'a> {
     ghost use Rattle.std.specs.Prelude.{◌↔◌, ◌≤◌, ◌<◌, ◌+◌, ◌*◌, ◌^◌, ◌∷◌, [], Option, Some, None, IsOk, OnErr, min};
-    ghost use Rattle.hdt_wire.specs.Rows.{Gives};
-    ghost use Rattle.hdt_dict.specs.Numbered.{numbered, AppendsString};
-    ghost use Rattle.hdt_triples.specs.Bounds.{walking_steps};
-    ghost use Rattle.hdt_triples.specs.Left.{left_of, limit_of};
+    ghost use Rattle.hdt_wire.specs.Checks.{ReadsUnlessOom};
+    ghost use Rattle.hdt_dict.specs.Ids.{string_at_id, AppendsString};
+    ghost use Rattle.hdt_triples.specs.Bounds.{scan_steps};
+    ghost use Rattle.hdt_triples.specs.Remaining.{remaining_matches, step_limit};
     ghost use Rattle.hdt_triples.specs.Patterns.{matches};
     ghost use Rattle.hdt_file.specs.Faults.{open_fault_of};
-    ghost use Rattle.hdt_file.specs.File.{GraphParts, IsLayout, graph_in};
-    ghost use Rattle.hdt_file.specs.LayoutView.{layout_seen};
-    ghost use Rattle.hdt_dict.specs.Looks.{role_block, role_looks};
-    ghost use Rattle.hdt_file.specs.Parts.{bitmap_in, dictionary_in, parts_in};
-    ghost use Rattle.hdt_file.specs.Laws.Parts.{parts_rows};
-    ghost use Rattle.hdt_file.specs.PartsViews.{layout_parts};
-    ghost use Rattle.hdt_file.specs.Search.{IsPart, IsPattern, given_looks, part_looks};
-    ghost use Rattle.hdt_file.specs.Views.{lens_of};
-    ghost use Rattle.hdt_dict.specs.Dictionary.{strings_in};
+    ghost use Rattle.hdt_file.specs.File.{GraphParts, IsLayout, decode_graph};
+    ghost use Rattle.hdt_file.specs.LayoutView.{layout_view};
+    ghost use Rattle.hdt_dict.specs.Cost.{role_decode_cost, role_search_cost};
+    ghost use Rattle.hdt_file.specs.LayoutParts.{parts_bitmap, parts_dictionary, decode_parts};
+    ghost use Rattle.hdt_file.specs.Laws.LayoutParts.{parts_by_checks};
+    ghost use Rattle.hdt_file.specs.LayoutPartsViews.{parts_of_layout};
+    ghost use Rattle.hdt_file.specs.Search.{IsPatternPart, IsPattern, pattern_steps, part_steps};
+    ghost use Rattle.hdt_file.specs.GraphView.{graph_counts};
+    ghost use Rattle.hdt_dict.specs.Dictionary.{role_strings};
 
     /// Reads a file, one check after another.
-    #[tactic(auto, unfolding(crate::specs::Laws::Parts::parts_rows, crate::specs::PartsViews::layout_parts))]
-    fn read_rows(alloc: Global, bytes: &'a [u8]) -> Result<Layout<'a>, OpenFault>
-        ensures { Gives open_fault_of layout_parts result (parts_rows bytes.now) }
+    #[tactic(auto, unfolding(crate::specs::Laws::LayoutParts::parts_by_checks, crate::specs::LayoutPartsViews::parts_of_layout))]
+    fn read_by_checks(alloc: Global, bytes: &'a [u8]) -> Result<Layout<'a>, OpenFault>
+        ensures { ReadsUnlessOom open_fault_of parts_of_layout result (parts_by_checks bytes.now) }
     {
         let (head, dictionary, at) = read_dictionary(alloc, bytes)?;
-        let (triples, end) = Triples::read(bytes, at, counts_in(&dictionary))?;
+        let (triples, end) = Triples::read(bytes, at, dictionary_counts(&dictionary))?;
         demand(end == bytes.len(), end, Reason::TrailingBytes)?;
         Ok(Layout {
             head,
@@ -81,21 +81,21 @@ impl<'a> Layout<'a> {
     /// while it runs.
     pub fn read(alloc: Global, bytes: &'a [u8]) -> Result<Layout<'a>, OpenFault>
         // The bytes encode the graph that is returned.
-        ensures found { IfOk result (λ layout. IsLayout bytes.now (layout_seen layout)) }
+        ensures found { IfOk result (λ layout. IsLayout bytes.now (layout_view layout)) }
         // If the bytes encode a graph, it is returned, unless memory ran out.
-        ensures only { (graph : GraphParts) → IsLayout bytes.now graph → Gives open_fault_of layout_seen result (Ok graph) }
+        ensures only { (graph : GraphParts) → IsLayout bytes.now graph → ReadsUnlessOom open_fault_of layout_view result (Ok graph) }
         // Otherwise it is the first error.
-        ensures exact { Gives open_fault_of layout_seen result (graph_in bytes.now) }
+        ensures exact { ReadsUnlessOom open_fault_of layout_view result (decode_graph bytes.now) }
         // Its parts are those that the bytes encode.
-        ensures parts { Gives open_fault_of layout_parts result (parts_in bytes.now) }
+        ensures parts { ReadsUnlessOom open_fault_of parts_of_layout result (decode_parts bytes.now) }
     {
-        Layout::read_rows(alloc, bytes)
+        Layout::read_by_checks(alloc, bytes)
     }
 
     /// Returns the number of triples, and of the strings of each section: shared, subjects, predicates, objects.
-    #[tactic(auto, unfolding(crate::specs::LayoutView::layout_seen, hdt_dict::specs::Views::dictionary_of))]
+    #[tactic(auto, unfolding(crate::specs::LayoutView::layout_view, hdt_dict::specs::Views::dictionary_of))]
     pub fn lens(&self) -> [u64; 5]
-        ensures { result ≡ lens_of (layout_seen self.now) }
+        ensures { result ≡ graph_counts (layout_view self.now) }
     {
         let [shared, subjects, predicates, objects] = self.dictionary.section_lens();
         [self.triples.len(), shared, subjects, predicates, objects]
@@ -103,31 +103,31 @@ impl<'a> Layout<'a> {
 
     /// Returns the header body, borrowed from the input: N-Triples about the file, which are not parsed.
     pub fn header(&self) -> &'a [u8]
-        ensures { result.now ≡ (layout_seen self.now).header }
+        ensures { result.now ≡ (layout_view self.now).header }
     {
         self.head.body()
     }
 
     /// Returns the number of strings of a role. Their IDs are 1 to this number.
     pub fn count(&self, role: Role) -> u64
-        ensures { result ≡ length (strings_in (layout_seen self.now).dictionary role) }
+        ensures { result ≡ length (role_strings (layout_view self.now).dictionary role) }
     {
         self.dictionary.count(role)
     }
 
     /// Returns a cursor over the strings of a role, in the order of their IDs. Each is decoded once.
-    pub fn strings(&self, alloc: Global, role: Role) -> Strings<'a>
-        ensures { result ≡ record { given = 0; last = []; ahead = strings_in (layout_seen self.now).dictionary role } }
+    pub fn strings(&self, alloc: Global, role: Role) -> RoleCursor<'a>
+        ensures { result ≡ record { given = 0; last = []; ahead = role_strings (layout_view self.now).dictionary role } }
     {
         self.dictionary.strings(alloc, role)
     }
 
     /// Returns the ID of a string in a role, from 1, or `None` if the role has no such string. It costs a binary search
     /// over the blocks of the role's sections and a scan of one block of each.
-    #[tactic(auto, unfolding(crate::specs::LayoutView::layout_seen, crate::specs::PartsViews::layout_parts))]
+    #[tactic(auto, unfolding(crate::specs::LayoutView::layout_view, crate::specs::LayoutPartsViews::parts_of_layout))]
     pub fn number_of(&self, role: Role, x: &[u8], steps: &mut Steps) -> Option<u64>
-        ensures exact { (n : ℕ) → (result ≡ Some n) ↔ (numbered (strings_in (layout_seen self.now).dictionary role) n ≡ Some x.now) }
-        ensures cost { steps.new ≤ steps.old + role_looks (dictionary_in (layout_parts self.now)) role }
+        ensures exact { (n : ℕ) → (result ≡ Some n) ↔ (string_at_id (role_strings (layout_view self.now).dictionary role) n ≡ Some x.now) }
+        ensures cost { steps.new ≤ steps.old + role_search_cost (parts_dictionary (parts_of_layout self.now)) role }
         ensures more { steps.old ≤ steps.new }
     {
         self.dictionary.number_of(role, x, steps)
@@ -135,7 +135,7 @@ impl<'a> Layout<'a> {
 
     /// Appends the string of a role with ID n, from 1, and returns true; or returns false if there is none, with `out`
     /// unchanged. If memory runs out, `out` is unchanged. It decodes the block of the string up to the string.
-    #[tactic(auto, unfolding(crate::specs::LayoutView::layout_seen, crate::specs::PartsViews::layout_parts))]
+    #[tactic(auto, unfolding(crate::specs::LayoutView::layout_view, crate::specs::LayoutPartsViews::parts_of_layout))]
     pub fn string_of(
         &self,
         role: Role,
@@ -143,10 +143,10 @@ impl<'a> Layout<'a> {
         out: &mut Vec<u8>,
         steps: &mut Steps,
     ) -> Result<bool, AllocError>
-        ensures ok { IfOk result (λ appended. AppendsString (numbered (strings_in (layout_seen self.now).dictionary role) n) appended out.old.items out.new.items) }
+        ensures ok { IfOk result (λ appended. AppendsString (string_at_id (role_strings (layout_view self.now).dictionary role) n) appended out.old.items out.new.items) }
         ensures err { OnErr result (out.new.items ≡ out.old.items) }
-        ensures cost { steps.new ≤ steps.old + role_block (dictionary_in (layout_parts self.now)) role }
-        ensures absent { numbered (strings_in (layout_seen self.now).dictionary role) n ≡ None → IsOk result }
+        ensures cost { steps.new ≤ steps.old + role_decode_cost (parts_dictionary (parts_of_layout self.now)) role }
+        ensures absent { string_at_id (role_strings (layout_view self.now).dictionary role) n ≡ None → IsOk result }
         ensures more { steps.old ≤ steps.new }
     {
         self.dictionary.string_of(role, n, out, steps)
@@ -155,8 +155,8 @@ impl<'a> Layout<'a> {
     /// The ID of the given string in a role, or `Some(None)` (any ID) without one; `None` if the role has no such
     /// string.
     fn part(&self, role: Role, given: Option<&[u8]>, steps: &mut Steps) -> Option<Option<u64>>
-        ensures exact { (n : Option ℕ) → (result ≡ Some n) ↔ IsPart (strings_in (layout_seen self.now).dictionary role) given.entry n }
-        ensures cost { steps.new ≤ steps.old + part_looks (dictionary_in (layout_parts self.now)) role given.entry }
+        ensures exact { (n : Option ℕ) → (result ≡ Some n) ↔ IsPatternPart (role_strings (layout_view self.now).dictionary role) given.entry n }
+        ensures cost { steps.new ≤ steps.old + part_steps (parts_dictionary (parts_of_layout self.now)) role given.entry }
         ensures more { steps.old ≤ steps.new }
     {
         match given {
@@ -169,8 +169,8 @@ impl<'a> Layout<'a> {
     /// string of its role. Each is searched once.
     pub fn pattern(&self, given: [Option<&[u8]>; 3], steps: &mut Steps) -> Option<Pattern>
         // It is p if and only if p has the IDs of the given strings.
-        ensures exact { (p : Pattern) → (result ≡ Some p) ↔ IsPattern (layout_seen self.now) given.entry p }
-        ensures cost { steps.new ≤ steps.old + given_looks (dictionary_in (layout_parts self.now)) given.entry }
+        ensures exact { (p : Pattern) → (result ≡ Some p) ↔ IsPattern (layout_view self.now) given.entry p }
+        ensures cost { steps.new ≤ steps.old + pattern_steps (parts_dictionary (parts_of_layout self.now)) given.entry }
         ensures more { steps.old ≤ steps.new }
     {
         let [s, p, o] = given;
@@ -184,20 +184,20 @@ impl<'a> Layout<'a> {
     /// Returns the matches of a pattern: exactly the triples with each given ID, once each, in the order of the file.
     /// It scans all triples, in at most four steps each, and allocates nothing.
     pub fn search(&self, pattern: Pattern) -> Matches<'a>
-        ensures items { left_of result ≡ matches pattern (layout_seen self.now).triples }
-        ensures fits { length (left_of result) < 2 ^ 64 }
+        ensures items { remaining_matches result ≡ matches pattern (layout_view self.now).triples }
+        ensures fits { length (remaining_matches result) < 2 ^ 64 }
         // The steps of this call and of all its items are at most this.
-        ensures few { limit_of result ≡ 4 * length (layout_seen self.now).triples }
+        ensures few { step_limit result ≡ 4 * length (layout_view self.now).triples }
     {
         self.triples.find(pattern)
     }
 
     /// Returns the number of matches of a pattern, or `most` if there are more. It scans the triples, in at most four
     /// steps each, until `most` are counted, unless nothing is given. It allocates nothing.
-    #[tactic(auto, unfolding(crate::specs::LayoutView::layout_seen, crate::specs::PartsViews::layout_parts))]
+    #[tactic(auto, unfolding(crate::specs::LayoutView::layout_view, crate::specs::LayoutPartsViews::parts_of_layout))]
     pub fn matching_up_to(&self, pattern: Pattern, most: u64, steps: &mut Steps) -> u64
-        ensures is { result ≡ min most (length (matches pattern (layout_seen self.now).triples)) }
-        ensures cost { steps.new ≤ steps.old + walking_steps (bitmap_in (layout_parts self.now)) pattern }
+        ensures is { result ≡ min most (length (matches pattern (layout_view self.now).triples)) }
+        ensures cost { steps.new ≤ steps.old + scan_steps (parts_bitmap (parts_of_layout self.now)) pattern }
         ensures more { steps.old ≤ steps.new }
     {
         self.triples.matching_up_to(pattern, most, steps)
@@ -205,10 +205,10 @@ impl<'a> Layout<'a> {
 
     /// Returns the number of matches of a pattern. It scans all triples, in at most four steps each, unless nothing is
     /// given. It allocates nothing.
-    #[tactic(auto, unfolding(crate::specs::LayoutView::layout_seen, crate::specs::PartsViews::layout_parts))]
+    #[tactic(auto, unfolding(crate::specs::LayoutView::layout_view, crate::specs::LayoutPartsViews::parts_of_layout))]
     pub fn matching(&self, pattern: Pattern, steps: &mut Steps) -> u64
-        ensures is { result ≡ length (matches pattern (layout_seen self.now).triples) }
-        ensures cost { steps.new ≤ steps.old + walking_steps (bitmap_in (layout_parts self.now)) pattern }
+        ensures is { result ≡ length (matches pattern (layout_view self.now).triples) }
+        ensures cost { steps.new ≤ steps.old + scan_steps (parts_bitmap (parts_of_layout self.now)) pattern }
         ensures more { steps.old ≤ steps.new }
     {
         self.triples.matching(pattern, steps)

@@ -24,7 +24,6 @@
 //! ```
 #![tactic(auto)]
 
-mod decimal;
 mod dictionary;
 mod fault;
 mod graph;
@@ -32,23 +31,22 @@ mod head;
 mod layout;
 mod opening;
 mod search;
-mod search_laws;
-mod spelling;
-mod tables;
+mod term_writing;
+mod term_tables;
 mod text;
-mod text_laws;
+mod laws;
 mod tight;
 
-pub use dictionary::{fronts_are_exact, read_dictionary};
+pub use dictionary::{head_and_dictionary_are_exact, read_dictionary};
 pub use fault::{DumpFault, OpenFault};
 pub use graph::Graph;
 pub use head::{Head, one_head, read_head};
 pub use layout::Layout;
 pub use opening::{layouts_are_graphs, one_layout, open, verify};
-pub use search_laws::{answers_are_the_wanted, denoted_once};
-pub use spelling::Speller;
+pub use laws::{search_is_a_filter, denoted_triples_are_distinct};
+pub use term_writing::TermWriter;
 pub use text::{
     append_graph_text, graph_text, layout_text, write_graph,
 };
-pub use text_laws::{one_text, text_is_a_document};
+pub use laws::{one_text, text_is_a_document};
 pub use tight::{one_tight_layout, open_tight, verify_tight};

@@ -1,14 +1,14 @@
 //! Opening and verifying a file.
 ghost use Rattle.std.specs.Prelude.{◌≡◌, ◌⊎◌, ◌<◌, ◌^◌, ℕ, List, length, Ok, IfOk};
-ghost use Rattle.hdt_wire.specs.Exact.{Exactly, OneFault, OneValue, Seen, seen};
-ghost use Rattle.hdt_wire.specs.Rows.{Gives, IsBytes};
+ghost use Rattle.hdt_wire.specs.Exact.{Exactly, UniqueFault, UniqueValue, IsViewOf, viewed};
+ghost use Rattle.hdt_wire.specs.Checks.{ReadsUnlessOom, IsBytes};
 ghost use Rattle.hdt_file.specs.Faults.{open_fault_of};
-ghost use Rattle.hdt_file.specs.File.{FileParts, IsFile, GraphParts, IsLayout, graph_in};
+ghost use Rattle.hdt_file.specs.File.{FileParts, IsFile, GraphParts, IsLayout, decode_graph};
 ghost use Rattle.hdt_file.specs.Graph.{IsGraph};
-ghost use Rattle.hdt_file.specs.LayoutView.{layout_seen};
-ghost use Rattle.hdt_file.specs.Parts.{graph_from, parts_from, parts_in};
-ghost use Rattle.hdt_file.specs.PartsViews.{graph_parts, layout_parts};
-ghost use Rattle.hdt_file.specs.Views.{graph_seen, lens_of};
+ghost use Rattle.hdt_file.specs.LayoutView.{layout_view};
+ghost use Rattle.hdt_file.specs.LayoutParts.{graph_of_parts, parts_of_file, decode_parts};
+ghost use Rattle.hdt_file.specs.LayoutPartsViews.{parts_of_graph, parts_of_layout};
+ghost use Rattle.hdt_file.specs.GraphView.{graph_view, graph_counts};
 
 use crate::fault::OpenFault;
 use crate::graph::Graph;
@@ -16,10 +16,10 @@ use crate::layout::Layout;
 use std::alloc::Global;
 
 /// The graph of a layout: builds the indexes of its triples.
-#[tactic(auto, unfolding(crate::specs::Views::graph_seen, crate::specs::PartsViews::graph_parts, crate::specs::LayoutView::layout_seen, crate::specs::PartsViews::layout_parts))]
-pub(crate) fn with_lists(alloc: Global, layout: Layout<'_>) -> Result<Graph<'_>, OpenFault>
-    ensures seen { Gives open_fault_of graph_seen result (Ok (layout_seen layout.entry)) }
-    ensures parts { Gives open_fault_of graph_parts result (Ok (layout_parts layout.entry)) }
+#[tactic(auto, unfolding(crate::specs::GraphView::graph_view, crate::specs::LayoutPartsViews::parts_of_graph, crate::specs::LayoutView::layout_view, crate::specs::LayoutPartsViews::parts_of_layout))]
+pub(crate) fn index_layout(alloc: Global, layout: Layout<'_>) -> Result<Graph<'_>, OpenFault>
+    ensures viewed { ReadsUnlessOom open_fault_of graph_view result (Ok (layout_view layout.entry)) }
+    ensures parts { ReadsUnlessOom open_fault_of parts_of_graph result (Ok (parts_of_layout layout.entry)) }
 {
     let Ok(indexed) = layout.triples.with_directories(alloc) else {
         return Err(OpenFault::OutOfMemory);
@@ -35,12 +35,12 @@ pub(crate) fn with_lists(alloc: Global, layout: Layout<'_>) -> Result<Graph<'_>,
 }
 
 /// Opens a file, one check after another.
-fn open_rows<'a>(alloc: Global, bytes: &'a [u8]) -> Result<Graph<'a>, OpenFault>
-    ensures seen { Gives open_fault_of graph_seen result (graph_in bytes.now) }
-    ensures parts { Gives open_fault_of graph_parts result (parts_in bytes.now) }
+fn open_by_checks<'a>(alloc: Global, bytes: &'a [u8]) -> Result<Graph<'a>, OpenFault>
+    ensures viewed { ReadsUnlessOom open_fault_of graph_view result (decode_graph bytes.now) }
+    ensures parts { ReadsUnlessOom open_fault_of parts_of_graph result (decode_parts bytes.now) }
 {
     let layout = Layout::read(alloc, bytes)?;
-    with_lists(alloc, layout)
+    index_layout(alloc, layout)
 }
 
 /// Opens a file: returns its graph, or its first error.
@@ -54,20 +54,20 @@ fn open_rows<'a>(alloc: Global, bytes: &'a [u8]) -> Result<Graph<'a>, OpenFault>
 /// ```
 pub fn open<'a>(alloc: Global, bytes: &'a [u8]) -> Result<Graph<'a>, OpenFault>
     // The bytes encode the graph that is returned.
-    ensures found { IfOk result (λ graph. IsLayout bytes.now (graph_seen graph)) }
+    ensures found { IfOk result (λ graph. IsLayout bytes.now (graph_view graph)) }
     // If the bytes encode a graph, it is returned, unless memory ran out.
-    ensures only { (graph : GraphParts) → IsLayout bytes.now graph → Gives open_fault_of graph_seen result (Ok graph) }
+    ensures only { (graph : GraphParts) → IsLayout bytes.now graph → ReadsUnlessOom open_fault_of graph_view result (Ok graph) }
     // Otherwise it is the first error.
-    ensures exact { Gives open_fault_of graph_seen result (graph_in bytes.now) }
+    ensures exact { ReadsUnlessOom open_fault_of graph_view result (decode_graph bytes.now) }
     // Its parts are those that the bytes encode; the costs of its calls depend on them.
-    ensures parts { Gives open_fault_of graph_parts result (parts_in bytes.now) }
+    ensures parts { ReadsUnlessOom open_fault_of parts_of_graph result (decode_parts bytes.now) }
 {
-    open_rows(alloc, bytes)
+    open_by_checks(alloc, bytes)
 }
 
 /// Verifies a file, one check after another.
-fn verify_rows(alloc: Global, bytes: &[u8]) -> Result<[u64; 5], OpenFault>
-    ensures { Gives open_fault_of (λ lens. lens) result (seen lens_of (graph_in bytes.now)) }
+fn verify_by_checks(alloc: Global, bytes: &[u8]) -> Result<[u64; 5], OpenFault>
+    ensures { ReadsUnlessOom open_fault_of (λ lens. lens) result (viewed graph_counts (decode_graph bytes.now)) }
 {
     let layout = Layout::read(alloc, bytes)?;
     Ok(layout.lens())
@@ -77,24 +77,24 @@ fn verify_rows(alloc: Global, bytes: &[u8]) -> Result<[u64; 5], OpenFault>
 /// objects), or its first error. Linear time. It builds no index, and holds at most three strings at a time.
 pub fn verify(alloc: Global, bytes: &[u8]) -> Result<[u64; 5], OpenFault>
     // The bytes encode a graph with these counts.
-    ensures found { IfOk result (λ lens. Seen lens_of (IsLayout bytes.now) lens) }
+    ensures found { IfOk result (λ lens. IsViewOf graph_counts (IsLayout bytes.now) lens) }
     // If the bytes encode a graph, its counts are returned, unless memory ran out.
-    ensures only { (graph : GraphParts) → IsLayout bytes.now graph → Gives open_fault_of (λ lens. lens) result (Ok (lens_of graph)) }
+    ensures only { (graph : GraphParts) → IsLayout bytes.now graph → ReadsUnlessOom open_fault_of (λ lens. lens) result (Ok (graph_counts graph)) }
     // Otherwise it is the first error.
-    ensures exact { Gives open_fault_of (λ lens. lens) result (seen lens_of (graph_in bytes.now)) }
+    ensures exact { ReadsUnlessOom open_fault_of (λ lens. lens) result (viewed graph_counts (decode_graph bytes.now)) }
 {
-    verify_rows(alloc, bytes)
+    verify_by_checks(alloc, bytes)
 }
 
 /// Bytes encode at most one graph. Either they encode one, or they have a first error. The parts of a file are those of
 /// its graph.
 pub fn one_layout()
-    ensures exact { (bytes : List ℕ) → IsBytes bytes → length bytes < 2 ^ 64 → Exactly (graph_in bytes) (IsLayout bytes) }
+    ensures exact { (bytes : List ℕ) → IsBytes bytes → length bytes < 2 ^ 64 → Exactly (decode_graph bytes) (IsLayout bytes) }
     ensures one { (bytes : List ℕ) (g h : GraphParts) → IsBytes bytes → length bytes < 2 ^ 64 → IsLayout bytes g → IsLayout bytes h → g ≡ h }
     ensures file { (bytes : List ℕ) (a b : FileParts) → IsBytes bytes → length bytes < 2 ^ 64 → IsFile a bytes → IsFile b bytes → a ≡ b }
-    ensures or_fault { (bytes : List ℕ) → IsBytes bytes → length bytes < 2 ^ 64 → OneValue (graph_in bytes) (IsLayout bytes) ⊎ OneFault (graph_in bytes) (IsLayout bytes) }
-    ensures of_parts { (bytes : List ℕ) → seen graph_from (parts_in bytes) ≡ graph_in bytes }
-    ensures file_parts { (bytes : List ℕ) (file : FileParts) → IsBytes bytes → length bytes < 2 ^ 64 → IsFile file bytes → parts_in bytes ≡ Ok (parts_from file) }
+    ensures or_fault { (bytes : List ℕ) → IsBytes bytes → length bytes < 2 ^ 64 → UniqueValue (decode_graph bytes) (IsLayout bytes) ⊎ UniqueFault (decode_graph bytes) (IsLayout bytes) }
+    ensures of_parts { (bytes : List ℕ) → viewed graph_of_parts (decode_parts bytes) ≡ decode_graph bytes }
+    ensures file_parts { (bytes : List ℕ) (file : FileParts) → IsBytes bytes → length bytes < 2 ^ 64 → IsFile file bytes → decode_parts bytes ≡ Ok (parts_of_file file) }
 {}
 
 /// In the graph of a valid file the strings of each section are UTF-8 without zero bytes and strictly ascend; no string

@@ -1,61 +1,61 @@
 //! The N-Triples text of a graph.
 ghost use Rattle.std.specs.Prelude.{◌≡◌, ◌≢◌, ◌<◌, ◌+◌, ◌^◌, ◌++◌, ◌⊎◌, ℕ, List, [], Option, OnOk, OnErr, IfOk, IfErr, Some, IsOk, true, false, length};
-ghost use Rattle.hdt_wire.specs.Control.{Keeps};
+ghost use Rattle.hdt_wire.specs.Control.{IsPrefixOf};
 ghost use Rattle.hdt_wire.specs.Counted.{inner, failures};
 ghost use Rattle.hdt_wire.specs.declared.role.Role.{Role};
-ghost use Rattle.hdt_triples.specs.Counting.{Triple};
-ghost use Rattle.hdt_triples.specs.Left.{left_of};
+ghost use Rattle.hdt_triples.specs.TripleSequences.{Triple};
+ghost use Rattle.hdt_triples.specs.Remaining.{remaining_matches};
 ghost use Rattle.hdt_triples.specs.Patterns.{matches};
 ghost use Rattle.hdt_file.specs.Denoted.{StringTriple, denoted};
 ghost use Rattle.hdt_file.specs.File.{GraphParts};
-ghost use Rattle.hdt_file.specs.Kept.{KeepsTerms};
-ghost use Rattle.hdt_file.specs.LayoutView.{layout_seen};
-ghost use Rattle.hdt_file.specs.Text.{IsFirstIn, IsTextOf};
-ghost use Rattle.hdt_file.specs.TextWriting.{AppendsText, TellsFirstIn, WritesPart, WritesText, chosen, limited};
-ghost use Rattle.hdt_file.specs.Views.{graph_seen};
+ghost use Rattle.hdt_file.specs.CachedTerms.{CachesTerms};
+ghost use Rattle.hdt_file.specs.LayoutView.{layout_view};
+ghost use Rattle.hdt_file.specs.Text.{IsFirstNonTerm, IsTextOf};
+ghost use Rattle.hdt_file.specs.TextWriting.{AppendsText, ReportsFirstNonTerm, WritesPrefix, WritesText, matches_if_given, limited};
+ghost use Rattle.hdt_file.specs.GraphView.{graph_view};
 
 use crate::fault::DumpFault;
 use crate::graph::Graph;
 use crate::layout::Layout;
-use crate::spelling::{Speller, append_line};
-use crate::tables::{append_lines, bytes_of_lines, tables_of};
+use crate::term_writing::{TermWriter, append_line};
+use crate::term_tables::{append_lines, total_line_len, build_tables};
 use hdt_dict::{Dictionary, Role};
 use hdt_triples::{Matches, Pattern};
-use hdt_wire::{Counted, cut_on_error};
+use hdt_wire::{Counted, truncate_on_error};
 use std::alloc::{AllocError, Global};
 use std::io::Write;
 
 /// The initial capacity of a list of matches.
-const LISTED: usize = 16;
+const LIST_CAPACITY: usize = 16;
 
 /// The first `most` matches, or all of them.
-fn listed(
+fn collect_matches(
     alloc: Global,
     found: Matches<'_>,
     most: Option<u64>,
 ) -> Result<Vec<(u64, u64, u64)>, AllocError>
-    requires fits { length (left_of found) < 2 ^ 64 }
-    ensures { IfOk result (λ triples. triples.items ≡ limited most (left_of found.entry)) }
+    requires fits { length (remaining_matches found) < 2 ^ 64 }
+    ensures { IfOk result (λ triples. triples.items ≡ limited most (remaining_matches found.entry)) }
 {
     let mut matches = found;
-    let mut room = most.unwrap_or(u64::MAX);
-    let mut triples = Vec::with_capacity(alloc, LISTED)?;
-    'triples: while room > 0 {
+    let mut remaining = most.unwrap_or(u64::MAX);
+    let mut triples = Vec::with_capacity(alloc, LIST_CAPACITY)?;
+    'triples: while remaining > 0 {
         let Some(triple) = matches.next() else {
             return Ok(triples);
         };
         triples.push(triple)?;
-        room -= 1;
+        remaining -= 1;
     }
     Ok(triples)
 }
 
 /// If more bytes of blocks than this would be decoded for each string of the dictionary, decoding all strings once is
 /// cheaper.
-const READ_FOR_A_STRING: u64 = 32;
+const BLOCK_BYTES_PER_STRING: u64 = 32;
 
 /// An ID of a role with the length of its block, which `last` has if the previous triple has the same ID.
-fn with_len(dictionary: &Dictionary<'_>, role: Role, number: u64, last: (u64, u64)) -> (u64, u64) {
+fn with_block_len(dictionary: &Dictionary<'_>, role: Role, number: u64, last: (u64, u64)) -> (u64, u64) {
     if number == last.0 {
         return last;
     }
@@ -64,11 +64,11 @@ fn with_len(dictionary: &Dictionary<'_>, role: Role, number: u64, last: (u64, u6
 
 /// The blocks of the objects of triples; `None` if decoding the complete dictionary once is cheaper than decoding the
 /// blocks of all strings of the triples. Cached predicates cost nothing.
-fn few_blocks<'a>(
+fn object_blocks_if_few<'a>(
     alloc: Global,
     layout: &Layout<'a>,
     triples: &[(u64, u64, u64)],
-    speller: &Speller,
+    term_writer: &TermWriter,
 ) -> Result<Option<Vec<&'a [u8]>>, AllocError> {
     let dictionary = &layout.dictionary;
     let [_, shared, subjects, predicates, objects] = layout.lens();
@@ -76,17 +76,17 @@ fn few_blocks<'a>(
         .saturating_add(subjects)
         .saturating_add(predicates)
         .saturating_add(objects)
-        .saturating_mul(READ_FOR_A_STRING);
+        .saturating_mul(BLOCK_BYTES_PER_STRING);
     let mut last_subject = (0, 0);
     let mut last_predicate = (0, 0);
-    let mut blocks = Vec::with_capacity(alloc, LISTED)?;
+    let mut blocks = Vec::with_capacity(alloc, LIST_CAPACITY)?;
     for (subject, predicate, object) in triples {
         let block = dictionary.block(Role::Object, *object);
-        last_subject = with_len(dictionary, Role::Subject, *subject, last_subject);
-        if speller.keeps(*predicate) {
+        last_subject = with_block_len(dictionary, Role::Subject, *subject, last_subject);
+        if term_writer.keeps(*predicate) {
             last_predicate = (*predicate, 0);
         } else {
-            last_predicate = with_len(dictionary, Role::Predicate, *predicate, last_predicate);
+            last_predicate = with_block_len(dictionary, Role::Predicate, *predicate, last_predicate);
         }
         let read = last_subject
             .1
@@ -102,15 +102,15 @@ fn few_blocks<'a>(
 }
 
 /// The distance in bytes between loads of a prefetch.
-const APART: usize = 64;
+const CACHE_LINE: usize = 64;
 
 /// The number of bytes of a block that are prefetched. A string after them is reached by a scan, which the processor
 /// prefetches by itself; a string before them would wait for more than it needs.
-const FRONT: usize = 4_096;
+const PREFETCH_LEN: usize = 4_096;
 
 /// The byte of a block at an index, or its last byte if the index is out of range.
 #[inline(always)]
-fn byte_near(block: &[u8], place: usize) -> usize
+fn byte_or_last(block: &[u8], place: usize) -> usize
     requires { 0 < length block.now }
     ensures { result < 256 }
 {
@@ -119,75 +119,75 @@ fn byte_near(block: &[u8], place: usize) -> usize
 
 /// Prefetches the start of a block: returns the sum of one byte of each cache line. The first loads are unconditional,
 /// to avoid an unpredictable branch on the number of cache lines.
-fn looked_at(block: &[u8]) -> usize {
-    let front = block.split_at(block.len().min(FRONT)).0;
+fn prefetch_block(block: &[u8]) -> usize {
+    let front = block.split_at(block.len().min(PREFETCH_LEN)).0;
     if front.is_empty() {
         return 0;
     }
-    let mut sum = byte_near(front, 0)
-        + byte_near(front, APART)
-        + byte_near(front, 2 * APART)
-        + byte_near(front, 3 * APART)
-        + byte_near(front, FRONT);
-    for piece in front.split_at(front.len().min(4 * APART)).1.chunks(APART) {
+    let mut sum = byte_or_last(front, 0)
+        + byte_or_last(front, CACHE_LINE)
+        + byte_or_last(front, 2 * CACHE_LINE)
+        + byte_or_last(front, 3 * CACHE_LINE)
+        + byte_or_last(front, PREFETCH_LEN);
+    for piece in front.split_at(front.len().min(4 * CACHE_LINE)).1.chunks(CACHE_LINE) {
         sum = sum.wrapping_add(usize::from(piece[0]));
     }
     sum
 }
 
 /// Prefetches several blocks. The loads don't depend on each other, so they overlap.
-fn all_looked_at(blocks: &[&[u8]]) -> usize {
+fn prefetch_blocks(blocks: &[&[u8]]) -> usize {
     let mut sum: usize = 0;
     for block in blocks {
-        sum = sum.wrapping_add(looked_at(block));
+        sum = sum.wrapping_add(prefetch_block(block));
     }
     sum
 }
 
 /// The initial capacity of a text, for each line.
-const LINE: usize = 160;
+const LINE_CAPACITY: usize = 160;
 
 /// The greatest number of lines that the initial capacity allows for.
-const LINES: usize = 64;
+const MAX_RESERVED_LINES: usize = 64;
 
 /// Appends the text of triples, decoding each of their strings: for few triples. An error may leave some lines.
-fn append_looked_up(
+fn append_by_lookup(
     layout: &Layout<'_>,
     triples: &[(u64, u64, u64)],
-    speller: &mut Speller,
+    term_writer: &mut TermWriter,
     out: &mut Vec<u8>,
 ) -> Result<(), DumpFault>
-    requires { KeepsTerms (layout_seen layout.now) speller.old }
-    ensures kept { KeepsTerms (layout_seen layout.now) speller.new }
-    ensures ok { OnOk result (AppendsText (layout_seen layout.now) triples.now out.old.items out.new.items) }
-    ensures err { IfErr result (TellsFirstIn (layout_seen layout.now) triples.now) }
-    ensures left { OnErr result (Keeps out.old.items out.new.items) }
+    requires { CachesTerms (layout_view layout.now) term_writer.old }
+    ensures kept { CachesTerms (layout_view layout.now) term_writer.new }
+    ensures ok { OnOk result (AppendsText (layout_view layout.now) triples.now out.old.items out.new.items) }
+    ensures err { IfErr result (ReportsFirstNonTerm (layout_view layout.now) triples.now) }
+    ensures left { OnErr result (IsPrefixOf out.old.items out.new.items) }
 {
     'triples: for at in 0..triples.len() {
-        append_line(layout, triples[at], speller, out)?;
+        append_line(layout, triples[at], term_writer, out)?;
     }
     Ok(())
 }
 
 /// The number of lines that are written at a time.
-const BLOCK: usize = 64;
+const LINES_PER_BATCH: usize = 64;
 
 /// Appends the text of triples, decoding all strings of each role once: for many triples. An error may leave lines.
-fn append_tabled(
+fn append_by_tables(
     alloc: Global,
     layout: &Layout<'_>,
     triples: &[(u64, u64, u64)],
     out: &mut Vec<u8>,
 ) -> Result<(), DumpFault>
-    ensures ok { OnOk result (AppendsText (layout_seen layout.now) triples.now out.old.items out.new.items) }
-    ensures err { IfErr result (TellsFirstIn (layout_seen layout.now) triples.now) }
-    ensures left { OnErr result (Keeps out.old.items out.new.items) }
+    ensures ok { OnOk result (AppendsText (layout_view layout.now) triples.now out.old.items out.new.items) }
+    ensures err { IfErr result (ReportsFirstNonTerm (layout_view layout.now) triples.now) }
+    ensures left { OnErr result (IsPrefixOf out.old.items out.new.items) }
 {
-    let tables = tables_of(alloc, layout, triples)?;
+    let tables = build_tables(alloc, layout, triples)?;
     let mut rest = triples;
-    out.reserve(bytes_of_lines(&tables, triples))?;
+    out.reserve(total_line_len(&tables, triples))?;
     'lines: while !rest.is_empty() {
-        let (block, after) = rest.split_at(rest.len().min(BLOCK));
+        let (block, after) = rest.split_at(rest.len().min(LINES_PER_BATCH));
         append_lines(alloc, &tables, block, out)?;
         rest = after;
     }
@@ -200,64 +200,64 @@ fn append_triples(
     alloc: Global,
     layout: &Layout<'_>,
     triples: &[(u64, u64, u64)],
-    speller: &mut Speller,
+    term_writer: &mut TermWriter,
     out: &mut Vec<u8>,
 ) -> Result<(), DumpFault>
-    requires { KeepsTerms (layout_seen layout.now) speller.old }
-    ensures kept { KeepsTerms (layout_seen layout.now) speller.new }
-    ensures ok { OnOk result (AppendsText (layout_seen layout.now) triples.now out.old.items out.new.items) }
-    ensures err { IfErr result (TellsFirstIn (layout_seen layout.now) triples.now) }
-    ensures left { OnErr result (Keeps out.old.items out.new.items) }
+    requires { CachesTerms (layout_view layout.now) term_writer.old }
+    ensures kept { CachesTerms (layout_view layout.now) term_writer.new }
+    ensures ok { OnOk result (AppendsText (layout_view layout.now) triples.now out.old.items out.new.items) }
+    ensures err { IfErr result (ReportsFirstNonTerm (layout_view layout.now) triples.now) }
+    ensures left { OnErr result (IsPrefixOf out.old.items out.new.items) }
 {
-    let Some(blocks) = few_blocks(alloc, layout, triples, speller)? else {
-        return append_tabled(alloc, layout, triples, out);
+    let Some(blocks) = object_blocks_if_few(alloc, layout, triples, term_writer)? else {
+        return append_by_tables(alloc, layout, triples, out);
     };
     // (The sum means nothing; using it keeps the loads.)
-    let lines = all_looked_at(&blocks).min(triples.len()).min(LINES);
-    out.reserve(lines * LINE)?;
-    append_looked_up(layout, triples, speller, out)
+    let lines = prefetch_blocks(&blocks).min(triples.len()).min(MAX_RESERVED_LINES);
+    out.reserve(lines * LINE_CAPACITY)?;
+    append_by_lookup(layout, triples, term_writer, out)
 }
 
 /// Appends the text of the first `most` matches, or of all of them. After an error `out` is unchanged.
-fn append_found(
+fn append_matches(
     alloc: Global,
     layout: &Layout<'_>,
     found: Matches<'_>,
     most: Option<u64>,
-    speller: &mut Speller,
+    term_writer: &mut TermWriter,
     out: &mut Vec<u8>,
 ) -> Result<(), DumpFault>
-    requires fits { length (left_of found) < 2 ^ 64 }
-    requires kept { KeepsTerms (layout_seen layout.now) speller.old }
-    ensures kept { KeepsTerms (layout_seen layout.now) speller.new }
-    ensures ok { OnOk result (AppendsText (layout_seen layout.now) (limited most (left_of found.entry)) out.old.items out.new.items) }
-    ensures err { IfErr result (TellsFirstIn (layout_seen layout.now) (limited most (left_of found.entry))) }
+    requires fits { length (remaining_matches found) < 2 ^ 64 }
+    requires kept { CachesTerms (layout_view layout.now) term_writer.old }
+    ensures kept { CachesTerms (layout_view layout.now) term_writer.new }
+    ensures ok { OnOk result (AppendsText (layout_view layout.now) (limited most (remaining_matches found.entry)) out.old.items out.new.items) }
+    ensures err { IfErr result (ReportsFirstNonTerm (layout_view layout.now) (limited most (remaining_matches found.entry))) }
     ensures left { OnErr result (out.new.items ≡ out.old.items) }
 {
-    let triples = listed(alloc, found, most)?;
+    let triples = collect_matches(alloc, found, most)?;
     let start = out.len();
-    let appended = append_triples(alloc, layout, &triples, speller, out);
-    cut_on_error(appended, start, out)
+    let appended = append_triples(alloc, layout, &triples, term_writer, out);
+    truncate_on_error(appended, start, out)
 }
 
 /// The text of the first `most` matches, or of all of them.
-fn found_text(
+fn matches_text(
     alloc: Global,
     layout: &Layout<'_>,
     found: Matches<'_>,
     most: Option<u64>,
 ) -> Result<Vec<u8>, DumpFault>
-    requires { length (left_of found) < 2 ^ 64 }
-    ensures ok { IfOk result (λ text. IsTextOf (denoted (layout_seen layout.now) (limited most (left_of found.entry))) text.items) }
-    ensures err { IfErr result (TellsFirstIn (layout_seen layout.now) (limited most (left_of found.entry))) }
+    requires { length (remaining_matches found) < 2 ^ 64 }
+    ensures ok { IfOk result (λ text. IsTextOf (denoted (layout_view layout.now) (limited most (remaining_matches found.entry))) text.items) }
+    ensures err { IfErr result (ReportsFirstNonTerm (layout_view layout.now) (limited most (remaining_matches found.entry))) }
 {
     let mut text = Vec::new(alloc);
-    append_found(
+    append_matches(
         alloc,
         layout,
         found,
         most,
-        &mut Speller::new(alloc)?,
+        &mut TermWriter::new(alloc)?,
         &mut text,
     )?;
     Ok(text)
@@ -265,19 +265,19 @@ fn found_text(
 
 /// The text of the matches of a pattern with a subject. It finds them by rank/select indexes, or by a scan if there is
 /// no memory for the indexes.
-#[tactic(auto, unfolding(crate::specs::LayoutView::layout_seen))]
+#[tactic(auto, unfolding(crate::specs::LayoutView::layout_view))]
 fn indexed_text(
     alloc: Global,
     layout: &Layout<'_>,
     pattern: Pattern,
     most: Option<u64>,
 ) -> Result<Vec<u8>, DumpFault>
-    ensures ok { IfOk result (λ text. IsTextOf (denoted (layout_seen layout.now) (limited most (matches pattern (layout_seen layout.now).triples))) text.items) }
-    ensures err { IfErr result (TellsFirstIn (layout_seen layout.now) (limited most (matches pattern (layout_seen layout.now).triples))) }
+    ensures ok { IfOk result (λ text. IsTextOf (denoted (layout_view layout.now) (limited most (matches pattern (layout_view layout.now).triples))) text.items) }
+    ensures err { IfErr result (ReportsFirstNonTerm (layout_view layout.now) (limited most (matches pattern (layout_view layout.now).triples))) }
 {
     match layout.triples.with_directories(alloc) {
-        Ok(indexed) => found_text(alloc, layout, indexed.find(pattern), most),
-        Err(triples) => found_text(alloc, layout, triples.find(pattern), most),
+        Ok(indexed) => matches_text(alloc, layout, indexed.find(pattern), most),
+        Err(triples) => matches_text(alloc, layout, triples.find(pattern), most),
     }
 }
 
@@ -297,42 +297,42 @@ pub fn graph_text(
     graph: &Graph<'_>,
     pattern: Option<Pattern>,
 ) -> Result<Vec<u8>, DumpFault>
-    ensures ok { IfOk result (λ text. IsTextOf (denoted (graph_seen graph.now) (chosen (graph_seen graph.now) pattern)) text.items) }
-    ensures err { IfErr result (TellsFirstIn (graph_seen graph.now) (chosen (graph_seen graph.now) pattern)) }
+    ensures ok { IfOk result (λ text. IsTextOf (denoted (graph_view graph.now) (matches_if_given (graph_view graph.now) pattern)) text.items) }
+    ensures err { IfErr result (ReportsFirstNonTerm (graph_view graph.now) (matches_if_given (graph_view graph.now) pattern)) }
 {
     match pattern {
-        Some(pattern) => found_text(alloc, &graph.layout(), graph.search(pattern), None),
+        Some(pattern) => matches_text(alloc, &graph.layout(), graph.search(pattern), None),
         None => Ok(Vec::new(alloc)),
     }
 }
 
 /// Appends the text of the first `most` matches, or of all of them, as [`graph_text`] does, with a writer that is new or
 /// was used only for this graph. One writer for many texts decodes frequent predicates only once;
-/// [`Speller::keeping`] says how much it caches. After an error it can still be used, and `out` is unchanged.
+/// [`TermWriter::with_cache`] says how much it caches. After an error it can still be used, and `out` is unchanged.
 pub fn append_graph_text(
     alloc: Global,
     graph: &Graph<'_>,
     pattern: Option<Pattern>,
     most: Option<u64>,
-    speller: &mut Speller,
+    term_writer: &mut TermWriter,
     out: &mut Vec<u8>,
 ) -> Result<(), DumpFault>
     // Before and after the call, the writer caches terms of this graph only.
-    requires { KeepsTerms (graph_seen graph.now) speller.old }
-    ensures kept { KeepsTerms (graph_seen graph.now) speller.new }
-    ensures ok { OnOk result (AppendsText (graph_seen graph.now) (limited most (chosen (graph_seen graph.now) pattern)) out.old.items out.new.items) }
-    ensures err { IfErr result (TellsFirstIn (graph_seen graph.now) (limited most (chosen (graph_seen graph.now) pattern))) }
+    requires { CachesTerms (graph_view graph.now) term_writer.old }
+    ensures kept { CachesTerms (graph_view graph.now) term_writer.new }
+    ensures ok { OnOk result (AppendsText (graph_view graph.now) (limited most (matches_if_given (graph_view graph.now) pattern)) out.old.items out.new.items) }
+    ensures err { IfErr result (ReportsFirstNonTerm (graph_view graph.now) (limited most (matches_if_given (graph_view graph.now) pattern))) }
     ensures left { OnErr result (out.new.items ≡ out.old.items) }
 {
     let Some(pattern) = pattern else {
         return Ok(());
     };
-    append_found(
+    append_matches(
         alloc,
         &graph.layout(),
         graph.search(pattern),
         most,
-        speller,
+        term_writer,
         out,
     )
 }
@@ -345,12 +345,12 @@ pub fn layout_text(
     pattern: Option<Pattern>,
     most: Option<u64>,
 ) -> Result<Vec<u8>, DumpFault>
-    ensures ok { IfOk result (λ text. IsTextOf (denoted (layout_seen layout.now) (limited most (chosen (layout_seen layout.now) pattern))) text.items) }
-    ensures err { IfErr result (TellsFirstIn (layout_seen layout.now) (limited most (chosen (layout_seen layout.now) pattern))) }
+    ensures ok { IfOk result (λ text. IsTextOf (denoted (layout_view layout.now) (limited most (matches_if_given (layout_view layout.now) pattern))) text.items) }
+    ensures err { IfErr result (ReportsFirstNonTerm (layout_view layout.now) (limited most (matches_if_given (layout_view layout.now) pattern))) }
 {
     match pattern {
         Some(pattern) if pattern.s.is_some() => indexed_text(alloc, layout, pattern, most),
-        Some(pattern) => found_text(alloc, layout, layout.search(pattern), most),
+        Some(pattern) => matches_text(alloc, layout, layout.search(pattern), most),
         None => Ok(Vec::new(alloc)),
     }
 }
@@ -374,14 +374,14 @@ pub fn write_graph<W: Write>(
     out: &mut Counted<W>,
 ) -> Result<u64, DumpFault>
     // The text, of the length that is returned, was written, and the writer has not failed.
-    ensures ok { IfOk result (WritesText (graph_seen graph.now) (chosen (graph_seen graph.now) pattern) (W.contents (inner out.old)) (W.contents (inner out.new))) }
+    ensures ok { IfOk result (WritesText (graph_view graph.now) (matches_if_given (graph_view graph.now) pattern) (W.contents (inner out.old)) (W.contents (inner out.new))) }
     ensures well { IsOk result → failures out.new ≡ failures out.old }
     // It names the first string of the first triple that is not a term which its role allows, in the order subject,
     // predicate, object.
-    ensures first { IfErr result (λ e. (role : Role) (n : ℕ) → e ≡ DumpFault.NotATerm role n → IsFirstIn (graph_seen graph.now) (chosen (graph_seen graph.now) pattern) role n) }
+    ensures first { IfErr result (λ e. (role : Role) (n : ℕ) → e ≡ DumpFault.NotATerm role n → IsFirstNonTerm (graph_view graph.now) (matches_if_given (graph_view graph.now) pattern) role n) }
     // The writer failed in this call, once, after exactly the first n bytes of the text.
     ensures write { IfErr result (λ e. (n : ℕ) → e ≡ DumpFault.Write n → (failures out.new ≡ failures out.old + 1)
-        × WritesPart (graph_seen graph.now) (chosen (graph_seen graph.now) pattern) (W.contents (inner out.old)) (W.contents (inner out.new)) n) }
+        × WritesPrefix (graph_view graph.now) (matches_if_given (graph_view graph.now) pattern) (W.contents (inner out.old)) (W.contents (inner out.new)) n) }
     // After any other error nothing was written.
     ensures unwritten { IfErr result (λ e. ((n : ℕ) → e ≢ DumpFault.Write n) → out.new ≡ out.old) }
 {

@@ -4,7 +4,7 @@ use Rattle.std.specs.declared.cmp.Ordering.TheVariants.{Less, Equal, Greater}
 use Rattle.std.specs.Ordering.{nat_cmp, ordering_then, is_lt}
 use Rattle.std.specs.Cmp.Lexicographic.{slice_cmp}
 use Rattle.std.proofs.lemmas.Bool.Decides.{nat_tests}
-use Rattle.hdt_front.specs.StringRows.{precedes}
+use Rattle.hdt_front.specs.StringChecks.{precedes}
 
 same : (b : ℕ) → nat_cmp b b ≡ Equal
 same b = grind (arith, nat_tests)

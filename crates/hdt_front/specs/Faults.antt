@@ -1,8 +1,8 @@
 -- The error of reading a section.
 use Rattle.std.specs.Prelude.{Option, Some, None}
 use Rattle.hdt_wire.specs.declared.fault.Fault.{Fault}
-use Rattle.hdt_front.specs.declared.fault.ReadFault.{ReadFault}
-use Rattle.hdt_front.specs.declared.fault.ReadFault.TheVariants as faults
+use Rattle.hdt_front.specs.declared.section.ReadFault.{ReadFault}
+use Rattle.hdt_front.specs.declared.section.ReadFault.TheVariants as faults
 
 -- The error in the input; none if memory ran out.
 abbrev pub read_fault_of : ReadFault → Option Fault

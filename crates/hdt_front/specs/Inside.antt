@@ -1,4 +1,4 @@
 -- Definitions that only this crate uses.
-pub mod PackedReading
-pub mod Reaching
-pub mod PlainPieces
+pub mod ReadViews
+pub mod LoadRuns
+pub mod AsciiEntries

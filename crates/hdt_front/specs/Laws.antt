@@ -1,15 +1,15 @@
 -- Laws, which other crates may use.
-pub mod StringFacts
+pub mod CheckedEntries
 pub mod StringSteps
-pub mod StringsFound
-pub mod StringsOnly
-pub mod Folded
-pub mod Folding
+pub mod ChecksSound
+pub mod ChecksComplete
+pub mod FrontCodingSteps
+pub mod FrontCoding
 pub mod Section
-pub mod Place
+pub mod StringOffset
 pub mod Canonical
 pub mod Strings
-pub mod Agreeing
-pub mod Walk
-pub mod WalkSteps
+pub mod CommonPrefix
+pub mod Iteration
+pub mod IterationSteps
 pub mod SectionWriting

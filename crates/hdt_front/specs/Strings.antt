@@ -2,13 +2,13 @@
 use Rattle.std.specs.Prelude.{ℕ, List, [], ◌-◌, ◌+◌, ◌/◌}
 use Rattle.std.specs.Prelude.{get_or, take, drop}
 use Rattle.hdt_seq.specs.Numbers.{numbers_of}
-use Rattle.hdt_front.specs.Unfolding.{unfolded}
+use Rattle.hdt_front.specs.Decoding.{decoded_strings}
 use Rattle.hdt_front.specs.Section.{SectionParts}
 use Rattle.hdt_front.specs.declared.section.Section.{Section}
 
 -- The strings of a section.
 unfoldable pub strings_of : Section → List (List ℕ)
-strings_of s = unfolded s.packed.block s.packed.count 0 [] s.packed.bytes.now
+strings_of s = decoded_strings s.packed.block s.packed.count 0 [] s.packed.bytes.now
 
 -- All parts of a section.
 unfoldable pub section_of : Section → SectionParts
@@ -16,7 +16,7 @@ section_of s = record {
   strings = strings_of s;
   block_size = s.packed.block;
   packed = s.packed.bytes.now;
-  packed_place = s.packed.base;
+  packed_offset = s.packed.base;
   end = s.end;
 }
 

@@ -1,11 +1,11 @@
 //! A cursor over the strings of a section, in order.
 ghost use Rattle.std.specs.Prelude.{◌≡◌, ◌≤◌, ◌<◌, [], length, Ok, IsOk, OnOk, OnErr, IfOk, drop, option_copied};
-ghost use Rattle.hdt_front.specs.Walks.{placed_of};
-ghost use Rattle.hdt_front.specs.Walking.{first_string, first_order, first_agreed, next_agreed, next_place, PlacedAscend};
+ghost use Rattle.hdt_front.specs.SectionIteration.{located_strings};
+ghost use Rattle.hdt_front.specs.Iteration.{first_string, first_order, first_lcp, next_lcp, next_offset, LocatedAscend};
 
-use crate::common::compared_from;
+use crate::lcp::cmp_from;
 use crate::section::Section;
-use crate::walk::Walk;
+use crate::section_iter::SectionIter;
 use std::alloc::{AllocError, Global};
 use std::cmp::Ordering;
 use std::marker::Model;
@@ -14,28 +14,28 @@ use std::marker::Model;
 /// sections takes a cursor for each.
 #[derive(Drop)]
 pub struct Cursor<'a> {
-    walk: Walk<'a>,
+    iter: SectionIter<'a>,
     place: Option<usize>,
 }
 
 impl<'a> Model for Cursor<'a> {
     ghost use Rattle.std.specs.Prelude.{List};
-    ghost use Rattle.hdt_front.specs.Walking.{Placed, here};
+    ghost use Rattle.hdt_front.specs.Iteration.{LocatedString, here};
 
-    ghost Value = { List Placed };
+    ghost Value = { List LocatedString };
 
-    ghost view = { λ c. here c.place c.walk };
+    ghost view = { λ c. here c.place c.iter };
 }
 
 impl<'a> Cursor<'a> {
     /// Returns a cursor at the first string. Allocates a copy of it.
     pub fn new(alloc: Global, section: &Section<'a>) -> Result<Cursor<'a>, AllocError>
-        ensures is { IfOk result (λ c. c ≡ placed_of section.now) }
-        ensures ascends { IfOk result (λ c. PlacedAscend c) }
+        ensures is { IfOk result (λ c. c ≡ located_strings section.now) }
+        ensures ascends { IfOk result (λ c. LocatedAscend c) }
     {
-        let mut walk = Walk::new(alloc, section);
-        let place = walk.next()?;
-        Ok(Cursor { walk, place })
+        let mut iter = SectionIter::new(alloc, section);
+        let place = iter.next()?;
+        Ok(Cursor { iter, place })
     }
 
     /// Returns the current string, or `None` at the end.
@@ -43,14 +43,14 @@ impl<'a> Cursor<'a> {
         ensures { option_copied result ≡ first_string self.now }
     {
         match self.place {
-            Some(_) => Some(self.walk.last()),
+            Some(_) => Some(self.iter.last()),
             None => None,
         }
     }
 
     /// Returns the byte offset of the current string in the input, or `None` at the end.
     pub fn place(&self) -> Option<usize>
-        ensures { result ≡ next_place self.now }
+        ensures { result ≡ next_offset self.now }
     {
         self.place
     }
@@ -69,39 +69,39 @@ impl<'a> Cursor<'a> {
     /// Compares the current string with `x`, given that their first `from` bytes are equal, which are not read. Returns
     /// also the length of their longest common prefix. The end is greater than all strings; its common prefix with any
     /// string has length 0.
-    pub fn compared(&self, x: &[u8], from: usize) -> (Ordering, usize)
-        requires so_far { from ≤ first_agreed self.now x.now }
+    pub fn cmp_with_lcp(&self, x: &[u8], from: usize) -> (Ordering, usize)
+        requires so_far { from ≤ first_lcp self.now x.now }
         ensures order { result.0 ≡ first_order self.now x.now }
-        ensures same { result.1 ≡ first_agreed self.now x.now }
+        ensures same { result.1 ≡ first_lcp self.now x.now }
     {
         match self.string() {
-            Some(string) => compared_from(string, x, from),
+            Some(string) => cmp_from(string, x, from),
             None => (Ordering::Greater, 0),
         }
     }
 
     /// Moves to the next string. At the end, and if memory runs out, nothing changes.
-    pub fn pass(&mut self) -> Result<(), AllocError>
+    pub fn advance(&mut self) -> Result<(), AllocError>
         ensures ok { OnOk result (self.new ≡ drop 1 self.old) }
         ensures err { OnErr result (self.new ≡ self.old) }
         ensures ended { self.old ≡ [] → IsOk result }
     {
-        self.pass_kept()?;
+        self.advance_with_prefix_len()?;
         Ok(())
     }
 
-    /// Moves to the next string as [`pass`](Cursor::pass) does. Returns the prefix length of its entry, which is
+    /// Moves to the next string as [`advance`](Cursor::advance) does. Returns the prefix length of its entry, which is
     /// a lower bound on the common prefix with the previous string, or 0 at the end. Takes time linear in the suffix.
-    pub fn pass_kept(&mut self) -> Result<usize, AllocError>
+    pub fn advance_with_prefix_len(&mut self) -> Result<usize, AllocError>
         ensures ok { OnOk result (self.new ≡ drop 1 self.old) }
-        ensures kept { IfOk result (λ k. k ≤ next_agreed self.old) }
+        ensures kept { IfOk result (λ k. k ≤ next_lcp self.old) }
         ensures err { OnErr result (self.new ≡ self.old) }
         ensures ended { self.old ≡ [] → IsOk result }
     {
         if self.place.is_none() {
             return Ok(0);
         }
-        let (place, kept) = self.walk.next_kept()?;
+        let (place, kept) = self.iter.next_with_prefix_len()?;
         self.place = place;
         Ok(kept)
     }

@@ -18,20 +18,16 @@
 //! ```
 //!
 //! A [`Section`] borrows the input, holds no decoded string and is `Copy`. Searches run on its front-coded bytes.
-//! [`Walk`] returns its strings in order and decodes each once. Contracts describe a section by `strings_of`,
+//! [`SectionIter`] returns its strings in order and decodes each once. Contracts describe a section by `strings_of`,
 //! the list of its strings, and by `section_of`, all of its parts (specs/`Strings`). specs/`Section` defines a
 //! section, and specs/`Canonical` its canonical bytes. specs/Laws has the laws that other crates use.
 #![tactic(auto)]
 
-mod common;
+mod lcp;
 mod cursor;
-mod fault;
-mod fitting;
-mod landed;
 mod laws;
 mod packed;
-mod piece;
-mod plain;
+mod entry;
 mod reading;
 mod scan;
 mod search;
@@ -39,14 +35,14 @@ mod section;
 mod section_writer;
 mod seeker;
 mod string;
-mod unfold;
-mod walk;
+mod decode;
+mod section_iter;
 mod writing;
 
-pub use common::{common_prefix, compared_from};
+pub use lcp::{common_prefix, cmp_from};
 pub use cursor::Cursor;
-pub use fault::ReadFault;
-pub use fitting::are_strings;
+pub use section::ReadFault;
+pub use section::are_section_strings;
 pub use laws::{
     blocks_are_least, look_ups_are_inverse, one_section, section_is_read_again, sections_are_exact,
     string_places,
@@ -54,5 +50,5 @@ pub use laws::{
 pub use section::Section;
 pub use section_writer::SectionWriter;
 pub use seeker::Seeker;
-pub use walk::Walk;
-pub use writing::{lent_strings, put_section};
+pub use section_iter::SectionIter;
+pub use writing::{borrow_strings, put_section};

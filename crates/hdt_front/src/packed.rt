@@ -1,18 +1,16 @@
 //! Checking the strings of a section one by one.
-ghost use Rattle.std.specs.Prelude.{◌≡◌, ◌≤◌, ◌<◌, ◌+◌, ◌-◌, ◌/◌, ◌%◌, ◌^◌, true, length, [], IfOk, ℕ, List, Ok, get_or};
+ghost use Rattle.std.specs.Prelude.{◌≡◌, ◌≤◌, ◌<◌, ◌+◌, ◌-◌, ◌/◌, ◌%◌, ◌^◌, true, length, [], IfOk, ℕ, List, Ok, get_or, ◌==◌};
 ghost use Rattle.std.specs.Str.{is_utf8};
-ghost use Rattle.std.specs.Prelude.{◌==◌};
 ghost use Rattle.hdt_wire.specs.declared.fault.Reason.TheVariants.{BlockPlace as BlockPlaceOf};
-ghost use Rattle.hdt_wire.specs.Rows.{demand as demand_is, Reads, Gives};
-ghost use Rattle.hdt_seq.specs.Sequence.{place_of_entry};
+ghost use Rattle.hdt_wire.specs.Checks.{demand as demand_is, Reads, ReadsUnlessOom};
+ghost use Rattle.hdt_seq.specs.Sequence.{entry_offset};
 ghost use Rattle.hdt_seq.specs.Numbers.{numbers_of};
-ghost use Rattle.hdt_front.specs.StringRows.{place_at, opened_at, unfolded_rows, string_row, strings_at};
+ghost use Rattle.hdt_front.specs.StringChecks.{rest_offset, prefix_check, check_decoded, string_check, strings_check};
 
-use crate::fault::ReadFault;
-use crate::piece::read_front;
-use crate::plain::plain_piece;
-use crate::scan::text_seen;
-use crate::unfold::{ascends, unfold, unfold_tested};
+use crate::decode::{ascends, decode_and_validate, decode_over};
+use crate::entry::{read_ascii_entry, read_leading_vbyte};
+use crate::section::ReadFault;
+use crate::scan::text_len_and_ascii;
 use hdt_seq::Numbers;
 use hdt_wire::{Fault, Reason, demand};
 use std::alloc::Global;
@@ -20,7 +18,7 @@ use std::alloc::Global;
 /// The front-coded strings of a section, borrowed from the input: the bytes, the block offsets, the number of strings,
 /// the block size, and the byte offset of the bytes in the input.
 #[derive(Clone, Copy)]
-pub(crate) struct Packed<'a> {
+pub(crate) struct PackedStrings<'a> {
     pub(crate) bytes: &'a [u8],
     pub(crate) starts: Numbers<'a>,
     pub(crate) count: u64,
@@ -35,20 +33,20 @@ pub(crate) struct Packed<'a> {
 
 /// Checks that a string is UTF-8 and greater than the previous one.
 fn demand_string(valid: bool, later: bool, place: usize) -> Result<(), Fault>
-    ensures { result ≡ unfolded_rows valid later place }
+    ensures { result ≡ check_decoded valid later place }
 {
     demand(valid, place, Reason::NotUtf8)?;
     demand(later, place, Reason::StringsNotAscending)
 }
 
-impl<'a> Packed<'a> {
-    ghost use Rattle.hdt_front.specs.Packed.{packing_of};
+impl<'a> PackedStrings<'a> {
+    ghost use Rattle.hdt_front.specs.PackedView.{block_layout};
     ghost use Rattle.hdt_front.specs.Faults.{read_fault_of};
 
     /// Returns the byte offset of the unread bytes in the input.
     pub(crate) fn place(&self, rest: &[u8]) -> usize
         requires { length rest.now ≤ length self.now.bytes.now }
-        ensures { result ≡ place_at (packing_of self.now) rest.now }
+        ensures { result ≡ rest_offset (block_layout self.now) rest.now }
     {
         self.base + (self.bytes.len() - rest.len())
     }
@@ -59,7 +57,7 @@ impl<'a> Packed<'a> {
         requires here { i < self.now.count }
         requires head { i % self.now.block ≡ 0 }
         requires left { length rest.now ≤ length self.now.bytes.now }
-        ensures { result ≡ demand_is (get_or (packing_of self.now).starts (i / self.now.block) 0 == (packing_of self.now).size - length rest.now) (place_of_entry (packing_of self.now).starts_at (i / self.now.block)) BlockPlaceOf }
+        ensures { result ≡ demand_is (get_or (block_layout self.now).starts (i / self.now.block) 0 == (block_layout self.now).size - length rest.now) (entry_offset (block_layout self.now).starts_at (i / self.now.block)) BlockPlaceOf }
     {
         let entry = i / self.block;
         let at = (self.bytes.len() - rest.len()) as u64;
@@ -72,19 +70,19 @@ impl<'a> Packed<'a> {
 
     /// Reads the prefix length of string i; returns it with the bytes from the suffix on. `inside` is the index of the
     /// string in its block.
-    #[tactic(auto, unfolding(crate::specs::StringRows::opened_at))]
-    fn opened<'b>(&self, i: u64, inside: u64, rest: &'b [u8]) -> Result<(u64, &'b [u8]), Fault>
+    #[tactic(auto, unfolding(crate::specs::StringChecks::prefix_check))]
+    fn read_prefix<'b>(&self, i: u64, inside: u64, rest: &'b [u8]) -> Result<(u64, &'b [u8]), Fault>
         requires here { i < self.now.count }
         requires inside { inside ≡ i % self.now.block }
         requires left { length rest.now ≤ length self.now.bytes.now }
-        ensures exact { Reads (λ x. (x.0, x.1.now)) result (opened_at (packing_of self.now) i rest.now) }
+        ensures exact { Reads (λ x. (x.0, x.1.now)) result (prefix_check (block_layout self.now) i rest.now) }
         ensures left { IfOk result (λ x. length x.1.now ≤ length rest.now) }
     {
         if inside == 0 {
             self.demand_start(i, rest)?;
             return Ok((0, rest));
         }
-        match read_front(rest) {
+        match read_leading_vbyte(rest) {
             Ok((kept, end)) => Ok((kept, &rest[end..])),
             Err(fault) => Err(Fault {
                 place: self.place(rest) as u64,
@@ -98,7 +96,7 @@ impl<'a> Packed<'a> {
     }
 
     /// Returns the index of the next string in its block.
-    #[tactic(auto, using(crate::proofs::Inside::next_block, crate::proofs::Inside::next_same))]
+    #[tactic(auto, using(crate::proofs::BlockIndex::next_block, crate::proofs::BlockIndex::next_same))]
     fn next_inside(&self, inside: u64) -> u64
         requires { inside < self.now.block }
         ensures { (i : ℕ) → inside ≡ i % self.now.block → result ≡ (i + 1) % self.now.block }
@@ -111,7 +109,7 @@ impl<'a> Packed<'a> {
     }
 
     /// Checks string i in general, check by check.
-    #[tactic(auto, unfolding(crate::specs::StringRows::string_row))]
+    #[tactic(auto, unfolding(crate::specs::StringChecks::string_check))]
     #[inline(never)]
     fn check_any<'b>(
         &self,
@@ -125,17 +123,17 @@ impl<'a> Packed<'a> {
         requires left { length rest.now ≤ length self.now.bytes.now }
         requires utf8 { is_utf8 before.old.items ≡ true }
         ensures utf8 { IfOk result (λ after. is_utf8 before.new.items ≡ true) }
-        ensures exact { Gives read_fault_of (λ after. (before.new.items, after.now)) result (string_row (packing_of self.now) i before.old.items rest.now) }
+        ensures exact { ReadsUnlessOom read_fault_of (λ after. (before.new.items, after.now)) result (string_check (block_layout self.now) i before.old.items rest.now) }
         ensures left { IfOk result (λ after. length after.now ≤ length rest.now) }
     {
-        let (kept, text) = self.opened(i, inside, rest)?;
+        let (kept, text) = self.read_prefix(i, inside, rest)?;
         let place = self.place(rest);
         demand(kept <= before.len() as u64, place, Reason::PrefixTooLong)?;
         let kept = kept as usize;
-        let (end, ascii) = text_seen(text);
+        let (end, ascii) = text_len_and_ascii(text);
         demand(end < text.len(), self.place(text), Reason::PackedLength)?;
         let later = ascends(i == 0, before, kept, &text[..end]);
-        let valid = unfold_tested(before, kept, &text[..end], ascii)?;
+        let valid = decode_and_validate(before, kept, &text[..end], ascii)?;
         demand_string(valid, later, place)?;
         Ok(&text[end + 1..])
     }
@@ -154,13 +152,13 @@ impl<'a> Packed<'a> {
         requires left { length rest.now ≤ length self.now.bytes.now }
         requires utf8 { is_utf8 before.old.items ≡ true }
         ensures utf8 { IfOk result (λ after. is_utf8 before.new.items ≡ true) }
-        ensures exact { Gives read_fault_of (λ after. (before.new.items, after.now)) result (string_row (packing_of self.now) i before.old.items rest.now) }
+        ensures exact { ReadsUnlessOom read_fault_of (λ after. (before.new.items, after.now)) result (string_check (block_layout self.now) i before.old.items rest.now) }
         ensures left { IfOk result (λ after. length after.now ≤ length rest.now) }
     {
         if inside > 0 {
-            if let Some((kept, len)) = plain_piece(before, rest) {
+            if let Some((kept, len)) = read_ascii_entry(before, rest) {
                 let text = &rest[1..];
-                unfold(before, kept, &text[..len])?;
+                decode_over(before, kept, &text[..len])?;
                 return Ok(&text[len + 1..]);
             }
         }
@@ -169,7 +167,7 @@ impl<'a> Packed<'a> {
 
     /// Checks all strings.
     pub(crate) fn check(&self, alloc: Global) -> Result<(), ReadFault>
-        ensures { Gives read_fault_of (λ x. x) result (strings_at (packing_of self.now) self.now.count 0 [] self.now.bytes.now) }
+        ensures { ReadsUnlessOom read_fault_of (λ x. x) result (strings_check (block_layout self.now) self.now.count 0 [] self.now.bytes.now) }
     {
         let mut before = Vec::new(alloc);
         let mut rest = self.bytes;
@@ -185,10 +183,10 @@ impl<'a> Packed<'a> {
     }
 
     /// Checks that no bytes are left, and that the last block offset is the end.
-    #[tactic(auto, unfolding(crate::specs::StringRows::strings_at))]
+    #[tactic(auto, unfolding(crate::specs::StringChecks::strings_check))]
     fn ended(&self, rest: &[u8]) -> Result<(), Fault>
         requires { length rest.now ≤ length self.now.bytes.now }
-        ensures { result ≡ strings_at (packing_of self.now) 0 self.now.count [] rest.now }
+        ensures { result ≡ strings_check (block_layout self.now) 0 self.now.count [] rest.now }
     {
         demand(rest.is_empty(), self.place(rest), Reason::PackedLength)?;
         if self.count == 0 {

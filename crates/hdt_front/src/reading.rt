@@ -2,24 +2,23 @@
 ghost use Rattle.std.specs.Prelude.{◌≡◌, ◌≤◌, ◌<◌, ◌+◌, ◌||◌, ◌==◌, not, ℕ, [], length, slice_index, IfOk, Ok, Err};
 ghost use Rattle.hdt_wire.specs.declared.fault.Reason.TheVariants.{BlockPlace as BlockPlaceOf};
 ghost use Rattle.hdt_wire.specs.declared.fault.Fault.{Fault as FaultIs};
-ghost use Rattle.hdt_wire.specs.Rows.{demand as demand_is, Gives, Reads};
-ghost use Rattle.hdt_front.specs.declared.fault.ReadFault.TheVariants.{Fault as FaultOf};
-ghost use Rattle.hdt_front.specs.Inside.PackedReading.{head_read, packed_parts_read};
-ghost use Rattle.hdt_seq.specs.Numbers.{numbers_of, numbers_places};
-ghost use Rattle.hdt_seq.specs.Sequence.{place_of_entry};
-ghost use Rattle.hdt_front.specs.Section.{SectionParts, IsSection, head_at, packed_parts_at, section_at, starts_counted};
+ghost use Rattle.hdt_wire.specs.Checks.{demand as demand_is, ReadsUnlessOom, Reads};
+ghost use Rattle.hdt_front.specs.declared.section.ReadFault.TheVariants.{Fault as FaultOf};
+ghost use Rattle.hdt_front.specs.Inside.ReadViews.{preamble_view, packed_parts_view};
+ghost use Rattle.hdt_seq.specs.Numbers.{numbers_of, numbers_offsets};
+ghost use Rattle.hdt_seq.specs.Sequence.{entry_offset};
+ghost use Rattle.hdt_front.specs.Section.{SectionParts, IsSection, preamble_at, packed_parts_at, section_at, is_start_count};
 
-use crate::fault::ReadFault;
-use crate::packed::Packed;
-use crate::section::Section;
-use hdt_seq::{Numbers, byte_at, code8_at, packed_at};
+use crate::packed::PackedStrings;
+use crate::section::{ReadFault, Section};
+use hdt_seq::{Numbers, byte_at, crc8_at, packed_at};
 use hdt_wire::{Fault, Reason, demand, read_vbyte};
 use std::alloc::Global;
 
 /// Whether the number of block offsets is valid: one more than blocks, or at most one if there are no strings.
-fn starts_counted(count: u64, block: u64, starts: u64) -> bool
+fn is_start_count(count: u64, block: u64, starts: u64) -> bool
     requires { 0 < count → 0 < block }
-    ensures { result ≡ starts_counted count block starts }
+    ensures { result ≡ is_start_count count block starts }
 {
     if count == 0 {
         return starts <= 1;
@@ -29,8 +28,8 @@ fn starts_counted(count: u64, block: u64, starts: u64) -> bool
 }
 
 /// Checks the block offset of a section without strings: it is 0 if present.
-fn starts_at_zero(count: u64, starts: &Numbers<'_>) -> Result<(), Fault>
-    ensures { result ≡ demand_is (not (count == 0) || slice_index (numbers_of starts.now) 0 == 0) (place_of_entry (numbers_places starts.now) 0) BlockPlaceOf }
+fn check_empty_start(count: u64, starts: &Numbers<'_>) -> Result<(), Fault>
+    ensures { result ≡ demand_is (not (count == 0) || slice_index (numbers_of starts.now) 0 == 0) (entry_offset (numbers_offsets starts.now) 0) BlockPlaceOf }
 {
     if count == 0 && starts.len() > 0 {
         return demand(
@@ -45,7 +44,7 @@ fn starts_at_zero(count: u64, starts: &Numbers<'_>) -> Result<(), Fault>
 /// The section preamble: the number of strings, the size of their bytes, the block size, and the byte offset at which
 /// the block offsets begin.
 #[derive(Clone, Copy)]
-struct Head {
+struct Preamble {
     count: u64,
     size: u64,
     block: u64,
@@ -53,9 +52,9 @@ struct Head {
 }
 
 /// Reads and checks the preamble.
-#[tactic(auto, unfolding(crate::specs::Section::head_at, crate::specs::Inside::PackedReading::head_read))]
-fn read_head(bytes: &[u8], at: usize) -> Result<Head, Fault>
-    ensures exact { Reads head_read result (head_at bytes.now at) }
+#[tactic(auto, unfolding(crate::specs::Section::preamble_at, crate::specs::Inside::ReadViews::preamble_view))]
+fn read_preamble(bytes: &[u8], at: usize) -> Result<Preamble, Fault>
+    ensures exact { Reads preamble_view result (preamble_at bytes.now at) }
     ensures some { IfOk result (λ h. 0 < h.count → 0 < h.block) }
     ensures end { IfOk result (λ h. (at < h.starts_at) × (h.starts_at ≤ length bytes.now)) }
 {
@@ -64,10 +63,10 @@ fn read_head(bytes: &[u8], at: usize) -> Result<Head, Fault>
     let (count, size_at) = read_vbyte(bytes, count_at)?;
     let (size, block_at) = read_vbyte(bytes, size_at)?;
     let (block, code_at) = read_vbyte(bytes, block_at)?;
-    let starts_at = code8_at(bytes, at, code_at)?;
+    let starts_at = crc8_at(bytes, at, code_at)?;
     demand(count == 0 || 0 < block, block_at, Reason::BlockSize)?;
     demand(!(count == 0) || size == 0, size_at, Reason::PackedLength)?;
-    Ok(Head {
+    Ok(Preamble {
         count,
         size,
         block,
@@ -76,21 +75,21 @@ fn read_head(bytes: &[u8], at: usize) -> Result<Head, Fault>
 }
 
 /// Reads all parts of a section and checks all but the strings. Allocates nothing.
-#[tactic(auto, unfolding(crate::specs::Section::packed_parts_at, crate::specs::Inside::PackedReading::head_read, crate::specs::Inside::PackedReading::packed_parts_read))]
-fn read_packed<'a>(bytes: &'a [u8], at: usize) -> Result<(Packed<'a>, usize), Fault>
-    ensures exact { Reads packed_parts_read result (packed_parts_at bytes.now at) }
+#[tactic(auto, unfolding(crate::specs::Section::packed_parts_at, crate::specs::Inside::ReadViews::preamble_view, crate::specs::Inside::ReadViews::packed_parts_view))]
+fn read_packed<'a>(bytes: &'a [u8], at: usize) -> Result<(PackedStrings<'a>, usize), Fault>
+    ensures exact { Reads packed_parts_view result (packed_parts_at bytes.now at) }
     ensures end { IfOk result (λ r. (at + length r.0.bytes.now < r.1) × (r.1 ≤ length bytes.now)) }
 {
-    let head = read_head(bytes, at)?;
+    let head = read_preamble(bytes, at)?;
     let (starts, base) = Numbers::read(bytes, head.starts_at)?;
     demand(
-        starts_counted(head.count, head.block, starts.len()),
+        is_start_count(head.count, head.block, starts.len()),
         starts.count_place() as usize,
         Reason::BlockCount,
     )?;
-    starts_at_zero(head.count, &starts)?;
+    check_empty_start(head.count, &starts)?;
     let (packed, end) = packed_at(bytes, base, 8 * u128::from(head.size))?;
-    let packed = Packed {
+    let packed = PackedStrings {
         bytes: packed,
         starts,
         count: head.count,
@@ -105,13 +104,13 @@ impl<'a> Section<'a> {
     ghost use Rattle.hdt_front.specs.Faults.{read_fault_of};
 
     /// Reads a section: all checks in order.
-    #[tactic(auto, unfolding(crate::specs::Section::section_at, crate::specs::Inside::PackedReading::packed_parts_read, crate::specs::Strings::section_of, crate::specs::Strings::strings_of))]
-    fn read_rows(
+    #[tactic(auto, unfolding(crate::specs::Section::section_at, crate::specs::Inside::ReadViews::packed_parts_view, crate::specs::Strings::section_of, crate::specs::Strings::strings_of))]
+    fn read_by_checks(
         alloc: Global,
         bytes: &'a [u8],
         at: usize,
     ) -> Result<(Section<'a>, usize), ReadFault>
-        ensures exact { Gives read_fault_of (λ r. section_of r.0) result (section_at bytes.now at) }
+        ensures exact { ReadsUnlessOom read_fault_of (λ r. section_of r.0) result (section_at bytes.now at) }
         ensures without_memory { (f : FaultIs) → packed_parts_at bytes.now at ≡ Err f → result ≡ Err (FaultOf f) }
         ensures next { IfOk result (λ r. r.1 ≡ (section_of r.0).end) }
         ensures end { IfOk result (λ r. (at + length r.0.packed.bytes.now < r.1) × (r.1 ≤ length bytes.now)) }
@@ -141,15 +140,15 @@ impl<'a> Section<'a> {
         // A returned section is encoded at the offset.
         ensures found { IfOk result (λ r. IsSection (section_of r.0) bytes.now at) }
         // A section encoded at the offset is returned, unless memory runs out.
-        ensures only { (s : SectionParts) → IsSection s bytes.now at → Gives read_fault_of (λ r. section_of r.0) result (Ok s) }
+        ensures only { (s : SectionParts) → IsSection s bytes.now at → ReadsUnlessOom read_fault_of (λ r. section_of r.0) result (Ok s) }
         // The result is that of the checks in order: the section, or the first error.
-        ensures exact { Gives read_fault_of (λ r. section_of r.0) result (section_at bytes.now at) }
+        ensures exact { ReadsUnlessOom read_fault_of (λ r. section_of r.0) result (section_at bytes.now at) }
         // Errors up to the CRC of the strings are found without allocating.
         ensures without_memory { (f : FaultIs) → packed_parts_at bytes.now at ≡ Err f → result ≡ Err (FaultOf f) }
         ensures next { IfOk result (λ r. r.1 ≡ (section_of r.0).end) }
         // Each string takes at least one byte.
         ensures end { IfOk result (λ r. (at + length (strings_of r.0) < r.1) × (r.1 ≤ length bytes.now)) }
     {
-        Section::read_rows(alloc, bytes, at)
+        Section::read_by_checks(alloc, bytes, at)
     }
 }

@@ -1,58 +1,57 @@
 //! Searching for a string in the front-coded bytes, without decoding.
 ghost use Rattle.std.specs.Prelude.{◌≡◌, ◌≤◌, ◌<◌, ◌+◌, ◌-◌, ◌*◌, ◌++◌, length, take, drop, get_or, [], List, ℕ, false, MatchOption};
-ghost use Rattle.hdt_wire.specs.Rows.{zero_in};
+ghost use Rattle.hdt_wire.specs.Checks.{len_before_zero};
 ghost use Rattle.hdt_wire.specs.VByte.{vbyte_at};
-ghost use Rattle.hdt_front.specs.Unfolding.{read_or, text_from, kept, text_of, after_piece};
-ghost use Rattle.hdt_front.specs.Facts.{rest_at};
-ghost use Rattle.hdt_front.specs.declared.landed.Lie.TheVariants.{Less as LessOf};
-ghost use Rattle.hdt_front.specs.Searching.{agreed, IsLess, LiesSo, Lands};
+ghost use Rattle.hdt_front.specs.Decoding.{value_or, bytes_from_suffix, kept, suffix_of, after_entry};
+ghost use Rattle.hdt_front.specs.EntryFacts.{bytes_from_entry};
+ghost use Rattle.hdt_front.specs.declared.search.EntryProbe.TheVariants.{Less as LessOf};
+ghost use Rattle.hdt_front.specs.Searching.{lcp_len, IsLess, IsEntryProbe, IsBlockProbe};
 ghost use Rattle.hdt_front.specs.Order.{string_cmp};
 
-use crate::common::{compared, compared_stored};
-use crate::landed::{Landed, Lie};
-use crate::piece::{behind_text, piece_of};
+use crate::entry::{after_text, split_entry};
+use crate::lcp::{cmp_stored_from, cmp_with_lcp};
 use crate::section::Section;
 use hdt_seq::Steps;
-use hdt_wire::zero_in;
+use hdt_wire::len_before_zero;
 use std::cmp::Ordering;
 
 /// Decides by the prefix length only: if a string shares more with the previous one than that shares with the searched
 /// string, it compares as the previous one, which is less.
-fn lie_by_kept(kept: u64, same: usize) -> Option<Lie>
+fn compare_by_prefix(kept: u64, same: usize) -> Option<EntryProbe>
     ensures { MatchOption result (kept ≤ same) (λ l. (same < kept) × (l ≡ LessOf same)) }
 {
     if kept > same as u64 {
-        return Some(Lie::Less(same));
+        return Some(EntryProbe::Less(same));
     }
     None
 }
 
 /// Compares a string with the searched one, given that the previous string is less and shares `same` bytes with it.
-fn lie(kept: u64, text: &[u8], same: usize, x: &[u8]) -> Lie
+fn compare_entry(kept: u64, text: &[u8], same: usize, x: &[u8]) -> EntryProbe
     requires { same ≤ length x.now }
-    ensures { (last : List ℕ) → kept ≤ length last → IsLess last x.now same → LiesSo (take kept last ++ text.now) x.now result }
+    ensures { (last : List ℕ) → kept ≤ length last → IsLess last x.now same → IsEntryProbe (take kept last ++ text.now) x.now result }
 {
-    if let Some(lie) = lie_by_kept(kept, same) {
-        return lie;
+    if let Some(compare_entry) = compare_by_prefix(kept, same) {
+        return compare_entry;
     }
     let kept = kept as usize;
-    let (order, agreed) = compared(text, x.split_at(kept).1);
+    let (order, lcp_len) = cmp_with_lcp(text, x.split_at(kept).1);
     match order {
-        Ordering::Equal => Lie::Same,
-        Ordering::Greater => Lie::Greater,
-        Ordering::Less => Lie::Less(kept + agreed),
+        Ordering::Equal => EntryProbe::Same,
+        Ordering::Greater => EntryProbe::Greater,
+        Ordering::Less => EntryProbe::Less(kept + lcp_len),
     }
 }
 
 impl<'a> Section<'a> {
-    ghost use Rattle.hdt_front.specs.Looks.{section_looks};
+    ghost use Rattle.hdt_front.specs.Cost.{section_search_cost};
     ghost use Rattle.hdt_front.specs.Strings.{strings_of, section_of, blocks_of};
-    ghost use Rattle.hdt_front.specs.Numbering.{place};
+    ghost use Rattle.hdt_front.specs.StringIds.{id_of};
     ghost use Rattle.hdt_seq.specs.Width.{digits};
 
     /// Compares the first string of a block with the searched one, given that their first `from` bytes are equal.
     /// Returns also their common-prefix length, and the bytes from that string on. One step.
-    fn look_at_head(
+    fn compare_head(
         &self,
         block: u64,
         x: &[u8],
@@ -60,27 +59,27 @@ impl<'a> Section<'a> {
         steps: &mut Steps,
     ) -> (Ordering, usize, &'a [u8])
         requires block { block < blocks_of self.now }
-        requires sought { zero_in x.now ≡ length x.now }
-        requires so_far { from ≤ agreed (get_or (strings_of self.now) (block * self.now.packed.block) []) x.now }
+        requires sought { len_before_zero x.now ≡ length x.now }
+        requires so_far { from ≤ lcp_len (get_or (strings_of self.now) (block * self.now.packed.block) []) x.now }
         ensures order { result.0 ≡ string_cmp (get_or (strings_of self.now) (block * self.now.packed.block) []) x.now }
-        ensures same { result.1 ≡ agreed (get_or (strings_of self.now) (block * self.now.packed.block) []) x.now }
-        ensures ends { zero_in result.2.now < length result.2.now }
-        ensures rest { drop (zero_in result.2.now + 1) result.2.now ≡ rest_at self.now.packed.block (block * self.now.packed.block + 1) self.now.packed.bytes.now }
+        ensures same { result.1 ≡ lcp_len (get_or (strings_of self.now) (block * self.now.packed.block) []) x.now }
+        ensures ends { len_before_zero result.2.now < length result.2.now }
+        ensures rest { drop (len_before_zero result.2.now + 1) result.2.now ≡ bytes_from_entry self.now.packed.block (block * self.now.packed.block + 1) self.now.packed.bytes.now }
         ensures cost { steps.new ≡ steps.old + 1 }
     {
         steps.tick();
         let head = self.from_head(block);
-        let (order, same) = compared_stored(head, x, from);
+        let (order, same) = cmp_stored_from(head, x, from);
         (order, same, head)
     }
 
     /// Finds the last block whose first string is not greater than the searched one, by binary search. A first string
     /// between the two bounds shares with it at least what both bounds do, so those bytes are not compared again.
     #[tactic(auto, using(hdt_seq::specs::Laws::Width::digits_split))]
-    fn block_of(&self, x: &[u8], steps: &mut Steps) -> Landed<'a>
+    fn find_block(&self, x: &[u8], steps: &mut Steps) -> BlockProbe<'a>
         requires some { 0 < blocks_of self.now }
-        requires sought { zero_in x.now ≡ length x.now }
-        ensures lands { Lands (strings_of self.now) self.now.packed.block (blocks_of self.now) self.now.packed.bytes.now x.now result }
+        requires sought { len_before_zero x.now ≡ length x.now }
+        ensures lands { IsBlockProbe (strings_of self.now) self.now.packed.block (blocks_of self.now) self.now.packed.bytes.now x.now result }
         ensures cost { steps.new ≤ steps.old + digits (blocks_of self.now) }
         ensures more { steps.old ≤ steps.new }
     {
@@ -92,41 +91,41 @@ impl<'a> Section<'a> {
         while low < high {
             let middle = low + (high - low) / 2;
             let from = same.min(above);
-            let (order, agreed, head) = self.look_at_head(middle, x, from, steps);
+            let (order, lcp_len, head) = self.compare_head(middle, x, from, steps);
             match order {
-                Ordering::Equal => return Landed::Head(middle),
+                Ordering::Equal => return BlockProbe::Head(middle),
                 Ordering::Less => {
                     low = middle + 1;
-                    same = agreed;
+                    same = lcp_len;
                     last = head;
                 }
                 Ordering::Greater => {
                     high = middle;
-                    above = agreed;
+                    above = lcp_len;
                 }
             }
         }
         if low == 0 {
-            Landed::Before
+            BlockProbe::Before
         } else {
-            Landed::Inside(low - 1, same, behind_text(last))
+            BlockProbe::Inside(low - 1, same, after_text(last))
         }
     }
 
     /// Splits an entry that is not the first of its block. One step.
-    fn look_at_piece(rest: &'a [u8], steps: &mut Steps) -> (u64, &'a [u8], &'a [u8])
-        requires { zero_in (text_from false rest.now) < length (text_from false rest.now) }
+    fn read_entry(rest: &'a [u8], steps: &mut Steps) -> (u64, &'a [u8], &'a [u8])
+        requires { len_before_zero (bytes_from_suffix false rest.now) < length (bytes_from_suffix false rest.now) }
         ensures kept { result.0 ≡ kept false rest.now }
-        ensures text { result.1.now ≡ text_of false rest.now }
-        ensures rest { result.2.now ≡ after_piece false rest.now }
+        ensures text { result.1.now ≡ suffix_of false rest.now }
+        ensures rest { result.2.now ≡ after_entry false rest.now }
         ensures cost { steps.new ≡ steps.old + 1 }
     {
         steps.tick();
-        piece_of(false, rest)
+        split_entry(false, rest)
     }
 
     /// Searches the strings of a block after the first one.
-    fn within(
+    fn scan_block(
         &self,
         block: u64,
         same: usize,
@@ -134,8 +133,8 @@ impl<'a> Section<'a> {
         x: &[u8],
         steps: &mut Steps,
     ) -> Option<u64>
-        requires lands { Lands (strings_of self.now) self.now.packed.block (blocks_of self.now) self.now.packed.bytes.now x.now (Landed.Inside block same rest) }
-        ensures place { result ≡ place (strings_of self.now) x.now }
+        requires lands { IsBlockProbe (strings_of self.now) self.now.packed.block (blocks_of self.now) self.now.packed.bytes.now x.now (BlockProbe.Inside block same rest) }
+        ensures place { result ≡ id_of (strings_of self.now) x.now }
         ensures cost { steps.new ≤ steps.old + (self.now.packed.block - 1) }
         ensures more { steps.old ≤ steps.new }
     {
@@ -145,12 +144,12 @@ impl<'a> Section<'a> {
         let mut same = same;
         let mut rest = rest;
         for i in 1..many {
-            let (kept, text, after) = Section::look_at_piece(rest, steps);
-            match lie(kept, text, same, x) {
-                Lie::Same => return Some(first + i + 1),
-                Lie::Greater => return None,
-                Lie::Less(agreed) => {
-                    same = agreed;
+            let (kept, text, after) = Section::read_entry(rest, steps);
+            match compare_entry(kept, text, same, x) {
+                EntryProbe::Same => return Some(first + i + 1),
+                EntryProbe::Greater => return None,
+                EntryProbe::Less(lcp_len) => {
+                    same = lcp_len;
                     rest = after;
                 }
             }
@@ -163,21 +162,40 @@ impl<'a> Section<'a> {
     /// Binary search over the first strings of the blocks, then a scan of one block. Takes at most
     /// `floor(log2(blocks)) + block size` steps, and none in an empty section. Each step compares one string.
     pub fn place_of(&self, x: &[u8], steps: &mut Steps) -> Option<u64>
-        ensures place { result ≡ place (strings_of self.now) x.now }
-        ensures cost { steps.new ≤ steps.old + section_looks (section_of self.now) }
+        ensures place { result ≡ id_of (strings_of self.now) x.now }
+        ensures cost { steps.new ≤ steps.old + section_search_cost (section_of self.now) }
         ensures more { steps.old ≤ steps.new }
     {
         if self.blocks() == 0 {
             return None;
         }
         // No string has a zero byte.
-        if zero_in(x) < x.len() {
+        if len_before_zero(x) < x.len() {
             return None;
         }
-        match self.block_of(x, steps) {
-            Landed::Before => None,
-            Landed::Head(block) => Some(block * self.packed.block + 1),
-            Landed::Inside(block, same, rest) => self.within(block, same, rest, x, steps),
+        match self.find_block(x, steps) {
+            BlockProbe::Before => None,
+            BlockProbe::Head(block) => Some(block * self.packed.block + 1),
+            BlockProbe::Inside(block, same, rest) => self.scan_block(block, same, rest, x, steps),
         }
     }
+}
+
+/// The result of the binary search over the blocks.
+pub(crate) enum BlockProbe<'a> {
+    /// The searched string is less than the first string of the section.
+    Before,
+    /// It is the first string of this block.
+    Head(u64),
+    /// It is greater than the first string of a block: the block, the common-prefix length with that string, and the
+    /// bytes after that entry.
+    Inside(u64, usize, &'a [u8]),
+}
+
+/// How a string of a block compares with the searched one.
+pub(crate) enum EntryProbe {
+    Same,
+    Greater,
+    /// Less, with this common-prefix length.
+    Less(usize),
 }

@@ -1,12 +1,19 @@
 //! A section that was read: its strings and its blocks.
-ghost use Rattle.std.specs.Prelude.{◌≡◌, ◌≤◌, ◌<◌, ◌+◌, ◌-◌, ◌*◌, length, drop, get_or, [], Ok};
-ghost use Rattle.hdt_front.specs.StringRows.{strings_at};
-ghost use Rattle.hdt_front.specs.Packed.{packing_of};
-ghost use Rattle.hdt_wire.specs.Rows.{IsBytes};
+ghost use Rattle.std.specs.Prelude.{◌≡◌, ◌≤◌, ◌<◌, ◌+◌, ◌-◌, ◌*◌, length, drop, get_or, [], Ok, ◌&&◌, ◌||◌, true, nat_eq};
+ghost use Rattle.hdt_front.specs.StringChecks.{strings_check, precedes};
+ghost use Rattle.hdt_front.specs.PackedView.{block_layout};
+ghost use Rattle.hdt_wire.specs.Checks.{IsBytes, len_before_zero};
 ghost use Rattle.hdt_seq.specs.Numbers.{numbers_of};
+ghost use Rattle.hdt_front.specs.declared.section.ReadFault.TheVariants.{OutOfMemory, Fault as FaultOf};
+ghost use Rattle.std.specs.Str.{is_utf8};
+ghost use Rattle.hdt_front.specs.Section.{AreSectionStrings};
+ghost use Rattle.hdt_front.specs.Canonical.{borrowed_texts};
 
-use crate::packed::Packed;
+use crate::decode::valid;
+use crate::packed::PackedStrings;
 use crate::scan::text_len;
+use hdt_wire::len_before_zero;
+use std::alloc::{AllocError, AllocFailed};
 
 /// A section that was read. The strings stay front-coded in the input and are searched there. The value consists of
 /// slices of the input and a few numbers, so copying is cheap.
@@ -22,9 +29,9 @@ use crate::scan::text_len;
 /// ```
 #[derive(Clone, Copy)]
 pub struct Section<'a> {
-    pub(crate) packed: Packed<'a>,
+    pub(crate) packed: PackedStrings<'a>,
     pub(crate) end: usize,
-    ghost read: { strings_at (packing_of packed) packed.count 0 [] packed.bytes.now ≡ Ok tt },
+    ghost read: { strings_check (block_layout packed) packed.count 0 [] packed.bytes.now ≡ Ok tt },
 }
 
 /// Law: the elements of a byte slice are below 256.
@@ -34,12 +41,12 @@ fn are_bytes(bytes: &[u8])
 
 impl<'a> Section<'a> {
     ghost use Rattle.hdt_front.specs.Strings.{strings_of, blocks_of, block_size, block_start};
-    ghost use Rattle.hdt_front.specs.Facts.{rest_at};
-    ghost use Rattle.hdt_front.specs.Section.{AreStrings};
+    ghost use Rattle.hdt_front.specs.EntryFacts.{bytes_from_entry};
+    ghost use Rattle.hdt_front.specs.Section.{AreSectionStrings};
 
     /// Law: the strings are UTF-8 without zero bytes, and ascend.
-    pub fn are_strings(&self)
-        ensures { AreStrings (strings_of self.now) }
+    pub fn are_section_strings(&self)
+        ensures { AreSectionStrings (strings_of self.now) }
     {
         are_bytes(self.packed.bytes);
     }
@@ -85,14 +92,14 @@ impl<'a> Section<'a> {
 
     /// Returns the first string of a block, and the bytes after its entry.
     #[tactic(auto, unfolding(crate::specs::Strings::strings_of, crate::specs::Strings::blocks_of))]
-    pub(crate) fn opened_head(&self, block: u64) -> (&'a [u8], &'a [u8])
+    pub(crate) fn split_head(&self, block: u64) -> (&'a [u8], &'a [u8])
         requires { block < blocks_of self.now }
         ensures string { result.0.now ≡ get_or (strings_of self.now) (block * self.now.packed.block) [] }
-        ensures rest { result.1.now ≡ rest_at self.now.packed.block (block * self.now.packed.block + 1) self.now.packed.bytes.now }
+        ensures rest { result.1.now ≡ bytes_from_entry self.now.packed.block (block * self.now.packed.block + 1) self.now.packed.bytes.now }
     {
-        let piece = self.from_head(block);
-        let end = text_len(piece);
-        (&piece[..end], piece.split_at(end + 1).1)
+        let entry = self.from_head(block);
+        let end = text_len(entry);
+        (&entry[..end], entry.split_at(end + 1).1)
     }
 
     /// Returns the first string of a block, from 0, borrowed from the input. Takes time linear in the string.
@@ -100,6 +107,54 @@ impl<'a> Section<'a> {
         requires { block < blocks_of self.now }
         ensures { result.now ≡ get_or (strings_of self.now) (block * block_size self.now) [] }
     {
-        self.opened_head(block).0
+        self.split_head(block).0
     }
+}
+
+/// Why a section could not be read.
+#[derive(Debug, Drop)]
+pub enum ReadFault {
+    /// The bytes are not a valid section. Reading them again gives the same error.
+    Fault(hdt_wire::Fault),
+    /// Memory ran out. The bytes may be valid or not.
+    OutOfMemory,
+}
+
+impl From<AllocError> for ReadFault {
+    ghost from_gives = { λ _ e. e ≡ OutOfMemory };
+
+    fn from(_e: AllocError) -> ReadFault {
+        ReadFault::OutOfMemory
+    }
+}
+
+impl From<hdt_wire::Fault> for ReadFault {
+    ghost from_gives = { λ f e. e ≡ FaultOf f };
+
+    fn from(f: hdt_wire::Fault) -> ReadFault {
+        ReadFault::Fault(f)
+    }
+}
+
+/// Whether a string is UTF-8 without a zero byte, and greater than the previous one unless it is the first.
+fn can_follow(first: bool, before: &[u8], string: &[u8]) -> bool
+    ensures { result ≡ (is_utf8 string.now && (nat_eq (len_before_zero string.now) (length string.now) && (first || precedes before.now string.now))) }
+{
+    valid(string) && len_before_zero(string) == string.len() && (first || before.cmp(string).is_lt())
+}
+
+/// Returns whether the strings can form a section: each is UTF-8 without a zero byte, and they ascend strictly by
+/// unsigned bytes. [`put_section`](crate::put_section) requires this. Takes time linear in their total length.
+pub fn are_section_strings(strings: &[&[u8]]) -> bool
+    ensures yes { result ≡ true → AreSectionStrings (borrowed_texts strings.now) }
+    ensures no { AreSectionStrings (borrowed_texts strings.now) → result ≡ true }
+{
+    let mut before: &[u8] = &[];
+    for i in 0..strings.len() {
+        if !can_follow(i == 0, before, strings[i]) {
+            return false;
+        }
+        before = strings[i];
+    }
+    true
 }

@@ -1,19 +1,19 @@
 //! Writing a section one string at a time.
 ghost use Rattle.std.specs.Prelude.{◌≡◌, ◌≤◌, ◌<◌, ◌^◌, ◌++◌, ◌∷◌, [], ℕ, List, length, cond, drop, OnOk, OnErr};
 ghost use Rattle.byteorder.specs.Endian.{little_bytes};
-ghost use Rattle.hdt_wire.specs.Check.{code8, code32};
-ghost use Rattle.hdt_wire.specs.Control.{HasNoZero, Keeps};
-ghost use Rattle.hdt_front.specs.Section.{AreStrings, IsSection};
-ghost use Rattle.hdt_front.specs.SectionWriting.{section_head, section_spelling};
-ghost use Rattle.hdt_front.specs.Searching.{agreed};
-ghost use Rattle.hdt_front.specs.Canonical.{piece_with, piece_of, canonical, canonical_parts};
-ghost use Rattle.hdt_front.specs.InWork.{last_string};
+ghost use Rattle.hdt_wire.specs.Crc.{crc8, crc32};
+ghost use Rattle.hdt_wire.specs.Control.{HasNoZero, IsPrefixOf};
+ghost use Rattle.hdt_front.specs.Section.{AreSectionStrings, IsSection};
+ghost use Rattle.hdt_front.specs.SectionWriting.{section_preamble, section_encoding};
+ghost use Rattle.hdt_front.specs.Searching.{lcp_len};
+ghost use Rattle.hdt_front.specs.Canonical.{entry_with_prefix, encode_entry, canonical, canonical_parts};
+ghost use Rattle.hdt_front.specs.WriterState.{last_string};
 
-use crate::common::common_prefix;
-use crate::unfold::unfold;
+use crate::lcp::common_prefix;
+use crate::decode::decode_over;
 use byteorder::{ByteOrder, LittleEndian};
 use hdt_seq::put_numbers;
-use hdt_wire::{check8, check32, cut_on_error, put_vbyte};
+use hdt_wire::{check8, check32, truncate_on_error, put_vbyte};
 use std::alloc::{AllocError, Global};
 use std::marker::Model;
 
@@ -41,27 +41,27 @@ pub struct SectionWriter {
 
 impl Model for SectionWriter {
     ghost use Rattle.std.specs.Prelude.{[]};
-    ghost use Rattle.hdt_front.specs.InWork.{SectionInWork, AreKept};
-    ghost use Rattle.hdt_front.specs.Unfolding.{unfolded};
+    ghost use Rattle.hdt_front.specs.WriterState.{SectionWriterState, IsWriterState};
+    ghost use Rattle.hdt_front.specs.Decoding.{decoded_strings};
 
-    ghost Value = { SectionInWork };
+    ghost Value = { SectionWriterState };
 
-    ghost view = { λ w. record { block_size = w.block_size; strings = unfolded w.block_size w.count 0 [] w.packed.items } };
+    ghost view = { λ w. record { block_size = w.block_size; strings = decoded_strings w.block_size w.count 0 [] w.packed.items } };
 
-    ghost invariant = { λ w. AreKept w.block_size (unfolded w.block_size w.count 0 [] w.packed.items) w.last.items w.starts.items w.packed.items };
+    ghost invariant = { λ w. IsWriterState w.block_size (decoded_strings w.block_size w.count 0 [] w.packed.items) w.last.items w.starts.items w.packed.items };
 }
 
 /// Appends the entry of a string that shares `same` bytes with the previous one: the full string if it is the first of
 /// its block, else `same` and the suffix; then a zero byte. An error may leave a prefix of the entry.
-fn append_piece(
+fn append_entry(
     head: bool,
     same: usize,
     string: &[u8],
     packed: &mut Vec<u8>,
 ) -> Result<(), AllocError>
     requires { same ≤ length string.now }
-    ensures ok { OnOk result (packed.new.items ≡ packed.old.items ++ piece_with head same string.now) }
-    ensures err { OnErr result (Keeps packed.old.items packed.new.items) }
+    ensures ok { OnOk result (packed.new.items ≡ packed.old.items ++ entry_with_prefix head same string.now) }
+    ensures err { OnErr result (IsPrefixOf packed.old.items packed.new.items) }
 {
     let mut rest = string;
     if !head {
@@ -86,7 +86,7 @@ fn push_start(head: bool, place: usize, starts: &mut Vec<u64>) -> Result<(), All
 
 /// Adds a string that shares `same` bytes with the last one. An error may leave a block offset and a prefix of the
 /// entry, and leaves the last string unchanged.
-fn fold(
+fn push_entry(
     head: bool,
     same: usize,
     string: &[u8],
@@ -94,23 +94,23 @@ fn fold(
     starts: &mut Vec<u64>,
     packed: &mut Vec<u8>,
 ) -> Result<(), AllocError>
-    requires { same ≡ agreed last.old.items string.now }
-    ensures packed { OnOk result (packed.new.items ≡ packed.old.items ++ piece_of head last.old.items string.now) }
+    requires { same ≡ lcp_len last.old.items string.now }
+    ensures packed { OnOk result (packed.new.items ≡ packed.old.items ++ encode_entry head last.old.items string.now) }
     ensures starts { OnOk result (starts.new.items ≡ starts.old.items ++ cond head (length packed.old.items ∷ []) []) }
     ensures last { OnOk result (last.new.items ≡ string.now) }
     ensures last_kept { OnErr result (last.new.items ≡ last.old.items) }
-    ensures starts_kept { OnErr result (Keeps starts.old.items starts.new.items) }
-    ensures packed_kept { OnErr result (Keeps packed.old.items packed.new.items) }
+    ensures starts_kept { OnErr result (IsPrefixOf starts.old.items starts.new.items) }
+    ensures packed_kept { OnErr result (IsPrefixOf packed.old.items packed.new.items) }
 {
     push_start(head, packed.len(), starts)?;
-    append_piece(head, same, string, packed)?;
-    unfold(last, same, string.split_at(same).1)
+    append_entry(head, same, string, packed)?;
+    decode_over(last, same, string.split_at(same).1)
 }
 
 /// Appends the section preamble with its CRC. An error may leave a prefix of it.
-fn append_head(count: u64, size: u64, block_size: u32, out: &mut Vec<u8>) -> Result<(), AllocError>
-    ensures ok { OnOk result (out.new.items ≡ out.old.items ++ (section_head count size block_size ++ code8 (section_head count size block_size) ∷ [])) }
-    ensures err { OnErr result (Keeps out.old.items out.new.items) }
+fn append_preamble(count: u64, size: u64, block_size: u32, out: &mut Vec<u8>) -> Result<(), AllocError>
+    ensures ok { OnOk result (out.new.items ≡ out.old.items ++ (section_preamble count size block_size ++ crc8 (section_preamble count size block_size) ∷ [])) }
+    ensures err { OnErr result (IsPrefixOf out.old.items out.new.items) }
 {
     let start = out.len();
     out.push(2)?;
@@ -124,8 +124,8 @@ fn append_head(count: u64, size: u64, block_size: u32, out: &mut Vec<u8>) -> Res
 
 /// Appends the front-coded bytes with their CRC. An error may leave a prefix of them.
 fn append_packed(packed: &[u8], out: &mut Vec<u8>) -> Result<(), AllocError>
-    ensures ok { OnOk result (out.new.items ≡ out.old.items ++ (packed.now ++ little_bytes 4 (code32 packed.now))) }
-    ensures err { OnErr result (Keeps out.old.items out.new.items) }
+    ensures ok { OnOk result (out.new.items ≡ out.old.items ++ (packed.now ++ little_bytes 4 (crc32 packed.now))) }
+    ensures err { OnErr result (IsPrefixOf out.old.items out.new.items) }
 {
     out.extend_from_slice(packed)?;
     let mut code = [0u8; 4];
@@ -141,10 +141,10 @@ fn append_parts(
     packed: &[u8],
     out: &mut Vec<u8>,
 ) -> Result<(), AllocError>
-    ensures ok { OnOk result (out.new.items ≡ out.old.items ++ section_spelling count block_size starts.now packed.now) }
-    ensures err { OnErr result (Keeps out.old.items out.new.items) }
+    ensures ok { OnOk result (out.new.items ≡ out.old.items ++ section_encoding count block_size starts.now packed.now) }
+    ensures err { OnErr result (IsPrefixOf out.old.items out.new.items) }
 {
-    append_head(count, packed.len() as u64, block_size, out)?;
+    append_preamble(count, packed.len() as u64, block_size, out)?;
     put_numbers(starts, out)?;
     append_packed(packed, out)
 }
@@ -157,12 +157,12 @@ fn put_parts(
     packed: &[u8],
     out: &mut Vec<u8>,
 ) -> Result<(), AllocError>
-    ensures ok { OnOk result (out.new.items ≡ out.old.items ++ section_spelling count block_size starts.now packed.now) }
+    ensures ok { OnOk result (out.new.items ≡ out.old.items ++ section_encoding count block_size starts.now packed.now) }
     ensures err { OnErr result (out.new.items ≡ out.old.items) }
 {
     let start = out.len();
     let appended = append_parts(count, block_size, starts, packed, out);
-    cut_on_error(appended, start, out)
+    truncate_on_error(appended, start, out)
 }
 
 impl SectionWriter {
@@ -210,22 +210,22 @@ impl SectionWriter {
         ensures err { OnErr result (self.new ≡ self.old) }
     {
         let same = common_prefix(&self.last, string);
-        self.push_agreeing(string, same)
+        self.push_with_lcp(string, same)
     }
 
     /// Adds a string as [`push`](SectionWriter::push) does, given the length `same` of its longest common prefix with
     /// the last one. Takes amortized time linear in the bytes after that prefix, or in the string if it is the first of
     /// its block.
-    pub fn push_agreeing(&mut self, string: &[u8], same: usize) -> Result<(), AllocError>
+    pub fn push_with_lcp(&mut self, string: &[u8], same: usize) -> Result<(), AllocError>
         requires no_zero { HasNoZero string.now }
-        requires same { same ≡ agreed (last_string self.old) string.now }
+        requires same { same ≡ lcp_len (last_string self.old) string.now }
         ensures ok { OnOk result (self.new ≡ record self.old { strings = self.old.strings ++ string.now ∷ [] }) }
         ensures err { OnErr result (self.new ≡ self.old) }
     {
         let head = self.count % self.block_size as u64 == 0;
         let blocks = self.starts.len();
         let place = self.packed.len();
-        let folded = fold(
+        let pushed = push_entry(
             head,
             same,
             string,
@@ -233,20 +233,20 @@ impl SectionWriter {
             &mut self.starts,
             &mut self.packed,
         );
-        if folded.is_err() {
+        if pushed.is_err() {
             self.starts.truncate(blocks);
             self.packed.truncate(place);
-            return folded;
+            return pushed;
         }
         self.count += 1;
         Ok(())
     }
 
     /// Appends the canonical section of the strings, as [`put_section`](crate::put_section) does. The strings must
-    /// satisfy [`are_strings`](crate::are_strings). If memory runs out, `out` is unchanged, and the
+    /// satisfy [`are_section_strings`](crate::are_section_strings). If memory runs out, `out` is unchanged, and the
     /// strings are lost.
     pub fn finish(self, out: &mut Vec<u8>) -> Result<(), AllocError>
-        requires strings { AreStrings self.strings }
+        requires strings { AreSectionStrings self.strings }
         ensures ok { OnOk result (out.new.items ≡ out.old.items ++ canonical self.block_size self.strings) }
         // The appended bytes are a section with these strings.
         ensures section { OnOk result (IsSection (canonical_parts self.block_size self.strings (length out.old.items)) out.new.items (length out.old.items)) }

@@ -1,11 +1,11 @@
 //! A cursor with random access to the strings of a section.
 ghost use Rattle.std.specs.Prelude.{◌≡◌, ◌≤◌, ◌<◌, ◌+◌, ◌-◌, ◌*◌, ◌/◌, [], length, OnOk, OnErr};
 ghost use Rattle.hdt_front.specs.Strings.{strings_of, blocks_of, block_size};
-ghost use Rattle.hdt_front.specs.Seeking.{standing, head_before};
+ghost use Rattle.hdt_front.specs.SeekerState.{seeker_at, strings_before_block};
 
-use crate::piece::piece_of;
+use crate::entry::split_entry;
 use crate::section::Section;
-use crate::unfold::unfold;
+use crate::decode::decode_over;
 use hdt_seq::Steps;
 use std::alloc::{AllocError, Global};
 use std::marker::Model;
@@ -33,16 +33,16 @@ pub struct Seeker<'a> {
 
 impl<'a> Model for Seeker<'a> {
     ghost use Rattle.std.specs.Prelude.{◌≡◌, ◌≤◌};
-    ghost use Rattle.hdt_front.specs.Seeking.{Seeking};
-    ghost use Rattle.hdt_front.specs.Facts.{before_at, rest_at};
+    ghost use Rattle.hdt_front.specs.SeekerState.{SeekerState};
+    ghost use Rattle.hdt_front.specs.EntryFacts.{string_before_entry, bytes_from_entry};
 
-    ghost Value = { Seeking };
+    ghost Value = { SeekerState };
 
     ghost view = { λ s. record { section = s.section; at = s.at; last = s.last.items } };
 
     ghost invariant = { λ s. (s.at ≤ s.section.packed.count)
-        × (s.last.items ≡ before_at s.section.packed.block s.at s.section.packed.bytes.now)
-        × (s.rest.now ≡ rest_at s.section.packed.block s.at s.section.packed.bytes.now) };
+        × (s.last.items ≡ string_before_entry s.section.packed.block s.at s.section.packed.bytes.now)
+        × (s.rest.now ≡ bytes_from_entry s.section.packed.block s.at s.section.packed.bytes.now) };
 }
 
 impl<'a> Seeker<'a> {
@@ -66,44 +66,44 @@ impl<'a> Seeker<'a> {
     }
 
     /// Moves to the first string of a block. If memory runs out, nothing changes.
-    fn open(&mut self, block: u64, steps: &mut Steps) -> Result<(), AllocError>
+    fn seek_head(&mut self, block: u64, steps: &mut Steps) -> Result<(), AllocError>
         requires { block < blocks_of self.old.section }
-        ensures ok { OnOk result (self.new ≡ standing self.old.section (block * block_size self.old.section + 1)) }
+        ensures ok { OnOk result (self.new ≡ seeker_at self.old.section (block * block_size self.old.section + 1)) }
         ensures err { OnErr result (self.new ≡ self.old) }
         ensures cost { steps.new ≡ steps.old + 1 }
     {
         steps.tick();
-        let (head, rest) = self.section.opened_head(block);
-        unfold(&mut self.last, 0, head)?;
+        let (head, rest) = self.section.split_head(block);
+        decode_over(&mut self.last, 0, head)?;
         self.at = block * self.section.packed.block + 1;
         self.rest = rest;
         Ok(())
     }
 
     /// Moves to the next string. If memory runs out, nothing changes.
-    fn pass(&mut self, steps: &mut Steps) -> Result<(), AllocError>
+    fn advance(&mut self, steps: &mut Steps) -> Result<(), AllocError>
         requires { self.old.at < length (strings_of self.old.section) }
-        ensures ok { OnOk result (self.new ≡ standing self.old.section (self.old.at + 1)) }
+        ensures ok { OnOk result (self.new ≡ seeker_at self.old.section (self.old.at + 1)) }
         ensures err { OnErr result (self.new ≡ self.old) }
         ensures cost { steps.new ≡ steps.old + 1 }
     {
         steps.tick();
         let head = self.at % self.section.packed.block == 0;
-        let (kept, text, after) = piece_of(head, self.rest);
-        unfold(&mut self.last, kept as usize, text)?;
+        let (kept, text, after) = split_entry(head, self.rest);
+        decode_over(&mut self.last, kept as usize, text)?;
         self.rest = after;
         self.at += 1;
         Ok(())
     }
 
     /// Moves to the first string of the block of string n, unless the current string is in that block and not after n.
-    fn approach(&mut self, n: u64, steps: &mut Steps) -> Result<(), AllocError>
+    fn seek_block(&mut self, n: u64, steps: &mut Steps) -> Result<(), AllocError>
         requires from_one { 1 ≤ n }
         requires within { n ≤ length (strings_of self.old.section) }
         ensures section { self.new.section ≡ self.old.section }
-        ensures string { OnOk result (0 < self.new.at → self.new ≡ standing self.old.section self.new.at) }
-        ensures here { OnOk result ((head_before self.old.section n ≤ self.new.at) × (self.new.at ≤ n)) }
-        ensures cost { OnOk result (steps.new + head_before self.old.section n ≤ steps.old + self.new.at) }
+        ensures string { OnOk result (0 < self.new.at → self.new ≡ seeker_at self.old.section self.new.at) }
+        ensures here { OnOk result ((strings_before_block self.old.section n ≤ self.new.at) × (self.new.at ≤ n)) }
+        ensures cost { OnOk result (steps.new + strings_before_block self.old.section n ≤ steps.old + self.new.at) }
         ensures near { OnOk result (self.old.at ≤ n → steps.new + self.old.at ≤ steps.old + self.new.at) }
         ensures err { OnErr result (steps.new ≡ steps.old + 1) }
         ensures far { OnErr result (self.old.at ≤ n → self.old.at < n) }
@@ -112,7 +112,7 @@ impl<'a> Seeker<'a> {
         let block = (n - 1) / self.section.packed.block;
         let head = block * self.section.packed.block;
         if self.at < head || n < self.at {
-            self.open(block, steps)?;
+            self.seek_head(block, steps)?;
         }
         Ok(())
     }
@@ -122,15 +122,15 @@ impl<'a> Seeker<'a> {
     pub fn seek(&mut self, n: u64, steps: &mut Steps) -> Result<(), AllocError>
         requires from_one { 1 ≤ n }
         requires within { n ≤ length (strings_of self.old.section) }
-        ensures ok { OnOk result (self.new ≡ standing self.old.section n) }
+        ensures ok { OnOk result (self.new ≡ seeker_at self.old.section n) }
         ensures err { OnErr result (self.new.section ≡ self.old.section) }
         ensures cost { steps.new ≤ steps.old + block_size self.old.section }
         ensures near { self.old.at ≤ n → steps.new + self.old.at ≤ steps.old + n }
         ensures more { steps.old ≤ steps.new }
     {
-        self.approach(n, steps)?;
+        self.seek_block(n, steps)?;
         while self.at < n {
-            self.pass(steps)?;
+            self.advance(steps)?;
         }
         Ok(())
     }

@@ -1,68 +1,68 @@
 //! Decoding one string of a section, from the first string of its block on.
 ghost use Rattle.std.specs.Prelude.{◌≡◌, ◌≤◌, ◌<◌, ◌+◌, ◌-◌, ◌++◌, ◌*◌, List, [], length, take, get_or, IfOk, OnOk, OnErr, true};
-ghost use Rattle.hdt_wire.specs.Control.{Keeps};
-ghost use Rattle.hdt_wire.specs.Rows.{zero_in};
-ghost use Rattle.hdt_front.specs.Unfolding.{after_piece, kept, text_from, text_of};
-ghost use Rattle.hdt_front.specs.Facts.{StandsSoFar};
-ghost use Rattle.hdt_front.specs.Inside.Reaching.{Reaches};
+ghost use Rattle.hdt_wire.specs.Control.{IsPrefixOf};
+ghost use Rattle.hdt_wire.specs.Checks.{len_before_zero};
+ghost use Rattle.hdt_front.specs.Decoding.{after_entry, kept, bytes_from_suffix, suffix_of};
+ghost use Rattle.hdt_front.specs.EntryFacts.{IsPartlyDecoded};
+ghost use Rattle.hdt_front.specs.Inside.LoadRuns.{IsLoadRun};
 ghost use Rattle.hdt_front.specs.Strings.{strings_of, block_size};
 
-use crate::piece::{piece_of, short_front};
+use crate::entry::{split_entry, one_byte_vbyte};
 use crate::scan::{LANES, first_set};
 use crate::section::Section;
 use hdt_seq::Steps;
-use hdt_wire::cut_on_error;
+use hdt_wire::truncate_on_error;
 use std::alloc::AllocError;
 use std::simd::prelude::*;
 
 /// The size of the stack buffer in which strings are decoded while they fit.
-const ROOM: usize = 160;
+const BUFFER_LEN: usize = 160;
 
 /// Copies the next 32 bytes into the buffer and returns how many of them precede the first zero byte. Most suffixes end
 /// within one load, so the branch on that is mostly predicted.
 #[inline(always)]
-fn copy_load(bytes: &[u8], room: &mut [u8], at: usize) -> usize
+fn copy_load(bytes: &[u8], buffer: &mut [u8], at: usize) -> usize
     requires load { LANES ≤ length bytes.now }
-    requires within { at + LANES ≤ length room.old }
-    ensures reaches { Reaches (zero_in bytes.now) 0 LANES result }
-    ensures text { take (at + result) room.new ≡ take at room.old ++ take result bytes.now }
-    ensures size { length room.new ≡ length room.old }
+    requires within { at + LANES ≤ length buffer.old }
+    ensures reaches { IsLoadRun (len_before_zero bytes.now) 0 LANES result }
+    ensures text { take (at + result) buffer.new ≡ take at buffer.old ++ take result bytes.now }
+    ensures size { length buffer.new ≡ length buffer.old }
 {
     let v = u8x32::from_slice(bytes);
-    v.copy_to_slice(&mut room[at..]);
+    v.copy_to_slice(&mut buffer[at..]);
     first_set(v.simd_eq(u8x32::splat(0)).to_bitmask(), LANES)
 }
 
 /// Decodes up to `many` strings of a block into the buffer, each over the previous one. Returns the number decoded, the
 /// decoded length of the last one, and its unread remainder. It stops at a load that exceeds the bytes or the buffer,
 /// and at a prefix length of more than one byte.
-fn unfold_in<'a>(
+fn decode_in_buffer<'a>(
     section: &Section<'a>,
     block: u64,
     many: u64,
-    room: &mut [u8],
+    buffer: &mut [u8],
     steps: &mut Steps,
 ) -> (u64, usize, &'a [u8])
     requires some { 0 < many }
     requires short { many ≤ section.now.packed.block }
     requires within { block * section.now.packed.block + many ≤ section.now.packed.count }
     ensures done { (0 < result.0) × (result.0 ≤ many) }
-    ensures stands { StandsSoFar section.now.packed.block block result.0 section.now.packed.bytes.now room.new result.1 result.2.now }
+    ensures stands { IsPartlyDecoded section.now.packed.block block result.0 section.now.packed.bytes.now buffer.new result.1 result.2.now }
     ensures cost { steps.new ≡ steps.old + result.0 }
 {
     let mut rest = section.from_head(block);
     let mut at = 0;
     let mut done = 1;
     steps.tick();
-    while rest.len() >= LANES && room.len() - at >= LANES {
-        let run = copy_load(rest, room, at);
+    while rest.len() >= LANES && buffer.len() - at >= LANES {
+        let run = copy_load(rest, buffer, at);
         at += run;
         rest = rest.split_at(run).1;
         if run < LANES {
             if done == many {
                 break;
             }
-            let Some(kept) = short_front(rest.split_at(1).1) else {
+            let Some(kept) = one_byte_vbyte(rest.split_at(1).1) else {
                 break;
             };
             at = kept as usize;
@@ -88,20 +88,20 @@ fn extend_by(text: &[u8], out: &mut Vec<u8>) -> Result<(), AllocError>
 
 /// Decodes the next string over the previous one, which begins at index `start` of `out`. Returns the bytes after its
 /// entry. An error leaves a prefix of the previous string.
-#[tactic(auto, unfolding(crate::specs::Unfolding::text_of, crate::specs::Unfolding::after_piece))]
-fn put_piece<'a>(
+#[tactic(auto, unfolding(crate::specs::Decoding::suffix_of, crate::specs::Decoding::after_entry))]
+fn decode_next<'a>(
     head: bool,
     rest: &'a [u8],
     start: usize,
     out: &mut Vec<u8>,
 ) -> Result<&'a [u8], AllocError>
-    requires ends { zero_in (text_from head rest.now) < length (text_from head rest.now) }
+    requires ends { len_before_zero (bytes_from_suffix head rest.now) < length (bytes_from_suffix head rest.now) }
     requires fits { start + kept head rest.now ≤ length out.old.items }
-    ensures string { OnOk result (out.new.items ≡ take (start + kept head rest.now) out.old.items ++ text_of head rest.now) }
-    ensures rest { IfOk result (λ after. after.now ≡ after_piece head rest.now) }
+    ensures string { OnOk result (out.new.items ≡ take (start + kept head rest.now) out.old.items ++ suffix_of head rest.now) }
+    ensures rest { IfOk result (λ after. after.now ≡ after_entry head rest.now) }
     ensures err { OnErr result (out.new.items ≡ take (start + kept head rest.now) out.old.items) }
 {
-    let (kept, text, after) = piece_of(head, rest);
+    let (kept, text, after) = split_entry(head, rest);
     out.truncate(start + kept as usize);
     out.extend_from_slice(text)?;
     Ok(after)
@@ -118,27 +118,27 @@ fn append_string(
 ) -> Result<(), AllocError>
     requires { i < length (strings_of section.now) }
     ensures ok { OnOk result (out.new.items ≡ out.old.items ++ get_or (strings_of section.now) i []) }
-    ensures err { OnErr result (Keeps out.old.items out.new.items) }
+    ensures err { OnErr result (IsPrefixOf out.old.items out.new.items) }
     ensures cost { steps.new ≤ steps.old + block_size section.now }
     ensures more { steps.old ≤ steps.new }
 {
     let start = out.len();
     let many = i % section.packed.block + 1;
-    let mut room = [0; ROOM];
-    let (done, len, left) = unfold_in(section, i / section.packed.block, many, &mut room, steps);
-    out.extend_from_slice(&room[..len])?;
-    let (_, text, mut rest) = piece_of(true, left);
+    let mut buffer = [0; BUFFER_LEN];
+    let (done, len, left) = decode_in_buffer(section, i / section.packed.block, many, &mut buffer, steps);
+    out.extend_from_slice(&buffer[..len])?;
+    let (_, text, mut rest) = split_entry(true, left);
     extend_by(text, out)?;
     for k in done..many {
         steps.tick();
-        rest = put_piece(k == 0, rest, start, out)?;
+        rest = decode_next(k == 0, rest, start, out)?;
     }
     Ok(())
 }
 
 impl<'a> Section<'a> {
     ghost use Rattle.hdt_front.specs.Strings.{packed_block, section_of};
-    ghost use Rattle.hdt_front.specs.Section.{string_place};
+    ghost use Rattle.hdt_front.specs.Section.{string_offset};
 
     /// Appends the string with ID n, from 1. Decodes at most one block: at most as many steps as the block size. If
     /// memory runs out, `out` is unchanged.
@@ -152,7 +152,7 @@ impl<'a> Section<'a> {
     {
         let start = out.len();
         let appended = append_string(self, n - 1, out, steps);
-        cut_on_error(appended, start, out)
+        truncate_on_error(appended, start, out)
     }
 
     /// Returns the front-coded bytes of the block that contains string n, from 1. Decoding the string reads no other
@@ -176,12 +176,12 @@ impl<'a> Section<'a> {
     pub fn string_start(&self, n: u64) -> u64
         requires from_one { 1 ≤ n }
         requires within { n ≤ length (strings_of self.now) }
-        ensures { result ≡ string_place (section_of self.now) (n - 1) }
+        ensures { result ≡ string_offset (section_of self.now) (n - 1) }
     {
         let i = n - 1;
         let mut rest = self.from_head(i / self.packed.block);
         for k in 0..i % self.packed.block {
-            rest = piece_of(k == 0, rest).2;
+            rest = split_entry(k == 0, rest).2;
         }
         self.packed.place(rest) as u64
     }

@@ -1,23 +1,23 @@
 //! Writing a section in canonical form.
 ghost use Rattle.std.specs.Prelude.{◌≡◌, ◌≤◌, ◌++◌, length, IfOk, OnOk, OnErr};
-ghost use Rattle.hdt_front.specs.Section.{AreStrings, IsSection};
-ghost use Rattle.hdt_front.specs.Canonical.{texts, lent_texts, canonical, canonical_parts};
+ghost use Rattle.hdt_front.specs.Section.{AreSectionStrings, IsSection};
+ghost use Rattle.hdt_front.specs.Canonical.{texts, borrowed_texts, canonical, canonical_parts};
 
 use crate::section_writer::SectionWriter;
 use std::alloc::{AllocError, Global};
 
 /// Appends the canonical section of borrowed strings, as [`put_section`] does.
-fn put_lent_section(
+fn put_borrowed_section(
     alloc: Global,
     strings: &[&[u8]],
     block_size: u32,
     out: &mut Vec<u8>,
 ) -> Result<(), AllocError>
-    requires strings { AreStrings (lent_texts strings.now) }
+    requires strings { AreSectionStrings (borrowed_texts strings.now) }
     requires block { 1 ≤ block_size }
-    ensures ok { OnOk result (out.new.items ≡ out.old.items ++ canonical block_size (lent_texts strings.now)) }
+    ensures ok { OnOk result (out.new.items ≡ out.old.items ++ canonical block_size (borrowed_texts strings.now)) }
     // The appended bytes are a section with these strings.
-    ensures section { OnOk result (IsSection (canonical_parts block_size (lent_texts strings.now) (length out.old.items)) out.new.items (length out.old.items)) }
+    ensures section { OnOk result (IsSection (canonical_parts block_size (borrowed_texts strings.now) (length out.old.items)) out.new.items (length out.old.items)) }
     ensures err { OnErr result (out.new.items ≡ out.old.items) }
 {
     let mut writer = SectionWriter::new(alloc, block_size);
@@ -28,8 +28,8 @@ fn put_lent_section(
 }
 
 /// Returns the vectors as slices, in order. Takes time and memory linear in their number.
-pub fn lent_strings<'a>(alloc: Global, strings: &'a [Vec<u8>]) -> Result<Vec<&'a [u8]>, AllocError>
-    ensures { IfOk result (λ r. lent_texts r.items ≡ texts strings.now) }
+pub fn borrow_strings<'a>(alloc: Global, strings: &'a [Vec<u8>]) -> Result<Vec<&'a [u8]>, AllocError>
+    ensures { IfOk result (λ r. borrowed_texts r.items ≡ texts strings.now) }
 {
     let mut slices = Vec::with_capacity(alloc, strings.len())?;
     for string in strings {
@@ -40,7 +40,7 @@ pub fn lent_strings<'a>(alloc: Global, strings: &'a [Vec<u8>]) -> Result<Vec<&'a
 
 /// Appends the canonical section of the strings, with `block_size` strings per block: longest shared prefixes, block
 /// offsets of the least width, padding bits 0, and the single block offset 0 if there are no strings. The strings must
-/// satisfy [`are_strings`](crate::are_strings), and the block size must be at least 1. If memory
+/// satisfy [`are_section_strings`](crate::are_section_strings), and the block size must be at least 1. If memory
 /// runs out, `out` is unchanged. Takes time linear in the total length of the strings.
 pub fn put_section(
     alloc: Global,
@@ -48,13 +48,13 @@ pub fn put_section(
     block_size: u32,
     out: &mut Vec<u8>,
 ) -> Result<(), AllocError>
-    requires strings { AreStrings (texts strings.now) }
+    requires strings { AreSectionStrings (texts strings.now) }
     requires block { 1 ≤ block_size }
     ensures ok { OnOk result (out.new.items ≡ out.old.items ++ canonical block_size (texts strings.now)) }
     // The appended bytes are a section with these strings.
     ensures section { OnOk result (IsSection (canonical_parts block_size (texts strings.now) (length out.old.items)) out.new.items (length out.old.items)) }
     ensures err { OnErr result (out.new.items ≡ out.old.items) }
 {
-    let slices = lent_strings(alloc, strings)?;
-    put_lent_section(alloc, &slices, block_size, out)
+    let slices = borrow_strings(alloc, strings)?;
+    put_borrowed_section(alloc, &slices, block_size, out)
 }

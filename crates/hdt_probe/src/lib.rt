@@ -8,18 +8,18 @@
 //! reports them at the end. So each word takes only a short function.
 #![tactic(auto)]
 
-mod ask;
-mod kept;
+mod args;
+mod state;
 mod reason;
-mod say;
-mod seen;
-mod sink;
-mod source;
+mod reply;
+mod stats;
+mod piece_writer;
+mod piece_reader;
 
-pub use ask::Ask;
-pub use kept::{Kept, word_of};
+pub use args::Args;
+pub use state::{State, split_request};
 pub use reason::reason_of;
-pub use say::{Say, role_number};
-pub use seen::Seen;
-pub use sink::Sink;
-pub use source::{Pieces, Source};
+pub use reply::{Reply, role_number};
+pub use stats::Stats;
+pub use piece_writer::PieceWriter;
+pub use piece_reader::{ReadPlan, PieceReader};

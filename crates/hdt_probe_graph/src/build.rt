@@ -1,101 +1,101 @@
 //! Calls of hdt_build: building and rewriting files.
 
-use crate::faults::{say_build_fault, say_rewrite_fault};
+use crate::faults::{reply_build_fault, reply_rewrite_fault};
 use crate::open::graph_of;
 use hdt_build::{Options, Report, build, build_bytes, rewrite, rewrite_bytes};
-use hdt_probe::{Ask, Say};
+use hdt_probe::{Args, Reply};
 use std::hash::{FoldHasher, Hasher};
 
 /// The words of this module, each with its number of arguments.
-pub const WORDS: &str = "build_bytes 4 build 6 rewrite_bytes 2 rewrite 4 fold_hash 0+";
+pub(crate) const WORDS: &str = "build_bytes 4 build 6 rewrite_bytes 2 rewrite 4 fold_hash 0+";
 
 /// Answers a request with one of these words. Returns false if the word is not one of them.
-pub fn answer(word: &str, ask: &mut Ask<'_>, say: &mut Say) -> bool {
+pub(crate) fn answer(word: &str, args: &mut Args<'_>, reply: &mut Reply) -> bool {
     match word {
-        "build_bytes" => say_build_bytes(ask, say),
-        "build" => say_build(ask, say),
-        "rewrite_bytes" => say_rewrite_bytes(ask, say),
-        "rewrite" => say_rewrite(ask, say),
-        "fold_hash" => say_fold_hash(ask, say),
+        "build_bytes" => reply_build_bytes(args, reply),
+        "build" => reply_build(args, reply),
+        "rewrite_bytes" => reply_rewrite_bytes(args, reply),
+        "rewrite" => reply_rewrite(args, reply),
+        "fold_hash" => reply_fold_hash(args, reply),
         _ => return false,
     }
     true
 }
 
-fn say_report(report: Report, say: &mut Say) {
-    say.number(report.triples);
-    say.number(report.shared);
-    say.number(report.subjects);
-    say.number(report.predicates);
-    say.number(report.objects);
-    say.number(report.bytes)
+fn reply_report(report: Report, reply: &mut Reply) {
+    reply.number(report.triples);
+    reply.number(report.shared);
+    reply.number(report.subjects);
+    reply.number(report.predicates);
+    reply.number(report.objects);
+    reply.number(report.bytes)
 }
 
-fn options_of(ask: &mut Ask<'_>) -> Options {
+fn options_of(args: &mut Args<'_>) -> Options {
     Options {
-        block_size: ask.number32(),
-        base: ask.bytes(),
+        block_size: args.number32(),
+        base: args.bytes(),
     }
 }
 
-fn say_build_bytes(ask: &mut Ask<'_>, say: &mut Say) {
-    let options = options_of(ask);
-    let mut input = ask.source(ask.file);
-    match build_bytes(ask.alloc, &mut input, &options) {
+fn reply_build_bytes(args: &mut Args<'_>, reply: &mut Reply) {
+    let options = options_of(args);
+    let mut input = args.source(args.file);
+    match build_bytes(args.alloc, &mut input, &options) {
         Ok((bytes, report)) => {
-            say.bytes(&bytes);
-            say_report(report, say)
+            reply.bytes(&bytes);
+            reply_report(report, reply)
         }
-        Err(fault) => say_build_fault(fault, say),
+        Err(fault) => reply_build_fault(fault, reply),
     }
-    let _left = say.read(input);
+    let _left = reply.finish_reader(input);
 }
 
 /// The report or the error, and the bytes that the writer took.
-fn say_build(ask: &mut Ask<'_>, say: &mut Say) {
-    let options = options_of(ask);
-    let mut input = ask.source(ask.file);
-    let mut out = ask.sink();
-    match build(ask.alloc, &mut input, &mut out, &options) {
-        Ok(report) => say_report(report, say),
-        Err(fault) => say_build_fault(fault, say),
+fn reply_build(args: &mut Args<'_>, reply: &mut Reply) {
+    let options = options_of(args);
+    let mut input = args.source(args.file);
+    let mut out = args.sink();
+    match build(args.alloc, &mut input, &mut out, &options) {
+        Ok(report) => reply_report(report, reply),
+        Err(fault) => reply_build_fault(fault, reply),
     }
-    let _left = say.read(input);
-    say.wrote(out)
+    let _left = reply.finish_reader(input);
+    reply.finish_writer(out)
 }
 
-fn say_rewrite_bytes(ask: &mut Ask<'_>, say: &mut Say) {
-    let Some(graph) = graph_of(ask, say) else {
+fn reply_rewrite_bytes(args: &mut Args<'_>, reply: &mut Reply) {
+    let Some(graph) = graph_of(args, reply) else {
         return;
     };
-    match rewrite_bytes(ask.alloc, &graph, &options_of(ask)) {
+    match rewrite_bytes(args.alloc, &graph, &options_of(args)) {
         Ok((bytes, report)) => {
-            say.bytes(&bytes);
-            say_report(report, say)
+            reply.bytes(&bytes);
+            reply_report(report, reply)
         }
-        Err(fault) => say_rewrite_fault(fault, say),
+        Err(fault) => reply_rewrite_fault(fault, reply),
     }
 }
 
 /// The report or the error, and the bytes that the writer took.
-fn say_rewrite(ask: &mut Ask<'_>, say: &mut Say) {
-    let Some(graph) = graph_of(ask, say) else {
+fn reply_rewrite(args: &mut Args<'_>, reply: &mut Reply) {
+    let Some(graph) = graph_of(args, reply) else {
         return;
     };
-    let options = options_of(ask);
-    let mut out = ask.sink();
-    match rewrite(ask.alloc, &graph, &mut out, &options) {
-        Ok(report) => say_report(report, say),
-        Err(fault) => say_rewrite_fault(fault, say),
+    let options = options_of(args);
+    let mut out = args.sink();
+    match rewrite(args.alloc, &graph, &mut out, &options) {
+        Ok(report) => reply_report(report, reply),
+        Err(fault) => reply_rewrite_fault(fault, reply),
     }
-    say.wrote(out)
+    reply.finish_writer(out)
 }
 
 /// The hashes of strings, as the builder computes them.
-fn say_fold_hash(ask: &mut Ask<'_>, say: &mut Say) {
-    for string in &ask.strings(u64::MAX) {
+fn reply_fold_hash(args: &mut Args<'_>, reply: &mut Reply) {
+    for string in &args.strings(u64::MAX) {
         let mut hasher = FoldHasher::default();
         hasher.write(string);
-        say.number(hasher.finish());
+        reply.number(hasher.finish());
     }
 }

@@ -2,197 +2,197 @@
 
 use hdt_build::Options;
 use hdt_command::{
-    Action, Asking, Form, Request, UsageFault, parse_all_words, parse_words, usage_line,
+    Action, AnswerOptions, OutputFormat, Request, UsageFault, parse_invocation, parse_words, usage_line,
 };
-use hdt_probe::{Ask, Say, role_number};
-use hdt_usage::table_of;
+use hdt_probe::{Args, Reply, role_number};
+use hdt_usage::make_command_table;
 
 /// The words of this module, each with its number of arguments.
-pub const WORDS: &str = "parse_words 0+ parse_all_words 0+ table 3+";
+pub(crate) const WORDS: &str = "parse_words 0+ parse_all_words 0+ table 3+";
 
 /// Answers a request with one of these words. Returns false if the word is not one of them.
-pub fn answer(word: &str, ask: &mut Ask<'_>, say: &mut Say) -> bool {
+pub(crate) fn answer(word: &str, args: &mut Args<'_>, reply: &mut Reply) -> bool {
     match word {
-        "parse_words" => say_parse_words(ask, say),
-        "parse_all_words" => say_parse_all_words(ask, say),
-        "table" => say_table(ask, say),
+        "parse_words" => reply_parse_words(args, reply),
+        "parse_all_words" => reply_parse_all_words(args, reply),
+        "table" => reply_table(args, reply),
         _ => return false,
     }
     true
 }
 
 /// The arguments as texts, or `None` if one of them is not UTF-8.
-pub fn texts_of<'a>(words: &'a [Vec<u8>], ask: &mut Ask<'_>) -> Option<Vec<&'a str>> {
-    let mut texts = Vec::new(ask.alloc);
+pub(crate) fn texts_of<'a>(words: &'a [Vec<u8>], args: &mut Args<'_>) -> Option<Vec<&'a str>> {
+    let mut texts = Vec::new(args.alloc);
     for word in words {
         let Ok(text) = std::str::from_utf8(word) else {
             return None;
         };
         if texts.push(text).is_err() {
-            ask.refused();
+            args.note_out_of_memory();
         }
     }
     Some(texts)
 }
 
 /// Reports why command-line arguments give no request.
-pub fn say_usage_fault(fault: &UsageFault, ask: &Ask<'_>, say: &mut Say) {
-    say.stop("usage");
-    match usage_line(ask.alloc, fault) {
+pub(crate) fn reply_usage_fault(fault: &UsageFault, args: &Args<'_>, reply: &mut Reply) {
+    reply.error("usage");
+    match usage_line(args.alloc, fault) {
         Ok((status, line)) => {
-            say.number(u64::from(status));
-            say.bytes(line.as_bytes())
+            reply.number(u64::from(status));
+            reply.bytes(line.as_bytes())
         }
-        Err(_) => say.lost(),
+        Err(_) => reply.note_out_of_memory(),
     }
 }
 
 /// Appends a text, or `none`.
-fn say_maybe(text: Option<&[u8]>, say: &mut Say) {
+fn reply_maybe(text: Option<&[u8]>, reply: &mut Reply) {
     match text {
-        Some(text) => say.bytes(text),
-        None => say.word("none"),
+        Some(text) => reply.bytes(text),
+        None => reply.word("none"),
     }
 }
 
 /// The number of an output format.
-fn form_number(form: Form) -> u64 {
-    match form {
-        Form::Lines => 0,
-        Form::Numbers => 1,
-        Form::Count => 2,
+fn form_number(format: OutputFormat) -> u64 {
+    match format {
+        OutputFormat::NTriples => 0,
+        OutputFormat::Numbers => 1,
+        OutputFormat::Count => 2,
     }
 }
 
 /// The strings of a pattern.
-fn say_given(given: &[Option<Vec<u8>>; 3], say: &mut Say) {
+fn reply_given(given: &[Option<Vec<u8>>; 3], reply: &mut Reply) {
     for string in given {
-        say_maybe(string.as_deref(), say);
+        reply_maybe(string.as_deref(), reply);
     }
 }
 
-fn say_asking(asking: Asking, say: &mut Say) {
-    say.word("answer");
-    say.number(form_number(asking.form));
-    say.maybe(asking.most);
-    say.number(u64::from(asking.raw));
-    say.number(u64::from(asking.longest))
+fn reply_asking(asking: AnswerOptions, reply: &mut Reply) {
+    reply.word("answer");
+    reply.number(form_number(asking.format));
+    reply.optional_number(asking.most);
+    reply.number(u64::from(asking.raw));
+    reply.number(u64::from(asking.longest))
 }
 
-fn say_options(options: &Options, say: &mut Say) {
-    say.word("build");
-    say.number(u64::from(options.block_size));
-    say.bytes(&options.base)
+fn reply_options(options: &Options, reply: &mut Reply) {
+    reply.word("build");
+    reply.number(u64::from(options.block_size));
+    reply.bytes(&options.base)
 }
 
 /// An action that searches triples or makes a file.
-fn say_search(action: &Action, say: &mut Say) {
+fn reply_search(action: &Action, reply: &mut Reply) {
     match action {
         Action::Find { given, numbers } => {
-            say.word("find");
-            say_given(given, say);
-            say.truth(*numbers)
+            reply.word("find");
+            reply_given(given, reply);
+            reply.boolean(*numbers)
         }
-        Action::Search { given, form, most } => {
-            say.word("search");
-            say_given(given, say);
-            say.number(form_number(*form));
-            say.maybe(*most)
+        Action::Search { given, format, most } => {
+            reply.word("search");
+            reply_given(given, reply);
+            reply.number(form_number(*format));
+            reply.optional_number(*most)
         }
-        Action::Answer(asking) => say_asking(*asking, say),
-        Action::Build(options) => say_options(options, say),
+        Action::Answer(asking) => reply_asking(*asking, reply),
+        Action::Build(options) => reply_options(options, reply),
         Action::Rewrite(block_size) => {
-            say.word("rewrite");
-            say.number(u64::from(*block_size))
+            reply.word("rewrite");
+            reply.number(u64::from(*block_size))
         }
         _ => {}
     }
 }
 
 /// Any action.
-fn say_action(action: &Action, say: &mut Say) {
+fn reply_action(action: &Action, reply: &mut Reply) {
     match action {
-        Action::Head => say.word("head"),
-        Action::Verify => say.word("verify"),
-        Action::VerifyTight => say.word("verify_tight"),
+        Action::Head => reply.word("head"),
+        Action::Verify => reply.word("verify"),
+        Action::VerifyTight => reply.word("verify_tight"),
         Action::Strings(role) => {
-            say.word("strings");
-            say.number(role_number(*role))
+            reply.word("strings");
+            reply.number(role_number(*role))
         }
         Action::Nth(role, number) => {
-            say.word("nth");
-            say.number(role_number(*role));
-            say.number(*number)
+            reply.word("nth");
+            reply.number(role_number(*role));
+            reply.number(*number)
         }
         Action::Number(role, string) => {
-            say.word("number");
-            say.number(role_number(*role));
-            say.bytes(string)
+            reply.word("number");
+            reply.number(role_number(*role));
+            reply.bytes(string)
         }
-        other => say_search(other, say),
+        other => reply_search(other, reply),
     }
 }
 
 /// The path of the input file, that of the output file, and the action.
-fn say_request(request: &Request, say: &mut Say) {
-    say.bytes(request.file.as_bytes());
+fn reply_request(request: &Request, reply: &mut Reply) {
+    reply.bytes(request.file.as_bytes());
     match &request.out {
-        Some(path) => say.bytes(path.as_bytes()),
-        None => say.word("none"),
+        Some(path) => reply.bytes(path.as_bytes()),
+        None => reply.word("none"),
     }
-    say_action(&request.action, say)
+    reply_action(&request.action, reply)
 }
 
-fn say_parse_words(ask: &mut Ask<'_>, say: &mut Say) {
-    let words = ask.strings(u64::MAX);
-    let Some(texts) = texts_of(&words, ask) else {
-        return say.refused();
+fn reply_parse_words(args: &mut Args<'_>, reply: &mut Reply) {
+    let words = args.strings(u64::MAX);
+    let Some(texts) = texts_of(&words, args) else {
+        return reply.refused();
     };
-    match parse_words(ask.alloc, &texts) {
-        Ok(request) => say_request(&request, say),
-        Err(fault) => say_usage_fault(&fault, ask, say),
+    match parse_words(args.alloc, &texts) {
+        Ok(request) => reply_request(&request, reply),
+        Err(fault) => reply_usage_fault(&fault, args, reply),
     }
 }
 
-fn say_parse_all_words(ask: &mut Ask<'_>, say: &mut Say) {
-    let words = ask.strings(u64::MAX);
-    let Some(texts) = texts_of(&words, ask) else {
-        return say.refused();
+fn reply_parse_all_words(args: &mut Args<'_>, reply: &mut Reply) {
+    let words = args.strings(u64::MAX);
+    let Some(texts) = texts_of(&words, args) else {
+        return reply.refused();
     };
-    match parse_all_words(ask.alloc, &texts) {
+    match parse_invocation(args.alloc, &texts) {
         Ok(call) => {
-            say.truth(call.progress);
-            say_request(&call.request, say)
+            reply.boolean(call.progress);
+            reply_request(&call.request, reply)
         }
-        Err(fault) => say_usage_fault(&fault, ask, say),
+        Err(fault) => reply_usage_fault(&fault, args, reply),
     }
 }
 
 /// The command that the arguments name, or the text of the error.
-fn say_found(roles: &[&str], texts: &[&str], ask: &Ask<'_>, say: &mut Say) {
-    let Ok(table) = table_of(ask.alloc, roles) else {
-        return say.no_memory();
+fn reply_found(roles: &[&str], texts: &[&str], args: &Args<'_>, reply: &mut Reply) {
+    let Ok(table) = make_command_table(args.alloc, roles) else {
+        return reply.out_of_memory();
     };
     match table.try_get_matches_from(texts) {
         Ok(matches) => match matches.subcommand() {
-            Some((name, _)) => say.bytes(name.as_bytes()),
-            None => say.word("none"),
+            Some((name, _)) => reply.bytes(name.as_bytes()),
+            None => reply.word("none"),
         },
         Err(error) => {
-            say.word("error");
-            say.made(error.to_string(ask.alloc))
+            reply.word("error");
+            reply.text(error.to_string(args.alloc))
         }
     }
 }
 
-fn say_table(ask: &mut Ask<'_>, say: &mut Say) {
-    let roles = ask.list(3);
-    let words = ask.strings(u64::MAX);
-    let Some(role_texts) = texts_of(&roles, ask) else {
-        return say.refused();
+fn reply_table(args: &mut Args<'_>, reply: &mut Reply) {
+    let roles = args.exact_strings(3);
+    let words = args.strings(u64::MAX);
+    let Some(role_texts) = texts_of(&roles, args) else {
+        return reply.refused();
     };
-    let Some(texts) = texts_of(&words, ask) else {
-        return say.refused();
+    let Some(texts) = texts_of(&words, args) else {
+        return reply.refused();
     };
-    say_found(&role_texts, &texts, ask, say)
+    reply_found(&role_texts, &texts, args, reply)
 }

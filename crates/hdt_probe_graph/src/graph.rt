@@ -1,42 +1,42 @@
 //! Calls of hdt_file: look-ups and searches in graphs.
 
 use crate::open::graph_of;
-use hdt_dict::Strings;
-use hdt_probe::{Ask, Say};
+use hdt_dict::RoleCursor;
+use hdt_probe::{Args, Reply};
 use hdt_seq::Steps;
 use hdt_triples::{Matches, Pattern};
 
 /// The words of this module, each with its number of arguments.
-pub const WORDS: &str =
+pub(crate) const WORDS: &str =
     "search 3+ search_count 4+ find_strings 3 pattern 3 number_of 1+ string_of 3 strings_of 2+ uses_of 1+ strings 1";
 
 /// Answers a request with one of these words. Returns false if the word is not one of them.
-pub fn answer(word: &str, ask: &mut Ask<'_>, say: &mut Say) -> bool {
+pub(crate) fn answer(word: &str, args: &mut Args<'_>, reply: &mut Reply) -> bool {
     match word {
-        "search" => say_search(ask, say),
-        "search_count" => say_matching_up_to(ask, say),
-        "find_strings" => say_find_strings(ask, say),
-        "pattern" => say_pattern_of(ask, say),
-        "number_of" => say_number_of(ask, say),
-        "string_of" => say_string_of(ask, say),
-        "strings_of" => say_all_of(ask, say),
-        "uses_of" => say_uses_of(ask, say),
-        "strings" => say_strings_of(ask, say),
+        "search" => reply_search(args, reply),
+        "search_count" => reply_matching_up_to(args, reply),
+        "find_strings" => reply_find_strings(args, reply),
+        "pattern" => reply_pattern_of(args, reply),
+        "number_of" => reply_number_of(args, reply),
+        "string_of" => reply_string_of(args, reply),
+        "strings_of" => reply_strings_of_ids(args, reply),
+        "uses_of" => reply_uses_of(args, reply),
+        "strings" => reply_strings_of(args, reply),
         _ => return false,
     }
     true
 }
 
 /// Reads a pattern: three IDs, each of which may be `-` for any.
-pub fn pattern_of(ask: &mut Ask<'_>) -> Pattern {
-    let s = ask.maybe();
-    let p = ask.maybe();
-    let o = ask.maybe();
+pub(crate) fn pattern_of(args: &mut Args<'_>) -> Pattern {
+    let s = args.optional_number();
+    let p = args.optional_number();
+    let o = args.optional_number();
     Pattern { s, p, o }
 }
 
 /// The number of items.
-pub fn count(mut matches: Matches<'_>) -> u64 {
+pub(crate) fn count(mut matches: Matches<'_>) -> u64 {
     let mut count = 0_u64;
     for _ in 0..u64::MAX {
         if matches.next().is_none() {
@@ -48,167 +48,167 @@ pub fn count(mut matches: Matches<'_>) -> u64 {
 }
 
 /// Appends all items, and `again` if the iterator returns one after its end.
-pub fn say_items(mut matches: Matches<'_>, say: &mut Say) {
+pub(crate) fn reply_items(mut matches: Matches<'_>, reply: &mut Reply) {
     for _ in 0..u64::MAX {
         match matches.next() {
-            Some(triple) => say.triple(triple),
+            Some(triple) => reply.triple(triple),
             None => break,
         }
     }
     if matches.next().is_some() || matches.next().is_some() {
-        say.word("again");
+        reply.word("again");
     }
 }
 
 /// For each pattern: the number of matches by counting, that by searching, and the matches.
-fn say_search(ask: &mut Ask<'_>, say: &mut Say) {
-    let Some(graph) = graph_of(ask, say) else {
+fn reply_search(args: &mut Args<'_>, reply: &mut Reply) {
+    let Some(graph) = graph_of(args, reply) else {
         return;
     };
     for _ in 0..u64::MAX {
-        let pattern = pattern_of(ask);
-        say.number(graph.matching(pattern, &mut Steps::new()));
-        say.number(count(graph.search(pattern)));
-        say_items(graph.search(pattern), say);
-        if !ask.more() {
+        let pattern = pattern_of(args);
+        reply.number(graph.matching(pattern, &mut Steps::new()));
+        reply.number(count(graph.search(pattern)));
+        reply_items(graph.search(pattern), reply);
+        if !args.has_more() {
             break;
         }
     }
 }
 
 /// For each pattern: the number of matches, counted up to a limit.
-fn say_matching_up_to(ask: &mut Ask<'_>, say: &mut Say) {
-    let Some(graph) = graph_of(ask, say) else {
+fn reply_matching_up_to(args: &mut Args<'_>, reply: &mut Reply) {
+    let Some(graph) = graph_of(args, reply) else {
         return;
     };
-    let most = ask.number();
+    let most = args.number();
     for _ in 0..u64::MAX {
-        say.number(graph.matching_up_to(pattern_of(ask), most, &mut Steps::new()));
-        if !ask.more() {
+        reply.number(graph.matching_up_to(pattern_of(args), most, &mut Steps::new()));
+        if !args.has_more() {
             break;
         }
     }
 }
 
-fn say_find_strings(ask: &mut Ask<'_>, say: &mut Say) {
-    let Some(graph) = graph_of(ask, say) else {
+fn reply_find_strings(args: &mut Args<'_>, reply: &mut Reply) {
+    let Some(graph) = graph_of(args, reply) else {
         return;
     };
-    let s = ask.maybe_bytes();
-    let p = ask.maybe_bytes();
-    let o = ask.maybe_bytes();
+    let s = args.optional_bytes();
+    let p = args.optional_bytes();
+    let o = args.optional_bytes();
     let given = [s.as_deref(), p.as_deref(), o.as_deref()];
-    say.number(count(graph.find(given, &mut Steps::new())));
-    say_items(graph.find(given, &mut Steps::new()), say)
+    reply.number(count(graph.find(given, &mut Steps::new())));
+    reply_items(graph.find(given, &mut Steps::new()), reply)
 }
 
 /// An ID of a pattern, or `-` for any.
-fn say_part(part: Option<u64>, say: &mut Say) {
+fn reply_part(part: Option<u64>, reply: &mut Reply) {
     match part {
-        Some(number) => say.number(number),
-        None => say.word("-"),
+        Some(number) => reply.number(number),
+        None => reply.word("-"),
     }
 }
 
 /// Appends a pattern, or `none`.
-pub fn say_pattern(pattern: Option<Pattern>, say: &mut Say) {
+pub(crate) fn reply_pattern(pattern: Option<Pattern>, reply: &mut Reply) {
     match pattern {
         Some(pattern) => {
-            say_part(pattern.s, say);
-            say_part(pattern.p, say);
-            say_part(pattern.o, say)
+            reply_part(pattern.s, reply);
+            reply_part(pattern.p, reply);
+            reply_part(pattern.o, reply)
         }
-        None => say.word("none"),
+        None => reply.word("none"),
     }
 }
 
-fn say_pattern_of(ask: &mut Ask<'_>, say: &mut Say) {
-    let Some(graph) = graph_of(ask, say) else {
+fn reply_pattern_of(args: &mut Args<'_>, reply: &mut Reply) {
+    let Some(graph) = graph_of(args, reply) else {
         return;
     };
-    let s = ask.maybe_bytes();
-    let p = ask.maybe_bytes();
-    let o = ask.maybe_bytes();
+    let s = args.optional_bytes();
+    let p = args.optional_bytes();
+    let o = args.optional_bytes();
     let given = [s.as_deref(), p.as_deref(), o.as_deref()];
-    say_pattern(graph.pattern(given, &mut Steps::new()), say)
+    reply_pattern(graph.pattern(given, &mut Steps::new()), reply)
 }
 
-fn say_number_of(ask: &mut Ask<'_>, say: &mut Say) {
-    let Some(graph) = graph_of(ask, say) else {
+fn reply_number_of(args: &mut Args<'_>, reply: &mut Reply) {
+    let Some(graph) = graph_of(args, reply) else {
         return;
     };
-    let role = ask.role();
-    for string in &ask.strings(u64::MAX) {
-        say.maybe(graph.number_of(role, string, &mut Steps::new()));
+    let role = args.role();
+    for string in &args.strings(u64::MAX) {
+        reply.optional_number(graph.number_of(role, string, &mut Steps::new()));
     }
 }
 
 /// Whether there is such a string, the buffer after the call, and whether a triple uses the string.
-fn say_string_of(ask: &mut Ask<'_>, say: &mut Say) {
-    let Some(graph) = graph_of(ask, say) else {
+fn reply_string_of(args: &mut Args<'_>, reply: &mut Reply) {
+    let Some(graph) = graph_of(args, reply) else {
         return;
     };
-    let role = ask.role();
-    let number = ask.number();
-    let mut string = ask.bytes();
+    let role = args.role();
+    let number = args.number();
+    let mut string = args.bytes();
     match graph.string_of(role, number, &mut string, &mut Steps::new()) {
-        Ok(is_there) => say.truth(is_there),
-        Err(_) => say.no_memory(),
+        Ok(is_there) => reply.boolean(is_there),
+        Err(_) => reply.out_of_memory(),
     }
-    say.bytes(&string);
-    say.truth(graph.uses(role, number, &mut Steps::new()))
+    reply.bytes(&string);
+    reply.boolean(graph.uses(role, number, &mut Steps::new()))
 }
 
 /// Whether all these strings exist, the buffer after the call, and the end of the bytes before and of each string.
-fn say_all_of(ask: &mut Ask<'_>, say: &mut Say) {
-    let Some(graph) = graph_of(ask, say) else {
+fn reply_strings_of_ids(args: &mut Args<'_>, reply: &mut Reply) {
+    let Some(graph) = graph_of(args, reply) else {
         return;
     };
-    let role = ask.role();
-    let mut bytes = ask.bytes();
-    let numbers = ask.numbers();
-    let mut ends = Vec::new(ask.alloc);
+    let role = args.role();
+    let mut bytes = args.bytes();
+    let numbers = args.numbers();
+    let mut ends = Vec::new(args.alloc);
     if ends.push(bytes.len() as u64).is_err() {
-        return say.no_memory();
+        return reply.out_of_memory();
     }
     let steps = &mut Steps::new();
-    match graph.strings_of(ask.alloc, role, &numbers, &mut bytes, &mut ends, steps) {
-        Ok(are_there) => say.truth(are_there),
-        Err(_) => say.no_memory(),
+    match graph.strings_of(args.alloc, role, &numbers, &mut bytes, &mut ends, steps) {
+        Ok(are_there) => reply.boolean(are_there),
+        Err(_) => reply.out_of_memory(),
     }
-    say.bytes(&bytes);
+    reply.bytes(&bytes);
     for end in &ends {
-        say.number(*end);
+        reply.number(*end);
     }
 }
 
 /// For each ID of a role, whether a triple has it.
-fn say_uses_of(ask: &mut Ask<'_>, say: &mut Say) {
-    let Some(graph) = graph_of(ask, say) else {
+fn reply_uses_of(args: &mut Args<'_>, reply: &mut Reply) {
+    let Some(graph) = graph_of(args, reply) else {
         return;
     };
-    let role = ask.role();
-    for number in &ask.numbers() {
-        say.truth(graph.uses(role, *number, &mut Steps::new()));
+    let role = args.role();
+    for number in &args.numbers() {
+        reply.boolean(graph.uses(role, *number, &mut Steps::new()));
     }
 }
 
 /// The strings of an iteration in order, each after its ID.
-pub fn say_strings(mut strings: Strings<'_>, say: &mut Say) {
+pub(crate) fn reply_strings(mut strings: RoleCursor<'_>, reply: &mut Reply) {
     for _ in 0..u64::MAX {
         match strings.next() {
             Ok(Some(number)) => {
-                say.number(number);
-                say.bytes(strings.last());
+                reply.number(number);
+                reply.bytes(strings.last());
             }
             Ok(None) => return,
-            Err(_) => return say.no_memory(),
+            Err(_) => return reply.out_of_memory(),
         }
     }
 }
 
-fn say_strings_of(ask: &mut Ask<'_>, say: &mut Say) {
-    if let Some(graph) = graph_of(ask, say) {
-        say_strings(graph.strings(ask.alloc, ask.role()), say)
+fn reply_strings_of(args: &mut Args<'_>, reply: &mut Reply) {
+    if let Some(graph) = graph_of(args, reply) {
+        reply_strings(graph.strings(args.alloc, args.role()), reply)
     }
 }

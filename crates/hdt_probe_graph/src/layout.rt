@@ -1,128 +1,128 @@
 //! Calls of hdt_file: look-ups and searches in layouts, read by themselves or taken from a graph.
 
-use crate::graph::{count, pattern_of, say_items, say_pattern, say_strings};
+use crate::graph::{count, pattern_of, reply_items, reply_pattern, reply_strings};
 use crate::open::{graph_of, layout_of};
 use hdt_file::Layout;
-use hdt_probe::{Ask, Say};
+use hdt_probe::{Args, Reply};
 use hdt_seq::Steps;
 
 /// The words of this module, each with its number of arguments.
-pub const WORDS: &str =
+pub(crate) const WORDS: &str =
     "layout_search 3+ graph_layout_search 3+ layout_search_count 4+ graph_layout_search_count 4+ layout_pattern 3 graph_layout_pattern 3 layout_number_of 1+ layout_string_of 3 layout_strings 1";
 
 /// Answers a request with one of these words. Returns false if the word is not one of them.
-pub fn answer(word: &str, ask: &mut Ask<'_>, say: &mut Say) -> bool {
+pub(crate) fn answer(word: &str, args: &mut Args<'_>, reply: &mut Reply) -> bool {
     match word {
-        "layout_search" => say_layout_search(ask, say),
-        "graph_layout_search" => say_graph_layout_search(ask, say),
-        "layout_search_count" => say_layout_matching_up_to(ask, say),
-        "graph_layout_search_count" => say_graph_layout_matching_up_to(ask, say),
-        "layout_pattern" => say_layout_pattern(ask, say),
-        "graph_layout_pattern" => say_graph_layout_pattern(ask, say),
-        "layout_number_of" => say_number_of(ask, say),
-        "layout_string_of" => say_string_of(ask, say),
-        "layout_strings" => say_strings_of(ask, say),
+        "layout_search" => reply_layout_search(args, reply),
+        "graph_layout_search" => reply_graph_layout_search(args, reply),
+        "layout_search_count" => reply_layout_matching_up_to(args, reply),
+        "graph_layout_search_count" => reply_graph_layout_matching_up_to(args, reply),
+        "layout_pattern" => reply_layout_pattern(args, reply),
+        "graph_layout_pattern" => reply_graph_layout_pattern(args, reply),
+        "layout_number_of" => reply_number_of(args, reply),
+        "layout_string_of" => reply_string_of(args, reply),
+        "layout_strings" => reply_strings_of(args, reply),
         _ => return false,
     }
     true
 }
 
 /// For each pattern: the number of matches by counting, that by searching, and the matches.
-fn say_search(layout: &Layout<'_>, ask: &mut Ask<'_>, say: &mut Say) {
+fn reply_search(layout: &Layout<'_>, args: &mut Args<'_>, reply: &mut Reply) {
     for _ in 0..u64::MAX {
-        let pattern = pattern_of(ask);
-        say.number(layout.matching(pattern, &mut Steps::new()));
-        say.number(count(layout.search(pattern)));
-        say_items(layout.search(pattern), say);
-        if !ask.more() {
+        let pattern = pattern_of(args);
+        reply.number(layout.matching(pattern, &mut Steps::new()));
+        reply.number(count(layout.search(pattern)));
+        reply_items(layout.search(pattern), reply);
+        if !args.has_more() {
             break;
         }
     }
 }
 
-fn say_layout_search(ask: &mut Ask<'_>, say: &mut Say) {
-    if let Some(layout) = layout_of(ask, say) {
-        say_search(&layout, ask, say)
+fn reply_layout_search(args: &mut Args<'_>, reply: &mut Reply) {
+    if let Some(layout) = layout_of(args, reply) {
+        reply_search(&layout, args, reply)
     }
 }
 
-fn say_graph_layout_search(ask: &mut Ask<'_>, say: &mut Say) {
-    if let Some(graph) = graph_of(ask, say) {
-        say_search(&graph.layout(), ask, say)
+fn reply_graph_layout_search(args: &mut Args<'_>, reply: &mut Reply) {
+    if let Some(graph) = graph_of(args, reply) {
+        reply_search(&graph.layout(), args, reply)
     }
 }
 
 /// For each pattern: the number of matches, counted up to a limit.
-fn say_matching_up_to(layout: &Layout<'_>, ask: &mut Ask<'_>, say: &mut Say) {
-    let most = ask.number();
+fn reply_matching_up_to(layout: &Layout<'_>, args: &mut Args<'_>, reply: &mut Reply) {
+    let most = args.number();
     for _ in 0..u64::MAX {
-        say.number(layout.matching_up_to(pattern_of(ask), most, &mut Steps::new()));
-        if !ask.more() {
+        reply.number(layout.matching_up_to(pattern_of(args), most, &mut Steps::new()));
+        if !args.has_more() {
             break;
         }
     }
 }
 
-fn say_layout_matching_up_to(ask: &mut Ask<'_>, say: &mut Say) {
-    if let Some(layout) = layout_of(ask, say) {
-        say_matching_up_to(&layout, ask, say)
+fn reply_layout_matching_up_to(args: &mut Args<'_>, reply: &mut Reply) {
+    if let Some(layout) = layout_of(args, reply) {
+        reply_matching_up_to(&layout, args, reply)
     }
 }
 
-fn say_graph_layout_matching_up_to(ask: &mut Ask<'_>, say: &mut Say) {
-    if let Some(graph) = graph_of(ask, say) {
-        say_matching_up_to(&graph.layout(), ask, say)
+fn reply_graph_layout_matching_up_to(args: &mut Args<'_>, reply: &mut Reply) {
+    if let Some(graph) = graph_of(args, reply) {
+        reply_matching_up_to(&graph.layout(), args, reply)
     }
 }
 
 /// The pattern of three strings, each of which may be `-` for any.
-fn say_pattern_of(layout: &Layout<'_>, ask: &mut Ask<'_>, say: &mut Say) {
-    let s = ask.maybe_bytes();
-    let p = ask.maybe_bytes();
-    let o = ask.maybe_bytes();
+fn reply_pattern_of(layout: &Layout<'_>, args: &mut Args<'_>, reply: &mut Reply) {
+    let s = args.optional_bytes();
+    let p = args.optional_bytes();
+    let o = args.optional_bytes();
     let given = [s.as_deref(), p.as_deref(), o.as_deref()];
-    say_pattern(layout.pattern(given, &mut Steps::new()), say)
+    reply_pattern(layout.pattern(given, &mut Steps::new()), reply)
 }
 
-fn say_layout_pattern(ask: &mut Ask<'_>, say: &mut Say) {
-    if let Some(layout) = layout_of(ask, say) {
-        say_pattern_of(&layout, ask, say)
+fn reply_layout_pattern(args: &mut Args<'_>, reply: &mut Reply) {
+    if let Some(layout) = layout_of(args, reply) {
+        reply_pattern_of(&layout, args, reply)
     }
 }
 
-fn say_graph_layout_pattern(ask: &mut Ask<'_>, say: &mut Say) {
-    if let Some(graph) = graph_of(ask, say) {
-        say_pattern_of(&graph.layout(), ask, say)
+fn reply_graph_layout_pattern(args: &mut Args<'_>, reply: &mut Reply) {
+    if let Some(graph) = graph_of(args, reply) {
+        reply_pattern_of(&graph.layout(), args, reply)
     }
 }
 
-fn say_number_of(ask: &mut Ask<'_>, say: &mut Say) {
-    let Some(layout) = layout_of(ask, say) else {
+fn reply_number_of(args: &mut Args<'_>, reply: &mut Reply) {
+    let Some(layout) = layout_of(args, reply) else {
         return;
     };
-    let role = ask.role();
-    for string in &ask.strings(u64::MAX) {
-        say.maybe(layout.number_of(role, string, &mut Steps::new()));
+    let role = args.role();
+    for string in &args.strings(u64::MAX) {
+        reply.optional_number(layout.number_of(role, string, &mut Steps::new()));
     }
 }
 
 /// Whether there is such a string, and the buffer after the call.
-fn say_string_of(ask: &mut Ask<'_>, say: &mut Say) {
-    let Some(layout) = layout_of(ask, say) else {
+fn reply_string_of(args: &mut Args<'_>, reply: &mut Reply) {
+    let Some(layout) = layout_of(args, reply) else {
         return;
     };
-    let role = ask.role();
-    let number = ask.number();
-    let mut string = ask.bytes();
+    let role = args.role();
+    let number = args.number();
+    let mut string = args.bytes();
     match layout.string_of(role, number, &mut string, &mut Steps::new()) {
-        Ok(is_there) => say.truth(is_there),
-        Err(_) => say.no_memory(),
+        Ok(is_there) => reply.boolean(is_there),
+        Err(_) => reply.out_of_memory(),
     }
-    say.bytes(&string)
+    reply.bytes(&string)
 }
 
-fn say_strings_of(ask: &mut Ask<'_>, say: &mut Say) {
-    if let Some(layout) = layout_of(ask, say) {
-        say_strings(layout.strings(ask.alloc, ask.role()), say)
+fn reply_strings_of(args: &mut Args<'_>, reply: &mut Reply) {
+    if let Some(layout) = layout_of(args, reply) {
+        reply_strings(layout.strings(args.alloc, args.role()), reply)
     }
 }

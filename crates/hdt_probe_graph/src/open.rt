@@ -1,146 +1,146 @@
 //! Calls of hdt_file: reading files.
 
-use crate::faults::say_open_fault;
+use crate::faults::reply_open_fault;
 use hdt_dict::Role;
 use hdt_file::{Graph, Layout, open, open_tight, read_dictionary, read_head, verify, verify_tight};
-use hdt_probe::{Ask, Say};
+use hdt_probe::{Args, Reply};
 use hdt_wire::Control;
 
 /// The words of this module, each with its number of arguments.
-pub const WORDS: &str =
+pub(crate) const WORDS: &str =
     "head 0 read_dictionary 0 open 0 open_tight 0 verify 0 verify_tight 0 graph 0 layout 0";
 
 /// Answers a request with one of these words. Returns false if the word is not one of them.
-pub fn answer(word: &str, ask: &mut Ask<'_>, say: &mut Say) -> bool {
+pub(crate) fn answer(word: &str, args: &mut Args<'_>, reply: &mut Reply) -> bool {
     match word {
-        "head" => say_head(ask, say),
-        "read_dictionary" => say_read_dictionary(ask, say),
-        "open" => say_open(ask, say),
-        "open_tight" => say_open_tight(ask, say),
-        "verify" => say_verify(ask, say),
-        "verify_tight" => say_verify_tight(ask, say),
-        "graph" => say_graph(ask, say),
-        "layout" => say_layout(ask, say),
+        "head" => reply_head(args, reply),
+        "read_dictionary" => reply_read_dictionary(args, reply),
+        "open" => reply_open(args, reply),
+        "open_tight" => reply_open_tight(args, reply),
+        "verify" => reply_verify(args, reply),
+        "verify_tight" => reply_verify_tight(args, reply),
+        "graph" => reply_graph(args, reply),
+        "layout" => reply_layout(args, reply),
         _ => return false,
     }
     true
 }
 
-fn say_control(block: Control<'_>, say: &mut Say) {
-    say.bytes(block.format());
-    say.bytes(block.properties());
-    say.size(block.properties_at());
-    say.size(block.end())
+fn reply_control(block: Control<'_>, reply: &mut Reply) {
+    reply.bytes(block.format());
+    reply.bytes(block.properties());
+    reply.size(block.properties_at());
+    reply.size(block.end())
 }
 
 /// The global and the header's control information, the header body, and the offset after the head.
-fn say_head(ask: &mut Ask<'_>, say: &mut Say) {
-    match read_head(ask.file) {
+fn reply_head(args: &mut Args<'_>, reply: &mut Reply) {
+    match read_head(args.file) {
         Ok(head) => {
             let copy = head;
-            say_control(head.global(), say);
-            say_control(copy.header(), say);
-            say.bytes(head.body());
-            say.size(copy.end())
+            reply_control(head.global(), reply);
+            reply_control(copy.header(), reply);
+            reply.bytes(head.body());
+            reply.size(copy.end())
         }
-        Err(fault) => say.fault(fault),
+        Err(fault) => reply.fault(fault),
     }
 }
 
 /// The offset after the head, the numbers of strings of the sections, and the offset after the dictionary.
-fn say_read_dictionary(ask: &mut Ask<'_>, say: &mut Say) {
-    match read_dictionary(ask.alloc, ask.file) {
+fn reply_read_dictionary(args: &mut Args<'_>, reply: &mut Reply) {
+    match read_dictionary(args.alloc, args.file) {
         Ok((head, dictionary, end)) => {
-            say.size(head.end());
-            say_lens(&dictionary.section_lens(), say);
-            say.size(end)
+            reply.size(head.end());
+            reply_lens(&dictionary.section_lens(), reply);
+            reply.size(end)
         }
-        Err(fault) => say_open_fault(fault, say),
+        Err(fault) => reply_open_fault(fault, reply),
     }
 }
 
 /// Appends lengths.
-fn say_lens(lens: &[u64], say: &mut Say) {
+fn reply_lens(lens: &[u64], reply: &mut Reply) {
     for len in lens {
-        say.number(*len);
+        reply.number(*len);
     }
 }
 
 /// Opens the input as a graph, or reports its error.
-pub fn graph_of<'a>(ask: &Ask<'a>, say: &mut Say) -> Option<Graph<'a>> {
-    match open(ask.alloc, ask.file) {
+pub(crate) fn graph_of<'a>(args: &Args<'a>, reply: &mut Reply) -> Option<Graph<'a>> {
+    match open(args.alloc, args.file) {
         Ok(graph) => Some(graph),
         Err(fault) => {
-            say_open_fault(fault, say);
+            reply_open_fault(fault, reply);
             None
         }
     }
 }
 
 /// Opens the input as a layout, or reports its error.
-pub fn layout_of<'a>(ask: &Ask<'a>, say: &mut Say) -> Option<Layout<'a>> {
-    match Layout::read(ask.alloc, ask.file) {
+pub(crate) fn layout_of<'a>(args: &Args<'a>, reply: &mut Reply) -> Option<Layout<'a>> {
+    match Layout::read(args.alloc, args.file) {
         Ok(layout) => Some(layout),
         Err(fault) => {
-            say_open_fault(fault, say);
+            reply_open_fault(fault, reply);
             None
         }
     }
 }
 
 /// The number of triples, the numbers of strings of the sections, and how many numbers the graph keeps.
-fn say_numbers(graph: &Graph<'_>, say: &mut Say) {
-    say.number(graph.len());
-    say_lens(&graph.section_lens(), say);
-    say.maybe(u64::try_from(graph.held()).ok())
+fn reply_numbers(graph: &Graph<'_>, reply: &mut Reply) {
+    reply.number(graph.len());
+    reply_lens(&graph.section_lens(), reply);
+    reply.optional_number(u64::try_from(graph.held()).ok())
 }
 
-fn say_open(ask: &mut Ask<'_>, say: &mut Say) {
-    if let Some(graph) = graph_of(ask, say) {
-        say_numbers(&graph, say)
+fn reply_open(args: &mut Args<'_>, reply: &mut Reply) {
+    if let Some(graph) = graph_of(args, reply) {
+        reply_numbers(&graph, reply)
     }
 }
 
-fn say_open_tight(ask: &mut Ask<'_>, say: &mut Say) {
-    match open_tight(ask.alloc, ask.file) {
-        Ok(graph) => say_numbers(&graph, say),
-        Err(fault) => say_open_fault(fault, say),
+fn reply_open_tight(args: &mut Args<'_>, reply: &mut Reply) {
+    match open_tight(args.alloc, args.file) {
+        Ok(graph) => reply_numbers(&graph, reply),
+        Err(fault) => reply_open_fault(fault, reply),
     }
 }
 
-fn say_verify(ask: &mut Ask<'_>, say: &mut Say) {
-    match verify(ask.alloc, ask.file) {
-        Ok(lens) => say_lens(&lens, say),
-        Err(fault) => say_open_fault(fault, say),
+fn reply_verify(args: &mut Args<'_>, reply: &mut Reply) {
+    match verify(args.alloc, args.file) {
+        Ok(lens) => reply_lens(&lens, reply),
+        Err(fault) => reply_open_fault(fault, reply),
     }
 }
 
-fn say_verify_tight(ask: &mut Ask<'_>, say: &mut Say) {
-    match verify_tight(ask.alloc, ask.file) {
-        Ok(lens) => say_lens(&lens, say),
-        Err(fault) => say_open_fault(fault, say),
+fn reply_verify_tight(args: &mut Args<'_>, reply: &mut Reply) {
+    match verify_tight(args.alloc, args.file) {
+        Ok(lens) => reply_lens(&lens, reply),
+        Err(fault) => reply_open_fault(fault, reply),
     }
 }
 
 /// The header body, the counts of the roles, and the lengths of the graph's layout.
-fn say_graph(ask: &mut Ask<'_>, say: &mut Say) {
-    if let Some(graph) = graph_of(ask, say) {
-        say.bytes(graph.header());
-        say.number(graph.count(Role::Subject));
-        say.number(graph.count(Role::Predicate));
-        say.number(graph.count(Role::Object));
-        say_lens(&graph.layout().lens(), say)
+fn reply_graph(args: &mut Args<'_>, reply: &mut Reply) {
+    if let Some(graph) = graph_of(args, reply) {
+        reply.bytes(graph.header());
+        reply.number(graph.count(Role::Subject));
+        reply.number(graph.count(Role::Predicate));
+        reply.number(graph.count(Role::Object));
+        reply_lens(&graph.layout().lens(), reply)
     }
 }
 
 /// The lengths, the header body, and the counts of the roles.
-fn say_layout(ask: &mut Ask<'_>, say: &mut Say) {
-    if let Some(layout) = layout_of(ask, say) {
+fn reply_layout(args: &mut Args<'_>, reply: &mut Reply) {
+    if let Some(layout) = layout_of(args, reply) {
         let copy = layout;
-        say_lens(&layout.lens(), say);
-        say.bytes(copy.header());
-        say.number(layout.count(Role::Subject));
-        say.number(layout.count(Role::Predicate));
-        say.number(copy.count(Role::Object))
+        reply_lens(&layout.lens(), reply);
+        reply.bytes(copy.header());
+        reply.number(layout.count(Role::Subject));
+        reply.number(layout.count(Role::Predicate));
+        reply.number(copy.count(Role::Object))
     }
 }

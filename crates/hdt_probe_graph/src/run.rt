@@ -1,262 +1,262 @@
 //! Calls of hdt_command: running commands, and what they print.
 
-use crate::command::{say_usage_fault, texts_of};
-use crate::faults::{line_reason_of, say_line_fault};
+use crate::command::{reply_usage_fault, texts_of};
+use crate::faults::{line_reason_of, reply_line_fault};
 use crate::open::graph_of;
 use hdt_command::{
-    Asking, Form, Request, ToolFault, UsageFault, Word, answer_file, answer_requests, fault_line,
-    parse_words, run, run_in, usage_line,
+    AnswerOptions, OutputFormat, Request, ToolFault, UsageFault, TermArgument, answer_file, answer_requests, fault_line,
+    parse_words, run, run_with_capacity, usage_line,
 };
-use hdt_probe::{Ask, Say};
+use hdt_probe::{Args, Reply};
 use hdt_terms::{LineFault, TermFault};
 use hdt_wire::Fault;
 use std::alloc::AllocError;
 
 /// The words of this module, each with its number of arguments.
-pub const WORDS: &str =
+pub(crate) const WORDS: &str =
     "run 4+ run_in 5+ run_made 5+ answer_requests 8 answer_file 11 fault_line 1+ usage_line 1+";
 
 /// Answers a request with one of these words. Returns false if the word is not one of them.
-pub fn answer(word: &str, ask: &mut Ask<'_>, say: &mut Say) -> bool {
+pub(crate) fn answer(word: &str, args: &mut Args<'_>, reply: &mut Reply) -> bool {
     match word {
-        "run" => say_run(ask, say),
-        "run_in" => say_run_in(ask, say),
-        "run_made" => say_run_made(ask, say),
-        "answer_requests" => say_answer_requests(ask, say),
-        "answer_file" => say_answer_file(ask, say),
-        "fault_line" => say_fault_line(ask, say),
-        "usage_line" => say_usage_line(ask, say),
+        "run" => reply_run(args, reply),
+        "run_in" => reply_run_in(args, reply),
+        "run_made" => reply_run_made(args, reply),
+        "answer_requests" => reply_answer_requests(args, reply),
+        "answer_file" => reply_answer_file(args, reply),
+        "fault_line" => reply_fault_line(args, reply),
+        "usage_line" => reply_usage_line(args, reply),
         _ => return false,
     }
     true
 }
 
 /// Reports the error of a command.
-fn say_tool_fault(fault: ToolFault, say: &mut Say) {
+fn reply_tool_fault(fault: ToolFault, reply: &mut Reply) {
     match fault {
-        ToolFault::File(fault) => say.fault(fault),
-        ToolFault::Input(fault) => say_line_fault(fault, say),
-        ToolFault::NoTriples => say.stop("no triples"),
-        ToolFault::NoSuchTerm => say.stop("no such term"),
-        ToolFault::NoSuchNumber => say.stop("no such number"),
-        ToolFault::NotATerm(role, number) => say.not_a_term(role, number),
-        ToolFault::BadOptions => say.stop("bad options"),
-        ToolFault::Read => say.stop("reading failed"),
-        ToolFault::Write(count) => say.written(count),
-        ToolFault::OutOfMemory => say.no_memory(),
+        ToolFault::File(fault) => reply.fault(fault),
+        ToolFault::Input(fault) => reply_line_fault(fault, reply),
+        ToolFault::NoTriples => reply.error("no triples"),
+        ToolFault::NoSuchTerm => reply.error("no such term"),
+        ToolFault::NoSuchNumber => reply.error("no such number"),
+        ToolFault::NotATerm(role, number) => reply.not_a_term(role, number),
+        ToolFault::BadOptions => reply.error("bad options"),
+        ToolFault::Read => reply.error("reading failed"),
+        ToolFault::Write(count) => reply.write_failed(count),
+        ToolFault::OutOfMemory => reply.out_of_memory(),
     }
 }
 
 /// Parses the remaining arguments, those of a command line; or reports why they give no request.
-fn request_of(ask: &mut Ask<'_>, say: &mut Say) -> Option<Request> {
-    let words = ask.strings(u64::MAX);
-    let Some(texts) = texts_of(&words, ask) else {
-        say.refused();
+fn request_of(args: &mut Args<'_>, reply: &mut Reply) -> Option<Request> {
+    let words = args.strings(u64::MAX);
+    let Some(texts) = texts_of(&words, args) else {
+        reply.refused();
         return None;
     };
-    match parse_words(ask.alloc, &texts) {
+    match parse_words(args.alloc, &texts) {
         Ok(request) => Some(request),
         Err(fault) => {
-            say_usage_fault(&fault, ask, say);
+            reply_usage_fault(&fault, args, reply);
             None
         }
     }
 }
 
 /// The bytes that the writer took and the bytes that were made, after the error if there is one.
-fn say_ran(ask: &mut Ask<'_>, say: &mut Say, mut made: Vec<u8>) {
-    let mut input = ask.source(ask.file);
-    let mut out = ask.sink();
-    let Some(request) = request_of(ask, say) else {
+fn reply_run_outcome(args: &mut Args<'_>, reply: &mut Reply, mut made: Vec<u8>) {
+    let mut input = args.source(args.file);
+    let mut out = args.sink();
+    let Some(request) = request_of(args, reply) else {
         return;
     };
-    if let Err(fault) = run(ask.alloc, &request, &mut input, &mut out, &mut made) {
-        say_tool_fault(fault, say);
+    if let Err(fault) = run(args.alloc, &request, &mut input, &mut out, &mut made) {
+        reply_tool_fault(fault, reply);
     }
-    let _left = say.read(input);
-    say.wrote(out);
-    say.bytes(&made)
+    let _left = reply.finish_reader(input);
+    reply.finish_writer(out);
+    reply.bytes(&made)
 }
 
-fn say_run(ask: &mut Ask<'_>, say: &mut Say) {
-    say_ran(ask, say, Vec::new(ask.alloc))
+fn reply_run(args: &mut Args<'_>, reply: &mut Reply) {
+    reply_run_outcome(args, reply, Vec::new(args.alloc))
 }
 
-fn say_run_made(ask: &mut Ask<'_>, say: &mut Say) {
-    let made = ask.bytes();
-    say_ran(ask, say, made)
+fn reply_run_made(args: &mut Args<'_>, reply: &mut Reply) {
+    let made = args.bytes();
+    reply_run_outcome(args, reply, made)
 }
 
-fn say_run_in(ask: &mut Ask<'_>, say: &mut Say) {
-    let room = ask.size();
-    let mut input = ask.source(ask.file);
-    let mut out = ask.sink();
-    let mut made = Vec::new(ask.alloc);
-    let Some(request) = request_of(ask, say) else {
+fn reply_run_in(args: &mut Args<'_>, reply: &mut Reply) {
+    let capacity = args.size();
+    let mut input = args.source(args.file);
+    let mut out = args.sink();
+    let mut made = Vec::new(args.alloc);
+    let Some(request) = request_of(args, reply) else {
         return;
     };
-    if let Err(fault) = run_in(ask.alloc, &request, &mut input, room, &mut out, &mut made) {
-        say_tool_fault(fault, say);
+    if let Err(fault) = run_with_capacity(args.alloc, &request, &mut input, capacity, &mut out, &mut made) {
+        reply_tool_fault(fault, reply);
     }
-    let _left = say.read(input);
-    say.wrote(out);
-    say.bytes(&made)
+    let _left = reply.finish_reader(input);
+    reply.finish_writer(out);
+    reply.bytes(&made)
 }
 
 /// Reads the options of `answer`.
-fn asking_of(ask: &mut Ask<'_>) -> Asking {
-    let form = match ask.number() {
-        0 => Form::Lines,
-        1 => Form::Numbers,
-        2 => Form::Count,
+fn asking_of(args: &mut Args<'_>) -> AnswerOptions {
+    let format = match args.number() {
+        0 => OutputFormat::NTriples,
+        1 => OutputFormat::Numbers,
+        2 => OutputFormat::Count,
         _ => {
-            ask.wrong();
-            Form::Lines
+            args.note_usage_error();
+            OutputFormat::NTriples
         }
     };
-    Asking {
-        form,
-        most: ask.maybe(),
-        raw: ask.truth(),
-        longest: ask.number32(),
+    AnswerOptions {
+        format,
+        most: args.optional_number(),
+        raw: args.boolean(),
+        longest: args.number32(),
     }
 }
 
 /// Whether an answer is an error, or the error that ended the call.
-fn say_answered(answered: Result<bool, ToolFault>, say: &mut Say) {
+fn reply_answered(answered: Result<bool, ToolFault>, reply: &mut Reply) {
     match answered {
-        Ok(is_faulty) => say.truth(is_faulty),
-        Err(fault) => say_tool_fault(fault, say),
+        Ok(is_faulty) => reply.boolean(is_faulty),
+        Err(fault) => reply_tool_fault(fault, reply),
     }
 }
 
-fn say_answer_requests(ask: &mut Ask<'_>, say: &mut Say) {
-    let Some(graph) = graph_of(ask, say) else {
+fn reply_answer_requests(args: &mut Args<'_>, reply: &mut Reply) {
+    let Some(graph) = graph_of(args, reply) else {
         return;
     };
-    let asking = asking_of(ask);
-    let pieces = ask.pieces();
-    let mut out = ask.sink();
-    let requests = ask.bytes();
-    let mut input = pieces.source(&requests);
-    let answered = answer_requests(ask.alloc, &graph, asking, &mut input, &mut out);
-    say_answered(answered, say);
-    let _left = say.read(input);
-    say.wrote(out)
+    let asking = asking_of(args);
+    let plan = args.read_plan();
+    let mut out = args.sink();
+    let requests = args.bytes();
+    let mut input = plan.source(&requests);
+    let answered = answer_requests(args.alloc, &graph, asking, &mut input, &mut out);
+    reply_answered(answered, reply);
+    let _left = reply.finish_reader(input);
+    reply.finish_writer(out)
 }
 
-fn say_answer_file(ask: &mut Ask<'_>, say: &mut Say) {
-    let asking = asking_of(ask);
-    let room = ask.size();
-    let mut file = ask.source(ask.file);
-    let pieces = ask.pieces();
-    let mut out = ask.sink();
-    let requests = ask.bytes();
-    let mut input = pieces.source(&requests);
-    let answered = answer_file(ask.alloc, asking, &mut file, room, &mut input, &mut out);
-    say_answered(answered, say);
-    let _left = say.read(input);
-    say.wrote(out)
+fn reply_answer_file(args: &mut Args<'_>, reply: &mut Reply) {
+    let asking = asking_of(args);
+    let capacity = args.size();
+    let mut file = args.source(args.file);
+    let plan = args.read_plan();
+    let mut out = args.sink();
+    let requests = args.bytes();
+    let mut input = plan.source(&requests);
+    let answered = answer_file(args.alloc, asking, &mut file, capacity, &mut input, &mut out);
+    reply_answered(answered, reply);
+    let _left = reply.finish_reader(input);
+    reply.finish_writer(out)
 }
 
 /// Reads an error in a file: its reason and byte offset.
-fn file_fault_of(ask: &mut Ask<'_>) -> Fault {
-    let reason = ask.reason();
-    let place = ask.number();
+fn file_fault_of(args: &mut Args<'_>) -> Fault {
+    let reason = args.reason();
+    let place = args.number();
     Fault { place, reason }
 }
 
 /// Reads an error in a line: its reason, line and column.
-fn line_fault_of(ask: &mut Ask<'_>) -> LineFault {
-    let reason = line_reason_of(ask);
+fn line_fault_of(args: &mut Args<'_>) -> LineFault {
+    let reason = line_reason_of(args);
     LineFault {
-        line: ask.number(),
-        column: ask.number(),
+        line: args.number(),
+        column: args.number(),
         reason,
     }
 }
 
 /// Reads the error of a command.
-fn tool_fault_of(ask: &mut Ask<'_>) -> ToolFault {
-    match ask.word() {
-        "file" => ToolFault::File(file_fault_of(ask)),
-        "input" => ToolFault::Input(line_fault_of(ask)),
+fn tool_fault_of(args: &mut Args<'_>) -> ToolFault {
+    match args.word() {
+        "file" => ToolFault::File(file_fault_of(args)),
+        "input" => ToolFault::Input(line_fault_of(args)),
         "no_triples" => ToolFault::NoTriples,
         "no_such_term" => ToolFault::NoSuchTerm,
         "no_such_number" => ToolFault::NoSuchNumber,
-        "not_a_term" => ToolFault::NotATerm(ask.role(), ask.number()),
+        "not_a_term" => ToolFault::NotATerm(args.role(), args.number()),
         "bad_options" => ToolFault::BadOptions,
         "read" => ToolFault::Read,
-        "write" => ToolFault::Write(ask.number()),
+        "write" => ToolFault::Write(args.number()),
         "memory" => ToolFault::OutOfMemory,
         _ => {
-            ask.wrong();
+            args.note_usage_error();
             ToolFault::OutOfMemory
         }
     }
 }
 
 /// Appends an exit status and a line.
-fn say_status(told: Result<(u8, String), AllocError>, say: &mut Say) {
-    match told {
+fn reply_status(outcome: Result<(u8, String), AllocError>, reply: &mut Reply) {
+    match outcome {
         Ok((status, line)) => {
-            say.number(u64::from(status));
-            say.bytes(line.as_bytes())
+            reply.number(u64::from(status));
+            reply.bytes(line.as_bytes())
         }
-        Err(AllocError) => say.lost(),
+        Err(AllocError) => reply.note_out_of_memory(),
     }
 }
 
 /// The exit status and the line of an error, and its text.
-fn say_fault_line(ask: &mut Ask<'_>, say: &mut Say) {
-    let fault = tool_fault_of(ask);
-    say_status(fault_line(ask.alloc, &fault), say);
-    say.made(format!(in ask.alloc; "{fault}"))
+fn reply_fault_line(args: &mut Args<'_>, reply: &mut Reply) {
+    let fault = tool_fault_of(args);
+    reply_status(fault_line(args.alloc, &fault), reply);
+    reply.text(format!(in args.alloc; "{fault}"))
 }
 
 /// Reads which argument of a command line has the error.
-fn word_of(ask: &mut Ask<'_>) -> Word {
-    match ask.number() {
-        0 => Word::Term,
-        1 => Word::Subject,
-        2 => Word::Predicate,
-        3 => Word::Object,
+fn term_argument_of(args: &mut Args<'_>) -> TermArgument {
+    match args.number() {
+        0 => TermArgument::Term,
+        1 => TermArgument::Subject,
+        2 => TermArgument::Predicate,
+        3 => TermArgument::Object,
         _ => {
-            ask.wrong();
-            Word::Term
+            args.note_usage_error();
+            TermArgument::Term
         }
     }
 }
 
 /// Reads a text, in hexadecimal.
-fn text_of(ask: &mut Ask<'_>) -> String {
-    let bytes = ask.bytes();
+fn text_of(args: &mut Args<'_>) -> String {
+    let bytes = args.bytes();
     match std::str::from_utf8(&bytes) {
-        Ok(text) => match String::from_str(ask.alloc, text) {
+        Ok(text) => match String::from_str(args.alloc, text) {
             Ok(text) => return text,
-            Err(_) => ask.refused(),
+            Err(_) => args.note_out_of_memory(),
         },
-        Err(_) => ask.wrong(),
+        Err(_) => args.note_usage_error(),
     }
-    String::new(ask.alloc)
+    String::new(args.alloc)
 }
 
 /// Reads an error in an argument: which argument, its reason and column.
-fn word_fault_of(ask: &mut Ask<'_>) -> UsageFault {
-    let word = word_of(ask);
-    let reason = line_reason_of(ask);
-    let column = ask.number();
+fn word_fault_of(args: &mut Args<'_>) -> UsageFault {
+    let word = term_argument_of(args);
+    let reason = line_reason_of(args);
+    let column = args.number();
     let fault = TermFault { column, reason };
-    UsageFault::Word { word, fault }
+    UsageFault::InvalidTerm { word, fault }
 }
 
-fn say_usage_line(ask: &mut Ask<'_>, say: &mut Say) {
-    let fault = match ask.word() {
-        "usage" => UsageFault::text(ask.alloc, text_of(ask).as_str()),
-        "help" => UsageFault::Help(text_of(ask)),
-        "word" => word_fault_of(ask),
+fn reply_usage_line(args: &mut Args<'_>, reply: &mut Reply) {
+    let fault = match args.word() {
+        "usage" => UsageFault::text(args.alloc, text_of(args).as_str()),
+        "help" => UsageFault::Help(text_of(args)),
+        "word" => word_fault_of(args),
         "memory" => UsageFault::OutOfMemory,
-        _ => return ask.wrong(),
+        _ => return args.note_usage_error(),
     };
-    say_status(usage_line(ask.alloc, &fault), say)
+    reply_status(usage_line(args.alloc, &fault), reply)
 }

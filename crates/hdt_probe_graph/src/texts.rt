@@ -1,114 +1,114 @@
 //! Calls of hdt_file: the N-Triples text of graphs.
 
-use crate::faults::say_dump_fault;
+use crate::faults::reply_dump_fault;
 use crate::open::{graph_of, layout_of};
 use hdt_file::{
-    DumpFault, Graph, Speller, append_graph_text, graph_text, layout_text, write_graph,
+    DumpFault, Graph, TermWriter, append_graph_text, graph_text, layout_text, write_graph,
 };
-use hdt_probe::{Ask, Say, role_number};
+use hdt_probe::{Args, Reply, role_number};
 use hdt_triples::Pattern;
 use std::alloc::AllocError;
 
 /// The words of this module, each with its number of arguments.
-pub const WORDS: &str =
+pub(crate) const WORDS: &str =
     "graph_text 1+ layout_text 2+ append_graph_text 1+ write_graph 3+";
 
 /// Answers a request with one of these words. Returns false if the word is not one of them.
-pub fn answer(word: &str, ask: &mut Ask<'_>, say: &mut Say) -> bool {
+pub(crate) fn answer(word: &str, args: &mut Args<'_>, reply: &mut Reply) -> bool {
     match word {
-        "graph_text" => say_graph_text(ask, say),
-        "layout_text" => say_layout_text(ask, say),
-        "append_graph_text" => say_append_graph_text(ask, say),
-        "write_graph" => say_write_graph(ask, say),
+        "graph_text" => reply_graph_text(args, reply),
+        "layout_text" => reply_layout_text(args, reply),
+        "append_graph_text" => reply_append_graph_text(args, reply),
+        "write_graph" => reply_write_graph(args, reply),
         _ => return false,
     }
     true
 }
 
 /// Reads a pattern, or `none`.
-fn whole_of(ask: &mut Ask<'_>) -> Option<Pattern> {
-    match ask.maybe_three() {
+fn optional_pattern_of(args: &mut Args<'_>) -> Option<Pattern> {
+    match args.optional_ids() {
         Some((s, p, o)) => Some(Pattern { s, p, o }),
         None => None,
     }
 }
 
 /// Appends a text, or reports why there is none.
-fn say_text(text: Result<Vec<u8>, DumpFault>, say: &mut Say) {
+fn reply_text(text: Result<Vec<u8>, DumpFault>, reply: &mut Reply) {
     match text {
-        Ok(text) => say.bytes(&text),
-        Err(fault) => say_dump_fault(fault, say),
+        Ok(text) => reply.bytes(&text),
+        Err(fault) => reply_dump_fault(fault, reply),
     }
 }
 
-fn say_graph_text(ask: &mut Ask<'_>, say: &mut Say) {
-    if let Some(graph) = graph_of(ask, say) {
-        let pattern = whole_of(ask);
-        say_text(graph_text(ask.alloc, &graph, pattern), say)
+fn reply_graph_text(args: &mut Args<'_>, reply: &mut Reply) {
+    if let Some(graph) = graph_of(args, reply) {
+        let pattern = optional_pattern_of(args);
+        reply_text(graph_text(args.alloc, &graph, pattern), reply)
     }
 }
 
-fn say_layout_text(ask: &mut Ask<'_>, say: &mut Say) {
-    if let Some(layout) = layout_of(ask, say) {
-        let most = ask.maybe();
-        let pattern = whole_of(ask);
-        say_text(layout_text(ask.alloc, &layout, pattern, most), say)
+fn reply_layout_text(args: &mut Args<'_>, reply: &mut Reply) {
+    if let Some(layout) = layout_of(args, reply) {
+        let most = args.optional_number();
+        let pattern = optional_pattern_of(args);
+        reply_text(layout_text(args.alloc, &layout, pattern, most), reply)
     }
 }
 
 /// Appends whether a text was appended, or why not.
-fn say_done(done: Result<(), DumpFault>, say: &mut Say) {
+fn reply_done(done: Result<(), DumpFault>, reply: &mut Reply) {
     match done {
-        Ok(()) => say.word("done"),
+        Ok(()) => reply.word("done"),
         Err(DumpFault::NotATerm(role, number)) => {
-            say.word("not_a_term");
-            say.number(role_number(role));
-            say.number(number)
+            reply.word("not_a_term");
+            reply.number(role_number(role));
+            reply.number(number)
         }
-        Err(_) => say.no_memory(),
+        Err(_) => reply.out_of_memory(),
     }
 }
 
 /// Appends the text of each pattern to `out`, all with one writer of terms.
 fn append_all(
     graph: &Graph<'_>,
-    ask: &mut Ask<'_>,
-    say: &mut Say,
+    args: &mut Args<'_>,
+    reply: &mut Reply,
     out: &mut Vec<u8>,
 ) -> Result<(), AllocError> {
-    let mut speller = Speller::keeping(ask.alloc)?;
+    let mut term_writer = TermWriter::with_cache(args.alloc)?;
     'texts: for _ in 0..u64::MAX {
-        if !ask.more() {
+        if !args.has_more() {
             break;
         }
-        let most = ask.maybe();
-        let pattern = whole_of(ask);
-        let done = append_graph_text(ask.alloc, graph, pattern, most, &mut speller, out);
-        say_done(done, say);
+        let most = args.optional_number();
+        let pattern = optional_pattern_of(args);
+        let done = append_graph_text(args.alloc, graph, pattern, most, &mut term_writer, out);
+        reply_done(done, reply);
     }
     Ok(())
 }
 
-fn say_append_graph_text(ask: &mut Ask<'_>, say: &mut Say) {
-    let Some(graph) = graph_of(ask, say) else {
+fn reply_append_graph_text(args: &mut Args<'_>, reply: &mut Reply) {
+    let Some(graph) = graph_of(args, reply) else {
         return;
     };
-    let mut out = ask.bytes();
-    if append_all(&graph, ask, say, &mut out).is_err() {
-        say.no_memory();
+    let mut out = args.bytes();
+    if append_all(&graph, args, reply, &mut out).is_err() {
+        reply.out_of_memory();
     }
-    say.bytes(&out)
+    reply.bytes(&out)
 }
 
 /// The number of bytes that were written, or the error, and the bytes that the writer took.
-fn say_write_graph(ask: &mut Ask<'_>, say: &mut Say) {
-    let Some(graph) = graph_of(ask, say) else {
+fn reply_write_graph(args: &mut Args<'_>, reply: &mut Reply) {
+    let Some(graph) = graph_of(args, reply) else {
         return;
     };
-    let mut out = ask.sink();
-    match write_graph(ask.alloc, &graph, whole_of(ask), &mut out) {
-        Ok(count) => say.number(count),
-        Err(fault) => say_dump_fault(fault, say),
+    let mut out = args.sink();
+    match write_graph(args.alloc, &graph, optional_pattern_of(args), &mut out) {
+        Ok(count) => reply.number(count),
+        Err(fault) => reply_dump_fault(fault, reply),
     }
-    say.wrote(out)
+    reply.finish_writer(out)
 }

@@ -1,66 +1,66 @@
 //! Answers one request.
 
 use crate::{
-    arena, counted, dict, dict_writing, front, front_writing, search, seq, triples, walks, wire,
+    arena, counted, dict, dict_writing, front, front_writing, search, seq, triples, section_cursors, wire,
 };
-use hdt_probe::{Ask, Kept, Say, word_of};
+use hdt_probe::{Args, State, Reply, split_request};
 use std::alloc::{AllocError, Global};
 
 /// The words of this module, each with its number of arguments.
-fn say_help(say: &mut Say) {
-    say.word("file 1 help 0 reads 0 writes 0");
-    say.word(wire::WORDS);
-    say.word(counted::WORDS);
-    say.word(seq::WORDS);
-    say.word(front::WORDS);
-    say.word(walks::WORDS);
-    say.word(front_writing::WORDS);
-    say.word(dict::WORDS);
-    say.word(dict_writing::WORDS);
-    say.word(arena::WORDS);
-    say.word(triples::WORDS);
-    say.word(search::WORDS)
+fn reply_help(reply: &mut Reply) {
+    reply.word("file 1 help 0 reads 0 writes 0");
+    reply.word(wire::WORDS);
+    reply.word(counted::WORDS);
+    reply.word(seq::WORDS);
+    reply.word(front::WORDS);
+    reply.word(section_cursors::WORDS);
+    reply.word(front_writing::WORDS);
+    reply.word(dict::WORDS);
+    reply.word(dict_writing::WORDS);
+    reply.word(arena::WORDS);
+    reply.word(triples::WORDS);
+    reply.word(search::WORDS)
 }
 
 /// Answers a request that calls a library. Returns false if there is no such word.
-fn answer_call(word: &str, ask: &mut Ask<'_>, say: &mut Say) -> bool {
-    wire::answer(word, ask, say)
-        || counted::answer(word, ask, say)
-        || seq::answer(word, ask, say)
-        || front::answer(word, ask, say)
-        || walks::answer(word, ask, say)
-        || front_writing::answer(word, ask, say)
-        || dict::answer(word, ask, say)
-        || dict_writing::answer(word, ask, say)
-        || arena::answer(word, ask, say)
-        || triples::answer(word, ask, say)
-        || search::answer(word, ask, say)
+fn answer_call(word: &str, args: &mut Args<'_>, reply: &mut Reply) -> bool {
+    wire::answer(word, args, reply)
+        || counted::answer(word, args, reply)
+        || seq::answer(word, args, reply)
+        || front::answer(word, args, reply)
+        || section_cursors::answer(word, args, reply)
+        || front_writing::answer(word, args, reply)
+        || dict::answer(word, args, reply)
+        || dict_writing::answer(word, args, reply)
+        || arena::answer(word, args, reply)
+        || triples::answer(word, args, reply)
+        || search::answer(word, args, reply)
 }
 
 /// Appends the answer to a request, one line.
-pub fn answer_line(
+pub(crate) fn answer_line(
     alloc: Global,
     line: &str,
-    kept: &mut Kept,
+    state: &mut State,
     out: &mut Vec<u8>,
 ) -> Result<(), AllocError> {
-    let (word, rest) = word_of(line);
+    let (word, rest) = split_request(line);
     if word == "file" {
-        return kept.take_file(alloc, rest, out);
+        return state.take_file(alloc, rest, out);
     }
-    let mut say = Say::new(alloc);
-    let mut ask = Ask::new(alloc, &kept.file, rest);
+    let mut reply = Reply::new(alloc);
+    let mut args = Args::new(alloc, &state.file, rest);
     match word {
-        "help" => say_help(&mut say),
-        "reads" => say.seen(kept.reads),
-        "writes" => say.seen(kept.writes),
+        "help" => reply_help(&mut reply),
+        "reads" => reply.stats(state.reads),
+        "writes" => reply.stats(state.writes),
         _ => {
-            if !answer_call(word, &mut ask, &mut say) {
-                say.unknown()
+            if !answer_call(word, &mut args, &mut reply) {
+                reply.unknown()
             }
         }
     }
-    say.put_line(&ask, out)?;
-    kept.note(say.reads(), say.writes());
+    reply.put_line(&args, out)?;
+    state.note(reply.reads(), reply.writes());
     Ok(())
 }

@@ -1,48 +1,48 @@
 //! Calls of hdt_dict: arenas.
 
 use hdt_dict::Arena;
-use hdt_probe::{Ask, Say};
+use hdt_probe::{Args, Reply};
 use std::alloc::{AllocError, Global};
 
 /// The words, each with the count of its arguments.
-pub const WORDS: &str = "arena 2+ arena_of 0+";
+pub(crate) const WORDS: &str = "arena 2+ arena_of 0+";
 
 /// Answers a request of one of these words.
-pub fn answer(word: &str, ask: &mut Ask<'_>, say: &mut Say) -> bool {
+pub(crate) fn answer(word: &str, args: &mut Args<'_>, reply: &mut Reply) -> bool {
     match word {
-        "arena" => say_arena(ask, say),
-        "arena_of" => say_arena_of(ask, say),
+        "arena" => reply_arena(args, reply),
+        "arena_of" => reply_arena_of(args, reply),
         _ => return false,
     }
     true
 }
 
 /// The number of strings of an arena, and its strings.
-fn say_strings(arena: &Arena, say: &mut Say) {
-    say.size(arena.len());
+fn reply_strings(arena: &Arena, reply: &mut Reply) {
+    reply.size(arena.len());
     for at in 0..arena.len() {
-        say.bytes(arena.get(at));
+        reply.bytes(arena.get(at));
     }
 }
 
 /// An arena with a capacity of strings and bytes, or none if both are 0, to which strings are added.
-fn say_arena(ask: &mut Ask<'_>, say: &mut Say) {
-    let room = ask.size();
-    let bytes = ask.size();
-    let made = if room == 0 && bytes == 0 {
-        Arena::new(ask.alloc)
+fn reply_arena(args: &mut Args<'_>, reply: &mut Reply) {
+    let capacity = args.size();
+    let bytes = args.size();
+    let made = if capacity == 0 && bytes == 0 {
+        Arena::new(args.alloc)
     } else {
-        Arena::with_room(ask.alloc, room, bytes)
+        Arena::with_capacity(args.alloc, capacity, bytes)
     };
     let Ok(mut arena) = made else {
-        return say.no_memory();
+        return reply.out_of_memory();
     };
-    for string in &ask.strings(u64::MAX) {
+    for string in &args.strings(u64::MAX) {
         if arena.push(string).is_err() {
-            say.no_memory();
+            reply.out_of_memory();
         }
     }
-    say_strings(&arena, say)
+    reply_strings(&arena, reply)
 }
 
 /// An arena of concatenated strings and the offset of each.
@@ -57,10 +57,10 @@ fn arena_of(alloc: Global, strings: &[Vec<u8>]) -> Result<Arena, AllocError> {
     Ok(Arena::of(bytes, starts))
 }
 
-fn say_arena_of(ask: &mut Ask<'_>, say: &mut Say) {
-    let strings = ask.strings(u64::MAX);
-    match arena_of(ask.alloc, &strings) {
-        Ok(arena) => say_strings(&arena, say),
-        Err(AllocError) => say.no_memory(),
+fn reply_arena_of(args: &mut Args<'_>, reply: &mut Reply) {
+    let strings = args.strings(u64::MAX);
+    match arena_of(args.alloc, &strings) {
+        Ok(arena) => reply_strings(&arena, reply),
+        Err(AllocError) => reply.out_of_memory(),
     }
 }

@@ -1,25 +1,25 @@
 //! Calls of hdt_dict: strings that are split into sections, and dictionaries that are written.
 ghost use Rattle.std.specs.Prelude.{◌≡◌, ◌≤◌, IsTrue, IfOk, All};
-ghost use Rattle.hdt_front.specs.Section.{AreStrings};
-ghost use Rattle.hdt_front.specs.Canonical.{lent_texts, texts};
-ghost use Rattle.hdt_dict.specs.Split.{lists_of};
-ghost use Rattle.hdt_dict.specs.Texts.{IsDictionaryString};
+ghost use Rattle.hdt_front.specs.Section.{AreSectionStrings};
+ghost use Rattle.hdt_front.specs.Canonical.{borrowed_texts, texts};
+ghost use Rattle.hdt_dict.specs.Split.{lists_of_parts};
+ghost use Rattle.hdt_dict.specs.DictionaryString.{IsDictionaryString};
 ghost use Rattle.hdt_dict.specs.Writing.{AreSections};
 
-use hdt_dict::{Parts, SectionWriter, put_dictionary, put_written_dictionary, split};
-use hdt_front::lent_strings;
-use hdt_probe::{Ask, Say};
+use hdt_dict::{Parts, SectionWriter, put_dictionary, finish_dictionary, split};
+use hdt_front::borrow_strings;
+use hdt_probe::{Args, Reply};
 use std::alloc::{AllocError, Global};
 
 /// The words, each with the count of its arguments.
-pub const WORDS: &str = "split 3+ put_dictionary 5+ put_written_dictionary 5+";
+pub(crate) const WORDS: &str = "split 3+ put_dictionary 5+ put_written_dictionary 5+";
 
 /// Answers a request of one of these words.
-pub fn answer(word: &str, ask: &mut Ask<'_>, say: &mut Say) -> bool {
+pub(crate) fn answer(word: &str, args: &mut Args<'_>, reply: &mut Reply) -> bool {
     match word {
-        "split" => say_split(ask, say),
-        "put_dictionary" => say_put_dictionary(ask, say, false),
-        "put_written_dictionary" => say_put_dictionary(ask, say, true),
+        "split" => reply_split(args, reply),
+        "put_dictionary" => reply_put_dictionary(args, reply, false),
+        "put_written_dictionary" => reply_put_dictionary(args, reply, true),
         _ => return false,
     }
     true
@@ -27,63 +27,63 @@ pub fn answer(word: &str, ask: &mut Ask<'_>, say: &mut Say) -> bool {
 
 /// Strings of the three roles.
 #[derive(Drop)]
-struct Given {
+struct RoleStrings {
     subjects: Vec<Vec<u8>>,
     predicates: Vec<Vec<u8>>,
     objects: Vec<Vec<u8>>,
 }
 
 /// The next arguments: how many strings each role has, and the strings.
-fn given_by(ask: &mut Ask<'_>) -> Given {
-    let subjects = ask.number();
-    let predicates = ask.number();
-    let objects = ask.number();
-    Given {
-        subjects: ask.list(subjects),
-        predicates: ask.list(predicates),
-        objects: ask.list(objects),
+fn role_strings(args: &mut Args<'_>) -> RoleStrings {
+    let subjects = args.number();
+    let predicates = args.number();
+    let objects = args.number();
+    RoleStrings {
+        subjects: args.exact_strings(subjects),
+        predicates: args.exact_strings(predicates),
+        objects: args.exact_strings(objects),
     }
 }
 
 /// A section: how many strings, and these.
-fn say_section(strings: &[Vec<u8>], say: &mut Say) {
-    say.size(strings.len());
+fn reply_section(strings: &[Vec<u8>], reply: &mut Reply) {
+    reply.size(strings.len());
     for string in strings {
-        say.bytes(string);
+        reply.bytes(string);
     }
 }
 
-fn say_split(ask: &mut Ask<'_>, say: &mut Say) {
-    let given = given_by(ask);
+fn reply_split(args: &mut Args<'_>, reply: &mut Reply) {
+    let given = role_strings(args);
     match split(
-        ask.alloc,
+        args.alloc,
         &given.subjects,
         &given.predicates,
         &given.objects,
     ) {
         Ok(parts) => {
-            say_section(&parts.shared, say);
-            say_section(&parts.subjects, say);
-            say_section(&parts.predicates, say);
-            say_section(&parts.objects, say)
+            reply_section(&parts.shared, reply);
+            reply_section(&parts.subjects, reply);
+            reply_section(&parts.predicates, reply);
+            reply_section(&parts.objects, reply)
         }
-        Err(AllocError) => say.no_memory(),
+        Err(AllocError) => reply.out_of_memory(),
     }
 }
 
 /// Whether the bytes are UTF-8 without a zero byte.
-fn is_text(bytes: &[u8]) -> bool
+fn is_valid_string(bytes: &[u8]) -> bool
     ensures { IsTrue result → IsDictionaryString bytes.now }
 {
     std::str::from_utf8(bytes).is_ok() && !bytes.contains(&0)
 }
 
 /// Whether all of them are.
-fn are_texts(list: &[&[u8]]) -> bool
-    ensures { IsTrue result → All IsDictionaryString (lent_texts list.now) }
+fn are_valid_strings(list: &[&[u8]]) -> bool
+    ensures { IsTrue result → All IsDictionaryString (borrowed_texts list.now) }
 {
     for text in list {
-        if !is_text(*text) {
+        if !is_valid_string(*text) {
             return false;
         }
     }
@@ -91,18 +91,18 @@ fn are_texts(list: &[&[u8]]) -> bool
 }
 
 /// Whether all vectors hold UTF-8 without a zero byte.
-fn hold_texts(alloc: Global, list: &[Vec<u8>]) -> Result<bool, AllocError>
+fn hold_valid_strings(alloc: Global, list: &[Vec<u8>]) -> Result<bool, AllocError>
     ensures { IfOk result (λ held. IsTrue held → All IsDictionaryString (texts list.now)) }
 {
-    let slices = lent_strings(alloc, list)?;
-    Ok(are_texts(slices.as_slice()))
+    let slices = borrow_strings(alloc, list)?;
+    Ok(are_valid_strings(slices.as_slice()))
 }
 
 /// A section writer that has been given these strings.
-fn in_work(alloc: Global, strings: &[&[u8]], block_size: u32) -> Result<SectionWriter, AllocError>
-    requires strings { AreStrings (lent_texts strings.now) }
+fn section_writer_of(alloc: Global, strings: &[&[u8]], block_size: u32) -> Result<SectionWriter, AllocError>
+    requires strings { AreSectionStrings (borrowed_texts strings.now) }
     requires block { 1 ≤ block_size }
-    ensures { IfOk result (λ w. w ≡ record { block_size = block_size; strings = lent_texts strings.now }) }
+    ensures { IfOk result (λ w. w ≡ record { block_size = block_size; strings = borrowed_texts strings.now }) }
 {
     let mut writer = SectionWriter::new(alloc, block_size);
     for string in strings {
@@ -117,12 +117,12 @@ fn section_of(
     strings: &[Vec<u8>],
     block_size: u32,
 ) -> Result<SectionWriter, AllocError>
-    requires strings { AreStrings (texts strings.now) }
+    requires strings { AreSectionStrings (texts strings.now) }
     requires block { 1 ≤ block_size }
     ensures { IfOk result (λ w. w ≡ record { block_size = block_size; strings = texts strings.now }) }
 {
-    let slices = lent_strings(alloc, strings)?;
-    in_work(alloc, &slices, block_size)
+    let slices = borrow_strings(alloc, strings)?;
+    section_writer_of(alloc, &slices, block_size)
 }
 
 /// Appends the dictionary, each string handed to its section's writer.
@@ -132,20 +132,20 @@ fn put_one_by_one(
     block_size: u32,
     out: &mut Vec<u8>,
 ) -> Result<(), AllocError>
-    requires sections { AreSections (lists_of parts.now) }
+    requires sections { AreSections (lists_of_parts parts.now) }
     requires block { 1 ≤ block_size }
 {
     let shared = section_of(alloc, parts.shared.as_slice(), block_size)?;
     let subjects = section_of(alloc, parts.subjects.as_slice(), block_size)?;
     let predicates = section_of(alloc, parts.predicates.as_slice(), block_size)?;
     let objects = section_of(alloc, parts.objects.as_slice(), block_size)?;
-    put_written_dictionary(shared, subjects, predicates, objects, out)
+    finish_dictionary(shared, subjects, predicates, objects, out)
 }
 
 /// Appends the dictionary of these strings, at once or string by string, if a dictionary can hold them.
 fn write_dictionary(
     alloc: Global,
-    given: &Given,
+    given: &RoleStrings,
     block_size: u32,
     one_by_one: bool,
     out: &mut Vec<u8>,
@@ -153,13 +153,13 @@ fn write_dictionary(
     if block_size == 0 {
         return Ok(false);
     }
-    if !hold_texts(alloc, given.subjects.as_slice())? {
+    if !hold_valid_strings(alloc, given.subjects.as_slice())? {
         return Ok(false);
     }
-    if !hold_texts(alloc, given.predicates.as_slice())? {
+    if !hold_valid_strings(alloc, given.predicates.as_slice())? {
         return Ok(false);
     }
-    if !hold_texts(alloc, given.objects.as_slice())? {
+    if !hold_valid_strings(alloc, given.objects.as_slice())? {
         return Ok(false);
     }
     let parts = split(
@@ -176,16 +176,16 @@ fn write_dictionary(
     Ok(true)
 }
 
-fn say_put_dictionary(ask: &mut Ask<'_>, say: &mut Say, one_by_one: bool) {
-    let mut bytes = ask.bytes();
-    let block_size = ask.number32();
-    let given = given_by(ask);
-    match write_dictionary(ask.alloc, &given, block_size, one_by_one, &mut bytes) {
-        Ok(true) => say.bytes(&bytes),
-        Ok(false) => say.refused(),
+fn reply_put_dictionary(args: &mut Args<'_>, reply: &mut Reply, one_by_one: bool) {
+    let mut bytes = args.bytes();
+    let block_size = args.number32();
+    let given = role_strings(args);
+    match write_dictionary(args.alloc, &given, block_size, one_by_one, &mut bytes) {
+        Ok(true) => reply.bytes(&bytes),
+        Ok(false) => reply.refused(),
         Err(AllocError) => {
-            say.no_memory();
-            say.bytes(&bytes)
+            reply.out_of_memory();
+            reply.bytes(&bytes)
         }
     }
 }

@@ -1,143 +1,143 @@
 //! Calls of hdt_front: reading sections, and comparing strings.
 
-use hdt_front::{ReadFault, Section, are_strings, common_prefix, compared_from, lent_strings};
-use hdt_probe::{Ask, Say};
+use hdt_front::{ReadFault, Section, are_section_strings, common_prefix, cmp_from, borrow_strings};
+use hdt_probe::{Args, Reply};
 use hdt_seq::Steps;
 
 /// The words of this module, each with its number of arguments.
-pub const WORDS: &str =
+pub(crate) const WORDS: &str =
     "section_read 1 section_string 3 section_strings 1+ section_place_of 1+ section_head 2 section_block 2 are_strings 0+ common_prefix 2 compared_from 3";
 
 /// Answers a request with one of these words. Returns false if the word is not one of them.
-pub fn answer(word: &str, ask: &mut Ask<'_>, say: &mut Say) -> bool {
+pub(crate) fn answer(word: &str, args: &mut Args<'_>, reply: &mut Reply) -> bool {
     match word {
-        "section_read" => say_section_read(ask, say),
-        "section_string" => say_section_string(ask, say),
-        "section_strings" => say_section_strings(ask, say),
-        "section_place_of" => say_section_place_of(ask, say),
-        "section_head" => say_section_head(ask, say),
-        "section_block" => say_section_block(ask, say),
-        "are_strings" => say_are_strings(ask, say),
-        "common_prefix" => say_common_prefix(ask, say),
-        "compared_from" => say_compared_from(ask, say),
+        "section_read" => reply_section_read(args, reply),
+        "section_string" => reply_section_string(args, reply),
+        "section_strings" => reply_section_strings(args, reply),
+        "section_place_of" => reply_section_place_of(args, reply),
+        "section_head" => reply_section_head(args, reply),
+        "section_block" => reply_section_block(args, reply),
+        "are_strings" => reply_are_strings(args, reply),
+        "common_prefix" => reply_common_prefix(args, reply),
+        "compared_from" => reply_compared_from(args, reply),
         _ => return false,
     }
     true
 }
 
 /// Reports an error in the input, or that memory ran out.
-pub fn say_read_fault(fault: ReadFault, say: &mut Say) {
+pub(crate) fn reply_read_fault(fault: ReadFault, reply: &mut Reply) {
     match fault {
-        ReadFault::Fault(fault) => say.fault(fault),
-        ReadFault::OutOfMemory => say.no_memory(),
+        ReadFault::Fault(fault) => reply.fault(fault),
+        ReadFault::OutOfMemory => reply.out_of_memory(),
     }
 }
 
 /// Reads the section at an offset, or reports its error.
-pub fn section_at<'a>(ask: &mut Ask<'a>, say: &mut Say) -> Option<(Section<'a>, usize)> {
-    match Section::read(ask.alloc, ask.file, ask.size()) {
+pub(crate) fn section_at<'a>(args: &mut Args<'a>, reply: &mut Reply) -> Option<(Section<'a>, usize)> {
+    match Section::read(args.alloc, args.file, args.size()) {
         Ok(read) => Some(read),
         Err(fault) => {
-            say_read_fault(fault, say);
+            reply_read_fault(fault, reply);
             None
         }
     }
 }
 
 /// The numbers of strings and blocks, and the offset after the section.
-fn say_section_read(ask: &mut Ask<'_>, say: &mut Say) {
-    let Some((section, end)) = section_at(ask, say) else {
+fn reply_section_read(args: &mut Args<'_>, reply: &mut Reply) {
+    let Some((section, end)) = section_at(args, reply) else {
         return;
     };
     let copy = section;
-    say.number(section.len());
-    say.number(copy.blocks());
-    say.size(end)
+    reply.number(section.len());
+    reply.number(copy.blocks());
+    reply.size(end)
 }
 
-fn say_section_string(ask: &mut Ask<'_>, say: &mut Say) {
-    let Some((section, _)) = section_at(ask, say) else {
+fn reply_section_string(args: &mut Args<'_>, reply: &mut Reply) {
+    let Some((section, _)) = section_at(args, reply) else {
         return;
     };
-    let n = ask.number();
+    let n = args.number();
     if n == 0 || n > section.len() {
-        return say.refused();
+        return reply.refused();
     }
-    let mut string = ask.bytes();
+    let mut string = args.bytes();
     let done = section.string(n, &mut string, &mut Steps::new());
-    say.appended(done, &string)
+    reply.appended(done, &string)
 }
 
 /// Strings by their IDs.
-fn say_section_strings(ask: &mut Ask<'_>, say: &mut Say) {
-    let Some((section, _)) = section_at(ask, say) else {
+fn reply_section_strings(args: &mut Args<'_>, reply: &mut Reply) {
+    let Some((section, _)) = section_at(args, reply) else {
         return;
     };
-    for n in &ask.numbers() {
+    for n in &args.numbers() {
         if *n == 0 || *n > section.len() {
-            return say.refused();
+            return reply.refused();
         }
-        let mut string = Vec::new(ask.alloc);
+        let mut string = Vec::new(args.alloc);
         let done = section.string(*n, &mut string, &mut Steps::new());
-        say.appended(done, &string);
+        reply.appended(done, &string);
     }
 }
 
-fn say_section_place_of(ask: &mut Ask<'_>, say: &mut Say) {
-    let Some((section, _)) = section_at(ask, say) else {
+fn reply_section_place_of(args: &mut Args<'_>, reply: &mut Reply) {
+    let Some((section, _)) = section_at(args, reply) else {
         return;
     };
-    for string in &ask.strings(u64::MAX) {
-        say.maybe(section.place_of(string, &mut Steps::new()));
+    for string in &args.strings(u64::MAX) {
+        reply.optional_number(section.place_of(string, &mut Steps::new()));
     }
 }
 
-fn say_section_head(ask: &mut Ask<'_>, say: &mut Say) {
-    let Some((section, _)) = section_at(ask, say) else {
+fn reply_section_head(args: &mut Args<'_>, reply: &mut Reply) {
+    let Some((section, _)) = section_at(args, reply) else {
         return;
     };
-    let block = ask.number();
+    let block = args.number();
     if block >= section.blocks() {
-        return say.refused();
+        return reply.refused();
     }
-    say.bytes(section.head(block))
+    reply.bytes(section.head(block))
 }
 
 /// The front-coded bytes of the block of a string, and the byte offset of the string.
-fn say_section_block(ask: &mut Ask<'_>, say: &mut Say) {
-    let Some((section, _)) = section_at(ask, say) else {
+fn reply_section_block(args: &mut Args<'_>, reply: &mut Reply) {
+    let Some((section, _)) = section_at(args, reply) else {
         return;
     };
-    let n = ask.number();
+    let n = args.number();
     if n == 0 || n > section.len() {
-        return say.refused();
+        return reply.refused();
     }
-    say.bytes(section.block(n));
-    say.number(section.string_start(n))
+    reply.bytes(section.block(n));
+    reply.number(section.string_start(n))
 }
 
-fn say_are_strings(ask: &mut Ask<'_>, say: &mut Say) {
-    let strings = ask.strings(u64::MAX);
-    match lent_strings(ask.alloc, &strings) {
-        Ok(lent) => say.truth(are_strings(&lent)),
-        Err(_) => say.no_memory(),
+fn reply_are_strings(args: &mut Args<'_>, reply: &mut Reply) {
+    let strings = args.strings(u64::MAX);
+    match borrow_strings(args.alloc, &strings) {
+        Ok(lent) => reply.boolean(are_section_strings(&lent)),
+        Err(_) => reply.out_of_memory(),
     }
 }
 
-fn say_common_prefix(ask: &mut Ask<'_>, say: &mut Say) {
-    let a = ask.bytes();
-    let b = ask.bytes();
-    say.size(common_prefix(&a, &b))
+fn reply_common_prefix(args: &mut Args<'_>, reply: &mut Reply) {
+    let a = args.bytes();
+    let b = args.bytes();
+    reply.size(common_prefix(&a, &b))
 }
 
-fn say_compared_from(ask: &mut Ask<'_>, say: &mut Say) {
-    let a = ask.bytes();
-    let b = ask.bytes();
-    let from = ask.size();
+fn reply_compared_from(args: &mut Args<'_>, reply: &mut Reply) {
+    let a = args.bytes();
+    let b = args.bytes();
+    let from = args.size();
     if from > common_prefix(&a, &b) {
-        return say.refused();
+        return reply.refused();
     }
-    let (order, same) = compared_from(&a, &b, from);
-    say.order(order);
-    say.size(same)
+    let (order, same) = cmp_from(&a, &b, from);
+    reply.order(order);
+    reply.size(same)
 }

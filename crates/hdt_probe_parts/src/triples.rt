@@ -1,168 +1,168 @@
 //! Calls of hdt_triples: reading and writing triples.
 
-use hdt_probe::{Ask, Say};
+use hdt_probe::{Args, Reply};
 use hdt_seq::Steps;
 use hdt_triples::{
     Counts, IndexedTriples, ListedTriples, Pattern, Triples, are_writable, put_triples,
 };
 
 /// The words of this module, each with its number of arguments.
-pub const WORDS: &str =
+pub(crate) const WORDS: &str =
     "triples 4 triple 4+ uses 4+ indexed_held 4 listed_held 4 are_writable 0+ put_triples 1+ takes 6";
 
 /// Answers a request with one of these words. Returns false if the word is not one of them.
-pub fn answer(word: &str, ask: &mut Ask<'_>, say: &mut Say) -> bool {
+pub(crate) fn answer(word: &str, args: &mut Args<'_>, reply: &mut Reply) -> bool {
     match word {
-        "triples" => say_triples(ask, say),
-        "triple" => say_triple(ask, say),
-        "uses" => say_uses(ask, say),
-        "indexed_held" => say_indexed_held(ask, say),
-        "listed_held" => say_listed_held(ask, say),
-        "are_writable" => say_are_writable(ask, say),
-        "put_triples" => say_put_triples(ask, say),
-        "takes" => say_takes(ask, say),
+        "triples" => reply_triples(args, reply),
+        "triple" => reply_triple(args, reply),
+        "uses" => reply_uses(args, reply),
+        "indexed_held" => reply_indexed_held(args, reply),
+        "listed_held" => reply_listed_held(args, reply),
+        "are_writable" => reply_are_writable(args, reply),
+        "put_triples" => reply_put_triples(args, reply),
+        "takes" => reply_takes(args, reply),
         _ => return false,
     }
     true
 }
 
 /// Reads the triples at an offset, with the number of strings of each role; or reports their error.
-pub fn triples_at<'a>(ask: &mut Ask<'a>, say: &mut Say) -> Option<(Triples<'a>, usize)> {
-    let at = ask.size();
+pub(crate) fn triples_at<'a>(args: &mut Args<'a>, reply: &mut Reply) -> Option<(Triples<'a>, usize)> {
+    let at = args.size();
     let counts = Counts {
-        subjects: ask.number(),
-        predicates: ask.number(),
-        objects: ask.number(),
+        subjects: args.number(),
+        predicates: args.number(),
+        objects: args.number(),
     };
-    let most = ask.file.len() as u64;
+    let most = args.file.len() as u64;
     if counts.subjects > most || counts.predicates > most || counts.objects > most {
-        say.refused();
+        reply.refused();
         return None;
     }
-    match Triples::read(ask.file, at, counts) {
+    match Triples::read(args.file, at, counts) {
         Ok(read) => Some(read),
         Err(fault) => {
-            say.fault(fault);
+            reply.fault(fault);
             None
         }
     }
 }
 
 /// The same with rank/select indexes.
-pub fn indexed_at<'a>(ask: &mut Ask<'a>, say: &mut Say) -> Option<IndexedTriples<'a>> {
-    let Some((triples, _)) = triples_at(ask, say) else {
+pub(crate) fn indexed_at<'a>(args: &mut Args<'a>, reply: &mut Reply) -> Option<IndexedTriples<'a>> {
+    let Some((triples, _)) = triples_at(args, reply) else {
         return None;
     };
-    match triples.with_directories(ask.alloc) {
+    match triples.with_directories(args.alloc) {
         Ok(indexed) => Some(indexed),
         Err(_) => {
-            say.no_memory();
+            reply.out_of_memory();
             None
         }
     }
 }
 
 /// The same with inverted indexes as well.
-pub fn listed_at<'a>(ask: &mut Ask<'a>, say: &mut Say) -> Option<ListedTriples<'a>> {
-    let Some(indexed) = indexed_at(ask, say) else {
+pub(crate) fn listed_at<'a>(args: &mut Args<'a>, reply: &mut Reply) -> Option<ListedTriples<'a>> {
+    let Some(indexed) = indexed_at(args, reply) else {
         return None;
     };
-    match indexed.with_lists(ask.alloc) {
+    match indexed.with_lists(args.alloc) {
         Ok(listed) => Some(listed),
         Err(_) => {
-            say.no_memory();
+            reply.out_of_memory();
             None
         }
     }
 }
 
-fn say_triples(ask: &mut Ask<'_>, say: &mut Say) {
-    if let Some((triples, end)) = triples_at(ask, say) {
+fn reply_triples(args: &mut Args<'_>, reply: &mut Reply) {
+    if let Some((triples, end)) = triples_at(args, reply) {
         let copy = triples;
-        say.number(triples.len());
-        say.size(end);
-        say.number(copy.len())
+        reply.number(triples.len());
+        reply.size(end);
+        reply.number(copy.len())
     }
 }
 
-fn say_triple(ask: &mut Ask<'_>, say: &mut Say) {
-    let Some((triples, _)) = triples_at(ask, say) else {
+fn reply_triple(args: &mut Args<'_>, reply: &mut Reply) {
+    let Some((triples, _)) = triples_at(args, reply) else {
         return;
     };
-    for j in &ask.numbers() {
+    for j in &args.numbers() {
         if *j >= triples.len() {
-            return say.refused();
+            return reply.refused();
         }
-        say.triple(triples.get(*j));
+        reply.triple(triples.get(*j));
     }
 }
 
 /// For each role and ID, whether a triple has that ID in the role.
-fn say_uses(ask: &mut Ask<'_>, say: &mut Say) {
-    let Some(listed) = listed_at(ask, say) else {
+fn reply_uses(args: &mut Args<'_>, reply: &mut Reply) {
+    let Some(listed) = listed_at(args, reply) else {
         return;
     };
     for _ in 0..u64::MAX {
-        if !ask.more() {
+        if !args.has_more() {
             break;
         }
-        let role = ask.role();
-        say.truth(listed.uses(role, ask.number(), &mut Steps::new()));
+        let role = args.role();
+        reply.boolean(listed.uses(role, args.number(), &mut Steps::new()));
     }
 }
 
-fn say_indexed_held(ask: &mut Ask<'_>, say: &mut Say) {
-    if let Some(indexed) = indexed_at(ask, say) {
-        say.maybe(u64::try_from(indexed.held()).ok())
+fn reply_indexed_held(args: &mut Args<'_>, reply: &mut Reply) {
+    if let Some(indexed) = indexed_at(args, reply) {
+        reply.optional_number(u64::try_from(indexed.held()).ok())
     }
 }
 
-fn say_listed_held(ask: &mut Ask<'_>, say: &mut Say) {
-    if let Some(listed) = listed_at(ask, say) {
-        say.maybe(u64::try_from(listed.held()).ok())
+fn reply_listed_held(args: &mut Args<'_>, reply: &mut Reply) {
+    if let Some(listed) = listed_at(args, reply) {
+        reply.optional_number(u64::try_from(listed.held()).ok())
     }
 }
 
 /// Reads all remaining arguments, three numbers a triple.
-fn triples_of(ask: &mut Ask<'_>) -> Vec<(u64, u64, u64)> {
-    let mut triples = Vec::new(ask.alloc);
+fn triples_of(args: &mut Args<'_>) -> Vec<(u64, u64, u64)> {
+    let mut triples = Vec::new(args.alloc);
     for _ in 0..u64::MAX {
-        if !ask.more() {
+        if !args.has_more() {
             break;
         }
-        let triple = (ask.number(), ask.number(), ask.number());
+        let triple = (args.number(), args.number(), args.number());
         if triples.push(triple).is_err() {
-            ask.refused();
+            args.note_out_of_memory();
         }
     }
     triples
 }
 
-fn say_are_writable(ask: &mut Ask<'_>, say: &mut Say) {
-    let triples = triples_of(ask);
-    say.truth(are_writable(&triples))
+fn reply_are_writable(args: &mut Args<'_>, reply: &mut Reply) {
+    let triples = triples_of(args);
+    reply.boolean(are_writable(&triples))
 }
 
-fn say_put_triples(ask: &mut Ask<'_>, say: &mut Say) {
-    let mut bytes = ask.bytes();
-    let triples = triples_of(ask);
+fn reply_put_triples(args: &mut Args<'_>, reply: &mut Reply) {
+    let mut bytes = args.bytes();
+    let triples = triples_of(args);
     if !are_writable(&triples) {
-        return say.refused();
+        return reply.refused();
     }
-    let done = put_triples(ask.alloc, &triples, &mut bytes);
-    say.appended(done, &bytes)
+    let done = put_triples(args.alloc, &triples, &mut bytes);
+    reply.appended(done, &bytes)
 }
 
 /// Reads a pattern: three IDs, each of which may be `-` for any.
-pub fn pattern_of(ask: &mut Ask<'_>) -> Pattern {
-    let s = ask.maybe();
-    let p = ask.maybe();
-    let o = ask.maybe();
+pub(crate) fn pattern_of(args: &mut Args<'_>) -> Pattern {
+    let s = args.optional_number();
+    let p = args.optional_number();
+    let o = args.optional_number();
     Pattern { s, p, o }
 }
 
-fn say_takes(ask: &mut Ask<'_>, say: &mut Say) {
-    let pattern = pattern_of(ask);
-    let triple = (ask.number(), ask.number(), ask.number());
-    say.truth(pattern.takes(triple))
+fn reply_takes(args: &mut Args<'_>, reply: &mut Reply) {
+    let pattern = pattern_of(args);
+    let triple = (args.number(), args.number(), args.number());
+    reply.boolean(pattern.is_match(triple))
 }

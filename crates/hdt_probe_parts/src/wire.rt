@@ -2,130 +2,130 @@
 ghost use Rattle.std.specs.Prelude.{IsTrue};
 ghost use Rattle.hdt_wire.specs.Control.{HasNoZero};
 
-use hdt_probe::{Ask, Say};
+use hdt_probe::{Args, Reply};
 use hdt_wire::{
     bytes_at, check8, check16, check32, property, put_control, put_decimal, put_vbyte,
-    read_control, read_vbyte, text_at, vbyte_len, zero_in,
+    read_control, read_vbyte, text_at, vbyte_len, len_before_zero,
 };
 
 /// The words of this module, each with its number of arguments.
-pub const WORDS: &str =
+pub(crate) const WORDS: &str =
     "read_vbyte 1 put_vbyte 2+ vbyte_len 1 check8 0 check16 0 check32 0 read_control 2 put_control 3 property 2 put_decimal 2+ bytes_at 2 text_at 1 zero_in 0";
 
 /// Answers a request with one of these words. Returns false if the word is not one of them.
-pub fn answer(word: &str, ask: &mut Ask<'_>, say: &mut Say) -> bool {
+pub(crate) fn answer(word: &str, args: &mut Args<'_>, reply: &mut Reply) -> bool {
     match word {
-        "read_vbyte" => say_read_vbyte(ask, say),
-        "put_vbyte" => say_put_vbyte(ask, say),
-        "vbyte_len" => say.size(vbyte_len(ask.number())),
-        "check8" => say.number(u64::from(check8(ask.file))),
-        "check16" => say.number(u64::from(check16(ask.file))),
-        "check32" => say.number(u64::from(check32(ask.file))),
-        "read_control" => say_read_control(ask, say),
-        "put_control" => say_put_control(ask, say),
-        "property" => say_property(ask, say),
-        "put_decimal" => say_put_decimal(ask, say),
-        "bytes_at" => say_bytes_at(ask, say),
-        "text_at" => say_text_at(ask, say),
-        "zero_in" => say.size(zero_in(ask.file)),
+        "read_vbyte" => reply_read_vbyte(args, reply),
+        "put_vbyte" => reply_put_vbyte(args, reply),
+        "vbyte_len" => reply.size(vbyte_len(args.number())),
+        "check8" => reply.number(u64::from(check8(args.file))),
+        "check16" => reply.number(u64::from(check16(args.file))),
+        "check32" => reply.number(u64::from(check32(args.file))),
+        "read_control" => reply_read_control(args, reply),
+        "put_control" => reply_put_control(args, reply),
+        "property" => reply_property(args, reply),
+        "put_decimal" => reply_put_decimal(args, reply),
+        "bytes_at" => reply_bytes_at(args, reply),
+        "text_at" => reply_text_at(args, reply),
+        "zero_in" => reply.size(len_before_zero(args.file)),
         _ => return false,
     }
     true
 }
 
-fn say_read_vbyte(ask: &mut Ask<'_>, say: &mut Say) {
-    match read_vbyte(ask.file, ask.size()) {
+fn reply_read_vbyte(args: &mut Args<'_>, reply: &mut Reply) {
+    match read_vbyte(args.file, args.size()) {
         Ok((number, end)) => {
-            say.number(number);
-            say.size(end)
+            reply.number(number);
+            reply.size(end)
         }
-        Err(fault) => say.fault(fault),
+        Err(fault) => reply.fault(fault),
     }
 }
 
 /// The encoded numbers, one after another, up to the one for which memory ran out.
-fn say_put_vbyte(ask: &mut Ask<'_>, say: &mut Say) {
-    let mut bytes = ask.bytes();
-    for number in &ask.numbers() {
+fn reply_put_vbyte(args: &mut Args<'_>, reply: &mut Reply) {
+    let mut bytes = args.bytes();
+    for number in &args.numbers() {
         if put_vbyte(*number, &mut bytes).is_err() {
-            say.no_memory();
+            reply.out_of_memory();
             break;
         }
     }
-    say.bytes(&bytes)
+    reply.bytes(&bytes)
 }
 
-fn say_read_control(ask: &mut Ask<'_>, say: &mut Say) {
-    let kind = ask.kind();
-    match read_control(ask.file, ask.size(), kind) {
+fn reply_read_control(args: &mut Args<'_>, reply: &mut Reply) {
+    let kind = args.kind();
+    match read_control(args.file, args.size(), kind) {
         Ok(block) => {
             let copy = block;
-            say.bytes(block.format());
-            say.bytes(copy.properties());
-            say.size(copy.properties_at());
-            say.size(block.end())
+            reply.bytes(block.format());
+            reply.bytes(copy.properties());
+            reply.size(copy.properties_at());
+            reply.size(block.end())
         }
-        Err(fault) => say.fault(fault),
+        Err(fault) => reply.fault(fault),
     }
 }
 
 /// Whether no byte is zero.
-pub fn has_no_zero(bytes: &[u8]) -> bool
+pub(crate) fn has_no_zero(bytes: &[u8]) -> bool
     ensures { IsTrue result → HasNoZero bytes.now }
 {
     bytes.iter().all(|byte| *byte != 0)
 }
 
-fn say_put_control(ask: &mut Ask<'_>, say: &mut Say) {
-    let kind = ask.kind();
-    let properties = ask.bytes();
-    let mut bytes = ask.bytes();
+fn reply_put_control(args: &mut Args<'_>, reply: &mut Reply) {
+    let kind = args.kind();
+    let properties = args.bytes();
+    let mut bytes = args.bytes();
     if has_no_zero(&properties) {
         let done = put_control(kind, &properties, &mut bytes);
-        say.appended(done, &bytes)
+        reply.appended(done, &bytes)
     } else {
-        say.refused()
+        reply.refused()
     }
 }
 
-fn say_property(ask: &mut Ask<'_>, say: &mut Say) {
-    let text = ask.bytes();
-    let key = ask.bytes();
+fn reply_property(args: &mut Args<'_>, reply: &mut Reply) {
+    let text = args.bytes();
+    let key = args.bytes();
     match property(&text, &key) {
-        Some(value) => say.bytes(value),
-        None => say.word("none"),
+        Some(value) => reply.bytes(value),
+        None => reply.word("none"),
     }
 }
 
 /// The encoded numbers, one after another, up to the one for which memory ran out.
-fn say_put_decimal(ask: &mut Ask<'_>, say: &mut Say) {
-    let mut bytes = ask.bytes();
-    for number in &ask.numbers() {
+fn reply_put_decimal(args: &mut Args<'_>, reply: &mut Reply) {
+    let mut bytes = args.bytes();
+    for number in &args.numbers() {
         if put_decimal(*number, &mut bytes).is_err() {
-            say.no_memory();
+            reply.out_of_memory();
             break;
         }
     }
-    say.bytes(&bytes)
+    reply.bytes(&bytes)
 }
 
-fn say_bytes_at(ask: &mut Ask<'_>, say: &mut Say) {
-    let at = ask.size();
-    match bytes_at(ask.file, at, ask.size()) {
+fn reply_bytes_at(args: &mut Args<'_>, reply: &mut Reply) {
+    let at = args.size();
+    match bytes_at(args.file, at, args.size()) {
         Ok((bytes, end)) => {
-            say.bytes(bytes);
-            say.size(end)
+            reply.bytes(bytes);
+            reply.size(end)
         }
-        Err(fault) => say.fault(fault),
+        Err(fault) => reply.fault(fault),
     }
 }
 
-fn say_text_at(ask: &mut Ask<'_>, say: &mut Say) {
-    match text_at(ask.file, ask.size()) {
+fn reply_text_at(args: &mut Args<'_>, reply: &mut Reply) {
+    match text_at(args.file, args.size()) {
         Ok((text, end)) => {
-            say.bytes(text);
-            say.size(end)
+            reply.bytes(text);
+            reply.size(end)
         }
-        Err(fault) => say.fault(fault),
+        Err(fault) => reply.fault(fault),
     }
 }

@@ -1,50 +1,50 @@
 //! Answers one request.
 
 use crate::{faults, lines, requests, terms};
-use hdt_probe::{Ask, Kept, Say, word_of};
+use hdt_probe::{Args, State, Reply, split_request};
 use std::alloc::{AllocError, Global};
 
 /// The words of this module, each with its number of arguments.
-fn say_help(say: &mut Say) {
-    say.word("file 1 help 0 reads 0 writes 0");
-    say.word(terms::WORDS);
-    say.word(faults::WORDS);
-    say.word(lines::WORDS);
-    say.word(requests::WORDS)
+fn reply_help(reply: &mut Reply) {
+    reply.word("file 1 help 0 reads 0 writes 0");
+    reply.word(terms::WORDS);
+    reply.word(faults::WORDS);
+    reply.word(lines::WORDS);
+    reply.word(requests::WORDS)
 }
 
 /// Answers a request that calls a library. Returns false if there is no such word.
-fn answer_call(word: &str, ask: &mut Ask<'_>, say: &mut Say) -> bool {
-    terms::answer(word, ask, say)
-        || faults::answer(word, ask, say)
-        || lines::answer(word, ask, say)
-        || requests::answer(word, ask, say)
+fn answer_call(word: &str, args: &mut Args<'_>, reply: &mut Reply) -> bool {
+    terms::answer(word, args, reply)
+        || faults::answer(word, args, reply)
+        || lines::answer(word, args, reply)
+        || requests::answer(word, args, reply)
 }
 
 /// Appends the answer to a request, one line.
-pub fn answer_line(
+pub(crate) fn answer_line(
     alloc: Global,
     line: &str,
-    kept: &mut Kept,
+    state: &mut State,
     out: &mut Vec<u8>,
 ) -> Result<(), AllocError> {
-    let (word, rest) = word_of(line);
+    let (word, rest) = split_request(line);
     if word == "file" {
-        return kept.take_file(alloc, rest, out);
+        return state.take_file(alloc, rest, out);
     }
-    let mut say = Say::new(alloc);
-    let mut ask = Ask::new(alloc, &kept.file, rest);
+    let mut reply = Reply::new(alloc);
+    let mut args = Args::new(alloc, &state.file, rest);
     match word {
-        "help" => say_help(&mut say),
-        "reads" => say.seen(kept.reads),
-        "writes" => say.seen(kept.writes),
+        "help" => reply_help(&mut reply),
+        "reads" => reply.stats(state.reads),
+        "writes" => reply.stats(state.writes),
         _ => {
-            if !answer_call(word, &mut ask, &mut say) {
-                say.unknown()
+            if !answer_call(word, &mut args, &mut reply) {
+                reply.unknown()
             }
         }
     }
-    say.put_line(&ask, out)?;
-    kept.note(say.reads(), say.writes());
+    reply.put_line(&args, out)?;
+    state.note(reply.reads(), reply.writes());
     Ok(())
 }

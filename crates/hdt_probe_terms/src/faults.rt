@@ -1,57 +1,57 @@
 //! Calls of hdt_terms: errors and their texts.
 
-use hdt_probe::{Ask, Say};
+use hdt_probe::{Args, Reply};
 use hdt_terms::{LineFault, LineReason, StringFault, TermFault};
 
 /// The words of this module, each with its number of arguments.
-pub const WORDS: &str = "line_reason 1 term_fault_text 2 line_fault_text 3 string_fault_text 1";
+pub(crate) const WORDS: &str = "line_reason 1 term_fault_text 2 line_fault_text 3 string_fault_text 1";
 
 /// Answers a request with one of these words. Returns false if the word is not one of them.
-pub fn answer(word: &str, ask: &mut Ask<'_>, say: &mut Say) -> bool {
+pub(crate) fn answer(word: &str, args: &mut Args<'_>, reply: &mut Reply) -> bool {
     match word {
-        "line_reason" => say_line_reason(ask, say),
-        "term_fault_text" => say_term_fault_text(ask, say),
-        "line_fault_text" => say_line_fault_text(ask, say),
-        "string_fault_text" => say_string_fault_text(ask, say),
+        "line_reason" => reply_line_reason(args, reply),
+        "term_fault_text" => reply_term_fault_text(args, reply),
+        "line_fault_text" => reply_line_fault_text(args, reply),
+        "string_fault_text" => reply_string_fault_text(args, reply),
         _ => return false,
     }
     true
 }
 
 /// Reports an error in the text of a term.
-pub fn say_term_fault(fault: TermFault, say: &mut Say) {
+pub(crate) fn reply_term_fault(fault: TermFault, reply: &mut Reply) {
     match fault.reason {
-        LineReason::OutOfMemory => say.no_memory(),
+        LineReason::OutOfMemory => reply.out_of_memory(),
         reason => {
-            say.fault_of(reason.number(), reason.name());
-            say.stop_number(fault.column)
+            reply.fault_of(reason.number(), reason.name());
+            reply.error_number(fault.column)
         }
     }
 }
 
 /// Reports an error in a line.
-pub fn say_line_fault(fault: LineFault, say: &mut Say) {
+pub(crate) fn reply_line_fault(fault: LineFault, reply: &mut Reply) {
     match fault.reason {
-        LineReason::OutOfMemory => say.no_memory(),
+        LineReason::OutOfMemory => reply.out_of_memory(),
         reason => {
-            say.fault_of(reason.number(), reason.name());
-            say.stop_number(fault.line);
-            say.stop_number(fault.column)
+            reply.fault_of(reason.number(), reason.name());
+            reply.error_number(fault.line);
+            reply.error_number(fault.column)
         }
     }
 }
 
 /// Reports an error of a dictionary string.
-pub fn say_string_fault(fault: StringFault, say: &mut Say) {
+pub(crate) fn reply_string_fault(fault: StringFault, reply: &mut Reply) {
     match fault {
-        StringFault::NotATerm => say.stop("not a term"),
-        StringFault::OutOfMemory => say.no_memory(),
+        StringFault::NotATerm => reply.error("not a term"),
+        StringFault::OutOfMemory => reply.out_of_memory(),
     }
 }
 
 /// Reads a reason, by its number.
-fn reason_of(ask: &mut Ask<'_>) -> LineReason {
-    match ask.number() {
+fn reason_of(args: &mut Args<'_>) -> LineReason {
+    match args.number() {
         1 => LineReason::Syntax,
         2 => LineReason::NotUtf8,
         3 => LineReason::BadEscape,
@@ -62,42 +62,42 @@ fn reason_of(ask: &mut Ask<'_>) -> LineReason {
         8 => LineReason::OutOfMemory,
         9 => LineReason::TooLong,
         _ => {
-            ask.wrong();
+            args.note_usage_error();
             LineReason::Syntax
         }
     }
 }
 
-fn say_line_reason(ask: &mut Ask<'_>, say: &mut Say) {
-    let reason = reason_of(ask);
-    say.number(u64::from(reason.number()));
-    say.word(reason.name())
+fn reply_line_reason(args: &mut Args<'_>, reply: &mut Reply) {
+    let reason = reason_of(args);
+    reply.number(u64::from(reason.number()));
+    reply.word(reason.name())
 }
 
-fn say_term_fault_text(ask: &mut Ask<'_>, say: &mut Say) {
-    let column = ask.number();
-    let reason = reason_of(ask);
+fn reply_term_fault_text(args: &mut Args<'_>, reply: &mut Reply) {
+    let column = args.number();
+    let reason = reason_of(args);
     let fault = TermFault { column, reason };
-    say.made(format!(in ask.alloc; "{fault}"))
+    reply.text(format!(in args.alloc; "{fault}"))
 }
 
-fn say_line_fault_text(ask: &mut Ask<'_>, say: &mut Say) {
-    let line = ask.number();
-    let column = ask.number();
-    let reason = reason_of(ask);
+fn reply_line_fault_text(args: &mut Args<'_>, reply: &mut Reply) {
+    let line = args.number();
+    let column = args.number();
+    let reason = reason_of(args);
     let fault = LineFault {
         line,
         column,
         reason,
     };
-    say.made(format!(in ask.alloc; "{fault}"))
+    reply.text(format!(in args.alloc; "{fault}"))
 }
 
-fn say_string_fault_text(ask: &mut Ask<'_>, say: &mut Say) {
-    let fault = match ask.word() {
+fn reply_string_fault_text(args: &mut Args<'_>, reply: &mut Reply) {
+    let fault = match args.word() {
         "not_a_term" => StringFault::NotATerm,
         "out_of_memory" => StringFault::OutOfMemory,
-        _ => return ask.wrong(),
+        _ => return args.note_usage_error(),
     };
-    say.made(format!(in ask.alloc; "{fault}"))
+    reply.text(format!(in args.alloc; "{fault}"))
 }

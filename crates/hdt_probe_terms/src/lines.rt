@@ -1,72 +1,72 @@
 //! Calls of hdt_terms: the lines of a document.
 
-use crate::faults::say_line_fault;
-use crate::terms::say_string_of;
-use hdt_probe::{Ask, Say, Source};
+use crate::faults::reply_line_fault;
+use crate::terms::reply_string_of;
+use hdt_probe::{Args, Reply, PieceReader};
 use hdt_terms::{LineFault, Lines, Triple};
 use hdt_wire::Counted;
 
 /// The words of this module, each with its number of arguments.
-pub const WORDS: &str =
+pub(crate) const WORDS: &str =
     "line_triples 3 line_strings 3 line_texts 3 line_fronts 4 line_calls 4+";
 
 /// Answers a request with one of these words. Returns false if the word is not one of them.
-pub fn answer(word: &str, ask: &mut Ask<'_>, say: &mut Say) -> bool {
+pub(crate) fn answer(word: &str, args: &mut Args<'_>, reply: &mut Reply) -> bool {
     match word {
-        "line_triples" => say_line_triples(ask, say),
-        "line_strings" => say_line_strings(ask, say),
-        "line_texts" => say_line_texts(ask, say),
-        "line_fronts" => say_line_fronts(ask, say),
-        "line_calls" => say_line_calls(ask, say),
+        "line_triples" => reply_line_triples(args, reply),
+        "line_strings" => reply_line_strings(args, reply),
+        "line_texts" => reply_line_texts(args, reply),
+        "line_fronts" => reply_line_fronts(args, reply),
+        "line_calls" => reply_line_calls(args, reply),
         _ => return false,
     }
     true
 }
 
 /// The lines of a reader of the input, with a limit on its bytes.
-fn lines_of<'a>(ask: &mut Ask<'a>, say: &mut Say) -> Option<(Lines, Counted<Source<'a>>)> {
-    let limit = ask.number();
+fn lines_of<'a>(args: &mut Args<'a>, reply: &mut Reply) -> Option<(Lines, Counted<PieceReader<'a>>)> {
+    let limit = args.number();
     if limit >= 1 << 63 {
-        say.refused();
+        reply.refused();
         return None;
     }
-    let input = ask.source(ask.file);
-    match Lines::new(ask.alloc, limit) {
+    let input = args.source(args.file);
+    match Lines::new(args.alloc, limit) {
         Ok(lines) => Some((lines, input)),
         Err(_) => {
-            say.no_memory();
+            reply.out_of_memory();
             None
         }
     }
 }
 
 /// The strings of a triple.
-fn say_triple(triple: &Triple, ask: &Ask<'_>, say: &mut Say) {
-    say_string_of(&triple.s, ask, say);
-    say_string_of(&triple.p, ask, say);
-    say_string_of(&triple.o, ask, say)
+fn reply_triple(triple: &Triple, args: &Args<'_>, reply: &mut Reply) {
+    reply_string_of(&triple.s, args, reply);
+    reply_string_of(&triple.p, args, reply);
+    reply_string_of(&triple.o, args, reply)
 }
 
 /// Appends an error to the values.
-fn say_fault(fault: LineFault, say: &mut Say) {
-    say.word(fault.reason.name());
-    say.number(fault.line);
-    say.number(fault.column)
+fn reply_fault(fault: LineFault, reply: &mut Reply) {
+    reply.word(fault.reason.name());
+    reply.number(fault.line);
+    reply.number(fault.column)
 }
 
 /// The end or the error, and `changed` if the next call returned anything else.
-fn say_end(end: Result<(), LineFault>, again: Result<bool, LineFault>, say: &mut Say) {
+fn reply_end(end: Result<(), LineFault>, again: Result<bool, LineFault>, reply: &mut Reply) {
     match end {
         Ok(()) => {
-            say.word("end");
+            reply.word("end");
             if again != Ok(false) {
-                say.word("changed")
+                reply.word("changed")
             }
         }
         Err(fault) => {
-            say_fault(fault, say);
+            reply_fault(fault, reply);
             if again != Err(fault) {
-                say.word("changed")
+                reply.word("changed")
             }
         }
     }
@@ -80,187 +80,187 @@ fn is_triple(found: Result<Option<Triple>, LineFault>) -> Result<bool, LineFault
     }
 }
 
-fn say_line_triples(ask: &mut Ask<'_>, say: &mut Say) {
-    let Some((mut lines, mut input)) = lines_of(ask, say) else {
+fn reply_line_triples(args: &mut Args<'_>, reply: &mut Reply) {
+    let Some((mut lines, mut input)) = lines_of(args, reply) else {
         return;
     };
     for _ in 0..u64::MAX {
         let end = match lines.next_triple(&mut input) {
             Ok(Some(triple)) => {
-                say_triple(&triple, ask, say);
+                reply_triple(&triple, args, reply);
                 continue;
             }
             Ok(None) => Ok(()),
             Err(fault) => Err(fault),
         };
-        say_end(end, is_triple(lines.next_triple(&mut input)), say);
+        reply_end(end, is_triple(lines.next_triple(&mut input)), reply);
         break;
     }
-    let _left = say.read(input);
+    let _left = reply.finish_reader(input);
 }
 
 /// A buffer that is not empty, so that a test sees whether the call clears it.
-fn filled(ask: &mut Ask<'_>) -> Vec<u8> {
-    let mut bytes = Vec::new(ask.alloc);
+fn nonempty_buffer(args: &mut Args<'_>) -> Vec<u8> {
+    let mut bytes = Vec::new(args.alloc);
     if bytes.push(b'x').is_err() {
-        ask.refused();
+        args.note_out_of_memory();
     }
     bytes
 }
 
-fn say_line_strings(ask: &mut Ask<'_>, say: &mut Say) {
-    let Some((mut lines, mut input)) = lines_of(ask, say) else {
+fn reply_line_strings(args: &mut Args<'_>, reply: &mut Reply) {
+    let Some((mut lines, mut input)) = lines_of(args, reply) else {
         return;
     };
-    let mut s = filled(ask);
-    let mut p = filled(ask);
-    let mut o = filled(ask);
+    let mut s = nonempty_buffer(args);
+    let mut p = nonempty_buffer(args);
+    let mut o = nonempty_buffer(args);
     for _ in 0..u64::MAX {
         let end = match lines.next_strings(&mut input, &mut s, &mut p, &mut o) {
             Ok(true) => {
-                say.strings(&[&s, &p, &o]);
+                reply.strings(&[&s, &p, &o]);
                 continue;
             }
             Ok(false) => Ok(()),
             Err(fault) => Err(fault),
         };
         if !s.is_empty() || !p.is_empty() || !o.is_empty() {
-            say.word("left");
+            reply.word("left");
         }
         let again = lines.next_strings(&mut input, &mut s, &mut p, &mut o);
-        say_end(end, again, say);
+        reply_end(end, again, reply);
         break;
     }
-    let _left = say.read(input);
+    let _left = reply.finish_reader(input);
 }
 
 /// A line: its number, its text, and whether the next one is buffered.
-fn say_text(lines: &Lines, text: &[u8], say: &mut Say) {
-    say.number(lines.line_number());
-    say.bytes(text);
-    say.truth(lines.holds_line())
+fn reply_text(lines: &Lines, text: &[u8], reply: &mut Reply) {
+    reply.number(lines.line_number());
+    reply.bytes(text);
+    reply.boolean(lines.has_buffered_line())
 }
 
-fn say_line_texts(ask: &mut Ask<'_>, say: &mut Say) {
-    let Some((mut lines, mut input)) = lines_of(ask, say) else {
+fn reply_line_texts(args: &mut Args<'_>, reply: &mut Reply) {
+    let Some((mut lines, mut input)) = lines_of(args, reply) else {
         return;
     };
-    let mut text = filled(ask);
+    let mut text = nonempty_buffer(args);
     for _ in 0..u64::MAX {
-        let end = match lines.next_front(usize::MAX, &mut input, &mut text) {
+        let end = match lines.next_prefix(usize::MAX, &mut input, &mut text) {
             Ok(true) => {
-                say_text(&lines, &text, say);
+                reply_text(&lines, &text, reply);
                 continue;
             }
             Ok(false) => Ok(()),
             Err(fault) => Err(fault),
         };
-        let again = lines.next_front(usize::MAX, &mut input, &mut text);
-        say_end(end, again, say);
+        let again = lines.next_prefix(usize::MAX, &mut input, &mut text);
+        reply_end(end, again, reply);
         break;
     }
-    let _left = say.read(input);
+    let _left = reply.finish_reader(input);
 }
 
-fn say_line_fronts(ask: &mut Ask<'_>, say: &mut Say) {
-    let Some((mut lines, mut input)) = lines_of(ask, say) else {
+fn reply_line_fronts(args: &mut Args<'_>, reply: &mut Reply) {
+    let Some((mut lines, mut input)) = lines_of(args, reply) else {
         return;
     };
-    let most = ask.size();
-    let mut front = filled(ask);
+    let most = args.size();
+    let mut front = nonempty_buffer(args);
     for _ in 0..u64::MAX {
-        let end = match lines.next_front(most, &mut input, &mut front) {
+        let end = match lines.next_prefix(most, &mut input, &mut front) {
             Ok(true) => {
-                say_text(&lines, &front, say);
+                reply_text(&lines, &front, reply);
                 continue;
             }
             Ok(false) => Ok(()),
             Err(fault) => Err(fault),
         };
         if !front.is_empty() {
-            say.word("left");
+            reply.word("left");
         }
-        let again = lines.next_front(most, &mut input, &mut front);
-        say_end(end, again, say);
+        let again = lines.next_prefix(most, &mut input, &mut front);
+        reply_end(end, again, reply);
         break;
     }
-    let _left = say.read(input);
+    let _left = reply.finish_reader(input);
 }
 
 /// One call of `next_triple`.
-fn say_next_triple(
+fn reply_next_triple(
     lines: &mut Lines,
-    input: &mut Counted<Source<'_>>,
-    ask: &Ask<'_>,
-    say: &mut Say,
+    input: &mut Counted<PieceReader<'_>>,
+    args: &Args<'_>,
+    reply: &mut Reply,
 ) {
     match lines.next_triple(input) {
         Ok(Some(triple)) => {
-            say.word("triple");
-            say_triple(&triple, ask, say)
+            reply.word("triple");
+            reply_triple(&triple, args, reply)
         }
-        Ok(None) => say.word("end"),
+        Ok(None) => reply.word("end"),
         Err(fault) => {
-            say.word("fault");
-            say_fault(fault, say)
+            reply.word("fault");
+            reply_fault(fault, reply)
         }
     }
 }
 
 /// One call of `next_strings`, and the buffers after it.
-fn say_next_strings(
+fn reply_next_strings(
     lines: &mut Lines,
-    input: &mut Counted<Source<'_>>,
-    ask: &mut Ask<'_>,
-    say: &mut Say,
+    input: &mut Counted<PieceReader<'_>>,
+    args: &mut Args<'_>,
+    reply: &mut Reply,
 ) {
-    let mut s = filled(ask);
-    let mut p = filled(ask);
-    let mut o = filled(ask);
+    let mut s = nonempty_buffer(args);
+    let mut p = nonempty_buffer(args);
+    let mut o = nonempty_buffer(args);
     match lines.next_strings(input, &mut s, &mut p, &mut o) {
-        Ok(true) => say.word("strings"),
-        Ok(false) => say.word("end"),
+        Ok(true) => reply.word("strings"),
+        Ok(false) => reply.word("end"),
         Err(fault) => {
-            say.word("fault");
-            say_fault(fault, say)
+            reply.word("fault");
+            reply_fault(fault, reply)
         }
     }
-    say.strings(&[&s, &p, &o])
+    reply.strings(&[&s, &p, &o])
 }
 
 /// One call of `next_text`, and the buffer after it.
-fn say_next_text(
+fn reply_next_text(
     lines: &mut Lines,
-    input: &mut Counted<Source<'_>>,
-    ask: &mut Ask<'_>,
-    say: &mut Say,
+    input: &mut Counted<PieceReader<'_>>,
+    args: &mut Args<'_>,
+    reply: &mut Reply,
 ) {
-    let mut text = filled(ask);
-    match lines.next_front(usize::MAX, input, &mut text) {
-        Ok(true) => say.word("text"),
-        Ok(false) => say.word("end"),
+    let mut text = nonempty_buffer(args);
+    match lines.next_prefix(usize::MAX, input, &mut text) {
+        Ok(true) => reply.word("text"),
+        Ok(false) => reply.word("end"),
         Err(fault) => {
-            say.word("fault");
-            say_fault(fault, say)
+            reply.word("fault");
+            reply_fault(fault, reply)
         }
     }
-    say_text(lines, &text, say)
+    reply_text(lines, &text, reply)
 }
 
 /// One call for each remaining argument: 0 for a triple, 1 for its strings, 2 for the text of a line.
-fn say_line_calls(ask: &mut Ask<'_>, say: &mut Say) {
-    let Some((mut lines, mut input)) = lines_of(ask, say) else {
+fn reply_line_calls(args: &mut Args<'_>, reply: &mut Reply) {
+    let Some((mut lines, mut input)) = lines_of(args, reply) else {
         return;
     };
     for _ in 0..u64::MAX {
-        if !ask.more() {
+        if !args.has_more() {
             break;
         }
-        match ask.number() {
-            0 => say_next_triple(&mut lines, &mut input, ask, say),
-            1 => say_next_strings(&mut lines, &mut input, ask, say),
-            _ => say_next_text(&mut lines, &mut input, ask, say),
+        match args.number() {
+            0 => reply_next_triple(&mut lines, &mut input, args, reply),
+            1 => reply_next_strings(&mut lines, &mut input, args, reply),
+            _ => reply_next_text(&mut lines, &mut input, args, reply),
         }
     }
-    let _left = say.read(input);
+    let _left = reply.finish_reader(input);
 }

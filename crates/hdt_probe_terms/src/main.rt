@@ -9,18 +9,18 @@ mod requests;
 mod terms;
 
 use crate::answer::answer_line;
-use hdt_probe::Kept;
+use hdt_probe::State;
 use std::io;
 use std::io::{BufRead, BufReader, Write};
 
 fn main(rt: HostRuntime) -> io::Result<()> {
     let mut out = io::writer(&rt);
-    let mut kept = Kept::new(rt.alloc());
+    let mut state = State::new(rt.alloc());
     let mut text = Vec::new(rt.alloc());
     for line in BufReader::new(rt.alloc(), rt.reader())?.lines(rt.alloc()) {
         let line = line?;
         text.clear();
-        if answer_line(rt.alloc(), line.as_str(), &mut kept, &mut text).is_ok() {
+        if answer_line(rt.alloc(), line.as_str(), &mut state, &mut text).is_ok() {
             out.write_all(&text)?;
         } else {
             out.write_all(b"out of memory\n")?;

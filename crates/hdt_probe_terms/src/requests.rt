@@ -1,73 +1,73 @@
 //! Calls of hdt_terms: parsing requests of `answer`.
 
-use crate::faults::say_term_fault;
-use hdt_probe::{Ask, Say};
+use crate::faults::reply_term_fault;
+use hdt_probe::{Args, Reply};
 use hdt_terms::{TermFault, read_raw_request, read_request};
 
 /// The words of this module, each with its number of arguments.
-pub const WORDS: &str = "request 1 raw_request 1";
+pub(crate) const WORDS: &str = "request 1 raw_request 1";
 
 /// Answers a request with one of these words. Returns false if the word is not one of them.
-pub fn answer(word: &str, ask: &mut Ask<'_>, say: &mut Say) -> bool {
+pub(crate) fn answer(word: &str, args: &mut Args<'_>, reply: &mut Reply) -> bool {
     match word {
-        "request" => say_request(ask, say),
-        "raw_request" => say_raw_request(ask, say),
+        "request" => reply_request(args, reply),
+        "raw_request" => reply_raw_request(args, reply),
         _ => return false,
     }
     true
 }
 
 /// A string, or `-` if none is given.
-fn say_part(is_given: bool, string: &[u8], say: &mut Say) {
+fn reply_part(is_given: bool, string: &[u8], reply: &mut Reply) {
     if is_given {
-        say.bytes(string)
+        reply.bytes(string)
     } else {
-        say.word("-")
+        reply.word("-")
     }
 }
 
 /// The strings that are given; or the error.
-fn say_asked(
-    asked: Result<Option<[bool; 3]>, TermFault>,
+fn reply_outcome(
+    outcome: Result<Option<[bool; 3]>, TermFault>,
     s: &[u8],
     p: &[u8],
     o: &[u8],
-    say: &mut Say,
+    reply: &mut Reply,
 ) {
-    match asked {
+    match outcome {
         Ok(Some(given)) => {
-            say_part(given[0], s, say);
-            say_part(given[1], p, say);
-            say_part(given[2], o, say)
+            reply_part(given[0], s, reply);
+            reply_part(given[1], p, reply);
+            reply_part(given[2], o, reply)
         }
-        Ok(None) => say.word("none"),
-        Err(fault) => say_term_fault(fault, say),
+        Ok(None) => reply.word("none"),
+        Err(fault) => reply_term_fault(fault, reply),
     }
 }
 
 /// A buffer that is not empty, so that a test sees whether the call clears it.
-fn filled(ask: &mut Ask<'_>) -> Vec<u8> {
-    let mut bytes = Vec::new(ask.alloc);
+fn nonempty_buffer(args: &mut Args<'_>) -> Vec<u8> {
+    let mut bytes = Vec::new(args.alloc);
     if bytes.push(b'x').is_err() {
-        ask.refused();
+        args.note_out_of_memory();
     }
     bytes
 }
 
-fn say_request(ask: &mut Ask<'_>, say: &mut Say) {
-    let text = ask.bytes();
-    let mut s = filled(ask);
-    let mut p = filled(ask);
-    let mut o = filled(ask);
-    let asked = read_request(&text, &mut s, &mut p, &mut o);
-    say_asked(asked, &s, &p, &o, say)
+fn reply_request(args: &mut Args<'_>, reply: &mut Reply) {
+    let text = args.bytes();
+    let mut s = nonempty_buffer(args);
+    let mut p = nonempty_buffer(args);
+    let mut o = nonempty_buffer(args);
+    let outcome = read_request(&text, &mut s, &mut p, &mut o);
+    reply_outcome(outcome, &s, &p, &o, reply)
 }
 
-fn say_raw_request(ask: &mut Ask<'_>, say: &mut Say) {
-    let text = ask.bytes();
-    let mut s = filled(ask);
-    let mut p = filled(ask);
-    let mut o = filled(ask);
-    let asked = read_raw_request(&text, &mut s, &mut p, &mut o);
-    say_asked(asked, &s, &p, &o, say)
+fn reply_raw_request(args: &mut Args<'_>, reply: &mut Reply) {
+    let text = args.bytes();
+    let mut s = nonempty_buffer(args);
+    let mut p = nonempty_buffer(args);
+    let mut o = nonempty_buffer(args);
+    let outcome = read_raw_request(&text, &mut s, &mut p, &mut o);
+    reply_outcome(outcome, &s, &p, &o, reply)
 }

@@ -1,160 +1,160 @@
 //! Calls of hdt_terms: terms and dictionary strings.
 
-use crate::faults::{say_string_fault, say_term_fault};
-use hdt_probe::{Ask, Say};
+use crate::faults::{reply_string_fault, reply_term_fault};
+use hdt_probe::{Args, Reply};
 use hdt_terms::{
-    Kind, Suffix, Term, is_iri, parse_string, parse_term, put_string, put_term, string_term,
+    TermKind, Suffix, Term, is_iri, parse_string, parse_term, put_string, put_term, string_term,
     term_string,
 };
 
 /// The words of this module, each with its number of arguments.
-pub const WORDS: &str =
+pub(crate) const WORDS: &str =
     "parse_term 1 parse_string 2 term_string 1 string_term 1 put_term 2 put_string 2 is_iri 1 same_term 2";
 
 /// Answers a request with one of these words. Returns false if the word is not one of them.
-pub fn answer(word: &str, ask: &mut Ask<'_>, say: &mut Say) -> bool {
+pub(crate) fn answer(word: &str, args: &mut Args<'_>, reply: &mut Reply) -> bool {
     match word {
-        "parse_term" => say_parse_term(ask, say),
-        "parse_string" => say_parse_string(ask, say),
-        "term_string" => say_term_string(ask, say),
-        "string_term" => say_string_term(ask, say),
-        "put_term" => say_put_term(ask, say),
-        "put_string" => say_put_string(ask, say),
-        "is_iri" => say.truth(is_iri(&ask.bytes())),
-        "same_term" => say_same_term(ask, say),
+        "parse_term" => reply_parse_term(args, reply),
+        "parse_string" => reply_parse_string(args, reply),
+        "term_string" => reply_term_string(args, reply),
+        "string_term" => reply_string_term(args, reply),
+        "put_term" => reply_put_term(args, reply),
+        "put_string" => reply_put_string(args, reply),
+        "is_iri" => reply.boolean(is_iri(&args.bytes())),
+        "same_term" => reply_same_term(args, reply),
         _ => return false,
     }
     true
 }
 
 /// The case of a term, and its texts.
-fn say_term(term: &Term, say: &mut Say) {
+fn reply_term(term: &Term, reply: &mut Reply) {
     match term {
         Term::Iri(text) => {
-            say.word("iri");
-            say.bytes(text.as_bytes())
+            reply.word("iri");
+            reply.bytes(text.as_bytes())
         }
         Term::Blank(text) => {
-            say.word("blank");
-            say.bytes(text.as_bytes())
+            reply.word("blank");
+            reply.bytes(text.as_bytes())
         }
         Term::Literal(text, suffix) => {
-            say.word("literal");
-            say.bytes(text.as_bytes());
-            say_suffix(suffix, say)
+            reply.word("literal");
+            reply.bytes(text.as_bytes());
+            reply_suffix(suffix, reply)
         }
     }
 }
 
-fn say_suffix(suffix: &Suffix, say: &mut Say) {
+fn reply_suffix(suffix: &Suffix, reply: &mut Reply) {
     match suffix {
-        Suffix::Plain => say.word("plain"),
+        Suffix::Plain => reply.word("plain"),
         Suffix::Tag(text) => {
-            say.word("tag");
-            say.bytes(text.as_bytes())
+            reply.word("tag");
+            reply.bytes(text.as_bytes())
         }
         Suffix::Datatype(text) => {
-            say.word("datatype");
-            say.bytes(text.as_bytes())
+            reply.word("datatype");
+            reply.bytes(text.as_bytes())
         }
     }
 }
 
 /// The dictionary string of a term.
-pub fn say_string_of(term: &Term, ask: &Ask<'_>, say: &mut Say) {
-    match term_string(ask.alloc, term) {
-        Ok(string) => say.bytes(&string),
-        Err(_) => say.no_memory(),
+pub(crate) fn reply_string_of(term: &Term, args: &Args<'_>, reply: &mut Reply) {
+    match term_string(args.alloc, term) {
+        Ok(string) => reply.bytes(&string),
+        Err(_) => reply.out_of_memory(),
     }
 }
 
 /// Parses the next argument, the text of a term; or reports its error.
-fn parsed(ask: &mut Ask<'_>, say: &mut Say) -> Option<Term> {
-    match parse_term(ask.alloc, &ask.bytes()) {
+fn parsed(args: &mut Args<'_>, reply: &mut Reply) -> Option<Term> {
+    match parse_term(args.alloc, &args.bytes()) {
         Ok(term) => Some(term),
         Err(fault) => {
-            say_term_fault(fault, say);
+            reply_term_fault(fault, reply);
             None
         }
     }
 }
 
 /// The term of the next argument, a dictionary string; or reports that there is none.
-fn term_of(ask: &mut Ask<'_>, say: &mut Say) -> Option<Term> {
-    match string_term(ask.alloc, &ask.bytes()) {
+fn term_of(args: &mut Args<'_>, reply: &mut Reply) -> Option<Term> {
+    match string_term(args.alloc, &args.bytes()) {
         Ok(term) => Some(term),
         Err(fault) => {
-            say_string_fault(fault, say);
+            reply_string_fault(fault, reply);
             None
         }
     }
 }
 
-fn say_parse_term(ask: &mut Ask<'_>, say: &mut Say) {
-    if let Some(term) = parsed(ask, say) {
-        say_term(&term, say)
+fn reply_parse_term(args: &mut Args<'_>, reply: &mut Reply) {
+    if let Some(term) = parsed(args, reply) {
+        reply_term(&term, reply)
     }
 }
 
-fn say_parse_string(ask: &mut Ask<'_>, say: &mut Say) {
-    let text = ask.bytes();
-    let mut string = ask.bytes();
+fn reply_parse_string(args: &mut Args<'_>, reply: &mut Reply) {
+    let text = args.bytes();
+    let mut string = args.bytes();
     if let Err(fault) = parse_string(&text, &mut string) {
-        say_term_fault(fault, say);
+        reply_term_fault(fault, reply);
     }
-    say.bytes(&string)
+    reply.bytes(&string)
 }
 
-fn say_term_string(ask: &mut Ask<'_>, say: &mut Say) {
-    if let Some(term) = parsed(ask, say) {
-        say_string_of(&term, ask, say)
+fn reply_term_string(args: &mut Args<'_>, reply: &mut Reply) {
+    if let Some(term) = parsed(args, reply) {
+        reply_string_of(&term, args, reply)
     }
 }
 
-fn say_string_term(ask: &mut Ask<'_>, say: &mut Say) {
-    if let Some(term) = term_of(ask, say) {
-        say_term(&term, say)
+fn reply_string_term(args: &mut Args<'_>, reply: &mut Reply) {
+    if let Some(term) = term_of(args, reply) {
+        reply_term(&term, reply)
     }
 }
 
 /// The text of the term of a dictionary string.
-fn say_put_term(ask: &mut Ask<'_>, say: &mut Say) {
-    if let Some(term) = term_of(ask, say) {
-        let mut text = ask.bytes();
+fn reply_put_term(args: &mut Args<'_>, reply: &mut Reply) {
+    if let Some(term) = term_of(args, reply) {
+        let mut text = args.bytes();
         let done = put_term(&term, &mut text);
-        say.appended(done, &text)
+        reply.appended(done, &text)
     }
 }
 
 /// The kind of a term.
-fn say_kind(kind: Kind, say: &mut Say) {
-    say.word(match kind {
-        Kind::Iri => "iri",
-        Kind::Blank => "blank",
-        Kind::Literal => "literal",
+fn reply_kind(kind: TermKind, reply: &mut Reply) {
+    reply.word(match kind {
+        TermKind::Iri => "iri",
+        TermKind::Blank => "blank",
+        TermKind::Literal => "literal",
     })
 }
 
-fn say_put_string(ask: &mut Ask<'_>, say: &mut Say) {
-    let string = ask.bytes();
-    let mut text = ask.bytes();
+fn reply_put_string(args: &mut Args<'_>, reply: &mut Reply) {
+    let string = args.bytes();
+    let mut text = args.bytes();
     match put_string(&string, &mut text) {
-        Ok(kind) => say_kind(kind, say),
-        Err(fault) => say_string_fault(fault, say),
+        Ok(kind) => reply_kind(kind, reply),
+        Err(fault) => reply_string_fault(fault, reply),
     }
-    say.bytes(&text)
+    reply.bytes(&text)
 }
 
 /// Whether a copy of a term equals another term.
-fn say_same_term(ask: &mut Ask<'_>, say: &mut Say) {
-    let Some(one) = parsed(ask, say) else {
+fn reply_same_term(args: &mut Args<'_>, reply: &mut Reply) {
+    let Some(one) = parsed(args, reply) else {
         return;
     };
-    let Some(other) = parsed(ask, say) else {
+    let Some(other) = parsed(args, reply) else {
         return;
     };
     match one.clone() {
-        Ok(copy) => say.truth(copy == other),
-        Err(_) => say.no_memory(),
+        Ok(copy) => reply.boolean(copy == other),
+        Err(_) => reply.out_of_memory(),
     }
 }

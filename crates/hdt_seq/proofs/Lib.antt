@@ -1,5 +1,5 @@
 mod Reading
 mod BitReading
-mod Joining
-mod Words
-mod Groups
+mod LoadedBits
+mod OnesOfWords
+mod GroupCounts

@@ -3,14 +3,14 @@
 use Rattle.std.specs.Prelude.{◌≡◌, ◌<◌, ◌==◌, ℕ, ◌+◌, ◌^◌, List, ◌∷◌, Bool, length, nat_lt, Result, Ok}
 use Rattle.hdt_wire.specs.declared.fault.Fault.{Fault}
 use Rattle.hdt_wire.specs.declared.fault.Reason.TheVariants.{BitsKind, NoTriples}
-use Rattle.hdt_wire.specs.Rows.{◌>>=◌, demand}
+use Rattle.hdt_wire.specs.Checks.{◌>>=◌, demand}
 use Rattle.hdt_wire.specs.VByte.{VByte, vbyte, vbyte_at}
 use Rattle.hdt_seq.specs.declared.bits.Bits.{Bits}
-use Rattle.hdt_seq.specs.Little.{bytes_for, bits, packed_bits}
-use Rattle.hdt_seq.specs.Sequence.{Places, Sequence, framed, byte_at, code8_at, packed_at}
+use Rattle.hdt_seq.specs.PackedBits.{bytes_for, bits, packed_bits}
+use Rattle.hdt_seq.specs.Sequence.{SequenceOffsets, Sequence, with_crcs, byte_at, crc8_at, packed_at}
 
 -- the text encodes the bits: it has some packed bytes whose first bits are these
-pub record IsBits (text : List ℕ) (xs : List Bool) : Type 0 where
+pub record EncodesBits (text : List ℕ) (xs : List Bool) : Type 0 where
   pub count : List ℕ
   pub packed : List ℕ
   pub some : 0 < length xs
@@ -18,27 +18,27 @@ pub record IsBits (text : List ℕ) (xs : List Bool) : Type 0 where
   pub counts : VByte count (length xs)
   pub size : length packed ≡ bytes_for (length xs)
   pub holds : bits packed (length xs) ≡ xs
-  pub whole : text ≡ framed (1 ∷ count) packed
+  pub whole : text ≡ with_crcs (1 ∷ count) packed
 
 -- the bits of a bitmap
 unfoldable pub bits_of : Bits → List Bool
 bits_of s = bits s.packed.now s.count
 
 -- the offsets of a bitmap in the input
-unfoldable pub bits_places : Bits → Places
-bits_places s = record { count = s.count_at; packed = s.packed_at; width = 1 }
+unfoldable pub bits_offsets : Bits → SequenceOffsets
+bits_offsets s = record { count = s.count_at; packed = s.packed_at; width = 1 }
 
 -- the bits that a reader returns, and the offset after the bitmap
 abbrev pub bits_and_end : Bits × ℕ → List Bool × ℕ
 bits_and_end r = (bits_of r.0, r.1)
 
 -- the same, with the offsets of the bitmap
-abbrev pub bits_read : Bits × ℕ → Sequence Bool
-bits_read r = record { items = bits_of r.0; places = bits_places r.0; end = r.1 }
+abbrev pub bits_view : Bits × ℕ → Sequence Bool
+bits_view r = record { items = bits_of r.0; places = bits_offsets r.0; end = r.1 }
 
 -- the offsets of a bitmap of n bits that begins at an offset
-abbrev pub bits_places_from : ℕ → ℕ → Places
-bits_places_from at n = record { count = at + 1; packed = at + 2 + length (vbyte n); width = 1 }
+abbrev pub bits_offsets_at : ℕ → ℕ → SequenceOffsets
+bits_offsets_at at n = record { count = at + 1; packed = at + 2 + length (vbyte n); width = 1 }
 
 -- the checks of a bitmap in turn: the bitmap, or the first error
 unfoldable pub bits_at : List ℕ → ℕ → Result (Sequence Bool) Fault
@@ -46,7 +46,7 @@ bits_at bytes at = do
   kind ← byte_at bytes at
   _ ← demand (kind.0 == 1) at BitsKind
   count ← vbyte_at bytes kind.1
-  start ← code8_at bytes at count.1
+  start ← crc8_at bytes at count.1
   _ ← demand (nat_lt 0 count.0) kind.1 NoTriples
   packed ← packed_at count.0 bytes start
   Ok (record { items = bits packed.0 count.0; places = record { count = kind.1; packed = start; width = 1 }; end = packed.1 })
@@ -54,5 +54,5 @@ bits_at bytes at = do
 -- ---- writing
 
 -- the canonical encoding of the bits: all padding bits are 0
-unfoldable pub bits_spelling : List Bool → List ℕ
-bits_spelling xs = framed (1 ∷ vbyte (length xs)) (packed_bits xs)
+unfoldable pub bits_encoding : List Bool → List ℕ
+bits_encoding xs = with_crcs (1 ∷ vbyte (length xs)) (packed_bits xs)

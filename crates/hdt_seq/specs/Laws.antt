@@ -1,4 +1,4 @@
-pub mod Little
+pub mod LittleEndian
 pub mod Numbers
 pub mod Bits
 pub mod Sequence
@@ -6,5 +6,5 @@ pub mod NumbersReading
 pub mod BitsReading
 pub mod Width
 pub mod Packing
-pub mod Marks
+pub mod RankSelect
 pub mod ExactSequences

@@ -1,9 +1,9 @@
-pub mod Little
+pub mod PackedBits
 pub mod Sequence
 pub mod Numbers
 pub mod Bits
 pub mod Width
-pub mod Marks
+pub mod RankSelect
 pub mod ExactSequences
 pub mod Directory
 pub mod Laws

@@ -3,15 +3,15 @@
 use Rattle.std.specs.Prelude.{◌≡◌, ◌≤◌, ◌<◌, ◌==◌, ℕ, ◌+◌, ◌*◌, ◌^◌, List, ◌∷◌, length, nat_le, Result, Ok}
 use Rattle.hdt_wire.specs.declared.fault.Fault.{Fault}
 use Rattle.hdt_wire.specs.declared.fault.Reason.TheVariants.{SequenceKind, Width}
-use Rattle.hdt_wire.specs.Rows.{◌>>=◌, demand}
+use Rattle.hdt_wire.specs.Checks.{◌>>=◌, demand}
 use Rattle.hdt_wire.specs.VByte.{VByte, vbyte, vbyte_at}
 use Rattle.hdt_seq.specs.declared.numbers.Numbers.{Numbers}
-use Rattle.hdt_seq.specs.Little.{bytes_for, entries, packed}
+use Rattle.hdt_seq.specs.PackedBits.{bytes_for, entries, packed}
 use Rattle.hdt_seq.specs.Width.{width_of}
-use Rattle.hdt_seq.specs.Sequence.{Places, Sequence, framed, byte_at, code8_at, packed_at}
+use Rattle.hdt_seq.specs.Sequence.{SequenceOffsets, Sequence, with_crcs, byte_at, crc8_at, packed_at}
 
 -- the text encodes the numbers: it has some width and some packed bytes whose first entries are these
-pub record IsNumbers (text : List ℕ) (xs : List ℕ) : Type 0 where
+pub record EncodesNumbers (text : List ℕ) (xs : List ℕ) : Type 0 where
   pub width : ℕ
   pub count : List ℕ
   pub packed : List ℕ
@@ -20,27 +20,27 @@ pub record IsNumbers (text : List ℕ) (xs : List ℕ) : Type 0 where
   pub counts : VByte count (length xs)
   pub size : length packed ≡ bytes_for (width * length xs)
   pub holds : entries packed width (length xs) ≡ xs
-  pub whole : text ≡ framed (1 ∷ width ∷ count) packed
+  pub whole : text ≡ with_crcs (1 ∷ width ∷ count) packed
 
 -- the entries of a log sequence
 unfoldable pub numbers_of : Numbers → List ℕ
 numbers_of s = entries s.packed.now s.width s.count
 
 -- the offsets of a log sequence in the input
-unfoldable pub numbers_places : Numbers → Places
-numbers_places s = record { count = s.count_at; packed = s.packed_at; width = s.width }
+unfoldable pub numbers_offsets : Numbers → SequenceOffsets
+numbers_offsets s = record { count = s.count_at; packed = s.packed_at; width = s.width }
 
 -- the entries that a reader returns, and the offset after the sequence
 abbrev pub numbers_and_end : Numbers × ℕ → List ℕ × ℕ
 numbers_and_end r = (numbers_of r.0, r.1)
 
 -- the same, with the offsets of the sequence
-abbrev pub numbers_read : Numbers × ℕ → Sequence ℕ
-numbers_read r = record { items = numbers_of r.0; places = numbers_places r.0; end = r.1 }
+abbrev pub numbers_view : Numbers × ℕ → Sequence ℕ
+numbers_view r = record { items = numbers_of r.0; places = numbers_offsets r.0; end = r.1 }
 
 -- the offsets of a log sequence of n entries that begins at an offset
-abbrev pub numbers_places_from : ℕ → ℕ → ℕ → Places
-numbers_places_from at width n = record { count = at + 2; packed = at + 3 + length (vbyte n); width = width }
+abbrev pub numbers_offsets_at : ℕ → ℕ → ℕ → SequenceOffsets
+numbers_offsets_at at width n = record { count = at + 2; packed = at + 3 + length (vbyte n); width = width }
 
 -- the checks of a log sequence in turn: the sequence, or the first error
 unfoldable pub numbers_at : List ℕ → ℕ → Result (Sequence ℕ) Fault
@@ -50,12 +50,12 @@ numbers_at bytes at = do
   width ← byte_at bytes kind.1
   _ ← demand (nat_le width.0 64) kind.1 Width
   count ← vbyte_at bytes width.1
-  start ← code8_at bytes at count.1
+  start ← crc8_at bytes at count.1
   packed ← packed_at (width.0 * count.0) bytes start
   Ok (record { items = entries packed.0 width.0 count.0; places = record { count = width.1; packed = start; width = width.0 }; end = packed.1 })
 
 -- ---- writing
 
 -- the canonical encoding of the entries: the least width that fits all, and all padding bits 0
-unfoldable pub numbers_spelling : List ℕ → List ℕ
-numbers_spelling xs = framed (1 ∷ width_of xs ∷ vbyte (length xs)) (packed (width_of xs) xs)
+unfoldable pub numbers_encoding : List ℕ → List ℕ
+numbers_encoding xs = with_crcs (1 ∷ width_of xs ∷ vbyte (length xs)) (packed (width_of xs) xs)

@@ -4,28 +4,28 @@ use Rattle.std.specs.Prelude.{ℕ, ◌+◌, ◌*◌, ◌/◌, ◌==◌, List, �
 use Rattle.byteorder.specs.Endian.{little_number, little_bytes}
 use Rattle.hdt_wire.specs.declared.fault.Fault.{Fault}
 use Rattle.hdt_wire.specs.declared.fault.Reason.TheVariants.{Check8, Check32}
-use Rattle.hdt_wire.specs.Check.{code8, code32}
-use Rattle.hdt_wire.specs.Rows.{◌>>=◌, demand, bytes_at}
-use Rattle.hdt_seq.specs.Little.{bytes_for}
+use Rattle.hdt_wire.specs.Crc.{crc8, crc32}
+use Rattle.hdt_wire.specs.Checks.{◌>>=◌, demand, bytes_at}
+use Rattle.hdt_seq.specs.PackedBits.{bytes_for}
 
 -- the bytes of a sequence: its preamble with its CRC-8, and its packed bytes with their CRC-32C, little-endian
-abbrev pub framed : List ℕ → List ℕ → List ℕ
-framed head packed = head ++ code8 head ∷ (packed ++ little_bytes 4 (code32 packed))
+abbrev pub with_crcs : List ℕ → List ℕ → List ℕ
+with_crcs head packed = head ++ crc8 head ∷ (packed ++ little_bytes 4 (crc32 packed))
 
 -- the byte offsets of the number of entries and of the packed bytes in the input, and the width of an entry in bits
-pub record Places : Type 0 where
+pub record SequenceOffsets : Type 0 where
   pub count : ℕ
   pub packed : ℕ
   pub width : ℕ
 
 -- the byte offset of entry i: that of the byte with its first bit
-abbrev pub place_of_entry : Places → ℕ → ℕ
-place_of_entry places i = places.packed + places.width * i / 8
+abbrev pub entry_offset : SequenceOffsets → ℕ → ℕ
+entry_offset places i = places.packed + places.width * i / 8
 
 -- a sequence: its entries or bits, its offsets, and the byte offset after it
 pub record Sequence (X : Type 0) : Type 0 where
   pub items : List X
-  pub places : Places
+  pub places : SequenceOffsets
   pub end : ℕ
 
 -- ---- the checks
@@ -37,10 +37,10 @@ byte_at bytes at = do
   Ok (slice_index one.0 0, one.1)
 
 -- the CRC-8 of the bytes from a start up to an offset is there; the offset after it
-unfoldable pub code8_at : List ℕ → ℕ → ℕ → Result ℕ Fault
-code8_at bytes start at = do
+unfoldable pub crc8_at : List ℕ → ℕ → ℕ → Result ℕ Fault
+crc8_at bytes start at = do
   code ← byte_at bytes at
-  _ ← demand (code.0 == code8 (slice_range bytes start at)) at Check8
+  _ ← demand (code.0 == crc8 (slice_range bytes start at)) at Check8
   Ok code.1
 
 -- the bytes that hold so many bits, with their CRC-32C after them, and the offset after that
@@ -48,5 +48,5 @@ unfoldable pub packed_at : ℕ → List ℕ → ℕ → Result (List ℕ × ℕ)
 packed_at bits bytes at = do
   packed ← bytes_at (bytes_for bits) bytes at
   code ← bytes_at 4 bytes packed.1
-  _ ← demand (little_number 4 code.0 == code32 packed.0) packed.1 Check32
+  _ ← demand (little_number 4 code.0 == crc32 packed.0) packed.1 Check32
   Ok (packed.0, code.1)

@@ -1,9 +1,9 @@
 //! Bitmaps: eight bits a byte.
 ghost use Rattle.std.specs.Prelude.{◌≡◌, ◌+◌, ◌*◌, ◌%◌, ◌^◌, ◌<◌, ◌≤◌, ℕ, length};
 
-use crate::rows::{byte_at, code8_at, packed_at};
+use crate::checks::{byte_at, crc8_at, packed_at};
 use crate::steps::Steps;
-use crate::window::{bit_of, window};
+use crate::bit_access::{read_bit, read_bits};
 use hdt_wire::{Fault, Reason, demand, read_vbyte};
 
 /// A bitmap that was read. It borrows its bytes from the input.
@@ -19,27 +19,27 @@ pub struct Bits<'a> {
     count_at: usize,
     packed_at: usize,
     ghost counted: { count < 2 ^ 64 },
-    ghost room: { count ≤ 8 * length packed.now },
+    ghost packed_fits: { count ≤ 8 * length packed.now },
     ghost inside: { packed_at + length packed.now < 2 ^ 64 },
 }
 
 impl<'a> Bits<'a> {
     ghost use Rattle.std.specs.Prelude.{Bool, List, Ok, Some, IfOk, slice_get};
-    ghost use Rattle.hdt_wire.specs.Rows.{Reads, SpelledAt};
+    ghost use Rattle.hdt_wire.specs.Checks.{Reads, EncodedAt};
     ghost use Rattle.std.specs.Int.Count.{ones};
-    ghost use Rattle.hdt_seq.specs.Sequence.{place_of_entry};
-    ghost use Rattle.hdt_seq.specs.Marks.{marks_before};
-    ghost use Rattle.hdt_seq.specs.Bits.{IsBits, bits_of, bits_places, bits_places_from, bits_and_end, bits_read, bits_at};
+    ghost use Rattle.hdt_seq.specs.Sequence.{entry_offset};
+    ghost use Rattle.hdt_seq.specs.RankSelect.{ones_before};
+    ghost use Rattle.hdt_seq.specs.Bits.{EncodesBits, bits_of, bits_offsets, bits_offsets_at, bits_and_end, bits_view, bits_at};
 
     /// Reads a bitmap in the order of the format.
-    #[tactic(auto, unfolding(crate::specs::Bits::bits_at, crate::specs::Bits::bits_of, crate::specs::Bits::bits_places))]
-    fn read_rows(bytes: &'a [u8], at: usize) -> Result<(Bits<'a>, usize), Fault>
-        ensures exact { Reads bits_read result (bits_at bytes.now at) }
+    #[tactic(auto, unfolding(crate::specs::Bits::bits_at, crate::specs::Bits::bits_of, crate::specs::Bits::bits_offsets))]
+    fn read_by_checks(bytes: &'a [u8], at: usize) -> Result<(Bits<'a>, usize), Fault>
+        ensures exact { Reads bits_view result (bits_at bytes.now at) }
     {
         let (kind, count_at) = byte_at(bytes, at)?;
         demand(kind == 1, at, Reason::BitsKind)?;
         let (count, code_at) = read_vbyte(bytes, count_at)?;
-        let start = code8_at(bytes, at, code_at)?;
+        let start = crc8_at(bytes, at, code_at)?;
         demand(count > 0, count_at, Reason::NoTriples)?;
         let (packed, end) = packed_at(bytes, start, u128::from(count))?;
         let bits = Bits {
@@ -60,16 +60,16 @@ impl<'a> Bits<'a> {
     /// bit, `Check32`; and `Truncated` at the offset of what is cut off.
     pub fn read(bytes: &'a [u8], at: usize) -> Result<(Bits<'a>, usize), Fault>
         // What is returned is encoded there.
-        ensures found { IfOk result (λ r. SpelledAt IsBits bytes.now at (bits_of r.0) r.1) }
+        ensures found { IfOk result (λ r. EncodedAt EncodesBits bytes.now at (bits_of r.0) r.1) }
         // Its offsets are those of the format.
-        ensures places { IfOk result (λ r. bits_places r.0 ≡ bits_places_from at (length (bits_of r.0))) }
+        ensures places { IfOk result (λ r. bits_offsets r.0 ≡ bits_offsets_at at (length (bits_of r.0))) }
         // Whatever is encoded there is returned.
-        ensures only { (xs : List Bool) (end : ℕ) → SpelledAt IsBits bytes.now at xs end → Reads bits_and_end result (Ok (xs, end)) }
+        ensures only { (xs : List Bool) (end : ℕ) → EncodedAt EncodesBits bytes.now at xs end → Reads bits_and_end result (Ok (xs, end)) }
         // Otherwise the first error is returned.
-        ensures exact { Reads bits_read result (bits_at bytes.now at) }
+        ensures exact { Reads bits_view result (bits_at bytes.now at) }
         ensures end { IfOk result (λ r. (at < r.1) × (r.1 ≤ length bytes.now)) }
     {
-        Bits::read_rows(bytes, at)
+        Bits::read_by_checks(bytes, at)
     }
 
     /// Returns the number of bits: at least 1, below 2^64.
@@ -86,22 +86,22 @@ impl<'a> Bits<'a> {
         requires { i < length (bits_of self.now) }
         ensures { slice_get (bits_of self.now) i ≡ Some result }
     {
-        bit_of(self.packed, i)
+        read_bit(self.packed, i)
     }
 
     /// Returns the byte offset of the number of bits in the input.
-    #[tactic(auto, unfolding(crate::specs::Bits::bits_places))]
+    #[tactic(auto, unfolding(crate::specs::Bits::bits_offsets))]
     pub fn count_place(&self) -> u64
-        ensures { result ≡ (bits_places self.now).count }
+        ensures { result ≡ (bits_offsets self.now).count }
     {
         self.count_at as u64
     }
 
     /// Returns the byte offset of the byte with bit i in the input.
-    #[tactic(auto, using(crate::specs::Laws::Bits::bit_within), unfolding(crate::specs::Bits::bits_places))]
+    #[tactic(auto, using(crate::specs::Laws::Bits::bit_within), unfolding(crate::specs::Bits::bits_offsets))]
     pub fn entry_place(&self, i: u64) -> u64
         requires { i < length (bits_of self.now) }
-        ensures { result ≡ place_of_entry (bits_places self.now) i }
+        ensures { result ≡ entry_offset (bits_offsets self.now) i }
     {
         self.packed_at as u64 + i / 8
     }
@@ -112,11 +112,11 @@ impl<'a> Bits<'a> {
         requires near { to ≤ from + 64 }
         requires within { to ≤ length (bits_of self.now) }
         // The 1-bits among its lowest k bits are those of the first k positions, and it has no others.
-        ensures lowest { (k : ℕ) → from + k ≤ to → marks_before (bits_of self.now) from + ones (result % 2 ^ k) ≡ marks_before (bits_of self.now) (from + k) }
-        ensures all { marks_before (bits_of self.now) from + ones result ≡ marks_before (bits_of self.now) to }
+        ensures lowest { (k : ℕ) → from + k ≤ to → ones_before (bits_of self.now) from + ones (result % 2 ^ k) ≡ ones_before (bits_of self.now) (from + k) }
+        ensures all { ones_before (bits_of self.now) from + ones result ≡ ones_before (bits_of self.now) to }
         ensures cost { steps.new ≡ steps.old + 1 }
     {
         steps.tick();
-        window(self.packed, u128::from(from), (to - from) as u8)
+        read_bits(self.packed, u128::from(from), (to - from) as u8)
     }
 }

@@ -2,7 +2,7 @@
 ghost use Rattle.std.specs.Prelude.{◌≡◌, ◌≤◌, ◌<◌, nat_lt, if◌then◌else◌, ◌+◌, ◌-◌, ◌*◌, ◌/◌, ◌%◌, ◌^◌, ℕ, List, Bool, length, slice_index, slice_get, Some, true, IfOk, SomeIndex};
 ghost use Rattle.std.specs.Int.Count.{ones};
 ghost use Rattle.hdt_seq.specs.Width.{digits};
-ghost use Rattle.hdt_seq.specs.Marks.{marks_before, IsPlaceOfMark};
+ghost use Rattle.hdt_seq.specs.RankSelect.{ones_before, IsSelect};
 ghost use Rattle.hdt_seq.specs.Bits.{bits_of};
 
 use crate::bits::Bits;
@@ -36,11 +36,11 @@ pub struct Directory {
 }
 
 impl Directory {
-    ghost use Rattle.hdt_seq.specs.Directory.{groups, counts_kept, IsDirectoryOf};
+    ghost use Rattle.hdt_seq.specs.Directory.{groups, stored_counts, IsDirectoryOf};
 
     /// Builds the index in one pass over the bitmap, without its padding bits. Linear time. Its only allocation is the
     /// counts: 8 bytes a group, and 8 more. Fails if the allocation fails.
-    #[tactic(auto, unfolding(crate::specs::Directory::counts_kept))]
+    #[tactic(auto, unfolding(crate::specs::Directory::stored_counts))]
     pub fn new(alloc: Global, bits: &Bits<'_>) -> Result<Directory, AllocError>
         ensures { IfOk result (λ d. IsDirectoryOf d (bits_of bits.now)) }
     {
@@ -52,7 +52,7 @@ impl Directory {
         let mut total = 0;
         for group in 0..groups {
             let next = at + (bits.len() - at).min(GROUP);
-            total += marks_between(bits, at, next, &mut uncounted);
+            total += ones_in_range(bits, at, next, &mut uncounted);
             at = next;
             counts.push(total)?;
         }
@@ -61,11 +61,11 @@ impl Directory {
 
     /// Returns the number of 1-bits before position i, from 0, in at most 8 steps. For the length of the bitmap, that
     /// is the number of all 1-bits, in one step.
-    #[tactic(auto, unfolding(crate::specs::Directory::counts_kept), using(crate::specs::Laws::Marks::marks_le, crate::proofs::Groups::group_end))]
+    #[tactic(auto, unfolding(crate::specs::Directory::stored_counts), using(crate::specs::Laws::RankSelect::ones_before_le, crate::proofs::GroupCounts::group_end))]
     pub fn rank(&self, bits: &Bits<'_>, i: u64, steps: &mut Steps) -> u64
         requires counted { IsDirectoryOf self.now (bits_of bits.now) }
         requires within { i ≤ length (bits_of bits.now) }
-        ensures is { result ≡ marks_before (bits_of bits.now) i }
+        ensures is { result ≡ ones_before (bits_of bits.now) i }
         ensures most { result ≤ i }
         ensures cost { steps.new ≤ steps.old + 8 }
         ensures more { steps.old ≤ steps.new }
@@ -78,12 +78,12 @@ impl Directory {
         let inside = i % GROUP;
         if inside < GROUP - WORD {
             let before = self.count(group, steps);
-            before + marks_between(bits, i - inside, i, steps)
+            before + ones_in_range(bits, i - inside, i, steps)
         } else {
             // In the group's last word: counted backward from the count of the next group.
             let left = (GROUP - inside).min(bits.len() - i);
             let through = self.count(group + 1, steps);
-            through - marks_between(bits, i, i + left, steps)
+            through - ones_in_range(bits, i, i + left, steps)
         }
     }
 
@@ -92,21 +92,21 @@ impl Directory {
     pub fn select(&self, bits: &Bits<'_>, k: u64, steps: &mut Steps) -> u64
         requires counted { IsDirectoryOf self.now (bits_of bits.now) }
         requires some { 0 < k }
-        requires many { k ≤ marks_before (bits_of bits.now) (length (bits_of bits.now)) }
-        ensures is { IsPlaceOfMark (bits_of bits.now) k result }
+        requires many { k ≤ ones_before (bits_of bits.now) (length (bits_of bits.now)) }
+        ensures is { IsSelect (bits_of bits.now) k result }
         ensures within { result < length (bits_of bits.now) }
-        ensures through { marks_before (bits_of bits.now) (result + 1) ≡ k }
+        ensures through { ones_before (bits_of bits.now) (result + 1) ≡ k }
         ensures cost { steps.new ≤ steps.old + (digits (groups (bits_of bits.now)) + 8) }
         ensures more { steps.old ≤ steps.new }
     {
-        let (group, before) = self.group_of(k, steps);
-        place_from(bits, group * GROUP, k - before, steps)
+        let (group, before) = self.find_group(k, steps);
+        select_from(bits, group * GROUP, k - before, steps)
     }
 
     /// Returns the memory of the index in units of 8 bytes: one for each group, and one for the total.
-    #[tactic(auto, unfolding(crate::specs::Directory::counts_kept))]
+    #[tactic(auto, unfolding(crate::specs::Directory::stored_counts))]
     pub fn held(&self) -> u128
-        ensures is { result ≡ length (counts_kept self.now) }
+        ensures is { result ≡ length (stored_counts self.now) }
         ensures groups { (bits : List Bool) → IsDirectoryOf self.now bits → result ≡ groups bits + 1 }
     {
         // The pattern names every field, so a new one doesn't compile until it is counted here.
@@ -116,10 +116,10 @@ impl Directory {
     }
 
     /// The count of a group. One step.
-    #[tactic(auto, unfolding(crate::specs::Directory::counts_kept))]
+    #[tactic(auto, unfolding(crate::specs::Directory::stored_counts))]
     fn count(&self, group: u64, steps: &mut Steps) -> u64
-        requires { group < length (counts_kept self.now) }
-        ensures is { result ≡ slice_index (counts_kept self.now) group }
+        requires { group < length (stored_counts self.now) }
+        ensures is { result ≡ slice_index (stored_counts self.now) group }
         ensures cost { steps.new ≡ steps.old + 1 }
     {
         steps.tick();
@@ -127,17 +127,17 @@ impl Directory {
     }
 
     /// The group of the k-th 1-bit, and the number of 1-bits before that group. Binary search.
-    #[tactic(auto, unfolding(crate::specs::Directory::counts_kept), using(crate::specs::Laws::Width::digits_split))]
-    fn group_of(&self, k: u64, steps: &mut Steps) -> (u64, u64)
-        requires some { 1 < length (counts_kept self.now) }
-        requires first { slice_index (counts_kept self.now) 0 ≡ 0 }
+    #[tactic(auto, unfolding(crate::specs::Directory::stored_counts), using(crate::specs::Laws::Width::digits_split))]
+    fn find_group(&self, k: u64, steps: &mut Steps) -> (u64, u64)
+        requires some { 1 < length (stored_counts self.now) }
+        requires first { slice_index (stored_counts self.now) 0 ≡ 0 }
         requires asked { 0 < k }
-        requires last { k ≤ slice_index (counts_kept self.now) (length (counts_kept self.now) - 1) }
-        ensures inside { result.0 + 1 < length (counts_kept self.now) }
-        ensures before_is { result.1 ≡ slice_index (counts_kept self.now) result.0 }
+        requires last { k ≤ slice_index (stored_counts self.now) (length (stored_counts self.now) - 1) }
+        ensures inside { result.0 + 1 < length (stored_counts self.now) }
+        ensures before_is { result.1 ≡ slice_index (stored_counts self.now) result.0 }
         ensures before { result.1 < k }
-        ensures through { k ≤ slice_index (counts_kept self.now) (result.0 + 1) }
-        ensures cost { steps.new ≤ steps.old + digits (length (counts_kept self.now) - 2) }
+        ensures through { k ≤ slice_index (stored_counts self.now) (result.0 + 1) }
+        ensures cost { steps.new ≤ steps.old + digits (length (stored_counts self.now) - 2) }
         ensures more { steps.old ≤ steps.new }
     {
         let mut low = 0;
@@ -158,11 +158,11 @@ impl Directory {
 }
 
 /// The number of 1-bits from one position up to another. One step for each 64 bits.
-#[tactic(auto, using(crate::specs::Laws::Marks::marks_le))]
-fn marks_between(bits: &Bits<'_>, from: u64, to: u64, steps: &mut Steps) -> u64
+#[tactic(auto, using(crate::specs::Laws::RankSelect::ones_before_le))]
+fn ones_in_range(bits: &Bits<'_>, from: u64, to: u64, steps: &mut Steps) -> u64
     requires order { from ≤ to }
     requires within { to ≤ length (bits_of bits.now) }
-    ensures is { marks_before (bits_of bits.now) from + result ≡ marks_before (bits_of bits.now) to }
+    ensures is { ones_before (bits_of bits.now) from + result ≡ ones_before (bits_of bits.now) to }
     ensures cost { steps.new ≤ steps.old + (to - from + 63) / 64 }
     ensures more { steps.old ≤ steps.new }
 {
@@ -177,12 +177,12 @@ fn marks_between(bits: &Bits<'_>, from: u64, to: u64, steps: &mut Steps) -> u64
 }
 
 /// The position of the `left`-th 1-bit at or after `from`, `left` from 1. It must be less than a group away.
-fn place_from(bits: &Bits<'_>, from: u64, left: u64, steps: &mut Steps) -> u64
+fn select_from(bits: &Bits<'_>, from: u64, left: u64, steps: &mut Steps) -> u64
     requires some { 0 < left }
-    requires near { marks_before (bits_of bits.now) from + left ≤ marks_before (bits_of bits.now) (from + 512) }
+    requires near { ones_before (bits_of bits.now) from + left ≤ ones_before (bits_of bits.now) (from + 512) }
     ensures within { result < length (bits_of bits.now) }
-    ensures before { marks_before (bits_of bits.now) result + 1 ≡ marks_before (bits_of bits.now) from + left }
-    ensures through { marks_before (bits_of bits.now) (result + 1) ≡ marks_before (bits_of bits.now) from + left }
+    ensures before { ones_before (bits_of bits.now) result + 1 ≡ ones_before (bits_of bits.now) from + left }
+    ensures through { ones_before (bits_of bits.now) (result + 1) ≡ ones_before (bits_of bits.now) from + left }
     ensures cost { steps.new ≤ steps.old + 8 }
     ensures more { steps.old ≤ steps.new }
 {
@@ -193,7 +193,7 @@ fn place_from(bits: &Bits<'_>, from: u64, left: u64, steps: &mut Steps) -> u64
         let word = bits.word(at, next, steps);
         let found = u64::from(word.count_ones());
         if left <= found {
-            return at + place_of_one(word, next - at, left);
+            return at + select_in_word(word, next - at, left);
         }
         left -= found;
         at = next;
@@ -202,7 +202,7 @@ fn place_from(bits: &Bits<'_>, from: u64, left: u64, steps: &mut Steps) -> u64
 
 /// 1 if a word has fewer than k 1-bits before a position, else 0.
 #[inline(always)]
-#[tactic(auto, using(crate::proofs::Words::lowest_bits))]
+#[tactic(auto, using(crate::proofs::OnesOfWords::lowest_bits))]
 fn has_fewer(word: u64, place: u64, k: u64) -> u64
     requires { place < 64 }
     ensures { result ≡ (if nat_lt (ones (word % 2 ^ place)) k then 1 else 0) }
@@ -213,7 +213,7 @@ fn has_fewer(word: u64, place: u64, k: u64) -> u64
 
 /// The position of the k-th 1-bit, k from 1, among the lowest bits of a word. Finds its six binary digits from the
 /// highest on, without branches, which would be unpredictable.
-fn place_of_one(word: u64, width: u64, k: u64) -> u64
+fn select_in_word(word: u64, width: u64, k: u64) -> u64
     requires narrow { width ≤ 64 }
     requires some { 0 < k }
     requires many { k ≤ ones (word % 2 ^ width) }
@@ -232,14 +232,14 @@ fn place_of_one(word: u64, width: u64, k: u64) -> u64
 }
 
 /// Laws of rank and select, which are inverse: the 1-bits of a list are numbered from 1, in order.
-pub fn marks_are_numbered()
+pub fn rank_select_inverse()
     // The number of a 1-bit is one more than the number of 1-bits before it.
-    ensures number { (bits : List Bool) (i : ℕ) → slice_get bits i ≡ Some true → IsPlaceOfMark bits (marks_before bits i + 1) i }
+    ensures number { (bits : List Bool) (i : ℕ) → slice_get bits i ≡ Some true → IsSelect bits (ones_before bits i + 1) i }
     // Each number from 1 to the number of 1-bits is that of exactly one 1-bit.
-    ensures some { (bits : List Bool) (k : ℕ) → 0 < k → k ≤ marks_before bits (length bits) → SomeIndex bits (IsPlaceOfMark bits k) }
-    ensures one { (bits : List Bool) (k i j : ℕ) → IsPlaceOfMark bits k i → IsPlaceOfMark bits k j → i ≡ j }
-    ensures ascend { (bits : List Bool) (k m i j : ℕ) → IsPlaceOfMark bits k i → IsPlaceOfMark bits m j → k < m → i < j }
-    ensures through { (bits : List Bool) (k i : ℕ) → IsPlaceOfMark bits k i → marks_before bits (i + 1) ≡ k }
+    ensures some { (bits : List Bool) (k : ℕ) → 0 < k → k ≤ ones_before bits (length bits) → SomeIndex bits (IsSelect bits k) }
+    ensures one { (bits : List Bool) (k i j : ℕ) → IsSelect bits k i → IsSelect bits k j → i ≡ j }
+    ensures ascend { (bits : List Bool) (k m i j : ℕ) → IsSelect bits k i → IsSelect bits m j → k < m → i < j }
+    ensures through { (bits : List Bool) (k i : ℕ) → IsSelect bits k i → ones_before bits (i + 1) ≡ k }
     // Rank never decreases.
-    ensures monotone { (bits : List Bool) (i j : ℕ) → i ≤ j → marks_before bits i ≤ marks_before bits j }
+    ensures monotone { (bits : List Bool) (i j : ℕ) → i ≤ j → ones_before bits i ≤ ones_before bits j }
 {}

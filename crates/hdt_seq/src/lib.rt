@@ -17,8 +17,8 @@
 //! ```
 //!
 //! Both sequences borrow the input and are `Copy`. A `Directory` is a rank/select index; it owns only its counts.
-//! Contracts see sequences as lists, by `numbers_of` and `bits_of` of specs/, and their offsets by `numbers_places` and
-//! `bits_places`. `IsDirectoryOf` says that an index is that of a list of bits. Laws on these lists, and on rank and
+//! Contracts see sequences as lists, by `numbers_of` and `bits_of` of specs/, and their offsets by `numbers_offsets` and
+//! `bits_offsets`. `IsDirectoryOf` says that an index is that of a list of bits. Laws on these lists, and on rank and
 //! select, are in specs/Laws: `Numbers`, `Bits`, `RankSelect`.
 #![tactic(auto)]
 
@@ -26,16 +26,15 @@ mod bits;
 mod directory;
 mod numbers;
 mod packing;
-mod rows;
+mod checks;
 mod steps;
-mod width;
-mod window;
+mod bit_access;
 mod writing;
 
 pub use bits::Bits;
-pub use directory::{Directory, marks_are_numbered};
+pub use directory::{Directory, rank_select_inverse};
 pub use numbers::Numbers;
-pub use rows::{byte_at, code8_at, packed_at};
+pub use checks::{byte_at, crc8_at, packed_at};
 pub use steps::Steps;
-pub use width::width_of;
-pub use writing::{bits_are_read_again, numbers_are_read_again, put_bits, put_numbers};
+pub use packing::width_of;
+pub use writing::{bits_roundtrip, numbers_roundtrip, put_bits, put_numbers};

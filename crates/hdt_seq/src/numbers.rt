@@ -1,8 +1,8 @@
 //! Log sequences: entries of 0 to 64 bits each, packed.
 ghost use Rattle.std.specs.Prelude.{◌≡◌, ◌+◌, ◌*◌, ◌^◌, ◌<◌, ◌≤◌, ℕ, length};
 
-use crate::rows::{byte_at, code8_at, packed_at};
-use crate::window::entry_of;
+use crate::checks::{byte_at, crc8_at, packed_at};
+use crate::bit_access::read_entry;
 use hdt_wire::{Fault, Reason, demand, read_vbyte};
 
 /// A log sequence that was read. It borrows its packed bytes from the input.
@@ -23,27 +23,27 @@ pub struct Numbers<'a> {
     packed_at: usize,
     ghost narrow: { width ≤ 64 },
     ghost counted: { count < 2 ^ 64 },
-    ghost room: { width * count ≤ 8 * length packed.now },
+    ghost packed_fits: { width * count ≤ 8 * length packed.now },
     ghost inside: { packed_at + length packed.now < 2 ^ 64 },
 }
 
 impl<'a> Numbers<'a> {
     ghost use Rattle.std.specs.Prelude.{List, Ok, IfOk, slice_index};
-    ghost use Rattle.hdt_wire.specs.Rows.{Reads, SpelledAt};
-    ghost use Rattle.hdt_seq.specs.Sequence.{place_of_entry};
-    ghost use Rattle.hdt_seq.specs.Numbers.{IsNumbers, numbers_of, numbers_places, numbers_places_from, numbers_and_end, numbers_read, numbers_at};
+    ghost use Rattle.hdt_wire.specs.Checks.{Reads, EncodedAt};
+    ghost use Rattle.hdt_seq.specs.Sequence.{entry_offset};
+    ghost use Rattle.hdt_seq.specs.Numbers.{EncodesNumbers, numbers_of, numbers_offsets, numbers_offsets_at, numbers_and_end, numbers_view, numbers_at};
 
     /// Reads a log sequence in the order of the format.
-    #[tactic(auto, unfolding(crate::specs::Numbers::numbers_at, crate::specs::Numbers::numbers_of, crate::specs::Numbers::numbers_places))]
-    fn read_rows(bytes: &'a [u8], at: usize) -> Result<(Numbers<'a>, usize), Fault>
-        ensures exact { Reads numbers_read result (numbers_at bytes.now at) }
+    #[tactic(auto, unfolding(crate::specs::Numbers::numbers_at, crate::specs::Numbers::numbers_of, crate::specs::Numbers::numbers_offsets))]
+    fn read_by_checks(bytes: &'a [u8], at: usize) -> Result<(Numbers<'a>, usize), Fault>
+        ensures exact { Reads numbers_view result (numbers_at bytes.now at) }
     {
         let (kind, width_at) = byte_at(bytes, at)?;
         demand(kind == 1, at, Reason::SequenceKind)?;
         let (width, count_at) = byte_at(bytes, width_at)?;
         demand(width <= 64, width_at, Reason::Width)?;
         let (count, code_at) = read_vbyte(bytes, count_at)?;
-        let start = code8_at(bytes, at, code_at)?;
+        let start = crc8_at(bytes, at, code_at)?;
         let bits = u128::from(width) * u128::from(count);
         let (packed, end) = packed_at(bytes, start, bits)?;
         let numbers = Numbers {
@@ -65,16 +65,16 @@ impl<'a> Numbers<'a> {
     /// and `Truncated` at the offset of what is cut off.
     pub fn read(bytes: &'a [u8], at: usize) -> Result<(Numbers<'a>, usize), Fault>
         // What is returned is encoded there.
-        ensures found { IfOk result (λ r. SpelledAt IsNumbers bytes.now at (numbers_of r.0) r.1) }
+        ensures found { IfOk result (λ r. EncodedAt EncodesNumbers bytes.now at (numbers_of r.0) r.1) }
         // Its offsets are those of the format.
-        ensures places { IfOk result (λ r. numbers_places r.0 ≡ numbers_places_from at (slice_index bytes.now (at + 1)) (length (numbers_of r.0))) }
+        ensures places { IfOk result (λ r. numbers_offsets r.0 ≡ numbers_offsets_at at (slice_index bytes.now (at + 1)) (length (numbers_of r.0))) }
         // Whatever is encoded there is returned.
-        ensures only { (xs : List ℕ) (end : ℕ) → SpelledAt IsNumbers bytes.now at xs end → Reads numbers_and_end result (Ok (xs, end)) }
+        ensures only { (xs : List ℕ) (end : ℕ) → EncodedAt EncodesNumbers bytes.now at xs end → Reads numbers_and_end result (Ok (xs, end)) }
         // Otherwise the first error is returned.
-        ensures exact { Reads numbers_read result (numbers_at bytes.now at) }
+        ensures exact { Reads numbers_view result (numbers_at bytes.now at) }
         ensures end { IfOk result (λ r. (at < r.1) × (r.1 ≤ length bytes.now)) }
     {
-        Numbers::read_rows(bytes, at)
+        Numbers::read_by_checks(bytes, at)
     }
 
     /// Returns the number of entries, which is below 2^64.
@@ -91,23 +91,23 @@ impl<'a> Numbers<'a> {
         requires { i < length (numbers_of self.now) }
         ensures { result ≡ slice_index (numbers_of self.now) i }
     {
-        entry_of(self.packed, self.width, i)
+        read_entry(self.packed, self.width, i)
     }
 
     /// Returns the byte offset of the number of entries in the input.
-    #[tactic(auto, unfolding(crate::specs::Numbers::numbers_places))]
+    #[tactic(auto, unfolding(crate::specs::Numbers::numbers_offsets))]
     pub fn count_place(&self) -> u64
-        ensures { result ≡ (numbers_places self.now).count }
+        ensures { result ≡ (numbers_offsets self.now).count }
     {
         self.count_at as u64
     }
 
     /// Returns the byte offset of entry i in the input: that of the byte with its first bit. Entries of 0 bits are at
     /// the offset of the packed bytes.
-    #[tactic(auto, using(crate::specs::Laws::Numbers::number_within), unfolding(crate::specs::Numbers::numbers_places))]
+    #[tactic(auto, using(crate::specs::Laws::Numbers::number_within), unfolding(crate::specs::Numbers::numbers_offsets))]
     pub fn entry_place(&self, i: u64) -> u64
         requires { i < length (numbers_of self.now) }
-        ensures { result ≡ place_of_entry (numbers_places self.now) i }
+        ensures { result ≡ entry_offset (numbers_offsets self.now) i }
     {
         let bits = u128::from(self.width) * u128::from(i);
         self.packed_at as u64 + (bits / 8) as u64

@@ -1,13 +1,13 @@
 //! The cost of a search in steps, counted for contracts.
 ghost use Rattle.std.specs.Prelude.{◌≡◌, ◌+◌};
 
-use hdt_wire::Tally;
+use hdt_wire::GhostCounter;
 use std::marker::Model;
 
 /// A count of steps. It takes no memory; only contracts see it, and only [`Steps::tick`] increments it.
 #[derive(Drop)]
 pub struct Steps {
-    taken: Tally,
+    taken: GhostCounter,
 }
 
 impl Model for Steps {
@@ -24,7 +24,7 @@ impl Steps {
         ensures { result ≡ 0 }
     {
         Steps {
-            taken: Tally::new(),
+            taken: GhostCounter::new(),
         }
     }
 

@@ -7,7 +7,7 @@ use Rattle.std.proofs.lemmas.List.Sums.{prefix_len-le-length, prefix_len_passes,
 use Rattle.std.specs.List.{prefix_len}
 use lib.Lanes.{chunk, mask_l, top}
 use Rattle.hdt_wire.specs.Masks.{first_set}
-use Rattle.hdt_terms.specs.Inside.Lanes.{IsRunOfBytes}
+use Rattle.hdt_terms.specs.Inside.ByteRuns.{IsRunOfBytes}
 
 run_is : (p : ℕ → Bool) (v : List ℕ) (n : ℕ) → length v ≡ n → n ≤ 64 → first_set (mask_l (map p v)) n ≡ prefix_len (λ x. not (p x)) v
 run_is p v n long few =

@@ -2,15 +2,15 @@
 use Rattle.std.proofs.Common.{◌≡◌, ◌≢◌, ℕ, true, false, eqb, ne_eqb, List, [], ◌∷◌, ◌++◌, Option, Some, None, Ok, refl, sym, ap, subst, ◌∙◌, append_assoc, append-nil, inl, inr}
 use Rattle.std.proofs.lemmas.Bool.{eq-eqb, eqb-true, cases_Bool, false_from_ne_true}
 use Rattle.hdt_terms.specs.declared.fault.LineReason.TheVariants.{Syntax}
-use Rattle.hdt_terms.specs.LineReading.{is_bare}
-use Rattle.hdt_terms.specs.RawReading.{RawAsked, raw_letter, raw_at, tab_at, nothing_at, raw_request_at, raw_request_in}
-use Rattle.hdt_terms.specs.RawRequests.{SpelledByte, SpelledRaw, SpelledRawRequest, RawRequestLine}
-use Rattle.hdt_terms.specs.Reading.{◌>>=◌, stops, with_front}
+use Rattle.hdt_terms.specs.LineParsing.{is_blank_or_comment}
+use Rattle.hdt_terms.specs.RawRequestParsing.{StringPattern, raw_escape_byte, raw_string_at, tab_at, end_at, raw_request_at, raw_request_in}
+use Rattle.hdt_terms.specs.RawRequests.{EncodesByte, EncodesRawString, EncodesRawRequest, RawRequestLine}
+use Rattle.hdt_terms.specs.TermParsing.{◌>>=◌, stops, prepend_read}
 use Rattle.hdt_terms.proofs.Cases.{bind_ok, chosen, done, ok_is}
-use Rattle.hdt_terms.proofs.LineAgain.{bare_again}
-use Rattle.hdt_terms.proofs.LineFound.{bare_found}
+use Rattle.hdt_terms.proofs.LineCompleteness.{bare_again}
+use Rattle.hdt_terms.proofs.LineSoundness.{bare_found}
 use Rattle.hdt_terms.proofs.LineLaws.{bare_line, read_line, line_read}
-use Rattle.hdt_terms.proofs.Raws.{at_tab, at_byte, at_escape, at_bad, nothing_there}
+use Rattle.hdt_terms.proofs.RawStrings.{at_tab, at_byte, at_escape, at_bad, nothing_there}
 
 -- ---- a string
 
@@ -23,13 +23,13 @@ Ends (c ∷ rest) = c ≡ 9
 record RawFound (bytes : List ℕ) (read : List ℕ × List ℕ) : Type 0 where
   pub text : List ℕ
   pub whole : bytes ≡ text ++ read.1
-  pub spelled : SpelledRaw text read.0
+  pub spelled : EncodesRawString text read.0
   pub ends : Ends read.1
 
-found_behind : (first bytes more : List ℕ) (b : ℕ) (read : List ℕ × List ℕ) → bytes ≡ first ++ more → SpelledByte first b → ((x : List ℕ × List ℕ) → raw_at more ≡ Ok x → RawFound more x)
-    → with_front (b ∷ []) (raw_at more) ≡ Ok read → RawFound bytes read
+found_behind : (first bytes more : List ℕ) (b : ℕ) (read : List ℕ × List ℕ) → bytes ≡ first ++ more → EncodesByte first b → ((x : List ℕ × List ℕ) → raw_string_at more ≡ Ok x → RawFound more x)
+    → prepend_read (b ∷ []) (raw_string_at more) ≡ Ok read → RawFound bytes read
 found_behind first bytes more b read cut is found e =
-    let y = bind_ok (raw_at more) (λ x. Ok ((b ∷ []) ++ x.0, x.1)) read e in
+    let y = bind_ok (raw_string_at more) (λ x. Ok ((b ∷ []) ++ x.0, x.1)) read e in
     let f = found y.0 y.1 in
     subst (RawFound bytes) (ok_is (b ∷ y.0.0, y.0.1) read y.2)
     (record { text = first ++ f.text; whole = cut ∙ ap (λ l. first ++ l) f.whole ∙ sym (append_assoc first f.text y.0.1); spelled = (first, f.text, refl, is, f.spelled); ends = f.ends })
@@ -37,47 +37,47 @@ found_behind first bytes more b read cut is found e =
 not_eqb : (c d : ℕ) → eqb c d ≡ false → c ≢ d
 not_eqb c d e is = let both : true ≡ false = sym (eq-eqb c d is) ∙ e in cc
 
-found_at : (c : ℕ) (rest : List ℕ) (read : List ℕ × List ℕ) → ((x : List ℕ × List ℕ) → raw_at rest ≡ Ok x → RawFound rest x) → (raw_at (92 ∷ rest) ≡ Ok read → RawFound (92 ∷ rest) read)
-    → raw_at (c ∷ rest) ≡ Ok read → RawFound (c ∷ rest) read
+found_at : (c : ℕ) (rest : List ℕ) (read : List ℕ × List ℕ) → ((x : List ℕ × List ℕ) → raw_string_at rest ≡ Ok x → RawFound rest x) → (raw_string_at (92 ∷ rest) ≡ Ok read → RawFound (92 ∷ rest) read)
+    → raw_string_at (c ∷ rest) ≡ Ok read → RawFound (c ∷ rest) read
 found_at c rest read behind escaped e =
     elim (cases_Bool (eqb c 9)) [
       | inl t ↦
           let tab = eqb-true c 9 t in
-          subst (RawFound (c ∷ rest)) (ok_is ([], c ∷ rest) read (ap (λ l. Ok ([], l ∷ rest)) tab ∙ sym (at_tab rest) ∙ ap (λ l. raw_at (l ∷ rest)) (sym tab) ∙ e))
+          subst (RawFound (c ∷ rest)) (ok_is ([], c ∷ rest) read (ap (λ l. Ok ([], l ∷ rest)) tab ∙ sym (at_tab rest) ∙ ap (λ l. raw_string_at (l ∷ rest)) (sym tab) ∙ e))
           (record { text = []; whole = refl; spelled = refl; ends = tab })
       | inr t ↦
           elim (cases_Bool (eqb c 92)) [
             | inl s ↦
                 let slash = eqb-true c 92 s in
-                subst (λ l. RawFound (l ∷ rest) read) (sym slash) (escaped (ap (λ l. raw_at (l ∷ rest)) (sym slash) ∙ e))
+                subst (λ l. RawFound (l ∷ rest) read) (sym slash) (escaped (ap (λ l. raw_string_at (l ∷ rest)) (sym slash) ∙ e))
             | inr s ↦ found_behind (c ∷ []) (c ∷ rest) rest c read refl (inl (refl, not_eqb c 9 t, not_eqb c 92 s)) behind (sym (at_byte c rest t s) ∙ e)
           ]
     ]
 
-found_letter : (d : ℕ) (more : List ℕ) (read : List ℕ × List ℕ) (letter : Option ℕ) → raw_letter d ≡ letter → ((x : List ℕ × List ℕ) → raw_at more ≡ Ok x → RawFound more x)
-    → raw_at (92 ∷ d ∷ more) ≡ Ok read → RawFound (92 ∷ d ∷ more) read
+found_letter : (d : ℕ) (more : List ℕ) (read : List ℕ × List ℕ) (letter : Option ℕ) → raw_escape_byte d ≡ letter → ((x : List ℕ × List ℕ) → raw_string_at more ≡ Ok x → RawFound more x)
+    → raw_string_at (92 ∷ d ∷ more) ≡ Ok read → RawFound (92 ∷ d ∷ more) read
 found_letter d more read None p behind e = absurd (let bad = sym (at_bad (d ∷ more) (rw p refl)) ∙ e in cc)
 found_letter d more read (Some b) p behind e = found_behind (92 ∷ d ∷ []) (92 ∷ d ∷ more) more b read refl (inr (d, refl, p)) behind (sym (at_escape d b more p) ∙ e)
 
-found_no_letter : (read : List ℕ × List ℕ) → raw_at (92 ∷ []) ≡ Ok read → RawFound (92 ∷ []) read
+found_no_letter : (read : List ℕ × List ℕ) → raw_string_at (92 ∷ []) ≡ Ok read → RawFound (92 ∷ []) read
 found_no_letter read e = absurd (let bad = sym (at_bad [] refl) ∙ e in cc)
 
-raw_found : (bytes : List ℕ) (read : List ℕ × List ℕ) → raw_at bytes ≡ Ok read → RawFound bytes read
+raw_found : (bytes : List ℕ) (read : List ℕ × List ℕ) → raw_string_at bytes ≡ Ok read → RawFound bytes read
 raw_found [] read e = subst (RawFound []) (ok_is ([], []) read (sym (nothing_there [] refl) ∙ e)) (record { text = []; whole = refl; spelled = refl; ends = tt })
 raw_found (c ∷ []) read e = found_at c [] read (raw_found []) (found_no_letter read) e
-raw_found (c ∷ d ∷ more) read e = found_at c (d ∷ more) read (raw_found (d ∷ more)) (found_letter d more read (raw_letter d) refl (raw_found more)) e
+raw_found (c ∷ d ∷ more) read e = found_at c (d ∷ more) read (raw_found (d ∷ more)) (found_letter d more read (raw_escape_byte d) refl (raw_found more)) e
 
-ends_again : (rest : List ℕ) → Ends rest → raw_at rest ≡ Ok ([], rest)
+ends_again : (rest : List ℕ) → Ends rest → raw_string_at rest ≡ Ok ([], rest)
 ends_again [] e = nothing_there [] refl
-ends_again (c ∷ rest) e = ap (λ l. raw_at (l ∷ rest)) e ∙ at_tab rest ∙ ap (λ l. Ok ([], l ∷ rest)) (sym e)
+ends_again (c ∷ rest) e = ap (λ l. raw_string_at (l ∷ rest)) e ∙ at_tab rest ∙ ap (λ l. Ok ([], l ∷ rest)) (sym e)
 
-raw_again : (x text rest : List ℕ) → SpelledRaw text x → Ends rest → raw_at (text ++ rest) ≡ Ok (x, rest)
-raw_again [] text rest h e = ap (λ l. raw_at (l ++ rest)) h ∙ ends_again rest e
+raw_again : (x text rest : List ℕ) → EncodesRawString text x → Ends rest → raw_string_at (text ++ rest) ≡ Ok (x, rest)
+raw_again [] text rest h e = ap (λ l. raw_string_at (l ++ rest)) h ∙ ends_again rest e
 raw_again (b ∷ bs) text rest h e =
-    let more = ap (with_front (b ∷ [])) (raw_again bs h.1 rest h.4 e) in
+    let more = ap (prepend_read (b ∷ [])) (raw_again bs h.1 rest h.4 e) in
     elim h.3 [
-      | inl as_is ↦ ap (λ l. raw_at (l ++ rest)) (h.2 ∙ ap (λ l. l ++ h.1) as_is.0) ∙ at_byte b (h.1 ++ rest) (ne_eqb b 9 as_is.1) (ne_eqb b 92 as_is.2) ∙ more
-      | inr letter ↦ ap (λ l. raw_at (l ++ rest)) (h.2 ∙ ap (λ l. l ++ h.1) letter.1) ∙ at_escape letter.0 b (h.1 ++ rest) letter.2 ∙ more
+      | inl as_is ↦ ap (λ l. raw_string_at (l ++ rest)) (h.2 ∙ ap (λ l. l ++ h.1) as_is.0) ∙ at_byte b (h.1 ++ rest) (ne_eqb b 9 as_is.1) (ne_eqb b 92 as_is.2) ∙ more
+      | inr letter ↦ ap (λ l. raw_string_at (l ++ rest)) (h.2 ∙ ap (λ l. l ++ h.1) letter.1) ∙ at_escape letter.0 b (h.1 ++ rest) letter.2 ∙ more
     ]
 
 -- ---- a request
@@ -90,23 +90,23 @@ tab_found (c ∷ cs) rest e =
       | inr p ↦ absurd cc
     ]
 
-nothing_found : (bytes : List ℕ) (done : Unit {0}) → nothing_at bytes ≡ Ok done → bytes ≡ []
+nothing_found : (bytes : List ℕ) (done : Unit {0}) → end_at bytes ≡ Ok done → bytes ≡ []
 nothing_found [] done e = refl
 nothing_found (c ∷ rest) done e = absurd cc
 
-raw_request_found : (text : List ℕ) (asked : RawAsked) → raw_request_at text ≡ Ok asked → SpelledRawRequest text asked
+raw_request_found : (text : List ℕ) (asked : StringPattern) → raw_request_at text ≡ Ok asked → EncodesRawRequest text asked
 unfolding raw_request_at
 raw_request_found text asked e =
-    let s = bind_ok (raw_at text) (λ s. tab_at s.1 >>= λ x. raw_at x >>= λ p. tab_at p.1 >>= λ y. raw_at y >>= λ o. nothing_at o.1 >>= λ _. Ok (record { s = s.0; p = p.0; o = o.0 })) asked e in
-    let x = bind_ok (tab_at s.0.1) (λ x. raw_at x >>= λ p. tab_at p.1 >>= λ y. raw_at y >>= λ o. nothing_at o.1 >>= λ _. Ok (record { s = s.0.0; p = p.0; o = o.0 })) asked s.2 in
-    let p = bind_ok (raw_at x.0) (λ p. tab_at p.1 >>= λ y. raw_at y >>= λ o. nothing_at o.1 >>= λ _. Ok (record { s = s.0.0; p = p.0; o = o.0 })) asked x.2 in
-    let y = bind_ok (tab_at p.0.1) (λ y. raw_at y >>= λ o. nothing_at o.1 >>= λ _. Ok (record { s = s.0.0; p = p.0.0; o = o.0 })) asked p.2 in
-    let o = bind_ok (raw_at y.0) (λ o. nothing_at o.1 >>= λ _. Ok (record { s = s.0.0; p = p.0.0; o = o.0 })) asked y.2 in
-    let d = bind_ok (nothing_at o.0.1) (λ _. Ok (record { s = s.0.0; p = p.0.0; o = o.0.0 })) asked o.2 in
+    let s = bind_ok (raw_string_at text) (λ s. tab_at s.1 >>= λ x. raw_string_at x >>= λ p. tab_at p.1 >>= λ y. raw_string_at y >>= λ o. end_at o.1 >>= λ _. Ok (record { s = s.0; p = p.0; o = o.0 })) asked e in
+    let x = bind_ok (tab_at s.0.1) (λ x. raw_string_at x >>= λ p. tab_at p.1 >>= λ y. raw_string_at y >>= λ o. end_at o.1 >>= λ _. Ok (record { s = s.0.0; p = p.0; o = o.0 })) asked s.2 in
+    let p = bind_ok (raw_string_at x.0) (λ p. tab_at p.1 >>= λ y. raw_string_at y >>= λ o. end_at o.1 >>= λ _. Ok (record { s = s.0.0; p = p.0; o = o.0 })) asked x.2 in
+    let y = bind_ok (tab_at p.0.1) (λ y. raw_string_at y >>= λ o. end_at o.1 >>= λ _. Ok (record { s = s.0.0; p = p.0.0; o = o.0 })) asked p.2 in
+    let o = bind_ok (raw_string_at y.0) (λ o. end_at o.1 >>= λ _. Ok (record { s = s.0.0; p = p.0.0; o = o.0 })) asked y.2 in
+    let d = bind_ok (end_at o.0.1) (λ _. Ok (record { s = s.0.0; p = p.0.0; o = o.0.0 })) asked o.2 in
     let fs = raw_found text s.0 s.1 in
     let fp = raw_found x.0 p.0 p.1 in
     let fo = raw_found y.0 o.0 o.1 in
-    let made : SpelledRawRequest text (record { s = s.0.0; p = p.0.0; o = o.0.0 }) = record {
+    let made : EncodesRawRequest text (record { s = s.0.0; p = p.0.0; o = o.0.0 }) = record {
       s = fs.text;
       p = fp.text;
       o = fo.text;
@@ -119,23 +119,23 @@ raw_request_found text asked e =
           ∙ ap (λ l. 9 ∷ l) (fp.whole ∙ ap (λ l. fp.text ++ l) (tab_found p.0.1 y.0 y.1
           ∙ ap (λ l. 9 ∷ l) (fo.whole ∙ ap (λ l. fo.text ++ l) (nothing_found o.0.1 d.0 d.1) ∙ append-nil fo.text))));
     } in
-    subst (SpelledRawRequest text) (ok_is _ asked d.2) made
+    subst (EncodesRawRequest text) (ok_is _ asked d.2) made
 
-raw_request_again : (text : List ℕ) (asked : RawAsked) → SpelledRawRequest text asked → raw_request_at text ≡ Ok asked
+raw_request_again : (text : List ℕ) (asked : StringPattern) → EncodesRawRequest text asked → raw_request_at text ≡ Ok asked
 unfolding raw_request_at
 raw_request_again text asked h =
     let s = raw_again asked.s h.s (9 ∷ (h.p ++ 9 ∷ h.o)) h.subject refl in
     let p = raw_again asked.p h.p (9 ∷ h.o) h.predicate refl in
-    let o = ap raw_at (sym (append-nil h.o)) ∙ raw_again asked.o h.o [] h.object tt in
+    let o = ap raw_string_at (sym (append-nil h.o)) ∙ raw_again asked.o h.o [] h.object tt in
     rw (h.whole, s, p, o) refl
 
 -- ---- its line
 
-pub raw_line_found : (text : List ℕ) (x : Option RawAsked) → raw_request_in text ≡ Ok x → RawRequestLine text x
+pub raw_line_found : (text : List ℕ) (x : Option StringPattern) → raw_request_in text ≡ Ok x → RawRequestLine text x
 raw_line_found =
     line_read RawRequestLine raw_request_at (λ text utf8 b. (utf8, bare_found text b))
     (λ text asked utf8 b e. (utf8, λ bare. absurd (let both : true ≡ false = sym (bare_again text bare) ∙ b in cc), raw_request_found text asked e))
 
-pub raw_line_again : (text : List ℕ) (x : Option RawAsked) → RawRequestLine text x → raw_request_in text ≡ Ok x
+pub raw_line_again : (text : List ℕ) (x : Option StringPattern) → RawRequestLine text x → raw_request_in text ≡ Ok x
 raw_line_again text None h = bare_line text _ h.0 (bare_again text h.1)
-raw_line_again text (Some asked) h = read_line text _ h.0 asked (false_from_ne_true (is_bare text) (λ b. h.1 (bare_found text b))) (raw_request_again text asked h.2)
+raw_line_again text (Some asked) h = read_line text _ h.0 asked (false_from_ne_true (is_blank_or_comment text) (λ b. h.1 (bare_found text b))) (raw_request_again text asked h.2)

@@ -10,16 +10,16 @@ use Rattle.std.proofs.lemmas.List.Elements.{All-weaker}
 use Rattle.std.proofs.lemmas.List.Folds.{list_all-append}
 use Rattle.std.proofs.lemmas.List.Sums.{AllPass-from_list_all}
 use Rattle.std.proofs.lemmas.Str.{encodes-chars}
-use Rattle.hdt_terms.specs.declared.pieces.Token.{Token}
-use Rattle.hdt_terms.specs.declared.pieces.Token.TheVariants as tokens
-use Rattle.hdt_terms.specs.declared.term.Term.{Term}
-use Rattle.hdt_terms.specs.declared.term.Term.TheVariants.{Iri, Blank, Literal}
-use Rattle.hdt_terms.specs.declared.term.Suffix.{Suffix}
-use Rattle.hdt_terms.specs.declared.term.Suffix.TheVariants.{Plain, Tag, Datatype}
-use Rattle.hdt_terms.specs.Chars.{is_end, is_iri_char, is_pn_chars, is_label_start}
+use Rattle.hdt_terms.specs.declared.escaped_tokens.Token.{Token}
+use Rattle.hdt_terms.specs.declared.escaped_tokens.Token.TheVariants as tokens
+use Rattle.hdt_terms.specs.declared.triple.Term.{Term}
+use Rattle.hdt_terms.specs.declared.triple.Term.TheVariants.{Iri, Blank, Literal}
+use Rattle.hdt_terms.specs.declared.triple.Suffix.{Suffix}
+use Rattle.hdt_terms.specs.declared.triple.Suffix.TheVariants.{Plain, Tag, Datatype}
+use Rattle.hdt_terms.specs.Chars.{is_line_end, is_iri_char, is_pn_chars, is_label_start}
 use Rattle.hdt_terms.specs.Labels.{is_label_rest, is_label}
-use Rattle.hdt_terms.specs.Lines.{NoEnd}
-use Rattle.hdt_terms.specs.Terms.{IsTag, IsSubtag, IsLabel, IsSuffix, IsGrammarTerm}
+use Rattle.hdt_terms.specs.Lines.{HasNoLineEnd}
+use Rattle.hdt_terms.specs.Terms.{IsTag, IsSubtag, IsLabel, IsLiteralSuffix, IsGrammarTerm}
 use Rattle.hdt_terms.specs.Writing.{written, written_token, written_suffix, written_byte, hex_digit}
 use Rattle.hdt_terms.proofs.Bools.{and_first, and_second, and_both, apart}
 use Rattle.hdt_terms.proofs.Ranges.{encode_passes}
@@ -27,7 +27,7 @@ use Rattle.hdt_terms.proofs.Ranges.{encode_passes}
 -- ---- bytes
 
 abbrev no_end : ℕ → Bool
-no_end c = not (is_end c)
+no_end c = not (is_line_end c)
 
 -- no byte is a line end
 abbrev WithoutEnds : List ℕ → Type 0
@@ -92,7 +92,7 @@ tag_written : (tag : List ℕ) → IsTag tag → WithoutEnds tag
 tag_written tag h =
     subst WithoutEnds (sym h.whole) (appended h.head _ (class_bytes is_ascii_alphabetic refl refl h.head h.letters) (parts_written h.parts h.each))
 
-suffix_written : (suffix : Suffix) → IsSuffix suffix → WithoutEnds (written_suffix suffix)
+suffix_written : (suffix : Suffix) → IsLiteralSuffix suffix → WithoutEnds (written_suffix suffix)
 suffix_written Plain h = refl
 suffix_written (Tag tag) h = tag_written tag h
 suffix_written (Datatype iri) h = token_written tokens.Iri iri
@@ -125,5 +125,5 @@ term_written (Iri iri) h = token_written tokens.Iri iri
 term_written (Blank label) h = label_written label h
 term_written (Literal text suffix) h = appended (written_token tokens.Quoted text) (written_suffix suffix) (token_written tokens.Quoted text) (suffix_written suffix h.1)
 
-pub written-NoEnd : (term : Term) → IsGrammarTerm term → NoEnd (written term)
-written-NoEnd term h = All-weaker (λ c. no_end c ≡ true) (λ c. is_end c ≡ false) (λ c. not-true (is_end c)) (written term) (AllPass-from_list_all no_end (written term) (term_written term h))
+pub written-HasNoLineEnd : (term : Term) → IsGrammarTerm term → HasNoLineEnd (written term)
+written-HasNoLineEnd term h = All-weaker (λ c. no_end c ≡ true) (λ c. is_line_end c ≡ false) (λ c. not-true (is_line_end c)) (written term) (AllPass-from_list_all no_end (written term) (term_written term h))

@@ -1,2 +1,2 @@
-pub mod Lanes
-pub mod Filling
+pub mod ByteRuns
+pub mod LineBuffer

@@ -2,7 +2,7 @@
 ghost use Rattle.std.specs.Prelude.{◌≡◌, ◌≢◌, IfErr, ℕ, ◌+◌, ◌-◌, ◌*◌, ◌<◌, ◌≤◌, List, [], length, drop, take, IfOk, OnOk, OnErr, IsErrOf, vec_len};
 ghost use Rattle.std.specs.Io.KnownBytes.{Consumes, Keeps, IsAtEnd};
 ghost use Rattle.hdt_wire.specs.Counted.{inner, failures};
-ghost use Rattle.hdt_terms.specs.Inside.Filling.{ReadOnce};
+ghost use Rattle.hdt_terms.specs.Inside.LineBuffer.{ReadOnce};
 ghost use Rattle.hdt_terms.specs.declared.fault.LineReason.TheVariants.{Read};
 
 use crate::fault::LineReason;
@@ -16,7 +16,7 @@ const PIECE: usize = 65536;
 
 /// A buffer: the bytes of a vector from `start` to `end`. Contracts see only these bytes.
 #[derive(Drop)]
-pub struct Buffer {
+pub(crate) struct Buffer {
     bytes: Vec<u8>,
     start: usize,
     end: usize,
@@ -32,7 +32,7 @@ impl Model for Buffer {
 
 /// Moves the bytes from `start` to `end` to the front, so that there is free space after them. Grows the vector if they
 /// fill it.
-fn make_room(bytes: &mut Vec<u8>, start: usize, end: usize) -> Result<(), AllocError>
+fn make_free_space(bytes: &mut Vec<u8>, start: usize, end: usize) -> Result<(), AllocError>
     requires order { start ≤ end }
     requires within { end ≤ vec_len bytes.old }
     requires some { 0 < vec_len bytes.old }
@@ -73,7 +73,7 @@ fn read_at<R: Read>(
 
 impl Buffer {
     /// An empty buffer.
-    pub fn new(alloc: Global) -> Result<Buffer, AllocError>
+    pub(crate) fn new(alloc: Global) -> Result<Buffer, AllocError>
         ensures { IfOk result (λ b. b ≡ []) }
     {
         Ok(Buffer {
@@ -84,21 +84,21 @@ impl Buffer {
     }
 
     /// The number of bytes.
-    pub fn len(&self) -> usize
+    pub(crate) fn len(&self) -> usize
         ensures { result ≡ length self.now }
     {
         self.end - self.start
     }
 
     /// The bytes.
-    pub fn as_slice(&self) -> &[u8]
+    pub(crate) fn as_slice(&self) -> &[u8]
         ensures { result.now ≡ self.now }
     {
         &self.bytes[self.start..self.end]
     }
 
     /// Consumes the first bytes.
-    pub fn skip(&mut self, n: usize)
+    pub(crate) fn skip(&mut self, n: usize)
         requires { n ≤ length self.old }
         ensures { self.new ≡ drop n self.old }
     {
@@ -106,7 +106,7 @@ impl Buffer {
     }
 
     /// Calls the reader once to append up to `most` bytes.
-    pub fn read<R: Read>(
+    pub(crate) fn read<R: Read>(
         &mut self,
         most: usize,
         input: &mut Counted<R>,
@@ -118,7 +118,7 @@ impl Buffer {
         ensures failed { IsErrOf result Read → failures input.new ≡ failures input.old + 1 }
         ensures still { IfErr result (λ reason. reason ≢ Read → failures input.new ≡ failures input.old) }
     {
-        let made = make_room(&mut self.bytes, self.start, self.end);
+        let made = make_free_space(&mut self.bytes, self.start, self.end);
         self.end -= self.start;
         self.start = 0;
         match made {

@@ -6,18 +6,18 @@ ghost use Rattle.hdt_terms.specs.Faults.{not_utf8_at};
 ghost use Rattle.hdt_terms.specs.Terms.{IsText};
 
 use crate::fault::{LineReason, TermFault};
-use crate::lanes::{Class, run_len};
+use crate::byte_runs::{ByteClass, run_len};
 
 /// Whether the bytes are ASCII without U+0000, as most texts are.
-pub fn is_ascii_text(bytes: &[u8]) -> bool
+pub(crate) fn is_ascii_text(bytes: &[u8]) -> bool
     ensures { IsTrue result → IsText bytes.now }
 {
-    run_len(Class::AsciiText, bytes) == bytes.len()
+    run_len(ByteClass::AsciiText, bytes) == bytes.len()
 }
 
 /// Fails at the first byte that is not UTF-8. For texts that are not ASCII, which are few.
 #[inline(never)]
-pub fn check_beyond_ascii(text: &[u8]) -> Result<(), TermFault>
+pub(crate) fn check_beyond_ascii(text: &[u8]) -> Result<(), TermFault>
     ensures { MatchResult result (λ _. IsUtf8 text.now) (λ fault. ¬ (IsUtf8 text.now) × (fault ≡ not_utf8_at (utf8_valid_len text.now))) }
 {
     match simdutf8::compat::from_utf8(text) {
@@ -31,7 +31,7 @@ pub fn check_beyond_ascii(text: &[u8]) -> Result<(), TermFault>
 
 /// Fails at the first byte that is not UTF-8. Fast for ASCII.
 #[inline(always)]
-pub fn check_utf8(text: &[u8]) -> Result<(), TermFault>
+pub(crate) fn check_utf8(text: &[u8]) -> Result<(), TermFault>
     ensures { MatchResult result (λ _. IsUtf8 text.now) (λ fault. ¬ (IsUtf8 text.now) × (fault ≡ not_utf8_at (utf8_valid_len text.now))) }
 {
     if is_ascii_text(text) {
@@ -42,7 +42,7 @@ pub fn check_utf8(text: &[u8]) -> Result<(), TermFault>
 
 /// Whether the bytes are UTF-8.
 #[inline(always)]
-pub fn is_utf8(bytes: &[u8]) -> bool
+pub(crate) fn is_utf8(bytes: &[u8]) -> bool
     ensures { IsTrue result ↔ IsUtf8 bytes.now }
 {
     is_ascii_text(bytes) || simdutf8::is_utf8(bytes)

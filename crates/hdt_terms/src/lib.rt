@@ -17,7 +17,7 @@
 //! N-Triples text of a dictionary string. Neither allocates a term.
 //!
 //! [`Lines`] returns the triples of a document line by line: [`Lines::next_triple`] as terms, which is simple, and
-//! [`Lines::next_strings`] as dictionary strings in the caller's buffers, which is fast. [`Lines::next_front`] returns
+//! [`Lines::next_strings`] as dictionary strings in the caller's buffers, which is fast. [`Lines::next_prefix`] returns
 //! the text of each line, valid or not; [`read_request`] parses a line as a triple pattern. How the reader cuts the input
 //! into pieces makes no difference to any of them.
 //!
@@ -31,42 +31,41 @@
 
 mod buffer;
 mod chars;
-mod dictionary;
+mod transcode;
 mod encoding;
 mod fault;
-mod filling;
+mod line_buffer;
 mod iri;
 mod label;
-mod lanes;
+mod byte_runs;
 mod laws;
-mod lent;
+mod term_refs;
 mod line;
 mod lines;
 mod literal;
 mod parse;
-mod pieces;
+mod escaped_tokens;
 mod put;
-mod raw;
+mod raw_request;
 mod request;
 mod strings;
 mod tag;
-mod term;
 mod text;
 mod triple;
 
 pub use fault::{LineFault, LineReason, StringFault, TermFault};
 pub use iri::is_iri;
 pub use laws::{
-    line_or_fault, longest_label, longest_tag, one_spelled, one_string, raw_requests,
-    request_or_fault, run_of_lines, run_of_texts, strings_are_texts, table_of_faults,
-    term_or_fault, written_within_a_line,
+    line_or_fault, longest_label, longest_tag, text_encodes_one_term, term_string_is_injective, raw_requests,
+    request_or_fault, triples_so_far, lines_so_far, strings_are_texts, term_error_table,
+    term_or_fault, written_text_encodes_term,
 };
 pub use lines::Lines;
 pub use parse::{parse_string, parse_term};
 pub use put::{put_string, put_term};
-pub use raw::read_raw_request;
+pub use raw_request::read_raw_request;
 pub use request::read_request;
 pub use strings::{string_term, term_string};
-pub use term::{Kind, Suffix, Term};
+pub use triple::{TermKind, Suffix, Term};
 pub use text::Text;
 pub use triple::Triple;

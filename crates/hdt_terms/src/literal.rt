@@ -2,14 +2,14 @@
 ghost use Rattle.std.specs.Prelude.{◌≡◌, IsUtf8};
 ghost use Rattle.std.specs.Str.{bytes_eq};
 ghost use Rattle.hdt_terms.specs.Terms.{xsd_string};
-ghost use Rattle.hdt_terms.specs.Reading.{GivesRead, after_blanks, datatype_of, datatype_at, suffix_at, literal_at};
+ghost use Rattle.hdt_terms.specs.TermParsing.{ReturnsUnlessOom, skip_whitespace, datatype_of, datatype_at, suffix_at, literal_at};
 
-use crate::chars::is_blank;
+use crate::chars::is_whitespace;
 use crate::fault::{LineReason, ReadError, refuse};
 use crate::iri::read_iri;
-use crate::pieces::{Token, read_inside};
+use crate::escaped_tokens::{Token, read_token_content};
 use crate::tag::read_tag;
-use crate::term::{Suffix, Term};
+use crate::triple::{Suffix, Term};
 use crate::text::Text;
 use std::alloc::Global;
 
@@ -17,13 +17,13 @@ use std::alloc::Global;
 const XSD_STRING: &[u8] = b"http://www.w3.org/2001/XMLSchema#string";
 
 /// The bytes after leading tabs and spaces.
-pub fn after_blanks(bytes: &[u8]) -> &[u8]
-    ensures value { result.now ≡ after_blanks bytes.now }
+pub(crate) fn skip_whitespace(bytes: &[u8]) -> &[u8]
+    ensures value { result.now ≡ skip_whitespace bytes.now }
     ensures utf8 { IsUtf8 bytes.now → IsUtf8 result.now }
 {
     let mut rest = bytes;
     'blanks: while let Some((first, tail)) = rest.split_first() {
-        if !is_blank(*first) {
+        if !is_whitespace(*first) {
             break;
         }
         rest = tail;
@@ -32,7 +32,7 @@ pub fn after_blanks(bytes: &[u8]) -> &[u8]
 }
 
 /// Whether the IRI is `xsd:string`.
-pub fn is_xsd_string(iri: &[u8]) -> bool
+pub(crate) fn is_xsd_string(iri: &[u8]) -> bool
     ensures { result ≡ bytes_eq iri.now xsd_string }
 {
     iri == XSD_STRING
@@ -50,23 +50,23 @@ fn datatype_of(iri: Vec<u8>) -> Suffix
 }
 
 /// The datatype that starts here with `^^`, and the bytes after it.
-#[tactic(auto, unfolding(crate::specs::Reading::datatype_at))]
+#[tactic(auto, unfolding(crate::specs::TermParsing::datatype_at))]
 fn read_datatype(alloc: Global, bytes: &[u8]) -> Result<(Suffix, &[u8]), ReadError>
-    ensures { GivesRead (λ x. (x.0, x.1.now)) result (datatype_at bytes.now) }
+    ensures { ReturnsUnlessOom (λ x. (x.0, x.1.now)) result (datatype_at bytes.now) }
 {
     let [b'^', b'^', rest @ ..] = bytes else {
         return refuse(LineReason::Syntax, bytes.len());
     };
-    let (iri, rest) = read_iri(alloc, after_blanks(rest))?;
+    let (iri, rest) = read_iri(alloc, skip_whitespace(rest))?;
     Ok((datatype_of(iri), rest))
 }
 
 /// The suffix after the closing quote, and the bytes after it.
-#[tactic(auto, unfolding(crate::specs::Reading::suffix_at))]
+#[tactic(auto, unfolding(crate::specs::TermParsing::suffix_at))]
 fn read_suffix(alloc: Global, bytes: &[u8]) -> Result<(Suffix, &[u8]), ReadError>
-    ensures { GivesRead (λ x. (x.0, x.1.now)) result (suffix_at bytes.now) }
+    ensures { ReturnsUnlessOom (λ x. (x.0, x.1.now)) result (suffix_at bytes.now) }
 {
-    let token = after_blanks(bytes);
+    let token = skip_whitespace(bytes);
     match token {
         [b'@', ..] => read_tag(alloc, token),
         [b'^', ..] => read_datatype(alloc, token),
@@ -75,14 +75,14 @@ fn read_suffix(alloc: Global, bytes: &[u8]) -> Result<(Suffix, &[u8]), ReadError
 }
 
 /// The literal that starts here, and the bytes after it.
-#[tactic(auto, unfolding(crate::specs::Reading::literal_at))]
-pub fn read_literal(alloc: Global, bytes: &[u8]) -> Result<(Term, &[u8]), ReadError>
-    ensures { GivesRead (λ x. (x.0, x.1.now)) result (literal_at bytes.now) }
+#[tactic(auto, unfolding(crate::specs::TermParsing::literal_at))]
+pub(crate) fn read_literal(alloc: Global, bytes: &[u8]) -> Result<(Term, &[u8]), ReadError>
+    ensures { ReturnsUnlessOom (λ x. (x.0, x.1.now)) result (literal_at bytes.now) }
 {
     let [b'"', rest @ ..] = bytes else {
         return refuse(LineReason::Syntax, bytes.len());
     };
-    let (text, rest) = read_inside(alloc, Token::Quoted, rest)?;
+    let (text, rest) = read_token_content(alloc, Token::Quoted, rest)?;
     let (suffix, rest) = read_suffix(alloc, rest)?;
     Ok((Term::Literal(Text::new(text), suffix), rest))
 }

@@ -1,29 +1,29 @@
 //! Parsing one term.
 ghost use Rattle.std.specs.Prelude.{◌≡◌, ◌⊎◌, Ok, IfOk, IfErr, OnOk, OnErr, IsUtf8};
-ghost use Rattle.hdt_terms.specs.declared.term.Term.{Term};
-ghost use Rattle.hdt_terms.specs.Faults.{IsRead, PutsParsed, out_of_memory, term_in};
-ghost use Rattle.hdt_terms.specs.Reading.{GivesRead, term_at};
-ghost use Rattle.hdt_terms.specs.Spelling.{Spelled};
-ghost use Rattle.hdt_terms.specs.Table.{FaultIn};
+ghost use Rattle.hdt_terms.specs.declared.triple.Term.{Term};
+ghost use Rattle.hdt_terms.specs.Faults.{EqualsUnlessOom, AppendsParsedUnlessOom, out_of_memory, term_in};
+ghost use Rattle.hdt_terms.specs.TermParsing.{ReturnsUnlessOom, term_at};
+ghost use Rattle.hdt_terms.specs.Grammar.{Encodes};
+ghost use Rattle.hdt_terms.specs.TermErrors.{IsTermError};
 ghost use Rattle.hdt_terms.specs.Terms.{IsGrammarTerm};
-ghost use Rattle.hdt_terms.specs.Appending.{SpellsString};
+ghost use Rattle.hdt_terms.specs.Appending.{AppendsStringOfText};
 ghost use Rattle.hdt_terms.specs.Writing.{Extends};
 
-use crate::dictionary::append_term;
+use crate::transcode::append_term;
 use crate::encoding::check_utf8;
-use crate::fault::{LineReason, ReadError, TermFault, fault_of, refuse};
+use crate::fault::{LineReason, ReadError, TermFault, locate_error, refuse};
 use crate::iri::read_iri;
 use crate::label::read_blank;
 use crate::literal::read_literal;
-use crate::term::Term;
+use crate::triple::Term;
 use crate::text::Text;
 use std::alloc::Global;
 
 /// The term that starts here, and the bytes after it.
-#[tactic(auto, unfolding(crate::specs::Reading::term_at))]
-pub fn read_term(alloc: Global, bytes: &[u8]) -> Result<(Term, &[u8]), ReadError>
+#[tactic(auto, unfolding(crate::specs::TermParsing::term_at))]
+pub(crate) fn read_term(alloc: Global, bytes: &[u8]) -> Result<(Term, &[u8]), ReadError>
     requires { IsUtf8 bytes.now }
-    ensures { GivesRead (λ x. (x.0, x.1.now)) result (term_at bytes.now) }
+    ensures { ReturnsUnlessOom (λ x. (x.0, x.1.now)) result (term_at bytes.now) }
 {
     let Some((first, _)) = bytes.split_first() else {
         return refuse(LineReason::Syntax, bytes.len());
@@ -42,9 +42,9 @@ pub fn read_term(alloc: Global, bytes: &[u8]) -> Result<(Term, &[u8]), ReadError
 }
 
 /// The term of a text, or its first error.
-#[tactic(auto, unfolding(crate::specs::Faults::term_in, crate::specs::Faults::checked))]
+#[tactic(auto, unfolding(crate::specs::Faults::term_in, crate::specs::Faults::unless_not_utf8))]
 fn read_whole(alloc: Global, text: &[u8]) -> Result<Term, TermFault>
-    ensures reads { IsRead result (term_in text.now) }
+    ensures reads { EqualsUnlessOom result (term_in text.now) }
     ensures utf8 { OnOk result (IsUtf8 text.now) }
 {
     check_utf8(text)?;
@@ -54,7 +54,7 @@ fn read_whole(alloc: Global, text: &[u8]) -> Result<Term, TermFault>
             column: text.len().saturating_sub(rest.len()) as u64 + 1,
             reason: LineReason::Syntax,
         }),
-        Err(error) => Err(fault_of(text.len(), error)),
+        Err(error) => Err(locate_error(text.len(), error)),
     }
 }
 
@@ -75,21 +75,21 @@ fn read_whole(alloc: Global, text: &[u8]) -> Result<Term, TermFault>
 /// if memory ran out.
 pub fn parse_term(alloc: Global, text: &[u8]) -> Result<Term, TermFault>
     // The text encodes the returned term, which is a term of the grammar.
-    ensures found { IfOk result (λ term. Spelled text.now term × IsGrammarTerm term) }
+    ensures found { IfOk result (λ term. Encodes text.now term × IsGrammarTerm term) }
     // If the text encodes a term, it is returned, unless memory runs out.
-    ensures only { (term : Term) → Spelled text.now term → IsRead result (Ok term) }
+    ensures only { (term : Term) → Encodes text.now term → EqualsUnlessOom result (Ok term) }
     // The error is in the table of errors, unless memory ran out.
-    ensures fault { IfErr result (λ fault. (fault ≡ out_of_memory) ⊎ FaultIn text.now fault) }
+    ensures fault { IfErr result (λ fault. (fault ≡ out_of_memory) ⊎ IsTermError text.now fault) }
     // In one clause: the term of the text, or its first error.
-    ensures exact { IsRead result (term_in text.now) }
+    ensures exact { EqualsUnlessOom result (term_in text.now) }
 {
     read_whole(alloc, text)
 }
 
 /// Appends the string of the term of a text, or returns its first error. After an error `out` may be longer.
-#[tactic(auto, unfolding(crate::specs::Faults::term_in, crate::specs::Faults::checked))]
+#[tactic(auto, unfolding(crate::specs::Faults::term_in, crate::specs::Faults::unless_not_utf8))]
 fn append_whole(text: &[u8], out: &mut Vec<u8>) -> Result<(), TermFault>
-    ensures reads { PutsParsed text.now out.old.items out.new.items result }
+    ensures reads { AppendsParsedUnlessOom text.now out.old.items out.new.items result }
     ensures utf8 { OnOk result (IsUtf8 text.now) }
     ensures kept { Extends out.old.items out.new.items }
 {
@@ -100,7 +100,7 @@ fn append_whole(text: &[u8], out: &mut Vec<u8>) -> Result<(), TermFault>
             column: text.len().saturating_sub(rest.len()) as u64 + 1,
             reason: LineReason::Syntax,
         }),
-        Err(error) => Err(fault_of(text.len(), error)),
+        Err(error) => Err(locate_error(text.len(), error)),
     }
 }
 
@@ -112,11 +112,11 @@ fn append_whole(text: &[u8], out: &mut Vec<u8>) -> Result<(), TermFault>
 /// As [`parse_term`]; then `out` is unchanged.
 pub fn parse_string(text: &[u8], out: &mut Vec<u8>) -> Result<(), TermFault>
     // The text encodes a term of the grammar, whose string is appended.
-    ensures found { OnOk result (SpellsString text.now out.old.items out.new.items) }
+    ensures found { OnOk result (AppendsStringOfText text.now out.old.items out.new.items) }
     // The error is in the table of errors, unless memory ran out.
-    ensures fault { IfErr result (λ fault. (fault ≡ out_of_memory) ⊎ FaultIn text.now fault) }
+    ensures fault { IfErr result (λ fault. (fault ≡ out_of_memory) ⊎ IsTermError text.now fault) }
     // In one clause: the string of the term of the text, or its first error.
-    ensures exact { PutsParsed text.now out.old.items out.new.items result }
+    ensures exact { AppendsParsedUnlessOom text.now out.old.items out.new.items result }
     ensures err { OnErr result (out.new.items ≡ out.old.items) }
 {
     let len = out.len();

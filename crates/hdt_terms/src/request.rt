@@ -1,67 +1,67 @@
 //! Parsing a request: a line of subject, predicate and object, each a term or `?` for any.
 ghost use Rattle.std.specs.Prelude.{IfOk, IsUtf8};
-ghost use Rattle.hdt_terms.specs.RequestReading.{part_at, stop_at, request_at, request_in, FillsPart, FillsAsked, HoldsRequest};
-ghost use Rattle.hdt_terms.specs.Reading.{GivesRead};
+ghost use Rattle.hdt_terms.specs.RequestParsing.{pattern_term_after_whitespace, optional_stop_after_whitespace, request_at, request_in, PutsPatternTerm, PutsPattern, ReturnsRequest};
+ghost use Rattle.hdt_terms.specs.TermParsing.{ReturnsUnlessOom};
 
 use crate::encoding::check_utf8;
-use crate::fault::{LineReason, ReadError, TermFault, fault_of, refuse};
-use crate::line::{append_here, is_bare, read_bare};
-use crate::literal::after_blanks;
+use crate::fault::{LineReason, ReadError, TermFault, locate_error, refuse};
+use crate::line::{append_role_term, is_blank_or_comment, expect_comment_or_end};
+use crate::literal::skip_whitespace;
 use hdt_wire::Role;
 
 /// Skips whitespace, then reads `?`, or puts the string of the term of the role into the buffer. Returns whether it is
 /// a term, and the bytes after it.
-#[tactic(auto, unfolding(crate::specs::RequestReading::part_at, crate::specs::RequestReading::part_here))]
-fn put_part<'a>(
+#[tactic(auto, unfolding(crate::specs::RequestParsing::pattern_term_after_whitespace, crate::specs::RequestParsing::pattern_term_at))]
+fn put_pattern_term<'a>(
     role: Role,
     bytes: &'a [u8],
     out: &mut Vec<u8>,
 ) -> Result<(bool, &'a [u8]), ReadError>
     requires { IsUtf8 bytes.now }
-    ensures reads { FillsPart (λ x. x.0) (λ x. x.1.now) out.new.items result (part_at role bytes.now) }
+    ensures reads { PutsPatternTerm (λ x. x.0) (λ x. x.1.now) out.new.items result (pattern_term_after_whitespace role bytes.now) }
     ensures utf8 { IfOk result (λ x. IsUtf8 x.1.now) }
 {
     out.clear();
-    let bytes = after_blanks(bytes);
+    let bytes = skip_whitespace(bytes);
     let Some((first, rest)) = bytes.split_first() else {
         return refuse(LineReason::Syntax, bytes.len());
     };
     if *first == b'?' {
         return Ok((false, rest));
     }
-    let rest = append_here(role, bytes, out)?;
+    let rest = append_role_term(role, bytes, out)?;
     Ok((true, rest))
 }
 
 /// Reads whitespace, an optional full stop, whitespace and an optional comment.
-#[tactic(auto, unfolding(crate::specs::RequestReading::stop_at))]
+#[tactic(auto, unfolding(crate::specs::RequestParsing::optional_stop_after_whitespace))]
 fn read_stop(bytes: &[u8]) -> Result<(), ReadError>
-    ensures { GivesRead (λ _. tt) result (stop_at bytes.now) }
+    ensures { ReturnsUnlessOom (λ _. tt) result (optional_stop_after_whitespace bytes.now) }
 {
-    let bytes = after_blanks(bytes);
+    let bytes = skip_whitespace(bytes);
     let Some((first, behind)) = bytes.split_first() else {
         return Ok(());
     };
     if *first == b'.' {
-        return read_bare(after_blanks(behind));
+        return expect_comment_or_end(skip_whitespace(behind));
     }
-    read_bare(bytes)
+    expect_comment_or_end(bytes)
 }
 
 /// Puts the strings of the terms of a request into the buffers. Returns which of them are given.
-#[tactic(auto, unfolding(crate::specs::RequestReading::request_at))]
-fn put_parts(
+#[tactic(auto, unfolding(crate::specs::RequestParsing::request_at))]
+fn put_pattern(
     text: &[u8],
     s: &mut Vec<u8>,
     p: &mut Vec<u8>,
     o: &mut Vec<u8>,
 ) -> Result<[bool; 3], ReadError>
     requires { IsUtf8 text.now }
-    ensures { FillsAsked s.new.items p.new.items o.new.items result (request_at text.now) }
+    ensures { PutsPattern s.new.items p.new.items o.new.items result (request_at text.now) }
 {
-    let (subject, rest) = put_part(Role::Subject, text, s)?;
-    let (predicate, rest) = put_part(Role::Predicate, rest, p)?;
-    let (object, rest) = put_part(Role::Object, rest, o)?;
+    let (subject, rest) = put_pattern_term(Role::Subject, text, s)?;
+    let (predicate, rest) = put_pattern_term(Role::Predicate, rest, p)?;
+    let (object, rest) = put_pattern_term(Role::Object, rest, o)?;
     read_stop(rest)?;
     Ok([subject, predicate, object])
 }
@@ -83,17 +83,17 @@ pub fn read_request(
     p: &mut Vec<u8>,
     o: &mut Vec<u8>,
 ) -> Result<Option<[bool; 3]>, TermFault>
-    ensures { HoldsRequest s.new.items p.new.items o.new.items result (request_in text.now) }
+    ensures { ReturnsRequest s.new.items p.new.items o.new.items result (request_in text.now) }
 {
     match check_utf8(text) {
         Ok(()) => {}
         Err(fault) => return Err(fault),
     }
-    if is_bare(text) {
+    if is_blank_or_comment(text) {
         return Ok(None);
     }
-    match put_parts(text, s, p, o) {
+    match put_pattern(text, s, p, o) {
         Ok(given) => Ok(Some(given)),
-        Err(error) => Err(fault_of(text.len(), error)),
+        Err(error) => Err(locate_error(text.len(), error)),
     }
 }

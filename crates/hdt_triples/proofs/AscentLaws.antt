@@ -1,13 +1,13 @@
 -- From ascending neighbours to all pairs of entries.
 use Rattle.std.proofs.Common.{◌≡◌, ℕ, ◌+◌, ◌-◌, ◌<◌, ◌≤◌, zero, suc, length, slice_index, ap, sym, ◌∙◌, arith}
-use Rattle.hdt_triples.specs.Counting.{BitmapTriples, Counts, AreTriples, subject_at, pair_of}
-use Rattle.hdt_seq.specs.Marks.{marks_before}
-use Rattle.hdt_seq.specs.Laws.Marks.{marks_mono}
+use Rattle.hdt_triples.specs.TripleSequences.{BitmapTriples, Counts, AreValidSequences, subject_at, pair_of}
+use Rattle.hdt_seq.specs.RankSelect.{ones_before}
+use Rattle.hdt_seq.specs.Laws.RankSelect.{ones_before_mono}
 
 -- Predicates ascend within a subject, and objects within a pair.
 pub record Ascend (f : BitmapTriples) : Type 0 where
-  pub predicates : (q r : ℕ) → q < r → r < length f.ys → subject_at f q ≡ subject_at f r → slice_index f.ys q < slice_index f.ys r
-  pub objects : (i j : ℕ) → i < j → j < length f.zs → pair_of f i ≡ pair_of f j → slice_index f.zs i < slice_index f.zs j
+  pub predicates : (q r : ℕ) → q < r → r < length f.array_y → subject_at f q ≡ subject_at f r → slice_index f.array_y q < slice_index f.array_y r
+  pub objects : (i j : ℕ) → i < j → j < length f.array_z → pair_of f i ≡ pair_of f j → slice_index f.array_z i < slice_index f.array_z j
 
 -- Two entries of one group ascend if group numbers don't decrease and neighbours of a group ascend.
 ascends : (n : ℕ) (group xs : ℕ → ℕ) (len i : ℕ) → ((a b : ℕ) → a ≤ b → group a ≤ group b) → ((a : ℕ) → a + 1 < len → group a ≡ group (a + 1) → xs a < xs (a + 1))
@@ -31,8 +31,8 @@ ascends_to group xs len i j mono next less within same =
     let e : i + (j - i - 1) + 1 ≡ j = omega (arith, less) in
     omega (arith, ascends (j - i - 1) group xs len i mono next (omega (arith, e, within)) (same ∙ ap group (sym e)), ap xs e)
 
-pub ascend_all : (counts : Counts) (f : BitmapTriples) → AreTriples counts f → Ascend f
+pub ascend_all : (counts : Counts) (f : BitmapTriples) → AreValidSequences counts f → Ascend f
 ascend_all counts f t = record {
-  predicates = λ q r less within same. ascends_to (marks_before f.my) (slice_index f.ys) (length f.ys) q r (λ a b h. marks_mono f.my a b h) t.predicates.ascend less within (omega (arith, same));
-  objects = λ i j less within same. ascends_to (pair_of f) (slice_index f.zs) (length f.zs) i j (λ a b h. marks_mono f.mz a b h) t.objects.ascend less within same;
+  predicates = λ q r less within same. ascends_to (ones_before f.bitmap_y) (slice_index f.array_y) (length f.array_y) q r (λ a b h. ones_before_mono f.bitmap_y a b h) t.predicates.ascend less within (omega (arith, same));
+  objects = λ i j less within same. ascends_to (pair_of f) (slice_index f.array_z) (length f.array_z) i j (λ a b h. ones_before_mono f.bitmap_z a b h) t.objects.ascend less within same;
 }

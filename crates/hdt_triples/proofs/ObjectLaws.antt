@@ -6,19 +6,19 @@ use Rattle.std.proofs.lemmas.List.Elements.{filter_passes, All-filter, All-from_
 use Rattle.std.proofs.lemmas.List.FromFn.{length-range_with_len, get_or-range_with_len}
 use Rattle.std.specs.List.{All, range_with_len}
 use Rattle.hdt_triples.specs.declared.pattern.Pattern.{Pattern}
-use Rattle.hdt_triples.specs.Counting.{BitmapTriples, Triple, triple_at, triples_of}
+use Rattle.hdt_triples.specs.TripleSequences.{BitmapTriples, Triple, triple_at, triples_of}
 use Rattle.hdt_triples.specs.Patterns.{agrees, matches}
-use Rattle.hdt_triples.specs.Bounds.{of_object, object_price, Pays, limit}
-use Rattle.hdt_triples.specs.Lists.{places_of, IsPlaceOf}
-use Rattle.hdt_triples.proofs.AgreeLaws.{other_object}
-use Rattle.hdt_triples.proofs.ListsLaws.{split_rest}
+use Rattle.hdt_triples.specs.Bounds.{of_object, object_cost, IsWithinBudget, limit}
+use Rattle.hdt_triples.specs.InvertedIndex.{positions_of, IsPositionOf}
+use Rattle.hdt_triples.proofs.PatternLaws.{other_object}
+use Rattle.hdt_triples.proofs.InvertedIndexLaws.{split_rest}
 
-pub among_places : (xs : List ℕ) (k : ℕ) → All (IsPlaceOf xs k) (places_of xs k)
-among_places xs k =
+pub among_positions : (xs : List ℕ) (k : ℕ) → All (IsPositionOf xs k) (positions_of xs k)
+among_positions xs k =
     let keep : ℕ → Bool = λ i. slice_index xs i == k in
     let range : All (λ i. i < length xs) (range_with_len 0 (length xs)) = All-from_get_or (λ i. i < length xs) (range_with_len 0 (length xs)) 0
     (λ i h. let small : i < length xs = omega (arith, h, length-range_with_len 0 (length xs)) in omega (arith, small, get_or-range_with_len 0 (length xs) i 0 small)) in
-    let within : All (λ i. i < length xs) (places_of xs k) = All-filter keep (λ i. i < length xs) (range_with_len 0 (length xs)) range in
+    let within : All (λ i. i < length xs) (positions_of xs k) = All-filter keep (λ i. i < length xs) (range_with_len 0 (length xs)) range in
     λ i d h. (within i d h, eqb-true _ _ (filter_passes keep (range_with_len 0 (length xs)) i d h))
 
 -- A filter that drops only triples without a match doesn't change the matches.
@@ -33,13 +33,13 @@ kept_matches p t keep [] none = refl
 kept_matches p t keep (j ∷ js) none = by_test p t keep j js (keep j) (agrees p (t j)) (none j) (kept_matches p t keep js none) refl
 
 -- The matches are among the triples of the object.
-pub object_law : (p : Pattern) (f : BitmapTriples) (o : ℕ) → p.o ≡ Some o → matches p (map (triple_at f) (places_of f.zs o)) ≡ matches p (triples_of f)
+pub object_law : (p : Pattern) (f : BitmapTriples) (o : ℕ) → p.o ≡ Some o → matches p (map (triple_at f) (positions_of f.array_z o)) ≡ matches p (triples_of f)
 unfolding matches triples_of
-object_law p f o given = kept_matches p (triple_at f) (λ j. slice_index f.zs j == o) (range_with_len 0 (length f.zs)) (λ j no. other_object p o (triple_at f j) given (eqb-false (slice_index f.zs j) o no))
+object_law p f o given = kept_matches p (triple_at f) (λ j. slice_index f.array_z j == o) (range_with_len 0 (length f.array_z)) (λ j no. other_object p o (triple_at f j) given (eqb-false (slice_index f.array_z j) o no))
 
-pub object_pays_first : (f : BitmapTriples) (o steps : ℕ) → steps ≤ 20 → Pays (object_price o) f steps (map (triple_at f) (places_of f.zs o))
-unfolding limit object_price
-object_pays_first f o steps few = omega (arith, few, ap length (object_law (of_object o) f o refl))
+pub object_budget_first : (f : BitmapTriples) (o steps : ℕ) → steps ≤ 20 → IsWithinBudget (object_cost o) f steps (map (triple_at f) (positions_of f.array_z o))
+unfolding limit object_cost
+object_budget_first f o steps few = omega (arith, few, ap length (object_law (of_object o) f o refl))
 
 pub object_step : (p : Pattern) (f : BitmapTriples) (rest js : List ℕ) (at : ℕ) (b : Bool) → 0 < length rest → at ≡ slice_index rest 0 → js ≡ drop 1 rest → agrees p (triple_at f at) ≡ b
     → matches p (map (triple_at f) rest) ≡ cond b (triple_at f at ∷ matches p (map (triple_at f) js)) (matches p (map (triple_at f) js))
@@ -52,15 +52,15 @@ pub object_over : (p : Pattern) (f : BitmapTriples) (rest : List ℕ) → length
 unfolding matches
 object_over p f rest h = ap (λ xs. matches p (map (triple_at f) xs)) (nil_from_length rest h)
 
-pub object_pays_on : (o : ℕ) (f : BitmapTriples) (rest js : List ℕ) (at steps after : ℕ) → 0 < length rest → at ≡ slice_index rest 0 → js ≡ drop 1 rest → IsPlaceOf f.zs o at → after ≤ steps + 20
-    → Pays (object_price o) f steps (map (triple_at f) rest) → Pays (object_price o) f after (map (triple_at f) js)
-unfolding limit object_price
-object_pays_on o f rest js at steps after h first behind place few pays =
-    let own : agrees (of_object o) (triple_at f at) ≡ true = eq-eqb o (slice_index f.zs at) (sym place.1) in
+pub object_budget_step : (o : ℕ) (f : BitmapTriples) (rest js : List ℕ) (at steps after : ℕ) → 0 < length rest → at ≡ slice_index rest 0 → js ≡ drop 1 rest → IsPositionOf f.array_z o at → after ≤ steps + 20
+    → IsWithinBudget (object_cost o) f steps (map (triple_at f) rest) → IsWithinBudget (object_cost o) f after (map (triple_at f) js)
+unfolding limit object_cost
+object_budget_step o f rest js at steps after h first behind position few pays =
+    let own : agrees (of_object o) (triple_at f at) ≡ true = eq-eqb o (slice_index f.array_z at) (sym position.1) in
     omega (arith, few, pays, ap length (object_step (of_object o) f rest js at true h first behind own))
 
-pub among_first : (xs : List ℕ) (k : ℕ) (rest : List ℕ) (at : ℕ) → 0 < length rest → at ≡ slice_index rest 0 → All (IsPlaceOf xs k) rest → IsPlaceOf xs k at
-among_first xs k rest at h first all = subst (IsPlaceOf xs k) (sym first) (all 0 0 h)
+pub among_first : (xs : List ℕ) (k : ℕ) (rest : List ℕ) (at : ℕ) → 0 < length rest → at ≡ slice_index rest 0 → All (IsPositionOf xs k) rest → IsPositionOf xs k at
+among_first xs k rest at h first all = subst (IsPositionOf xs k) (sym first) (all 0 0 h)
 
-pub among_behind : (xs : List ℕ) (k : ℕ) (rest js : List ℕ) (at : ℕ) → 0 < length rest → at ≡ slice_index rest 0 → js ≡ drop 1 rest → All (IsPlaceOf xs k) rest → All (IsPlaceOf xs k) js
-among_behind xs k rest js at h first behind all = All-rest (IsPlaceOf xs k) at js rest (split_rest rest js at h first behind) all
+pub among_rest : (xs : List ℕ) (k : ℕ) (rest js : List ℕ) (at : ℕ) → 0 < length rest → at ≡ slice_index rest 0 → js ≡ drop 1 rest → All (IsPositionOf xs k) rest → All (IsPositionOf xs k) js
+among_rest xs k rest js at h first behind all = All-rest (IsPositionOf xs k) at js rest (split_rest rest js at h first behind) all

@@ -4,21 +4,21 @@
 use Rattle.std.specs.Prelude.{ℕ, ◌+◌, ◌*◌, ◌≤◌, List, length, min, Option, Some, None}
 use Rattle.hdt_seq.specs.Width.{digits}
 use Rattle.hdt_seq.specs.Directory.{groups}
-use Rattle.hdt_triples.specs.Counting.{BitmapTriples, Triple, triples_of}
-use Rattle.hdt_triples.specs.Lists.{places_of}
+use Rattle.hdt_triples.specs.TripleSequences.{BitmapTriples, Triple, triples_of}
+use Rattle.hdt_triples.specs.InvertedIndex.{positions_of}
 use Rattle.hdt_triples.specs.Patterns.{matches}
 use Rattle.hdt_triples.specs.declared.pattern.Pattern.{Pattern}
 
 -- A bound on the steps: `base`, and `each` for every triple that is counted and for one more.
-pub record Price : Type 0 where
+pub record CostBound : Type 0 where
   pub base : ℕ
   pub each : ℕ
   -- the pattern of the triples that are counted
   pub counted : Pattern
 
 -- Finding a subject or a pair by rank and select: a binary search of the groups of each bitmap, and 20 more.
-unfoldable pub jump : BitmapTriples → ℕ
-jump f = digits (groups f.my) + digits (groups f.mz) + 20
+unfoldable pub lookup_cost : BitmapTriples → ℕ
+lookup_cost f = digits (groups f.bitmap_y) + digits (groups f.bitmap_z) + 20
 
 abbrev pub of_subject : ℕ → Pattern
 of_subject s = record { s = Some s; p = None; o = None }
@@ -30,101 +30,101 @@ abbrev pub of_object : ℕ → Pattern
 of_object o = record { s = None; p = None; o = Some o }
 
 -- A subject and no predicate: one search by rank and select, and 4 for each triple of the subject.
-unfoldable pub subject_price : BitmapTriples → ℕ → Price
-subject_price f s = record { base = jump f; each = 4; counted = of_subject s }
+unfoldable pub subject_cost : BitmapTriples → ℕ → CostBound
+subject_cost f s = record { base = lookup_cost f; each = 4; counted = of_subject s }
 
 -- A subject and a predicate: two searches by rank and select, a binary search among the pairs and one among the
 -- triples, and 4 for each match.
-unfoldable pub pair_price : BitmapTriples → Pattern → Price
-pair_price f p = record { base = 2 * jump f + digits (length f.ys) + digits (length f.zs); each = 4; counted = p }
+unfoldable pub pair_cost : BitmapTriples → Pattern → CostBound
+pair_cost f p = record { base = 2 * lookup_cost f + digits (length f.array_y) + digits (length f.array_z); each = 4; counted = p }
 
 -- Only a predicate: a search by rank and select for each match.
-unfoldable pub predicate_price : BitmapTriples → ℕ → Price
-predicate_price f p = record { base = 0; each = jump f; counted = of_predicate p }
+unfoldable pub predicate_cost : BitmapTriples → ℕ → CostBound
+predicate_cost f p = record { base = 0; each = lookup_cost f; counted = of_predicate p }
 
 -- An object and no subject: 20 for each triple of the object.
-unfoldable pub object_price : ℕ → Price
-object_price o = record { base = 0; each = 20; counted = of_object o }
+unfoldable pub object_cost : ℕ → CostBound
+object_cost o = record { base = 0; each = 20; counted = of_object o }
 
 -- Finding an object in a pair: two searches by rank and select, and a binary search among the triples.
-unfoldable pub pair_look : BitmapTriples → ℕ
-pair_look f = 2 * jump f + digits (length f.zs)
+unfoldable pub pair_search_cost : BitmapTriples → ℕ
+pair_search_cost f = 2 * lookup_cost f + digits (length f.array_z)
 
 -- The number of triples that match.
-abbrev pub triples_with : Pattern → BitmapTriples → ℕ
-triples_with p f = length (matches p (triples_of f))
+abbrev pub match_count : Pattern → BitmapTriples → ℕ
+match_count p f = length (matches p (triples_of f))
 
-unfoldable pub limit : Price → BitmapTriples → ℕ
-limit c f = c.base + c.each * (1 + triples_with c.counted f)
+unfoldable pub limit : CostBound → BitmapTriples → ℕ
+limit c f = c.base + c.each * (1 + match_count c.counted f)
 
 abbrev pub most_steps_by : BitmapTriples → Pattern → Option ℕ → Option ℕ → Option ℕ → ℕ
-most_steps_by f pattern (Some s) None o = limit (subject_price f s) f
-most_steps_by f pattern (Some s) (Some p) o = limit (pair_price f pattern) f
-most_steps_by f pattern None (Some p) None = limit (predicate_price f p) f
-most_steps_by f pattern None p (Some o) = limit (object_price o) f
+most_steps_by f pattern (Some s) None o = limit (subject_cost f s) f
+most_steps_by f pattern (Some s) (Some p) o = limit (pair_cost f pattern) f
+most_steps_by f pattern None (Some p) None = limit (predicate_cost f p) f
+most_steps_by f pattern None p (Some o) = limit (object_cost o) f
 -- Nothing: all triples are scanned.
-most_steps_by f pattern None None None = 4 * length f.zs
+most_steps_by f pattern None None None = 4 * length f.array_z
 
 -- The table of steps of a search.
 unfoldable pub most_steps : BitmapTriples → Pattern → ℕ
 most_steps f p = most_steps_by f p p.s p.p p.o
 
 -- Finding the next triple of an object in its list: a binary search, and 20 more.
-unfoldable pub skip_price : BitmapTriples → ℕ → ℕ
-skip_price f o = digits (triples_with (of_object o) f) + 20
+unfoldable pub list_search_cost : BitmapTriples → ℕ → ℕ
+list_search_cost f o = digits (match_count (of_object o) f) + 20
 
-abbrev pub short_steps_by : BitmapTriples → Pattern → Option ℕ → Option ℕ → Option ℕ → ℕ
+abbrev pub shorter_list_steps_by : BitmapTriples → Pattern → Option ℕ → Option ℕ → Option ℕ → ℕ
 -- A predicate and an object: a search for the object in each pair of the predicate, and in one more.
-short_steps_by f pattern None (Some p) (Some o) = pair_look f * (1 + length (places_of f.ys p))
+shorter_list_steps_by f pattern None (Some p) (Some o) = pair_search_cost f * (1 + length (positions_of f.array_y p))
 -- A subject and an object: one search by rank and select, and four searches in the object's list for each match and for
 -- one more.
-short_steps_by f pattern (Some s) None (Some o) = jump f + 4 * skip_price f o * (1 + triples_with pattern f)
-short_steps_by f pattern s p o = most_steps_by f pattern s p o
+shorter_list_steps_by f pattern (Some s) None (Some o) = lookup_cost f + 4 * list_search_cost f o * (1 + match_count pattern f)
+shorter_list_steps_by f pattern s p o = most_steps_by f pattern s p o
 
 -- The table of steps of a search that uses the shorter of two lists.
-unfoldable pub short_steps : BitmapTriples → Pattern → ℕ
-short_steps f p = short_steps_by f p p.s p.p p.o
+unfoldable pub shorter_list_steps : BitmapTriples → Pattern → ℕ
+shorter_list_steps f p = shorter_list_steps_by f p p.s p.p p.o
 
 abbrev pub counting_steps_by : BitmapTriples → Option ℕ → Option ℕ → Option ℕ → ℕ
 -- Nothing: the number of triples is known.
 counting_steps_by f None None None = 0
 -- A subject: two searches by rank and select, for the start and the end of its triples; with an object one step more
 -- for each of them.
-counting_steps_by f (Some s) None None = 2 * jump f
-counting_steps_by f (Some s) None (Some o) = 2 * jump f + triples_with (of_subject s) f
+counting_steps_by f (Some s) None None = 2 * lookup_cost f
+counting_steps_by f (Some s) None (Some o) = 2 * lookup_cost f + match_count (of_subject s) f
 -- A subject and a predicate: two searches by rank and select, a binary search among the pairs and one among the
 -- triples.
-counting_steps_by f (Some s) (Some p) o = 2 * jump f + digits (length f.ys) + digits (length f.zs)
+counting_steps_by f (Some s) (Some p) o = 2 * lookup_cost f + digits (length f.array_y) + digits (length f.array_z)
 -- Only a predicate: two searches by rank and select for each of its pairs, and for one more.
-counting_steps_by f None (Some p) None = 2 * jump f * (1 + length (places_of f.ys p))
+counting_steps_by f None (Some p) None = 2 * lookup_cost f * (1 + length (positions_of f.array_y p))
 -- An object: the start and the end of its list; with a predicate 10 more for each triple of the object.
 counting_steps_by f None None (Some o) = 2
-counting_steps_by f None (Some p) (Some o) = 2 + 10 * triples_with (of_object o) f
+counting_steps_by f None (Some p) (Some o) = 2 + 10 * match_count (of_object o) f
 
 -- The table of steps of counting the matches.
 unfoldable pub counting_steps : BitmapTriples → Pattern → ℕ
 counting_steps f p = counting_steps_by f p.s p.p p.o
 
-abbrev pub short_counting_steps_by : BitmapTriples → ℕ → Option ℕ → Option ℕ → Option ℕ → ℕ
+abbrev pub shorter_list_counting_steps_by : BitmapTriples → ℕ → Option ℕ → Option ℕ → Option ℕ → ℕ
 -- A subject and an object: two searches by rank and select, and two binary searches in the object's list.
-short_counting_steps_by f most (Some s) None (Some o) = 2 * jump f + 2 * digits (triples_with (of_object o) f)
+shorter_list_counting_steps_by f most (Some s) None (Some o) = 2 * lookup_cost f + 2 * digits (match_count (of_object o) f)
 -- Only a predicate: a scan of all triples, or two searches by rank and select for each pair that is read, and for one
 -- more.
-short_counting_steps_by f most None (Some p) None = min (2 + 4 * length f.zs) (2 * jump f * (1 + min most (length (places_of f.ys p))))
-short_counting_steps_by f most s p o = counting_steps_by f s p o
+shorter_list_counting_steps_by f most None (Some p) None = min (2 + 4 * length f.array_z) (2 * lookup_cost f * (1 + min most (length (positions_of f.array_y p))))
+shorter_list_counting_steps_by f most s p o = counting_steps_by f s p o
 
 -- The same if the shorter of two lists is used and counting stops at `most` matches.
-unfoldable pub short_counting_steps : BitmapTriples → ℕ → Pattern → ℕ
-short_counting_steps f most p = short_counting_steps_by f most p.s p.p p.o
+unfoldable pub shorter_list_counting_steps : BitmapTriples → ℕ → Pattern → ℕ
+shorter_list_counting_steps f most p = shorter_list_counting_steps_by f most p.s p.p p.o
 
-abbrev pub walking_steps_by : BitmapTriples → Option ℕ → Option ℕ → Option ℕ → ℕ
-walking_steps_by f None None None = 0
-walking_steps_by f s p o = 4 * length f.zs
+abbrev pub scan_steps_by : BitmapTriples → Option ℕ → Option ℕ → Option ℕ → ℕ
+scan_steps_by f None None None = 0
+scan_steps_by f s p o = 4 * length f.array_z
 
 -- The same without indexes: all triples are scanned.
-unfoldable pub walking_steps : BitmapTriples → Pattern → ℕ
-walking_steps f p = walking_steps_by f p.s p.p p.o
+unfoldable pub scan_steps : BitmapTriples → Pattern → ℕ
+scan_steps f p = scan_steps_by f p.s p.p p.o
 
 -- The steps so far, and the bound for the remaining triples, are within the bound for the complete search.
-abbrev pub Pays : Price → BitmapTriples → ℕ → List Triple → Type 0
-Pays c f steps left = steps + c.each * length (matches c.counted left) ≤ limit c f
+abbrev pub IsWithinBudget : CostBound → BitmapTriples → ℕ → List Triple → Type 0
+IsWithinBudget c f steps left = steps + c.each * length (matches c.counted left) ≤ limit c f

@@ -1,5 +1,5 @@
-pub mod Fitting
-pub mod Placing
+pub mod Writable
+pub mod CountingSort
 pub mod Runs
 pub mod SequencesView
-pub mod Spots
+pub mod PredicateCursors

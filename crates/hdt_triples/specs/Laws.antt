@@ -1,4 +1,4 @@
-pub mod Counting
+pub mod TripleSequences
 pub mod Group
 pub mod Order
 pub mod Triples

@@ -1,6 +1,6 @@
 -- Triple patterns and their matches.
 use Rattle.std.specs.Prelude.{ℕ, ◌==◌, ◌&&◌, Bool, true, List, filter, Option, Some, None}
-use Rattle.hdt_triples.specs.Counting.{Triple}
+use Rattle.hdt_triples.specs.TripleSequences.{Triple}
 use Rattle.hdt_triples.specs.declared.pattern.Pattern.{Pattern}
 
 -- Nothing is given, or this ID.

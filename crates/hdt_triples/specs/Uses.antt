@@ -3,22 +3,22 @@ use Rattle.std.specs.Prelude.{ℕ, ◌==◌, Bool, List, map}
 use Rattle.std.specs.List.{Contains, list_any}
 use Rattle.hdt_wire.specs.declared.role.Role.{Role}
 use Rattle.hdt_wire.specs.declared.role.Role.TheVariants.{Subject, Predicate, Object}
-use Rattle.hdt_triples.specs.Counting.{Triple}
+use Rattle.hdt_triples.specs.TripleSequences.{Triple}
 
 -- The component of a triple that has the role.
-abbrev pub part : {A : Type 0} → Role → A × A × A → A
-part Subject t = t.0
-part Predicate t = t.1
-part Object t = t.2
+abbrev pub role_component : {A : Type 0} → Role → A × A × A → A
+role_component Subject t = t.0
+role_component Predicate t = t.1
+role_component Object t = t.2
 
 -- The IDs of triples in a role.
-abbrev pub numbers_in : Role → List Triple → List ℕ
-numbers_in role ts = map (part role) ts
+abbrev pub ids_in_role : Role → List Triple → List ℕ
+ids_in_role role ts = map (role_component role) ts
 
 -- A triple has the ID n in the role.
 abbrev pub Uses : List Triple → Role → ℕ → Type 0
-Uses ts role n = Contains (numbers_in role ts) n
+Uses ts role n = Contains (ids_in_role role ts) n
 
 -- The same as a truth value.
 unfoldable pub uses : List Triple → Role → ℕ → Bool
-uses ts role n = list_any (λ m. m == n) (numbers_in role ts)
+uses ts role n = list_any (λ m. m == n) (ids_in_role role ts)

@@ -1,24 +1,24 @@
 -- Views of triples that were read.
 use Rattle.std.specs.Prelude.{ℕ, List, Result}
 use Rattle.hdt_wire.specs.declared.fault.Fault.{Fault}
-use Rattle.hdt_wire.specs.Exact.{seen}
+use Rattle.hdt_wire.specs.Exact.{viewed}
 use Rattle.hdt_seq.specs.Numbers.{numbers_of}
 use Rattle.hdt_seq.specs.Bits.{bits_of}
-use Rattle.hdt_triples.specs.Counting as counting
-use Rattle.hdt_triples.specs.Counting.{BitmapTriples}
-use Rattle.hdt_triples.specs.Triples.{TripleParts, bitmap_of, triples_at}
+use Rattle.hdt_triples.specs.TripleSequences as counting
+use Rattle.hdt_triples.specs.TripleSequences.{BitmapTriples}
+use Rattle.hdt_triples.specs.Triples.{TripleParts, bitmap_triples, decode_triple_parts}
 use Rattle.hdt_triples.specs.declared.triples.Triples.{Triples}
 
 -- The four sequences, as lists.
-unfoldable pub bitmap_read : Triples → BitmapTriples
-bitmap_read t = record { my = bits_of t.my; mz = bits_of t.mz; ys = numbers_of t.ys; zs = numbers_of t.zs }
+unfoldable pub triples_view : Triples → BitmapTriples
+triples_view t = record { bitmap_y = bits_of t.bitmap_y; bitmap_z = bits_of t.bitmap_z; array_y = numbers_of t.array_y; array_z = numbers_of t.array_z }
 
-abbrev pub read_of : Triples × ℕ → BitmapTriples × ℕ
-read_of r = (bitmap_read r.0, r.1)
+abbrev pub read_view : Triples × ℕ → BitmapTriples × ℕ
+read_view r = (triples_view r.0, r.1)
 
-abbrev pub parts_read : TripleParts → BitmapTriples × ℕ
-parts_read t = (bitmap_of t, t.zs.end)
+abbrev pub triple_parts_view : TripleParts → BitmapTriples × ℕ
+triple_parts_view t = (bitmap_triples t, t.array_z.end)
 
 -- Decoding: the four sequences and the byte offset after them, or the first error.
-abbrev pub triples_in : counting.Counts → List ℕ → ℕ → Result (BitmapTriples × ℕ) Fault
-triples_in counts bytes at = seen parts_read (triples_at counts bytes at)
+abbrev pub decode_triples : counting.Counts → List ℕ → ℕ → Result (BitmapTriples × ℕ) Fault
+decode_triples counts bytes at = viewed triple_parts_view (decode_triple_parts counts bytes at)

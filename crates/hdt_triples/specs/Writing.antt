@@ -2,12 +2,12 @@
 use Rattle.std.specs.Prelude.{ℕ, ◌+◌, ◌&&◌, List, Bool, ◌++◌, codes, nat_eq, length, map}
 use Rattle.std.specs.List.{dedup}
 use Rattle.hdt_wire.specs.declared.control.Kind.TheVariants as kinds
-use Rattle.hdt_wire.specs.Control.{control, block_at}
+use Rattle.hdt_wire.specs.Control.{control, control_info_at}
 use Rattle.hdt_seq.specs.Width.{width_of}
-use Rattle.hdt_seq.specs.Numbers.{numbers_spelling, numbers_places_from}
-use Rattle.hdt_seq.specs.Bits.{bits_spelling, bits_places_from}
-use Rattle.hdt_triples.specs.Counting.{Triple, BitmapTriples}
-use Rattle.hdt_triples.specs.Groups.{last_marks}
+use Rattle.hdt_seq.specs.Numbers.{numbers_encoding, numbers_offsets_at}
+use Rattle.hdt_seq.specs.Bits.{bits_encoding, bits_offsets_at}
+use Rattle.hdt_triples.specs.TripleSequences.{Triple, BitmapTriples}
+use Rattle.hdt_triples.specs.Groups.{group_end_bits}
 use Rattle.hdt_triples.specs.Triples.{TripleParts}
 
 abbrev pub pair_eq : ℕ × ℕ → ℕ × ℕ → Bool
@@ -18,40 +18,40 @@ abbrev pub all_pairs : List Triple → List (ℕ × ℕ)
 all_pairs ts = map (λ t. (t.0, t.1)) ts
 
 -- The distinct pairs, in order.
-abbrev pub pairs_of : List Triple → List (ℕ × ℕ)
-pairs_of ts = dedup pair_eq (all_pairs ts)
+abbrev pub distinct_pairs : List Triple → List (ℕ × ℕ)
+distinct_pairs ts = dedup pair_eq (all_pairs ts)
 
 -- The four sequences of a list of triples. Bitmap Y has a 1-bit for the last pair of each subject, bitmap Z one for the
 -- last triple of each pair. Array Y has the predicates of the pairs, array Z the objects of the triples.
 unfoldable pub sequences_of : List Triple → BitmapTriples
 sequences_of ts = record {
-  my = last_marks nat_eq (map (λ p. p.0) (pairs_of ts));
-  mz = last_marks pair_eq (all_pairs ts);
-  ys = map (λ p. p.1) (pairs_of ts);
-  zs = map (λ t. t.2) ts;
+  bitmap_y = group_end_bits nat_eq (map (λ p. p.0) (distinct_pairs ts));
+  bitmap_z = group_end_bits pair_eq (all_pairs ts);
+  array_y = map (λ p. p.1) (distinct_pairs ts);
+  array_z = map (λ t. t.2) ts;
 }
 
 -- The property text: triples are sorted by subject, predicate, object.
-abbrev pub ordered : List ℕ
-ordered = codes "order=1;"
+abbrev pub order_property : List ℕ
+order_property = codes "order=1;"
 
 -- The canonical bytes of four sequences: control information, then each sequence in its canonical encoding.
 unfoldable pub canonical_sequences : BitmapTriples → List ℕ
-canonical_sequences f = control kinds.Triples ordered ++ (bits_spelling f.my ++ (bits_spelling f.mz ++ (numbers_spelling f.ys ++ numbers_spelling f.zs)))
+canonical_sequences f = control kinds.Triples order_property ++ (bits_encoding f.bitmap_y ++ (bits_encoding f.bitmap_z ++ (numbers_encoding f.array_y ++ numbers_encoding f.array_z)))
 
 -- What these bytes decode to at byte offset `at`.
 unfoldable pub sequences_parts : BitmapTriples → ℕ → TripleParts
 sequences_parts f at =
-    let a : ℕ = at + length (control kinds.Triples ordered) in
-    let b : ℕ = a + length (bits_spelling f.my) in
-    let c : ℕ = b + length (bits_spelling f.mz) in
-    let d : ℕ = c + length (numbers_spelling f.ys) in
+    let a : ℕ = at + length (control kinds.Triples order_property) in
+    let b : ℕ = a + length (bits_encoding f.bitmap_y) in
+    let c : ℕ = b + length (bits_encoding f.bitmap_z) in
+    let d : ℕ = c + length (numbers_encoding f.array_y) in
     record {
-      block = block_at kinds.Triples ordered at a;
-      my = record { items = f.my; places = bits_places_from a (length f.my); end = b };
-      mz = record { items = f.mz; places = bits_places_from b (length f.mz); end = c };
-      ys = record { items = f.ys; places = numbers_places_from c (width_of f.ys) (length f.ys); end = d };
-      zs = record { items = f.zs; places = numbers_places_from d (width_of f.zs) (length f.zs); end = d + length (numbers_spelling f.zs) };
+      block = control_info_at kinds.Triples order_property at a;
+      bitmap_y = record { items = f.bitmap_y; places = bits_offsets_at a (length f.bitmap_y); end = b };
+      bitmap_z = record { items = f.bitmap_z; places = bits_offsets_at b (length f.bitmap_z); end = c };
+      array_y = record { items = f.array_y; places = numbers_offsets_at c (width_of f.array_y) (length f.array_y); end = d };
+      array_z = record { items = f.array_z; places = numbers_offsets_at d (width_of f.array_z) (length f.array_z); end = d + length (numbers_encoding f.array_z) };
     }
 
 -- The canonical bytes of a list of triples.

@@ -1,13 +1,13 @@
 //! Triples with rank/select indexes over their bitmaps.
 ghost use Rattle.std.specs.Prelude.{◌≡◌, ◌≢◌, ◌≤◌, ◌<◌, ◌+◌, ◌*◌, ℕ, length, IfOk, IfErr, IfSome, Some};
 ghost use Rattle.hdt_seq.specs.Directory.{IsDirectoryOf, groups};
-ghost use Rattle.hdt_seq.specs.Marks.{marks_before};
+ghost use Rattle.hdt_seq.specs.RankSelect.{ones_before};
 ghost use Rattle.hdt_seq.specs.Width.{digits};
-ghost use Rattle.hdt_triples.specs.Counting.{pair_of, subject_at};
-ghost use Rattle.hdt_triples.specs.Views.{bitmap_read};
-ghost use Rattle.hdt_triples.specs.Walking.{StandsAt};
+ghost use Rattle.hdt_triples.specs.TripleSequences.{pair_of, subject_at};
+ghost use Rattle.hdt_triples.specs.Views.{triples_view};
+ghost use Rattle.hdt_triples.specs.Scanning.{IsTriplePosition};
 
-use crate::place::Place;
+use crate::triple_position::TriplePosition;
 use crate::triples::Triples;
 use hdt_seq::{Directory, Steps};
 use std::alloc::Global;
@@ -19,24 +19,24 @@ pub struct IndexedTriples<'a> {
     pub(crate) triples: Triples<'a>,
     pub(crate) y: Directory,
     pub(crate) z: Directory,
-    ghost y_counted: { IsDirectoryOf y (bitmap_read triples).my },
-    ghost z_counted: { IsDirectoryOf z (bitmap_read triples).mz },
+    ghost y_counted: { IsDirectoryOf y (triples_view triples).bitmap_y },
+    ghost z_counted: { IsDirectoryOf z (triples_view triples).bitmap_z },
 }
 
 impl<'a> Triples<'a> {
-    ghost use Rattle.hdt_triples.specs.ListedViews.{triples_indexed};
+    ghost use Rattle.hdt_triples.specs.IndexViews.{triples_indexed};
 
     /// Builds the rank/select indexes in one pass over the bitmaps: 8 bytes for each group of 512 bits, and 8 more for
     /// each bitmap. On allocation failure the error is `self`.
-    #[tactic(auto, unfolding(crate::specs::Views::bitmap_read))]
+    #[tactic(auto, unfolding(crate::specs::Views::triples_view))]
     pub fn with_directories(self, alloc: Global) -> Result<IndexedTriples<'a>, Triples<'a>>
         ensures indexed { IfOk result (λ t. triples_indexed t ≡ self.entry) }
         ensures back { IfErr result (λ t. t ≡ self.entry) }
     {
-        let Ok(y) = Directory::new(alloc, &self.my) else {
+        let Ok(y) = Directory::new(alloc, &self.bitmap_y) else {
             return Err(self);
         };
-        let Ok(z) = Directory::new(alloc, &self.mz) else {
+        let Ok(z) = Directory::new(alloc, &self.bitmap_z) else {
             return Err(self);
         };
         Ok(IndexedTriples {
@@ -48,12 +48,12 @@ impl<'a> Triples<'a> {
 }
 
 impl<'a> IndexedTriples<'a> {
-    ghost use Rattle.hdt_triples.specs.ListedViews.{directories_held, triples_indexed};
+    ghost use Rattle.hdt_triples.specs.IndexViews.{directories_held, triples_indexed};
 
     /// Returns the size of the indexes, in numbers of 8 bytes.
-    #[tactic(auto, unfolding(crate::specs::Views::bitmap_read))]
+    #[tactic(auto, unfolding(crate::specs::Views::triples_view))]
     pub fn held(&self) -> u128
-        ensures { result ≡ directories_held (bitmap_read (triples_indexed self.now)) }
+        ensures { result ≡ directories_held (triples_view (triples_indexed self.now)) }
     {
         // The pattern names every field, so that a new one doesn't compile until it is counted here.
         let IndexedTriples { triples, y, z } = self;
@@ -63,62 +63,62 @@ impl<'a> IndexedTriples<'a> {
     }
 
     /// Returns the number of subjects of the triples. One step.
-    #[tactic(auto, unfolding(crate::specs::Views::bitmap_read))]
+    #[tactic(auto, unfolding(crate::specs::Views::triples_view))]
     pub(crate) fn subjects(&self, steps: &mut Steps) -> u64
-        ensures is { result ≡ marks_before (bitmap_read (triples_indexed self.now)).my (length (bitmap_read (triples_indexed self.now)).my) }
+        ensures is { result ≡ ones_before (triples_view (triples_indexed self.now)).bitmap_y (length (triples_view (triples_indexed self.now)).bitmap_y) }
         ensures cost { steps.new ≡ steps.old + 1 }
     {
-        self.y.rank(&self.triples.my, self.triples.my.len(), steps)
+        self.y.rank(&self.triples.bitmap_y, self.triples.bitmap_y.len(), steps)
     }
 
     /// Returns the subject of a pair.
-    #[tactic(auto, unfolding(crate::specs::Views::bitmap_read))]
+    #[tactic(auto, unfolding(crate::specs::Views::triples_view))]
     pub(crate) fn subject_of_pair(&self, pair: u64, steps: &mut Steps) -> u64
-        requires { pair < length (bitmap_read (triples_indexed self.now)).ys }
-        ensures is { result ≡ subject_at (bitmap_read (triples_indexed self.now)) pair }
+        requires { pair < length (triples_view (triples_indexed self.now)).array_y }
+        ensures is { result ≡ subject_at (triples_view (triples_indexed self.now)) pair }
         ensures cost { steps.new ≤ steps.old + 8 }
         ensures more { steps.old ≤ steps.new }
     {
-        self.y.rank(&self.triples.my, pair, steps) + 1
+        self.y.rank(&self.triples.bitmap_y, pair, steps) + 1
     }
 
     /// Returns the index of a pair's first triple.
-    #[tactic(auto, unfolding(crate::specs::Views::bitmap_read))]
+    #[tactic(auto, unfolding(crate::specs::Views::triples_view))]
     pub(crate) fn start_of_pair(&self, pair: u64, steps: &mut Steps) -> u64
-        requires { pair < length (bitmap_read (triples_indexed self.now)).ys }
-        ensures within { result < length (bitmap_read (triples_indexed self.now)).zs }
-        ensures is { pair_of (bitmap_read (triples_indexed self.now)) result ≡ pair }
-        ensures earlier { (i : ℕ) → i < result → pair_of (bitmap_read (triples_indexed self.now)) i < pair }
-        ensures cost { steps.new ≤ steps.old + (digits (groups (bitmap_read (triples_indexed self.now)).mz) + 8) }
+        requires { pair < length (triples_view (triples_indexed self.now)).array_y }
+        ensures within { result < length (triples_view (triples_indexed self.now)).array_z }
+        ensures is { pair_of (triples_view (triples_indexed self.now)) result ≡ pair }
+        ensures earlier { (i : ℕ) → i < result → pair_of (triples_view (triples_indexed self.now)) i < pair }
+        ensures cost { steps.new ≤ steps.old + (digits (groups (triples_view (triples_indexed self.now)).bitmap_z) + 8) }
         ensures more { steps.old ≤ steps.new }
     {
         if pair == 0 {
             return 0;
         }
-        self.z.select(&self.triples.mz, pair, steps) + 1
+        self.z.select(&self.triples.bitmap_z, pair, steps) + 1
     }
 
     /// Returns the index after a pair's last triple.
-    #[tactic(auto, unfolding(crate::specs::Views::bitmap_read))]
+    #[tactic(auto, unfolding(crate::specs::Views::triples_view))]
     pub(crate) fn end_of_pair(&self, pair: u64, steps: &mut Steps) -> u64
-        requires { pair < length (bitmap_read (triples_indexed self.now)).ys }
-        ensures within { result ≤ length (bitmap_read (triples_indexed self.now)).zs }
-        ensures below { (i : ℕ) → i < result → pair_of (bitmap_read (triples_indexed self.now)) i ≤ pair }
-        ensures above { (i : ℕ) → result ≤ i → pair < pair_of (bitmap_read (triples_indexed self.now)) i }
-        ensures next { pair_of (bitmap_read (triples_indexed self.now)) result ≡ pair + 1 }
-        ensures cost { steps.new ≤ steps.old + (digits (groups (bitmap_read (triples_indexed self.now)).mz) + 8) }
+        requires { pair < length (triples_view (triples_indexed self.now)).array_y }
+        ensures within { result ≤ length (triples_view (triples_indexed self.now)).array_z }
+        ensures below { (i : ℕ) → i < result → pair_of (triples_view (triples_indexed self.now)) i ≤ pair }
+        ensures above { (i : ℕ) → result ≤ i → pair < pair_of (triples_view (triples_indexed self.now)) i }
+        ensures next { pair_of (triples_view (triples_indexed self.now)) result ≡ pair + 1 }
+        ensures cost { steps.new ≤ steps.old + (digits (groups (triples_view (triples_indexed self.now)).bitmap_z) + 8) }
         ensures more { steps.old ≤ steps.new }
     {
-        self.z.select(&self.triples.mz, pair + 1, steps) + 1
+        self.z.select(&self.triples.bitmap_z, pair + 1, steps) + 1
     }
 
     /// Returns the position of a subject's first triple, or the end if it has none.
-    #[tactic(auto, unfolding(crate::specs::Views::bitmap_read))]
-    pub(crate) fn start_of(&self, subject: u64, steps: &mut Steps) -> Place
-        ensures stands { StandsAt (bitmap_read (triples_indexed self.now)) result }
-        ensures reached { result.at < length (bitmap_read (triples_indexed self.now)).zs → subject ≤ result.subject }
-        ensures before { (i : ℕ) → i < result.at → subject_at (bitmap_read (triples_indexed self.now)) (pair_of (bitmap_read (triples_indexed self.now)) i) ≢ subject }
-        ensures cost { steps.new ≤ steps.old + (digits (groups (bitmap_read (triples_indexed self.now)).my) + digits (groups (bitmap_read (triples_indexed self.now)).mz) + 17) }
+    #[tactic(auto, unfolding(crate::specs::Views::triples_view))]
+    pub(crate) fn start_of_subject(&self, subject: u64, steps: &mut Steps) -> TriplePosition
+        ensures stands { IsTriplePosition (triples_view (triples_indexed self.now)) result }
+        ensures reached { result.at < length (triples_view (triples_indexed self.now)).array_z → subject ≤ result.subject }
+        ensures before { (i : ℕ) → i < result.at → subject_at (triples_view (triples_indexed self.now)) (pair_of (triples_view (triples_indexed self.now)) i) ≢ subject }
+        ensures cost { steps.new ≤ steps.old + (digits (groups (triples_view (triples_indexed self.now)).bitmap_y) + digits (groups (triples_view (triples_indexed self.now)).bitmap_z) + 17) }
     {
         let subjects = self.subjects(steps);
         if subject == 0 || subject > subjects {
@@ -127,8 +127,8 @@ impl<'a> IndexedTriples<'a> {
         if subject == 1 {
             return self.triples.first();
         }
-        let pair = self.y.select(&self.triples.my, subject - 1, steps) + 1;
-        let at = self.z.select(&self.triples.mz, pair, steps) + 1;
-        Place { at, pair, subject }
+        let pair = self.y.select(&self.triples.bitmap_y, subject - 1, steps) + 1;
+        let at = self.z.select(&self.triples.bitmap_z, pair, steps) + 1;
+        TriplePosition { at, pair, subject }
     }
 }

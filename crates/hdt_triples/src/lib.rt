@@ -32,38 +32,33 @@
 //! indexes by predicate and by object. specs/Bounds has the table of the maximal number of steps.
 #![tactic(auto)]
 
-mod counting;
-mod counts;
-mod fitting;
-mod halving;
+mod counting_sort;
 mod indexed;
-mod laws;
-mod listed;
-mod look;
+mod listed_triples;
+mod access;
 mod matches;
-mod matching;
+mod match_counts;
 mod object;
 mod pair;
 mod pattern;
-mod place;
+mod triple_position;
 mod predicate;
 mod predicate_object;
-mod price;
-mod rows;
+mod checks;
 mod sequences;
-mod spot;
+mod predicate_cursor;
 mod subject;
 mod subject_object;
 mod triples;
 mod uses;
-mod walk;
+mod scan;
 mod writing;
 
-pub use counts::Counts;
-pub use fitting::are_writable;
+pub use pattern::Counts;
+pub use writing::are_writable;
 pub use indexed::IndexedTriples;
-pub use laws::{triples_are_exact, triples_are_read_again, triples_ascend};
-pub use listed::ListedTriples;
+pub use writing::{triples_are_exact, triples_round_trip, triples_ascend};
+pub use listed_triples::ListedTriples;
 pub use matches::Matches;
 pub use object::ObjectMatches;
 pub use pair::PairMatches;
@@ -73,5 +68,5 @@ pub use predicate_object::PredicateObjectMatches;
 pub use subject::SubjectMatches;
 pub use subject_object::SubjectObjectMatches;
 pub use triples::Triples;
-pub use walk::WalkMatches;
+pub use scan::ScanMatches;
 pub use writing::put_triples;

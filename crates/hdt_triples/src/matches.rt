@@ -1,12 +1,12 @@
 //! The matches of a pattern.
 ghost use Rattle.std.specs.Prelude.{◌≡◌, ◌≤◌, ◌<◌, ◌*◌, ◌^◌, IsSome, None, length};
-ghost use Rattle.hdt_triples.specs.Bounds.{most_steps, short_steps};
-ghost use Rattle.hdt_triples.specs.Counting.{triples_of};
+ghost use Rattle.hdt_triples.specs.Bounds.{most_steps, shorter_list_steps};
+ghost use Rattle.hdt_triples.specs.TripleSequences.{triples_of};
 ghost use Rattle.hdt_triples.specs.Patterns.{matches};
-ghost use Rattle.hdt_triples.specs.Views.{bitmap_read};
+ghost use Rattle.hdt_triples.specs.Views.{triples_view};
 
 use crate::indexed::IndexedTriples;
-use crate::listed::ListedTriples;
+use crate::listed_triples::ListedTriples;
 use crate::object::ObjectMatches;
 use crate::pair::PairMatches;
 use crate::pattern::Pattern;
@@ -14,7 +14,7 @@ use crate::predicate::PredicateMatches;
 use crate::predicate_object::PredicateObjectMatches;
 use crate::subject::SubjectMatches;
 use crate::subject_object::SubjectObjectMatches;
-use crate::walk::WalkMatches;
+use crate::scan::ScanMatches;
 use hdt_seq::Steps;
 
 /// An iterator over the matches of a pattern, in order. Its variants are the search strategies; all return the same
@@ -31,7 +31,7 @@ pub enum Matches<'a> {
     /// No triple.
     Empty,
     /// A scan of all triples.
-    Walk(WalkMatches<'a>),
+    Scan(ScanMatches<'a>),
     /// A scan of a subject's triples.
     Subject(SubjectMatches<'a>),
     /// The triples of a subject and an object: a scan of the subject's, which skips by those of the object.
@@ -47,19 +47,19 @@ pub enum Matches<'a> {
 }
 
 impl<'a> IndexedTriples<'a> {
-    ghost use Rattle.hdt_triples.specs.Left.{left_of, limit_of};
-    ghost use Rattle.hdt_triples.specs.ListedViews.{triples_indexed};
+    ghost use Rattle.hdt_triples.specs.Remaining.{remaining_matches, step_limit};
+    ghost use Rattle.hdt_triples.specs.IndexViews.{triples_indexed};
 
     /// Finds the matches of a pattern: the triples that have each given ID, once each, in order. A subject is found by
     /// the rank/select indexes; without one, all triples are scanned. Allocates nothing.
     #[tactic(auto, unfolding(crate::specs::Bounds::most_steps))]
     pub fn find(&self, pattern: Pattern) -> Matches<'_>
-        ensures items { left_of result ≡ matches pattern (triples_of (bitmap_read (triples_indexed self.now))) }
-        ensures fits { length (left_of result) < 2 ^ 64 }
+        ensures items { remaining_matches result ≡ matches pattern (triples_of (triples_view (triples_indexed self.now))) }
+        ensures fits { length (remaining_matches result) < 2 ^ 64 }
         // With a subject, the steps of this call and of all its items are bounded by the table.
-        ensures few { IsSome pattern.s → limit_of result ≡ most_steps (bitmap_read (triples_indexed self.now)) pattern }
+        ensures few { IsSome pattern.s → step_limit result ≡ most_steps (triples_view (triples_indexed self.now)) pattern }
         // Without one, they are bounded by those of a scan.
-        ensures walked { pattern.s ≡ None → limit_of result ≡ 4 * length (bitmap_read (triples_indexed self.now)).zs }
+        ensures walked { pattern.s ≡ None → step_limit result ≡ 4 * length (triples_view (triples_indexed self.now)).array_z }
     {
         match (pattern.s, pattern.p) {
             (Some(subject), Some(predicate)) => self.find_pair(pattern, subject, predicate),
@@ -70,8 +70,8 @@ impl<'a> IndexedTriples<'a> {
 }
 
 impl<'a> ListedTriples<'a> {
-    ghost use Rattle.hdt_triples.specs.Left.{left_of, limit_of, short_limit_of};
-    ghost use Rattle.hdt_triples.specs.ListedViews.{triples_listed};
+    ghost use Rattle.hdt_triples.specs.Remaining.{remaining_matches, step_limit, shorter_list_step_limit};
+    ghost use Rattle.hdt_triples.specs.IndexViews.{triples_listed};
 
     /// Finds the matches of a pattern: the triples that have each given ID, once each, in order. Allocates nothing.
     ///
@@ -79,14 +79,14 @@ impl<'a> ListedTriples<'a> {
     /// but no predicate, the subject's triples are scanned, and long stretches without a match are skipped by the
     /// object's list. Given no subject, a predicate is found by its list of pairs, an object by its list of triples,
     /// and both by the list that needs fewer steps. Given nothing, all triples are scanned.
-    #[tactic(auto, using(crate::proofs::PredicateObjectLaws::shorter), unfolding(crate::specs::Bounds::most_steps, crate::specs::Bounds::short_steps))]
+    #[tactic(auto, using(crate::proofs::PredicateObjectLaws::shorter), unfolding(crate::specs::Bounds::most_steps, crate::specs::Bounds::shorter_list_steps))]
     pub fn find(&self, pattern: Pattern) -> Matches<'_>
-        ensures items { left_of result ≡ matches pattern (triples_of (bitmap_read (triples_listed self.now))) }
-        ensures fits { length (left_of result) < 2 ^ 64 }
+        ensures items { remaining_matches result ≡ matches pattern (triples_of (triples_view (triples_listed self.now))) }
+        ensures fits { length (remaining_matches result) < 2 ^ 64 }
         // The steps of this call and of all its items are bounded by the table.
-        ensures few { limit_of result ≡ most_steps (bitmap_read (triples_listed self.now)) pattern }
+        ensures few { step_limit result ≡ most_steps (triples_view (triples_listed self.now)) pattern }
         // They are also bounded by the table for the shorter of two lists.
-        ensures short { short_limit_of result ≤ short_steps (bitmap_read (triples_listed self.now)) pattern }
+        ensures short { shorter_list_step_limit result ≤ shorter_list_steps (triples_view (triples_listed self.now)) pattern }
     {
         match (pattern.s, pattern.p, pattern.o) {
             (Some(subject), None, Some(object)) => {
@@ -108,21 +108,21 @@ impl<'a> Iterator for Matches<'a> {
 
     ghost use Rattle.std.specs.Iterator.{YieldsFirst, MakesProgress, item_count};
     ghost use Rattle.std.specs.Prelude.{⊤};
-    ghost use Rattle.hdt_triples.specs.Left.{left_of, limit_of, short_limit_of, steps_of};
+    ghost use Rattle.hdt_triples.specs.Remaining.{remaining_matches, step_limit, shorter_list_step_limit, steps_taken};
 
     // Returns the first of the remaining matches. Both bounds on the steps are unchanged; the steps don't decrease.
-    ghost next_gives = { λ old result new. YieldsFirst left_of old result new × (limit_of new ≡ limit_of old) × (steps_of old ≤ steps_of new) × (short_limit_of new ≡ short_limit_of old) };
+    ghost next_gives = { λ old result new. YieldsFirst remaining_matches old result new × (step_limit new ≡ step_limit old) × (steps_taken old ≤ steps_taken new) × (shorter_list_step_limit new ≡ shorter_list_step_limit old) };
 
-    ghost remaining = { item_count left_of };
+    ghost remaining = { item_count remaining_matches };
 
-    #[tactic(auto, unfolding(crate::specs::Left::left_of, crate::specs::Left::limit_of, crate::specs::Left::short_limit_of, crate::specs::Left::steps_of))]
+    #[tactic(auto, unfolding(crate::specs::Remaining::remaining_matches, crate::specs::Remaining::step_limit, crate::specs::Remaining::shorter_list_step_limit, crate::specs::Remaining::steps_taken))]
     fn next(&mut self) -> Option<(u64, u64, u64)>
-        ensures steps { YieldsFirst left_of self.old result self.new × (limit_of self.new ≡ limit_of self.old) × (steps_of self.old ≤ steps_of self.new) × (short_limit_of self.new ≡ short_limit_of self.old) }
-        ensures goes { MakesProgress (λ _. ⊤) (item_count left_of) self.old result self.new }
+        ensures steps { YieldsFirst remaining_matches self.old result self.new × (step_limit self.new ≡ step_limit self.old) × (steps_taken self.old ≤ steps_taken self.new) × (shorter_list_step_limit self.new ≡ shorter_list_step_limit self.old) }
+        ensures goes { MakesProgress (λ _. ⊤) (item_count remaining_matches) self.old result self.new }
     {
         match self {
             Matches::Empty => None,
-            Matches::Walk(matches) => matches.next(),
+            Matches::Scan(matches) => matches.next(),
             Matches::Subject(matches) => matches.next(),
             Matches::SubjectObject(matches) => matches.next(),
             Matches::Pair(matches) => matches.next(),
@@ -134,17 +134,17 @@ impl<'a> Iterator for Matches<'a> {
 }
 
 impl<'a> Matches<'a> {
-    ghost use Rattle.hdt_triples.specs.Left.{limit_of, short_limit_of, steps_of};
+    ghost use Rattle.hdt_triples.specs.Remaining.{step_limit, shorter_list_step_limit, steps_taken};
 
     /// Law: the steps since the call of `find` never exceed its bound.
-    pub fn steps_are_few(&self)
-        ensures { steps_of self.now ≤ limit_of self.now }
+    pub fn steps_within_limit(&self)
+        ensures { steps_taken self.now ≤ step_limit self.now }
     {}
 
     /// Law: nor do they exceed its bound for the shorter of two lists.
-    pub fn steps_are_fewer(&self)
-        ensures { steps_of self.now ≤ short_limit_of self.now }
+    pub fn steps_within_shorter_list_limit(&self)
+        ensures { steps_taken self.now ≤ shorter_list_step_limit self.now }
     {
-        self.steps_are_few();
+        self.steps_within_limit();
     }
 }

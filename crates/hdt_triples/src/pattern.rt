@@ -26,9 +26,20 @@ fn admits(given: Option<u64>, number: u64) -> bool
 
 impl Pattern {
     /// Returns whether a triple has each given ID.
-    pub fn takes(&self, triple: (u64, u64, u64)) -> bool
+    pub fn is_match(&self, triple: (u64, u64, u64)) -> bool
         ensures { result ≡ agrees self.now triple }
     {
         admits(self.s, triple.0) && admits(self.p, triple.1) && admits(self.o, triple.2)
     }
+}
+
+/// The number of strings of each role. The IDs of a role are 1 to its count.
+#[derive(Clone, Copy, Debug, PartialEq, Eq)]
+pub struct Counts {
+    /// Shared and subject-only strings.
+    pub subjects: u64,
+    /// Predicates.
+    pub predicates: u64,
+    /// Shared and object-only strings.
+    pub objects: u64,
 }

@@ -1,17 +1,17 @@
 //! Search by a predicate only.
 ghost use Rattle.std.specs.Prelude.{◌≡◌, ◌≤◌, ◌<◌, ◌^◌, length};
-ghost use Rattle.hdt_triples.specs.Bounds.{of_predicate, predicate_price, Pays, limit};
-ghost use Rattle.hdt_triples.specs.Counting.{triples_of};
+ghost use Rattle.hdt_triples.specs.Bounds.{of_predicate, predicate_cost, IsWithinBudget, limit};
+ghost use Rattle.hdt_triples.specs.TripleSequences.{triples_of};
 ghost use Rattle.hdt_triples.specs.Patterns.{matches};
-ghost use Rattle.hdt_triples.specs.Inside.Spots.{InPairs};
-ghost use Rattle.hdt_triples.specs.Views.{bitmap_read};
-ghost use Rattle.hdt_triples.specs.Walking.{triples_from};
+ghost use Rattle.hdt_triples.specs.Inside.PredicateCursors.{IsPredicateCursor};
+ghost use Rattle.hdt_triples.specs.Views.{triples_view};
+ghost use Rattle.hdt_triples.specs.Scanning.{triples_from};
 
 use crate::indexed::IndexedTriples;
-use crate::listed::ListedTriples;
-use crate::look::entry;
+use crate::listed_triples::ListedTriples;
+use crate::access::read_entry;
 use crate::matches::Matches;
-use crate::spot::Spot;
+use crate::predicate_cursor::PredicateCursor;
 use hdt_seq::Steps;
 
 /// The triples of a predicate, in order. The inverted index has its pairs; bitmap Z shows the end of each pair.
@@ -19,29 +19,29 @@ use hdt_seq::Steps;
 pub struct PredicateMatches<'a> {
     indexed: &'a IndexedTriples<'a>,
     predicate: u64,
-    spot: Spot<'a>,
+    cursor: PredicateCursor<'a>,
     steps: Steps,
-    ghost stands: { InPairs (bitmap_read indexed.now.triples) predicate spot },
-    pub ghost few: { Pays (predicate_price (bitmap_read indexed.now.triples) predicate) (bitmap_read indexed.now.triples) steps (triples_from (bitmap_read indexed.now.triples) spot.at) },
+    ghost stands: { IsPredicateCursor (triples_view indexed.now.triples) predicate cursor },
+    pub ghost few: { IsWithinBudget (predicate_cost (triples_view indexed.now.triples) predicate) (triples_view indexed.now.triples) steps (triples_from (triples_view indexed.now.triples) cursor.at) },
 }
 
 impl<'a> ListedTriples<'a> {
-    ghost use Rattle.hdt_triples.specs.Left.{left_of, limit_of};
-    ghost use Rattle.hdt_triples.specs.ListedViews.{triples_listed};
+    ghost use Rattle.hdt_triples.specs.Remaining.{remaining_matches, step_limit};
+    ghost use Rattle.hdt_triples.specs.IndexViews.{triples_listed};
 
     /// Finds the triples of a predicate.
-    #[tactic(auto, unfolding(crate::specs::Left::left_of, crate::specs::Left::limit_of))]
+    #[tactic(auto, unfolding(crate::specs::Remaining::remaining_matches, crate::specs::Remaining::step_limit))]
     pub(crate) fn find_predicate(&self, predicate: u64) -> Matches<'_>
-        ensures items { left_of result ≡ matches (of_predicate predicate) (triples_of (bitmap_read (triples_listed self.now))) }
-        ensures fits { length (left_of result) < 2 ^ 64 }
-        ensures few { limit_of result ≡ limit (predicate_price (bitmap_read (triples_listed self.now)) predicate) (bitmap_read (triples_listed self.now)) }
+        ensures items { remaining_matches result ≡ matches (of_predicate predicate) (triples_of (triples_view (triples_listed self.now))) }
+        ensures fits { length (remaining_matches result) < 2 ^ 64 }
+        ensures few { step_limit result ≡ limit (predicate_cost (triples_view (triples_listed self.now)) predicate) (triples_view (triples_listed self.now)) }
     {
         let mut steps = Steps::new();
         let rest = self.pairs_of(predicate, &mut steps);
         Matches::Predicate(PredicateMatches {
             indexed: &self.indexed,
             predicate,
-            spot: Spot {
+            cursor: PredicateCursor {
                 rest,
                 at: 0,
                 subject: 0,
@@ -57,27 +57,27 @@ impl<'a> Iterator for PredicateMatches<'a> {
 
     ghost use Rattle.std.specs.Iterator.{YieldsFirst, MakesProgress, item_count};
     ghost use Rattle.std.specs.Prelude.{⊤};
-    ghost use Rattle.hdt_triples.specs.Left.{left_of, limit_of, steps_of};
+    ghost use Rattle.hdt_triples.specs.Remaining.{remaining_matches, step_limit, steps_taken};
     ghost use Rattle.hdt_triples.specs.declared.matches.Matches.TheVariants.{Predicate};
 
-    ghost next_gives = { YieldsFirst (λ m. left_of (Predicate m)) };
+    ghost next_gives = { YieldsFirst (λ m. remaining_matches (Predicate m)) };
 
-    ghost remaining = { item_count (λ m. left_of (Predicate m)) };
+    ghost remaining = { item_count (λ m. remaining_matches (Predicate m)) };
 
-    #[tactic(auto, unfolding(crate::specs::Left::left_of, crate::specs::Left::limit_of, crate::specs::Left::steps_of))]
+    #[tactic(auto, unfolding(crate::specs::Remaining::remaining_matches, crate::specs::Remaining::step_limit, crate::specs::Remaining::steps_taken))]
     fn next(&mut self) -> Option<(u64, u64, u64)>
-        ensures steps { YieldsFirst (λ m. left_of (Predicate m)) self.old result self.new }
-        ensures goes { MakesProgress (λ _. ⊤) (item_count (λ m. left_of (Predicate m))) self.old result self.new }
-        ensures same { limit_of (Predicate self.new) ≡ limit_of (Predicate self.old) }
-        ensures more { steps_of (Predicate self.old) ≤ steps_of (Predicate self.new) }
+        ensures steps { YieldsFirst (λ m. remaining_matches (Predicate m)) self.old result self.new }
+        ensures goes { MakesProgress (λ _. ⊤) (item_count (λ m. remaining_matches (Predicate m))) self.old result self.new }
+        ensures same { step_limit (Predicate self.new) ≡ step_limit (Predicate self.old) }
+        ensures more { steps_taken (Predicate self.old) ≤ steps_taken (Predicate self.new) }
     {
-        if !self.spot.inside && self.spot.rest.is_empty() {
+        if !self.cursor.inside && self.cursor.rest.is_empty() {
             return None;
         }
         let indexed = self.indexed;
-        let spot = indexed.enter(self.spot, self.predicate, &mut self.steps);
-        let object = entry(&indexed.triples.zs, spot.at, &mut self.steps);
-        self.spot = indexed.triples.leave(spot, &mut self.steps);
-        Some((spot.subject, self.predicate, object))
+        let cursor = indexed.enter_pair(self.cursor, self.predicate, &mut self.steps);
+        let object = read_entry(&indexed.triples.array_z, cursor.at, &mut self.steps);
+        self.cursor = indexed.triples.next_in_pair(cursor, &mut self.steps);
+        Some((cursor.subject, self.predicate, object))
     }
 }

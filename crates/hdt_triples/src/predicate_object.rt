@@ -1,15 +1,16 @@
 //! Search by a predicate and an object.
 ghost use Rattle.std.specs.Prelude.{◌≡◌, ◌≤◌, ◌+◌, ◌*◌, ◌<◌, ◌^◌, Some, None, length};
-ghost use Rattle.hdt_triples.specs.Bounds.{limit, object_price, pair_look};
-ghost use Rattle.hdt_triples.specs.Counting.{triples_of};
-ghost use Rattle.hdt_triples.specs.Inside.Spots.{Between};
-ghost use Rattle.hdt_triples.specs.Lists.{places_of};
+ghost use Rattle.hdt_triples.specs.Bounds.{limit, object_cost, pair_search_cost, lookup_cost};
+ghost use Rattle.hdt_triples.specs.TripleSequences.{triples_of};
+ghost use Rattle.hdt_triples.specs.Inside.PredicateCursors.{IsBeforePair};
+ghost use Rattle.hdt_triples.specs.InvertedIndex.{positions_of};
 ghost use Rattle.hdt_triples.specs.Patterns.{matches};
-ghost use Rattle.hdt_triples.specs.Views.{bitmap_read};
+ghost use Rattle.hdt_triples.specs.Views.{triples_view};
+ghost use Rattle.hdt_seq.specs.Width.{digits};
 
+use crate::access::read_list;
 use crate::indexed::IndexedTriples;
-use crate::listed::ListedTriples;
-use crate::look::listed;
+use crate::listed_triples::ListedTriples;
 use crate::matches::Matches;
 use crate::pattern::Pattern;
 use hdt_seq::Steps;
@@ -29,18 +30,18 @@ pub struct PredicateObjectMatches<'a> {
     ghost free: { pattern.s ≡ None },
     ghost predicate_given: { pattern.p ≡ Some predicate },
     ghost object_given: { pattern.o ≡ Some object },
-    ghost between: { Between (bitmap_read indexed.now.triples) predicate rest.now at },
-    pub ghost short: { steps + pair_look (bitmap_read indexed.now.triples) * length rest.now ≤ pair_look (bitmap_read indexed.now.triples) * (1 + length (places_of (bitmap_read indexed.now.triples).ys predicate)) },
-    pub ghost few: { pair_look (bitmap_read indexed.now.triples) * (1 + length (places_of (bitmap_read indexed.now.triples).ys predicate)) ≤ limit (object_price object) (bitmap_read indexed.now.triples) },
+    ghost between: { IsBeforePair (triples_view indexed.now.triples) predicate rest.now at },
+    pub ghost short: { steps + pair_search_cost (triples_view indexed.now.triples) * length rest.now ≤ pair_search_cost (triples_view indexed.now.triples) * (1 + length (positions_of (triples_view indexed.now.triples).array_y predicate)) },
+    pub ghost few: { pair_search_cost (triples_view indexed.now.triples) * (1 + length (positions_of (triples_view indexed.now.triples).array_y predicate)) ≤ limit (object_cost object) (triples_view indexed.now.triples) },
 }
 
 impl<'a> ListedTriples<'a> {
-    ghost use Rattle.hdt_triples.specs.Left.{left_of, limit_of, short_limit_of};
-    ghost use Rattle.hdt_triples.specs.ListedViews.{triples_listed};
+    ghost use Rattle.hdt_triples.specs.Remaining.{remaining_matches, step_limit, shorter_list_step_limit};
+    ghost use Rattle.hdt_triples.specs.IndexViews.{triples_listed};
 
     /// Finds the matches of a pattern with this predicate, this object and no subject: by the pairs of the predicate,
     /// or by the triples of the object if that is cheaper.
-    #[tactic(auto, unfolding(crate::specs::Left::left_of, crate::specs::Left::limit_of, crate::specs::Left::short_limit_of))]
+    #[tactic(auto, unfolding(crate::specs::Remaining::remaining_matches, crate::specs::Remaining::step_limit, crate::specs::Remaining::shorter_list_step_limit))]
     pub(crate) fn find_predicate_object(
         &self,
         pattern: Pattern,
@@ -50,16 +51,16 @@ impl<'a> ListedTriples<'a> {
         requires free { pattern.s ≡ None }
         requires predicate_given { pattern.p ≡ Some predicate }
         requires object_given { pattern.o ≡ Some object }
-        ensures items { left_of result ≡ matches pattern (triples_of (bitmap_read (triples_listed self.now))) }
-        ensures fits { length (left_of result) < 2 ^ 64 }
-        ensures few { limit_of result ≡ limit (object_price object) (bitmap_read (triples_listed self.now)) }
-        ensures short { short_limit_of result ≤ pair_look (bitmap_read (triples_listed self.now)) * (1 + length (places_of (bitmap_read (triples_listed self.now)).ys predicate)) }
+        ensures items { remaining_matches result ≡ matches pattern (triples_of (triples_view (triples_listed self.now))) }
+        ensures fits { length (remaining_matches result) < 2 ^ 64 }
+        ensures few { step_limit result ≡ limit (object_cost object) (triples_view (triples_listed self.now)) }
+        ensures short { shorter_list_step_limit result ≤ pair_search_cost (triples_view (triples_listed self.now)) * (1 + length (positions_of (triples_view (triples_listed self.now)).array_y predicate)) }
     {
         let mut steps = Steps::new();
         let rest = self.pairs_of(predicate, &mut steps);
-        let places = self.places_of(object, &mut steps);
+        let places = self.positions_of(object, &mut steps);
         let by_object = 20 * (1 + places.len() as u128);
-        let pair = u128::from(self.indexed.pair_look());
+        let pair = u128::from(self.indexed.pair_search_cost());
         if by_object < pair.saturating_mul(1 + rest.len() as u128) {
             return self.find_object(pattern, object, steps);
         }
@@ -80,32 +81,69 @@ impl<'a> Iterator for PredicateObjectMatches<'a> {
 
     ghost use Rattle.std.specs.Iterator.{YieldsFirst, MakesProgress, item_count};
     ghost use Rattle.std.specs.Prelude.{⊤};
-    ghost use Rattle.hdt_triples.specs.Left.{left_of, limit_of, short_limit_of, steps_of};
+    ghost use Rattle.hdt_triples.specs.Remaining.{remaining_matches, step_limit, shorter_list_step_limit, steps_taken};
     ghost use Rattle.hdt_triples.specs.declared.matches.Matches.TheVariants.{PredicateObject};
 
-    ghost next_gives = { YieldsFirst (λ m. left_of (PredicateObject m)) };
+    ghost next_gives = { YieldsFirst (λ m. remaining_matches (PredicateObject m)) };
 
-    ghost remaining = { item_count (λ m. left_of (PredicateObject m)) };
+    ghost remaining = { item_count (λ m. remaining_matches (PredicateObject m)) };
 
-    #[tactic(auto, unfolding(crate::specs::Left::left_of, crate::specs::Left::limit_of, crate::specs::Left::short_limit_of, crate::specs::Left::steps_of))]
+    #[tactic(auto, unfolding(crate::specs::Remaining::remaining_matches, crate::specs::Remaining::step_limit, crate::specs::Remaining::shorter_list_step_limit, crate::specs::Remaining::steps_taken))]
     fn next(&mut self) -> Option<(u64, u64, u64)>
-        ensures steps { YieldsFirst (λ m. left_of (PredicateObject m)) self.old result self.new }
-        ensures goes { MakesProgress (λ _. ⊤) (item_count (λ m. left_of (PredicateObject m))) self.old result self.new }
-        ensures same { limit_of (PredicateObject self.new) ≡ limit_of (PredicateObject self.old) }
-        ensures short { short_limit_of (PredicateObject self.new) ≡ short_limit_of (PredicateObject self.old) }
-        ensures more { steps_of (PredicateObject self.old) ≤ steps_of (PredicateObject self.new) }
+        ensures steps { YieldsFirst (λ m. remaining_matches (PredicateObject m)) self.old result self.new }
+        ensures goes { MakesProgress (λ _. ⊤) (item_count (λ m. remaining_matches (PredicateObject m))) self.old result self.new }
+        ensures same { step_limit (PredicateObject self.new) ≡ step_limit (PredicateObject self.old) }
+        ensures short { shorter_list_step_limit (PredicateObject self.new) ≡ shorter_list_step_limit (PredicateObject self.old) }
+        ensures more { steps_taken (PredicateObject self.old) ≤ steps_taken (PredicateObject self.new) }
     {
         'pairs: while !self.rest.is_empty() {
             let indexed = self.indexed;
-            let pair = listed(self.rest, 0, &mut self.steps);
-            let (place, end) = indexed.object_in_pair(pair, self.object, &mut self.steps);
+            let pair = read_list(self.rest, 0, &mut self.steps);
+            let (position, end) = indexed.object_in_pair(pair, self.object, &mut self.steps);
             self.rest = self.rest.split_at(1).1;
             self.at = end;
-            if place < end {
+            if position < end {
                 let subject = indexed.subject_of_pair(pair, &mut self.steps);
                 return Some((subject, self.predicate, self.object));
             }
         }
         None
+    }
+}
+
+/// Bits per group of a rank/select index.
+const GROUP: u64 = 512;
+
+/// Returns the number of binary digits of n: the most steps of a binary search among n numbers.
+#[tactic(auto, using(hdt_seq::specs::Laws::Width::digits_by_zeros))]
+pub(crate) fn digits_of(n: u64) -> u64
+    ensures is { result ≡ digits n }
+    ensures few { result ≤ 64 }
+{
+    u64::from(64 - n.leading_zeros())
+}
+
+impl<'a> IndexedTriples<'a> {
+    ghost use Rattle.hdt_triples.specs.IndexViews.{triples_indexed};
+
+    /// Returns the bound on finding a subject or a pair by rank and select: a binary search of the groups of both
+    /// bitmaps, and 20 more.
+    #[tactic(auto, unfolding(crate::specs::Bounds::lookup_cost, crate::specs::Views::triples_view))]
+    pub(crate) fn lookup_cost(&self) -> u64
+        ensures is { result ≡ lookup_cost (triples_view (triples_indexed self.now)) }
+        ensures few { result ≤ 148 }
+    {
+        let pairs = self.triples.bitmap_y.len().div_ceil(GROUP);
+        let triples = self.triples.bitmap_z.len().div_ceil(GROUP);
+        digits_of(pairs) + digits_of(triples) + 20
+    }
+
+    /// Returns the bound on finding an object in a pair: two searches by rank and select, and a binary search among all
+    /// triples.
+    #[tactic(auto, unfolding(crate::specs::Bounds::pair_search_cost, crate::specs::Views::triples_view))]
+    pub(crate) fn pair_search_cost(&self) -> u64
+        ensures { result ≡ pair_search_cost (triples_view (triples_indexed self.now)) }
+    {
+        2 * self.lookup_cost() + digits_of(self.triples.array_z.len())
     }
 }

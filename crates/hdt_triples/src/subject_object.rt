@@ -1,22 +1,21 @@
 //! Search by a subject and an object.
 ghost use Rattle.std.specs.Prelude.{◌≡◌, ◌≢◌, ◌≤◌, ◌<◌, ◌+◌, ◌*◌, ◌^◌, ℕ, length, slice_index, IfSome, Some, None};
 ghost use Rattle.hdt_seq.specs.Width.{digits};
-ghost use Rattle.hdt_triples.specs.Bounds.{jump, limit, of_subject, Pays, skip_price, subject_price, triples_with};
-ghost use Rattle.hdt_triples.specs.Counting.{pair_of, subject_at, triples_of};
-ghost use Rattle.hdt_triples.specs.Inside.Runs.{IsNextOf};
-ghost use Rattle.hdt_triples.specs.Lists.{places_of};
+ghost use Rattle.hdt_triples.specs.Bounds.{lookup_cost, limit, of_subject, IsWithinBudget, list_search_cost, subject_cost, match_count};
+ghost use Rattle.hdt_triples.specs.TripleSequences.{pair_of, subject_at, triples_of};
+ghost use Rattle.hdt_triples.specs.Inside.Runs.{IsNextWithObject};
+ghost use Rattle.hdt_triples.specs.InvertedIndex.{positions_of};
 ghost use Rattle.hdt_triples.specs.Patterns.{matches};
-ghost use Rattle.hdt_triples.specs.Views.{bitmap_read};
-ghost use Rattle.hdt_triples.specs.Walking.{StandsAt, triples_from};
+ghost use Rattle.hdt_triples.specs.Views.{triples_view};
+ghost use Rattle.hdt_triples.specs.Scanning.{IsTriplePosition, triples_from};
 
-use crate::halving::first_from;
+use crate::access::{lower_bound, read_entry, read_list};
+use crate::predicate_object::digits_of;
 use crate::indexed::IndexedTriples;
-use crate::listed::ListedTriples;
-use crate::look::{entry, listed};
+use crate::listed_triples::ListedTriples;
 use crate::matches::Matches;
 use crate::pattern::Pattern;
-use crate::place::Place;
-use crate::price::digits_of;
+use crate::triple_position::TriplePosition;
 use hdt_seq::Steps;
 
 /// The matches of a pattern with a subject and an object but no predicate, in order, by a scan of the subject's
@@ -31,64 +30,64 @@ pub struct SubjectObjectMatches<'a> {
     subject: u64,
     object: u64,
     places: &'a [u64],
-    price: u64,
-    place: Place,
-    spare: u64,
+    search_cost: u64,
+    position: TriplePosition,
+    saved_steps: u64,
     steps: Steps,
     ghost subject_given: { pattern.s ≡ Some subject },
     ghost predicate_free: { pattern.p ≡ None },
     ghost object_given: { pattern.o ≡ Some object },
-    ghost places_are: { places.now ≡ places_of (bitmap_read indexed.now.triples).zs object },
-    ghost price_is: { price ≡ skip_price (bitmap_read indexed.now.triples) object },
-    ghost stands: { place.at < length (bitmap_read indexed.now.triples).zs → StandsAt (bitmap_read indexed.now.triples) place },
-    ghost reached: { place.at < length (bitmap_read indexed.now.triples).zs → subject ≤ place.subject },
-    ghost room: { spare ≤ price },
-    pub ghost few: { Pays (subject_price (bitmap_read indexed.now.triples) subject) (bitmap_read indexed.now.triples) (steps + spare) (triples_from (bitmap_read indexed.now.triples) place.at) },
-    ghost goes: { place.at < length (bitmap_read indexed.now.triples).zs → steps + 4 * skip_price (bitmap_read indexed.now.triples) object * (1 + length (matches pattern (triples_from (bitmap_read indexed.now.triples) place.at))) ≤ jump (bitmap_read indexed.now.triples) + 4 * skip_price (bitmap_read indexed.now.triples) object * (1 + triples_with pattern (bitmap_read indexed.now.triples)) + 3 * spare },
-    pub ghost short: { steps ≤ jump (bitmap_read indexed.now.triples) + 4 * skip_price (bitmap_read indexed.now.triples) object * (1 + triples_with pattern (bitmap_read indexed.now.triples)) },
+    ghost places_are: { places.now ≡ positions_of (triples_view indexed.now.triples).array_z object },
+    ghost price_is: { search_cost ≡ list_search_cost (triples_view indexed.now.triples) object },
+    ghost stands: { position.at < length (triples_view indexed.now.triples).array_z → IsTriplePosition (triples_view indexed.now.triples) position },
+    ghost reached: { position.at < length (triples_view indexed.now.triples).array_z → subject ≤ position.subject },
+    ghost room: { saved_steps ≤ search_cost },
+    pub ghost few: { IsWithinBudget (subject_cost (triples_view indexed.now.triples) subject) (triples_view indexed.now.triples) (steps + saved_steps) (triples_from (triples_view indexed.now.triples) position.at) },
+    ghost goes: { position.at < length (triples_view indexed.now.triples).array_z → steps + 4 * list_search_cost (triples_view indexed.now.triples) object * (1 + length (matches pattern (triples_from (triples_view indexed.now.triples) position.at))) ≤ lookup_cost (triples_view indexed.now.triples) + 4 * list_search_cost (triples_view indexed.now.triples) object * (1 + match_count pattern (triples_view indexed.now.triples)) + 3 * saved_steps },
+    pub ghost short: { steps ≤ lookup_cost (triples_view indexed.now.triples) + 4 * list_search_cost (triples_view indexed.now.triples) object * (1 + match_count pattern (triples_view indexed.now.triples)) },
 }
 
 impl<'a> IndexedTriples<'a> {
-    ghost use Rattle.hdt_triples.specs.ListedViews.{triples_indexed};
+    ghost use Rattle.hdt_triples.specs.IndexViews.{triples_indexed};
 
     /// Returns the position of the first triple from index `from` on that has this object, if it has this subject too,
     /// by a binary search in the object's list.
-    #[tactic(auto, unfolding(crate::specs::Views::bitmap_read))]
-    fn next_of(
+    #[tactic(auto, unfolding(crate::specs::Views::triples_view))]
+    fn next_with_object(
         &self,
         places: &[u64],
         object: u64,
         from: u64,
         subject: u64,
         steps: &mut Steps,
-    ) -> Option<Place>
-        requires places { places.now ≡ places_of (bitmap_read (triples_indexed self.now)).zs object }
-        requires reached { subject ≤ subject_at (bitmap_read (triples_indexed self.now)) (pair_of (bitmap_read (triples_indexed self.now)) from) }
-        ensures found { IfSome result (λ p. IsNextOf (bitmap_read (triples_indexed self.now)) subject object from p) }
-        ensures none { result ≡ None → (i : ℕ) → from ≤ i → i < length (bitmap_read (triples_indexed self.now)).zs → slice_index (bitmap_read (triples_indexed self.now)).zs i ≡ object → subject_at (bitmap_read (triples_indexed self.now)) (pair_of (bitmap_read (triples_indexed self.now)) i) ≢ subject }
+    ) -> Option<TriplePosition>
+        requires places { places.now ≡ positions_of (triples_view (triples_indexed self.now)).array_z object }
+        requires reached { subject ≤ subject_at (triples_view (triples_indexed self.now)) (pair_of (triples_view (triples_indexed self.now)) from) }
+        ensures found { IfSome result (λ p. IsNextWithObject (triples_view (triples_indexed self.now)) subject object from p) }
+        ensures none { result ≡ None → (i : ℕ) → from ≤ i → i < length (triples_view (triples_indexed self.now)).array_z → slice_index (triples_view (triples_indexed self.now)).array_z i ≡ object → subject_at (triples_view (triples_indexed self.now)) (pair_of (triples_view (triples_indexed self.now)) i) ≢ subject }
         ensures cost { steps.new ≤ steps.old + (digits (length places.now) + 17) }
         ensures more { steps.old ≤ steps.new }
     {
-        let next = first_from(places, from, steps);
+        let next = lower_bound(places, from, steps);
         if next >= places.len() {
             return None;
         }
-        let at = listed(places, next, steps);
-        let pair = self.z.rank(&self.triples.mz, at, steps);
+        let at = read_list(places, next, steps);
+        let pair = self.z.rank(&self.triples.bitmap_z, at, steps);
         let found = self.subject_of_pair(pair, steps);
         if found != subject {
             return None;
         }
-        Some(Place { at, pair, subject })
+        Some(TriplePosition { at, pair, subject })
     }
 }
 
 impl<'a> ListedTriples<'a> {
-    ghost use Rattle.hdt_triples.specs.Left.{left_of, limit_of, short_limit_of};
-    ghost use Rattle.hdt_triples.specs.ListedViews.{triples_listed};
+    ghost use Rattle.hdt_triples.specs.Remaining.{remaining_matches, step_limit, shorter_list_step_limit};
+    ghost use Rattle.hdt_triples.specs.IndexViews.{triples_listed};
 
     /// Finds the matches of a pattern with this subject, this object and no predicate.
-    #[tactic(auto, unfolding(crate::specs::Left::left_of, crate::specs::Left::limit_of, crate::specs::Left::short_limit_of))]
+    #[tactic(auto, unfolding(crate::specs::Remaining::remaining_matches, crate::specs::Remaining::step_limit, crate::specs::Remaining::shorter_list_step_limit))]
     pub(crate) fn find_subject_object(
         &self,
         pattern: Pattern,
@@ -98,59 +97,59 @@ impl<'a> ListedTriples<'a> {
         requires subject_given { pattern.s ≡ Some subject }
         requires predicate_free { pattern.p ≡ None }
         requires object_given { pattern.o ≡ Some object }
-        ensures items { left_of result ≡ matches pattern (triples_of (bitmap_read (triples_listed self.now))) }
-        ensures fits { length (left_of result) < 2 ^ 64 }
-        ensures few { limit_of result ≡ limit (subject_price (bitmap_read (triples_listed self.now)) subject) (bitmap_read (triples_listed self.now)) }
-        ensures short { short_limit_of result ≤ jump (bitmap_read (triples_listed self.now)) + 4 * skip_price (bitmap_read (triples_listed self.now)) object * (1 + triples_with pattern (bitmap_read (triples_listed self.now))) }
+        ensures items { remaining_matches result ≡ matches pattern (triples_of (triples_view (triples_listed self.now))) }
+        ensures fits { length (remaining_matches result) < 2 ^ 64 }
+        ensures few { step_limit result ≡ limit (subject_cost (triples_view (triples_listed self.now)) subject) (triples_view (triples_listed self.now)) }
+        ensures short { shorter_list_step_limit result ≤ lookup_cost (triples_view (triples_listed self.now)) + 4 * list_search_cost (triples_view (triples_listed self.now)) object * (1 + match_count pattern (triples_view (triples_listed self.now))) }
     {
         let mut steps = Steps::new();
-        let place = self.indexed.start_of(subject, &mut steps);
-        let places = self.places_of(object, &mut steps);
+        let position = self.indexed.start_of_subject(subject, &mut steps);
+        let places = self.positions_of(object, &mut steps);
         Matches::SubjectObject(SubjectObjectMatches {
             indexed: &self.indexed,
             pattern,
             subject,
             object,
             places,
-            price: digits_of(places.len() as u64) + 20,
-            place,
-            spare: 0,
+            search_cost: digits_of(places.len() as u64) + 20,
+            position,
+            saved_steps: 0,
             steps,
         })
     }
 }
 
 impl<'a> SubjectObjectMatches<'a> {
-    ghost use Rattle.hdt_triples.specs.Left.{left_of, limit_of, short_limit_of, steps_of};
+    ghost use Rattle.hdt_triples.specs.Remaining.{remaining_matches, step_limit, shorter_list_step_limit, steps_taken};
     ghost use Rattle.hdt_triples.specs.declared.matches.Matches.TheVariants.{SubjectObject};
     ghost use Rattle.std.specs.Iterator.{YieldsFirst};
 
     /// Returns the next match, found in the object's list.
-    #[tactic(auto, unfolding(crate::specs::Left::left_of, crate::specs::Left::limit_of, crate::specs::Left::short_limit_of, crate::specs::Left::steps_of))]
+    #[tactic(auto, unfolding(crate::specs::Remaining::remaining_matches, crate::specs::Remaining::step_limit, crate::specs::Remaining::shorter_list_step_limit, crate::specs::Remaining::steps_taken))]
     fn skip(&mut self) -> Option<(u64, u64, u64)>
-        requires within { self.old.place.at < length (bitmap_read self.old.indexed.now.triples).zs }
-        requires own { self.old.place.subject ≡ self.old.subject }
-        requires paid { self.old.price ≤ self.old.spare }
-        ensures steps { YieldsFirst (λ m. left_of (SubjectObject m)) self.old result self.new }
-        ensures same { limit_of (SubjectObject self.new) ≡ limit_of (SubjectObject self.old) }
-        ensures short { short_limit_of (SubjectObject self.new) ≡ short_limit_of (SubjectObject self.old) }
-        ensures more { steps_of (SubjectObject self.old) ≤ steps_of (SubjectObject self.new) }
+        requires within { self.old.position.at < length (triples_view self.old.indexed.now.triples).array_z }
+        requires own { self.old.position.subject ≡ self.old.subject }
+        requires paid { self.old.search_cost ≤ self.old.saved_steps }
+        ensures steps { YieldsFirst (λ m. remaining_matches (SubjectObject m)) self.old result self.new }
+        ensures same { step_limit (SubjectObject self.new) ≡ step_limit (SubjectObject self.old) }
+        ensures short { shorter_list_step_limit (SubjectObject self.new) ≡ shorter_list_step_limit (SubjectObject self.old) }
+        ensures more { steps_taken (SubjectObject self.old) ≤ steps_taken (SubjectObject self.new) }
     {
         let indexed = self.indexed;
-        let next = indexed.next_of(
+        let next = indexed.next_with_object(
             self.places,
             self.object,
-            self.place.at,
+            self.position.at,
             self.subject,
             &mut self.steps,
         );
-        self.spare = 0;
-        let Some(place) = next else {
-            self.place.at = indexed.triples.len();
+        self.saved_steps = 0;
+        let Some(position) = next else {
+            self.position.at = indexed.triples.len();
             return None;
         };
-        let predicate = entry(&indexed.triples.ys, place.pair, &mut self.steps);
-        self.place = indexed.triples.go_on(place, &mut self.steps);
+        let predicate = read_entry(&indexed.triples.array_y, position.pair, &mut self.steps);
+        self.position = indexed.triples.advance(position, &mut self.steps);
         Some((self.subject, predicate, self.object))
     }
 }
@@ -160,36 +159,36 @@ impl<'a> Iterator for SubjectObjectMatches<'a> {
 
     ghost use Rattle.std.specs.Iterator.{YieldsFirst, MakesProgress, item_count};
     ghost use Rattle.std.specs.Prelude.{⊤};
-    ghost use Rattle.hdt_triples.specs.Left.{left_of, limit_of, short_limit_of, steps_of};
+    ghost use Rattle.hdt_triples.specs.Remaining.{remaining_matches, step_limit, shorter_list_step_limit, steps_taken};
     ghost use Rattle.hdt_triples.specs.declared.matches.Matches.TheVariants.{SubjectObject};
 
-    ghost next_gives = { YieldsFirst (λ m. left_of (SubjectObject m)) };
+    ghost next_gives = { YieldsFirst (λ m. remaining_matches (SubjectObject m)) };
 
-    ghost remaining = { item_count (λ m. left_of (SubjectObject m)) };
+    ghost remaining = { item_count (λ m. remaining_matches (SubjectObject m)) };
 
-    #[tactic(auto, unfolding(crate::specs::Left::left_of, crate::specs::Left::limit_of, crate::specs::Left::short_limit_of, crate::specs::Left::steps_of))]
+    #[tactic(auto, unfolding(crate::specs::Remaining::remaining_matches, crate::specs::Remaining::step_limit, crate::specs::Remaining::shorter_list_step_limit, crate::specs::Remaining::steps_taken))]
     fn next(&mut self) -> Option<(u64, u64, u64)>
-        ensures steps { YieldsFirst (λ m. left_of (SubjectObject m)) self.old result self.new }
-        ensures goes { MakesProgress (λ _. ⊤) (item_count (λ m. left_of (SubjectObject m))) self.old result self.new }
-        ensures same { limit_of (SubjectObject self.new) ≡ limit_of (SubjectObject self.old) }
-        ensures short { short_limit_of (SubjectObject self.new) ≡ short_limit_of (SubjectObject self.old) }
-        ensures more { steps_of (SubjectObject self.old) ≤ steps_of (SubjectObject self.new) }
+        ensures steps { YieldsFirst (λ m. remaining_matches (SubjectObject m)) self.old result self.new }
+        ensures goes { MakesProgress (λ _. ⊤) (item_count (λ m. remaining_matches (SubjectObject m))) self.old result self.new }
+        ensures same { step_limit (SubjectObject self.new) ≡ step_limit (SubjectObject self.old) }
+        ensures short { shorter_list_step_limit (SubjectObject self.new) ≡ shorter_list_step_limit (SubjectObject self.old) }
+        ensures more { steps_taken (SubjectObject self.old) ≤ steps_taken (SubjectObject self.new) }
     {
-        'triples: while self.place.at < self.indexed.triples.len()
-            && self.place.subject == self.subject
+        'triples: while self.position.at < self.indexed.triples.len()
+            && self.position.subject == self.subject
         {
-            if self.spare >= self.price {
+            if self.saved_steps >= self.search_cost {
                 return self.skip();
             }
             let triples = self.indexed.triples;
-            let place = self.place;
-            let object = entry(&triples.zs, place.at, &mut self.steps);
-            self.place = triples.go_on(place, &mut self.steps);
+            let position = self.position;
+            let object = read_entry(&triples.array_z, position.at, &mut self.steps);
+            self.position = triples.advance(position, &mut self.steps);
             if object == self.object {
-                let predicate = entry(&triples.ys, place.pair, &mut self.steps);
+                let predicate = read_entry(&triples.array_y, position.pair, &mut self.steps);
                 return Some((self.subject, predicate, object));
             }
-            self.spare += 1;
+            self.saved_steps += 1;
         }
         None
     }

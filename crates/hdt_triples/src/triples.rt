@@ -1,13 +1,13 @@
 //! Bitmap triples.
 ghost use Rattle.std.specs.Prelude.{◌≡◌, ◌≤◌, ◌<◌, ◌^◌, length, IfOk, Ok};
-ghost use Rattle.hdt_wire.specs.Rows.{Reads};
+ghost use Rattle.hdt_wire.specs.Checks.{Reads};
 ghost use Rattle.hdt_seq.specs.Numbers.{numbers_of};
 ghost use Rattle.hdt_seq.specs.Bits.{bits_of};
-ghost use Rattle.hdt_triples.specs.Counting.{AreTriples};
-ghost use Rattle.hdt_triples.specs.CountsView.{counts_seen};
+ghost use Rattle.hdt_triples.specs.TripleSequences.{AreValidSequences};
+ghost use Rattle.hdt_triples.specs.CountsView.{counts_view};
 
-use crate::counts::Counts;
-use crate::rows::{fit, in_order, marks_before};
+use crate::pattern::Counts;
+use crate::checks::{check_sequences, has_spo_order, ones_before};
 use hdt_seq::{Bits, Numbers};
 use hdt_wire::{Fault, Kind, Reason, demand, read_control};
 
@@ -24,52 +24,52 @@ use hdt_wire::{Fault, Kind, Reason, demand, read_control};
 /// ```
 #[derive(Clone, Copy)]
 pub struct Triples<'a> {
-    pub(crate) my: Bits<'a>,
-    pub(crate) mz: Bits<'a>,
-    pub(crate) ys: Numbers<'a>,
-    pub(crate) zs: Numbers<'a>,
+    pub(crate) bitmap_y: Bits<'a>,
+    pub(crate) bitmap_z: Bits<'a>,
+    pub(crate) array_y: Numbers<'a>,
+    pub(crate) array_z: Numbers<'a>,
     pub(crate) counts: Counts,
     ghost few: { counts.subjects < 2 ^ 63 },
     ghost predicates_few: { counts.predicates < 2 ^ 63 },
     ghost objects_few: { counts.objects < 2 ^ 63 },
-    ghost fit: { AreTriples (counts_seen counts) (record { my = bits_of my; mz = bits_of mz; ys = numbers_of ys; zs = numbers_of zs }) },
+    ghost valid: { AreValidSequences (counts_view counts) (record { bitmap_y = bits_of bitmap_y; bitmap_z = bits_of bitmap_z; array_y = numbers_of array_y; array_z = numbers_of array_z }) },
 }
 
-#[tactic(auto, unfolding(crate::specs::Views::bitmap_read))]
+#[tactic(auto, unfolding(crate::specs::Views::triples_view))]
 impl<'a> Triples<'a> {
-    ghost use Rattle.hdt_wire.specs.Exact.{Seen};
-    ghost use Rattle.hdt_triples.specs.Counting.{triple_at};
+    ghost use Rattle.hdt_wire.specs.Exact.{IsViewOf};
+    ghost use Rattle.hdt_triples.specs.TripleSequences.{triple_at};
     ghost use Rattle.hdt_triples.specs.Triples.{TripleParts, IsTriples};
-    ghost use Rattle.hdt_triples.specs.ListedViews.{roles_of};
-    ghost use Rattle.hdt_triples.specs.Views.{bitmap_read, read_of, parts_read, triples_in};
+    ghost use Rattle.hdt_triples.specs.IndexViews.{string_counts};
+    ghost use Rattle.hdt_triples.specs.Views.{triples_view, read_view, triple_parts_view, decode_triples};
 
     /// Decodes triples, one check after another.
-    #[tactic(auto, unfolding(crate::specs::Triples::triples_at, crate::specs::Views::bitmap_read))]
-    fn read_rows(bytes: &'a [u8], at: usize, counts: Counts) -> Result<(Triples<'a>, usize), Fault>
+    #[tactic(auto, unfolding(crate::specs::Triples::decode_triple_parts, crate::specs::Views::triples_view))]
+    fn read_by_checks(bytes: &'a [u8], at: usize, counts: Counts) -> Result<(Triples<'a>, usize), Fault>
         requires subjects { counts.subjects < 2 ^ 63 }
         requires predicates { counts.predicates < 2 ^ 63 }
         requires objects { counts.objects < 2 ^ 63 }
-        ensures exact { Reads read_of result (triples_in (counts_seen counts) bytes.now at) }
+        ensures exact { Reads read_view result (decode_triples (counts_view counts) bytes.now at) }
         ensures end { IfOk result (λ r. r.1 ≤ length bytes.now) }
-        ensures roles { IfOk result (λ r. roles_of r.0 ≡ counts_seen counts) }
+        ensures roles { IfOk result (λ r. string_counts r.0 ≡ counts_view counts) }
     {
         let block = read_control(bytes, at, Kind::Triples)?;
         demand(
-            in_order(block.properties()),
+            has_spo_order(block.properties()),
             block.properties_at(),
             Reason::TripleOrder,
         )?;
-        let (my, my_end) = Bits::read(bytes, block.end())?;
-        let (mz, mz_end) = Bits::read(bytes, my_end)?;
-        let (ys, ys_end) = Numbers::read(bytes, mz_end)?;
-        let (zs, end) = Numbers::read(bytes, ys_end)?;
-        fit(&counts, &my, &mz, &ys, &zs)?;
+        let (bitmap_y, bitmap_y_end) = Bits::read(bytes, block.end())?;
+        let (bitmap_z, bitmap_z_end) = Bits::read(bytes, bitmap_y_end)?;
+        let (array_y, array_y_end) = Numbers::read(bytes, bitmap_z_end)?;
+        let (array_z, end) = Numbers::read(bytes, array_y_end)?;
+        check_sequences(&counts, &bitmap_y, &bitmap_z, &array_y, &array_z)?;
         Ok((
             Triples {
-                my,
-                mz,
-                ys,
-                zs,
+                bitmap_y,
+                bitmap_z,
+                array_y,
+                array_z,
                 counts,
             },
             end,
@@ -90,34 +90,34 @@ impl<'a> Triples<'a> {
         requires predicates { counts.predicates ≤ length bytes.now }
         requires objects { counts.objects ≤ length bytes.now }
         // Sound: what is returned is encoded there.
-        ensures found { IfOk result (λ r. Seen parts_read (λ t. IsTriples (counts_seen counts) t bytes.now at) (read_of r)) }
+        ensures found { IfOk result (λ r. IsViewOf triple_parts_view (λ t. IsTriples (counts_view counts) t bytes.now at) (read_view r)) }
         // Complete: whatever is encoded there is returned.
-        ensures only { (t : TripleParts) → IsTriples (counts_seen counts) t bytes.now at → Reads read_of result (Ok (parts_read t)) }
+        ensures only { (t : TripleParts) → IsTriples (counts_view counts) t bytes.now at → Reads read_view result (Ok (triple_parts_view t)) }
         // The result is that of the checks, so an error is the first one.
-        ensures exact { Reads read_of result (triples_in (counts_seen counts) bytes.now at) }
+        ensures exact { Reads read_view result (decode_triples (counts_view counts) bytes.now at) }
         ensures end { IfOk result (λ r. r.1 ≤ length bytes.now) }
         // The triples keep the counts they were checked against.
-        ensures roles { IfOk result (λ r. roles_of r.0 ≡ counts_seen counts) }
+        ensures roles { IfOk result (λ r. string_counts r.0 ≡ counts_view counts) }
     {
-        Triples::read_rows(bytes, at, counts)
+        Triples::read_by_checks(bytes, at, counts)
     }
 
     /// Returns the number of triples.
     pub fn len(&self) -> u64
-        ensures { result ≡ length (bitmap_read self.now).zs }
+        ensures { result ≡ length (triples_view self.now).array_z }
     {
-        self.zs.len()
+        self.array_z.len()
     }
 
     /// Returns the subject, predicate and object IDs of triple j, from 0. Linear time in j, as it counts the 1-bits of
     /// the bitmaps from the start. The caller shows `j < len`.
-    #[tactic(auto, using(crate::specs::Laws::Order::pair_within), unfolding(crate::specs::Views::bitmap_read))]
+    #[tactic(auto, using(crate::specs::Laws::Order::pair_within), unfolding(crate::specs::Views::triples_view))]
     pub fn get(&self, j: u64) -> (u64, u64, u64)
-        requires { j < length (bitmap_read self.now).zs }
-        ensures { result ≡ triple_at (bitmap_read self.now) j }
+        requires { j < length (triples_view self.now).array_z }
+        ensures { result ≡ triple_at (triples_view self.now) j }
     {
-        let pair = marks_before(&self.mz, j);
-        let subject = marks_before(&self.my, pair) + 1;
-        (subject, self.ys.get(pair), self.zs.get(j))
+        let pair = ones_before(&self.bitmap_z, j);
+        let subject = ones_before(&self.bitmap_y, pair) + 1;
+        (subject, self.array_y.get(pair), self.array_z.get(j))
     }
 }

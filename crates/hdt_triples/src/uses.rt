@@ -1,20 +1,20 @@
 //! Which IDs occur in the triples.
 ghost use Rattle.std.specs.Prelude.{◌≡◌, ◌≤◌, ◌+◌, ◌↔◌, IsTrue};
 ghost use Rattle.hdt_wire.specs.declared.role.Role.TheVariants as roles;
-ghost use Rattle.hdt_triples.specs.Counting.{triples_of};
+ghost use Rattle.hdt_triples.specs.TripleSequences.{triples_of};
 ghost use Rattle.hdt_triples.specs.Uses.{Uses, uses};
-ghost use Rattle.hdt_triples.specs.Views.{bitmap_read};
+ghost use Rattle.hdt_triples.specs.Views.{triples_view};
 
-use crate::listed::ListedTriples;
+use crate::listed_triples::ListedTriples;
 use hdt_seq::Steps;
 use hdt_wire::Role;
 
 impl<'a> ListedTriples<'a> {
-    ghost use Rattle.hdt_triples.specs.ListedViews.{triples_listed};
+    ghost use Rattle.hdt_triples.specs.IndexViews.{triples_listed};
 
     /// Whether a triple has this subject. Subject IDs have no gaps, so the number of subjects decides.
     fn uses_subject(&self, subject: u64, steps: &mut Steps) -> bool
-        ensures is { result ≡ uses (triples_of (bitmap_read (triples_listed self.now))) roles.Subject subject }
+        ensures is { result ≡ uses (triples_of (triples_view (triples_listed self.now))) roles.Subject subject }
         ensures cost { steps.new ≤ steps.old + 2 }
     {
         1 <= subject && subject <= self.indexed.subjects(steps)
@@ -22,7 +22,7 @@ impl<'a> ListedTriples<'a> {
 
     /// Whether a triple has this predicate.
     fn uses_predicate(&self, predicate: u64, steps: &mut Steps) -> bool
-        ensures is { result ≡ uses (triples_of (bitmap_read (triples_listed self.now))) roles.Predicate predicate }
+        ensures is { result ≡ uses (triples_of (triples_view (triples_listed self.now))) roles.Predicate predicate }
         ensures cost { steps.new ≤ steps.old + 2 }
     {
         !self.pairs_of(predicate, steps).is_empty()
@@ -30,17 +30,17 @@ impl<'a> ListedTriples<'a> {
 
     /// Whether a triple has this object.
     fn uses_object(&self, object: u64, steps: &mut Steps) -> bool
-        ensures is { result ≡ uses (triples_of (bitmap_read (triples_listed self.now))) roles.Object object }
+        ensures is { result ≡ uses (triples_of (triples_view (triples_listed self.now))) roles.Object object }
         ensures cost { steps.new ≤ steps.old + 2 }
     {
-        !self.places_of(object, steps).is_empty()
+        !self.positions_of(object, steps).is_empty()
     }
 
     /// Returns whether a triple has the ID n in the role. IDs start at 1, so the result is false for 0. At most two
     /// steps.
     pub fn uses(&self, role: Role, n: u64, steps: &mut Steps) -> bool
-        ensures exact { IsTrue result ↔ Uses (triples_of (bitmap_read (triples_listed self.now))) role n }
-        ensures is { result ≡ uses (triples_of (bitmap_read (triples_listed self.now))) role n }
+        ensures exact { IsTrue result ↔ Uses (triples_of (triples_view (triples_listed self.now))) role n }
+        ensures is { result ≡ uses (triples_of (triples_view (triples_listed self.now))) role n }
         ensures cost { steps.new ≤ steps.old + 2 }
     {
         match role {

@@ -1,42 +1,45 @@
 //! Writing triples in their canonical encoding.
-ghost use Rattle.std.specs.Prelude.{◌≡◌, ◌++◌, ◌<◌, ◌^◌, length, OnOk, OnErr};
-ghost use Rattle.hdt_wire.specs.Control.{Keeps};
-ghost use Rattle.hdt_triples.specs.Counting.{Counts};
-ghost use Rattle.hdt_triples.specs.Order.{AreFew, AreWithin, AreWritable};
-ghost use Rattle.hdt_triples.specs.Inside.SequencesView.{bitmap_made};
-ghost use Rattle.hdt_triples.specs.Triples.{IsTriples};
-ghost use Rattle.hdt_triples.specs.Writing.{canonical_sequences, canonical_triples, canonical_triples_parts};
+ghost use Rattle.std.specs.Prelude.{◌≡◌, ◌++◌, ◌<◌, ◌^◌, length, OnOk, OnErr, ◌+◌, ◌≤◌, ℕ, true, List};
+ghost use Rattle.hdt_wire.specs.Control.{IsPrefixOf};
+ghost use Rattle.hdt_triples.specs.TripleSequences.{Counts, AreValidSequences, BitmapTriples, Triple, triples_of};
+ghost use Rattle.hdt_triples.specs.Order.{CountsFit64, AreAtMostCounts, AreWritable, TripleLess, AreAscending, AreInRange};
+ghost use Rattle.hdt_triples.specs.Inside.SequencesView.{sequences_view};
+ghost use Rattle.hdt_triples.specs.Triples.{IsTriples, decode_triple_parts};
+ghost use Rattle.hdt_triples.specs.Writing.{canonical_sequences, canonical_triples, canonical_triples_parts, sequences_of};
+ghost use Rattle.hdt_triples.specs.Inside.Writable.{IsWritableAt};
+ghost use Rattle.hdt_wire.specs.Checks.{IsBytes, HasSlice};
+ghost use Rattle.hdt_wire.specs.Exact.{Exactly};
 
 use crate::sequences::{Sequences, sequences_of};
 use hdt_seq::{put_bits, put_numbers};
-use hdt_wire::{Kind, cut_on_error, put_control};
+use hdt_wire::{Kind, put_control, truncate_on_error};
 use std::alloc::{AllocError, Global};
 
 /// Appends four sequences. After an error `out` may end in some of their bytes.
-#[tactic(auto, using(crate::specs::Laws::Writing::ordered_no_zero), unfolding(crate::specs::Writing::canonical_sequences, crate::specs::Inside::SequencesView::bitmap_made))]
+#[tactic(auto, using(crate::specs::Laws::Writing::ordered_no_zero), unfolding(crate::specs::Writing::canonical_sequences, crate::specs::Inside::SequencesView::sequences_view))]
 fn append_sequences(made: &Sequences, out: &mut Vec<u8>) -> Result<(), AllocError>
-    requires some_pairs { 0 < length made.now.my.items }
-    requires some_triples { 0 < length made.now.mz.items }
-    ensures ok { OnOk result (out.new.items ≡ out.old.items ++ canonical_sequences (bitmap_made made.now)) }
-    ensures err { OnErr result (Keeps out.old.items out.new.items) }
+    requires some_pairs { 0 < length made.now.bitmap_y.items }
+    requires some_triples { 0 < length made.now.bitmap_z.items }
+    ensures ok { OnOk result (out.new.items ≡ out.old.items ++ canonical_sequences (sequences_view made.now)) }
+    ensures err { OnErr result (IsPrefixOf out.old.items out.new.items) }
 {
     put_control(Kind::Triples, b"order=1;", out)?;
-    put_bits(made.my.as_slice(), out)?;
-    put_bits(made.mz.as_slice(), out)?;
-    put_numbers(made.ys.as_slice(), out)?;
-    put_numbers(made.zs.as_slice(), out)
+    put_bits(made.bitmap_y.as_slice(), out)?;
+    put_bits(made.bitmap_z.as_slice(), out)?;
+    put_numbers(made.array_y.as_slice(), out)?;
+    put_numbers(made.array_z.as_slice(), out)
 }
 
 /// Appends four sequences. On allocation failure `out` is unchanged.
 fn put_sequences(made: &Sequences, out: &mut Vec<u8>) -> Result<(), AllocError>
-    requires some_pairs { 0 < length made.now.my.items }
-    requires some_triples { 0 < length made.now.mz.items }
-    ensures ok { OnOk result (out.new.items ≡ out.old.items ++ canonical_sequences (bitmap_made made.now)) }
+    requires some_pairs { 0 < length made.now.bitmap_y.items }
+    requires some_triples { 0 < length made.now.bitmap_z.items }
+    ensures ok { OnOk result (out.new.items ≡ out.old.items ++ canonical_sequences (sequences_view made.now)) }
     ensures err { OnErr result (out.new.items ≡ out.old.items) }
 {
     let start = out.len();
     let appended = append_sequences(made, out);
-    cut_on_error(appended, start, out)
+    truncate_on_error(appended, start, out)
 }
 
 /// Appends the canonical encoding of a list of triples: control information with the property `order=1;`, bitmap Y,
@@ -53,10 +56,71 @@ pub fn put_triples(
     requires { AreWritable triples.now }
     ensures ok { OnOk result (out.new.items ≡ out.old.items ++ canonical_triples triples.now) }
     // It is read back with any counts that no ID exceeds.
-    ensures triples { OnOk result ((counts : Counts) → AreWithin counts triples.now → AreFew counts
+    ensures triples { OnOk result ((counts : Counts) → AreAtMostCounts counts triples.now → CountsFit64 counts
         → IsTriples counts (canonical_triples_parts triples.now (length out.old.items)) out.new.items (length out.old.items)) }
     ensures err { OnErr result (out.new.items ≡ out.old.items) }
 {
     let made = sequences_of(alloc, triples)?;
     put_sequences(&made, out)
 }
+
+/// Whether a triple can follow another one: it is greater, and its subject is the same or the next ID.
+fn can_follow(before: (u64, u64, u64), next: (u64, u64, u64)) -> bool
+    ensures yes { result ≡ true → TripleLess before next × (next.0 ≤ before.0 + 1) }
+    ensures no { TripleLess before next → next.0 ≤ before.0 + 1 → result ≡ true }
+{
+    let (subject, predicate, object) = before;
+    if next.0 != subject {
+        return next.0 > subject && next.0 - subject == 1;
+    }
+    predicate < next.1 || (predicate == next.1 && object < next.2)
+}
+
+/// Whether triple i has no ID 0 and can follow the previous one; the first triple must have subject 1.
+fn is_writable_at(triples: &[(u64, u64, u64)], i: usize) -> bool
+    requires { i < length triples.now }
+    ensures yes { result ≡ true → IsWritableAt triples.now i }
+    ensures no { IsWritableAt triples.now i → result ≡ true }
+{
+    let (subject, predicate, object) = triples[i];
+    if predicate == 0 || object == 0 {
+        return false;
+    }
+    if i == 0 {
+        return subject == 1;
+    }
+    can_follow(triples[i - 1], triples[i])
+}
+
+/// Returns whether [`put_triples`](crate::put_triples) can write these triples: there is at least one, they strictly
+/// ascend, their subjects are 1, 2, 3, .. without a gap, and their predicates and objects are at least 1. Linear time.
+pub fn are_writable(triples: &[(u64, u64, u64)]) -> bool
+    ensures yes { result ≡ true → AreWritable triples.now }
+    ensures no { AreWritable triples.now → result ≡ true }
+{
+    for i in 0..triples.len() {
+        if !is_writable_at(triples, i) {
+            return false;
+        }
+    }
+    !triples.is_empty()
+}
+
+/// The checks of triples pass exactly for the triples that are encoded at the offset.
+pub fn triples_are_exact()
+    ensures { (counts : Counts) (bytes : List ℕ) (at : ℕ) → IsBytes bytes → Exactly (decode_triple_parts counts bytes at) (λ t. IsTriples counts t bytes at) }
+{}
+
+/// The triples of four valid sequences strictly ascend, and each ID is from 1 to the count of its role.
+pub fn triples_ascend()
+    ensures ascend { (counts : Counts) (f : BitmapTriples) → AreValidSequences counts f → AreAscending (triples_of f) }
+    ensures range { (counts : Counts) (f : BitmapTriples) → AreValidSequences counts f → AreInRange counts (triples_of f) }
+{}
+
+/// The sequences that are written for a list encode its triples. Their bytes are read back, whatever precedes and
+/// follows them.
+pub fn triples_round_trip()
+    ensures counted { (ts : List Triple) → AreWritable ts → triples_of (sequences_of ts) ≡ ts }
+    ensures stands { (ts : List Triple) (counts : Counts) (bytes : List ℕ) (at end : ℕ) → AreWritable ts → AreAtMostCounts counts ts → CountsFit64 counts
+        → length ts < 2 ^ 64 → HasSlice bytes at (canonical_triples ts) end → IsTriples counts (canonical_triples_parts ts at) bytes at }
+{}

@@ -1,1 +1,1 @@
-mod Grown
+mod Subcommands

@@ -2,7 +2,7 @@
 ghost use Rattle.std.specs.Prelude.{◌≡◌, IfOk, false};
 ghost use Rattle.clap.specs.Words.{app_of, rule_of, with_rule, with_subcommand};
 ghost use Rattle.clap.specs.declared.builder.command.Command.TheViews.{out-Command as fields_of};
-ghost use Rattle.hdt_usage.specs.Table.{word_named, flag_named, option_named, role_word, base_option, block_size_option, build_command, rewrite_command, making_command, progress_flag, number_word, file_command, head_command, verify_command, strings_command, string_command, number_command, answer_command, find_command, find_words, longest_request_option, most_option, dump_command, empty_table, first_commands, look_up_commands, text_commands, table};
+ghost use Rattle.hdt_usage.specs.CommandTable.{required_arg, flag_arg, option_arg, role_arg, base_option, block_size_option, build_command, rewrite_command, in_out_command, progress_flag, number_arg, file_command, head_command, verify_command, strings_command, string_command, number_command, answer_command, find_command, find_pattern_command, longest_request_option, most_option, dump_command, empty_program, file_commands, lookup_commands, triple_commands, table};
 
 use clap::{Arg, ArgAction, Command, value_parser};
 use std::alloc::{AllocError, Global};
@@ -172,14 +172,14 @@ const COUNT_HELP: &str = "Print how many there are, and no triples";
 const MOST_HELP: &str = "Take the first N triples alone";
 
 /// Adds a required argument to the command.
-fn with_word<'a>(
+fn with_required_arg<'a>(
     alloc: Global,
     command: Command<'a>,
     id: &'a str,
     help: &'a str,
 ) -> Result<Command<'a>, AllocError>
     requires { (fields_of command).has_globals ≡ false }
-    ensures shape { IfOk result (λ c. app_of c ≡ with_rule (app_of command.entry) (word_named id.entry.now)) }
+    ensures shape { IfOk result (λ c. app_of c ≡ with_rule (app_of command.entry) (required_arg id.entry.now)) }
     ensures local { IfOk result (λ c. (fields_of c).has_globals ≡ false) }
 {
     command.arg(Arg::new(alloc, id).help(help).required(true))
@@ -193,7 +193,7 @@ fn with_flag<'a>(
     help: &'a str,
 ) -> Result<Command<'a>, AllocError>
     requires { (fields_of command).has_globals ≡ false }
-    ensures shape { IfOk result (λ c. app_of c ≡ with_rule (app_of command.entry) (flag_named id.entry.now)) }
+    ensures shape { IfOk result (λ c. app_of c ≡ with_rule (app_of command.entry) (flag_arg id.entry.now)) }
     ensures local { IfOk result (λ c. (fields_of c).has_globals ≡ false) }
 {
     command.arg(
@@ -211,7 +211,7 @@ fn with_role<'a>(
     roles: &'a [&'a str],
 ) -> Result<Command<'a>, AllocError>
     requires { (fields_of command).has_globals ≡ false }
-    ensures shape { IfOk result (λ c. app_of c ≡ with_rule (app_of command.entry) (role_word roles.entry)) }
+    ensures shape { IfOk result (λ c. app_of c ≡ with_rule (app_of command.entry) (role_arg roles.entry)) }
     ensures local { IfOk result (λ c. (fields_of c).has_globals ≡ false) }
 {
     let role = Arg::new(alloc, "ROLE")
@@ -224,7 +224,7 @@ fn with_role<'a>(
 /// Adds the argument N, a number below 2^64, to the command.
 fn with_number<'a>(alloc: Global, command: Command<'a>) -> Result<Command<'a>, AllocError>
     requires { (fields_of command).has_globals ≡ false }
-    ensures shape { IfOk result (λ c. app_of c ≡ with_rule (app_of command.entry) number_word) }
+    ensures shape { IfOk result (λ c. app_of c ≡ with_rule (app_of command.entry) number_arg) }
     ensures local { IfOk result (λ c. (fields_of c).has_globals ≡ false) }
 {
     let number = Arg::new(alloc, "N")
@@ -235,14 +235,14 @@ fn with_number<'a>(alloc: Global, command: Command<'a>) -> Result<Command<'a>, A
 }
 
 /// An option with the name of its value and a default.
-fn option_of<'a>(
+fn new_option<'a>(
     alloc: Global,
     id: &'a str,
     called: &'a str,
     value: &'a str,
     help: &'a str,
 ) -> Arg<'a>
-    ensures rule { rule_of result ≡ option_named id.entry.now value.entry.now }
+    ensures rule { rule_of result ≡ option_arg id.entry.now value.entry.now }
     ensures optional { result.global ≡ false }
 {
     Arg::new(alloc, id)
@@ -258,7 +258,7 @@ fn with_base<'a>(alloc: Global, command: Command<'a>) -> Result<Command<'a>, All
     ensures shape { IfOk result (λ c. app_of c ≡ with_rule (app_of command.entry) base_option) }
     ensures local { IfOk result (λ c. (fields_of c).has_globals ≡ false) }
 {
-    command.arg(option_of(alloc, "base", "IRI", BASE, BASE_HELP))
+    command.arg(new_option(alloc, "base", "IRI", BASE, BASE_HELP))
 }
 
 /// Adds `--block-size` to the command.
@@ -267,7 +267,7 @@ fn with_block_size<'a>(alloc: Global, command: Command<'a>) -> Result<Command<'a
     ensures shape { IfOk result (λ c. app_of c ≡ with_rule (app_of command.entry) block_size_option) }
     ensures local { IfOk result (λ c. (fields_of c).has_globals ≡ false) }
 {
-    let option = option_of(alloc, "block-size", "N", "16", BLOCK_SIZE_HELP);
+    let option = new_option(alloc, "block-size", "N", "16", BLOCK_SIZE_HELP);
     command.arg(option.value_parser(value_parser!(u32)))
 }
 
@@ -284,11 +284,11 @@ fn file_command<'a>(
     let command = Command::new(alloc, name)
         .about(about)
         .long_about(long_about);
-    with_word(alloc, command, "FILE", FILE_HELP)
+    with_required_arg(alloc, command, "FILE", FILE_HELP)
 }
 
 /// `head FILE`.
-fn head_of<'a>(alloc: Global) -> Result<Command<'a>, AllocError>
+fn new_head_command<'a>(alloc: Global) -> Result<Command<'a>, AllocError>
     ensures shape { IfOk result (λ c. app_of c ≡ head_command) }
     ensures local { IfOk result (λ c. (fields_of c).has_globals ≡ false) }
 {
@@ -305,7 +305,7 @@ fn with_progress<'a>(alloc: Global, command: Command<'a>) -> Result<Command<'a>,
 }
 
 /// `verify FILE`, with `--tight` and `--progress`.
-fn verify_of<'a>(alloc: Global) -> Result<Command<'a>, AllocError>
+fn new_verify_command<'a>(alloc: Global) -> Result<Command<'a>, AllocError>
     ensures shape { IfOk result (λ c. app_of c ≡ verify_command) }
     ensures local { IfOk result (λ c. (fields_of c).has_globals ≡ false) }
 {
@@ -315,7 +315,7 @@ fn verify_of<'a>(alloc: Global) -> Result<Command<'a>, AllocError>
 }
 
 /// `strings FILE ROLE`.
-fn strings_of<'a>(alloc: Global, roles: &'a [&'a str]) -> Result<Command<'a>, AllocError>
+fn new_strings_command<'a>(alloc: Global, roles: &'a [&'a str]) -> Result<Command<'a>, AllocError>
     ensures shape { IfOk result (λ c. app_of c ≡ strings_command roles.entry) }
     ensures local { IfOk result (λ c. (fields_of c).has_globals ≡ false) }
 {
@@ -324,7 +324,7 @@ fn strings_of<'a>(alloc: Global, roles: &'a [&'a str]) -> Result<Command<'a>, Al
 }
 
 /// `string FILE ROLE N`.
-fn string_of<'a>(alloc: Global, roles: &'a [&'a str]) -> Result<Command<'a>, AllocError>
+fn new_string_command<'a>(alloc: Global, roles: &'a [&'a str]) -> Result<Command<'a>, AllocError>
     ensures shape { IfOk result (λ c. app_of c ≡ string_command roles.entry) }
     ensures local { IfOk result (λ c. (fields_of c).has_globals ≡ false) }
 {
@@ -334,13 +334,13 @@ fn string_of<'a>(alloc: Global, roles: &'a [&'a str]) -> Result<Command<'a>, All
 }
 
 /// `number FILE ROLE TERM`, with `--raw`.
-fn number_of<'a>(alloc: Global, roles: &'a [&'a str]) -> Result<Command<'a>, AllocError>
+fn new_number_command<'a>(alloc: Global, roles: &'a [&'a str]) -> Result<Command<'a>, AllocError>
     ensures shape { IfOk result (λ c. app_of c ≡ number_command roles.entry) }
     ensures local { IfOk result (λ c. (fields_of c).has_globals ≡ false) }
 {
     let command = file_command(alloc, "number", NUMBER_ABOUT, NUMBER_LONG_ABOUT)?;
     let command = with_role(alloc, command, roles)?;
-    let command = with_word(alloc, command, "TERM", TERM_HELP)?;
+    let command = with_required_arg(alloc, command, "TERM", TERM_HELP)?;
     with_flag(alloc, command, "raw", RAW_HELP)
 }
 
@@ -363,7 +363,7 @@ fn with_longest_request<'a>(alloc: Global, command: Command<'a>) -> Result<Comma
     ensures shape { IfOk result (λ c. app_of c ≡ with_rule (app_of command.entry) longest_request_option) }
     ensures local { IfOk result (λ c. (fields_of c).has_globals ≡ false) }
 {
-    let option = option_of(
+    let option = new_option(
         alloc,
         "longest-request",
         "N",
@@ -374,22 +374,22 @@ fn with_longest_request<'a>(alloc: Global, command: Command<'a>) -> Result<Comma
 }
 
 /// `find FILE S P O`.
-fn find_words<'a>(alloc: Global) -> Result<Command<'a>, AllocError>
-    ensures shape { IfOk result (λ c. app_of c ≡ find_words) }
+fn find_pattern_command<'a>(alloc: Global) -> Result<Command<'a>, AllocError>
+    ensures shape { IfOk result (λ c. app_of c ≡ find_pattern_command) }
     ensures local { IfOk result (λ c. (fields_of c).has_globals ≡ false) }
 {
     let command = file_command(alloc, "find", FIND_ABOUT, FIND_LONG_ABOUT)?;
-    let command = with_word(alloc, command, "S", SUBJECT_HELP)?;
-    let command = with_word(alloc, command, "P", PREDICATE_HELP)?;
-    with_word(alloc, command, "O", OBJECT_HELP)
+    let command = with_required_arg(alloc, command, "S", SUBJECT_HELP)?;
+    let command = with_required_arg(alloc, command, "P", PREDICATE_HELP)?;
+    with_required_arg(alloc, command, "O", OBJECT_HELP)
 }
 
 /// `find FILE S P O`, with `--raw`, `--numbers`, `--count` and `--most`.
-fn find_of<'a>(alloc: Global) -> Result<Command<'a>, AllocError>
+fn new_find_command<'a>(alloc: Global) -> Result<Command<'a>, AllocError>
     ensures shape { IfOk result (λ c. app_of c ≡ find_command) }
     ensures local { IfOk result (λ c. (fields_of c).has_globals ≡ false) }
 {
-    let command = find_words(alloc)?;
+    let command = find_pattern_command(alloc)?;
     let command = with_flag(alloc, command, "raw", RAW_PARTS_HELP)?;
     let command = with_flag(alloc, command, "numbers", NUMBERS_HELP)?;
     let command = with_flag(alloc, command, "count", COUNT_HELP)?;
@@ -397,7 +397,7 @@ fn find_of<'a>(alloc: Global) -> Result<Command<'a>, AllocError>
 }
 
 /// `dump FILE`.
-fn dump_of<'a>(alloc: Global) -> Result<Command<'a>, AllocError>
+fn new_dump_command<'a>(alloc: Global) -> Result<Command<'a>, AllocError>
     ensures shape { IfOk result (λ c. app_of c ≡ dump_command) }
     ensures local { IfOk result (λ c. (fields_of c).has_globals ≡ false) }
 {
@@ -405,40 +405,40 @@ fn dump_of<'a>(alloc: Global) -> Result<Command<'a>, AllocError>
 }
 
 /// A command that writes a file, with the arguments IN and OUT.
-fn making_command<'a>(
+fn in_out_command<'a>(
     alloc: Global,
     name: &'a str,
     about: &'a str,
     long_about: &'a str,
     in_help: &'a str,
 ) -> Result<Command<'a>, AllocError>
-    ensures shape { IfOk result (λ c. app_of c ≡ making_command name.entry.now) }
+    ensures shape { IfOk result (λ c. app_of c ≡ in_out_command name.entry.now) }
     ensures local { IfOk result (λ c. (fields_of c).has_globals ≡ false) }
 {
     let command = Command::new(alloc, name)
         .about(about)
         .long_about(long_about);
-    let command = with_word(alloc, command, "IN", in_help)?;
-    with_word(alloc, command, "OUT", OUT_HELP)
+    let command = with_required_arg(alloc, command, "IN", in_help)?;
+    with_required_arg(alloc, command, "OUT", OUT_HELP)
 }
 
 /// `build IN OUT`, with `--base`, `--block-size` and `--progress`.
-fn build_of<'a>(alloc: Global) -> Result<Command<'a>, AllocError>
+fn new_build_command<'a>(alloc: Global) -> Result<Command<'a>, AllocError>
     ensures shape { IfOk result (λ c. app_of c ≡ build_command) }
     ensures local { IfOk result (λ c. (fields_of c).has_globals ≡ false) }
 {
-    let command = making_command(alloc, "build", BUILD_ABOUT, BUILD_LONG_ABOUT, IN_HELP)?;
+    let command = in_out_command(alloc, "build", BUILD_ABOUT, BUILD_LONG_ABOUT, IN_HELP)?;
     let command = with_base(alloc, command)?;
     let command = with_block_size(alloc, command)?;
     with_progress(alloc, command)
 }
 
 /// `rewrite IN OUT`, with `--block-size` and `--progress`.
-fn rewrite_of<'a>(alloc: Global) -> Result<Command<'a>, AllocError>
+fn new_rewrite_command<'a>(alloc: Global) -> Result<Command<'a>, AllocError>
     ensures shape { IfOk result (λ c. app_of c ≡ rewrite_command) }
     ensures local { IfOk result (λ c. (fields_of c).has_globals ≡ false) }
 {
-    let command = making_command(
+    let command = in_out_command(
         alloc,
         "rewrite",
         REWRITE_ABOUT,
@@ -450,7 +450,7 @@ fn rewrite_of<'a>(alloc: Global) -> Result<Command<'a>, AllocError>
 }
 
 /// `answer FILE`, with `--raw`, `--numbers`, `--count`, `--most` and `--longest-request`.
-fn answer_of<'a>(alloc: Global) -> Result<Command<'a>, AllocError>
+fn new_answer_command<'a>(alloc: Global) -> Result<Command<'a>, AllocError>
     ensures shape { IfOk result (λ c. app_of c ≡ answer_command) }
     ensures local { IfOk result (λ c. (fields_of c).has_globals ≡ false) }
 {
@@ -464,7 +464,7 @@ fn answer_of<'a>(alloc: Global) -> Result<Command<'a>, AllocError>
 
 /// The program without commands.
 fn program<'a>(alloc: Global) -> Result<Command<'a>, AllocError>
-    ensures { IfOk result (λ c. app_of c ≡ empty_table) }
+    ensures { IfOk result (λ c. app_of c ≡ empty_program) }
 {
     Command::new(alloc, "hdt")
         .about(ABOUT)
@@ -483,32 +483,32 @@ fn with_command<'a>(program: Command<'a>, command: Command<'a>) -> Result<Comman
 }
 
 /// The program with `head` and `verify`. (Adding all commands in one function would take minutes to prove.)
-fn first_commands<'a>(alloc: Global) -> Result<Command<'a>, AllocError>
-    ensures { IfOk result (λ c. app_of c ≡ first_commands) }
+fn file_commands<'a>(alloc: Global) -> Result<Command<'a>, AllocError>
+    ensures { IfOk result (λ c. app_of c ≡ file_commands) }
 {
     let program = program(alloc)?;
-    let program = with_command(program, head_of(alloc)?)?;
-    with_command(program, verify_of(alloc)?)
+    let program = with_command(program, new_head_command(alloc)?)?;
+    with_command(program, new_verify_command(alloc)?)
 }
 
 /// The program with these and the dictionary lookups `strings`, `string` and `number`.
-fn look_up_commands<'a>(alloc: Global, roles: &'a [&'a str]) -> Result<Command<'a>, AllocError>
-    ensures { IfOk result (λ c. app_of c ≡ look_up_commands roles.entry) }
+fn lookup_commands<'a>(alloc: Global, roles: &'a [&'a str]) -> Result<Command<'a>, AllocError>
+    ensures { IfOk result (λ c. app_of c ≡ lookup_commands roles.entry) }
 {
-    let program = first_commands(alloc)?;
-    let program = with_command(program, strings_of(alloc, roles)?)?;
-    let program = with_command(program, string_of(alloc, roles)?)?;
-    with_command(program, number_of(alloc, roles)?)
+    let program = file_commands(alloc)?;
+    let program = with_command(program, new_strings_command(alloc, roles)?)?;
+    let program = with_command(program, new_string_command(alloc, roles)?)?;
+    with_command(program, new_number_command(alloc, roles)?)
 }
 
 /// The program with these and `find`, `answer` and `dump`, which print triples.
-fn text_commands<'a>(alloc: Global, roles: &'a [&'a str]) -> Result<Command<'a>, AllocError>
-    ensures { IfOk result (λ c. app_of c ≡ text_commands roles.entry) }
+fn triple_commands<'a>(alloc: Global, roles: &'a [&'a str]) -> Result<Command<'a>, AllocError>
+    ensures { IfOk result (λ c. app_of c ≡ triple_commands roles.entry) }
 {
-    let program = look_up_commands(alloc, roles)?;
-    let program = with_command(program, find_of(alloc)?)?;
-    let program = with_command(program, answer_of(alloc)?)?;
-    with_command(program, dump_of(alloc)?)
+    let program = lookup_commands(alloc, roles)?;
+    let program = with_command(program, new_find_command(alloc)?)?;
+    let program = with_command(program, new_answer_command(alloc)?)?;
+    with_command(program, new_dump_command(alloc)?)
 }
 
 /// Returns the command table: all commands with their arguments, options and help. It borrows the names of the roles.
@@ -517,10 +517,10 @@ fn text_commands<'a>(alloc: Global, roles: &'a [&'a str]) -> Result<Command<'a>,
 /// # Errors
 ///
 /// `AllocError` only if memory ran out.
-pub fn table_of<'a>(alloc: Global, roles: &'a [&'a str]) -> Result<Command<'a>, AllocError>
+pub fn make_command_table<'a>(alloc: Global, roles: &'a [&'a str]) -> Result<Command<'a>, AllocError>
     ensures { IfOk result (λ c. app_of c ≡ table roles.entry) }
 {
-    let program = text_commands(alloc, roles)?;
-    let program = with_command(program, build_of(alloc)?)?;
-    with_command(program, rewrite_of(alloc)?)
+    let program = triple_commands(alloc, roles)?;
+    let program = with_command(program, new_build_command(alloc)?)?;
+    with_command(program, new_rewrite_command(alloc)?)
 }

@@ -6,11 +6,11 @@
 //! It is a crate of its own because it depends only on hdt_wire, so it is proved in parallel with the others.
 //!
 //! ```rust
-//! let command = table_of(alloc, roles)?; // the roles' names, as subject, predicate, object
+//! let command = make_command_table(alloc, roles)?; // the roles' names, as subject, predicate, object
 //! let matches = command.try_get_matches_from(words);
 //! ```
 #![tactic(auto)]
 
 mod commands;
 
-pub use commands::table_of;
+pub use commands::make_command_table;

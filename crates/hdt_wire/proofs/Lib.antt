@@ -1,8 +1,8 @@
-mod Checks
-mod Numbers
-mod Writing
-mod Zero
-mod Cuts
+mod CrcTables
+mod VByteReading
+mod VByteWriting
+mod FirstByte
+mod PropertyItems
 mod Reading
-mod Eights
-mod Writes
+mod CrcEightBytes
+mod CountedWrites

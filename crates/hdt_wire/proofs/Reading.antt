@@ -5,13 +5,13 @@ use Rattle.std.specs.Prelude.{IfOk}
 use Rattle.hdt_wire.specs.declared.fault.Fault.{Fault}
 use Rattle.hdt_wire.specs.declared.control.Kind.{Kind}
 use Rattle.hdt_wire.specs.declared.control.Control.{Control}
-use Rattle.hdt_wire.specs.Rows.{Reads, IsBytes, SpelledAt}
+use Rattle.hdt_wire.specs.Checks.{Reads, IsBytes, EncodedAt}
 use Rattle.hdt_wire.specs.VByte.{VByte, vbyte_at}
 use Rattle.hdt_wire.specs.Laws.VByte.{vbyte_found, vbyte_only, vbyte_bounded}
-use Rattle.hdt_wire.specs.Control.{Block, IsBlock, block_of, control_at}
+use Rattle.hdt_wire.specs.Control.{ControlInfo, IsControlAt, control_info_of, control_at}
 use Rattle.hdt_wire.specs.Laws.Control.{control_found}
 
-pub number_found : (bytes : List ℕ) (at : ℕ) (r : Result (ℕ × ℕ) Fault) → IsBytes bytes → r ≡ vbyte_at bytes at → IfOk r (λ x. SpelledAt VByte bytes at x.0 x.1)
+pub number_found : (bytes : List ℕ) (at : ℕ) (r : Result (ℕ × ℕ) Fault) → IsBytes bytes → r ≡ vbyte_at bytes at → IfOk r (λ x. EncodedAt VByte bytes at x.0 x.1)
 number_found bytes at (Ok x) fits e = vbyte_found bytes at x fits (sym e)
 number_found bytes at (Err f) fits e = tt
 
@@ -19,13 +19,13 @@ pub number_ends : (bytes : List ℕ) (at : ℕ) (r : Result (ℕ × ℕ) Fault) 
 number_ends bytes at (Ok x) e = let b = vbyte_bounded bytes at x (sym e) in (b.some, b.within)
 number_ends bytes at (Err f) e = tt
 
-pub block_found : (kind : Kind) (bytes : List ℕ) (at : ℕ) (r : Result Control Fault) → IsBytes bytes → Reads block_of r (control_at kind bytes at) → IfOk r (λ c. IsBlock kind (block_of c) bytes at)
-block_found kind bytes at (Ok c) fits e = control_found kind bytes at (block_of c) fits e
-block_found kind bytes at (Err f) fits e = tt
+pub control_info_found : (kind : Kind) (bytes : List ℕ) (at : ℕ) (r : Result Control Fault) → IsBytes bytes → Reads control_info_of r (control_at kind bytes at) → IfOk r (λ c. IsControlAt kind (control_info_of c) bytes at)
+control_info_found kind bytes at (Ok c) fits e = control_found kind bytes at (control_info_of c) fits e
+control_info_found kind bytes at (Err f) fits e = tt
 
-pub block_only : (block : Block) (r : Result Control Fault) (read : Result Block Fault) → Reads block_of r read → read ≡ Ok block → Reads block_of r (Ok block)
-block_only block (Ok c) read e h = sym h ∙ e
-block_only block (Err f) read e h = sym h ∙ e
+pub control_info_only : (block : ControlInfo) (r : Result Control Fault) (read : Result ControlInfo Fault) → Reads control_info_of r read → read ≡ Ok block → Reads control_info_of r (Ok block)
+control_info_only block (Ok c) read e h = sym h ∙ e
+control_info_only block (Err f) read e h = sym h ∙ e
 
 take-one : (bytes : List ℕ) (at : ℕ) → at < length bytes → take 1 (drop at bytes) ≡ get_or bytes at 0 ∷ []
 take-one bytes at lt = rw (drop-cons bytes at 0) refl

@@ -8,8 +8,8 @@ use Rattle.hdt_wire.specs.declared.fault.Reason.TheVariants.{NotHdt, WrongKind, 
 use Rattle.hdt_wire.specs.declared.control.Kind.{Kind}
 use Rattle.hdt_wire.specs.declared.control.Kind.TheVariants.{Global, Header, Dictionary, Triples}
 use Rattle.hdt_wire.specs.declared.control.Control.{Control}
-use Rattle.hdt_wire.specs.Check.{code16}
-use Rattle.hdt_wire.specs.Rows.{◌>>=◌, demand, bytes_at, text_at, Stands}
+use Rattle.hdt_wire.specs.Crc.{crc16}
+use Rattle.hdt_wire.specs.Checks.{◌>>=◌, demand, bytes_at, text_at, HasSlice}
 
 abbrev pub cookie : List ℕ
 cookie = codes "$HDT"
@@ -31,52 +31,52 @@ abbrev pub HasNoZero : List ℕ → Type 0
 HasNoZero properties = All (λ b. b ≢ 0) properties
 
 -- control information without its CRC; format and properties end with a zero byte
-abbrev pub before_code : Kind → List ℕ → List ℕ
-before_code kind properties = cookie ++ kind_code kind ∷ (format_text kind ++ 0 ∷ (properties ++ 0 ∷ []))
+abbrev pub control_without_crc : Kind → List ℕ → List ℕ
+control_without_crc kind properties = cookie ++ kind_code kind ∷ (format_text kind ++ 0 ∷ (properties ++ 0 ∷ []))
 
 -- the bytes of control information: the CRC is last, little-endian
 abbrev pub control : Kind → List ℕ → List ℕ
-control kind properties = before_code kind properties ++ little_bytes 2 (code16 (before_code kind properties))
+control kind properties = control_without_crc kind properties ++ little_bytes 2 (crc16 (control_without_crc kind properties))
 
 -- the old list is a prefix of the new one
-abbrev pub Keeps : List ℕ → List ℕ → Type 0
-Keeps old new = take (length old) new ≡ old
+abbrev pub IsPrefixOf : List ℕ → List ℕ → Type 0
+IsPrefixOf old new = take (length old) new ≡ old
 
 -- ---- reading
 
 -- control information: its format, its properties, their byte offset, and the offset after the CRC
-pub record Block : Type 0 where
+pub record ControlInfo : Type 0 where
   pub format : List ℕ
   pub properties : List ℕ
   pub properties_at : ℕ
   pub end : ℕ
 
 -- the control information of a `Control`, without addresses in memory
-unfoldable pub block_of : Control → Block
-block_of c = record { format = c.format.now; properties = c.properties.now; properties_at = c.properties_at; end = c.end }
+unfoldable pub control_info_of : Control → ControlInfo
+control_info_of c = record { format = c.format.now; properties = c.properties.now; properties_at = c.properties_at; end = c.end }
 
 -- the control information with these properties at an offset
-abbrev pub block_at : Kind → List ℕ → ℕ → ℕ → Block
-block_at kind properties at end =
+abbrev pub control_info_at : Kind → List ℕ → ℕ → ℕ → ControlInfo
+control_info_at kind properties at end =
     record { format = format_text kind; properties = properties; properties_at = at + 6 + length (format_text kind); end = end }
 
 -- control information of this type is encoded at the offset
-pub record IsBlock (kind : Kind) (block : Block) (bytes : List ℕ) (at : ℕ) : Type 0 where
-  pub spelled : Stands bytes at (control kind block.properties) block.end
+pub record IsControlAt (kind : Kind) (block : ControlInfo) (bytes : List ℕ) (at : ℕ) : Type 0 where
+  pub spelled : HasSlice bytes at (control kind block.properties) block.end
   pub no_zero : HasNoZero block.properties
   pub format : block.format ≡ format_text kind
   pub properties_at : block.properties_at ≡ at + 6 + length (format_text kind)
 
 -- the checks of control information in turn: the information, or the first error
-unfoldable pub control_at : Kind → List ℕ → ℕ → Result Block Fault
+unfoldable pub control_at : Kind → List ℕ → ℕ → Result ControlInfo Fault
 control_at kind bytes at = do
-  mark ← bytes_at 4 bytes at
-  _ ← demand (bytes_eq mark.0 cookie) at NotHdt
-  code ← bytes_at 1 bytes mark.1
-  _ ← demand (bytes_eq code.0 (kind_code kind ∷ [])) mark.1 WrongKind
+  magic ← bytes_at 4 bytes at
+  _ ← demand (bytes_eq magic.0 cookie) at NotHdt
+  code ← bytes_at 1 bytes magic.1
+  _ ← demand (bytes_eq code.0 (kind_code kind ∷ [])) magic.1 WrongKind
   format ← text_at bytes code.1
   properties ← text_at bytes format.1
-  check ← bytes_at 2 bytes properties.1
-  _ ← demand (little_number 2 check.0 == code16 (slice_range bytes at properties.1)) properties.1 Check16
+  crc_bytes ← bytes_at 2 bytes properties.1
+  _ ← demand (little_number 2 crc_bytes.0 == crc16 (slice_range bytes at properties.1)) properties.1 Check16
   _ ← demand (bytes_eq format.0 (format_text kind)) code.1 WrongFormat
-  Ok (record { format = format.0; properties = properties.0; properties_at = format.1; end = check.1 })
+  Ok (record { format = format.0; properties = properties.0; properties_at = format.1; end = crc_bytes.1 })

@@ -1,7 +1,7 @@
-pub mod Row
+pub mod Checks
 pub mod VByte
 pub mod Control
-pub mod Item
+pub mod ItemChecks
 pub mod Exact
 pub mod ExactReading
-pub mod ExactLeaves
+pub mod ExactPrimitives

@@ -1,11 +1,11 @@
 pub mod Fault
-pub mod Rows
+pub mod Checks
 pub mod VByte
-pub mod Check
+pub mod Crc
 pub mod Control
 pub mod Property
 pub mod Counted
 pub mod Exact
-pub mod ExactItems
+pub mod ItemChecks
 pub mod Masks
 pub mod Laws

@@ -1,11 +1,11 @@
 //! Control information: the cookie `$HDT`, a type, the format, the properties, and a CRC-16.
 ghost use Rattle.std.specs.Prelude.{◌≡◌, ℕ, List, ◌+◌, ◌++◌, length, Ok, IfOk, OnOk, OnErr};
-ghost use Rattle.hdt_wire.specs.Rows.{Reads, IsBytes, Stands};
-ghost use Rattle.hdt_wire.specs.Control.{block_of, block_at, control, control_at, kind_code, format_text, IsBlock, HasNoZero, Keeps};
+ghost use Rattle.hdt_wire.specs.Checks.{Reads, IsBytes, HasSlice};
+ghost use Rattle.hdt_wire.specs.Control.{control_info_of, control_info_at, control, control_at, kind_code, format_text, IsControlAt, HasNoZero, IsPrefixOf};
 
-use crate::check::check16;
+use crate::crc::check16;
 use crate::fault::{Fault, Reason};
-use crate::rows::{bytes_at, cut_on_error, demand, text_at};
+use crate::checks::{bytes_at, truncate_on_error, demand, text_at};
 use byteorder::{ByteOrder, LittleEndian};
 use std::alloc::AllocError;
 
@@ -57,56 +57,56 @@ pub struct Control<'a> {
     end: usize,
 }
 
-#[tactic(auto, unfolding(crate::specs::Control::block_of))]
+#[tactic(auto, unfolding(crate::specs::Control::control_info_of))]
 impl<'a> Control<'a> {
     ghost use Rattle.std.specs.Prelude.{◌≡◌};
-    ghost use Rattle.hdt_wire.specs.Control.{block_of};
+    ghost use Rattle.hdt_wire.specs.Control.{control_info_of};
 
     /// Returns the format, without its zero byte.
     pub fn format(&self) -> &'a [u8]
-        ensures { result.now ≡ (block_of self.now).format }
+        ensures { result.now ≡ (control_info_of self.now).format }
     {
         self.format
     }
 
     /// Returns the properties, `key=value;` repeated, without their zero byte.
     pub fn properties(&self) -> &'a [u8]
-        ensures { result.now ≡ (block_of self.now).properties }
+        ensures { result.now ≡ (control_info_of self.now).properties }
     {
         self.properties
     }
 
     /// Returns the byte offset of the properties in the input.
     pub fn properties_at(&self) -> usize
-        ensures { result ≡ (block_of self.now).properties_at }
+        ensures { result ≡ (control_info_of self.now).properties_at }
     {
         self.properties_at
     }
 
     /// Returns the byte offset after the CRC.
     pub fn end(&self) -> usize
-        ensures { result ≡ (block_of self.now).end }
+        ensures { result ≡ (control_info_of self.now).end }
     {
         self.end
     }
 }
 
 /// Reads control information in the order of the format.
-#[tactic(auto, unfolding(crate::specs::Control::control_at, crate::specs::Control::block_of))]
-fn read_rows<'a>(bytes: &'a [u8], at: usize, kind: Kind) -> Result<Control<'a>, Fault>
-    ensures exact { Reads block_of result (control_at kind bytes.now at) }
+#[tactic(auto, unfolding(crate::specs::Control::control_at, crate::specs::Control::control_info_of))]
+fn read_by_checks<'a>(bytes: &'a [u8], at: usize, kind: Kind) -> Result<Control<'a>, Fault>
+    ensures exact { Reads control_info_of result (control_at kind bytes.now at) }
 {
-    let (mark, code_at) = bytes_at(bytes, at, 4)?;
-    demand(mark == b"$HDT".as_slice(), at, Reason::NotHdt)?;
+    let (magic, code_at) = bytes_at(bytes, at, 4)?;
+    demand(magic == b"$HDT".as_slice(), at, Reason::NotHdt)?;
     let (code, format_at) = bytes_at(bytes, code_at, 1)?;
     demand(code == [kind.code()].as_slice(), code_at, Reason::WrongKind)?;
     let (format, properties_at) = text_at(bytes, format_at)?;
-    let (properties, check_at) = text_at(bytes, properties_at)?;
-    let (check, end) = bytes_at(bytes, check_at, 2)?;
-    let found = check16(&bytes[at..check_at]);
+    let (properties, crc_at) = text_at(bytes, properties_at)?;
+    let (crc_bytes, end) = bytes_at(bytes, crc_at, 2)?;
+    let found = check16(&bytes[at..crc_at]);
     demand(
-        LittleEndian::read_u16(check) == found,
-        check_at,
+        LittleEndian::read_u16(crc_bytes) == found,
+        crc_at,
         Reason::Check16,
     )?;
     demand(format == kind.format(), format_at, Reason::WrongFormat)?;
@@ -125,20 +125,20 @@ fn read_rows<'a>(bytes: &'a [u8], at: usize, kind: Kind) -> Result<Control<'a>, 
 /// The first of these, in this order: `Truncated`, `NotHdt`, `WrongKind`, `Check16`, `WrongFormat`.
 pub fn read_control<'a>(bytes: &'a [u8], at: usize, kind: Kind) -> Result<Control<'a>, Fault>
     // What is returned is encoded there.
-    ensures found { IfOk result (λ c. IsBlock kind (block_of c) bytes.now at) }
+    ensures found { IfOk result (λ c. IsControlAt kind (control_info_of c) bytes.now at) }
     // Whatever is encoded there is returned.
-    ensures only { (properties : List ℕ) (end : ℕ) → HasNoZero properties → Stands bytes.now at (control kind properties) end
-        → Reads block_of result (Ok (block_at kind properties at end)) }
+    ensures only { (properties : List ℕ) (end : ℕ) → HasNoZero properties → HasSlice bytes.now at (control kind properties) end
+        → Reads control_info_of result (Ok (control_info_at kind properties at end)) }
     // Otherwise the first error is returned.
-    ensures exact { Reads block_of result (control_at kind bytes.now at) }
+    ensures exact { Reads control_info_of result (control_at kind bytes.now at) }
 {
-    read_rows(bytes, at, kind)
+    read_by_checks(bytes, at, kind)
 }
 
 /// Appends control information; an error may leave its first bytes.
-fn append_block(kind: Kind, properties: &[u8], out: &mut Vec<u8>) -> Result<(), AllocError>
+fn append_control(kind: Kind, properties: &[u8], out: &mut Vec<u8>) -> Result<(), AllocError>
     ensures ok { OnOk result (out.new.items ≡ out.old.items ++ control kind properties.now) }
-    ensures err { OnErr result (Keeps out.old.items out.new.items) }
+    ensures err { OnErr result (IsPrefixOf out.old.items out.new.items) }
 {
     let start = out.len();
     out.extend_from_slice(b"$HDT")?;
@@ -160,13 +160,13 @@ pub fn put_control(kind: Kind, properties: &[u8], out: &mut Vec<u8>) -> Result<(
     ensures err { OnErr result (out.new.items ≡ out.old.items) }
 {
     let start = out.len();
-    let appended = append_block(kind, properties, out);
-    cut_on_error(appended, start, out)
+    let appended = append_control(kind, properties, out);
+    truncate_on_error(appended, start, out)
 }
 
 /// The law that control information that was written is read back, whatever precedes and follows it.
-pub fn block_is_read_again()
+pub fn control_roundtrip()
     ensures { (kind : Kind) (before after properties : List ℕ) → IsBytes properties → HasNoZero properties
         → control_at kind (before ++ control kind properties ++ after) (length before)
-        ≡ Ok (block_at kind properties (length before) (length before + length (control kind properties))) }
+        ≡ Ok (control_info_at kind properties (length before) (length before + length (control kind properties))) }
 {}

@@ -3,7 +3,7 @@ ghost use Rattle.std.specs.Prelude.{◌≡◌, ◌+◌, ◌<◌, [], OnOk, OnErr
 ghost use Rattle.std.specs.Io.{ReadsAtMost, WritesAtMost};
 ghost use Rattle.std.specs.Io.KnownBytes.{Appends, ReadConsumes, WriteAppends};
 
-use crate::tally::Tally;
+use crate::ghost_counter::GhostCounter;
 use std::error::Error;
 use std::fmt;
 use std::io::{Read, Write};
@@ -37,7 +37,7 @@ impl Error for Failed {}
 #[derive(Drop)]
 pub struct Counted<T> {
     inner: T,
-    failures: Tally,
+    failures: GhostCounter,
 }
 
 #[tactic(auto, unfolding(crate::specs::Counted::inner, crate::specs::Counted::failures))]
@@ -51,7 +51,7 @@ impl<T> Counted<T> {
     {
         Counted {
             inner: value,
-            failures: Tally::new(),
+            failures: GhostCounter::new(),
         }
     }
 

@@ -12,26 +12,26 @@
 //! ```
 #![tactic(auto)]
 
-mod castagnoli;
-mod check;
+mod crc32c;
+mod crc;
 mod control;
 mod counted;
 mod decimal;
 mod fault;
 mod properties;
 mod role;
-mod rows;
-mod tally;
+mod checks;
+mod ghost_counter;
 mod vbyte;
 
-pub use castagnoli::check32;
-pub use check::{check8, check16};
-pub use control::{Control, Kind, block_is_read_again, put_control, read_control};
+pub use crc32c::check32;
+pub use crc::{check8, check16};
+pub use control::{Control, Kind, control_roundtrip, put_control, read_control};
 pub use counted::{Counted, Failed};
 pub use decimal::put_decimal;
 pub use fault::{Fault, Reason};
 pub use properties::property;
 pub use role::Role;
-pub use rows::{bytes_at, cut_on_error, demand, text_at, zero_in};
-pub use tally::Tally;
-pub use vbyte::{one_spelling, put_vbyte, read_vbyte, vbyte_len};
+pub use checks::{bytes_at, truncate_on_error, demand, text_at, len_before_zero};
+pub use ghost_counter::GhostCounter;
+pub use vbyte::{vbyte_roundtrip, put_vbyte, read_vbyte, vbyte_len};

@@ -2,12 +2,12 @@
 ghost use Rattle.std.specs.Prelude.{◌≡◌, ◌≤◌, length};
 ghost use Rattle.std.specs.Option.{option_copied};
 ghost use Rattle.std.specs.List.{position_or_len};
-ghost use Rattle.hdt_wire.specs.Property.{is, value_of, later, property_value};
+ghost use Rattle.hdt_wire.specs.Property.{is, item_value, latest_value, property_value};
 
 use memchr::memchr;
 
 /// The index of the first occurrence of a byte, or the length if it does not occur.
-fn index_of(byte: u8, bytes: &[u8]) -> usize
+fn find_byte(byte: u8, bytes: &[u8]) -> usize
     ensures index { result ≡ position_or_len (is byte) bytes.now }
     ensures within { result ≤ length bytes.now }
 {
@@ -18,10 +18,10 @@ fn index_of(byte: u8, bytes: &[u8]) -> usize
 }
 
 /// The value of an item, if it has the key.
-fn value_in<'a>(piece: &'a [u8], key: &[u8]) -> Option<&'a [u8]>
-    ensures { option_copied result ≡ value_of key.now piece.now }
+fn parse_item<'a>(piece: &'a [u8], key: &[u8]) -> Option<&'a [u8]>
+    ensures { option_copied result ≡ item_value key.now piece.now }
 {
-    let sign = index_of(b'=', piece);
+    let sign = find_byte(b'=', piece);
     if sign < piece.len() && &piece[..sign] == key {
         Some(&piece[sign + 1..])
     } else {
@@ -30,8 +30,8 @@ fn value_in<'a>(piece: &'a [u8], key: &[u8]) -> Option<&'a [u8]>
 }
 
 /// The last value after one more item: that item's, if it has one.
-fn later<'a>(found: Option<&'a [u8]>, value: Option<&'a [u8]>) -> Option<&'a [u8]>
-    ensures { option_copied result ≡ later (option_copied found.entry) (option_copied value.entry) }
+fn latest_value<'a>(found: Option<&'a [u8]>, value: Option<&'a [u8]>) -> Option<&'a [u8]>
+    ensures { option_copied result ≡ latest_value (option_copied found.entry) (option_copied value.entry) }
 {
     value.or(found)
 }
@@ -44,9 +44,9 @@ pub fn property<'a>(text: &'a [u8], key: &[u8]) -> Option<&'a [u8]>
     let mut found = None;
     let mut rest = text;
     'pieces: loop {
-        let cut = index_of(b';', rest);
+        let cut = find_byte(b';', rest);
         let (piece, after) = rest.split_at(cut);
-        found = later(found, value_in(piece, key));
+        found = latest_value(found, parse_item(piece, key));
         match after {
             [] => return found,
             [_, next @ ..] => rest = next,

@@ -1,7 +1,7 @@
 //! VByte: numbers in base 128, least significant digit first, one digit a byte. The last byte has its top bit set.
 ghost use Rattle.std.specs.Prelude.{◌≡◌, ℕ, List, ◌+◌, ◌≤◌, ◌<◌, ◌^◌, ◌++◌, length, take, drop, Ok, OnOk, OnErr, IfOk, IfSome, IfNone};
-ghost use Rattle.hdt_wire.specs.Rows.{SpelledAt};
-ghost use Rattle.hdt_wire.specs.VByte.{VByte, vbyte, vbyte_at, last_of, number_of};
+ghost use Rattle.hdt_wire.specs.Checks.{EncodedAt};
+ghost use Rattle.hdt_wire.specs.VByte.{VByte, vbyte, vbyte_at, last_digit_index, base128_value};
 
 use crate::fault::{Fault, Reason};
 use std::alloc::AllocError;
@@ -41,7 +41,7 @@ pub fn put_vbyte(v: u64, out: &mut Vec<u8>) -> Result<(), AllocError>
 
 /// The law that each number below 2^64 has exactly one encoding, which is no prefix of another and is read back,
 /// whatever precedes and follows it.
-pub fn one_spelling()
+pub fn vbyte_roundtrip()
     ensures spelled { (v : ℕ) → v < 2 ^ 64 → VByte (vbyte v) v }
     ensures alone { (text : List ℕ) (v : ℕ) → v < 2 ^ 64 → VByte text v → text ≡ vbyte v }
     ensures begins_no_other { (a b x y : List ℕ) (m n : ℕ) → VByte a m → VByte b n → a ++ x ≡ b ++ y → (a ≡ b) × (m ≡ n) }
@@ -64,9 +64,9 @@ fn window(bytes: &[u8], at: usize) -> &[u8]
 /// The number encoded by the bytes up to the first one with its top bit set, and the index of that byte.
 fn number_in(seen: &[u8]) -> Option<(u128, usize)>
     requires { length seen.now ≤ 10 }
-    ensures none { IfNone result (last_of seen.now ≡ length seen.now) }
-    ensures found { IfSome result (λ r. (last_of seen.now ≡ r.1) × (r.1 < length seen.now)) }
-    ensures value { IfSome result (λ r. r.0 ≡ number_of (take (r.1 + 1) seen.now)) }
+    ensures none { IfNone result (last_digit_index seen.now ≡ length seen.now) }
+    ensures found { IfSome result (λ r. (last_digit_index seen.now ≡ r.1) × (r.1 < length seen.now)) }
+    ensures value { IfSome result (λ r. r.0 ≡ base128_value (take (r.1 + 1) seen.now)) }
 {
     let mut value: u128 = 0;
     let mut scale: u128 = 1;
@@ -82,7 +82,7 @@ fn number_in(seen: &[u8]) -> Option<(u128, usize)>
 
 /// Reads a number of any length.
 #[tactic(auto, unfolding(crate::specs::VByte::vbyte_at))]
-fn read_rows(bytes: &[u8], at: usize) -> Result<(u64, usize), Fault>
+fn read_by_checks(bytes: &[u8], at: usize) -> Result<(u64, usize), Fault>
     ensures exact { result ≡ vbyte_at bytes.now at }
 {
     let place = at as u64;
@@ -117,7 +117,7 @@ fn read_short_or_long(bytes: &[u8], at: usize) -> Result<(u64, usize), Fault>
 {
     match bytes.get(at) {
         Some(&last) if last >= 128 => Ok((u64::from(last - 128), at + 1)),
-        _ => read_rows(bytes, at),
+        _ => read_by_checks(bytes, at),
     }
 }
 
@@ -129,9 +129,9 @@ fn read_short_or_long(bytes: &[u8], at: usize) -> Result<(u64, usize), Fault>
 /// bytes have no last digit or the value is 2^64 or more, `OverlongNumber` if the last of several digits is 0.
 pub fn read_vbyte(bytes: &[u8], at: usize) -> Result<(u64, usize), Fault>
     // What is returned is encoded there.
-    ensures found { IfOk result (λ r. SpelledAt VByte bytes.now at r.0 r.1) }
+    ensures found { IfOk result (λ r. EncodedAt VByte bytes.now at r.0 r.1) }
     // Whatever is encoded there is returned.
-    ensures only { (v end : ℕ) → v < 2 ^ 64 → SpelledAt VByte bytes.now at v end → result ≡ Ok (v, end) }
+    ensures only { (v end : ℕ) → v < 2 ^ 64 → EncodedAt VByte bytes.now at v end → result ≡ Ok (v, end) }
     // Otherwise the first error is returned.
     ensures exact { result ≡ vbyte_at bytes.now at }
     ensures end { IfOk result (λ r. (at < r.1) × (r.1 ≤ length bytes.now)) }

@@ -1,7 +1,7 @@
 use Rattle.std.proofs.Common.{length}
-use Rattle.hdt_triples.specs.Left.{left_of}
+use Rattle.hdt_triples.specs.Remaining.{remaining_matches}
 use Rattle.example.proofs.search.Given as goal
 
 -- each iteration takes one of the remaining matches
 abbrev pub decreases-loop-subject : goal.decreases-loop-subject
-decreases-loop-subject l = length (left_of l.subject-iterator)
+decreases-loop-subject l = length (remaining_matches l.subject-iterator)

@@ -1,7 +1,7 @@
 -- The triples of a document, as indices into its list of strings.
 use Rattle.std.specs.Prelude.{ℕ, ◌<◌, ◌++◌, List, length}
 use Rattle.std.specs.List.{All}
-use Rattle.hdt_triples.specs.Counting.{Triple}
+use Rattle.hdt_triples.specs.TripleSequences.{Triple}
 use Rattle.hdt_file.specs.Denoted.{StringTriple}
 use Rattle.hdt_build.specs.Graph.{string_triples_of}
 use Rattle.hdt_build.specs.declared.document.Document.{Document}
@@ -14,18 +14,18 @@ pub record AreBelow (n : ℕ) (ids : List Triple) : Type 0 where
   pub objects : All (λ t. t.2 < n) ids
 
 -- the string triples of a queue, in input order, with duplicates
-abbrev pub waiting_in : Queue → List StringTriple
-waiting_in q = string_triples_of q.strings q.ids.items
+abbrev pub queued_triples : Queue → List StringTriple
+queued_triples q = string_triples_of q.strings q.ids.items
 
 -- all indices of queued triples are those of strings
-abbrev pub IsQueue : Queue → Type 0
-IsQueue q = AreBelow (length q.strings) q.ids.items
+abbrev pub IsValidQueue : Queue → Type 0
+IsValidQueue q = AreBelow (length q.strings) q.ids.items
 
 -- the string triples of a document, in input order, with duplicates
 abbrev pub document_graph : Document → List StringTriple
-document_graph d = string_triples_of d.terms d.ids.items ++ waiting_in d.queue
+document_graph d = string_triples_of d.terms d.ids.items ++ queued_triples d.queue
 
 -- all indices of the triples, queued or not, are those of strings
-pub record IsSound (d : Document) : Type 0 where
+pub record IsValidDocument (d : Document) : Type 0 where
   pub known : AreBelow (length d.terms) d.ids.items
-  pub waiting : IsQueue d.queue
+  pub waiting : IsValidQueue d.queue

@@ -7,14 +7,14 @@ abbrev pub ArePassed : List (List ℕ) → ℕ → List (List ℕ) → ℕ → T
 ArePassed xs i ys j = (m : ℕ) → j ≤ m → m < length ys → FirstBelow xs i (slice_index_or ys m [])
 
 -- string i of xs is next, and is not in ys
-pub record IsFirstAlone (xs : List (List ℕ)) (i : ℕ) (ys : List (List ℕ)) (j : ℕ) : Type 0 where
+pub record IsNextInFirstOnly (xs : List (List ℕ)) (i : ℕ) (ys : List (List ℕ)) (j : ℕ) : Type 0 where
   pub within : i < length xs
   pub lacks : has ys (slice_index_or xs i []) ≡ false
   pub passed : ArePassed xs (i + 1) ys j
   pub ahead : ArePassed ys j xs (i + 1)
 
 -- string i of xs and string j of ys are next, and are equal
-pub record AreEqual (xs : List (List ℕ)) (i : ℕ) (ys : List (List ℕ)) (j : ℕ) : Type 0 where
+pub record AreNextInBoth (xs : List (List ℕ)) (i : ℕ) (ys : List (List ℕ)) (j : ℕ) : Type 0 where
   pub first_within : i < length xs
   pub second_within : j < length ys
   pub second_has : has ys (slice_index_or xs i []) ≡ true

@@ -4,37 +4,37 @@ use Rattle.std.specs.Ordering.{is_eq}
 use Rattle.std.specs.declared.cmp.Ordering.{Ordering}
 use Rattle.hdt_wire.specs.declared.fault.Fault.{Fault}
 use Rattle.hdt_wire.specs.declared.fault.Reason.TheVariants.{SectionsOverlap}
-use Rattle.hdt_front.specs.StringRows.{precedes}
+use Rattle.hdt_front.specs.StringChecks.{precedes}
 use Rattle.hdt_dict.specs.Strings.{has}
-use Rattle.hdt_front.specs.Walking.{Placed, strings, first_order, first_agreed}
+use Rattle.hdt_front.specs.Iteration.{LocatedString, strings, first_order, first_lcp}
 
-abbrev pub is_string_of : List Placed → List ℕ → Bool
-is_string_of items x = has (strings items) x
+abbrev pub contains_string : List LocatedString → List ℕ → Bool
+contains_string items x = has (strings items) x
 
 -- the byte offset of the first string that passes a test
-abbrev pub first_place : (List ℕ → Bool) → List Placed → Option ℕ
-first_place test [] = None
-first_place test (p ∷ ps) = cond (test p.string) (Some p.place) (first_place test ps)
+abbrev pub first_offset : (List ℕ → Bool) → List LocatedString → Option ℕ
+first_offset test [] = None
+first_offset test (p ∷ ps) = cond (test p.string) (Some p.place) (first_offset test ps)
 
 -- the check that no string was found in another section, given the offset of the first one that was
-abbrev pub none_met : Option ℕ → Result (Unit {0}) Fault
-none_met None = Ok tt
-none_met (Some place) = Err (record { place = place; reason = SectionsOverlap })
+abbrev pub check_not_found : Option ℕ → Result (Unit {0}) Fault
+check_not_found None = Ok tt
+check_not_found (Some place) = Err (record { place = place; reason = SectionsOverlap })
 
 -- the strings from the first one that is not less than x
-abbrev pub not_less : List ℕ → List Placed → List Placed
-not_less x [] = []
-not_less x (p ∷ ps) = cond (precedes p.string x) (not_less x ps) (p ∷ ps)
+abbrev pub drop_less : List ℕ → List LocatedString → List LocatedString
+drop_less x [] = []
+drop_less x (p ∷ ps) = cond (precedes p.string x) (drop_less x ps) (p ∷ ps)
 
 -- x is the first string
-abbrev pub is_first : List ℕ → List Placed → Bool
+abbrev pub is_first : List ℕ → List LocatedString → Bool
 is_first x items = is_eq (first_order items x)
 
 -- how the first string compares with x, and the length of their longest common prefix
-abbrev pub Lies : Ordering × ℕ → List Placed → List ℕ → Type 0
-Lies lie items x = (lie.0 ≡ first_order items x) × (lie.1 ≡ first_agreed items x)
+abbrev pub IsComparison : Ordering × ℕ → List LocatedString → List ℕ → Type 0
+IsComparison comparison items x = (comparison.0 ≡ first_order items x) × (comparison.1 ≡ first_lcp items x)
 
 -- A comparison of two strings, after one of them advanced to a string that shares `kept` bytes with it. If that is more
 -- than their common prefix, the comparison still holds; else the two have at least `kept` bytes in common.
-abbrev pub Turns : ℕ → Ordering × ℕ → List Placed → List ℕ → Type 0
-Turns kept lie items x = (lie.1 < kept → Lies lie items x) × (kept ≤ lie.1 → kept ≤ first_agreed items x)
+abbrev pub IsStaleComparison : ℕ → Ordering × ℕ → List LocatedString → List ℕ → Type 0
+IsStaleComparison kept comparison items x = (comparison.1 < kept → IsComparison comparison items x) × (kept ≤ comparison.1 → kept ≤ first_lcp items x)

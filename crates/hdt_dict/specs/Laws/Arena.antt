@@ -4,22 +4,22 @@ use Rattle.std.specs.List.{range_with_len}
 use Rattle.std.proofs.lemmas.Bool.{cases_lt}
 use Rattle.std.proofs.lemmas.List.{get_or_append_left, get_or_push, length_push, length-append, length-drop, take-append-le, drop-append-le, drop_at, take_all, same_lists}
 use Rattle.std.proofs.lemmas.List.FromFn.{length-map-range_with_len, get_or-map-range_with_len, map-range_with_len_more}
-use Rattle.hdt_dict.specs.Arena.{arena_text, arena_texts, AreTextStarts}
+use Rattle.hdt_dict.specs.Arena.{arena_string, arena_strings, AreStringStarts}
 
-pub size : (bytes starts : List ℕ) → length (arena_texts bytes starts) ≡ length starts - 1
-unfolding arena_texts
-size bytes starts = length-map-range_with_len (arena_text bytes starts) 0 (length starts - 1)
+pub size : (bytes starts : List ℕ) → length (arena_strings bytes starts) ≡ length starts - 1
+unfolding arena_strings
+size bytes starts = length-map-range_with_len (arena_string bytes starts) 0 (length starts - 1)
 
-pub text_is : (bytes starts : List ℕ) (i : ℕ) → i + 1 < length starts → get_or (arena_texts bytes starts) i [] ≡ arena_text bytes starts i
-unfolding arena_texts
-text_is bytes starts i below = get_or-map-range_with_len (arena_text bytes starts) 0 (length starts - 1) i i [] (omega arith) (omega arith)
+pub text_is : (bytes starts : List ℕ) (i : ℕ) → i + 1 < length starts → get_or (arena_strings bytes starts) i [] ≡ arena_string bytes starts i
+unfolding arena_strings
+text_is bytes starts i below = get_or-map-range_with_len (arena_string bytes starts) 0 (length starts - 1) i i [] (omega arith) (omega arith)
 
 -- an arena without bytes, whose only start is 0, has no strings
-pub none : arena_texts [] (0 ∷ []) ≡ []
-unfolding arena_texts
+pub none : arena_strings [] (0 ∷ []) ≡ []
+unfolding arena_strings
 none = refl
 
-pub none_starts : AreTextStarts [] (0 ∷ [])
+pub none_starts : AreStringStarts [] (0 ∷ [])
 none_starts = record {
   some = omega arith;
   ascend = λ i below. absurd (omega arith);
@@ -34,14 +34,14 @@ map_range f g n same =
     (λ k d below. let lt : k < n = omega arith in get_or-map-range_with_len f 0 n k k d lt (omega arith) ∙ same k lt ∙ sym (get_or-map-range_with_len g 0 n k k d lt (omega arith)))
 
 -- appending the bytes x, and the offset e at which they end, appends one string
-module _ (bytes starts x : List ℕ) (e : ℕ) (h : AreTextStarts bytes starts) (end : e ≡ length bytes + length x) where
+module _ (bytes starts x : List ℕ) (e : ℕ) (h : AreStringStarts bytes starts) (end : e ≡ length bytes + length x) where
   front : (i : ℕ) → i < length starts → get_or (starts ++ e ∷ []) i 0 ≡ get_or starts i 0
   front i below = get_or_append_left starts (e ∷ []) 0 i below
 
   back : get_or (starts ++ e ∷ []) (length starts) 0 ≡ e
   back = get_or_push starts e 0 (length starts) refl
 
-  kept : (i : ℕ) → i + 1 < length starts → arena_text (bytes ++ x) (starts ++ e ∷ []) i ≡ arena_text bytes starts i
+  kept : (i : ℕ) → i + 1 < length starts → arena_string (bytes ++ x) (starts ++ e ∷ []) i ≡ arena_string bytes starts i
   kept i below =
       let here : i < length starts = omega arith in
       let up : get_or starts i 0 ≤ get_or starts (i + 1) 0 = h.ascend i below in
@@ -52,7 +52,7 @@ module _ (bytes starts x : List ℕ) (e : ℕ) (h : AreTextStarts bytes starts) 
       rw (front i here, front (i + 1) below, drop-append-le (get_or starts i 0) bytes x from)
       (take-append-le (get_or starts (i + 1) 0 - get_or starts i 0) (drop (get_or starts i 0) bytes) x fits)
 
-  new : (n : ℕ) → n + 1 ≡ length starts → arena_text (bytes ++ x) (starts ++ e ∷ []) n ≡ x
+  new : (n : ℕ) → n + 1 ≡ length starts → arena_string (bytes ++ x) (starts ++ e ∷ []) n ≡ x
   new n long =
       let here : n < length starts = omega arith in
       let same : n ≡ length starts - 1 = omega arith in
@@ -60,19 +60,19 @@ module _ (bytes starts x : List ℕ) (e : ℕ) (h : AreTextStarts bytes starts) 
       let all : length x ≤ e - length bytes = omega arith in
       rw (front n here, from, long, back, drop_at bytes x (length bytes) refl) (take_all (e - length bytes) x all)
 
-  pub texts_push : arena_texts (bytes ++ x) (starts ++ e ∷ []) ≡ arena_texts bytes starts ++ x ∷ []
-  unfolding arena_texts
+  pub texts_push : arena_strings (bytes ++ x) (starts ++ e ∷ []) ≡ arena_strings bytes starts ++ x ∷ []
+  unfolding arena_strings
   texts_push =
       let some = h.some in
       let n = length starts - 1 in
       let long : n + 1 ≡ length starts = omega arith in
       let more : length (starts ++ e ∷ []) - 1 ≡ n + 1 = omega (arith, length_push starts e) in
-      ap (λ k. map (arena_text (bytes ++ x) (starts ++ e ∷ [])) (range_with_len 0 k)) more
-      ∙ map-range_with_len_more (arena_text (bytes ++ x) (starts ++ e ∷ [])) 0 n n (omega arith)
-      ∙ ap (λ l. l ++ arena_text (bytes ++ x) (starts ++ e ∷ []) n ∷ []) (map_range (arena_text (bytes ++ x) (starts ++ e ∷ [])) (arena_text bytes starts) n (λ i below. kept i (omega arith)))
-      ∙ ap (λ t. map (arena_text bytes starts) (range_with_len 0 n) ++ t ∷ []) (new n long)
+      ap (λ k. map (arena_string (bytes ++ x) (starts ++ e ∷ [])) (range_with_len 0 k)) more
+      ∙ map-range_with_len_more (arena_string (bytes ++ x) (starts ++ e ∷ [])) 0 n n (omega arith)
+      ∙ ap (λ l. l ++ arena_string (bytes ++ x) (starts ++ e ∷ []) n ∷ []) (map_range (arena_string (bytes ++ x) (starts ++ e ∷ [])) (arena_string bytes starts) n (λ i below. kept i (omega arith)))
+      ∙ ap (λ t. map (arena_string bytes starts) (range_with_len 0 n) ++ t ∷ []) (new n long)
 
-  pub starts_push : AreTextStarts (bytes ++ x) (starts ++ e ∷ [])
+  pub starts_push : AreStringStarts (bytes ++ x) (starts ++ e ∷ [])
   starts_push =
       let some = h.some in
       let longer = length_push starts e in

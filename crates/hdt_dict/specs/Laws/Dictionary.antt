@@ -5,17 +5,17 @@ use Rattle.std.proofs.lemmas.List.{get_or_default}
 use Rattle.std.proofs.lemmas.List.Elements.{Contains-append_left, Contains-append_right, Contains-append_cases}
 use Rattle.hdt_wire.specs.declared.fault.Reason.TheVariants.{SectionsOverlap}
 use Rattle.hdt_wire.specs.declared.control.Kind.TheVariants as kinds
-use Rattle.hdt_wire.specs.Rows.{IsBytes}
-use Rattle.hdt_wire.specs.Laws.Row.{bound}
+use Rattle.hdt_wire.specs.Checks.{IsBytes}
+use Rattle.hdt_wire.specs.Laws.Checks.{bind_ok}
 use Rattle.hdt_wire.specs.Control.{control_at}
 use Rattle.hdt_wire.specs.Exact.{Exactly}
-use Rattle.hdt_wire.specs.Laws.Exact.{answered, last_held, holds_on, items_exact}
-use Rattle.hdt_wire.specs.Laws.ExactLeaves.{control_exact}
-use Rattle.hdt_front.specs.Section.{SectionParts, string_place, section_at}
+use Rattle.hdt_wire.specs.Laws.Exact.{holds_of_ok, holds_if_ok, ok_if_holds, item_checks_exact}
+use Rattle.hdt_wire.specs.Laws.ExactPrimitives.{control_exact}
+use Rattle.hdt_front.specs.Section.{SectionParts, string_offset, section_at}
 use Rattle.hdt_front.specs.Laws.Section.{section_exact}
 use Rattle.hdt_dict.specs.Strings.{has}
 use Rattle.hdt_dict.specs.Laws.Strings.{has-Contains, Contains-has}
-use Rattle.hdt_dict.specs.Dictionary.{DictionaryParts, AreApart, IsDictionary, apart_row, apart_at, dictionary_at}
+use Rattle.hdt_dict.specs.Dictionary.{DictionaryParts, AreDisjoint, IsDictionary, disjoint_check, disjoint_at, dictionary_at}
 
 -- ---- strings in two sections
 
@@ -27,19 +27,19 @@ wrong : (b : Bool) → not b ≡ true → b ≡ true → ⊥
 wrong true e f = absurd (cc)
 wrong false e f = absurd (cc)
 
-row_exact : (others : List (List ℕ)) (s : SectionParts) (i : ℕ) → Exactly (apart_row others s i) (λ _. Contains others (get_or s.strings i []) → ⊥)
-unfolding apart_row
+row_exact : (others : List (List ℕ)) (s : SectionParts) (i : ℕ) → Exactly (disjoint_check others s i) (λ _. Contains others (get_or s.strings i []) → ⊥)
+unfolding disjoint_check
 row_exact others s i =
     let x : List ℕ = get_or s.strings i [] in
     record {
-      found = λ u e there. wrong (has others x) (last_held (not (has others x)) (string_place s i) SectionsOverlap u e) (Contains-has others x there);
-      only = λ u none. holds_on (not (has others x)) (string_place s i) SectionsOverlap
+      found = λ u e there. wrong (has others x) (holds_if_ok (not (has others x)) (string_offset s i) SectionsOverlap u e) (Contains-has others x there);
+      only = λ u none. ok_if_holds (not (has others x)) (string_offset s i) SectionsOverlap
           (not-made (has others x) (λ is. none (has-Contains others x is)));
     }
 
-pub apart_exact : (others : List (List ℕ)) (s : SectionParts) → Exactly (apart_at others s) (λ _. AreApart others s.strings)
+pub apart_exact : (others : List (List ℕ)) (s : SectionParts) → Exactly (disjoint_at others s) (λ _. AreDisjoint others s.strings)
 apart_exact others s =
-    let rows = items_exact (apart_row others s) (length s.strings) (λ i. Contains others (get_or s.strings i []) → ⊥) (λ i lt. row_exact others s i) in
+    let rows = item_checks_exact (disjoint_check others s) (length s.strings) (λ i. Contains others (get_or s.strings i []) → ⊥) (λ i lt. row_exact others s i) in
     record {
       found = λ u e x there here.
           let same : get_or s.strings here.0 [] ≡ x = get_or_default s.strings here.0 [] x here.1 ∙ here.2 in
@@ -54,15 +54,15 @@ pub dictionary_exact : (bytes : List ℕ) (at : ℕ) → IsBytes bytes → Exact
 unfolding dictionary_at
 dictionary_exact bytes at fits = record {
   found = λ d e.
-      bound (control_at kinds.Dictionary bytes at) _ _ e (λ control e1 e.
-      bound (section_at bytes control.end) _ _ e (λ shared e2 e.
-      bound (section_at bytes shared.end) _ _ e (λ subjects e3 e.
-      bound (section_at bytes subjects.end) _ _ e (λ predicates e4 e.
-      bound (section_at bytes predicates.end) _ _ e (λ objects e5 e.
-      bound (apart_at shared.strings subjects) _ _ e (λ u e6 e.
-      bound (apart_at (shared.strings ++ subjects.strings) objects) _ _ e (λ v e7 e.
+      bind_ok (control_at kinds.Dictionary bytes at) _ _ e (λ control e1 e.
+      bind_ok (section_at bytes control.end) _ _ e (λ shared e2 e.
+      bind_ok (section_at bytes shared.end) _ _ e (λ subjects e3 e.
+      bind_ok (section_at bytes subjects.end) _ _ e (λ predicates e4 e.
+      bind_ok (section_at bytes predicates.end) _ _ e (λ objects e5 e.
+      bind_ok (disjoint_at shared.strings subjects) _ _ e (λ u e6 e.
+      bind_ok (disjoint_at (shared.strings ++ subjects.strings) objects) _ _ e (λ v e7 e.
       let apart = (apart_exact (shared.strings ++ subjects.strings) objects).found v e7 in
-      answered (λ (d : DictionaryParts). IsDictionary d bytes at) _ _ e (record {
+      holds_of_ok (λ (d : DictionaryParts). IsDictionary d bytes at) _ _ e (record {
         control = control;
         block = (control_exact kinds.Dictionary bytes at fits).found control e1;
         shared = (section_exact bytes control.end fits).found shared e2;

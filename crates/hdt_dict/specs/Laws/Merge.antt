@@ -15,8 +15,8 @@ use Rattle.std.proofs.lemmas.Map.Lookups.{exact_bytes}
 use Rattle.std.proofs.lemmas.Map.Keys.{Less-from_sorted}
 use Rattle.std.proofs.lemmas.Slice.Eq.{bytes_eq-Decides}
 use Rattle.hdt_dict.specs.Laws.Strings.{has-Contains, Contains-has, string_at}
-use Rattle.hdt_front.specs.Canonical.{lent_texts}
-use Rattle.hdt_dict.specs.Strings.{Lent, has, FirstBelow}
+use Rattle.hdt_front.specs.Canonical.{borrowed_texts}
+use Rattle.hdt_dict.specs.Strings.{BorrowedString, has, FirstBelow}
 use Rattle.hdt_front.specs.Order.{IsAscending, string_cmp}
 
 pub not_Less : (o : Ordering) → is_lt o ≡ false → o ≢ Less
@@ -66,23 +66,23 @@ below_or z x y Equal e less up = ap (string_cmp z) (sym (exact_bytes x y e)) ∙
 below_or z x y Greater e less up = absurd (up (nat_list_cmp_total.antisymm y x ∙ ap ordering_reverse e))
 
 -- a loop's step: the string at i passes, and goes to the end of what was kept, or doesn't
-module _ (p : List ℕ → Bool) (vs ws : List Lent) (i : ℕ) (e : Lent) (below : i < length vs) (front : lent_texts ws ≡ filter p (take i (lent_texts vs))) where
-  within : i < length (lent_texts vs)
-  within = omega (arith, length-map vs (λ (w : Lent). w.now))
+module _ (p : List ℕ → Bool) (vs ws : List BorrowedString) (i : ℕ) (e : BorrowedString) (below : i < length vs) (front : borrowed_texts ws ≡ filter p (take i (borrowed_texts vs))) where
+  within : i < length (borrowed_texts vs)
+  within = omega (arith, length-map vs (λ (w : BorrowedString). w.now))
 
-  step : (b : Bool) → p (get_or vs i e).now ≡ b → filter p (take (i + 1) (lent_texts vs)) ≡ lent_texts ws ++ cond b ((get_or vs i e).now ∷ []) []
+  step : (b : Bool) → p (get_or vs i e).now ≡ b → filter p (take (i + 1) (borrowed_texts vs)) ≡ borrowed_texts ws ++ cond b ((get_or vs i e).now ∷ []) []
   step b is =
       let x = (get_or vs i e).now in
-      filter_more p (lent_texts vs) i x within
-      ∙ ap (λ y. filter p (take i (lent_texts vs)) ++ cond (p y) (y ∷ []) []) (string_at vs i e x below)
-      ∙ ap (λ t. filter p (take i (lent_texts vs)) ++ cond t (x ∷ []) []) is
+      filter_more p (borrowed_texts vs) i x within
+      ∙ ap (λ y. filter p (take i (borrowed_texts vs)) ++ cond (p y) (y ∷ []) []) (string_at vs i e x below)
+      ∙ ap (λ t. filter p (take i (borrowed_texts vs)) ++ cond t (x ∷ []) []) is
       ∙ ap (λ l. l ++ cond b (x ∷ []) []) (sym front)
 
-  pub kept_more : p (get_or vs i e).now ≡ true → lent_texts (ws ++ get_or vs i e ∷ []) ≡ filter p (take (i + 1) (lent_texts vs))
-  kept_more is = map_push (λ (w : Lent). w.now) ws (get_or vs i e) ∙ sym (step true is)
+  pub kept_more : p (get_or vs i e).now ≡ true → borrowed_texts (ws ++ get_or vs i e ∷ []) ≡ filter p (take (i + 1) (borrowed_texts vs))
+  kept_more is = map_push (λ (w : BorrowedString). w.now) ws (get_or vs i e) ∙ sym (step true is)
 
-  pub left_more : p (get_or vs i e).now ≡ false → lent_texts ws ≡ filter p (take (i + 1) (lent_texts vs))
-  left_more is = sym (step false is ∙ append-nil (lent_texts ws))
+  pub left_more : p (get_or vs i e).now ≡ false → borrowed_texts ws ≡ filter p (take (i + 1) (borrowed_texts vs))
+  left_more is = sym (step false is ∙ append-nil (borrowed_texts ws))
 
 module _ (ys : List (List ℕ)) (x : List ℕ) where
   by : (absent : ¬ Contains ys x) (b : Bool) → has ys x ≡ b → not b ≡ true

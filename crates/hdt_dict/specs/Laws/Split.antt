@@ -2,22 +2,22 @@
 use Rattle.std.proofs.Common.{ℕ, List, []}
 use Rattle.std.specs.List.{All}
 use Rattle.std.proofs.lemmas.List.Elements.{All-contains}
-use Rattle.hdt_front.specs.Section.{AreStrings}
+use Rattle.hdt_front.specs.Section.{AreSectionStrings}
 use Rattle.hdt_dict.specs.Laws.Members.{All-from_members}
 use Rattle.hdt_front.specs.Order.{IsAscending}
 use Rattle.hdt_dict.specs.Split.{IsSplit}
-use Rattle.hdt_dict.specs.Texts.{IsDictionaryString}
+use Rattle.hdt_dict.specs.DictionaryString.{IsDictionaryString}
 use Rattle.hdt_dict.specs.Writing.{AreSections}
-use Rattle.hdt_dict.specs.Dictionary.{FourLists}
+use Rattle.hdt_dict.specs.Dictionary.{SectionLists}
 
-pub texts_ascend : (xs : List (List ℕ)) → All IsDictionaryString xs → IsAscending xs → AreStrings xs
+pub texts_ascend : (xs : List (List ℕ)) → All IsDictionaryString xs → IsAscending xs → AreSectionStrings xs
 texts_ascend xs are up = record {
   utf8 = λ i lt. (are i [] lt).utf8;
   no_zero = λ i lt. (are i [] lt).no_zero;
   ascend = up;
 }
 
-pub split_sections : (ss ps os : List (List ℕ)) (d : FourLists) → IsSplit ss ps os d → All IsDictionaryString ss → All IsDictionaryString ps → All IsDictionaryString os → AreSections d
+pub split_sections : (ss ps os : List (List ℕ)) (d : SectionLists) → IsSplit ss ps os d → All IsDictionaryString ss → All IsDictionaryString ps → All IsDictionaryString os → AreSections d
 split_sections ss ps os d h s p o = record {
   shared = texts_ascend d.shared (All-from_members IsDictionaryString d.shared (λ x there. All-contains IsDictionaryString ss x s ((h.shared x).0 there).0)) h.shared_ascend;
   subjects = texts_ascend d.subjects (All-from_members IsDictionaryString d.subjects (λ x there. All-contains IsDictionaryString ss x s ((h.subjects x).0 there).0)) h.subjects_ascend;

@@ -9,8 +9,8 @@ use Rattle.std.specs.declared.cmp.Ordering.{Ordering}
 use Rattle.std.specs.List.{dedup, dedup_from}
 use Rattle.std.specs.List.Sorted.{IsSorted}
 use Rattle.std.proofs.lemmas.List.{get_or-map, length-map}
-use Rattle.hdt_front.specs.Canonical.{lent_texts}
-use Rattle.hdt_dict.specs.Strings.{has, Lent}
+use Rattle.hdt_front.specs.Canonical.{borrowed_texts}
+use Rattle.hdt_dict.specs.Strings.{has, BorrowedString}
 
 module _ {X Y : Type 0} (f : X → Y) (E : Y → Y → Bool) where
   map-dedup_from : (k : X) (xs : List X) → map f (dedup_from (λ a b. E (f a) (f b)) k xs) ≡ dedup_from E (f k) (map f xs)
@@ -34,8 +34,8 @@ sorted_map f R (x ∷ xs) h = λ k d low high.
     rw (get_or-map f (x ∷ xs) (k + 1) x d long, get_or-map f (x ∷ xs) k x d short) (h k x low long)
 
 -- the string at an index
-pub string_at : (vs : List Lent) (i : ℕ) (v : Lent) (d : List ℕ) → i < length vs → get_or (lent_texts vs) i d ≡ (get_or vs i v).now
-string_at vs i v d below = get_or-map (λ (w : Lent). w.now) vs i v d below
+pub string_at : (vs : List BorrowedString) (i : ℕ) (v : BorrowedString) (d : List ℕ) → i < length vs → get_or (borrowed_texts vs) i d ≡ (get_or vs i v).now
+string_at vs i v d below = get_or-map (λ (w : BorrowedString). w.now) vs i v d below
 
 -- a string is in the list exactly if it is a member
 pub has-Contains : (ys : List (List ℕ)) (x : List ℕ) → has ys x ≡ true → Contains ys x

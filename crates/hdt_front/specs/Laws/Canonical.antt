@@ -7,21 +7,21 @@ use Rattle.std.proofs.lemmas.Nat.{div-mul-add, div-add-mod'}
 use Rattle.std.proofs.lemmas.Bool.{eqb-false}
 use Rattle.std.proofs.lemmas.List.Sums.{common_prefix_len-le}
 use Rattle.byteorder.specs.Endian.{little_bytes}
-use Rattle.hdt_wire.specs.Check.{code8, code32}
-use Rattle.hdt_wire.specs.Rows.{IsBytes, Stands}
-use Rattle.hdt_wire.specs.Laws.Row.{Stands-after}
+use Rattle.hdt_wire.specs.Crc.{crc8, crc32}
+use Rattle.hdt_wire.specs.Checks.{IsBytes, HasSlice}
+use Rattle.hdt_wire.specs.Laws.Checks.{HasSlice-after}
 use Rattle.hdt_wire.specs.VByte.{vbyte}
-use Rattle.hdt_wire.specs.Laws.VByte.{vbyte_spells}
-use Rattle.hdt_seq.specs.Numbers.{numbers_spelling}
-use Rattle.hdt_front.specs.Unfolding.{is_head}
-use Rattle.hdt_front.specs.Folding.{IsPiece}
-use Rattle.hdt_front.specs.Laws.Folded.{ArePieces, AreBlockStarts, Folded}
-use Rattle.hdt_front.specs.Laws.Folding.{folded_found}
-use Rattle.hdt_front.specs.Section.{HasStarts, AreStrings, IsSection, section_at}
+use Rattle.hdt_wire.specs.Laws.VByte.{vbyte_encodes}
+use Rattle.hdt_seq.specs.Numbers.{numbers_encoding}
+use Rattle.hdt_front.specs.Decoding.{is_head}
+use Rattle.hdt_front.specs.FrontCoding.{IsEntry}
+use Rattle.hdt_front.specs.Laws.FrontCodingSteps.{AreEntries, AreBlockStarts, IsFrontCodedFrom}
+use Rattle.hdt_front.specs.Laws.FrontCoding.{front_coded_found}
+use Rattle.hdt_front.specs.Section.{HasBlockOffsets, AreSectionStrings, IsSection, section_at}
 use Rattle.hdt_front.specs.Laws.Section.{section_exact}
-use Rattle.hdt_front.specs.SectionWriting.{CanBeWritten, section_head}
-use Rattle.hdt_front.specs.Laws.SectionWriting.{section_stands}
-use Rattle.hdt_front.specs.Canonical.{piece_of, pieces_from, starts_from, packed_of, starts_of, canonical, canonical_parts}
+use Rattle.hdt_front.specs.SectionWriting.{CanBeWritten, section_preamble}
+use Rattle.hdt_front.specs.Laws.SectionWriting.{section_encoded}
+use Rattle.hdt_front.specs.Canonical.{encode_entry, encode_entries, starts_from, packed_of, starts_of, canonical, canonical_parts}
 
 -- ---- entries
 
@@ -37,13 +37,13 @@ front_agrees [] y = refl
 front_agrees (b ∷ x) [] = refl
 front_agrees (b ∷ x) (c ∷ y) = agree_step (nat_eq b c) b c (common_prefix_len nat_eq x y) x y (eqb-true b c) (front_agrees x y)
 
-piece_is : (h : Bool) (before string : List ℕ) → common_prefix_len nat_eq before string < 2 ^ 64 → IsPiece h before string (piece_of h before string)
-unfolding piece_of
+piece_is : (h : Bool) (before string : List ℕ) → common_prefix_len nat_eq before string < 2 ^ 64 → IsEntry h before string (encode_entry h before string)
+unfolding encode_entry
 piece_is true before string small = refl
 piece_is false before string small = record {
   kept = common_prefix_len nat_eq before string;
   front = vbyte (common_prefix_len nat_eq before string);
-  spelled = vbyte_spells (common_prefix_len nat_eq before string) small;
+  spelled = vbyte_encodes (common_prefix_len nat_eq before string) small;
   small = small;
   fits = (common_prefix_len-le nat_eq before string).0;
   agree = front_agrees before string;
@@ -51,45 +51,45 @@ piece_is false before string small = record {
 }
 
 -- A string is no longer than the previous string and its entry together.
-longer : (h : Bool) (before string : List ℕ) → length string + 1 ≤ length before + length (piece_of h before string)
-unfolding piece_of
+longer : (h : Bool) (before string : List ℕ) → length string + 1 ≤ length before + length (encode_entry h before string)
+unfolding encode_entry
 longer true before string = omega (arith, length-append string (0 ∷ []))
 longer false before string =
     let k : ℕ = common_prefix_len nat_eq before string in
     omega (arith, (common_prefix_len-le nat_eq before string).0, length-append (vbyte k) (drop k string ++ 0 ∷ []), length-append (drop k string) (0 ∷ []), length-drop k string)
 
 -- An entry has at least one byte.
-some_byte : (h : Bool) (before string : List ℕ) → 1 ≤ length (piece_of h before string)
-unfolding piece_of
+some_byte : (h : Bool) (before string : List ℕ) → 1 ≤ length (encode_entry h before string)
+unfolding encode_entry
 some_byte true before string = omega (arith, length-append string (0 ∷ []))
 some_byte false before string =
     let k : ℕ = common_prefix_len nat_eq before string in
     omega (arith, length-append (vbyte k) (drop k string ++ 0 ∷ []), length-append (drop k string) (0 ∷ []))
 
-pieces_are : (b i at : ℕ) (before : List ℕ) (strings : List (List ℕ)) → length before ≤ at → at + length (concat (pieces_from b i before strings)) < 2 ^ 64
-    → ArePieces b i before strings (pieces_from b i before strings)
-unfolding ArePieces pieces_from
+pieces_are : (b i at : ℕ) (before : List ℕ) (strings : List (List ℕ)) → length before ≤ at → at + length (concat (encode_entries b i before strings)) < 2 ^ 64
+    → AreEntries b i before strings (encode_entries b i before strings)
+unfolding AreEntries encode_entries
 pieces_are b i at before [] le lt = tt
 pieces_are b i at before (s ∷ strings) le lt =
-    let p : List ℕ = piece_of (is_head b i) before s in
-    let size = length-append p (concat (pieces_from b (i + 1) s strings)) in
+    let p : List ℕ = encode_entry (is_head b i) before s in
+    let size = length-append p (concat (encode_entries b (i + 1) s strings)) in
     let l = longer (is_head b i) before s in (
       piece_is (is_head b i) before s (omega (arith, (common_prefix_len-le nat_eq before s).0, size, le, lt)),
       pieces_are b (i + 1) (at + length p) s strings (omega (arith, l, le)) (omega (arith, size, lt)),
     )
 
-pub many_pieces : (b i : ℕ) (before : List ℕ) (strings : List (List ℕ)) → length (pieces_from b i before strings) ≡ length strings
-unfolding pieces_from
-many_pieces b i before [] = refl
-many_pieces b i before (s ∷ strings) = ap suc (many_pieces b (i + 1) s strings)
+pub entry_count : (b i : ℕ) (before : List ℕ) (strings : List (List ℕ)) → length (encode_entries b i before strings) ≡ length strings
+unfolding encode_entries
+entry_count b i before [] = refl
+entry_count b i before (s ∷ strings) = ap suc (entry_count b (i + 1) s strings)
 
 -- Each entry takes at least one byte.
-pub enough_bytes : (b i : ℕ) (before : List ℕ) (strings : List (List ℕ)) → length strings ≤ length (concat (pieces_from b i before strings))
-unfolding pieces_from
+pub enough_bytes : (b i : ℕ) (before : List ℕ) (strings : List (List ℕ)) → length strings ≤ length (concat (encode_entries b i before strings))
+unfolding encode_entries
 enough_bytes b i before [] = omega arith
 enough_bytes b i before (s ∷ strings) =
-    let p : List ℕ = piece_of (is_head b i) before s in
-    omega (arith, length-append p (concat (pieces_from b (i + 1) s strings)), some_byte (is_head b i) before s, enough_bytes b (i + 1) s strings)
+    let p : List ℕ = encode_entry (is_head b i) before s in
+    omega (arith, length-append p (concat (encode_entries b (i + 1) s strings)), some_byte (is_head b i) before s, enough_bytes b (i + 1) s strings)
 
 -- ---- block offsets
 
@@ -136,14 +136,14 @@ start_here true b i at front more some e size t =
     ap (λ k. get_or (front ++ (at ∷ more)) k 0) here ∙ get_or-append_seam front at more 0
 start_here false b i at front more some e size t = absurd (cc)
 
-starts_stand : (b i at : ℕ) (pieces : List (List ℕ)) (front : List ℕ) → 1 ≤ b → length front ≡ (i + (b - 1)) / b → AreBlockStarts b i at pieces (front ++ starts_from b i at pieces)
+starts_stand : (b i at : ℕ) (entries : List (List ℕ)) (front : List ℕ) → 1 ≤ b → length front ≡ (i + (b - 1)) / b → AreBlockStarts b i at entries (front ++ starts_from b i at entries)
 unfolding AreBlockStarts starts_from start_of
 starts_stand b i at [] front some size = λ _. ap (λ k. get_or (front ++ (at ∷ [])) k 0) (sym size) ∙ get_or-append_seam front at [] 0
-starts_stand b i at (p ∷ pieces) front some size =
-    let more : List ℕ = starts_from b (i + 1) (at + length p) pieces in (
+starts_stand b i at (p ∷ entries) front some size =
+    let more : List ℕ = starts_from b (i + 1) (at + length p) entries in (
       start_here (is_head b i) b i at front more some refl size,
-      subst (AreBlockStarts b (i + 1) (at + length p) pieces) (append_assoc front (start_of (is_head b i) at) more)
-          (starts_stand b (i + 1) (at + length p) pieces (front ++ start_of (is_head b i) at) some (more_starts (is_head b i) b i at front some refl size)),
+      subst (AreBlockStarts b (i + 1) (at + length p) entries) (append_assoc front (start_of (is_head b i) at) more)
+          (starts_stand b (i + 1) (at + length p) entries (front ++ start_of (is_head b i) at) some (more_starts (is_head b i) b i at front some refl size)),
     )
 
 count_step : (h : Bool) (b i at : ℕ) → 1 ≤ b → is_head b i ≡ h → length (start_of h at) + (i + (b - 1)) / b ≡ (i + 1 + (b - 1)) / b
@@ -151,13 +151,13 @@ unfolding start_of
 count_step true b i at some e = omega (arith, blocks_head b i some e, blocks_next b i some)
 count_step false b i at some e = omega (arith, blocks_other b i some e, blocks_next b i some)
 
-starts_many : (b i at : ℕ) (pieces : List (List ℕ)) → 1 ≤ b → length (starts_from b i at pieces) + (i + (b - 1)) / b ≡ (i + length pieces + (b - 1)) / b + 1
+starts_many : (b i at : ℕ) (entries : List (List ℕ)) → 1 ≤ b → length (starts_from b i at entries) + (i + (b - 1)) / b ≡ (i + length entries + (b - 1)) / b + 1
 unfolding starts_from start_of
 starts_many b i at [] some = let e : i + 0 ≡ i = omega arith in ap (λ k. 1 + (k + (b - 1)) / b) (sym e) ∙ (let f : 1 + (i + 0 + (b - 1)) / b ≡ (i + 0 + (b - 1)) / b + 1 = omega arith in f)
-starts_many b i at (p ∷ pieces) some =
-    let next : i + 1 + length pieces ≡ i + suc (length pieces) = omega arith in
-    let rest = starts_many b (i + 1) (at + length p) pieces some ∙ ap (λ k. (k + (b - 1)) / b + 1) next in
-    omega (arith, length-append (start_of (is_head b i) at) (starts_from b (i + 1) (at + length p) pieces), count_step (is_head b i) b i at some refl, rest)
+starts_many b i at (p ∷ entries) some =
+    let next : i + 1 + length entries ≡ i + suc (length entries) = omega arith in
+    let rest = starts_many b (i + 1) (at + length p) entries some ∙ ap (λ k. (k + (b - 1)) / b + 1) next in
+    omega (arith, length-append (start_of (is_head b i) at) (starts_from b (i + 1) (at + length p) entries), count_step (is_head b i) b i at some refl, rest)
 
 low_step : (h : Bool) (at end : ℕ) (more : List ℕ) → at ≤ end → ((k : ℕ) → get_or more k 0 ≤ end) → (k : ℕ) → get_or (start_of h at ++ more) k 0 ≤ end
 unfolding start_of
@@ -166,35 +166,35 @@ low_step true at end more le rest (suc k) = rest k
 low_step false at end more le rest k = rest k
 
 -- No block offset is past the end.
-starts_low : (b i at : ℕ) (pieces : List (List ℕ)) (k : ℕ) → get_or (starts_from b i at pieces) k 0 ≤ at + length (concat pieces)
+starts_low : (b i at : ℕ) (entries : List (List ℕ)) (k : ℕ) → get_or (starts_from b i at entries) k 0 ≤ at + length (concat entries)
 unfolding starts_from start_of
 starts_low b i at [] zero = omega arith
 starts_low b i at [] (suc k) = omega arith
-starts_low b i at (p ∷ pieces) k =
-    let end : at + length p + length (concat pieces) ≡ at + length (p ++ concat pieces) = omega (arith, length-append p (concat pieces)) in
-    low_step (is_head b i) at (at + length (p ++ concat pieces)) (starts_from b (i + 1) (at + length p) pieces) (omega arith)
-    (λ k. subst (λ (n : ℕ). get_or (starts_from b (i + 1) (at + length p) pieces) k 0 ≤ n) end (starts_low b (i + 1) (at + length p) pieces k)) k
+starts_low b i at (p ∷ entries) k =
+    let end : at + length p + length (concat entries) ≡ at + length (p ++ concat entries) = omega (arith, length-append p (concat entries)) in
+    low_step (is_head b i) at (at + length (p ++ concat entries)) (starts_from b (i + 1) (at + length p) entries) (omega arith)
+    (λ k. subst (λ (n : ℕ). get_or (starts_from b (i + 1) (at + length p) entries) k 0 ≤ n) end (starts_low b (i + 1) (at + length p) entries k)) k
 
 -- ---- the section
 
 nothing_before : (b : ℕ) → 1 ≤ b → (0 + (b - 1)) / b ≡ 0
 nothing_before b some = div-eq_of_lt (omega (arith, some))
 
-pub folded : (b : ℕ) (strings : List (List ℕ)) → 1 ≤ b → length (packed_of b strings) < 2 ^ 64 → Folded b 0 0 [] strings (packed_of b strings) (starts_of b strings)
+pub folded : (b : ℕ) (strings : List (List ℕ)) → 1 ≤ b → length (packed_of b strings) < 2 ^ 64 → IsFrontCodedFrom b 0 0 [] strings (packed_of b strings) (starts_of b strings)
 folded b strings some lt = record {
-  pieces = pieces_from b 0 [] strings;
+  entries = encode_entries b 0 [] strings;
   each = pieces_are b 0 0 [] strings (omega arith) (omega (arith, lt));
   joined = refl;
-  places = starts_stand b 0 0 (pieces_from b 0 [] strings) [] some (sym (nothing_before b some));
+  places = starts_stand b 0 0 (encode_entries b 0 [] strings) [] some (sym (nothing_before b some));
 }
 
-has_starts : (b : ℕ) (strings : List (List ℕ)) → 1 ≤ b → HasStarts (length strings) b (starts_of b strings)
-unfolding pieces_from starts_from
+has_starts : (b : ℕ) (strings : List (List ℕ)) → 1 ≤ b → HasBlockOffsets (length strings) b (starts_of b strings)
+unfolding encode_entries starts_from
 has_starts b [] some = inr refl
 has_starts b (s ∷ strings) some =
     let all : List (List ℕ) = s ∷ strings in
-    let many = starts_many b 0 0 (pieces_from b 0 [] all) some in
-    let zeros : 0 + length (pieces_from b 0 [] all) ≡ length all = omega (arith, many_pieces b 0 [] all) in
+    let many = starts_many b 0 0 (encode_entries b 0 [] all) some in
+    let zeros : 0 + length (encode_entries b 0 [] all) ≡ length all = omega (arith, entry_count b 0 [] all) in
     omega (arith, many, nothing_before b some, ap (λ k. (k + (b - 1)) / b) zeros)
 
 few_blocks : (b n : ℕ) → 1 ≤ b → (n + (b - 1)) / b ≤ n
@@ -204,11 +204,11 @@ few_blocks b n some =
 
 few_starts : (b : ℕ) (strings : List (List ℕ)) → 1 ≤ b → length (starts_of b strings) ≤ length strings + 1
 few_starts b strings some =
-    let many = starts_many b 0 0 (pieces_from b 0 [] strings) some in
-    let zeros : 0 + length (pieces_from b 0 [] strings) ≡ length strings = omega (arith, many_pieces b 0 [] strings) in
+    let many = starts_many b 0 0 (encode_entries b 0 [] strings) some in
+    let zeros : 0 + length (encode_entries b 0 [] strings) ≡ length strings = omega (arith, entry_count b 0 [] strings) in
     omega (arith, many, nothing_before b some, ap (λ k. (k + (b - 1)) / b) zeros, few_blocks b (length strings) some)
 
-can_stand : (b : ℕ) (strings : List (List ℕ)) → 1 ≤ b → b < 2 ^ 64 → AreStrings strings → length (packed_of b strings) + 1 < 2 ^ 64 → CanBeWritten strings b (starts_of b strings) (packed_of b strings)
+can_stand : (b : ℕ) (strings : List (List ℕ)) → 1 ≤ b → b < 2 ^ 64 → AreSectionStrings strings → length (packed_of b strings) + 1 < 2 ^ 64 → CanBeWritten strings b (starts_of b strings) (packed_of b strings)
 can_stand b strings some low are short =
     let enough = enough_bytes b 0 [] strings in
     record {
@@ -216,34 +216,34 @@ can_stand b strings some low are short =
       short = omega (arith, short);
       block = low;
       few_starts = omega (arith, few_starts b strings some, enough, short);
-      starts_fit = λ k. omega (arith, starts_low b 0 0 (pieces_from b 0 [] strings) k, short);
+      starts_fit = λ k. omega (arith, starts_low b 0 0 (encode_entries b 0 [] strings) k, short);
       some = λ _. some;
       started = has_starts b strings some;
-      folded = folded_found b strings (packed_of b strings) (starts_of b strings) (folded b strings some (omega (arith, short)));
+      folded = front_coded_found b strings (packed_of b strings) (starts_of b strings) (folded b strings some (omega (arith, short)));
       strings_are = are;
     }
 
-pub canonical_stands : (b : ℕ) (strings : List (List ℕ)) (bytes : List ℕ) (at end : ℕ) → 1 ≤ b → b < 2 ^ 64 → AreStrings strings → length bytes < 2 ^ 64 → Stands bytes at (canonical b strings) end
+pub canonical_encoded : (b : ℕ) (strings : List (List ℕ)) (bytes : List ℕ) (at end : ℕ) → 1 ≤ b → b < 2 ^ 64 → AreSectionStrings strings → length bytes < 2 ^ 64 → HasSlice bytes at (canonical b strings) end
     → IsSection (canonical_parts b strings at) bytes at
 unfolding canonical canonical_parts
-canonical_stands b strings bytes at end some low are small h =
+canonical_encoded b strings bytes at end some low are small h =
     let P : List ℕ = packed_of b strings in
-    let S : List ℕ = numbers_spelling (starts_of b strings) in
-    let H : List ℕ = section_head (length strings) (length P) b in
-    let C : List ℕ = little_bytes 4 (code32 P) in
-    let short : length (packed_of b strings) + 1 < 2 ^ 64 = omega (arith, h.end_is, h.within, small, length-append H (code8 H ∷ (S ++ (P ++ C))), length-append S (P ++ C), length-append P C) in
+    let S : List ℕ = numbers_encoding (starts_of b strings) in
+    let H : List ℕ = section_preamble (length strings) (length P) b in
+    let C : List ℕ = little_bytes 4 (crc32 P) in
+    let short : length (packed_of b strings) + 1 < 2 ^ 64 = omega (arith, h.end_is, h.within, small, length-append H (crc8 H ∷ (S ++ (P ++ C))), length-append S (P ++ C), length-append P C) in
     subst (λ (e : ℕ). IsSection (record {
       strings = strings;
       block_size = b;
       packed = packed_of b strings;
-      packed_place = at + length (section_head (length strings) (length (packed_of b strings)) b) + 1 + length (numbers_spelling (starts_of b strings));
+      packed_offset = at + length (section_preamble (length strings) (length (packed_of b strings)) b) + 1 + length (numbers_encoding (starts_of b strings));
       end = e;
-    }) bytes at) h.end_is (section_stands strings b (starts_of b strings) (packed_of b strings) bytes at end (can_stand b strings some low are short) h)
+    }) bytes at) h.end_is (section_encoded strings b (starts_of b strings) (packed_of b strings) bytes at end (can_stand b strings some low are short) h)
 
 -- The canonical bytes are read back, whatever precedes and follows them.
-pub canonical_again : (b : ℕ) (strings : List (List ℕ)) (before after : List ℕ) → 1 ≤ b → b < 2 ^ 64 → AreStrings strings
+pub canonical_again : (b : ℕ) (strings : List (List ℕ)) (before after : List ℕ) → 1 ≤ b → b < 2 ^ 64 → AreSectionStrings strings
     → IsBytes (before ++ canonical b strings ++ after) → length (before ++ canonical b strings ++ after) < 2 ^ 64
     → section_at (before ++ canonical b strings ++ after) (length before) ≡ Ok (canonical_parts b strings (length before))
 canonical_again b strings before after some low are fits small =
     (section_exact (before ++ canonical b strings ++ after) (length before) fits).only (canonical_parts b strings (length before))
-    (canonical_stands b strings (before ++ canonical b strings ++ after) (length before) (length before + length (canonical b strings)) some low are small (Stands-after before (canonical b strings) after))
+    (canonical_encoded b strings (before ++ canonical b strings ++ after) (length before) (length before + length (canonical b strings)) some low are small (HasSlice-after before (canonical b strings) after))

@@ -3,8 +3,8 @@ use Rattle.std.proofs.Common.{◌≡◌, ℕ, ◌/◌, ◌^◌, ◌<◌, false, 
 use Rattle.std.specs.Prelude.{slice_get}
 use Rattle.std.proofs.lemmas.Option.{slice_get-get_or}
 use Rattle.hdt_seq.specs.declared.bits.Bits.{Bits}
-use Rattle.hdt_seq.specs.Little.{bit}
-use Rattle.hdt_seq.specs.Laws.Little.{length-bits, get_or-bits}
+use Rattle.hdt_seq.specs.PackedBits.{bit}
+use Rattle.hdt_seq.specs.Laws.LittleEndian.{length-bits, get_or-bits}
 use Rattle.hdt_seq.specs.Bits.{bits_of}
 
 -- the count is the number of bits, which is below 2 ^ 64
@@ -25,4 +25,4 @@ bits_get s i lt = slice_get-get_or (bits_of s) i false lt ∙ ap Some (bit_is s 
 
 -- the byte with bit i is within the packed bytes
 pub bit_within : (s : Bits) (i : ℕ) → i < length (bits_of s) → i / 8 < length s.packed.now
-bit_within s i lt = omega (arith, bits_len s, lt, s.room)
+bit_within s i lt = omega (arith, bits_len s, lt, s.packed_fits)

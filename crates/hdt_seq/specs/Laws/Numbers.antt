@@ -2,8 +2,8 @@
 use Rattle.std.proofs.Common.{◌≡◌, ℕ, ◌*◌, ◌^◌, ◌<◌, ◌≤◌, length, get_or, arith}
 use Rattle.std.proofs.Math.Nat.{mul-le-mul_left, pow-le-pow_right}
 use Rattle.hdt_seq.specs.declared.numbers.Numbers.{Numbers}
-use Rattle.hdt_seq.specs.Little.{entry}
-use Rattle.hdt_seq.specs.Laws.Little.{length-entries, get_or-entries, entry_fits}
+use Rattle.hdt_seq.specs.PackedBits.{entry}
+use Rattle.hdt_seq.specs.Laws.LittleEndian.{length-entries, get_or-entries, entry_fits}
 use Rattle.hdt_seq.specs.Numbers.{numbers_of}
 
 -- the count is the number of entries, which is below 2 ^ 64
@@ -23,4 +23,4 @@ numbers_get s i lt = get_or-entries s.packed.now s.width s.count i (omega (arith
 pub number_within : (s : Numbers) (i : ℕ) → i < length (numbers_of s) → s.width * i ≤ 8 * length s.packed.now
 number_within s i lt =
     let le : i ≤ s.count = omega (arith, numbers_len s, lt) in
-    omega (arith, mul-le-mul_left s.width le, s.room)
+    omega (arith, mul-le-mul_left s.width le, s.packed_fits)

@@ -9,9 +9,9 @@ use Rattle.std.proofs.lemmas.List.{get_or-map, length-map, length-take, take_mor
 use Rattle.std.proofs.lemmas.List.FromFn.{fill_by_all}
 use Rattle.byteorder.specs.Endian.{little_bytes}
 use Rattle.byteorder.specs.Numbers.{length-bytes_low_first}
-use Rattle.hdt_wire.specs.Rows.{IsBytes}
-use Rattle.hdt_wire.specs.Control.{Keeps}
-use Rattle.hdt_seq.specs.Little.{EachFits, little, bytes_for, entry, entries, bit, bits, joined, packed, bit_number, packed_bits}
+use Rattle.hdt_wire.specs.Checks.{IsBytes}
+use Rattle.hdt_wire.specs.Control.{IsPrefixOf}
+use Rattle.hdt_seq.specs.PackedBits.{EachFits, little, bytes_for, entry, entries, bit, bits, packed_number, packed, bit_number, packed_bits}
 
 -- ---- the bytes of a number
 
@@ -114,53 +114,53 @@ none : (width : ℕ) → 2 ^ (width * 0) ≡ 1
 none width = let e : width * 0 ≡ 0 = omega arith in ap (λ (m : ℕ). 2 ^ m) e
 
 -- one entry more
-pub joined_push : (width : ℕ) (xs : List ℕ) (x : ℕ) → joined width (xs ++ x ∷ []) ≡ joined width xs + x * 2 ^ (width * length xs)
-joined_push width [] x = rw (none width) (omega arith)
-joined_push width (y ∷ ys) x =
-    rw (joined_push width ys x, wider width (length ys), scaled (2 ^ width) (joined width ys) x (2 ^ (width * length ys))) (omega arith)
+pub packed_number_push : (width : ℕ) (xs : List ℕ) (x : ℕ) → packed_number width (xs ++ x ∷ []) ≡ packed_number width xs + x * 2 ^ (width * length xs)
+packed_number_push width [] x = rw (none width) (omega arith)
+packed_number_push width (y ∷ ys) x =
+    rw (packed_number_push width ys x, wider width (length ys), scaled (2 ^ width) (packed_number width ys) x (2 ^ (width * length ys))) (omega arith)
 
-pub joined_below : (width : ℕ) (xs : List ℕ) → EachFits width xs → joined width xs < 2 ^ (width * length xs)
-joined_below width [] fits = rw (none width) (omega arith)
-joined_below width (x ∷ xs) fits =
-    let rest : joined width xs + 1 ≤ 2 ^ (width * length xs) = omega (arith, joined_below width xs (λ i. fits (suc i))) in
-    rw (wider width (length xs)) (omega (arith, fits 0, mul-le-mul_left (2 ^ width) rest, mul-add (2 ^ width) (joined width xs) 1))
+pub packed_number_below : (width : ℕ) (xs : List ℕ) → EachFits width xs → packed_number width xs < 2 ^ (width * length xs)
+packed_number_below width [] fits = rw (none width) (omega arith)
+packed_number_below width (x ∷ xs) fits =
+    let rest : packed_number width xs + 1 ≤ 2 ^ (width * length xs) = omega (arith, packed_number_below width xs (λ i. fits (suc i))) in
+    rw (wider width (length xs)) (omega (arith, fits 0, mul-le-mul_left (2 ^ width) rest, mul-add (2 ^ width) (packed_number width xs) 1))
 
-pub joined_entry : (width : ℕ) (xs : List ℕ) (i : ℕ) → EachFits width xs → i < length xs → joined width xs / 2 ^ (width * i) % 2 ^ width ≡ get_or xs i 0
-joined_entry width [] i fits lt = absurd (omega (arith, lt))
-joined_entry width (x ∷ xs) zero fits lt =
-    rw (none width) (ap (λ (n : ℕ). n % 2 ^ width) (div-one (x + 2 ^ width * joined width xs)) ∙ add-mul-mod_self_left x (2 ^ width) (joined width xs) ∙ mod-eq_of_lt (fits 0))
-joined_entry width (x ∷ xs) (suc i) fits lt =
-    let rest : ℕ = joined width xs in
+pub packed_number_entry : (width : ℕ) (xs : List ℕ) (i : ℕ) → EachFits width xs → i < length xs → packed_number width xs / 2 ^ (width * i) % 2 ^ width ≡ get_or xs i 0
+packed_number_entry width [] i fits lt = absurd (omega (arith, lt))
+packed_number_entry width (x ∷ xs) zero fits lt =
+    rw (none width) (ap (λ (n : ℕ). n % 2 ^ width) (div-one (x + 2 ^ width * packed_number width xs)) ∙ add-mul-mod_self_left x (2 ^ width) (packed_number width xs) ∙ mod-eq_of_lt (fits 0))
+packed_number_entry width (x ∷ xs) (suc i) fits lt =
+    let rest : ℕ = packed_number width xs in
     let order : x + 2 ^ width * rest ≡ rest * 2 ^ width + x = omega (arith, mul_comm (2 ^ width) rest) in
     let first : (x + 2 ^ width * rest) / 2 ^ width ≡ rest = ap (λ (n : ℕ). n / 2 ^ width) order ∙ shr_high rest width x (fits 0) in
     let place : width * suc i ≡ width + width * i = omega arith in
     ap (λ (n : ℕ). (x + 2 ^ width * rest) / 2 ^ n % 2 ^ width) place
     ∙ ap (λ (n : ℕ). n % 2 ^ width) (sym (shr-shr (x + 2 ^ width * rest) width (width * i)) ∙ ap (λ (n : ℕ). n / 2 ^ (width * i)) first)
-    ∙ joined_entry width xs i (λ j. fits (suc j)) (omega (arith, lt))
+    ∙ packed_number_entry width xs i (λ j. fits (suc j)) (omega (arith, lt))
 
 -- ---- packed entries
 
 pub length-packed : (width : ℕ) (xs : List ℕ) → length (packed width xs) ≡ bytes_for (width * length xs)
 unfolding packed
-length-packed width xs = length-bytes_low_first 0 (bytes_for (width * length xs)) (joined width xs)
+length-packed width xs = length-bytes_low_first 0 (bytes_for (width * length xs)) (packed_number width xs)
 
 pub IsBytes-packed : (width : ℕ) (xs : List ℕ) → IsBytes (packed width xs)
 unfolding packed
-IsBytes-packed width xs = IsBytes-little_bytes (bytes_for (width * length xs)) (joined width xs)
+IsBytes-packed width xs = IsBytes-little_bytes (bytes_for (width * length xs)) (packed_number width xs)
 
-little-packed : (width : ℕ) (xs : List ℕ) → EachFits width xs → little (packed width xs) ≡ joined width xs
+little-packed : (width : ℕ) (xs : List ℕ) → EachFits width xs → little (packed width xs) ≡ packed_number width xs
 unfolding packed
 little-packed width xs fits =
     let n : ℕ = width * length xs in
     let room : 2 ^ n ≤ 2 ^ (8 * bytes_for n) = pow-le-pow_right (omega arith) (omega arith) in
-    little-little_bytes (bytes_for n) (joined width xs) (omega (arith, joined_below width xs fits, room))
+    little-little_bytes (bytes_for n) (packed_number width xs) (omega (arith, packed_number_below width xs fits, room))
 
 -- entries that were packed are read back
 pub entries_packed : (width : ℕ) (xs : List ℕ) → EachFits width xs → entries (packed width xs) width (length xs) ≡ xs
 unfolding entries entry
 entries_packed width xs fits =
     let number = little-packed width xs fits in
-    sym (fill_by_all (entry (packed width xs) width) xs (length xs) 0 refl (λ k lt. sym (ap (λ (n : ℕ). n / 2 ^ (width * k) % 2 ^ width) number ∙ joined_entry width xs k fits lt)))
+    sym (fill_by_all (entry (packed width xs) width) xs (length xs) 0 refl (λ k lt. sym (ap (λ (n : ℕ). n / 2 ^ (width * k) % 2 ^ width) number ∙ packed_number_entry width xs k fits lt)))
 
 bit_small : (b : Bool) → bit_number b < 2
 bit_small true = omega arith
@@ -192,8 +192,8 @@ bit_packed xs k lt =
     let inside : k < length ns = omega (arith, length-map xs bit_number, lt) in
     let one : 1 * k ≡ k = omega arith in
     let number : little (packed 1 ns) / 2 ^ k % 2 ≡ bit_number (get_or xs k false) =
-    ap (λ (n : ℕ). n / 2 ^ k % 2) (little-packed 1 ns (bits_fit xs)) ∙ ap (λ (n : ℕ). joined 1 ns / 2 ^ n % 2 ^ 1) (sym one)
-    ∙ joined_entry 1 ns k (bits_fit xs) inside ∙ get_or-map bit_number xs k false 0 lt in
+    ap (λ (n : ℕ). n / 2 ^ k % 2) (little-packed 1 ns (bits_fit xs)) ∙ ap (λ (n : ℕ). packed_number 1 ns / 2 ^ n % 2 ^ 1) (sym one)
+    ∙ packed_number_entry 1 ns k (bits_fit xs) inside ∙ get_or-map bit_number xs k false 0 lt in
     ap (λ (n : ℕ). eqb n 1) number ∙ bit_back (get_or xs k false)
 
 pub bits_packed : (xs : List Bool) → bits (packed_bits xs) (length xs) ≡ xs
@@ -205,16 +205,16 @@ bits_packed xs = sym (fill_by_all (bit (packed_bits xs)) xs (length xs) false re
 -- the entries are packed: all groups of eight bytes are appended, and the remaining bits are in the word
 pub record Packs (width : ℕ) (xs : List ℕ) (word filled : ℕ) (before out : List ℕ) : Type 0 where
   pub filled_is : filled ≡ width * length xs % 64
-  pub word_is : word ≡ joined width xs / 2 ^ (8 * (8 * (width * length xs / 64)))
-  pub out_is : out ≡ before ++ little_bytes (8 * (width * length xs / 64)) (joined width xs)
+  pub word_is : word ≡ packed_number width xs / 2 ^ (8 * (8 * (width * length xs / 64)))
+  pub out_is : out ≡ before ++ little_bytes (8 * (width * length xs / 64)) (packed_number width xs)
 
 -- the word has no more bits than `filled`
 pub Packs-word : (width : ℕ) (xs : List ℕ) (word filled : ℕ) (before out : List ℕ) → EachFits width xs → Packs width xs word filled before out → word < 2 ^ filled
 Packs-word width xs word filled before out fits h =
     let n : ℕ = width * length xs in
     let split : n ≡ n % 64 + 8 * (8 * (n / 64)) = omega arith in
-    let below : joined width xs < 2 ^ (n % 64 + 8 * (8 * (n / 64))) = subst (λ (m : ℕ). joined width xs < 2 ^ m) split (joined_below width xs fits) in
-    rw (h.word_is, h.filled_is) (shr_below (joined width xs) (n % 64) (8 * (8 * (n / 64))) below)
+    let below : packed_number width xs < 2 ^ (n % 64 + 8 * (8 * (n / 64))) = subst (λ (m : ℕ). packed_number width xs < 2 ^ m) split (packed_number_below width xs fits) in
+    rw (h.word_is, h.filled_is) (shr_below (packed_number width xs) (n % 64) (8 * (8 * (n / 64))) below)
 
 -- one entry more
 pub Packs-more : (width : ℕ) (xs : List ℕ) (word filled : ℕ) (before out : List ℕ) (x : ℕ) → Packs width xs word filled before out
@@ -223,13 +223,13 @@ Packs-more width xs word filled before out x h =
     let n : ℕ = width * length xs in
     let k : ℕ = 8 * (n / 64) in
     let m : ℕ = 8 * ((filled + width) / 64) in
-    let v : ℕ = joined width xs in
-    let v' : ℕ = joined width (xs ++ x ∷ []) in
+    let v : ℕ = packed_number width xs in
+    let v' : ℕ = packed_number width (xs ++ x ∷ []) in
     let size : width * length (xs ++ x ∷ []) ≡ n + width = (let e : length (xs ++ x ∷ []) ≡ suc (length xs) = omega (arith, length-append xs (x ∷ [])) in rw e (omega arith)) in
     let split : n ≡ filled + 8 * k = omega (arith, h.filled_is) in
     let place : 2 ^ n ≡ 2 ^ filled * 2 ^ (8 * k) = ap (λ (i : ℕ). 2 ^ i) split ∙ pow-add 2 filled (8 * k) in
     let high : x * 2 ^ n ≡ x * 2 ^ filled * 2 ^ (8 * k) = ap (λ (i : ℕ). x * i) place ∙ sym (mul_assoc x (2 ^ filled) (2 ^ (8 * k))) in
-    let more : v' ≡ v + x * 2 ^ filled * 2 ^ (8 * k) = joined_push width xs x ∙ ap (λ (i : ℕ). v + i) high in
+    let more : v' ≡ v + x * 2 ^ filled * 2 ^ (8 * k) = packed_number_push width xs x ∙ ap (λ (i : ℕ). v + i) high in
     let above : v' / 2 ^ (8 * k) ≡ word + x * 2 ^ filled =
     ap (λ (i : ℕ). i / 2 ^ (8 * k)) more ∙ add-mul-div_right v (x * 2 ^ filled) (pow_pos (8 * k)) ∙ ap (λ (i : ℕ). i + x * 2 ^ filled) (sym h.word_is) in
     let k' : 8 * ((n + width) / 64) ≡ k + m = omega (arith, h.filled_is) in
@@ -250,7 +250,7 @@ Packs-all width xs word filled before out h =
     let n : ℕ = width * length xs in
     let k : ℕ = 8 * (n / 64) in
     let whole : bytes_for n ≡ k + (filled + 7) / 8 = omega (arith, h.filled_is) in
-    rw (whole, bytes_more k ((filled + 7) / 8) (joined width xs), ← h.word_is, h.out_is) (append_assoc before (little_bytes k (joined width xs)) (little_bytes ((filled + 7) / 8) word))
+    rw (whole, bytes_more k ((filled + 7) / 8) (packed_number width xs), ← h.word_is, h.out_is) (append_assoc before (little_bytes k (packed_number width xs)) (little_bytes ((filled + 7) / 8) word))
 
 -- ---- the invariant of the loop over the entries
 
@@ -272,5 +272,5 @@ pub Packs-end : (width i : ℕ) (xs : List ℕ) (word filled : ℕ) (before out 
 Packs-end width i xs word filled before out count out' le is h e =
     e ∙ ap (λ (n : ℕ). out ++ little_bytes n word) is ∙ Packs-all width (take i xs) word filled before out h ∙ ap (λ (t : List ℕ). before ++ packed width t) (take_all i xs le)
 
-pub Packs-keeps : (width : ℕ) (xs : List ℕ) (word filled : ℕ) (before out out' : List ℕ) → Packs width xs word filled before out → out' ≡ out → Keeps before out'
-Packs-keeps width xs word filled before out out' h e = ap (take (length before)) (e ∙ h.out_is) ∙ take-append_seam before (little_bytes (8 * (width * length xs / 64)) (joined width xs))
+pub Packs-keeps : (width : ℕ) (xs : List ℕ) (word filled : ℕ) (before out out' : List ℕ) → Packs width xs word filled before out → out' ≡ out → IsPrefixOf before out'
+Packs-keeps width xs word filled before out out' h e = ap (take (length before)) (e ∙ h.out_is) ∙ take-append_seam before (little_bytes (8 * (width * length xs / 64)) (packed_number width xs))

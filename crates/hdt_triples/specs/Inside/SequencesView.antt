@@ -1,6 +1,6 @@
 -- The view of four built sequences as lists.
-use Rattle.hdt_triples.specs.Counting.{BitmapTriples}
+use Rattle.hdt_triples.specs.TripleSequences.{BitmapTriples}
 use Rattle.hdt_triples.specs.declared.sequences.Sequences.{Sequences}
 
-unfoldable pub bitmap_made : Sequences → BitmapTriples
-bitmap_made s = record { my = s.my.items; mz = s.mz.items; ys = s.ys.items; zs = s.zs.items }
+unfoldable pub sequences_view : Sequences → BitmapTriples
+sequences_view s = record { bitmap_y = s.bitmap_y.items; bitmap_z = s.bitmap_z.items; array_y = s.array_y.items; array_z = s.array_z.items }

@@ -4,44 +4,44 @@ use Rattle.std.specs.List.{dedup, dedup_from}
 use Rattle.std.proofs.lemmas.List.{take_all, take_more}
 use Rattle.std.proofs.lemmas.List.Sums.{sum_by-cons}
 use Rattle.std.proofs.lemmas.Bool.{eqb-true, eq-eqb}
-use Rattle.hdt_seq.specs.Marks.{marks_before}
-use Rattle.hdt_seq.specs.Laws.Marks.{none_before, marks_before_last}
-use Rattle.hdt_triples.specs.Groups.{last_marks, last_marks_from}
+use Rattle.hdt_seq.specs.RankSelect.{ones_before}
+use Rattle.hdt_seq.specs.Laws.RankSelect.{ones_before_at_0, ones_before_last}
+use Rattle.hdt_triples.specs.Groups.{group_end_bits, group_end_bits_from}
 
-marks_cons : (b : Bool) (bits : List Bool) (i : ℕ) → marks_before (b ∷ bits) (suc i) ≡ cond b 1 0 + marks_before bits i
-unfolding marks_before
-marks_cons b bits i = sum_by-cons (λ x. cond x 1 0) b (take i bits)
+ones_before_cons : (b : Bool) (bits : List Bool) (i : ℕ) → ones_before (b ∷ bits) (suc i) ≡ cond b 1 0 + ones_before bits i
+unfolding ones_before
+ones_before_cons b bits i = sum_by-cons (λ x. cond x 1 0) b (take i bits)
 
 module _ {X : Type 0} (same : X → X → Bool) where
-  pub length-last_marks_from : (k : X) (xs : List X) → length (last_marks_from same k xs) ≡ suc (length xs)
-  length-last_marks_from k [] = refl
-  length-last_marks_from k (x ∷ xs) = ap suc (length-last_marks_from x xs)
+  pub length-group_end_bits_from : (k : X) (xs : List X) → length (group_end_bits_from same k xs) ≡ suc (length xs)
+  length-group_end_bits_from k [] = refl
+  length-group_end_bits_from k (x ∷ xs) = ap suc (length-group_end_bits_from x xs)
 
-  pub length-last_marks : (xs : List X) → length (last_marks same xs) ≡ length xs
-  length-last_marks [] = refl
-  length-last_marks (x ∷ xs) = length-last_marks_from x xs
+  pub length-group_end_bits : (xs : List X) → length (group_end_bits same xs) ≡ length xs
+  length-group_end_bits [] = refl
+  length-group_end_bits (x ∷ xs) = length-group_end_bits_from x xs
 
   -- The last bit is 1.
-  pub last_marked : (k : X) (xs : List X) → slice_get (last_marks_from same k xs) (length xs) ≡ Some true
+  pub last_marked : (k : X) (xs : List X) → slice_get (group_end_bits_from same k xs) (length xs) ≡ Some true
   last_marked k [] = refl
   last_marked k (x ∷ xs) = last_marked x xs
 
   -- A bit before the last one is 1 if the next element differs.
-  pub mark_inside : (xs : List X) (i : ℕ) (d : X) → i + 1 < length xs → get_or (last_marks same xs) i false ≡ not (same (get_or xs (i + 1) d) (get_or xs i d))
-  mark_inside [] i d h = absurd (omega arith)
-  mark_inside (x ∷ []) i d h = absurd (omega arith)
-  mark_inside (x ∷ y ∷ xs) zero d h = refl
-  mark_inside (x ∷ y ∷ xs) (suc i) d h =
+  pub end_bit_inside : (xs : List X) (i : ℕ) (d : X) → i + 1 < length xs → get_or (group_end_bits same xs) i false ≡ not (same (get_or xs (i + 1) d) (get_or xs i d))
+  end_bit_inside [] i d h = absurd (omega arith)
+  end_bit_inside (x ∷ []) i d h = absurd (omega arith)
+  end_bit_inside (x ∷ y ∷ xs) zero d h = refl
+  end_bit_inside (x ∷ y ∷ xs) (suc i) d h =
       let e : suc (i + 1) ≡ suc i + 1 = omega arith in
-      mark_inside (y ∷ xs) i d (omega arith) ∙ ap (λ j. not (same (get_or (x ∷ y ∷ xs) j d) (get_or (y ∷ xs) i d))) e
+      end_bit_inside (y ∷ xs) i d (omega arith) ∙ ap (λ j. not (same (get_or (x ∷ y ∷ xs) j d) (get_or (y ∷ xs) i d))) e
 
   -- The last bit is 1.
-  pub mark_at_end : (xs : List X) (i : ℕ) → i + 1 ≡ length xs → get_or (last_marks same xs) i false ≡ true
-  mark_at_end [] i h = absurd (omega arith)
-  mark_at_end (x ∷ []) zero h = refl
-  mark_at_end (x ∷ []) (suc i) h = absurd (omega arith)
-  mark_at_end (x ∷ y ∷ xs) zero h = absurd (omega arith)
-  mark_at_end (x ∷ y ∷ xs) (suc i) h = mark_at_end (y ∷ xs) i (omega arith)
+  pub end_bit_at_end : (xs : List X) (i : ℕ) → i + 1 ≡ length xs → get_or (group_end_bits same xs) i false ≡ true
+  end_bit_at_end [] i h = absurd (omega arith)
+  end_bit_at_end (x ∷ []) zero h = refl
+  end_bit_at_end (x ∷ []) (suc i) h = absurd (omega arith)
+  end_bit_at_end (x ∷ y ∷ xs) zero h = absurd (omega arith)
+  end_bit_at_end (x ∷ y ∷ xs) (suc i) h = end_bit_at_end (y ∷ xs) i (omega arith)
 
   head_of : (k : X) (xs : List X) (d : X) → get_or (dedup_from same k xs) 0 d ≡ k
   head_of k [] d = refl
@@ -54,25 +54,25 @@ module _ {X : Type 0} (same : X → X → Bool) where
   module _ (exact : (x y : X) → same x y ≡ true → x ≡ y) where
     -- The 1-bits before index i count the groups before it, so they give the index of its group.
     at_step : (k x : X) (xs : List X) (i : ℕ) (d : X) (b : Bool) → same x k ≡ b
-        → get_or (dedup_from same x xs) (marks_before (last_marks_from same x xs) i) d ≡ get_or (x ∷ xs) i d
-        → get_or (cond b (dedup_from same k xs) (k ∷ dedup_from same x xs)) (cond (not b) 1 0 + marks_before (last_marks_from same x xs) i) d ≡ get_or (x ∷ xs) i d
+        → get_or (dedup_from same x xs) (ones_before (group_end_bits_from same x xs) i) d ≡ get_or (x ∷ xs) i d
+        → get_or (cond b (dedup_from same k xs) (k ∷ dedup_from same x xs)) (cond (not b) 1 0 + ones_before (group_end_bits_from same x xs) i) d ≡ get_or (x ∷ xs) i d
     at_step k x xs i d true e h =
-        let n = marks_before (last_marks_from same x xs) i in
+        let n = ones_before (group_end_bits_from same x xs) i in
         let zero_and : 0 + n ≡ n = omega arith in
         ap (get_or (dedup_from same k xs) (0 + n)) refl ∙ ap (λ j. get_or (dedup_from same k xs) j d) zero_and ∙ ap (λ y. get_or (dedup_from same y xs) n d) (sym (exact x k e)) ∙ h
     at_step k x xs i d false e h =
-        let n = marks_before (last_marks_from same x xs) i in
+        let n = ones_before (group_end_bits_from same x xs) i in
         let one_and : 1 + n ≡ suc n = omega arith in
         ap (λ j. get_or (k ∷ dedup_from same x xs) j d) one_and ∙ h
 
-    pub group_at_from : (k : X) (xs : List X) (i : ℕ) (d : X) → i < suc (length xs) → get_or (dedup_from same k xs) (marks_before (last_marks_from same k xs) i) d ≡ get_or (k ∷ xs) i d
-    group_at_from k xs zero d h = ap (λ n. get_or (dedup_from same k xs) n d) (none_before (last_marks_from same k xs)) ∙ head_of k xs d
+    pub group_at_from : (k : X) (xs : List X) (i : ℕ) (d : X) → i < suc (length xs) → get_or (dedup_from same k xs) (ones_before (group_end_bits_from same k xs) i) d ≡ get_or (k ∷ xs) i d
+    group_at_from k xs zero d h = ap (λ n. get_or (dedup_from same k xs) n d) (ones_before_at_0 (group_end_bits_from same k xs)) ∙ head_of k xs d
     group_at_from k [] (suc i) d h = absurd (omega arith)
     group_at_from k (x ∷ xs) (suc i) d h =
-        ap (λ n. get_or (dedup_from same k (x ∷ xs)) n d) (marks_cons (not (same x k)) (last_marks_from same x xs) i)
+        ap (λ n. get_or (dedup_from same k (x ∷ xs)) n d) (ones_before_cons (not (same x k)) (group_end_bits_from same x xs) i)
         ∙ at_step k x xs i d (same x k) refl (group_at_from x xs i d (omega arith))
 
-    pub group_at : (xs : List X) (i : ℕ) (d : X) → i < length xs → get_or (dedup same xs) (marks_before (last_marks same xs) i) d ≡ get_or xs i d
+    pub group_at : (xs : List X) (i : ℕ) (d : X) → i < length xs → get_or (dedup same xs) (ones_before (group_end_bits same xs) i) d ≡ get_or xs i d
     group_at [] i d h = absurd (omega arith)
     group_at (x ∷ xs) i d h = group_at_from x xs i d h
 
@@ -81,27 +81,27 @@ module _ {X : Type 0} (same : X → X → Bool) where
     count_step k x xs true e n h = let f = ap (λ y. length (dedup_from same y xs)) (exact x k e) in omega arith
     count_step k x xs false e n h = omega arith
 
-    pub groups_from : (k : X) (xs : List X) → marks_before (last_marks_from same k xs) (suc (length xs)) ≡ length (dedup_from same k xs)
-    groups_from k [] = marks_cons true [] 0 ∙ ap (λ n. 1 + n) (none_before [])
-    groups_from k (x ∷ xs) = marks_cons (not (same x k)) (last_marks_from same x xs) (suc (length xs)) ∙ count_step k x xs (same x k) refl _ (groups_from x xs)
+    pub groups_from : (k : X) (xs : List X) → ones_before (group_end_bits_from same k xs) (suc (length xs)) ≡ length (dedup_from same k xs)
+    groups_from k [] = ones_before_cons true [] 0 ∙ ap (λ n. 1 + n) (ones_before_at_0 [])
+    groups_from k (x ∷ xs) = ones_before_cons (not (same x k)) (group_end_bits_from same x xs) (suc (length xs)) ∙ count_step k x xs (same x k) refl _ (groups_from x xs)
 
-    pub groups : (xs : List X) → marks_before (last_marks same xs) (length (last_marks same xs)) ≡ length (dedup same xs)
-    groups [] = none_before []
-    groups (x ∷ xs) = ap (marks_before (last_marks_from same x xs)) (length-last_marks_from x xs) ∙ groups_from x xs
+    pub groups : (xs : List X) → ones_before (group_end_bits same xs) (length (group_end_bits same xs)) ≡ length (dedup same xs)
+    groups [] = ones_before_at_0 []
+    groups (x ∷ xs) = ap (ones_before (group_end_bits_from same x xs)) (length-group_end_bits_from x xs) ∙ groups_from x xs
 
 -- The last bit of a non-empty list is 1.
-pub last_is_marked : {X : Type 0} (same : X → X → Bool) (xs : List X) → 0 < length xs → slice_get (last_marks same xs) (length (last_marks same xs) - 1) ≡ Some true
-last_is_marked same [] h = absurd (omega arith)
-last_is_marked same (x ∷ xs) h =
-    let e : length (last_marks_from same x xs) - 1 ≡ length xs = omega (arith, length-last_marks_from same x xs) in
-    ap (slice_get (last_marks_from same x xs)) e ∙ last_marked same x xs
+pub last_end_bit_is_set : {X : Type 0} (same : X → X → Bool) (xs : List X) → 0 < length xs → slice_get (group_end_bits same xs) (length (group_end_bits same xs) - 1) ≡ Some true
+last_end_bit_is_set same [] h = absurd (omega arith)
+last_end_bit_is_set same (x ∷ xs) h =
+    let e : length (group_end_bits_from same x xs) - 1 ≡ length xs = omega (arith, length-group_end_bits_from same x xs) in
+    ap (slice_get (group_end_bits_from same x xs)) e ∙ last_marked same x xs
 
 -- One iteration of a loop that builds the bitmap.
-pub marks_more : {X : Type 0} (same : X → X → Bool) (xs : List X) (made : List Bool) (i : ℕ) (b : Bool) → i < length xs → b ≡ get_or (last_marks same xs) i false → made ≡ take i (last_marks same xs) → made ++ b ∷ [] ≡ take (i + 1) (last_marks same xs)
-marks_more same xs made i b h is front = (λ j. front j ++ is j ∷ []) ∙ sym (take_more (last_marks same xs) i false (omega (arith, length-last_marks same xs)))
+pub end_bits_more : {X : Type 0} (same : X → X → Bool) (xs : List X) (made : List Bool) (i : ℕ) (b : Bool) → i < length xs → b ≡ get_or (group_end_bits same xs) i false → made ≡ take i (group_end_bits same xs) → made ++ b ∷ [] ≡ take (i + 1) (group_end_bits same xs)
+end_bits_more same xs made i b h is front = (λ j. front j ++ is j ∷ []) ∙ sym (take_more (group_end_bits same xs) i false (omega (arith, length-group_end_bits same xs)))
 
-pub marks_all : {X : Type 0} (same : X → X → Bool) (xs : List X) (made : List Bool) (i : ℕ) → length xs ≤ i → made ≡ take i (last_marks same xs) → made ≡ last_marks same xs
-marks_all same xs made i h is = is ∙ take_all i (last_marks same xs) (omega (arith, length-last_marks same xs))
+pub end_bits_all : {X : Type 0} (same : X → X → Bool) (xs : List X) (made : List Bool) (i : ℕ) → length xs ≤ i → made ≡ take i (group_end_bits same xs) → made ≡ group_end_bits same xs
+end_bits_all same xs made i h is = is ∙ take_all i (group_end_bits same xs) (omega (arith, length-group_end_bits same xs))
 
 -- What holds for all elements holds for all groups.
 module _ {X : Type 0} (same : X → X → Bool) (P : X → Type 0) where
@@ -124,10 +124,10 @@ module _ {X : Type 0} (same : X → X → Bool) (P : X → Type 0) where
 
 -- The group of each element exists.
 module _ {X : Type 0} (same : X → X → Bool) (exact : (x y : X) → same x y ≡ true → x ≡ y) where
-  pub group_within : (xs : List X) (i : ℕ) → i < length xs → marks_before (last_marks same xs) i < length (dedup same xs)
+  pub group_within : (xs : List X) (i : ℕ) → i < length xs → ones_before (group_end_bits same xs) i < length (dedup same xs)
   group_within xs i h =
-      let long = length-last_marks same xs in
-      omega (arith, marks_before_last (last_marks same xs) i (last_is_marked same xs (omega (arith, h))) (omega (arith, h, long)), groups same exact xs)
+      let long = length-group_end_bits same xs in
+      omega (arith, ones_before_last (group_end_bits same xs) i (last_end_bit_is_set same xs (omega (arith, h))) (omega (arith, h, long)), groups same exact xs)
 
   -- What holds for neighbours that differ holds for neighbouring groups.
   module _ (R : X → X → Type 0) where
@@ -165,16 +165,16 @@ module _ where
       let apart : y ≢ x = λ is. let f = eq-eqb y x is in cc in
       omega arith
 
-  counted_from : (x : ℕ) (xs : List ℕ) → ((i d : ℕ) → i + 1 < length (x ∷ xs) → (get_or (x ∷ xs) i d ≤ get_or (x ∷ xs) (i + 1) d) × (get_or (x ∷ xs) (i + 1) d ≤ get_or (x ∷ xs) i d + 1)) → (q d : ℕ) → q < suc (length xs) → get_or (x ∷ xs) q d ≡ x + marks_before (last_marks_from eqb x xs) q
-  counted_from x xs h zero d lt = omega (arith, none_before (last_marks_from eqb x xs))
+  counted_from : (x : ℕ) (xs : List ℕ) → ((i d : ℕ) → i + 1 < length (x ∷ xs) → (get_or (x ∷ xs) i d ≤ get_or (x ∷ xs) (i + 1) d) × (get_or (x ∷ xs) (i + 1) d ≤ get_or (x ∷ xs) i d + 1)) → (q d : ℕ) → q < suc (length xs) → get_or (x ∷ xs) q d ≡ x + ones_before (group_end_bits_from eqb x xs) q
+  counted_from x xs h zero d lt = omega (arith, ones_before_at_0 (group_end_bits_from eqb x xs))
   counted_from x [] h (suc q) d lt = absurd (omega arith)
   counted_from x (y ∷ ys) h (suc q) d lt =
       let r = h 0 d (omega arith) in
       let up = step_by x y (eqb y x) refl r.0 r.1 in
       let rest = counted_from y ys (λ i d below. let next : suc i + 1 ≡ suc (i + 1) = omega arith in subst (λ j. (get_or (y ∷ ys) i d ≤ get_or (x ∷ y ∷ ys) j d) × (get_or (x ∷ y ∷ ys) j d ≤ get_or (y ∷ ys) i d + 1)) next (h (suc i) d (omega arith))) q d (omega arith) in
-      omega (arith, rest, up, marks_cons (not (eqb y x)) (last_marks_from eqb y ys) q)
+      omega (arith, rest, up, ones_before_cons (not (eqb y x)) (group_end_bits_from eqb y ys) q)
 
-  pub counted : (xs : List ℕ) → ((d : ℕ) → 0 < length xs → get_or xs 0 d ≡ 1) → ((i d : ℕ) → i + 1 < length xs → (get_or xs i d ≤ get_or xs (i + 1) d) × (get_or xs (i + 1) d ≤ get_or xs i d + 1)) → (q d : ℕ) → q < length xs → get_or xs q d ≡ marks_before (last_marks eqb xs) q + 1
+  pub counted : (xs : List ℕ) → ((d : ℕ) → 0 < length xs → get_or xs 0 d ≡ 1) → ((i d : ℕ) → i + 1 < length xs → (get_or xs i d ≤ get_or xs (i + 1) d) × (get_or xs (i + 1) d ≤ get_or xs i d + 1)) → (q d : ℕ) → q < length xs → get_or xs q d ≡ ones_before (group_end_bits eqb xs) q + 1
   counted [] first h q d lt = absurd (omega arith)
   counted (x ∷ xs) first h q d lt = omega (arith, counted_from x xs h q d lt, first d (omega arith))
 

@@ -15,10 +15,10 @@ use Rattle.hdt_wire.specs.declared.fault.Fault.{Fault}
 use Rattle.hdt_wire.specs.declared.fault.Reason.TheVariants.{NotHdt, WrongKind, Check16, WrongFormat}
 use Rattle.hdt_wire.specs.declared.control.Kind.{Kind}
 use Rattle.hdt_wire.specs.declared.control.Kind.TheVariants.{Global, Header, Dictionary, Triples}
-use Rattle.hdt_wire.specs.Check.{shift_right, take16, code16}
-use Rattle.hdt_wire.specs.Rows.{bytes_at, text_at, IsBytes, Stands}
-use Rattle.hdt_wire.specs.Laws.Row.{held, bound, not-true, IsBytes-take, IsBytes-drop, IsBytes-front, IsBytes-append, Stands-after, Stands-then, Stands-front, Stands-back, bytes_found, bytes_only, text_found, text_only}
-use Rattle.hdt_wire.specs.Control.{Block, IsBlock, control_at, control, before_code, block_at, cookie, kind_code, format_text, HasNoZero}
+use Rattle.hdt_wire.specs.Crc.{shift_right, crc16_step, crc16}
+use Rattle.hdt_wire.specs.Checks.{bytes_at, text_at, IsBytes, HasSlice}
+use Rattle.hdt_wire.specs.Laws.Checks.{demand_ok, bind_ok, not-true, IsBytes-take, IsBytes-drop, IsBytes-front, IsBytes-append, HasSlice-after, HasSlice-then, HasSlice-front, HasSlice-back, bytes_found, bytes_only, text_found, text_only}
+use Rattle.hdt_wire.specs.Control.{ControlInfo, IsControlAt, control_at, control, control_without_crc, control_info_at, cookie, kind_code, format_text, HasNoZero}
 
 equal : (xs ys : List ℕ) → bytes_eq xs ys ≡ true → xs ≡ ys
 equal xs ys e = (bytes_eq-Decides xs ys).0 e
@@ -35,47 +35,47 @@ two_bytes (x ∷ y ∷ []) size fits =
     rw (low, high) refl
 two_bytes (x ∷ y ∷ z ∷ bs) size fits = absurd (omega (arith, size))
 
-abbrev done_block : Block → Result Block Fault
+abbrev done_block : ControlInfo → Result ControlInfo Fault
 done_block b = Ok b
 
-same_block : (a b : Block) → done_block a ≡ done_block b → a ≡ b
+same_block : (a b : ControlInfo) → done_block a ≡ done_block b → a ≡ b
 same_block a b e = cc
 
 joined : (kind : Kind) (format properties : List ℕ) → format ≡ format_text kind
-    → cookie ++ ((kind_code kind ∷ []) ++ ((format ++ 0 ∷ []) ++ (properties ++ 0 ∷ []))) ≡ before_code kind properties
+    → cookie ++ ((kind_code kind ∷ []) ++ ((format ++ 0 ∷ []) ++ (properties ++ 0 ∷ []))) ≡ control_without_crc kind properties
 joined kind format properties is =
     ap (λ (t : List ℕ). cookie ++ (kind_code kind ∷ t)) (append_assoc format (0 ∷ []) (properties ++ 0 ∷ []) ∙ ap (λ (t : List ℕ). t ++ 0 ∷ (properties ++ 0 ∷ [])) is)
 
 -- what is returned is encoded there
-pub control_found : (kind : Kind) (bytes : List ℕ) (at : ℕ) (block : Block) → IsBytes bytes → control_at kind bytes at ≡ Ok block → IsBlock kind block bytes at
+pub control_found : (kind : Kind) (bytes : List ℕ) (at : ℕ) (block : ControlInfo) → IsBytes bytes → control_at kind bytes at ≡ Ok block → IsControlAt kind block bytes at
 unfolding control_at
 control_found kind bytes at block fits e =
-    bound (bytes_at 4 bytes at) _ _ e (λ mark e1 e. held (bytes_eq mark.0 cookie) at NotHdt _ _ e (λ h1 e.
-    bound (bytes_at 1 bytes mark.1) _ _ e (λ code e2 e. held (bytes_eq code.0 (kind_code kind ∷ [])) mark.1 WrongKind _ _ e (λ h2 e.
-    bound (text_at bytes code.1) _ _ e (λ format e3 e.
-    bound (text_at bytes format.1) _ _ e (λ properties e4 e.
-    bound (bytes_at 2 bytes properties.1) _ _ e (λ check e5 e.
-    held (eqb (little_number 2 check.0) (code16 (slice_range bytes at properties.1))) properties.1 Check16 _ _ e (λ h3 e.
-    held (bytes_eq format.0 (format_text kind)) code.1 WrongFormat _ _ e (λ h4 e.
-    let s1 = bytes_found 4 bytes at mark e1 in
-    let s2 = bytes_found 1 bytes mark.1 code e2 in
+    bind_ok (bytes_at 4 bytes at) _ _ e (λ magic e1 e. demand_ok (bytes_eq magic.0 cookie) at NotHdt _ _ e (λ h1 e.
+    bind_ok (bytes_at 1 bytes magic.1) _ _ e (λ code e2 e. demand_ok (bytes_eq code.0 (kind_code kind ∷ [])) magic.1 WrongKind _ _ e (λ h2 e.
+    bind_ok (text_at bytes code.1) _ _ e (λ format e3 e.
+    bind_ok (text_at bytes format.1) _ _ e (λ properties e4 e.
+    bind_ok (bytes_at 2 bytes properties.1) _ _ e (λ crc_bytes e5 e.
+    demand_ok (eqb (little_number 2 crc_bytes.0) (crc16 (slice_range bytes at properties.1))) properties.1 Check16 _ _ e (λ h3 e.
+    demand_ok (bytes_eq format.0 (format_text kind)) code.1 WrongFormat _ _ e (λ h4 e.
+    let s1 = bytes_found 4 bytes at magic e1 in
+    let s2 = bytes_found 1 bytes magic.1 code e2 in
     let s3 = text_found bytes code.1 format e3 in
     let s4 = text_found bytes format.1 properties e4 in
-    let s5 = bytes_found 2 bytes properties.1 check e5 in
-    let m1 : Stands bytes at cookie mark.1 = subst (λ (t : List ℕ). Stands bytes at t mark.1) (equal mark.0 cookie h1) s1.0 in
-    let m2 : Stands bytes mark.1 (kind_code kind ∷ []) code.1 = subst (λ (t : List ℕ). Stands bytes mark.1 t code.1) (equal code.0 (kind_code kind ∷ []) h2) s2.0 in
-    let t34 = Stands-then bytes code.1 _ format.1 _ properties.1 s3.0 s4.0 in
-    let t24 = Stands-then bytes mark.1 _ code.1 _ properties.1 m2 t34 in
-    let t14 = Stands-then bytes at _ mark.1 _ properties.1 m1 t24 in
+    let s5 = bytes_found 2 bytes properties.1 crc_bytes e5 in
+    let m1 : HasSlice bytes at cookie magic.1 = subst (λ (t : List ℕ). HasSlice bytes at t magic.1) (equal magic.0 cookie h1) s1.0 in
+    let m2 : HasSlice bytes magic.1 (kind_code kind ∷ []) code.1 = subst (λ (t : List ℕ). HasSlice bytes magic.1 t code.1) (equal code.0 (kind_code kind ∷ []) h2) s2.0 in
+    let t34 = HasSlice-then bytes code.1 _ format.1 _ properties.1 s3.0 s4.0 in
+    let t24 = HasSlice-then bytes magic.1 _ code.1 _ properties.1 m2 t34 in
+    let t14 = HasSlice-then bytes at _ magic.1 _ properties.1 m1 t24 in
     let is = equal format.0 (format_text kind) h4 in
-    let front : Stands bytes at (before_code kind properties.0) properties.1 = subst (λ (t : List ℕ). Stands bytes at t properties.1) (joined kind format.0 properties.0 is) t14 in
-    let number : little_number 2 check.0 ≡ code16 (before_code kind properties.0) = eqb-true _ _ h3 ∙ ap code16 front.here in
-    let tail : check.0 ≡ little_bytes 2 (code16 (before_code kind properties.0)) = sym (two_bytes check.0 s5.1 (subst IsBytes s5.0.here (IsBytes-take (check.1 - properties.1) (drop properties.1 bytes) (IsBytes-drop properties.1 bytes fits)))) ∙ ap (little_bytes 2) number in
-    let m5 = subst (λ (t : List ℕ). Stands bytes properties.1 t check.1) tail s5.0 in
+    let front : HasSlice bytes at (control_without_crc kind properties.0) properties.1 = subst (λ (t : List ℕ). HasSlice bytes at t properties.1) (joined kind format.0 properties.0 is) t14 in
+    let number : little_number 2 crc_bytes.0 ≡ crc16 (control_without_crc kind properties.0) = eqb-true _ _ h3 ∙ ap crc16 front.here in
+    let tail : crc_bytes.0 ≡ little_bytes 2 (crc16 (control_without_crc kind properties.0)) = sym (two_bytes crc_bytes.0 s5.1 (subst IsBytes s5.0.here (IsBytes-take (crc_bytes.1 - properties.1) (drop properties.1 bytes) (IsBytes-drop properties.1 bytes fits)))) ∙ ap (little_bytes 2) number in
+    let m5 = subst (λ (t : List ℕ). HasSlice bytes properties.1 t crc_bytes.1) tail s5.0 in
     let size : format.1 ≡ at + 6 + length (format_text kind) = omega (arith, m1.end_is, m2.end_is, s3.0.end_is, length-append format.0 (0 ∷ []), ap length is) in
-    let made : IsBlock kind (record { format = format.0; properties = properties.0; properties_at = format.1; end = check.1 }) bytes at =
-    record { spelled = Stands-then bytes at _ properties.1 _ check.1 front m5; no_zero = s4.1; format = is; properties_at = size } in
-    subst (λ (b : Block). IsBlock kind b bytes at) (same_block _ _ e) made)))))))))
+    let made : IsControlAt kind (record { format = format.0; properties = properties.0; properties_at = format.1; end = crc_bytes.1 }) bytes at =
+    record { spelled = HasSlice-then bytes at _ properties.1 _ crc_bytes.1 front m5; no_zero = s4.1; format = is; properties_at = size } in
+    subst (λ (b : ControlInfo). IsControlAt kind b bytes at) (same_block _ _ e) made)))))))))
 
 -- ---- what is encoded is returned
 
@@ -91,17 +91,17 @@ fits_shifts : (n register : ℕ) → register < 2 ^ 16 → iterate (shift_right 
 fits_shifts zero register small = small
 fits_shifts (suc n) register small = fits_shifts n (shift_right 0xA001 register) (fits_shift register small)
 
-fits_take : (register byte : ℕ) → register < 2 ^ 16 → byte < 256 → take16 register byte < 2 ^ 16
-unfolding take16
+fits_take : (register byte : ℕ) → register < 2 ^ 16 → byte < 256 → crc16_step register byte < 2 ^ 16
+unfolding crc16_step
 fits_take register byte small lt = fits_shifts 8 (bit_xor register byte) (xor_lt 16 register byte small (omega arith))
 
-fits_fold : (register : ℕ) (bytes : List ℕ) → register < 2 ^ 16 → IsBytes bytes → fold take16 register bytes < 2 ^ 16
+fits_fold : (register : ℕ) (bytes : List ℕ) → register < 2 ^ 16 → IsBytes bytes → fold crc16_step register bytes < 2 ^ 16
 fits_fold register [] small fits = small
-fits_fold register (b ∷ bs) small fits = fits_fold (take16 register b) bs (fits_take register b small (fits 0)) (λ i. fits (suc i))
+fits_fold register (b ∷ bs) small fits = fits_fold (crc16_step register b) bs (fits_take register b small (fits 0)) (λ i. fits (suc i))
 
 -- the CRC-16 of bytes is below 2 ^ 16
-pub code16_fits : (bytes : List ℕ) → IsBytes bytes → code16 bytes < 2 ^ 16
-code16_fits bytes fits = fits_fold 0 bytes (lit< tt) fits
+pub crc16_fits : (bytes : List ℕ) → IsBytes bytes → crc16 bytes < 2 ^ 16
+crc16_fits bytes fits = fits_fold 0 bytes (lit< tt) fits
 
 -- a number below 2 ^ 16 is that of its two little-endian bytes
 number_back : (n : ℕ) → n < 2 ^ 16 → little_number 2 (little_bytes 2 n) ≡ n
@@ -137,8 +137,8 @@ front_fits Dictionary = all_bytes (cookie ++ kind_code Dictionary ∷ (format_te
 front_fits Triples = all_bytes (cookie ++ kind_code Triples ∷ (format_text Triples ++ 0 ∷ [])) refl
 
 -- all its numbers are bytes, if those of the properties are
-before_code_fits : (kind : Kind) (properties : List ℕ) → IsBytes properties → IsBytes (before_code kind properties)
-before_code_fits kind properties fits =
+control_without_crc_is_bytes : (kind : Kind) (properties : List ℕ) → IsBytes properties → IsBytes (control_without_crc kind properties)
+control_without_crc_is_bytes kind properties fits =
     let zero_fits : IsBytes (0 ∷ []) = all_bytes (0 ∷ []) refl in
     let back = IsBytes-append properties (0 ∷ []) fits zero_fits in
     let whole = IsBytes-append (cookie ++ kind_code kind ∷ (format_text kind ++ 0 ∷ [])) (properties ++ 0 ∷ []) (front_fits kind) back in
@@ -146,42 +146,42 @@ before_code_fits kind properties fits =
     subst (λ (t : List ℕ). IsBytes (cookie ++ kind_code kind ∷ t)) grouped whole
 
 -- all numbers of encoded control information are bytes
-pub stands_fits : (kind : Kind) (bytes : List ℕ) (at : ℕ) (properties : List ℕ) (end : ℕ) → IsBytes bytes → Stands bytes at (control kind properties) end → IsBytes (before_code kind properties)
-stands_fits kind bytes at properties end fits h =
+pub control_is_bytes : (kind : Kind) (bytes : List ℕ) (at : ℕ) (properties : List ℕ) (end : ℕ) → IsBytes bytes → HasSlice bytes at (control kind properties) end → IsBytes (control_without_crc kind properties)
+control_is_bytes kind bytes at properties end fits h =
     let part : IsBytes (slice_range bytes at end) = IsBytes-take (end - at) (drop at bytes) (IsBytes-drop at bytes fits) in
-    IsBytes-front (before_code kind properties) (little_bytes 2 (code16 (before_code kind properties))) (subst IsBytes h.here part)
+    IsBytes-front (control_without_crc kind properties) (little_bytes 2 (crc16 (control_without_crc kind properties))) (subst IsBytes h.here part)
 
 -- what is encoded there is returned
-pub control_only : (kind : Kind) (bytes : List ℕ) (at : ℕ) (properties : List ℕ) (end : ℕ) → IsBytes (before_code kind properties) → HasNoZero properties
-    → Stands bytes at (control kind properties) end → control_at kind bytes at ≡ Ok (block_at kind properties at end)
+pub control_only : (kind : Kind) (bytes : List ℕ) (at : ℕ) (properties : List ℕ) (end : ℕ) → IsBytes (control_without_crc kind properties) → HasNoZero properties
+    → HasSlice bytes at (control kind properties) end → control_at kind bytes at ≡ Ok (control_info_at kind properties at end)
 unfolding control_at
 control_only kind bytes at properties end fits none h =
     let format : List ℕ = format_text kind in
-    let code : ℕ = code16 (before_code kind properties) in
+    let code : ℕ = crc16 (control_without_crc kind properties) in
     let tail : List ℕ = little_bytes 2 code in
-    let front = Stands-front bytes at (before_code kind properties) tail end h in
-    let s5 = Stands-back bytes at (before_code kind properties) tail end h in
-    let s1 = Stands-front bytes at cookie (kind_code kind ∷ (format ++ 0 ∷ (properties ++ 0 ∷ []))) _ front in
-    let t1 = Stands-back bytes at cookie (kind_code kind ∷ (format ++ 0 ∷ (properties ++ 0 ∷ []))) _ front in
-    let s2 = Stands-front bytes (at + 4) (kind_code kind ∷ []) (format ++ 0 ∷ (properties ++ 0 ∷ [])) _ t1 in
-    let t2 = Stands-back bytes (at + 4) (kind_code kind ∷ []) (format ++ 0 ∷ (properties ++ 0 ∷ [])) _ t1 in
+    let front = HasSlice-front bytes at (control_without_crc kind properties) tail end h in
+    let s5 = HasSlice-back bytes at (control_without_crc kind properties) tail end h in
+    let s1 = HasSlice-front bytes at cookie (kind_code kind ∷ (format ++ 0 ∷ (properties ++ 0 ∷ []))) _ front in
+    let t1 = HasSlice-back bytes at cookie (kind_code kind ∷ (format ++ 0 ∷ (properties ++ 0 ∷ []))) _ front in
+    let s2 = HasSlice-front bytes (at + 4) (kind_code kind ∷ []) (format ++ 0 ∷ (properties ++ 0 ∷ [])) _ t1 in
+    let t2 = HasSlice-back bytes (at + 4) (kind_code kind ∷ []) (format ++ 0 ∷ (properties ++ 0 ∷ [])) _ t1 in
     let grouped : format ++ 0 ∷ (properties ++ 0 ∷ []) ≡ (format ++ 0 ∷ []) ++ (properties ++ 0 ∷ []) = sym (append_assoc format (0 ∷ []) (properties ++ 0 ∷ [])) in
-    let t2' = subst (λ (t : List ℕ). Stands bytes (at + 4 + 1) t (at + length (before_code kind properties))) grouped t2 in
-    let s3 = Stands-front bytes (at + 4 + 1) (format ++ 0 ∷ []) (properties ++ 0 ∷ []) _ t2' in
-    let s4 = Stands-back bytes (at + 4 + 1) (format ++ 0 ∷ []) (properties ++ 0 ∷ []) _ t2' in
-    let number : little_number 2 tail ≡ code16 (slice_range bytes at (at + length (before_code kind properties))) =
-    number_back code (code16_fits (before_code kind properties) fits) ∙ sym (ap code16 front.here) in
+    let t2' = subst (λ (t : List ℕ). HasSlice bytes (at + 4 + 1) t (at + length (control_without_crc kind properties))) grouped t2 in
+    let s3 = HasSlice-front bytes (at + 4 + 1) (format ++ 0 ∷ []) (properties ++ 0 ∷ []) _ t2' in
+    let s4 = HasSlice-back bytes (at + 4 + 1) (format ++ 0 ∷ []) (properties ++ 0 ∷ []) _ t2' in
+    let number : little_number 2 tail ≡ crc16 (slice_range bytes at (at + length (control_without_crc kind properties))) =
+    number_back code (crc16_fits (control_without_crc kind properties) fits) ∙ sym (ap crc16 front.here) in
     let place : at + 4 + 1 + length (format ++ 0 ∷ []) ≡ at + 6 + length format = omega (arith, length-append format (0 ∷ [])) in
     let mark_read = bytes_only 4 bytes at cookie (at + 4) s1 refl in
     let code_read = bytes_only 1 bytes (at + 4) (kind_code kind ∷ []) (at + 4 + 1) s2 refl in
     let format_read = text_only bytes (at + 4 + 1) format _ s3 (format_no_zero kind) in
     let properties_read = text_only bytes (at + 4 + 1 + length (format ++ 0 ∷ [])) properties _ s4 none in
-    let check_read = bytes_only 2 bytes (at + length (before_code kind properties)) tail end s5 refl in
+    let check_read = bytes_only 2 bytes (at + length (control_without_crc kind properties)) tail end s5 refl in
     let number_holds = (Decides-eqb _ _).1 number in
     rw (mark_read, code_read, same (kind_code kind ∷ []), format_read, properties_read, check_read, number_holds, same format, place) refl
 
 -- what was written is read back, whatever precedes and follows it
 pub control_again : (kind : Kind) (before after properties : List ℕ) → IsBytes properties → HasNoZero properties
-    → control_at kind (before ++ control kind properties ++ after) (length before) ≡ Ok (block_at kind properties (length before) (length before + length (control kind properties)))
+    → control_at kind (before ++ control kind properties ++ after) (length before) ≡ Ok (control_info_at kind properties (length before) (length before + length (control kind properties)))
 control_again kind before after properties fits none =
-    control_only kind (before ++ control kind properties ++ after) (length before) properties _ (before_code_fits kind properties fits) none (Stands-after before (control kind properties) after)
+    control_only kind (before ++ control kind properties ++ after) (length before) properties _ (control_without_crc_is_bytes kind properties fits) none (HasSlice-after before (control kind properties) after)

@@ -10,18 +10,18 @@ use Rattle.std.proofs.lemmas.List.{length-take, length-drop, get_or-take, take-t
 use Rattle.std.proofs.lemmas.Grind.{common_steps}
 use Rattle.hdt_wire.specs.declared.fault.Fault.{Fault}
 use Rattle.hdt_wire.specs.declared.fault.Reason.TheVariants.{OverlongNumber, NumberTooLarge}
-use Rattle.hdt_wire.specs.Rows.{IsBytes, SpelledAt}
-use Rattle.hdt_wire.specs.Laws.Row.{held, not-true, not-false, IsBytes-take, IsBytes-drop, Stands-after}
-use Rattle.hdt_wire.specs.VByte.{VByte, digits_by, vbyte, number_of, window, last_of, vbyte_at}
+use Rattle.hdt_wire.specs.Checks.{IsBytes, EncodedAt}
+use Rattle.hdt_wire.specs.Laws.Checks.{demand_ok, not-true, not-false, IsBytes-take, IsBytes-drop, HasSlice-after}
+use Rattle.hdt_wire.specs.VByte.{VByte, vbyte_up_to, vbyte, base128_value, window, last_digit_index, vbyte_at}
 
 -- ---- encoding
 
-pub digits_more : (k v : ℕ) → 128 ≤ v → digits_by (suc k) v ≡ v % 128 ∷ digits_by k (v / 128)
-unfolding digits_by
+pub digits_more : (k v : ℕ) → 128 ≤ v → vbyte_up_to (suc k) v ≡ v % 128 ∷ vbyte_up_to k (v / 128)
+unfolding vbyte_up_to
 digits_more k v high = rw (le-ltb v 128 high) refl
 
-pub digits_last : (k v : ℕ) → v < 128 → digits_by k v ≡ (v + 128) ∷ []
-unfolding digits_by
+pub digits_last : (k v : ℕ) → v < 128 → vbyte_up_to k v ≡ (v + 128) ∷ []
+unfolding vbyte_up_to
 digits_last zero v low = refl
 digits_last (suc k) v low = rw (lt-ltb v 128 low) refl
 
@@ -32,21 +32,21 @@ spelled_more : (text : List ℕ) (v : ℕ) → 128 ≤ v → VByte text (v / 128
 spelled_more [] v high h = absurd h
 spelled_more (c ∷ bs) v high h = (omega arith, v / 128, omega arith, omega arith, h)
 
-spelled_by : (k v : ℕ) → v < 128 ^ suc k → VByte (digits_by k v) v
-unfolding digits_by
+spelled_by : (k v : ℕ) → v < 128 ^ suc k → VByte (vbyte_up_to k v) v
+unfolding vbyte_up_to
 spelled_by zero v lt = (omega (arith, lt), refl)
 spelled_by (suc k) v lt =
     elim (cases_lt v 128) [
       | inl low ↦ rw (digits_last (suc k) v low) (low, refl)
-      | inr high ↦ rw (digits_more k v high) (spelled_more (digits_by k (v / 128)) v high (spelled_by k (v / 128) (below_high k v lt)))
+      | inr high ↦ rw (digits_more k v high) (spelled_more (vbyte_up_to k (v / 128)) v high (spelled_by k (v / 128) (below_high k v lt)))
     ]
 
 -- the encoding of a number encodes it
-pub vbyte_spells : (v : ℕ) → v < 2 ^ 64 → VByte (vbyte v) v
+pub vbyte_encodes : (v : ℕ) → v < 2 ^ 64 → VByte (vbyte v) v
 unfolding vbyte
-vbyte_spells v lt = spelled_by 9 v (omega (arith, lt))
+vbyte_encodes v lt = spelled_by 9 v (omega (arith, lt))
 
-only_by : (text : List ℕ) (k v : ℕ) → v < 128 ^ suc k → VByte text v → text ≡ digits_by k v
+only_by : (text : List ℕ) (k v : ℕ) → v < 128 ^ suc k → VByte text v → text ≡ vbyte_up_to k v
 only_by [] k v lt h = absurd h
 only_by (b ∷ []) k v lt h = rw (digits_last k v h.0) (ap (λ (n : ℕ). n ∷ []) h.1)
 only_by (b ∷ c ∷ bs) zero v lt h = absurd (omega (arith, lt, h.2, h.3))
@@ -58,9 +58,9 @@ only_by (b ∷ c ∷ bs) (suc k) v lt h =
     rw (digits_more k v high) (ap (λ (n : ℕ). n ∷ c ∷ bs) low ∙ ap (λ (t : List ℕ). v % 128 ∷ t) (only_by (c ∷ bs) k (v / 128) (below_high k v lt) rest))
 
 -- nothing else encodes it
-pub vbyte_alone : (text : List ℕ) (v : ℕ) → v < 2 ^ 64 → VByte text v → text ≡ vbyte v
+pub vbyte_unique : (text : List ℕ) (v : ℕ) → v < 2 ^ 64 → VByte text v → text ≡ vbyte v
 unfolding vbyte
-vbyte_alone text v lt h = only_by text 9 v (omega (arith, lt)) h
+vbyte_unique text v lt h = only_by text 9 v (omega (arith, lt)) h
 
 -- ---- reading
 
@@ -81,18 +81,18 @@ first_last seen i lt low high =
 
 -- if the last byte isn't 128, the bytes encode a number that isn't 0
 pub spelled_high : (seen : List ℕ) (i : ℕ) → i < length seen → IsBytes seen → ((k : ℕ) → k < i → get_or seen k 0 < 128) → 128 < get_or seen i 0
-    → VByte (take (suc i) seen) (number_of (take (suc i) seen)) × (0 < number_of (take (suc i) seen))
+    → VByte (take (suc i) seen) (base128_value (take (suc i) seen)) × (0 < base128_value (take (suc i) seen))
 spelled_high [] i lt fits low high = absurd (omega arith)
 spelled_high (b ∷ bs) zero lt fits low high = let f = fits 0 in ((omega arith, omega arith), omega arith)
 spelled_high (b ∷ []) (suc i) lt fits low high = absurd (omega arith)
 spelled_high (b ∷ c ∷ bs) (suc i) lt fits low high =
     let ih = spelled_high (c ∷ bs) i (omega arith) (λ k. fits (suc k)) (λ k h. low (suc k) (omega arith)) high in
     let small : b < 128 = low 0 (omega arith) in
-    let n : ℕ = number_of (take (suc i) (c ∷ bs)) in
+    let n : ℕ = base128_value (take (suc i) (c ∷ bs)) in
     ((small, n, ih.1, omega arith, ih.0), omega (arith, ih.1))
 
 spelled : (seen : List ℕ) (i : ℕ) → i < length seen → IsBytes seen → ((k : ℕ) → k < i → get_or seen k 0 < 128) → 128 ≤ get_or seen i 0 → (i ≡ 0) ⊎ (get_or seen i 0 ≡ 128 → ⊥)
-    → VByte (take (suc i) seen) (number_of (take (suc i) seen))
+    → VByte (take (suc i) seen) (base128_value (take (suc i) seen))
 spelled seen i lt fits low high (inr ne) = (spelled_high seen i lt fits low (omega arith)).0
 spelled [] i lt fits low high (inl e) = absurd (omega arith)
 spelled (b ∷ bs) zero lt fits low high (inl e) = let f = fits 0 in (omega arith, omega arith)
@@ -112,15 +112,15 @@ ok_is : (x y : ℕ × ℕ) → done x ≡ done y → x ≡ y
 ok_is x y e = cc
 
 -- what is returned is encoded there
-pub vbyte_found : (bytes : List ℕ) (at : ℕ) (x : ℕ × ℕ) → IsBytes bytes → vbyte_at bytes at ≡ Ok x → SpelledAt VByte bytes at x.0 x.1
+pub vbyte_found : (bytes : List ℕ) (at : ℕ) (x : ℕ × ℕ) → IsBytes bytes → vbyte_at bytes at ≡ Ok x → EncodedAt VByte bytes at x.0 x.1
 unfolding vbyte_at
 vbyte_found bytes at x fits e =
     let seen : List ℕ = window bytes at in
-    let last : ℕ = last_of seen in
-    let value : ℕ = number_of (take (last + 1) seen) in
-    held (ltb last (length seen)) at _ _ x e (λ ends e.
-    held (ltb value (2 ^ 64)) at NumberTooLarge _ x e (λ small e.
-    held (eqb last 0 || not (eqb (get_or seen last 0) 128)) at OverlongNumber _ x e (λ shortest e.
+    let last : ℕ = last_digit_index seen in
+    let value : ℕ = base128_value (take (last + 1) seen) in
+    demand_ok (ltb last (length seen)) at _ _ x e (λ ends e.
+    demand_ok (ltb value (2 ^ 64)) at NumberTooLarge _ x e (λ small e.
+    demand_ok (eqb last 0 || not (eqb (get_or seen last 0) 128)) at OverlongNumber _ x e (λ shortest e.
     let lt : last < length seen = ltb-true _ _ ends in
     let p : ℕ → Bool = λ n. not (leb 128 n) in
     let low = λ (k : ℕ) (h : k < last). leb-false 128 _ (not-true _ (prefix_len_passes p seen k 0 h)) in
@@ -130,35 +130,35 @@ vbyte_found bytes at x fits e =
     let within : at + last + 1 ≤ length bytes = omega (arith, lt, length-take 10 (drop at bytes), length-drop at bytes) in
     let next : suc last ≡ last + 1 = omega arith in
     let size : last + 1 ≡ at + last + 1 - at = omega arith in
-    let s' : VByte (take (last + 1) seen) value = subst (λ (n : ℕ). VByte (take n seen) (number_of (take n seen))) next s in
+    let s' : VByte (take (last + 1) seen) value = subst (λ (n : ℕ). VByte (take n seen) (base128_value (take n seen))) next s in
     let same : take (last + 1) seen ≡ slice_range bytes at (at + last + 1) = take-take (last + 1) 10 (drop at bytes) short ∙ ap (λ (n : ℕ). take n (drop at bytes)) size in
-    let made : SpelledAt VByte bytes at value (at + last + 1) = record { in_order = omega arith; within = within; spelled = subst (λ (t : List ℕ). VByte t value) same s' } in
-    subst (λ (y : ℕ × ℕ). SpelledAt VByte bytes at y.0 y.1) (ok_is _ _ e) made)))
+    let made : EncodedAt VByte bytes at value (at + last + 1) = record { in_order = omega arith; within = within; spelled = subst (λ (t : List ℕ). VByte t value) same s' } in
+    subst (λ (y : ℕ × ℕ). EncodedAt VByte bytes at y.0 y.1) (ok_is _ _ e) made)))
 
 -- a number that was read is below 2 ^ 64, has one to ten bytes, and ends within the input
-pub record Bounded (bytes : List ℕ) (at v end : ℕ) : Type 0 where
+pub record VByteBounds (bytes : List ℕ) (at v end : ℕ) : Type 0 where
   pub value : v < 2 ^ 64
   pub some : at < end
   pub few : end ≤ at + 10
   pub within : end ≤ length bytes
 
-pub vbyte_bounded : (bytes : List ℕ) (at : ℕ) (x : ℕ × ℕ) → vbyte_at bytes at ≡ Ok x → Bounded bytes at x.0 x.1
+pub vbyte_bounded : (bytes : List ℕ) (at : ℕ) (x : ℕ × ℕ) → vbyte_at bytes at ≡ Ok x → VByteBounds bytes at x.0 x.1
 unfolding vbyte_at
 vbyte_bounded bytes at x e =
     let seen : List ℕ = window bytes at in
-    let last : ℕ = last_of seen in
-    let value : ℕ = number_of (take (last + 1) seen) in
-    held (ltb last (length seen)) at _ _ x e (λ ends e.
-    held (ltb value (2 ^ 64)) at NumberTooLarge _ x e (λ small e.
-    held (eqb last 0 || not (eqb (get_or seen last 0) 128)) at OverlongNumber _ x e (λ shortest e.
+    let last : ℕ = last_digit_index seen in
+    let value : ℕ = base128_value (take (last + 1) seen) in
+    demand_ok (ltb last (length seen)) at _ _ x e (λ ends e.
+    demand_ok (ltb value (2 ^ 64)) at NumberTooLarge _ x e (λ small e.
+    demand_ok (eqb last 0 || not (eqb (get_or seen last 0) 128)) at OverlongNumber _ x e (λ shortest e.
     let lt : last < length seen = ltb-true _ _ ends in
-    let made : Bounded bytes at value (at + last + 1) = record {
+    let made : VByteBounds bytes at value (at + last + 1) = record {
       value = ltb-true _ _ small;
       some = omega arith;
       few = omega (arith, lt, length-take 10 (drop at bytes));
       within = omega (arith, lt, length-take 10 (drop at bytes), length-drop at bytes);
     } in
-    subst (λ (y : ℕ × ℕ). Bounded bytes at y.0 y.1) (ok_is _ _ e) made)))
+    subst (λ (y : ℕ × ℕ). VByteBounds bytes at y.0 y.1) (ok_is _ _ e) made)))
 
 -- the shape of an encoding: its last byte is at index i
 record Ends (text : List ℕ) (v : ℕ) : Type 0 where
@@ -166,7 +166,7 @@ record Ends (text : List ℕ) (v : ℕ) : Type 0 where
   pub len : length text ≡ suc i
   pub low : (k : ℕ) → k < i → get_or text k 0 < 128
   pub high : 128 ≤ get_or text i 0
-  pub number : number_of text ≡ v
+  pub number : base128_value text ≡ v
   pub shortest : 0 < v → get_or text i 0 ≡ 128 → ⊥
   pub zero_alone : v ≡ 0 → i ≡ 0
   pub large : 0 < v → 128 ^ i ≤ v
@@ -214,7 +214,7 @@ canonical : (i byte v : ℕ) → (0 < v → byte ≡ 128 → ⊥) → (v ≡ 0 �
 canonical i byte v shortest zero_alone = grind (arith, common_steps)
 
 -- what is encoded there is returned
-pub vbyte_only : (bytes : List ℕ) (at v end : ℕ) → v < 2 ^ 64 → SpelledAt VByte bytes at v end → vbyte_at bytes at ≡ Ok (v, end)
+pub vbyte_only : (bytes : List ℕ) (at v end : ℕ) → v < 2 ^ 64 → EncodedAt VByte bytes at v end → vbyte_at bytes at ≡ Ok (v, end)
 unfolding vbyte_at
 vbyte_only bytes at v end lt h =
     let text : List ℕ = slice_range bytes at end in
@@ -226,8 +226,8 @@ vbyte_only bytes at v end lt h =
     let inside : t.i < length (take 10 rest) = omega (arith, length-take 10 rest, length-drop at bytes, h.within, h.in_order) in
     let reads = λ (k : ℕ) (le : k < t.i + 1). ap (λ (xs : List ℕ). get_or xs k 0) (sym same) ∙ get_or-take (t.i + 1) (take 10 rest) k 0 le in
     let last_reads : get_or text t.i 0 ≡ get_or (take 10 rest) t.i 0 = reads t.i (omega arith) in
-    let last_is : last_of (window bytes at) ≡ t.i = first_last (take 10 rest) t.i inside (λ k le. rw (← reads k (omega arith)) (t.low k le)) (rw (← last_reads) t.high) in
-    let number : number_of (take (t.i + 1) (take 10 rest)) ≡ v = rw same t.number in
+    let last_is : last_digit_index (window bytes at) ≡ t.i = first_last (take 10 rest) t.i inside (λ k le. rw (← reads k (omega arith)) (t.low k le)) (rw (← last_reads) t.high) in
+    let number : base128_value (take (t.i + 1) (take 10 rest)) ≡ v = rw same t.number in
     let first : ltb t.i (length (take 10 rest)) ≡ true = lt-ltb _ _ inside in
     let second : ltb v (2 ^ 64) ≡ true = lt-ltb _ _ lt in
     let third : (eqb t.i 0 || not (eqb (get_or (take 10 rest) t.i 0) 128)) ≡ true = rw (← last_reads) (canonical t.i (get_or text t.i 0) v t.shortest t.zero_alone) in
@@ -237,11 +237,11 @@ vbyte_only bytes at v end lt h =
 -- what was written is read back, whatever precedes and follows it
 pub vbyte_again : (before after : List ℕ) (v : ℕ) → v < 2 ^ 64 → vbyte_at (before ++ vbyte v ++ after) (length before) ≡ Ok (v, length before + length (vbyte v))
 vbyte_again before after v lt =
-    let s = Stands-after before (vbyte v) after in
+    let s = HasSlice-after before (vbyte v) after in
     vbyte_only (before ++ vbyte v ++ after) (length before) v (length before + length (vbyte v)) lt (record {
       in_order = omega arith;
       within = s.within;
-      spelled = subst (λ (t : List ℕ). VByte t v) (sym s.here) (vbyte_spells v lt);
+      spelled = subst (λ (t : List ℕ). VByte t v) (sym s.here) (vbyte_encodes v lt);
     })
 
 -- no encoding is a prefix of another

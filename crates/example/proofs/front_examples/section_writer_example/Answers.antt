@@ -1,6 +1,6 @@
 use Rattle.std.specs.Borrow.{Bor}
 use Rattle.std.proofs.Common.{ℕ, List, []}
-use Rattle.hdt_front.proofs.Lent.{no_zero_in}
+use Rattle.hdt_front.proofs.BorrowedStrings.{no_zero_in}
 use Rattle.example.proofs.front_examples.section_writer_example.Goals as goal
 
 nothing : Bor (List ℕ)

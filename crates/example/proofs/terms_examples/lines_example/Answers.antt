@@ -1,6 +1,6 @@
 use Rattle.std.proofs.Common.{◌≡◌, false, arith}
 use Rattle.std.proofs.lemmas.Bool.{false_from_ne_true}
-use Rattle.hdt_build.proofs.Runs.{triple_size}
+use Rattle.hdt_build.proofs.DocumentReading.{triple_size}
 use Rattle.example.proofs.terms_examples.lines_example.Goals as goal
 
 pub loop-lines-smaller : goal.loop-lines-smaller

@@ -8,9 +8,9 @@ returns-in_err-put_head c =
     let p = err_from_is_err_and c.from_residual.result c.from_residual.ensures.1 in
     rw p.1 tt
 
-pub returns-in_err-put_written_dictionary : goal.returns-in_err-put_written_dictionary
-returns-in_err-put_written_dictionary c =
-    let p = err_from_is_err_and c.from_residual-in_err-put_written_dictionary.result c.from_residual-in_err-put_written_dictionary.ensures.1 in
+pub returns-in_err-finish_dictionary : goal.returns-in_err-finish_dictionary
+returns-in_err-finish_dictionary c =
+    let p = err_from_is_err_and c.from_residual-in_err-finish_dictionary.result c.from_residual-in_err-finish_dictionary.ensures.1 in
     rw p.1 tt
 
 pub returns-in_err-put_triples : goal.returns-in_err-put_triples
@@ -21,5 +21,5 @@ returns-in_err-put_triples c =
 pub returns : goal.returns
 unfolding canonical_file
 returns c =
-    rw (c.in_ok-put_triples.ensures.ok, c.as_slice.ensures.value, c.in_ok-put_written_dictionary.ensures.ok, c.in_ok-put_head.ensures, c.new-bytes.ensures.items)
+    rw (c.in_ok-put_triples.ensures.ok, c.as_slice.ensures.value, c.in_ok-finish_dictionary.ensures.ok, c.in_ok-put_head.ensures, c.new-bytes.ensures.items)
     (simp append_assoc)

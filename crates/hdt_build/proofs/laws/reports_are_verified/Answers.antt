@@ -1,4 +1,4 @@
-use Rattle.hdt_build.proofs.Again.{made_verified}
+use Rattle.hdt_build.proofs.RewrittenFiles.{made_verified}
 use Rattle.hdt_build.proofs.laws.reports_are_verified.Goals as goal
 
 pub returns-clause-built : goal.returns-clause-built

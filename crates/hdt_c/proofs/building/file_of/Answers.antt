@@ -3,10 +3,10 @@ use mathlib.Core.Path.{refl, ap, sym, subst, ◌∙◌}
 use mathlib.Core.Bool.{true≢false}
 use Rattle.std.specs.Prelude.{◌≡◌, ◌≢◌, ℕ, Bool, true, false, List, Option, Some, Err}
 use Rattle.hdt_wire.specs.Counted.{inner}
-use Rattle.hdt_dict.specs.Strings.{Lent}
+use Rattle.hdt_dict.specs.Strings.{BorrowedString}
 use Rattle.hdt_build.specs.Built.{Builds}
-use Rattle.hdt_build.specs.Options.{AreRight}
-use Rattle.hdt_build.specs.Reading.{TellsBuildFault}
+use Rattle.hdt_build.specs.Options.{AreValidOptions}
+use Rattle.hdt_build.specs.Reading.{IsBuildFaultOf}
 use Rattle.hdt_build.specs.declared.fault.BuildFault.{BuildFault}
 use Rattle.hdt_build.specs.declared.fault.BuildFault.TheVariants.{Line, NoTriples, BadOptions, OutOfMemory, Write}
 use Rattle.hdt_build.specs.declared.options.Options.{Options}
@@ -22,7 +22,7 @@ is_bad (Write n) = false
 
 -- the error that is returned is in the options or in the text
 stands : (text base : List ℕ) (b : ℕ) (options : Options) → AreGivenOptions base b options → (after : Option (List ℕ)) (fault : BuildFault)
-    → (fault ≡ BadOptions → AreRight options → ⊥) → (fault ≢ BadOptions → TellsBuildFault (Some text) after fault) → HasBuildFault text base b fault
+    → (fault ≡ BadOptions → AreValidOptions options → ⊥) → (fault ≢ BadOptions → IsBuildFaultOf (Some text) after fault) → HasBuildFault text base b fault
 unfolding is_bad
 stands text base b options given after (Line fault) bad told = record { after = after; told = told (λ e. true≢false (sym (ap is_bad e))) }
 stands text base b options given after NoTriples bad told = record { after = after; told = told (λ e. true≢false (sym (ap is_bad e))) }
@@ -36,7 +36,7 @@ returns-in-Ok-clause-ok c =
     record {
       options = options;
       given = record { base_is = c.in_ok-from_slice.ensures.items; size_is = refl };
-      builds = subst (λ (input : Option (List ℕ)). Builds options input c.in-Ok.made.0.items c.in-Ok.made.1) (ap (λ (s : Lent). Some s.now) c.new.ensures.inner) c.in-Ok.ensures.found;
+      builds = subst (λ (input : Option (List ℕ)). Builds options input c.in-Ok.made.0.items c.in-Ok.made.1) (ap (λ (s : BorrowedString). Some s.now) c.new.ensures.inner) c.in-Ok.ensures.found;
     }
 
 pub returns-clause-err : goal.returns-clause-err
@@ -45,4 +45,4 @@ returns-clause-err c =
     let after : Option (List ℕ) = Some (inner c.build_bytes.new.input).now in
     stands c.args.text.now c.args.base.now c.args.block_size options (record { base_is = c.in_ok-from_slice.ensures.items; size_is = refl }) after c.in-Err.fault
     (λ e. (c.build_bytes.ensures.bad).0 (c.in-Err.is ∙ ap Err e))
-    (λ ne. subst (λ (input : Option (List ℕ)). TellsBuildFault input after c.in-Err.fault) (ap (λ (s : Lent). Some s.now) c.new.ensures.inner) (c.in-Err.ensures.told ne))
+    (λ ne. subst (λ (input : Option (List ℕ)). IsBuildFaultOf input after c.in-Err.fault) (ap (λ (s : BorrowedString). Some s.now) c.new.ensures.inner) (c.in-Err.ensures.told ne))

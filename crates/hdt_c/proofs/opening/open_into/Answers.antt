@@ -6,6 +6,6 @@ use Rattle.hdt_c.proofs.opening.open_into.Goals as goal
 pub returns-in-Ok-clause-ok : goal.returns-in-Ok-clause-ok
 returns-in-Ok-clause-ok c = record {
   graph = c.in_ok-opened.opened;
-  held = (c.put.ensures.0, c.put.ensures.1 ∙ ap Some c.in-Ok.ensures.ok);
+  resource = (c.put.ensures.0, c.put.ensures.1 ∙ ap Some c.in-Ok.ensures.ok);
   is = c.in_ok-opened.ensures.found;
 }

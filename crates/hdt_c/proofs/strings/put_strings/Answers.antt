@@ -1,6 +1,6 @@
 -- There are no strings because a number is not an ID, or because memory ran out.
 use Rattle.std.proofs.Common.{◌≡◌, inl, inr, refl, true, false}
-use Rattle.hdt_c.proofs.Answering.{of_none}
+use Rattle.hdt_c.proofs.HandleLaws.{of_none}
 use Rattle.hdt_c.proofs.strings.put_strings.Goals as goal
 
 pub returns-in-Ok-None : goal.returns-in-Ok-None

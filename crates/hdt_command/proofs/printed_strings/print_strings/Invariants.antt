@@ -1,15 +1,15 @@
 use Rattle.std.proofs.Common.{◌≡◌, ◌≤◌, ◌+◌, ◌++◌, length, take, drop}
 use Rattle.std.specs.Io.KnownBytes.{Appends}
 use Rattle.hdt_wire.specs.Counted.{inner, failures}
-use Rattle.hdt_file.specs.LayoutView.{layout_seen}
-use Rattle.hdt_dict.specs.Dictionary.{strings_in}
+use Rattle.hdt_file.specs.LayoutView.{layout_view}
+use Rattle.hdt_dict.specs.Dictionary.{role_strings}
 use Rattle.hdt_command.specs.StringsText.{string_lines}
 use Rattle.hdt_command.proofs.printed_strings.print_strings.Given as goal
 
 -- The text that has been written, followed by the buffer and the lines to come, is the complete text.
 abbrev pub invariant-strings : goal.invariant-strings
 invariant-strings g l =
-    let lines = string_lines 1 (strings_in (layout_seen l.fn.layout).dictionary l.fn.role) in
+    let lines = string_lines 1 (role_strings (layout_view l.fn.layout).dictionary l.fn.role) in
     record {
       within : l.written ≤ length lines;
       gained : Appends (g.W.Write.contents (inner l.fn.out)) (g.W.Write.contents (inner l.out)) (take l.written lines);

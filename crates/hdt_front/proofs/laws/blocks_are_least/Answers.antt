@@ -1,4 +1,4 @@
-use Rattle.hdt_front.proofs.Inverse.{enough, least, none}
+use Rattle.hdt_front.proofs.LookupInverse.{enough, least, none}
 use Rattle.hdt_front.proofs.laws.blocks_are_least.Goals as goal
 
 pub returns-clause-enough : goal.returns-clause-enough

@@ -1,4 +1,4 @@
-use Rattle.hdt_front.proofs.Inverse.{found, only}
+use Rattle.hdt_front.proofs.LookupInverse.{found, only}
 use Rattle.hdt_front.proofs.laws.look_ups_are_inverse.Goals as goal
 
 pub returns-clause-found : goal.returns-clause-found

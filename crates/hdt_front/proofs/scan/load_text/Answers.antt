@@ -1,7 +1,7 @@
 use Rattle.std.proofs.Common.{not, nat_eq, refl, arith}
 use Rattle.std.proofs.lemmas.Simd.{zip2_splat, length-chunk}
 use lib.Lanes.{chunk}
-use Rattle.hdt_front.proofs.Loads.{load_runs}
+use Rattle.hdt_front.proofs.SimdLoads.{load_runs}
 use Rattle.hdt_front.proofs.scan.load_text.Goals as goal
 
 pub returns : goal.returns

@@ -2,95 +2,95 @@ use Rattle.std.proofs.Common.{◌≡◌, ◌<◌, ◌+◌, ◌*◌, ◌/◌, ◌
 use Rattle.std.proofs.lemmas.Nat.{div-add-mod'}
 use Rattle.std.proofs.Math.Nat.{mod-lt}
 use Rattle.hdt_front.specs.Strings.{strings_of}
-use Rattle.hdt_front.specs.Packed.{packing_of}
-use Rattle.hdt_front.specs.Facts.{so_far}
-use Rattle.hdt_front.specs.Unfolding.{after_piece, kept, text_from, text_of}
-use Rattle.hdt_front.specs.Laws.StringSteps.{length-unfolded}
-use Rattle.hdt_front.proofs.Strings.{unfolds_here, string_whole, unfolded_over}
+use Rattle.hdt_front.specs.PackedView.{block_layout}
+use Rattle.hdt_front.specs.EntryFacts.{partial_string}
+use Rattle.hdt_front.specs.Decoding.{after_entry, kept, bytes_from_suffix, suffix_of}
+use Rattle.hdt_front.specs.Laws.StringSteps.{length-decoded_strings}
+use Rattle.hdt_front.proofs.DecodingLemmas.{unfolds_here, string_complete, append_over_prefix}
 use Rattle.hdt_front.proofs.string.append_string.Goals as goal
 
 pub nonzero_rem-many : goal.nonzero_rem-many
 unfolding strings_of
 nonzero_rem-many c =
     let p = c.args.section.now.packed in
-    omega (arith, p.some (omega (arith, c.requires, length-unfolded p.block p.count 0 [] p.bytes.now)))
+    omega (arith, p.some (omega (arith, c.requires, length-decoded_strings p.block p.count 0 [] p.bytes.now)))
 
 pub overflow_add-many : goal.overflow_add-many
 unfolding strings_of
 overflow_add-many c =
     let p = c.args.section.now.packed in
-    omega (arith, mod-lt c.args.i (p.some (omega (arith, c.requires, length-unfolded p.block p.count 0 [] p.bytes.now))))
+    omega (arith, mod-lt c.args.i (p.some (omega (arith, c.requires, length-decoded_strings p.block p.count 0 [] p.bytes.now))))
 
-pub unfold_in-done-requires-clause-short : goal.unfold_in-done-requires-clause-short
+pub decode_in_buffer-done-requires-clause-short : goal.decode_in_buffer-done-requires-clause-short
 unfolding strings_of
-unfold_in-done-requires-clause-short c =
+decode_in_buffer-done-requires-clause-short c =
     let p = c.args.section.now.packed in
-    omega (arith, mod-lt c.args.i (p.some (omega (arith, c.requires, length-unfolded p.block p.count 0 [] p.bytes.now))))
+    omega (arith, mod-lt c.args.i (p.some (omega (arith, c.requires, length-decoded_strings p.block p.count 0 [] p.bytes.now))))
 
-pub unfold_in-done-requires-clause-within : goal.unfold_in-done-requires-clause-within
+pub decode_in_buffer-done-requires-clause-within : goal.decode_in_buffer-done-requires-clause-within
 unfolding strings_of
-unfold_in-done-requires-clause-within c =
+decode_in_buffer-done-requires-clause-within c =
     let p = c.args.section.now.packed in
-    omega (arith, c.requires, length-unfolded p.block p.count 0 [] p.bytes.now, div-add-mod' c.args.i p.block)
+    omega (arith, c.requires, length-decoded_strings p.block p.count 0 [] p.bytes.now, div-add-mod' c.args.i p.block)
 
 pub returns-in_err-extend_from_slice-clause-cost : goal.returns-in_err-extend_from_slice-clause-cost
 unfolding strings_of
 returns-in_err-extend_from_slice-clause-cost c =
     let p = c.args.section.now.packed in
-    omega (arith, c.unfold_in-done.ensures.cost, c.unfold_in-done.ensures.done.1, mod-lt c.args.i (p.some (omega (arith, c.requires, length-unfolded p.block p.count 0 [] p.bytes.now))))
+    omega (arith, c.decode_in_buffer-done.ensures.cost, c.decode_in_buffer-done.ensures.done.1, mod-lt c.args.i (p.some (omega (arith, c.requires, length-decoded_strings p.block p.count 0 [] p.bytes.now))))
 
-pub piece_of-requires : goal.piece_of-requires
-unfolding text_from
-piece_of-requires c = c.unfold_in-done.ensures.stands.ends
+pub split_entry-requires : goal.split_entry-requires
+unfolding bytes_from_suffix
+split_entry-requires c = c.decode_in_buffer-done.ensures.stands.ends
 
 pub returns-in_err-extend_by-clause-cost : goal.returns-in_err-extend_by-clause-cost
 unfolding strings_of
 returns-in_err-extend_by-clause-cost c =
     let p = c.args.section.now.packed in
-    omega (arith, c.unfold_in-done.ensures.cost, c.unfold_in-done.ensures.done.1, mod-lt c.args.i (p.some (omega (arith, c.requires, length-unfolded p.block p.count 0 [] p.bytes.now))))
+    omega (arith, c.decode_in_buffer-done.ensures.cost, c.decode_in_buffer-done.ensures.done.1, mod-lt c.args.i (p.some (omega (arith, c.requires, length-decoded_strings p.block p.count 0 [] p.bytes.now))))
 
 pub loop-k-init : goal.loop-k-init
-unfolding text_of text_from after_piece
+unfolding suffix_of bytes_from_suffix after_entry
 loop-k-init c =
-    let u = c.unfold_in-done.ensures in let old = c.args.out.now.items in
+    let u = c.decode_in_buffer-done.ensures in let old = c.args.out.now.items in
     record {
-      out = c.in_ok-extend_by.ensures.ok ∙ ap (λ l. l ++ c.piece_of.result.1.now) c.in_ok-extend_from_slice.ensures.items ∙ append_assoc old _ c.piece_of.result.1.now
-          ∙ ap (λ t. old ++ (take c.unfold_in-done.result.1 c.unfold_in-done.new.room ++ t)) c.piece_of.ensures.text ∙ ap (λ l. old ++ l) u.stands.string;
-      rest = c.piece_of.ensures.rest ∙ u.stands.after;
+      out = c.in_ok-extend_by.ensures.ok ∙ ap (λ l. l ++ c.split_entry.result.1.now) c.in_ok-extend_from_slice.ensures.items ∙ append_assoc old _ c.split_entry.result.1.now
+          ∙ ap (λ t. old ++ (take c.decode_in_buffer-done.result.1 c.decode_in_buffer-done.new.buffer ++ t)) c.split_entry.ensures.text ∙ ap (λ l. old ++ l) u.stands.string;
+      rest = c.split_entry.ensures.rest ∙ u.stands.after;
       cost = u.cost;
     }
 
-pub put_piece-requires-clause-ends : goal.put_piece-requires-clause-ends
+pub decode_next-requires-clause-ends : goal.decode_next-requires-clause-ends
 unfolding strings_of
-put_piece-requires-clause-ends c =
+decode_next-requires-clause-ends c =
     let p = c.args.section.now.packed in let l = c.loop-k in
-    let inside : c.args.i < p.count = omega (arith, c.requires, length-unfolded p.block p.count 0 [] p.bytes.now) in
+    let inside : c.args.i < p.count = omega (arith, c.requires, length-decoded_strings p.block p.count 0 [] p.bytes.now) in
     let short : l.k < p.block = omega (arith, c.loop-k-test.true, mod-lt c.args.i (p.some (omega (arith, inside)))) in
     let here : c.args.i / p.block * p.block + l.k < p.count = omega (arith, c.loop-k-test.true, div-add-mod' c.args.i p.block, inside) in
-    (unfolds_here (packing_of p) p.count (c.args.i / p.block) l.k p.bytes.now l.rest.now short here c.args.section.now.read l.invariant.rest).ends
+    (unfolds_here (block_layout p) p.count (c.args.i / p.block) l.k p.bytes.now l.rest.now short here c.args.section.now.read l.invariant.rest).ends
 
-pub put_piece-requires-clause-fits : goal.put_piece-requires-clause-fits
+pub decode_next-requires-clause-fits : goal.decode_next-requires-clause-fits
 unfolding strings_of
-put_piece-requires-clause-fits c =
+decode_next-requires-clause-fits c =
     let p = c.args.section.now.packed in let l = c.loop-k in
-    let inside : c.args.i < p.count = omega (arith, c.requires, length-unfolded p.block p.count 0 [] p.bytes.now) in
+    let inside : c.args.i < p.count = omega (arith, c.requires, length-decoded_strings p.block p.count 0 [] p.bytes.now) in
     let short : l.k < p.block = omega (arith, c.loop-k-test.true, mod-lt c.args.i (p.some (omega (arith, inside)))) in
     let here : c.args.i / p.block * p.block + l.k < p.count = omega (arith, c.loop-k-test.true, div-add-mod' c.args.i p.block, inside) in
-    let u = unfolds_here (packing_of p) p.count (c.args.i / p.block) l.k p.bytes.now l.rest.now short here c.args.section.now.read l.invariant.rest in
-    let size = ap length l.invariant.out ∙ length-append c.args.out.now.items (so_far p.block (c.args.i / p.block) l.k p.bytes.now) in
+    let u = unfolds_here (block_layout p) p.count (c.args.i / p.block) l.k p.bytes.now l.rest.now short here c.args.section.now.read l.invariant.rest in
+    let size = ap length l.invariant.out ∙ length-append c.args.out.now.items (partial_string p.block (c.args.i / p.block) l.k p.bytes.now) in
     omega (arith, u.fits, size, l.out.ok.0, c.args.out.now.ok.0, c.len-start.ensures)
 
 pub loop-k-preserved : goal.loop-k-preserved
 unfolding strings_of
 loop-k-preserved c =
     let p = c.args.section.now.packed in let l = c.loop-k in
-    let inside : c.args.i < p.count = omega (arith, c.requires, length-unfolded p.block p.count 0 [] p.bytes.now) in
+    let inside : c.args.i < p.count = omega (arith, c.requires, length-decoded_strings p.block p.count 0 [] p.bytes.now) in
     let short : l.k < p.block = omega (arith, c.loop-k-test.true, mod-lt c.args.i (p.some (omega (arith, inside)))) in
     let here : c.args.i / p.block * p.block + l.k < p.count = omega (arith, c.loop-k-test.true, div-add-mod' c.args.i p.block, inside) in
-    let u = unfolds_here (packing_of p) p.count (c.args.i / p.block) l.k p.bytes.now l.rest.now short here c.args.section.now.read l.invariant.rest in
+    let u = unfolds_here (block_layout p) p.count (c.args.i / p.block) l.k p.bytes.now l.rest.now short here c.args.section.now.read l.invariant.rest in
     let old_size : c.len-start.result ≡ length c.args.out.now.items = omega (arith, c.len-start.ensures, c.args.out.now.ok.0) in
     record {
-      out = unfolded_over c.args.out.now.items (so_far p.block (c.args.i / p.block) l.k p.bytes.now) l.out.items _ c.put_piece.new.out.items (text_of (nat_eq l.k 0) l.rest.now) _ c.len-start.result (kept (nat_eq l.k 0) l.rest.now)
+      out = append_over_prefix c.args.out.now.items (partial_string p.block (c.args.i / p.block) l.k p.bytes.now) l.out.items _ c.decode_next.new.out.items (suffix_of (nat_eq l.k 0) l.rest.now) _ c.len-start.result (kept (nat_eq l.k 0) l.rest.now)
           old_size l.invariant.out refl c.in_ok-rest.ensures.string u.string;
       rest = c.in_ok-rest.ensures.rest ∙ u.after;
       cost = omega (arith, l.invariant.cost, c.tick.ensures);
@@ -100,25 +100,25 @@ pub returns-clause-ok : goal.returns-clause-ok
 unfolding strings_of
 returns-clause-ok c =
     let p = c.args.section.now.packed in let l = c.loop-k in
-    let inside : c.args.i < p.count = omega (arith, c.requires, length-unfolded p.block p.count 0 [] p.bytes.now) in
+    let inside : c.args.i < p.count = omega (arith, c.requires, length-decoded_strings p.block p.count 0 [] p.bytes.now) in
     let all : l.k ≡ c.args.i % p.block + 1 = omega (arith, c.loop-k-test.false, l.auto.k-end) in
-    l.invariant.out ∙ ap (λ k. c.args.out.now.items ++ so_far p.block (c.args.i / p.block) k p.bytes.now) all
-    ∙ ap (λ s. c.args.out.now.items ++ s) (string_whole p.block p.count c.args.i p.bytes.now inside)
+    l.invariant.out ∙ ap (λ k. c.args.out.now.items ++ partial_string p.block (c.args.i / p.block) k p.bytes.now) all
+    ∙ ap (λ s. c.args.out.now.items ++ s) (string_complete p.block p.count c.args.i p.bytes.now inside)
 
 pub nonzero_div-i : goal.nonzero_div-i
 unfolding strings_of
 nonzero_div-i c =
     let p = c.args.section.now.packed in
-    omega (arith, p.some (omega (arith, c.requires, length-unfolded p.block p.count 0 [] p.bytes.now)))
+    omega (arith, p.some (omega (arith, c.requires, length-decoded_strings p.block p.count 0 [] p.bytes.now)))
 
 pub returns-in_err-rest-clause-cost : goal.returns-in_err-rest-clause-cost
 unfolding strings_of
 returns-in_err-rest-clause-cost c =
     let p = c.args.section.now.packed in let l = c.loop-k in
-    omega (arith, c.loop-k-test.true, l.invariant.cost, c.tick.ensures, mod-lt c.args.i (p.some (omega (arith, c.requires, length-unfolded p.block p.count 0 [] p.bytes.now))))
+    omega (arith, c.loop-k-test.true, l.invariant.cost, c.tick.ensures, mod-lt c.args.i (p.some (omega (arith, c.requires, length-decoded_strings p.block p.count 0 [] p.bytes.now))))
 
 pub returns-clause-cost : goal.returns-clause-cost
 unfolding strings_of
 returns-clause-cost c =
     let p = c.args.section.now.packed in let l = c.loop-k in
-    omega (arith, c.loop-k-test.false, l.auto.k-end, l.invariant.cost, mod-lt c.args.i (p.some (omega (arith, c.requires, length-unfolded p.block p.count 0 [] p.bytes.now))))
+    omega (arith, c.loop-k-test.false, l.auto.k-end, l.invariant.cost, mod-lt c.args.i (p.some (omega (arith, c.requires, length-decoded_strings p.block p.count 0 [] p.bytes.now))))

@@ -1,8 +1,8 @@
 use Rattle.std.proofs.Common.{not, nat_eq, refl, arith}
 use Rattle.std.proofs.lemmas.Simd.{zip2_splat, length-chunk}
 use lib.Lanes.{chunk}
-use Rattle.hdt_front.proofs.Loads.{load_runs}
-use Rattle.hdt_front.proofs.Strings.{copied}
+use Rattle.hdt_front.proofs.SimdLoads.{load_runs}
+use Rattle.hdt_front.proofs.DecodingLemmas.{copied}
 use Rattle.hdt_front.proofs.string.copy_load.Goals as goal
 
 pub returns-clause-reaches : goal.returns-clause-reaches
@@ -15,4 +15,4 @@ returns-clause-reaches c =
 pub returns-clause-text : goal.returns-clause-text
 returns-clause-text c =
     let long = length-chunk 0 32 c.args.bytes.now c.requires.load in
-    copied c.args.at 32 c.first_set.result c.args.room.now c.args.bytes.now (omega (arith, (returns-clause-reaches c).within)) c.requires.within c.requires.load
+    copied c.args.at 32 c.first_set.result c.args.buffer.now c.args.bytes.now (omega (arith, (returns-clause-reaches c).within)) c.requires.within c.requires.load

@@ -1,6 +1,6 @@
-use Rattle.hdt_file.specs.Kept.{KeepsTerms}
-use Rattle.hdt_file.specs.Views.{graph_seen}
+use Rattle.hdt_file.specs.CachedTerms.{CachesTerms}
+use Rattle.hdt_file.specs.GraphView.{graph_view}
 use Rattle.hdt_probe_graph.proofs.texts.append_all.Given as goal
 
 abbrev pub invariant-texts : goal.invariant-texts
-invariant-texts l = KeepsTerms (graph_seen l.graph) l.speller
+invariant-texts l = CachesTerms (graph_view l.graph) l.term_writer

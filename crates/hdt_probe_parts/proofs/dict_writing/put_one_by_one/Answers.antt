@@ -1,29 +1,29 @@
 use Rattle.std.proofs.Common.{◌≡◌, List, subst, sym}
-use Rattle.hdt_front.specs.Section.{AreStrings}
+use Rattle.hdt_front.specs.Section.{AreSectionStrings}
 use Rattle.hdt_front.specs.Canonical.{texts}
-use Rattle.hdt_dict.specs.Split.{lists_of}
+use Rattle.hdt_dict.specs.Split.{lists_of_parts}
 use Rattle.hdt_probe_parts.proofs.dict_writing.put_one_by_one.Goals as goal
 
-strings_are : (xs ys : List VecOfBytes) → xs ≡ ys → AreStrings (texts ys) → AreStrings (texts xs)
-strings_are xs ys e are = subst (λ (l : List VecOfBytes). AreStrings (texts l)) (sym e) are
+strings_are : (xs ys : List VecOfBytes) → xs ≡ ys → AreSectionStrings (texts ys) → AreSectionStrings (texts xs)
+strings_are xs ys e are = subst (λ (l : List VecOfBytes). AreSectionStrings (texts l)) (sym e) are
 
 pub section_of-requires-clause-strings : goal.section_of-requires-clause-strings
-unfolding lists_of
+unfolding lists_of_parts
 section_of-requires-clause-strings c = strings_are _ _ c.as_slice.ensures.value c.requires.sections.shared
 
 pub section_of-requires-2-clause-strings : goal.section_of-requires-2-clause-strings
-unfolding lists_of
+unfolding lists_of_parts
 section_of-requires-2-clause-strings c = strings_are _ _ c.as_slice-2.ensures.value c.requires.sections.subjects
 
 pub section_of-requires-3-clause-strings : goal.section_of-requires-3-clause-strings
-unfolding lists_of
+unfolding lists_of_parts
 section_of-requires-3-clause-strings c = strings_are _ _ c.as_slice-3.ensures.value c.requires.sections.predicates
 
 pub section_of-requires-4-clause-strings : goal.section_of-requires-4-clause-strings
-unfolding lists_of
+unfolding lists_of_parts
 section_of-requires-4-clause-strings c = strings_are _ _ c.as_slice-4.ensures.value c.requires.sections.objects
 
-pub put_written_dictionary-requires-clause-sections : goal.put_written_dictionary-requires-clause-sections
-unfolding lists_of
-put_written_dictionary-requires-clause-sections c =
+pub finish_dictionary-requires-clause-sections : goal.finish_dictionary-requires-clause-sections
+unfolding lists_of_parts
+finish_dictionary-requires-clause-sections c =
     rw (c.in_ok-shared.ensures, c.in_ok-subjects.ensures, c.in_ok-predicates.ensures, c.in_ok-objects.ensures, c.as_slice.ensures.value, c.as_slice-2.ensures.value, c.as_slice-3.ensures.value, c.as_slice-4.ensures.value) c.requires.sections

@@ -1,7 +1,7 @@
 use Rattle.std.proofs.Common.{ℕ, List, false, map, take, sym, arith}
 use Rattle.std.proofs.lemmas.List.{length-map, get_or-map}
 use Rattle.std.proofs.lemmas.Result.{on_ok_weaker, on_err_weaker}
-use Rattle.hdt_seq.specs.Little.{bit_number, packed_bits}
+use Rattle.hdt_seq.specs.PackedBits.{bit_number, packed_bits}
 use Rattle.hdt_seq.specs.Laws.Packing.{bits_fit, Packs-word, Packs-next, Packs-end, Packs-keeps, EachFits-take}
 use Rattle.hdt_seq.proofs.packing.append_bits.Goals as goal
 

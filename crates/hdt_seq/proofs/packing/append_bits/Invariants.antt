@@ -1,5 +1,5 @@
 use Rattle.std.proofs.Common.{take, map}
-use Rattle.hdt_seq.specs.Little.{bit_number}
+use Rattle.hdt_seq.specs.PackedBits.{bit_number}
 use Rattle.hdt_seq.specs.Laws.Packing.{Packs}
 use Rattle.hdt_seq.proofs.packing.append_bits.Given as goal
 

@@ -1,4 +1,4 @@
-use Rattle.hdt_terms.proofs.StringParts.{all_ascii}
+use Rattle.hdt_terms.proofs.TokenTests.{all_ascii}
 use Rattle.std.proofs.lemmas.Bool.{eqb-true}
 use Rattle.hdt_terms.proofs.encoding.is_ascii_text.Goals as goal
 

@@ -1,5 +1,5 @@
 use Rattle.hdt_terms.specs.Chars.{is_iri_char}
-use Rattle.hdt_terms.proofs.StringParts.{all_pass}
+use Rattle.hdt_terms.proofs.TokenTests.{all_pass}
 use Rattle.hdt_terms.proofs.iri.are_iri_chars.Goals as goal
 
 pub returns : goal.returns

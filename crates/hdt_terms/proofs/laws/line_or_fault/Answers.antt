@@ -1,8 +1,8 @@
-use Rattle.hdt_terms.specs.LineReading.{line_in}
+use Rattle.hdt_terms.specs.LineParsing.{line_in}
 use Rattle.hdt_terms.specs.Lines.{Line}
 use Rattle.hdt_terms.proofs.LawsLemmas.{says_or_fault, apart, one}
-use Rattle.hdt_terms.proofs.LineAgain.{line_again}
-use Rattle.hdt_terms.proofs.LineFound.{line_is}
+use Rattle.hdt_terms.proofs.LineCompleteness.{line_again}
+use Rattle.hdt_terms.proofs.LineSoundness.{line_is}
 use Rattle.hdt_terms.proofs.laws.line_or_fault.Goals as goal
 
 pub returns-clause-either : goal.returns-clause-either

@@ -1,7 +1,7 @@
-use Rattle.hdt_terms.specs.RequestReading.{request_in}
+use Rattle.hdt_terms.specs.RequestParsing.{request_in}
 use Rattle.hdt_terms.specs.Requests.{RequestLine}
 use Rattle.hdt_terms.proofs.LawsLemmas.{says_or_fault, apart, one}
-use Rattle.hdt_terms.proofs.RequestAgain.{asked_again}
+use Rattle.hdt_terms.proofs.RequestCompleteness.{asked_again}
 use Rattle.hdt_terms.proofs.RequestLaws.{asked_found, triple_asked}
 use Rattle.hdt_terms.proofs.laws.request_or_fault.Goals as goal
 

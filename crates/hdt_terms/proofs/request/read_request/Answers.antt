@@ -5,14 +5,14 @@ use Rattle.hdt_terms.proofs.request.read_request.Goals as goal
 pub returns-in-Err : goal.returns-in-Err
 returns-in-Err c = inr (not_utf8_line c.args.text.now _ c.in-Err.ensures.0 ∙ ap Err (sym c.in-Err.ensures.1))
 
-pub returns-then-is_bare : goal.returns-then-is_bare
-returns-then-is_bare c = bare_line c.args.text.now _ c.in-Ok.ensures (sym c.is_bare.ensures ∙ c.if-is_bare.true)
+pub returns-then-is_blank_or_comment : goal.returns-then-is_blank_or_comment
+returns-then-is_blank_or_comment c = bare_line c.args.text.now _ c.in-Ok.ensures (sym c.is_blank_or_comment.ensures ∙ c.if-is_blank_or_comment.true)
 
-pub returns-in-Ok-put_parts : goal.returns-in-Ok-put_parts
-returns-in-Ok-put_parts c =
-    let read = c.in-Ok-put_parts.ensures in
-    (read.0, read_line c.args.text.now _ c.in-Ok.ensures read.0 (sym c.is_bare.ensures ∙ c.if-is_bare.false) read.1, read.2)
+pub returns-in-Ok-put_pattern : goal.returns-in-Ok-put_pattern
+returns-in-Ok-put_pattern c =
+    let read = c.in-Ok-put_pattern.ensures in
+    (read.0, read_line c.args.text.now _ c.in-Ok.ensures read.0 (sym c.is_blank_or_comment.ensures ∙ c.if-is_blank_or_comment.false) read.1, read.2)
 
-pub returns-in-Err-put_parts : goal.returns-in-Err-put_parts
-returns-in-Err-put_parts c =
-    fails_line c.args.text.now _ c.in-Ok.ensures c.in-Err-put_parts.error c.fault_of.result (sym c.is_bare.ensures ∙ c.if-is_bare.false) c.in-Err-put_parts.ensures c.fault_of.ensures
+pub returns-in-Err-put_pattern : goal.returns-in-Err-put_pattern
+returns-in-Err-put_pattern c =
+    fails_line c.args.text.now _ c.in-Ok.ensures c.in-Err-put_pattern.error c.locate_error.result (sym c.is_blank_or_comment.ensures ∙ c.if-is_blank_or_comment.false) c.in-Err-put_pattern.ensures c.locate_error.ensures

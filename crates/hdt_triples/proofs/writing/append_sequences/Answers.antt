@@ -2,10 +2,10 @@ use Rattle.std.proofs.Common.{◌≡◌, ◌++◌, ℕ, List, append_assoc, ap, 
 use Rattle.std.proofs.lemmas.Result.{on_ok_weaker}
 use Rattle.hdt_wire.specs.declared.control.Kind.TheVariants as kinds
 use Rattle.hdt_wire.specs.Control.{control}
-use Rattle.hdt_seq.specs.Numbers.{numbers_spelling}
-use Rattle.hdt_seq.specs.Bits.{bits_spelling}
-use Rattle.hdt_triples.specs.Inside.SequencesView.{bitmap_made}
-use Rattle.hdt_triples.specs.Writing.{ordered, canonical_sequences}
+use Rattle.hdt_seq.specs.Numbers.{numbers_encoding}
+use Rattle.hdt_seq.specs.Bits.{bits_encoding}
+use Rattle.hdt_triples.specs.Inside.SequencesView.{sequences_view}
+use Rattle.hdt_triples.specs.Writing.{order_property, canonical_sequences}
 use Rattle.hdt_triples.proofs.writing.append_sequences.Goals as goal
 
 -- Appending twice appends the concatenation.
@@ -16,18 +16,18 @@ regrouped : (k a b c d : List ℕ) → (((k ++ a) ++ b) ++ c) ++ d ≡ k ++ (a +
 regrouped k a b c d = append_assoc ((k ++ a) ++ b) c d ∙ append_assoc (k ++ a) b (c ++ d) ∙ append_assoc k a (b ++ (c ++ d))
 
 pub returns-clause-ok : goal.returns-clause-ok
-unfolding canonical_sequences bitmap_made
+unfolding canonical_sequences sequences_view
 returns-clause-ok c =
     let old = c.args.out.now.items in
     let made = c.args.made.now in
-    let a = ap (λ l. c.put_control.new.out.items ++ bits_spelling l) c.as_slice.ensures.value in
-    let b = ap (λ l. c.put_bits.new.out.items ++ bits_spelling l) c.as_slice-2.ensures.value in
-    let y = ap (λ l. c.put_bits-2.new.out.items ++ numbers_spelling l) c.as_slice-3.ensures.value in
-    let z = ap (λ l. c.put_numbers.new.out.items ++ numbers_spelling l) c.as_slice-4.ensures.value in
+    let a = ap (λ l. c.put_control.new.out.items ++ bits_encoding l) c.as_slice.ensures.value in
+    let b = ap (λ l. c.put_bits.new.out.items ++ bits_encoding l) c.as_slice-2.ensures.value in
+    let y = ap (λ l. c.put_bits-2.new.out.items ++ numbers_encoding l) c.as_slice-3.ensures.value in
+    let z = ap (λ l. c.put_numbers.new.out.items ++ numbers_encoding l) c.as_slice-4.ensures.value in
     let r1 = more old _ _ _ _ c.in_ok-put_control.ensures.ok (c.in_ok-put_bits.ensures.ok ∙ a) in
     let r2 = more old _ _ _ _ r1 (c.in_ok-put_bits-2.ensures.ok ∙ b) in
     let r3 = more old _ _ _ _ r2 (c.in_ok-put_numbers.ensures.ok ∙ y) in
     on_ok_weaker c.put_numbers-2.result (λ last.
     more old _ _ _ _ r3 (last ∙ z)
-    ∙ ap (λ (l : List ℕ). old ++ l) (regrouped (control kinds.Triples ordered) (bits_spelling made.my.items) (bits_spelling made.mz.items) (numbers_spelling made.ys.items) (numbers_spelling made.zs.items)))
+    ∙ ap (λ (l : List ℕ). old ++ l) (regrouped (control kinds.Triples order_property) (bits_encoding made.bitmap_y.items) (bits_encoding made.bitmap_z.items) (numbers_encoding made.array_y.items) (numbers_encoding made.array_z.items)))
     c.put_numbers-2.ensures.ok

@@ -1,7 +1,7 @@
 use Rattle.std.proofs.Common.{◌≡◌, ◌∙◌, ap, false, rules}
 use Rattle.std.proofs.lemmas.Result.{IfOk-weaker}
 use Rattle.clap.specs.Words.{app_of, rule_of, with_rule}
-use Rattle.hdt_usage.specs.Table.{longest_request_option}
+use Rattle.hdt_usage.specs.CommandTable.{longest_request_option}
 use Rattle.hdt_usage.proofs.commands.with_longest_request.Goals as goal
 
 pub returns-clause-shape : goal.returns-clause-shape

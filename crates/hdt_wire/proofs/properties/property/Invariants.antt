@@ -2,7 +2,7 @@ use Rattle.std.proofs.Common.{◌≡◌, length}
 use Rattle.std.specs.Option.{option_copied}
 use Rattle.std.specs.List.{slice_split}
 use Rattle.hdt_wire.specs.Property.{is, property_value}
-use Rattle.hdt_wire.proofs.Cuts.{counted}
+use Rattle.hdt_wire.proofs.PropertyItems.{counted}
 use Rattle.hdt_wire.proofs.properties.property.Given as goal
 
 abbrev pub invariant-pieces : goal.invariant-pieces

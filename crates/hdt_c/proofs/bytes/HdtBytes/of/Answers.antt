@@ -10,5 +10,5 @@ returns-in-Ok c = record {
   at = c.of-at.ensures;
   len = c.len-len.ensures ∙ c.args.bytes.ok.0;
   state = refl;
-  held = c.of_parts.ensures ∙ ap Some (c.of.ensures ∙ c.in-Ok.ensures.ok);
+  resource = c.from_raw_box.ensures ∙ ap Some (c.of.ensures ∙ c.in-Ok.ensures.ok);
 }

@@ -12,8 +12,8 @@ overflow_add-at c = let h = c.self.inside.starts.ok in let f = c.self.inside.sta
 pub index-end-requires : goal.index-end-requires
 index-end-requires c = omega (arith, size c.self.inside.bytes.items c.self.inside.starts.items, ap length c.self.view_is, c.self.inside.starts.ok.0)
 
-pub part-requires : goal.part-requires
-part-requires c =
+pub slice_between-requires : goal.slice_between-requires
+slice_between-requires c =
     let s = c.self.inside.starts in
     let below : c.args.at + 1 < length s.items = omega (arith, size c.self.inside.bytes.items s.items, ap length c.self.view_is) in
     let from = get_or_read_under s.items c.args.at _ c.index-from.result.now 0 c.index-from.ensures (omega arith) s.ok.0 in
@@ -28,4 +28,4 @@ returns c =
     let below : c.args.at + 1 < length s.items = omega (arith, size c.self.inside.bytes.items s.items, ap length c.self.view_is) in
     let from = get_or_read_under s.items c.args.at _ c.index-from.result.now 0 c.index-from.ensures (omega arith) s.ok.0 in
     let end = get_or_read_under s.items (c.args.at + 1) _ c.index-end.result.now 0 c.index-end.ensures (omega arith) s.ok.0 in
-    rw (c.part.ensures, c.as_slice.ensures.value, from, end, ← c.self.view_is) (sym (text_is c.self.inside.bytes.items s.items c.args.at below))
+    rw (c.slice_between.ensures, c.as_slice.ensures.value, from, end, ← c.self.view_is) (sym (text_is c.self.inside.bytes.items s.items c.args.at below))

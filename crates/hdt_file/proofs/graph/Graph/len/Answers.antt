@@ -1,10 +1,10 @@
 use Rattle.std.proofs.Common.{◌∙◌, ap, length, sym}
-use Rattle.hdt_triples.specs.Laws.Counting.{length-triples}
-use Rattle.hdt_triples.specs.ListedViews.{triples_listed}
-use Rattle.hdt_triples.specs.Views.{bitmap_read}
-use Rattle.hdt_file.specs.Views.{graph_seen}
+use Rattle.hdt_triples.specs.Laws.TripleSequences.{length-triples}
+use Rattle.hdt_triples.specs.IndexViews.{triples_listed}
+use Rattle.hdt_triples.specs.Views.{triples_view}
+use Rattle.hdt_file.specs.GraphView.{graph_view}
 use Rattle.hdt_file.proofs.graph.Graph.len.Goals as goal
 
 pub returns : goal.returns
-unfolding graph_seen
-returns c = c.len.ensures ∙ ap (λ t. length (bitmap_read t).zs) c.triples.ensures ∙ sym (length-triples (bitmap_read (triples_listed c.args.self.now.triples)))
+unfolding graph_view
+returns c = c.len.ensures ∙ ap (λ t. length (triples_view t).array_z) c.triples.ensures ∙ sym (length-triples (triples_view (triples_listed c.args.self.now.triples)))

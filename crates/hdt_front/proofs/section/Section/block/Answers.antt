@@ -1,7 +1,7 @@
 use Rattle.std.proofs.Common.{◌<◌, ◌-◌, arith}
 use Rattle.hdt_front.specs.Strings.{blocks_of}
 use Rattle.hdt_front.specs.Laws.Strings.{count_is}
-use Rattle.hdt_front.proofs.Strings.{block_inside}
+use Rattle.hdt_front.proofs.DecodingLemmas.{block_inside}
 use Rattle.hdt_front.proofs.section.Section.block.Goals as goal
 
 pub nonzero_div-block : goal.nonzero_div-block

@@ -1,6 +1,6 @@
 use Rattle.std.proofs.Common.{ap, sym, ◌∙◌, ◌+◌, ◌-◌, ◌/◌, ℕ}
 use Rattle.hdt_front.specs.Strings.{blocks_of}
-use Rattle.hdt_front.proofs.Lies.{no_strings}
+use Rattle.hdt_front.proofs.CheckedBlocks.{no_strings}
 use Rattle.hdt_front.proofs.section.Section.blocks.Goals as goal
 
 pub returns-then-packed-eq0 : goal.returns-then-packed-eq0

@@ -2,12 +2,12 @@ use Rattle.std.proofs.Common.{◌≡◌, ◌<◌, ◌+◌, ◌-◌, ◌*◌, ◌
 use Rattle.std.proofs.lemmas.Nat.{div-add-mod'}
 use Rattle.std.proofs.Math.Nat.{mod-lt}
 use Rattle.hdt_front.specs.Strings.{blocks_of, section_of}
-use Rattle.hdt_front.specs.Section.{string_place}
-use Rattle.hdt_front.specs.Packed.{packing_of}
-use Rattle.hdt_front.specs.Facts.{rest_at}
+use Rattle.hdt_front.specs.Section.{string_offset}
+use Rattle.hdt_front.specs.PackedView.{block_layout}
+use Rattle.hdt_front.specs.EntryFacts.{bytes_from_entry}
 use Rattle.hdt_front.specs.Laws.Strings.{count_is}
-use Rattle.hdt_front.proofs.Lies.{head_lies}
-use Rattle.hdt_front.proofs.Strings.{unfolds_here, block_inside, rest_within}
+use Rattle.hdt_front.proofs.CheckedBlocks.{block_head}
+use Rattle.hdt_front.proofs.DecodingLemmas.{unfolds_here, block_inside, rest_within}
 use Rattle.hdt_front.proofs.section.Section.string_start.Goals as goal
 
 pub nonzero_div-i : goal.nonzero_div-i
@@ -34,17 +34,17 @@ loop-k-init c =
     let some : 0 < p.count = omega (arith, c.requires.from_one, c.requires.within, count_is c.args.self.now) in
     let i : ℕ = c.args.n - 1 in
     let h = block_inside p.count p.block (c.args.n - 1) (p.some some) (omega (arith, c.requires.from_one, c.requires.within, count_is c.args.self.now)) in
-    let lies = head_lies (packing_of p) p.count ((c.args.n - 1) / p.block) p.bytes.now refl (p.some some) h c.args.self.now.read in
-    c.from_head-rest.ensures ∙ sym lies.here ∙ ap (λ k. rest_at p.block k p.bytes.now) (sym (add-zero ((c.args.n - 1) / p.block * p.block)))
+    let lies = block_head (block_layout p) p.count ((c.args.n - 1) / p.block) p.bytes.now refl (p.some some) h c.args.self.now.read in
+    c.from_head-rest.ensures ∙ sym lies.here ∙ ap (λ k. bytes_from_entry p.block k p.bytes.now) (sym (add-zero ((c.args.n - 1) / p.block * p.block)))
 
-pub piece_of-requires : goal.piece_of-requires
-piece_of-requires c =
+pub split_entry-requires : goal.split_entry-requires
+split_entry-requires c =
     let p = c.args.self.now.packed in let l = c.loop-k in
     let i : ℕ = c.args.n - 1 in
     let inside : i < p.count = omega (arith, c.requires.from_one, c.requires.within, count_is c.args.self.now) in
     let short : l.k < p.block = omega (arith, c.loop-k-test.true, mod-lt i (p.some (omega (arith, inside)))) in
     let here : i / p.block * p.block + l.k < p.count = omega (arith, c.loop-k-test.true, div-add-mod' i p.block, inside) in
-    (unfolds_here (packing_of p) p.count (i / p.block) l.k p.bytes.now l.rest.now short here c.args.self.now.read l.invariant).ends
+    (unfolds_here (block_layout p) p.count (i / p.block) l.k p.bytes.now l.rest.now short here c.args.self.now.read l.invariant).ends
 
 pub loop-k-preserved : goal.loop-k-preserved
 loop-k-preserved c =
@@ -53,8 +53,8 @@ loop-k-preserved c =
     let inside : i < p.count = omega (arith, c.requires.from_one, c.requires.within, count_is c.args.self.now) in
     let short : l.k < p.block = omega (arith, c.loop-k-test.true, mod-lt i (p.some (omega (arith, inside)))) in
     let here : i / p.block * p.block + l.k < p.count = omega (arith, c.loop-k-test.true, div-add-mod' i p.block, inside) in
-    let u = unfolds_here (packing_of p) p.count (i / p.block) l.k p.bytes.now l.rest.now short here c.args.self.now.read l.invariant in
-    c.piece_of.ensures.rest ∙ u.after
+    let u = unfolds_here (block_layout p) p.count (i / p.block) l.k p.bytes.now l.rest.now short here c.args.self.now.read l.invariant in
+    c.split_entry.ensures.rest ∙ u.after
 
 pub place-requires : goal.place-requires
 place-requires c =
@@ -62,10 +62,10 @@ place-requires c =
     omega (arith, ap length l.invariant, rest_within p.block ((c.args.n - 1) / p.block * p.block + l.k) p.bytes.now)
 
 pub returns : goal.returns
-unfolding string_place section_of
+unfolding string_offset section_of
 returns c =
     let p = c.args.self.now.packed in let l = c.loop-k in
     let i : ℕ = c.args.n - 1 in
     let inside : i < p.count = omega (arith, c.requires.from_one, c.requires.within, count_is c.args.self.now) in
     let all : i / p.block * p.block + l.k ≡ i = omega (arith, c.loop-k-test.false, l.auto.k-end, div-add-mod' i p.block) in
-    c.place.ensures ∙ ap (λ (r : List ℕ). p.base + (length p.bytes.now - length r)) (l.invariant ∙ ap (λ k. rest_at p.block k p.bytes.now) all)
+    c.place.ensures ∙ ap (λ (r : List ℕ). p.base + (length p.bytes.now - length r)) (l.invariant ∙ ap (λ k. bytes_from_entry p.block k p.bytes.now) all)

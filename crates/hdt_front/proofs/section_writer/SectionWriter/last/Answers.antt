@@ -1,5 +1,5 @@
 use Rattle.std.proofs.Common.{ap, ◌∙◌}
-use Rattle.hdt_front.specs.InWork.{last_string}
+use Rattle.hdt_front.specs.WriterState.{last_string}
 use Rattle.hdt_front.proofs.section_writer.SectionWriter.last.Goals as goal
 
 pub returns : goal.returns

@@ -1,5 +1,5 @@
 use Rattle.std.proofs.Common.{arith}
-use Rattle.hdt_triples.proofs.WalkLaws.{matches_fit}
+use Rattle.hdt_triples.proofs.ScanLaws.{matches_fit}
 use Rattle.hdt_triples.proofs.indexed.IndexedTriples.matching.Goals as goal
 
 pub returns-clause-is : goal.returns-clause-is

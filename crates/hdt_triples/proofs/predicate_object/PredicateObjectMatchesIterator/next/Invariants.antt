@@ -1,14 +1,14 @@
 use Rattle.std.proofs.Common.{length, ◌≤◌, ◌≡◌}
-use Rattle.hdt_triples.specs.Left.{left_of, limit_of, short_limit_of, steps_of}
+use Rattle.hdt_triples.specs.Remaining.{remaining_matches, step_limit, shorter_list_step_limit, steps_taken}
 use Rattle.hdt_triples.specs.declared.matches.Matches.TheVariants.{PredicateObject}
 use Rattle.hdt_triples.proofs.predicate_object.PredicateObjectMatchesIterator.next.Given as goal
 
 abbrev pub invariant-pairs : goal.invariant-pairs
 invariant-pairs l = record {
-  left : left_of (PredicateObject l.self) ≡ left_of (PredicateObject l.initial.self);
-  same : limit_of (PredicateObject l.self) ≡ limit_of (PredicateObject l.initial.self);
-  short : short_limit_of (PredicateObject l.self) ≡ short_limit_of (PredicateObject l.initial.self);
-  more : steps_of (PredicateObject l.initial.self) ≤ steps_of (PredicateObject l.self);
+  left : remaining_matches (PredicateObject l.self) ≡ remaining_matches (PredicateObject l.initial.self);
+  same : step_limit (PredicateObject l.self) ≡ step_limit (PredicateObject l.initial.self);
+  short : shorter_list_step_limit (PredicateObject l.self) ≡ shorter_list_step_limit (PredicateObject l.initial.self);
+  more : steps_taken (PredicateObject l.initial.self) ≤ steps_taken (PredicateObject l.self);
 }
 
 abbrev pub decreases-pairs : goal.decreases-pairs

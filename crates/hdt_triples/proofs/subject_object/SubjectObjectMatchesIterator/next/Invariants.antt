@@ -1,16 +1,16 @@
 use Rattle.std.proofs.Common.{length, ◌≤◌, ◌-◌, ◌≡◌}
-use Rattle.hdt_triples.specs.Views.{bitmap_read}
-use Rattle.hdt_triples.specs.Left.{left_of, limit_of, short_limit_of, steps_of}
+use Rattle.hdt_triples.specs.Views.{triples_view}
+use Rattle.hdt_triples.specs.Remaining.{remaining_matches, step_limit, shorter_list_step_limit, steps_taken}
 use Rattle.hdt_triples.specs.declared.matches.Matches.TheVariants.{SubjectObject}
 use Rattle.hdt_triples.proofs.subject_object.SubjectObjectMatchesIterator.next.Given as goal
 
 abbrev pub invariant-triples : goal.invariant-triples
 invariant-triples l = record {
-  left : left_of (SubjectObject l.self) ≡ left_of (SubjectObject l.initial.self);
-  same : limit_of (SubjectObject l.self) ≡ limit_of (SubjectObject l.initial.self);
-  short : short_limit_of (SubjectObject l.self) ≡ short_limit_of (SubjectObject l.initial.self);
-  more : steps_of (SubjectObject l.initial.self) ≤ steps_of (SubjectObject l.self);
+  left : remaining_matches (SubjectObject l.self) ≡ remaining_matches (SubjectObject l.initial.self);
+  same : step_limit (SubjectObject l.self) ≡ step_limit (SubjectObject l.initial.self);
+  short : shorter_list_step_limit (SubjectObject l.self) ≡ shorter_list_step_limit (SubjectObject l.initial.self);
+  more : steps_taken (SubjectObject l.initial.self) ≤ steps_taken (SubjectObject l.self);
 }
 
 abbrev pub decreases-triples : goal.decreases-triples
-decreases-triples l = length (bitmap_read l.self.indexed.now.triples).zs - l.self.place.at
+decreases-triples l = length (triples_view l.self.indexed.now.triples).array_z - l.self.position.at

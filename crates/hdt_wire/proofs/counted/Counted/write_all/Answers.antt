@@ -3,7 +3,7 @@ use Rattle.std.specs.Io.KnownBytes.{Appends}
 use Rattle.std.proofs.lemmas.List.{length-drop, length-take}
 use Rattle.std.proofs.Math.Seq.{take-add, take-length}
 use Rattle.hdt_wire.specs.Counted.{inner}
-use Rattle.hdt_wire.proofs.Writes.{Appends-then}
+use Rattle.hdt_wire.proofs.CountedWrites.{Appends-then}
 use Rattle.hdt_wire.proofs.counted.Counted.write_all.Goals as goal
 
 pub writes-preserved : goal.writes-preserved

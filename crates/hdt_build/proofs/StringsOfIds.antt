@@ -1,0 +1,26 @@
+-- The string of an ID, and the string triple of three IDs.
+use Rattle.std.proofs.Common.{◌≡◌, ◌∙◌, ℕ, zero, suc, ◌-◌, ◌≤◌, List, [], length, get_or, ap, sym, subst, arith}
+use Rattle.std.specs.List.{Contains}
+use Rattle.std.proofs.lemmas.List.Elements.{Contains-get_or}
+use Rattle.std.proofs.lemmas.Option.{unwrap_or-slice_get}
+use Rattle.hdt_dict.specs.Dictionary.{SectionLists}
+use Rattle.hdt_triples.specs.TripleSequences.{Triple}
+use Rattle.hdt_file.specs.Denoted.{StringTriple, denoted_triple}
+use Rattle.hdt_build.specs.Layouts.{graph_parts_of}
+use Rattle.hdt_build.specs.Inside.Ids.{string_of_id}
+
+-- the strings of the IDs of a triple in the sections
+abbrev pub string_triple : SectionLists → Triple → StringTriple
+string_triple d t = denoted_triple (graph_parts_of [] d []) t
+
+pub same_strings : (a b c d e f : List ℕ) → a ≡ b → c ≡ d → e ≡ f → let l : StringTriple = (a, c, e) in let r : StringTriple = (b, d, f) in l ≡ r
+same_strings a b c d e f p q r = cc
+
+pub term_is : (xs : List (List ℕ)) (n : ℕ) → 1 ≤ n → string_of_id xs n ≡ get_or xs (n - 1) []
+term_is xs zero from = absurd (omega (arith, from))
+term_is xs (suc i) from =
+    let at : i ≡ suc i - 1 = omega arith in
+    unwrap_or-slice_get xs i [] ∙ ap (λ (k : ℕ). get_or xs k []) at
+
+pub term_in : (xs : List (List ℕ)) (n : ℕ) → 1 ≤ n → n ≤ length xs → Contains xs (string_of_id xs n)
+term_in xs n from to = subst (Contains xs) (sym (term_is xs n from)) (Contains-get_or xs (n - 1) [] (omega (arith, from, to)))

@@ -1,0 +1,26 @@
+use Rattle.std.proofs.Common.{arith}
+use Rattle.std.proofs.lemmas.List.{length-map}
+use Rattle.hdt_front.specs.Canonical.{borrowed_texts}
+use Rattle.hdt_build.proofs.Deduplication.{another, none_listed, listed_more, all_listed}
+use Rattle.hdt_build.proofs.dedup.dedup_strings.Goals as goal
+
+pub loop-at-init : goal.loop-at-init
+loop-at-init c = record { listed = rw c.in_ok-strings.ensures.items (none_listed c.args.list.now c.args.ordered.now c.in_ok-ranks.ranks.items (omega (arith, c.in_ok-ranks.ensures.len, c.len.ensures, c.in_ok-ranks.ranks.ok.0))) }
+
+pub push_distinct-requires : goal.push_distinct-requires
+push_distinct-requires c =
+    let l = c.loop-at in
+    record {
+      apart = λ no. rw c.get.ensures (another c.args.list.now c.args.ordered.now c.requires l.at c.loop-at-test.true (borrowed_texts l.strings.items) l.ranks.items l.invariant.listed (c.is_tied.ensures.apart no));
+    }
+
+pub loop-at-preserved : goal.loop-at-preserved
+loop-at-preserved c =
+    let l = c.loop-at in
+    record {
+      listed = listed_more c.args.list.now c.args.ordered.now c.requires l.at c.loop-at-test.true (borrowed_texts l.strings.items) l.ranks.items l.invariant.listed (borrowed_texts c.push_distinct.new.strings.items) c.in_ok-rank.rank
+          (rw c.get.ensures at c.in_ok-rank.ensures.joined) (omega (arith, c.in_ok-rank.ensures.place, length-map c.push_distinct.new.strings.items (λ v. v.now)));
+    }
+
+pub returns-clause-ranks : goal.returns-clause-ranks
+returns-clause-ranks c = all_listed c.args.list.now c.args.ordered.now c.requires (borrowed_texts c.loop-at.strings.items) c.loop-at.ranks.items c.loop-at.at c.loop-at-test.false c.loop-at.invariant.listed

@@ -1,0 +1,31 @@
+use Rattle.std.proofs.Common.{ℕ, subst, sym, arith}
+use Rattle.std.proofs.lemmas.List.{length-map}
+use Rattle.hdt_build.specs.Inside.Documents.{AreBelow}
+use Rattle.hdt_front.specs.Canonical.{borrowed_texts}
+use Rattle.hdt_wire.specs.declared.role.Role.TheVariants.{Subject, Predicate, Object}
+use Rattle.hdt_build.proofs.FilteredSections.{used_text, are_parts}
+use Rattle.hdt_build.proofs.section_filter.write_sections.Goals as goal
+
+pub write_filtered-requires-clause-texts : goal.write_filtered-requires-clause-texts
+write_filtered-requires-clause-texts c = λ k lt keep. used_text _ _ c.requires.texts Subject c.in_ok-s.s.items c.in_ok-s.ensures.used k (rw c.as_slice.ensures.value at keep.0)
+
+pub write_filtered-requires-2-clause-texts : goal.write_filtered-requires-2-clause-texts
+write_filtered-requires-2-clause-texts c = λ k lt keep. used_text _ _ c.requires.texts Subject c.in_ok-s.s.items c.in_ok-s.ensures.used k (rw c.as_slice-3.ensures.value at keep.0)
+
+pub write_filtered-requires-3-clause-texts : goal.write_filtered-requires-3-clause-texts
+write_filtered-requires-3-clause-texts c = λ k lt keep. used_text _ _ c.requires.texts Predicate c.in_ok-p.p.items c.in_ok-p.ensures.used k (rw c.as_slice-5.ensures.value at keep.0)
+
+pub write_filtered-requires-4-clause-texts : goal.write_filtered-requires-4-clause-texts
+write_filtered-requires-4-clause-texts c = λ k lt keep. used_text _ _ c.requires.texts Object c.in_ok-o.o.items c.in_ok-o.ensures.used k (rw c.as_slice-7.ensures.value at keep.0)
+
+pub returns-clause-parts : goal.returns-clause-parts
+returns-clause-parts c =
+    let long = length-map c.args.strings.now (λ v. v.now) in
+    let a = rw (c.as_slice.ensures.value, c.as_slice-2.ensures.value) at c.in_ok-shared.ensures.filled in
+    let b = rw (c.as_slice-3.ensures.value, c.as_slice-4.ensures.value, c.len-count.ensures) at c.in_ok-subjects.ensures.filled in
+    let p = rw (c.as_slice-5.ensures.value, c.as_slice-6.ensures.value) at c.in_ok-predicates.ensures.filled in
+    let o = rw (c.as_slice-7.ensures.value, c.as_slice-8.ensures.value, c.len-count.ensures) at c.in_ok-objects.ensures.filled in
+    are_parts (borrowed_texts c.args.strings.now) c.args.triples.now c.requires.ascend
+    (subst (λ (n : ℕ). AreBelow n c.args.triples.now) (sym long) c.requires.within) c.in_ok-s.s.items c.in_ok-p.p.items c.in_ok-o.o.items c.in_ok-s.ensures.used c.in_ok-p.ensures.used c.in_ok-o.ensures.used
+    _ _ _ _ _ _ _ _ _ _ a b p o
+    (omega (arith, long, c.in_ok-nodes.ensures.len, c.in_ok-nodes.nodes.ok.0)) (omega (arith, long, c.in_ok-names.ensures.len, c.in_ok-names.names.ok.0))

@@ -1,0 +1,61 @@
+//! The sections and the ID triples of a graph.
+ghost use Rattle.std.specs.Prelude.{◌≤◌, length, IfOk};
+ghost use Rattle.hdt_build.specs.Inside.Documents.{AreBelow};
+ghost use Rattle.hdt_build.specs.Graph.{string_triples_of, IsEncodedGraph};
+ghost use Rattle.hdt_build.specs.Inside.Rewriting.{HaveBlockSize, lists_of_sections};
+ghost use Rattle.hdt_build.specs.Reading.{HasDictionaryStrings};
+
+use crate::dedup::dedup_strings;
+use crate::section_filter::{SectionsAndIds, write_sections};
+use crate::string_sort::sort_strings;
+use crate::sections::SectionWriters;
+use crate::triples::{sort_dedup_triples, map_ids};
+use hdt_dict::Arena;
+use std::alloc::{AllocError, Global};
+
+/// The four sections of a graph, and its ID triples.
+#[derive(Drop)]
+pub(crate) struct EncodedGraph {
+    pub(crate) sections: SectionWriters,
+    pub(crate) triples: Vec<(u64, u64, u64)>,
+}
+
+/// Encodes a graph, whose triples are indices into a list of strings, as four sections and ID triples. Strings are
+/// copied only into their sections; the triples are converted in place.
+pub(crate) fn encode_graph(
+    alloc: Global,
+    list: Arena,
+    ids: Vec<(u64, u64, u64)>,
+    block_size: u32,
+) -> Result<EncodedGraph, AllocError>
+    requires within { AreBelow (length list) ids.items }
+    requires texts { HasDictionaryStrings (string_triples_of list ids.items) }
+    requires block { 1 ≤ block_size }
+    ensures form { IfOk result (λ made. IsEncodedGraph (string_triples_of list ids.items) (lists_of_sections made.sections) made.triples.items) }
+    ensures blocks { IfOk result (λ made. HaveBlockSize block_size made.sections) }
+{
+    let mut triples = ids;
+    let ordered = sort_strings(alloc, &list)?;
+    let (strings, ranks) = dedup_strings(alloc, &list, ordered.as_slice())?;
+    drop(ordered);
+    map_ids(
+        &mut triples,
+        ranks.as_slice(),
+        ranks.as_slice(),
+        ranks.as_slice(),
+    );
+    drop(ranks);
+    let SectionsAndIds {
+        sections,
+        nodes,
+        predicates,
+    } = write_sections(alloc, strings.as_slice(), triples.as_slice(), block_size)?;
+    map_ids(
+        &mut triples,
+        nodes.as_slice(),
+        predicates.as_slice(),
+        nodes.as_slice(),
+    );
+    sort_dedup_triples(&mut triples);
+    Ok(EncodedGraph { sections, triples })
+}

@@ -1,6 +1,0 @@
-use Rattle.std.proofs.Common.{◌≡◌, take}
-use Rattle.hdt_front.specs.Canonical.{lent_texts, texts}
-use Rattle.hdt_dict.proofs.parts.copied.Given as goal
-
-abbrev pub invariant-loop-text : goal.invariant-loop-text
-invariant-loop-text l = texts l.made.items ≡ take l.text-index (lent_texts l.list)

@@ -1,0 +1,42 @@
+-- Decoding front-coded strings. These functions are total: on bytes that are not a valid front coding their values have
+-- no meaning.
+use Rattle.std.specs.Prelude.{ℕ, ◌+◌, ◌%◌, ◌==◌, Bool, List, [], ◌∷◌, ◌++◌, take, drop, cond, zero, suc, Result, Ok, Err}
+use Rattle.hdt_wire.specs.declared.fault.Fault.{Fault}
+use Rattle.hdt_wire.specs.Checks.{len_before_zero}
+use Rattle.hdt_wire.specs.VByte.{vbyte_at}
+
+-- The value that was read, or a default on an error.
+abbrev pub value_or : {A : Type 0} → A → Result A Fault → A
+value_or d (Ok x) = x
+value_or d (Err f) = d
+
+-- The prefix length of the entry at the front of the bytes; 0 if the entry is the first of its block (`head`), which
+-- stores no prefix length.
+unfoldable pub kept : Bool → List ℕ → ℕ
+kept head bytes = cond head 0 (value_or (0, 0) (vbyte_at bytes 0)).0
+
+-- The bytes from the suffix of the entry on.
+unfoldable pub bytes_from_suffix : Bool → List ℕ → List ℕ
+bytes_from_suffix head bytes = cond head bytes (drop (value_or (0, 0) (vbyte_at bytes 0)).1 bytes)
+
+-- The suffix of the entry.
+unfoldable pub suffix_of : Bool → List ℕ → List ℕ
+suffix_of head bytes = take (len_before_zero (bytes_from_suffix head bytes)) (bytes_from_suffix head bytes)
+
+-- The string of the entry, given the previous string: a prefix of that, and the suffix.
+unfoldable pub decoded_string : Bool → List ℕ → List ℕ → List ℕ
+decoded_string head before bytes = take (kept head bytes) before ++ suffix_of head bytes
+
+-- The bytes after the entry.
+unfoldable pub after_entry : Bool → List ℕ → List ℕ
+after_entry head bytes = drop (len_before_zero (bytes_from_suffix head bytes) + 1) (bytes_from_suffix head bytes)
+
+-- Whether string i, from 0, is the first of its block.
+abbrev pub is_head : ℕ → ℕ → Bool
+is_head b i = (i % b) == 0
+
+-- The next n strings. The first has index i and follows the string `before`.
+unfoldable pub decoded_strings : ℕ → ℕ → ℕ → List ℕ → List ℕ → List (List ℕ)
+decoded_strings b zero i before bytes = []
+decoded_strings b (suc n) i before bytes =
+    decoded_string (is_head b i) before bytes ∷ decoded_strings b n (i + 1) (decoded_string (is_head b i) before bytes) (after_entry (is_head b i) bytes)

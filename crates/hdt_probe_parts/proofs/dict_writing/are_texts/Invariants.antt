@@ -1,7 +1,0 @@
-use Rattle.std.proofs.Common.{ℕ, ◌<◌, [], get_or}
-use Rattle.hdt_front.specs.Canonical.{lent_texts}
-use Rattle.hdt_dict.specs.Texts.{IsDictionaryString}
-use Rattle.hdt_probe_parts.proofs.dict_writing.are_texts.Given as goal
-
-abbrev pub invariant-loop-text : goal.invariant-loop-text
-invariant-loop-text l = (k : ℕ) → k < l.text-index → IsDictionaryString (get_or (lent_texts l.list) k [])

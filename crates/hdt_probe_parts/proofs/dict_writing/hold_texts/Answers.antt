@@ -1,8 +1,0 @@
-use Rattle.std.proofs.Common.{subst}
-use Rattle.std.specs.Prelude.{All}
-use Rattle.hdt_front.specs.Canonical.{lent_texts}
-use Rattle.hdt_dict.specs.Texts.{IsDictionaryString}
-use Rattle.hdt_probe_parts.proofs.dict_writing.hold_texts.Goals as goal
-
-pub returns : goal.returns
-returns c = λ held. subst (All IsDictionaryString) c.in_ok-slices.ensures (subst (λ l. All IsDictionaryString (lent_texts l)) c.as_slice.ensures.value (c.are_texts.ensures held))

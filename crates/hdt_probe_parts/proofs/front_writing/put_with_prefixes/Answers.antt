@@ -1,0 +1,11 @@
+use Rattle.std.specs.Borrow.{Bor}
+use Rattle.std.proofs.Common.{ℕ, List, []}
+use Rattle.hdt_front.proofs.BorrowedStrings.{no_zero_in}
+use Rattle.hdt_probe_parts.proofs.front_writing.put_with_prefixes.Goals as goal
+
+nothing : Bor (List ℕ)
+nothing = record { ref_ptr = (0, 0); now = [] }
+
+pub push_with_lcp-requires-clause-no_zero : goal.push_with_lcp-requires-clause-no_zero
+unfolding nothing
+push_with_lcp-requires-clause-no_zero c = no_zero_in c.args.strings.now c.loop-string.string-index nothing (c.are_section_strings.ensures.yes c.if-not-are_section_strings.false) c.loop-string-test.true

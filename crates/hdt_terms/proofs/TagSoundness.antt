@@ -1,0 +1,201 @@
+-- A parsed tag is a tag, and a tag is parsed in full.
+use Rattle.std.proofs.Common.{◌≡◌, ◌≢◌, ℕ, suc, Bool, true, false, eqb, List, [], ◌∷◌, ◌++◌, length, take, drop, Option, Some, None, Ok, refl, sym, ap, ◌∙◌, append_assoc, inl, inr}
+use Rattle.std.specs.List.{list_all, flat_map, AllByRecursion}
+use Rattle.std.specs.Char.{is_ascii_alphabetic, is_ascii_alphanumeric}
+use Rattle.std.proofs.lemmas.Bool.{eqb-true}
+use Rattle.std.proofs.lemmas.List.{take_at, drop_at}
+use Rattle.hdt_terms.specs.declared.fault.LineReason.TheVariants.{Syntax}
+use Rattle.hdt_terms.specs.declared.tag.TagState.{TagState}
+use Rattle.hdt_terms.specs.declared.tag.TagState.TheVariants.{Letters, Dash, Part}
+use Rattle.hdt_terms.specs.declared.triple.Suffix.{Suffix}
+use Rattle.hdt_terms.specs.declared.triple.Suffix.TheVariants.{Tag}
+use Rattle.hdt_terms.specs.Tags.{next_tag_state, unless_last_dash, tag_rest, tag_len}
+use Rattle.hdt_terms.specs.Terms.{IsSubtag, IsTag}
+use Rattle.hdt_terms.specs.TermParsing.{stops, cut_tag, tag_at}
+use Rattle.hdt_terms.specs.Writing.{Extends}
+use Rattle.hdt_terms.proofs.Bools.{and_first, and_second, and_both}
+use Rattle.hdt_terms.proofs.Cases.{chosen, ok_is}
+use Rattle.hdt_terms.proofs.Fronts.{no_front, front_cons}
+
+abbrev pub dashed : List ℕ → List ℕ
+dashed part = 45 ∷ part
+
+-- characters of a class, then parts
+pub record Run (class : ℕ → Bool) (run : List ℕ) : Type 0 where
+  pub first : List ℕ
+  pub parts : List (List ℕ)
+  pub letters : list_all class first ≡ true
+  pub each : AllByRecursion IsSubtag parts
+  pub whole : run ≡ first ++ flat_map dashed parts
+
+-- what follows a -, if anything
+abbrev pub BehindDash : List ℕ → Type 0
+BehindDash [] = Unit {0}
+BehindDash (c ∷ cs) = (is_ascii_alphanumeric c ≡ true) × Run is_ascii_alphanumeric cs
+
+no_run : (class : ℕ → Bool) → Run class []
+no_run class = record { first = []; parts = []; letters = refl; each = tt; whole = refl }
+
+more_run : (class : ℕ → Bool) (c : ℕ) (run : List ℕ) → class c ≡ true → Run class run → Run class (c ∷ run)
+more_run class c run h r = record {
+  first = c ∷ r.first;
+  parts = r.parts;
+  letters = and_both _ _ h r.letters;
+  each = r.each;
+  whole = ap (λ (cs : List ℕ). c ∷ cs) r.whole;
+}
+
+pub not_empty : (c : ℕ) (cs : List ℕ) → c ∷ cs ≢ []
+not_empty c cs e = cc
+
+dash_run : (class : ℕ → Bool) (c : ℕ) (run : List ℕ) → c ≡ 45 → BehindDash run → Run class (unless_last_dash Dash c run)
+dash_run class c [] is h = no_run class
+dash_run class c (d ∷ run) is h = record {
+  first = [];
+  parts = (d ∷ h.1.first) ∷ h.1.parts;
+  letters = refl;
+  each = (record { some = not_empty d h.1.first; each = and_both _ _ h.0 h.1.letters }, h.1.each);
+  whole = rw (is, h.1.whole) refl;
+}
+
+letters_run : (a d : Bool) (c : ℕ) (cs : List ℕ) → Run is_ascii_alphabetic (tag_rest Letters cs) → BehindDash (tag_rest Dash cs)
+    → is_ascii_alphabetic c ≡ a → eqb c 45 ≡ d → Run is_ascii_alphabetic (tag_rest Letters (c ∷ cs))
+letters_run true d c cs run dash h e = rw h (more_run is_ascii_alphabetic c (tag_rest Letters cs) h run)
+letters_run false true c cs run dash h e = rw (h, e) (dash_run is_ascii_alphabetic c (tag_rest Dash cs) (eqb-true _ _ e) dash)
+letters_run false false c cs run dash h e = rw (h, e) (no_run is_ascii_alphabetic)
+
+part_run : (a d : Bool) (c : ℕ) (cs : List ℕ) → Run is_ascii_alphanumeric (tag_rest Part cs) → BehindDash (tag_rest Dash cs)
+    → is_ascii_alphanumeric c ≡ a → eqb c 45 ≡ d → Run is_ascii_alphanumeric (tag_rest Part (c ∷ cs))
+part_run true d c cs run dash h e = rw h (more_run is_ascii_alphanumeric c (tag_rest Part cs) h run)
+part_run false true c cs run dash h e = rw (h, e) (dash_run is_ascii_alphanumeric c (tag_rest Dash cs) (eqb-true _ _ e) dash)
+part_run false false c cs run dash h e = rw (h, e) (no_run is_ascii_alphanumeric)
+
+behind_dash : (a : Bool) (c : ℕ) (cs : List ℕ) → Run is_ascii_alphanumeric (tag_rest Part cs) → is_ascii_alphanumeric c ≡ a → BehindDash (tag_rest Dash (c ∷ cs))
+behind_dash true c cs run h = rw h (h, run)
+behind_dash false c cs run h = rw h tt
+
+-- what is parsed from this state on
+abbrev pub Taken : TagState → List ℕ → Type 0
+Taken Letters run = Run is_ascii_alphabetic run
+Taken Dash run = BehindDash run
+Taken Part run = Run is_ascii_alphanumeric run
+
+pub tag_rest-Taken : (place : TagState) (cs : List ℕ) → Taken place (tag_rest place cs)
+tag_rest-Taken Letters [] = no_run is_ascii_alphabetic
+tag_rest-Taken Dash [] = tt
+tag_rest-Taken Part [] = no_run is_ascii_alphanumeric
+tag_rest-Taken Letters (c ∷ cs) = letters_run (is_ascii_alphabetic c) (eqb c 45) c cs (tag_rest-Taken Letters cs) (tag_rest-Taken Dash cs) refl refl
+tag_rest-Taken Dash (c ∷ cs) = behind_dash (is_ascii_alphanumeric c) c cs (tag_rest-Taken Part cs) refl
+tag_rest-Taken Part (c ∷ cs) = part_run (is_ascii_alphanumeric c) (eqb c 45) c cs (tag_rest-Taken Part cs) (tag_rest-Taken Dash cs) refl refl
+
+unless_last_dash-front : (next : TagState) (c : ℕ) (ds cs : List ℕ) → Extends ds cs → Extends (unless_last_dash next c ds) (c ∷ cs)
+unless_last_dash-front Letters c ds cs f = front_cons c ds cs f
+unless_last_dash-front Part c ds cs f = front_cons c ds cs f
+unless_last_dash-front Dash c [] cs f = no_front (c ∷ cs)
+unless_last_dash-front Dash c (d ∷ ds) cs f = front_cons c (d ∷ ds) cs f
+
+next_prefix : (next : Option TagState) (place : TagState) (c : ℕ) (cs : List ℕ) → ((q : TagState) → Extends (tag_rest q cs) cs) → next_tag_state place c ≡ next → Extends (tag_rest place (c ∷ cs)) (c ∷ cs)
+next_prefix None place c cs ih h = rw h (no_front (c ∷ cs))
+next_prefix (Some q) place c cs ih h = rw h (unless_last_dash-front q c (tag_rest q cs) cs (ih q))
+
+pub tag_rest-front : (place : TagState) (cs : List ℕ) → Extends (tag_rest place cs) cs
+tag_rest-front place [] = no_front []
+tag_rest-front place (c ∷ cs) = next_prefix (next_tag_state place c) place c cs (λ q. tag_rest-front q cs) refl
+
+pub record TagFound (bytes : List ℕ) (suffix : Suffix) (rest : List ℕ) : Type 0 where
+  pub tag : List ℕ
+  pub is : suffix ≡ Tag tag
+  pub form : IsTag tag
+  pub whole : bytes ≡ 64 ∷ (tag ++ rest)
+
+letter_then : (c : ℕ) (run : List ℕ) → is_ascii_alphabetic c ≡ true → Run is_ascii_alphabetic run → IsTag (c ∷ run)
+letter_then c run h r = record {
+  head = c ∷ r.first;
+  parts = r.parts;
+  some = not_empty c r.first;
+  letters = and_both _ _ h r.letters;
+  each = r.each;
+  whole = ap (λ (cs : List ℕ). c ∷ cs) r.whole;
+}
+
+cut_found : (bytes rest : List ℕ) (suffix : Suffix) (b : ℕ) (cs : List ℕ) → b ≡ 64 → cut_tag (tag_len cs) (b ∷ cs) cs ≡ Ok (suffix, rest) → TagFound (b ∷ cs) suffix rest
+cut_found bytes rest suffix b [] is e = absurd cc
+cut_found bytes rest suffix b (c ∷ cs) is e =
+    elim (chosen (is_ascii_alphabetic c) (Some (suc (length (tag_rest Letters cs)))) None (tag_len (c ∷ cs)) refl) [
+      | inl p ↦
+          let f = tag_rest-front Letters cs in
+          let n = suc (length (tag_rest Letters cs)) in
+          let cut : c ∷ cs ≡ (c ∷ tag_rest Letters cs) ++ f.more = ap (λ (bs : List ℕ). c ∷ bs) f.whole in
+          let front : take n (c ∷ cs) ≡ c ∷ tag_rest Letters cs = ap (take n) cut ∙ take_at (c ∷ tag_rest Letters cs) f.more n refl in
+          let back : drop n (c ∷ cs) ≡ f.more = ap (drop n) cut ∙ drop_at (c ∷ tag_rest Letters cs) f.more n refl in
+          let read : cut_tag (Some n) (b ∷ c ∷ cs) (c ∷ cs) ≡ Ok (suffix, rest) = ap (λ (o : Option ℕ). cut_tag o (b ∷ c ∷ cs) (c ∷ cs)) p.1 ∙ e in
+          let both : (Tag (take n (c ∷ cs)), drop n (c ∷ cs)) ≡ (suffix, rest) = ok_is _ _ read in
+          record {
+            tag = c ∷ tag_rest Letters cs;
+            is = sym (ap (λ (x : Suffix × List ℕ). x.0) both) ∙ ap Tag front;
+            form = letter_then c (tag_rest Letters cs) p.0 (tag_rest-Taken Letters cs);
+            whole = rw is (ap (λ (bs : List ℕ). 64 ∷ bs) (cut ∙ ap (λ (bs : List ℕ). (c ∷ tag_rest Letters cs) ++ bs) (sym back ∙ ap (λ (x : Suffix × List ℕ). x.1) both)));
+          }
+      | inr p ↦
+          let read : cut_tag None (b ∷ c ∷ cs) (c ∷ cs) ≡ Ok (suffix, rest) = ap (λ (o : Option ℕ). cut_tag o (b ∷ c ∷ cs) (c ∷ cs)) p.1 ∙ e in
+          absurd cc
+    ]
+
+pub tag_found : (bytes rest : List ℕ) (suffix : Suffix) → tag_at bytes ≡ Ok (suffix, rest) → TagFound bytes suffix rest
+unfolding tag_at
+tag_found [] rest suffix e = absurd cc
+tag_found (b ∷ cs) rest suffix e =
+    elim (chosen (eqb b 64) (cut_tag (tag_len cs) (b ∷ cs) cs) (stops Syntax (b ∷ cs)) (Ok (suffix, rest)) e) [
+      | inl p ↦ cut_found (b ∷ cs) rest suffix b cs (eqb-true _ _ p.0) p.1
+      | inr p ↦ absurd cc
+    ]
+
+-- ---- a tag is parsed in full
+
+-- the tag does not continue here
+pub record Ends (more : List ℕ) : Type 0 where
+  pub letters : tag_rest Letters more ≡ []
+  pub part : tag_rest Part more ≡ []
+
+pub letters_again : (head more : List ℕ) → list_all is_ascii_alphabetic head ≡ true → tag_rest Letters (head ++ more) ≡ head ++ tag_rest Letters more
+letters_again [] more h = refl
+letters_again (c ∷ head) more h = rw (and_first (is_ascii_alphabetic c) (list_all is_ascii_alphabetic head) h) (ap (λ (bs : List ℕ). c ∷ bs) (letters_again head more (and_second _ _ h)))
+
+part_again : (part more : List ℕ) → list_all is_ascii_alphanumeric part ≡ true → tag_rest Part (part ++ more) ≡ part ++ tag_rest Part more
+part_again [] more h = refl
+part_again (c ∷ part) more h = rw (and_first (is_ascii_alphanumeric c) (list_all is_ascii_alphanumeric part) h) (ap (λ (bs : List ℕ). c ∷ bs) (part_again part more (and_second _ _ h)))
+
+pub dash_again : (part more : List ℕ) → IsSubtag part → unless_last_dash Dash 45 (tag_rest Dash (part ++ more)) ≡ 45 ∷ (part ++ tag_rest Part more)
+dash_again [] more h = absurd (h.some refl)
+dash_again (c ∷ part) more h =
+    rw (and_first (is_ascii_alphanumeric c) (list_all is_ascii_alphanumeric part) h.each) (ap (λ (bs : List ℕ). 45 ∷ c ∷ bs) (part_again part more (and_second _ _ h.each)))
+
+parts_again : (parts : List (List ℕ)) (more : List ℕ) → AllByRecursion IsSubtag parts → Ends more → tag_rest Part (flat_map dashed parts ++ more) ≡ flat_map dashed parts
+parts_again [] more each ends = ends.part
+parts_again (part ∷ parts) more each ends =
+    ap (tag_rest Part) (append_assoc (45 ∷ part) (flat_map dashed parts) more)
+    ∙ dash_again part (flat_map dashed parts ++ more) each.0
+    ∙ ap (λ (bs : List ℕ). 45 ∷ (part ++ bs)) (parts_again parts more each.1 ends)
+
+tail_again : (parts : List (List ℕ)) (more : List ℕ) → AllByRecursion IsSubtag parts → Ends more → tag_rest Letters (flat_map dashed parts ++ more) ≡ flat_map dashed parts
+tail_again [] more each ends = ends.letters
+tail_again (part ∷ parts) more each ends =
+    ap (tag_rest Letters) (append_assoc (45 ∷ part) (flat_map dashed parts) more)
+    ∙ dash_again part (flat_map dashed parts ++ more) each.0
+    ∙ ap (λ (bs : List ℕ). 45 ∷ (part ++ bs)) (parts_again parts more each.1 ends)
+
+whole_again : (head : List ℕ) (parts : List (List ℕ)) (more : List ℕ) → head ≢ [] → list_all is_ascii_alphabetic head ≡ true → AllByRecursion IsSubtag parts → Ends more
+    → tag_len ((head ++ flat_map dashed parts) ++ more) ≡ Some (length (head ++ flat_map dashed parts))
+whole_again [] parts more some letters each ends = absurd (some refl)
+whole_again (c ∷ head) parts more some letters each ends =
+    rw (and_first (is_ascii_alphabetic c) (list_all is_ascii_alphabetic head) letters) (ap (λ (bs : List ℕ). Some (suc (length bs)))
+    (ap (tag_rest Letters) (append_assoc head (flat_map dashed parts) more)
+    ∙ letters_again head (flat_map dashed parts ++ more) (and_second _ _ letters)
+    ∙ ap (λ (bs : List ℕ). head ++ bs) (tail_again parts more each ends)))
+
+pub tag_len-again : (tag more : List ℕ) → IsTag tag → Ends more → tag_len (tag ++ more) ≡ Some (length tag)
+tag_len-again tag more h ends = rw h.whole (whole_again h.head h.parts more h.some h.letters h.each ends)
+
+pub tag_again : (tag more : List ℕ) → IsTag tag → Ends more → tag_at (64 ∷ (tag ++ more)) ≡ Ok (Tag tag, more)
+unfolding tag_at
+tag_again tag more h ends = rw (tag_len-again tag more h ends, take_at tag more (length tag) refl, drop_at tag more (length tag) refl) refl

@@ -1,0 +1,100 @@
+-- Tests of complete texts: a tag, a label, a UTF-8 text.
+use Rattle.std.proofs.Common.{◌≡◌, ◌<◌, ◌≤◌, ℕ, Bool, true, false, eqb, inl, inr, List, [], ◌∷◌, length, take, drop, Option, Some, None, Ok, refl, sym, ap, subst, ◌∙◌, arith}
+use Rattle.std.specs.Prelude.{IsUtf8, nat_eq, not, is_some, slice_index}
+use Rattle.std.specs.Char.{is_ascii}
+use Rattle.std.specs.List.{list_all}
+use Rattle.std.specs.Option.{option_eq}
+use Rattle.std.proofs.lemmas.Bool.{cases_eq, eq-eqb, eqb-true, ne_eqb}
+use Rattle.std.proofs.lemmas.Bool.Decides.{nat_tests}
+use Rattle.std.proofs.lemmas.List.Elements.{All-from_get_or}
+use Rattle.std.proofs.lemmas.List.Folds.{list_all_at}
+use Rattle.std.proofs.lemmas.List.Sums.{list_all-from_AllPass}
+use Rattle.memchr.specs.Find.{IsFirstByte, is_byte}
+use Rattle.std.specs.Str.{chars}
+use Rattle.std.proofs.lemmas.List.{append-nil, take_all, get_or-take, length-take-le}
+use Rattle.std.proofs.lemmas.Str.{chars-nil, IsUtf8-append, IsUtf8-from_ascii}
+use Rattle.std.proofs.lemmas.Str.Ascii.{IsAscii-nil, IsAscii-cons}
+use Rattle.hdt_terms.specs.declared.triple.Suffix.TheVariants.{Tag}
+use Rattle.hdt_terms.specs.Labels.{label_rest, is_label, label_bytes}
+use Rattle.hdt_terms.specs.Tags.{tag_len}
+use Rattle.hdt_terms.specs.Terms.{IsTag, IsLabel, IsText}
+use Rattle.hdt_terms.specs.Inside.ByteRuns.{PassBetween, passes}
+use Rattle.hdt_terms.specs.declared.byte_runs.ByteClass.TheVariants.{AsciiText, AsciiLine}
+use Rattle.hdt_terms.specs.Chars.{is_line_end}
+use Rattle.hdt_terms.specs.TermParsing.{blank_at, tag_at}
+use Rattle.hdt_terms.proofs.LabelSoundness.{blank_found, label_bytes-again}
+use Rattle.hdt_terms.proofs.Bools.{and_second}
+use Rattle.hdt_terms.proofs.LastQuotes.{class_other, is_other, none_there}
+use Rattle.hdt_terms.proofs.StringTerms.{class_ascii}
+use Rattle.hdt_terms.proofs.TagSoundness.{tag_found, tag_len-again}
+
+pub takes_all : (o : Option ℕ) (n : ℕ) → option_eq nat_eq o (Some n) ≡ true → o ≡ Some n
+takes_all None n h = absurd cc
+takes_all (Some m) n h = ap Some (eqb-true m n h)
+
+pub taken_all : (o : Option ℕ) (n : ℕ) → o ≡ Some n → option_eq nat_eq o (Some n) ≡ true
+taken_all o n e = rw e (eq-eqb n n refl)
+
+-- a tag that has all bytes
+pub tag_whole : (bytes : List ℕ) → tag_len bytes ≡ Some (length bytes) → IsTag bytes
+unfolding tag_at
+tag_whole bytes h =
+    let n = length bytes in
+    let read : tag_at (64 ∷ bytes) ≡ Ok (Tag (take n bytes), drop n bytes) = rw h refl in
+    let f = tag_found (64 ∷ bytes) (drop n bytes) (Tag (take n bytes)) read in
+    let same : take n bytes ≡ f.tag = cc (f.is) in
+    subst IsTag (sym same ∙ take_all n bytes (omega arith)) f.form
+
+pub tag_taken : (bytes : List ℕ) → IsTag bytes → tag_len bytes ≡ Some (length bytes)
+tag_taken bytes h = ap tag_len (sym (append-nil bytes)) ∙ tag_len-again bytes [] h (record { letters = refl; part = refl })
+
+-- a label that has all bytes
+pub label_whole : (bytes : List ℕ) → IsUtf8 bytes → label_bytes (chars bytes) ≡ Some (length bytes) → IsLabel bytes
+unfolding blank_at
+label_whole bytes utf8 h =
+    let n = length bytes in
+    let read : blank_at (95 ∷ 58 ∷ bytes) ≡ Ok (take n bytes, drop n bytes) = rw h refl in
+    let front : IsUtf8 (95 ∷ 58 ∷ []) = IsUtf8-from_ascii (95 ∷ 58 ∷ []) (IsAscii-cons 95 (58 ∷ []) (omega arith) (IsAscii-cons 58 [] (omega arith) IsAscii-nil)) in
+    let f = blank_found (95 ∷ 58 ∷ bytes) (take n bytes) (drop n bytes) (IsUtf8-append (95 ∷ 58 ∷ []) bytes front utf8) read in
+    record { utf8 = utf8; form = ap (λ (bs : List ℕ). is_label (chars bs)) (sym (take_all n bytes (omega arith))) ∙ f.form }
+
+pub label_taken : (bytes : List ℕ) → IsLabel bytes → label_bytes (chars bytes) ≡ Some (length bytes)
+label_taken bytes h = ap (λ (bs : List ℕ). label_bytes (chars bs)) (sym (append-nil bytes)) ∙ label_bytes-again bytes [] h (ap label_rest chars-nil)
+
+-- a search for U+0000 that finds none
+pub no_zero : (bytes : List ℕ) (r : Option ℕ) → IsFirstByte (is_byte 0) bytes r → is_some r ≡ false → list_all (is_other 0) bytes ≡ true
+no_zero bytes None h none = none_there 0 bytes h
+no_zero bytes (Some k) h none = absurd cc
+
+-- ---- runs of bytes of one class
+
+all_true : (test : ℕ → Bool) (bytes : List ℕ) (n : ℕ) → length bytes ≤ n → ((k : ℕ) → k < n → test (slice_index bytes k) ≡ true) → list_all test bytes ≡ true
+all_true test bytes n le run = list_all-from_AllPass test bytes (All-from_get_or (λ c. test c ≡ true) bytes 0 (λ i lt. run i (omega arith)))
+
+-- if the bytes before n pass and the next one does not, then n is the length if and only if all pass
+pub all_pass : (test : ℕ → Bool) (bytes : List ℕ) (n : ℕ) → n ≤ length bytes → ((k : ℕ) → k < n → test (slice_index bytes k) ≡ true)
+    → (n < length bytes → test (slice_index bytes n) ≡ false) → nat_eq n (length bytes) ≡ list_all test bytes
+all_pass test bytes n le run stop =
+    elim (cases_eq n (length bytes)) [
+      | inl same ↦ eq-eqb _ _ same ∙ sym (all_true test bytes n (omega arith) run)
+      | inr less ↦ ne_eqb _ _ less ∙ sym (list_all_at test bytes n 0 (omega arith) (stop (omega arith)))
+    ]
+
+ascii_small : (c : ℕ) → passes AsciiText c ≡ true → c < 128
+ascii_small c h = let small = and_second (not (eqb c 0)) (is_ascii c) h in grind (arith, nat_tests, small)
+
+line_small : (c : ℕ) → passes AsciiLine c ≡ true → c < 128
+line_small c h = let small = and_second (not (is_line_end c)) (is_ascii c) h in grind (arith, nat_tests, small)
+
+pub line_utf8 : (bytes : List ℕ) (n : ℕ) → n ≤ length bytes → PassBetween (passes AsciiLine) bytes 0 n → IsUtf8 (take n bytes)
+line_utf8 bytes n le run =
+    IsUtf8-from_ascii (take n bytes) (class_ascii (passes AsciiLine) line_small (take n bytes)
+    (all_true (passes AsciiLine) (take n bytes) n (omega (arith, length-take-le n bytes le)) (λ k lt. rw get_or-take (run k (omega arith) lt))))
+
+pub all_ascii : (bytes : List ℕ) (n : ℕ) → n ≡ length bytes → PassBetween (passes AsciiText) bytes 0 n → IsText bytes
+all_ascii bytes n e run =
+    let all = all_true (passes AsciiText) bytes n (omega arith) (λ k lt. run k (omega arith) lt) in
+    record {
+      utf8 = IsUtf8-from_ascii bytes (class_ascii (passes AsciiText) ascii_small bytes all);
+      no_zero = class_other (passes AsciiText) 0 bytes refl all;
+    }

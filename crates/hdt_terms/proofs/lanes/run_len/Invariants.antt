@@ -1,9 +1,0 @@
-use Rattle.std.proofs.Common.{◌-◌, ◌≤◌, length}
-use Rattle.hdt_terms.specs.Inside.Lanes.{PassBetween, passes}
-use Rattle.hdt_terms.proofs.lanes.run_len.Given as goal
-
-abbrev pub invariant-loads : goal.invariant-loads
-invariant-loads l = (l.at ≤ length l.bytes) × PassBetween (passes l.class) l.bytes 0 l.at
-
-abbrev pub decreases-loads : goal.decreases-loads
-decreases-loads l = length l.bytes - l.at

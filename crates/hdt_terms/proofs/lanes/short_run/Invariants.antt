@@ -1,9 +1,0 @@
-use Rattle.std.proofs.Common.{◌-◌, ◌≤◌, length}
-use Rattle.hdt_terms.specs.Inside.Lanes.{PassBetween, passes}
-use Rattle.hdt_terms.proofs.lanes.short_run.Given as goal
-
-abbrev pub invariant-bytes : goal.invariant-bytes
-invariant-bytes l = (l.at ≤ length l.bytes) × PassBetween (passes l.class) l.bytes 0 l.at
-
-abbrev pub decreases-bytes : goal.decreases-bytes
-decreases-bytes l = length l.bytes - l.at

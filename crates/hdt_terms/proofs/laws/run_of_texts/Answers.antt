@@ -1,8 +1,0 @@
-use Rattle.hdt_terms.proofs.RunningTexts.{texts_on, texts_last}
-use Rattle.hdt_terms.proofs.laws.run_of_texts.Goals as goal
-
-pub returns-clause-goes_on : goal.returns-clause-goes_on
-returns-clause-goes_on c = texts_on
-
-pub returns-clause-last : goal.returns-clause-last
-returns-clause-last c = texts_last

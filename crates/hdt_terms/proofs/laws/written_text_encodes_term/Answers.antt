@@ -1,0 +1,9 @@
+use Rattle.hdt_terms.proofs.WrittenTerms.{written-Encodes}
+use Rattle.hdt_terms.proofs.WrittenLines.{written-HasNoLineEnd}
+use Rattle.hdt_terms.proofs.laws.written_text_encodes_term.Goals as goal
+
+pub returns-clause-spelled : goal.returns-clause-spelled
+returns-clause-spelled c = written-Encodes
+
+pub returns-clause-no_end : goal.returns-clause-no_end
+returns-clause-no_end c = written-HasNoLineEnd

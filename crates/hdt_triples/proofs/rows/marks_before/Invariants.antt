@@ -1,7 +1,0 @@
-use Rattle.std.proofs.Common.{◌≡◌}
-use Rattle.hdt_seq.specs.Marks.{marks_before}
-use Rattle.hdt_seq.specs.Bits.{bits_of}
-use Rattle.hdt_triples.proofs.rows.marks_before.Given as goal
-
-abbrev pub invariant-marks : goal.invariant-marks
-invariant-marks l = l.before ≡ marks_before (bits_of l.marks) l.i

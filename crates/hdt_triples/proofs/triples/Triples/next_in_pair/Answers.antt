@@ -1,0 +1,13 @@
+use Rattle.hdt_triples.specs.Views.{triples_view}
+use Rattle.hdt_triples.proofs.PredicateLaws.{advanced_cursor}
+use Rattle.std.proofs.Common.{arith}
+use Rattle.hdt_seq.specs.Laws.Numbers.{numbers_below}
+use Rattle.hdt_triples.proofs.triples.Triples.next_in_pair.Goals as goal
+
+pub returns-clause-stands : goal.returns-clause-stands
+unfolding triples_view
+returns-clause-stands c = λ p st. advanced_cursor (triples_view c.args.self.now) p c.args.cursor c.read_bit-last.result c.args.self.now.valid.marked c.requires.inside c.read_bit-last.ensures.is st
+
+pub overflow_add-result : goal.overflow_add-result
+unfolding triples_view
+overflow_add-result c = omega (arith, numbers_below c.args.self.now.array_z, c.requires.within)

@@ -1,0 +1,77 @@
+//! The position of a search by predicate.
+ghost use Rattle.std.specs.Prelude.{◌≡◌, ◌≤◌, ◌<◌, ◌+◌, ℕ, length, true, false};
+ghost use Rattle.hdt_seq.specs.Directory.{groups};
+ghost use Rattle.hdt_seq.specs.Width.{digits};
+ghost use Rattle.hdt_triples.specs.Bounds.{of_predicate};
+ghost use Rattle.hdt_triples.specs.Patterns.{matches};
+ghost use Rattle.hdt_triples.specs.Inside.PredicateCursors.{IsPredicateCursor};
+ghost use Rattle.hdt_triples.specs.Views.{triples_view};
+ghost use Rattle.hdt_triples.specs.Scanning.{triples_from};
+
+use crate::indexed::IndexedTriples;
+use crate::access::{read_list, read_bit};
+use crate::triples::Triples;
+use hdt_seq::Steps;
+
+/// The position of a search by predicate: before a pair of the predicate, or within one.
+#[derive(Clone, Copy)]
+pub(crate) struct PredicateCursor<'a> {
+    /// The remaining pairs of the predicate.
+    pub(crate) rest: &'a [u64],
+    /// Within a pair the index of its next triple; before one the index after the last triple that was returned.
+    pub(crate) at: u64,
+    /// The subject of the current pair.
+    pub(crate) subject: u64,
+    /// Whether the position is within a pair.
+    pub(crate) inside: bool,
+}
+
+impl<'a> IndexedTriples<'a> {
+    ghost use Rattle.hdt_triples.specs.IndexViews.{triples_indexed};
+
+    /// Returns the position unchanged if it is within a pair, and else that of the first triple of the next pair: one
+    /// rank for the pair's subject, one select for its first triple.
+    #[tactic(auto, unfolding(crate::specs::Views::triples_view))]
+    pub(crate) fn enter_pair<'b>(&self, cursor: PredicateCursor<'b>, predicate: u64, steps: &mut Steps) -> PredicateCursor<'b>
+        requires stands { IsPredicateCursor (triples_view (triples_indexed self.now)) predicate cursor }
+        requires some { cursor.inside ≡ false → 0 < length cursor.rest.now }
+        ensures inside { result.inside ≡ true }
+        ensures stands { IsPredicateCursor (triples_view (triples_indexed self.now)) predicate result }
+        ensures left { matches (of_predicate predicate) (triples_from (triples_view (triples_indexed self.now)) cursor.entry.at) ≡ matches (of_predicate predicate) (triples_from (triples_view (triples_indexed self.now)) result.at) }
+        ensures cost { steps.new ≤ steps.old + (digits (groups (triples_view (triples_indexed self.now)).bitmap_z) + 17) }
+        ensures more { steps.old ≤ steps.new }
+    {
+        if cursor.inside {
+            return cursor;
+        }
+        let pair = read_list(cursor.rest, 0, steps);
+        let subject = self.y.rank(&self.triples.bitmap_y, pair, steps) + 1;
+        let at = self.start_of_pair(pair, steps);
+        PredicateCursor {
+            rest: cursor.rest.split_at(1).1,
+            at,
+            subject,
+            inside: true,
+        }
+    }
+}
+
+impl<'a> Triples<'a> {
+    /// Returns the position after a triple of the current pair. Its bit in bitmap Z shows whether the pair ends. One
+    /// step.
+    #[tactic(auto, unfolding(crate::specs::Views::triples_view))]
+    pub(crate) fn next_in_pair<'b>(&self, cursor: PredicateCursor<'b>, steps: &mut Steps) -> PredicateCursor<'b>
+        requires inside { cursor.inside ≡ true }
+        requires within { cursor.at < length (triples_view self.now).array_z }
+        ensures at { result.at ≡ cursor.entry.at + 1 }
+        ensures stands { (p : ℕ) → IsPredicateCursor (triples_view self.now) p cursor.entry → IsPredicateCursor (triples_view self.now) p result }
+        ensures cost { steps.new ≡ steps.old + 1 }
+    {
+        let last = read_bit(&self.bitmap_z, cursor.at, steps);
+        PredicateCursor {
+            at: cursor.at + 1,
+            inside: !last,
+            ..cursor
+        }
+    }
+}
