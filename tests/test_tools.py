@@ -132,7 +132,7 @@ def test_without_kit(tmp_path: Path, words: list[str], wanted: int) -> None:
     """Where the kit, or what is built with it, is missing, a line says so, and nothing is built or shipped."""
     for name in ("tools", "c"):
         shutil.copytree(TOP / name, tmp_path / name, ignore=shutil.ignore_patterns("__pycache__"))
-    (tmp_path / "crates.txt").write_text("hdt_tool:\n")
+    (tmp_path / "crates.txt").write_text("hdt:\n")
     module, *rest = words
     path = {"PATH": "/usr/bin:/bin"}
     status, out, err = run([sys.executable, "-B", "-m", f"tools.{module}", *rest], cwd=tmp_path, env=path)
@@ -153,8 +153,8 @@ KIT = {
 case $1 in
 version) echo kit of files 1 ;;
 ci)
-    echo "rt: hdt_tool proved" && echo "rt: hdt_c is kept: of an earlier run"
-    mkdir -p crates/hdt_tool/out && cp crates/hdt_tool/src/main.rt crates/hdt_tool/out/hdt_tool
+    echo "rt: hdt proved" && echo "rt: hdt_c is kept: of an earlier run"
+    mkdir -p crates/hdt/out && cp crates/hdt/src/main.rt crates/hdt/out/hdt
     [ ! -f "${0%/*}/../edit" ] || . "${0%/*}/../edit"
     echo "2 passed, 0 failed"
     ;;
@@ -179,8 +179,8 @@ echo library >"$2"
 """,
 }
 TREE = {
-    "crates.txt": "hdt_tool:\nhdt_c staticlib:\n",
-    "crates/hdt_tool/src/main.rt": "#!/bin/sh\necho the program: $1\n",
+    "crates.txt": "hdt:\nhdt_c staticlib:\n",
+    "crates/hdt/src/main.rt": "#!/bin/sh\necho the program: $1\n",
     "crates/hdt_c/src/lib.rt": "",
     "c/hdt.map": "{ global: hdt_*; local: *; };\n",
 }
@@ -225,7 +225,7 @@ def test_build(tree: Tree) -> None:
     """What is built belongs to the sources, and is run; when they change, it is not."""
     status, out, err = tree.tool("build")
     assert (status, out) == (0, b""), err
-    assert b"hdt_tool is proved, 1 of 2\n" in err and b"hdt_c was proved before, 2 of 2\n" in err
+    assert b"hdt is proved, 1 of 2\n" in err and b"hdt_c was proved before, 2 of 2\n" in err
     assert err.endswith(b"hdt: built in out/x86_64-linux-gnu\n")
     files = {it.name for it in (tree.top / "out/x86_64-linux-gnu").iterdir()}
     assert files == {"hdt", "libhdt.a", "libhdt.so"}
@@ -240,7 +240,7 @@ def test_build(tree: Tree) -> None:
 
 def test_sources_that_change_during_the_proofs(tree: Tree) -> None:
     """Files do not belong to sources that are newer than the proofs that they come from."""
-    (tree.kit / "edit").write_text("echo '// changed' >>crates/hdt_tool/src/main.rt\n")
+    (tree.kit / "edit").write_text("echo '// changed' >>crates/hdt/src/main.rt\n")
     assert tree.tool("build").status == 2
     assert tree.hdt().status == 2
 
@@ -248,7 +248,7 @@ def test_sources_that_change_during_the_proofs(tree: Tree) -> None:
 def test_link_of_older_proofs(tree: Tree) -> None:
     """`--link` does not take what was proved of other sources."""
     assert tree.tool("build").status == 0
-    (tree.top / "crates/hdt_tool/src/main.rt").write_text("#!/bin/sh\necho another program\n")
+    (tree.top / "crates/hdt/src/main.rt").write_text("#!/bin/sh\necho another program\n")
     assert tree.tool("build", "--link").status == 2
     assert tree.hdt().status == 2
 

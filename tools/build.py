@@ -23,7 +23,7 @@ from tools import manifest
 from tools.repository import TOP, Crate, NoKit, crates, kit, kit_line
 
 # The crate whose program is the command `hdt`, and the crate of the C library.
-COMMAND = "hdt_tool"
+COMMAND = "hdt"
 LIBRARY = "hdt_c"
 # The checksum of the sources that the last run of `rt ci` in this tree has proved.
 PROVED = TOP / "out/PROVED"

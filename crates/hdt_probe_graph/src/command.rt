@@ -1,7 +1,7 @@
-//! Calls of hdt_command and hdt_usage: parsing command-line arguments.
+//! Calls of hdt_tool and hdt_usage: parsing command-line arguments.
 
 use hdt_build::Options;
-use hdt_command::{
+use hdt_tool::{
     Action, AnswerOptions, OutputFormat, Request, UsageFault, parse_invocation, parse_words, usage_line,
 };
 use hdt_probe::{Args, Reply, role_number};

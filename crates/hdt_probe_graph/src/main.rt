@@ -1,4 +1,4 @@
-//! Makes calls of hdt_file, hdt_build, hdt_command and hdt_usage for tests. It reads one request a line from standard
+//! Makes calls of hdt_file, hdt_build, hdt_tool and hdt_usage for tests. It reads one request a line from standard
 //! input and prints one answer a line. docs/PROBES.md describes both; the request `help` lists the words.
 #![tactic(auto)]
 

@@ -1,9 +1,9 @@
-//! Calls of hdt_command: running commands, and what they print.
+//! Calls of hdt_tool: running commands, and what they print.
 
 use crate::command::{reply_usage_fault, texts_of};
 use crate::faults::{line_reason_of, reply_line_fault};
 use crate::open::graph_of;
-use hdt_command::{
+use hdt_tool::{
     AnswerOptions, OutputFormat, Request, ToolFault, UsageFault, TermArgument, answer_file, answer_requests, fault_line,
     parse_words, run, run_with_capacity, usage_line,
 };

@@ -1,5 +1,5 @@
 //! The command-line interface of `hdt`: its commands with their arguments, options and help, as a table for `clap`.
-//! hdt_command interprets what `clap` parses.
+//! hdt_tool interprets what `clap` parses.
 //!
 //! Guarantee: the table is exactly the specified one, so `clap` accepts exactly the specified command lines.
 //!

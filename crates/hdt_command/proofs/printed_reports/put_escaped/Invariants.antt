@@ -1,6 +1,0 @@
-use Rattle.std.proofs.Common.{◌≡◌, ◌++◌, take}
-use Rattle.hdt_command.specs.Escaping.{escaped}
-use Rattle.hdt_command.proofs.printed_reports.put_escaped.Given as goal
-
-abbrev pub invariant-bytes : goal.invariant-bytes
-invariant-bytes l = l.out.items ≡ l.fn.out.items ++ escaped (take l.byte-index l.text)

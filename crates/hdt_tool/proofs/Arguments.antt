@@ -1,0 +1,108 @@
+-- What valid arguments give, and which usage errors are possible if they are not valid.
+use Rattle.std.proofs.Common.{◌≡◌, ℕ, Bool, true, false, List, Option, Some, codes, refl, sym, ap, subst, inl, inr, ◌⊎◌, ⊎_elim, ◌∙◌}
+use Rattle.std.specs.Prelude.{◌≢◌, IsSome, IsSomeAnd}
+use Rattle.std.specs.Str.{bytes_eq}
+use Rattle.std.proofs.lemmas.Slice.Eq.{bytes_eq-Decides}
+use Rattle.clap.specs.Words.{Row, Text, first_of, one_of}
+use Rattle.hdt_terms.specs.declared.fault.TermFault.{TermFault}
+use Rattle.hdt_terms.specs.Faults.{out_of_memory}
+use Rattle.hdt_terms.specs.TermErrors.{IsTermError}
+use Rattle.hdt_tool.specs.declared.fault.UsageFault.{UsageFault}
+use Rattle.hdt_tool.specs.declared.fault.TermArgument.{TermArgument}
+use Rattle.hdt_tool.specs.declared.fault.UsageFault.TheVariants.{Usage, Help, InvalidTerm, OutOfMemory}
+use Rattle.hdt_build.specs.declared.options.Options.{Options}
+use Rattle.hdt_tool.specs.declared.request.Action.{Action}
+use Rattle.hdt_tool.specs.declared.request.Request.{Request}
+use Rattle.hdt_tool.specs.declared.request.Action.TheVariants as action
+use Rattle.hdt_tool.specs.CommandLine.{IsFileAction, IsRequestOf, IsFileRequest, IsMakeRequest, IsMakeAction, Refutes, RefutesOrInvalidTerm, IsFaultOfArgument, IsInvalidTerm, IsInvalidPart, IsUsed, HasInvalidTerm, ParsesAsOptions, IsFaultOfTerm}
+use Rattle.hdt_tool.specs.ErrorLines.{argument_name}
+
+some_is : (a b : Text) → Some a ≡ Some b → a ≡ b
+some_is a b e = cc
+
+-- An error that refutes P, or is one of Q, also refutes every W that implies P, or is one of every Z that contains Q.
+pub map_refutes : (P W : Type 0) (Q Z : TermArgument → TermFault → Type 0) (r : UsageFault) → (W → P) → ((word : TermArgument) (fault : TermFault) → Q word fault → Z word fault) → RefutesOrInvalidTerm P Q r → RefutesOrInvalidTerm W Z r
+map_refutes P W Q Z (Help said) f g h = absurd h
+map_refutes P W Q Z (Usage said) f g h = λ w. h (f w)
+map_refutes P W Q Z (InvalidTerm word fault) f g h = g word fault h
+map_refutes P W Q Z OutOfMemory f g h = tt
+
+pub without_or : (P W : Type 0) (Q : TermArgument → TermFault → Type 0) (r : UsageFault) → (W → P) → Refutes P r → RefutesOrInvalidTerm W Q r
+without_or P W Q r f h = map_refutes P W (λ _ _. ⊥) Q r f (λ word fault none. absurd none) h
+
+pub without : (P W : Type 0) (r : UsageFault) → (W → P) → Refutes P r → Refutes W r
+without P W r f h = without_or P W (λ _ _. ⊥) r f h
+
+-- The error of parsing a text as a term.
+pub term_fault_of_argument : (word : TermArgument) (text : List ℕ) (raw : Bool) (fault : TermFault) (r : UsageFault) → raw ≡ false → IsFaultOfTerm word fault r → (fault ≡ out_of_memory) ⊎ IsTermError text fault
+    → RefutesOrInvalidTerm (Unit {0}) (IsFaultOfArgument word raw text) r
+term_fault_of_argument word text raw fault (InvalidTerm other told) unused k (inl e) = absurd (k.2 (ap (λ (f : TermFault). f.reason) e))
+term_fault_of_argument word text raw fault (InvalidTerm other told) unused k (inr f) = (k.0, unused, subst (IsTermError text) (sym k.1) f)
+term_fault_of_argument word text raw fault OutOfMemory unused k h = tt
+term_fault_of_argument word text raw fault r unused k h = absurd k
+
+-- The error is one of the argument's entry.
+in_entry : (word : TermArgument) (rows : List Row) (text : List ℕ) (flag : Bool) (other : TermArgument) (fault : TermFault) → (IsUsed (one_of (codes "raw") rows) → flag ≡ true)
+    → first_of (argument_name word) rows ≡ Some text → IsFaultOfArgument word flag text other fault → IsInvalidTerm rows word fault
+in_entry word rows text flag other fault on is h =
+    (λ used. let bad : true ≡ false = sym (on used) ∙ h.1 in absurd cc, subst (λ (e : Option Text). IsSomeAnd e (λ t. IsTermError t fault)) (sym is) h.2)
+
+pub invalid_term : (word : TermArgument) (rows : List Row) (text : List ℕ) (flag : Bool) (r : UsageFault) → (IsUsed (one_of (codes "raw") rows) → flag ≡ true)
+    → first_of (argument_name word) rows ≡ Some text → RefutesOrInvalidTerm (Unit {0}) (IsFaultOfArgument word flag text) r
+    → RefutesOrInvalidTerm (IsSome (first_of (argument_name word) rows)) (λ other fault. (other ≡ word) × IsInvalidTerm rows word fault) r
+invalid_term word rows text flag r on is h = map_refutes _ _ _ _ r (λ _. tt) (λ other fault f. (f.0, in_entry word rows text flag other fault on is f)) h
+
+pub invalid_part : (word : TermArgument) (rows : List Row) (text : List ℕ) (flag : Bool) (r : UsageFault) → (IsUsed (one_of (codes "raw") rows) → flag ≡ true)
+    → first_of (argument_name word) rows ≡ Some text → RefutesOrInvalidTerm (Unit {0}) (λ other fault. (text ≢ codes "?") × IsFaultOfArgument word flag text other fault) r
+    → RefutesOrInvalidTerm (IsSome (first_of (argument_name word) rows)) (λ other fault. (other ≡ word) × IsInvalidPart rows word fault) r
+invalid_part word rows text flag r on is h =
+    map_refutes _ _ _ _ r (λ _. tt) (λ other fault f. (f.1.0, (λ any. f.0 (some_is _ _ (sym is ∙ any)), in_entry word rows text flag other fault on is f.1))) h
+
+-- ---- what every action needs
+
+-- Two different names.
+differ : {P : Type 0} (name a b : Text) → name ≡ a → name ≡ b → bytes_eq a b ≡ false → P
+differ name a b p q apart = let same : bytes_eq a b ≡ true = (bytes_eq-Decides a b).1 (sym p ∙ q) in let bad : true ≡ false = sym same ∙ apart in absurd cc
+
+-- ---- `build` and `rewrite`
+
+-- `build` needs its options.
+pub options_needed : (name : Text) (rows : List Row) → name ≡ codes "build" → (a : Action) → IsMakeAction name rows a → (options : Options) × ParsesAsOptions rows options
+options_needed name rows is (action.Build options) h = (options, h.1)
+options_needed name rows is (action.Rewrite b) h = differ name _ _ is h.0 refl
+options_needed name rows is a h = absurd h
+
+-- Only `build` and `rewrite` write a file.
+only_these : (name : Text) (rows : List Row) (a : Action) → name ≢ codes "build" → name ≢ codes "rewrite" → IsMakeAction name rows a → ⊥
+only_these name rows (action.Build options) build rewrite h = build h.0
+only_these name rows (action.Rewrite b) build rewrite h = rewrite h.0
+only_these name rows a build rewrite h = h
+
+-- A command that writes no file is neither `build` nor `rewrite`.
+other_name : {P : Type 0} (name other : Text) → (name ≡ codes "build") ⊎ (name ≡ codes "rewrite") → name ≡ other → bytes_eq (codes "build") other ≡ false → bytes_eq (codes "rewrite") other ≡ false → P
+other_name name other (inl is) e build rewrite = differ name _ other is e build
+other_name name other (inr is) e build rewrite = differ name _ other is e rewrite
+
+none_on_file : (name : Text) (rows : List Row) → (name ≡ codes "build") ⊎ (name ≡ codes "rewrite") → (a : Action) → IsFileAction name rows a → ⊥
+none_on_file name rows is action.Head h = other_name name _ is h refl refl
+none_on_file name rows is (action.Find given numbers) (inl h) = other_name name _ is h.named refl refl
+none_on_file name rows is (action.Search given format most) h = other_name name _ is h.named refl refl
+none_on_file name rows is (action.Answer options) h = other_name name _ is h.named refl refl
+none_on_file name rows is (action.Build options) h = h
+none_on_file name rows is (action.Rewrite b) h = h
+none_on_file name rows is (action.Find given numbers) (inr h) = other_name name _ is h.0 refl refl
+none_on_file name rows is a h = other_name name _ is h.0 refl refl
+
+-- A usage error of `build` and `rewrite` is one of the command line.
+pub of_making : (name : Text) (rows : List Row) (r : UsageFault) → (name ≡ codes "build") ⊎ (name ≡ codes "rewrite")
+    → Refutes ((request : Request) × IsMakeRequest name rows request) r
+    → RefutesOrInvalidTerm ((request : Request) × IsRequestOf name rows request) (HasInvalidTerm name rows) r
+of_making name rows r is h =
+    without_or _ _ (HasInvalidTerm name rows) r (λ w. (w.0, ⊎_elim (λ file. absurd (none_on_file name rows is w.0.action file.action)) (λ asks. asks) w.1)) h
+
+-- So is one of the other commands.
+pub of_others : (name : Text) (rows : List Row) (r : UsageFault) → name ≢ codes "build" → name ≢ codes "rewrite"
+    → RefutesOrInvalidTerm ((request : Request) × IsFileRequest name rows request) (HasInvalidTerm name rows) r
+    → RefutesOrInvalidTerm ((request : Request) × IsRequestOf name rows request) (HasInvalidTerm name rows) r
+of_others name rows r build rewrite h =
+    map_refutes _ _ _ _ r (λ w. (w.0, ⊎_elim (λ file. file) (λ asks. absurd (only_these name rows w.0.action build rewrite asks.action)) w.1)) (λ word fault m. m) h

@@ -1,0 +1,237 @@
+-- Concatenated answers.
+use Rattle.std.proofs.Common.{◌≡◌, ◌≢◌, ℕ, Bool, true, false, cond, ◌||◌, ◌⊎◌, ◌+◌, ◌-◌, List, [], ◌∷◌, ◌++◌, length, Option, None, Some, Result, Ok, Err, refl, sym, ap, subst, ◌∙◌, inl, inr, arith, map, get_or, append_assoc, append-nil, take}
+use Rattle.std.proofs.Math.Bool.{or-false, or_assoc}
+use Rattle.std.proofs.Math.Seq.{take-append-add, take-append_seam}
+use Rattle.std.proofs.lemmas.Bool.{cases_lt, lt-ltb}
+use Rattle.std.proofs.lemmas.List.{length-append, length-take-le, take_all}
+use Rattle.hdt_terms.specs.Documents.{AreLines, LinesSoFar, FaultAfterLines}
+use Rattle.hdt_terms.specs.LinesReader.{LinesState, start, left, line_number}
+use Rattle.hdt_terms.specs.LinesTexts.{ReturnsNextPrefix, TakesLinePrefix, TakesText, IsNextLineError, IsUnreadLineError}
+use Rattle.hdt_terms.specs.declared.fault.LineFault.{LineFault}
+use Rattle.hdt_terms.specs.declared.fault.LineReason.{LineReason}
+use Rattle.hdt_terms.specs.declared.fault.LineReason.TheVariants as reasons
+use Rattle.hdt_terms.specs.declared.fault.TermFault.{TermFault}
+use Rattle.hdt_tool.specs.Outcomes.{FailsAfter}
+use Rattle.hdt_tool.specs.declared.fault.ToolFault.{ToolFault}
+use Rattle.hdt_tool.specs.declared.fault.ToolFault.TheVariants.{Input, Read, Write, OutOfMemory}
+use Rattle.std.specs.Io.KnownBytes.{Appends}
+use Rattle.std.specs.Prelude.{IfErr, option_map}
+use Rattle.hdt_dict.specs.Strings.{BorrowedString}
+use Rattle.std.proofs.KnownBytes.{Appends-nil, Appends-trans}
+use Rattle.hdt_file.specs.File.{GraphParts}
+use Rattle.hdt_tool.specs.declared.request.AnswerOptions.{AnswerOptions}
+use Rattle.hdt_tool.specs.Dialogue.{AnswersLine, AnswersLines, AnswersRequest, AnswersUntilFault, AreFirstLines, HasTakenLines, FollowsLines, IsFaultOfLine, StopsAfterAnswers, RequestStrings, bounded_request_in, given_strings, max_input_bytes}
+
+-- One more line and its answer.
+pub lines_on : (g : GraphParts) (options : AnswerOptions) (lines : List (ℕ × List ℕ)) (line : ℕ × List ℕ) (faulty one : Bool) (text answer : List ℕ) → AnswersLines g options lines faulty text → AnswersLine g options line one answer
+    → AnswersLines g options (lines ++ line ∷ []) (faulty || one) (text ++ answer)
+lines_on g options [] line faulty one text answer h a =
+    (one, answer, false, [], a, (refl, refl), ap (λ b. b || one) h.0 ∙ sym (or-false one), ap (λ t. t ++ answer) h.1 ∙ sym (append-nil answer))
+lines_on g options (first ∷ lines) line faulty one text answer h a = (
+  h.0,
+  h.1,
+  h.2 || one,
+  h.3 ++ answer,
+  h.4,
+  lines_on g options lines line h.2 one h.3 answer h.5 a,
+  ap (λ b. b || one) h.6 ∙ or_assoc h.0 h.2 one,
+  ap (λ t. t ++ answer) h.7 ∙ append_assoc h.1 h.3 answer,
+)
+
+-- One byte more than the maximum length is enough to see that a line is too long: such a prefix has the answer of the
+-- line.
+front_asked : (options : AnswerOptions) (front line : List ℕ) → front ≡ take (options.longest + 1) line → bounded_request_in options front ≡ bounded_request_in options line
+front_asked options front line is =
+    elim (cases_lt options.longest (length line)) [
+      | inl long ↦
+          let len : length front ≡ options.longest + 1 = ap length is ∙ length-take-le (options.longest + 1) line (omega (arith, long)) in
+          rw (lt-ltb options.longest (length front) (omega (arith, len)), lt-ltb options.longest (length line) long) refl
+      | inr short ↦ ap (bounded_request_in options) (is ∙ take_all (options.longest + 1) line (omega (arith, short)))
+    ]
+
+pub front_answered : (g : GraphParts) (options : AnswerOptions) (n : ℕ) (front line : List ℕ) (faulty : Bool) (answer : List ℕ) → front ≡ take (options.longest + 1) line
+    → AnswersLine g options (n, front) faulty answer → AnswersLine g options (n, line) faulty answer
+front_answered g options n front line faulty answer is h =
+    subst (λ (r : Result (Option RequestStrings) TermFault). AnswersRequest g options n r faulty answer) (front_asked options front line is) h
+
+-- Lines that have been read are the first lines of the input.
+pub gone_some : (s : LinesState) (input mid : Option (List ℕ)) (lines : List (ℕ × List ℕ)) → HasTakenLines s input mid lines → AreFirstLines input lines
+gone_some s input mid lines (inl h) = inl (s, mid, h.1)
+gone_some s input mid lines (inr h) = inr h.1
+
+bool_case : {A : Type 0} (b : Bool) → (b ≡ true → A) → (b ≡ false → A) → A
+bool_case true one other = one refl
+bool_case false one other = other refl
+
+-- One more line is read.
+pub gone_on : (goes_on : (limit : ℕ) (s new : LinesState) (input mid after : Option (List ℕ)) (lines : List (ℕ × List ℕ)) (text : List ℕ) → LinesSoFar limit s input mid lines → TakesText s new mid after text → new.ended ≡ false
+    → LinesSoFar limit new input after (lines ++ (line_number new, text) ∷ []))
+    → (last : (limit : ℕ) (s new : LinesState) (input mid after : Option (List ℕ)) (lines : List (ℕ × List ℕ)) (text : List ℕ) → LinesSoFar limit s input mid lines → TakesText s new mid after text → new.ended ≡ true
+    → AreLines limit input (lines ++ (line_number new, text) ∷ []))
+    → (s new : LinesState) (input mid after : Option (List ℕ)) (lines : List (ℕ × List ℕ)) (text : List ℕ) → s.ended ≡ false → TakesText s new mid after text → HasTakenLines s input mid lines
+    → HasTakenLines new input after (lines ++ (line_number new, text) ∷ [])
+gone_on goes_on last s new input mid after lines text going t (inl h) =
+    bool_case new.ended (λ e. inr (e, last max_input_bytes s new input mid after lines text h.1 t e)) (λ e. inl (e, goes_on max_input_bytes s new input mid after lines text h.1 t e))
+gone_on goes_on last s new input mid after lines text going t (inr h) = absurd (cc (h.0, going))
+
+-- The result is a line.
+pub taken_front : (r : Result Bool LineFault) (most : ℕ) (front : List ℕ) (s new : LinesState) (mid after given : Option (List ℕ)) → r ≡ Ok true → ReturnsNextPrefix r most front s new mid after given → TakesLinePrefix most s new mid after front
+taken_front (Ok true) most front s new mid after given e h = h
+taken_front (Ok false) most front s new mid after given e h = absurd h
+taken_front (Err fault) most front s new mid after given e h = absurd cc
+
+-- The result is an error.
+pub taken_fault : (r : Result Bool LineFault) (most : ℕ) (front : List ℕ) (s new : LinesState) (mid after given : Option (List ℕ)) → ReturnsNextPrefix r most front s new mid after given → IfErr r (λ f. IsNextLineError f s mid given)
+taken_fault (Ok told) most front s new mid after given h = tt
+taken_fault (Err fault) most front s new mid after given h = h
+
+pub ended_fault : (P : LineFault → Type 0) (r : Result Bool LineFault) → r ≡ Ok false → IfErr r P
+ended_fault P (Ok told) e = tt
+ended_fault P (Err fault) e = absurd cc
+
+-- ---- errors that end the answers
+
+-- A line that could not be read.
+pub stopped_by : (fault : LineFault) (e : ToolFault) (text : List ℕ) (a b : Option (List ℕ)) (f h : ℕ) → IsFaultOfLine fault e → h ≡ f → Appends a b text → StopsAfterAnswers e text a b f h
+stopped_by fault (Input x) text a b f h is same gained = (same, gained)
+stopped_by fault Read text a b f h is same gained = (same, gained)
+stopped_by fault OutOfMemory text a b f h is same gained = (same, gained)
+stopped_by fault e text a b f h is same gained = absurd is
+
+-- Of the errors of reading a line, only `TooLong` is an error of the input.
+too_long : (reason : LineReason) (taken : ℕ) (before given : Option (List ℕ)) → IsUnreadLineError reason taken max_input_bytes before given → reason ≢ reasons.Read → reason ≢ reasons.OutOfMemory → reason ≡ reasons.TooLong
+too_long reasons.Read taken before given h read memory = absurd (read refl)
+too_long reasons.OutOfMemory taken before given h read memory = absurd (memory refl)
+too_long reasons.TooLong taken before given h read memory = refl
+too_long reason taken before given h read memory = absurd h
+
+read_fault : (fault : LineFault) → fault.reason ≡ reasons.Read → fault.column ≡ 0 → fault ≡ record { line = fault.line; column = 0; reason = reasons.Read }
+read_fault fault is none = ap (λ k. record { line = fault.line; column = k; reason = fault.reason }) none ∙ ap (λ r. record { line = fault.line; column = 0; reason = r }) is
+
+-- The error occurs after the lines that were answered.
+pub stopped_behind : (fault : LineFault) (e : ToolFault) (input given : Option (List ℕ)) (lines : List (ℕ × List ℕ)) → IsFaultOfLine fault e → FaultAfterLines fault max_input_bytes input given lines → FollowsLines e input given lines
+stopped_behind fault (Input x) input given lines is h =
+    (ap (λ f. f.reason) is.0 ∙ too_long fault.reason (length h.front) h.left given h.fault_is is.1 is.2, subst (λ f. FaultAfterLines f max_input_bytes input given lines) (sym is.0) h)
+stopped_behind fault Read input given lines is h =
+    (fault.line, subst (λ f. FaultAfterLines f max_input_bytes input given lines) (read_fault fault is h.column) h)
+stopped_behind fault OutOfMemory input given lines is h = tt
+stopped_behind fault e input given lines is h = absurd is
+
+-- The writer fails after m bytes of one more answer.
+pub fails_on : (a b c : Option (List ℕ)) (text answer : List ℕ) (n m f g h : ℕ) → n ≡ length text → Appends a b text → g ≡ f → FailsAfter m answer b c g h → FailsAfter (n + m) (text ++ answer) a c f h
+fails_on a b c text answer n m f g h count one same fails = record {
+  failed = fails.failed ∙ ap (λ k. k + 1) same;
+  within = omega (arith, count, fails.within, length-append text answer);
+  written = subst (Appends a c) (sym (ap (λ k. take (k + m) (text ++ answer)) count ∙ take-append-add text answer m)) (Appends-trans a b c text (take m answer) one fails.written);
+}
+
+-- The writer has gained the text except its end, which is pending.
+abbrev pub GainedButFor : Option (List ℕ) → Option (List ℕ) → List ℕ → List ℕ → Type 0
+GainedButFor a b text kept = (gone : List ℕ) × (text ≡ gone ++ kept) × Appends a b gone
+
+-- One more answer is pending.
+pub gained_answer : (a b : Option (List ℕ)) (text kept answer new : List ℕ) → GainedButFor a b text kept → new ≡ kept ++ answer → GainedButFor a b (text ++ answer) new
+gained_answer a b text kept answer new h one =
+    (h.0, ap (λ t. t ++ answer) h.1 ∙ append_assoc h.0 kept answer ∙ ap (λ t. h.0 ++ t) (sym one), h.2)
+
+-- A prefix of the pending answers is written.
+pub gained_on : (a b c : Option (List ℕ)) (text kept new : List ℕ) → GainedButFor a b text kept → ((part : List ℕ) × (kept ≡ part ++ new) × Appends b c part) → GainedButFor a c text new
+gained_on a b c text kept new h one =
+    (h.0 ++ one.0, h.1 ∙ ap (λ t. h.0 ++ t) one.1 ∙ sym (append_assoc h.0 one.0 new), Appends-trans a b c h.0 one.0 h.2 one.2)
+
+pub gained_all : (a b c : Option (List ℕ)) (text kept : List ℕ) → GainedButFor a b text kept → Appends b c kept → Appends a c text
+gained_all a b c text kept h one = subst (Appends a c) (sym h.1) (Appends-trans a b c h.0 kept h.2 one)
+
+-- The writer failed within the pending answers.
+pub cut_kept : (g : GraphParts) (options : AnswerOptions) (input given a b c : Option (List ℕ)) (lines : List (ℕ × List ℕ)) (faulty : Bool) (text kept : List ℕ) (count f d h : ℕ) (e : ToolFault)
+    → AreFirstLines input lines → AnswersLines g options lines faulty text → GainedButFor a b text kept → count ≡ length text → d ≡ f
+    → ((m : ℕ) × (e ≡ Write (count - length kept + m)) × FailsAfter m kept b c d h) → AnswersUntilFault g options input given a c f h e
+cut_kept g options input given a b c lines faulty text kept count f d h e some all gained counted same cut =
+    let before : count - length kept ≡ length gained.0 = omega (arith, counted, ap length gained.1, length-append gained.0 kept) in
+    record {
+      lines = lines;
+      are = some;
+      behind = subst (λ (t : ToolFault). FollowsLines t input given lines) (sym cut.1) tt;
+      faulty = faulty;
+      text = text;
+      answers = all;
+      stopped =
+          subst (λ (t : ToolFault). StopsAfterAnswers t text a c f h) (sym cut.1)
+          (subst (λ t. FailsAfter (count - length kept + cut.0) t a c f h) (sym gained.1) (fails_on a b c gained.0 kept (count - length kept) cut.0 f d h before gained.2 same cut.2));
+    }
+
+-- Memory ran out after complete answers.
+pub refused_behind : (g : GraphParts) (options : AnswerOptions) (input given a c : Option (List ℕ)) (lines : List (ℕ × List ℕ)) (faulty : Bool) (text : List ℕ) (f h : ℕ) (e : ToolFault)
+    → AreFirstLines input lines → AnswersLines g options lines faulty text → Appends a c text → h ≡ f → e ≡ OutOfMemory → AnswersUntilFault g options input given a c f h e
+refused_behind g options input given a c lines faulty text f h e some all gained same is = record {
+  lines = lines;
+  are = some;
+  behind = subst (λ (t : ToolFault). FollowsLines t input given lines) (sym is) tt;
+  faulty = faulty;
+  text = text;
+  answers = all;
+  stopped = subst (λ (t : ToolFault). StopsAfterAnswers t text a c f h) (sym is) (same, gained);
+}
+
+-- After one more answer, the count overflowed or the writer failed.
+pub cut_answer : (g : GraphParts) (options : AnswerOptions) (input given a b c : Option (List ℕ)) (lines : List (ℕ × List ℕ)) (line : ℕ × List ℕ) (faulty one : Bool) (text kept answer new : List ℕ) (place count f d h : ℕ) (e : ToolFault)
+    → AreFirstLines input lines → AreFirstLines input (lines ++ line ∷ []) → AnswersLines g options lines faulty text → AnswersLine g options line one answer → GainedButFor a b text kept → new ≡ kept ++ answer → place ≡ length kept → count ≡ length text → d ≡ f
+    → ((e ≡ OutOfMemory) × (h ≡ d) × Appends b c (take place new)) ⊎ ((m : ℕ) × (e ≡ Write (count - place + m)) × FailsAfter m new b c d h)
+    → AnswersUntilFault g options input given a c f h e
+cut_answer g options input given a b c lines line faulty one text kept answer new place count f d h e before after all this gained grown behind counted same (inl refused) =
+    let front : take place new ≡ kept = ap (λ n. take n new) behind ∙ ap (take (length kept)) grown ∙ take-append_seam kept answer in
+    refused_behind g options input given a c lines faulty text f h e before all (gained_all a b c text kept gained (subst (Appends b c) front refused.2)) (refused.1 ∙ same) refused.0
+cut_answer g options input given a b c lines line faulty one text kept answer new place count f d h e before after all this gained grown behind counted same (inr cut) =
+    let ended : count - place ≡ count + length answer - length new = omega (arith, behind, ap length grown, length-append kept answer) in
+    cut_kept g options input given a b c (lines ++ line ∷ []) (faulty || one) (text ++ answer) new (count + length answer) f d h e after (lines_on g options lines line faulty one text answer all this)
+    (gained_answer a b text kept answer new gained grown) (omega (arith, counted, length-append text answer)) same (cut.0, cut.1 ∙ ap (λ n. Write (n + cut.0)) ended, cut.2)
+
+-- Answers are pending only if a complete line is buffered.
+pub kept_or_held : {P : Type 0} (kept : List ℕ) (held : Bool) → (kept ≡ []) ⊎ (held ≡ true) → (held ≡ true → P) → (kept ≡ []) ⊎ P
+kept_or_held kept held (inl none) is = inl none
+kept_or_held kept held (inr e) is = inr (is e)
+
+-- A line that could not be read, after the answers to earlier ones.
+pub unread_line : (g : GraphParts) (options : AnswerOptions) (s : LinesState) (input mid given written_before written_after : Option (List ℕ)) (lines : List (ℕ × List ℕ)) (faulty : Bool) (text : List ℕ) (failed_before failed_after : ℕ)
+    (fault : LineFault) (e : ToolFault) → HasTakenLines s input mid lines → AnswersLines g options lines faulty text → Appends written_before written_after text → failed_after ≡ failed_before → IsFaultOfLine fault e
+    → FaultAfterLines fault max_input_bytes input given lines → AnswersUntilFault g options input given written_before written_after failed_before failed_after e
+unread_line g options s input mid given written_before written_after lines faulty text failed_before failed_after fault e gone all gained same is h = record {
+  lines = lines;
+  are = gone_some s input mid lines gone;
+  behind = stopped_behind fault e input given lines is h;
+  faulty = faulty;
+  text = text;
+  answers = all;
+  stopped = stopped_by fault e text written_before written_after failed_before failed_after is same gained;
+}
+
+-- ---- the initial state
+
+abbrev Begins : Type 0
+Begins = (limit : ℕ) (input : Option (List ℕ)) → LinesSoFar limit (start limit) input (left (start limit) input) []
+
+pub nothing_answered : Begins → (g : GraphParts) (options : AnswerOptions) (input given a : Option (List ℕ)) (f : ℕ) → AnswersUntilFault g options input given a a f f OutOfMemory
+nothing_answered begins g options input given a f = record {
+  lines = [];
+  are = inl (start max_input_bytes, left (start max_input_bytes) input, begins max_input_bytes input);
+  behind = tt;
+  faulty = false;
+  text = [];
+  answers = (refl, refl);
+  stopped = (refl, Appends-nil a);
+}
+
+pub begun : Begins → (s : LinesState) (input : Option (List ℕ)) → s ≡ start max_input_bytes → HasTakenLines s input (left s input) [] × (s.failed ≡ None)
+begun begins s input is =
+    subst (λ (t : LinesState). HasTakenLines t input (left t input) [] × (t.failed ≡ None)) (sym is) (inl (refl, begins max_input_bytes input), refl)
+
+-- ---- the given strings
+
+pub lent_given : (given : List Bool) (s p o : List ℕ) (x y z : Option BorrowedString) (a b c : Bool) → length given ≡ 3 → option_map (λ t. t.now) x ≡ cond (get_or given 0 a) (Some s) None
+    → option_map (λ t. t.now) y ≡ cond (get_or given 1 b) (Some p) None → option_map (λ t. t.now) z ≡ cond (get_or given 2 c) (Some o) None
+    → map (option_map (λ t. t.now)) (x ∷ y ∷ z ∷ []) ≡ given_strings given s p o
+lent_given [] s p o x y z a b c n one two last = absurd (omega arith)
+lent_given (i ∷ []) s p o x y z a b c n one two last = absurd (omega arith)
+lent_given (i ∷ j ∷ []) s p o x y z a b c n one two last = absurd (omega arith)
+lent_given (i ∷ j ∷ k ∷ []) s p o x y z a b c n one two last = rw (one, two, last) refl
+lent_given (i ∷ j ∷ k ∷ l ∷ rest) s p o x y z a b c n one two last = absurd (omega arith)

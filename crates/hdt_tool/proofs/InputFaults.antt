@@ -1,0 +1,74 @@
+-- Errors for the bytes of a file as errors of the complete run.
+use Rattle.std.proofs.Common.{◌≡◌, ◌≢◌, ◌⊎◌, ℕ, Bool, List, Option, None, Some, sym, subst, inl, inr}
+use Rattle.std.specs.declared.alloc.Global.{Global}
+use Rattle.std.specs.declared.vec.Vec.{Vec}
+use Rattle.hdt_tool.specs.declared.fault.ToolFault.{ToolFault}
+use Rattle.hdt_tool.specs.declared.fault.ToolFault.TheVariants.{Input, NoTriples, NoSuchTerm, NoSuchNumber, NotATerm, BadOptions, Read, Write, OutOfMemory}
+use Rattle.hdt_tool.specs.declared.request.Action.{Action}
+use Rattle.hdt_tool.specs.declared.request.Action.TheVariants.{Nth, Number, Find, Search, Rewrite}
+use Rattle.hdt_tool.specs.declared.request.OutputFormat.{OutputFormat}
+use Rattle.hdt_wire.specs.declared.role.Role.{Role}
+use Rattle.hdt_dict.specs.Ids.{string_at_id}
+use Rattle.hdt_file.specs.File.{GraphParts, IsLayout}
+use Rattle.hdt_dict.specs.Dictionary.{role_strings}
+use Rattle.hdt_tool.specs.Outcomes.{HasBadBlockSize, HasNonTerm, IsReadOnlyFault, IsFaultOfBytes, ReadsAll, IsReadOnly, IsFaultOfInput, HasBadOptions}
+use Rattle.hdt_tool.specs.TriplesText.{GivenStrings, IsFindFault, find_format}
+
+-- A block size that is not valid.
+bad_blocks : (action : Action) (before after : Option (List ℕ)) (bytes : List ℕ) → ReadsAll before after bytes → HasBadBlockSize action bytes → HasBadOptions action before after
+bad_blocks (Rewrite b) before after bytes read h = record { bytes = bytes; read = read; holds = h }
+bad_blocks action before after bytes read h = absurd h
+
+-- A command that writes no file has no block size.
+no_blocks : (action : Action) (bytes : List ℕ) → IsReadOnly action → HasBadBlockSize action bytes → ⊥
+no_blocks (Rewrite b) bytes is h = is
+no_blocks action bytes is h = h
+
+-- An error for the bytes that were read is an error of the run.
+pub fault_of_input : (action : Action) (before after : Option (List ℕ)) (bytes : List ℕ) (e : ToolFault) → ReadsAll before after bytes → IsFaultOfBytes action bytes e → IsFaultOfInput action before after e
+fault_of_input action before after bytes (Input fault) read h = absurd h
+fault_of_input action before after bytes NoTriples read h = absurd h
+fault_of_input action before after bytes BadOptions read h = bad_blocks action before after bytes read h
+fault_of_input action before after bytes Read read h = absurd h
+fault_of_input action before after bytes (Write n) read h = absurd h
+fault_of_input action before after bytes OutOfMemory read h = tt
+fault_of_input action before after bytes fault read h = record { bytes = bytes; read = read; holds = h }
+
+-- An error for the bytes is never a read or write error.
+pub not_read : (action : Action) (bytes : List ℕ) (e : ToolFault) → IsFaultOfBytes action bytes e → e ≡ Read → ⊥
+not_read action bytes e h is = subst (IsFaultOfBytes action bytes) is h
+
+pub not_write : (action : Action) (bytes : List ℕ) (e : ToolFault) (n : ℕ) → IsFaultOfBytes action bytes e → e ≡ Write n → ⊥
+not_write action bytes e n h is = subst (IsFaultOfBytes action bytes) is h
+
+-- A look-up without a result.
+pub no_number : (role : Role) (n : ℕ) (bytes : List ℕ) (graph : GraphParts) (e : ToolFault) → IsLayout bytes graph
+    → (e ≡ OutOfMemory) ⊎ ((e ≡ NoSuchNumber) × (string_at_id (role_strings graph.dictionary role) n ≡ None)) → IsFaultOfBytes (Nth role n) bytes e
+no_number role n bytes graph e encoded (inl is) = subst (λ (t : ToolFault). IsFaultOfBytes (Nth role n) bytes t) (sym is) tt
+no_number role n bytes graph e encoded (inr h) = subst (λ (t : ToolFault). IsFaultOfBytes (Nth role n) bytes t) (sym h.0) (record { graph = graph; encoded = encoded; holds = h.1 })
+
+pub no_term : (role : Role) (x : Vec ℕ Global) (bytes : List ℕ) (graph : GraphParts) (e : ToolFault) → IsLayout bytes graph
+    → (e ≡ OutOfMemory) ⊎ ((e ≡ NoSuchTerm) × ((n : ℕ) → string_at_id (role_strings graph.dictionary role) n ≢ Some x.items)) → IsFaultOfBytes (Number role x) bytes e
+no_term role x bytes graph e encoded (inl is) = subst (λ (t : ToolFault). IsFaultOfBytes (Number role x) bytes t) (sym is) tt
+no_term role x bytes graph e encoded (inr h) = subst (λ (t : ToolFault). IsFaultOfBytes (Number role x) bytes t) (sym h.0) (record { graph = graph; encoded = encoded; holds = h.1 })
+
+-- Triples that cannot be printed.
+pub no_text : (given : GivenStrings) (format : OutputFormat) (most : Option ℕ) (bytes : List ℕ) (graph : GraphParts) (e : ToolFault) → IsLayout bytes graph
+    → IsFindFault graph given format most e → IsFaultOfBytes (Search given format most) bytes e
+no_text given format most bytes graph (NotATerm role n) encoded h = record { graph = graph; encoded = encoded; holds = h }
+no_text given format most bytes graph OutOfMemory encoded h = tt
+no_text given format most bytes graph fault encoded h = absurd h
+
+-- The same for `find` without a limit.
+pub no_find : (given : GivenStrings) (numbers : Bool) (format : OutputFormat) (bytes : List ℕ) (e : ToolFault) → format ≡ find_format numbers → IsFaultOfBytes (Search given format None) bytes e
+    → IsFaultOfBytes (Find given numbers) bytes e
+no_find given numbers format bytes (NotATerm role n) is h = subst (λ (f : OutputFormat). HasNonTerm (Search given f None) bytes role n) is h
+no_find given numbers format bytes fault is h = h
+
+-- An error for the bytes of a command that writes no file is one that such a command may return.
+pub is_read_only_fault : (action : Action) (bytes : List ℕ) (e : ToolFault) → IsReadOnly action → IsFaultOfBytes action bytes e → IsReadOnlyFault e
+is_read_only_fault action bytes (Input fault) is h = h
+is_read_only_fault action bytes NoTriples is h = h
+is_read_only_fault action bytes BadOptions is h = no_blocks action bytes is h
+is_read_only_fault action bytes (Write n) is h = h
+is_read_only_fault action bytes fault is h = tt

@@ -1,0 +1,81 @@
+-- Usage errors, derived from the contracts of `clap`.
+use Rattle.std.proofs.Common.{◌≡◌, List, [], ◌∷◌, true, Option, Some, Result, Ok, Err, codes, refl, sym, subst, inl, inr}
+use Rattle.std.specs.Prelude.{IfOk, IfErr, IsSomeAnd}
+use Rattle.clap.specs.Words.{App, Row, Text, HasKind, HasMatchesOf, IsAmong, fault_of, found_of, is_simple, is_simple_and_free, kind_of, matches_of, one_of, rows_of, subcommand_of, subcommand_rows_of}
+use Rattle.clap.specs.declared.parser.matches.ArgMatches.{ArgMatches}
+use Rattle.clap.specs.declared.error.Error.{Error}
+use Rattle.clap.specs.declared.error.kind.ErrorKind.{ErrorKind}
+use Rattle.clap.specs.declared.error.kind.ErrorKind.TheVariants as kind
+use Rattle.hdt_tool.specs.declared.fault.UsageFault.{UsageFault}
+use Rattle.hdt_tool.specs.declared.fault.UsageFault.TheVariants.{Usage, Help, InvalidTerm, OutOfMemory}
+use Rattle.hdt_tool.specs.declared.request.Invocation.{Invocation}
+use Rattle.hdt_tool.specs.declared.request.Request.{Request}
+use Rattle.hdt_usage.specs.CommandTable.{Names, AreRoles, table}
+use Rattle.hdt_tool.specs.CommandLine.{IsRequestOfCommand, IsRequestOf, HasInvalidTerm, HasInvalidTermIn, ParsesAsFlag, ParsesToRequest, ParsesToInvocation, IsRefused, IsRefusedWithRoles, IsFaultOfKind, RefutesOrInvalidTerm, clap_errors}
+
+-- The errors of `clap` for the built commands are those for the table.
+pub taken : (names : Names) (app : App) (words : List Text) → app ≡ table names → (is_simple_and_free app ≡ true → fault_of app words ≡ []) → clap_errors names words ≡ []
+unfolding clap_errors
+taken names app words is h = (subst (λ (a : App). is_simple_and_free a ≡ true → fault_of a words ≡ []) is h) refl
+
+pub refused_by : (names : Names) (app : App) (words : List Text) (e : Error) → app ≡ table names → (is_simple_and_free app ≡ true → HasKind (fault_of app words) e) → HasKind (clap_errors names words) e
+unfolding clap_errors
+refused_by names app words e is h = (subst (λ (a : App). is_simple_and_free a ≡ true → HasKind (fault_of a words) e) is h) refl
+
+-- What `clap` finds for the built commands is what it finds for the table.
+pub stated : (names : Names) (app : App) (words : List Text) (m : ArgMatches) → app ≡ table names → HasMatchesOf app words m → subcommand_rows_of m ≡ subcommand_of (table names) words
+stated names app words m is h = (subst (λ (a : App). is_simple a ≡ true → (rows_of (found_of m) ≡ matches_of a words) × (subcommand_rows_of m ≡ subcommand_of a words)) is h refl).1
+
+alone : (j k : ErrorKind) → IsAmong k (j ∷ []) → k ≡ j
+alone j k (inl e) = e
+alone j k (inr b) = absurd b
+
+told_by : (names : Names) (words : List Text) (e : Error) (fault : UsageFault) → HasKind (clap_errors names words) e → IsFaultOfKind (kind_of e) fault → IsRefusedWithRoles names words fault
+told_by names words e (Help text) (inl memory) (inl k) = absurd cc
+told_by names words e (Help text) (inl memory) (inr k) = absurd cc
+told_by names words e (Help text) (inr among) (inl k) = inl (subst (λ (t : ErrorKind). IsAmong t (clap_errors names words)) k among)
+told_by names words e (Help text) (inr among) (inr k) = inr (subst (λ (t : ErrorKind). IsAmong t (clap_errors names words)) k among)
+told_by names words e (Usage text) (inl memory) k = absurd (k.1 memory)
+told_by names words e (Usage text) (inr among) k = (
+  λ only. k.0 (inl (alone kind.DisplayHelp (kind_of e) (subst (IsAmong (kind_of e)) only among))),
+  λ only. k.0 (inr (alone kind.DisplayVersion (kind_of e) (subst (IsAmong (kind_of e)) only among))),
+  λ request w. subst (IsAmong (kind_of e)) w.taken among,
+)
+told_by names words e (InvalidTerm word fault) h k = absurd k
+told_by names words e OutOfMemory h k = tt
+
+-- A usage error, with the names of the roles given.
+with : (names : Names) → AreRoles names → (words : List Text) (fault : UsageFault) → IsRefusedWithRoles names words fault → IsRefused words fault
+with names roles words OutOfMemory h = tt
+with names roles words fault h = record { names = names; roles = roles; refused = h }
+
+-- A usage error for an error of `clap`.
+pub told : (names : Names) → AreRoles names → (words : List Text) (e : Error) (fault : UsageFault) → HasKind (clap_errors names words) e → IsFaultOfKind (kind_of e) fault → IsRefused words fault
+told names roles words e fault h k = with names roles words fault (told_by names words e fault h k)
+
+-- The command line gives the invocation that the command's arguments give.
+pub wanted : (names : Names) → AreRoles names → (words : List Text) (name : Text) (rows : List Row) (r : Result Invocation UsageFault) → clap_errors names words ≡ [] → subcommand_of (table names) words ≡ Some (name, rows)
+    → IfOk r (λ asked. IsRequestOf name rows asked.request) → IfOk r (λ asked. ParsesAsFlag (one_of (codes "progress") rows) asked.progress) → IfOk r (ParsesToInvocation words)
+wanted names roles words name rows (Ok asked) none is h flag = record {
+  names = names;
+  roles = roles;
+  wanted = record { taken = none; asked = subst (λ (o : Option (Text × List Row)). IsRequestOfCommand o asked.request) (sym is) h };
+  progress = subst (λ (o : Option (Text × List Row)). IsSomeAnd o (λ command. ParsesAsFlag (one_of (codes "progress") command.1) asked.progress)) (sym is) flag;
+}
+wanted names roles words name rows (Err fault) none is h flag = tt
+
+-- The request of an invocation is the request of the command line.
+pub parses_to_request : (words : List Text) (asked : Invocation) → ParsesToInvocation words asked → ParsesToRequest words asked.request
+parses_to_request words asked w = record { names = w.names; roles = w.roles; wanted = w.wanted }
+
+lacking : (names : Names) (words : List Text) (name : Text) (rows : List Row) (fault : UsageFault) → clap_errors names words ≡ [] → subcommand_of (table names) words ≡ Some (name, rows)
+    → RefutesOrInvalidTerm ((request : Request) × IsRequestOf name rows request) (HasInvalidTerm name rows) fault → IsRefusedWithRoles names words fault
+lacking names words name rows (Help text) none is h = absurd h
+lacking names words name rows (Usage text) none is h = (λ only. cc, λ only. cc, λ request w. h (request, subst (λ (o : Option (Text × List Row)). IsRequestOfCommand o request) is w.asked))
+lacking names words name rows (InvalidTerm word fault) none is h = (none, subst (λ (o : Option (Text × List Row)). HasInvalidTermIn o word fault) (sym is) h)
+lacking names words name rows OutOfMemory none is h = tt
+
+pub unwanted : (names : Names) → AreRoles names → (words : List Text) (name : Text) (rows : List Row) (r : Result Invocation UsageFault) → clap_errors names words ≡ [] → subcommand_of (table names) words ≡ Some (name, rows)
+    → IfErr r (RefutesOrInvalidTerm ((request : Request) × IsRequestOf name rows request) (HasInvalidTerm name rows)) → IfErr r (IsRefused words)
+unwanted names roles words name rows (Ok asked) none is h = tt
+unwanted names roles words name rows (Err fault) none is h = with names roles words fault (lacking names words name rows fault none is h)

@@ -1,0 +1,107 @@
+-- What an exit status implies about the result that it was computed from.
+use Rattle.std.proofs.Common.{◌≡◌, ◌≢◌, ◌⊎◌, ⊎_elim, ◌∙◌, ap, ℕ, Bool, true, false, cond, Option, refl, inl, inr, subst, sym}
+use Rattle.std.specs.Prelude.{List, Result, Ok, Err, MatchResult, IfOk, IfErr, OnOk}
+use Rattle.clap.specs.Words.{Text}
+use Rattle.hdt_tool.specs.declared.fault.ToolFault.{ToolFault}
+use Rattle.hdt_tool.specs.declared.fault.ToolFault.TheVariants.{File, NoTriples, Write, OutOfMemory}
+use Rattle.hdt_tool.specs.declared.fault.UsageFault.{UsageFault}
+use Rattle.hdt_tool.specs.declared.request.Invocation.{Invocation}
+use Rattle.hdt_tool.specs.declared.request.Action.{Action}
+use Rattle.hdt_tool.specs.Outcomes.{IsFaultOfOwnedInput}
+use Rattle.hdt_tool.specs.CommandLine.{IsRefused, ParsesToInvocation}
+use Rattle.hdt_tool.specs.ErrorLines.{fault_status}
+use Rattle.hdt_tool.specs.Status.{Ends, IsCommandStatus, IsRefusalStatus, IsActionStatus}
+use Rattle.hdt_tool.proofs.Refusals.{parses_to_request}
+
+-- An error is a write error or another one.
+by_writer : {A B : Type 0} (fault : ToolFault) → (((n : ℕ) → fault ≢ Write n) → A) → ((n : ℕ) → fault ≡ Write n → B) → A ⊎ B
+by_writer (Write m) other write = inr (write m refl)
+by_writer fault other write = inl (other (λ n is. absurd cc))
+
+-- The status of a command, also if memory for its error message ran out.
+pub command_status : (outcome : Result (Unit {0}) ToolFault) (status : ℕ)
+    → MatchResult outcome (λ _. status ≡ 0) (λ fault. (status ≡ fault_status fault) ⊎ (status ≡ 4)) → IsCommandStatus status
+command_status (Ok done) status h = inl h
+command_status (Err fault) status (inl h) = inr (fault, h)
+command_status (Err fault) status (inr h) = inr (OutOfMemory, h)
+
+-- The status of `answer`.
+pub answers_status : (outcome : Result Bool ToolFault) (status : ℕ) → MatchResult outcome (λ faulty. status ≡ cond faulty 1 0) (λ fault. (status ≡ fault_status fault) ⊎ (status ≡ 4)) → IsCommandStatus status
+answers_status (Ok true) status h = inr (NoTriples, h)
+answers_status (Ok false) status h = inl h
+answers_status (Err fault) status (inl h) = inr (fault, h)
+answers_status (Err fault) status (inr h) = inr (OutOfMemory, h)
+
+-- No error has status 0.
+not_done : (fault : ToolFault) (status : ℕ) → (status ≡ fault_status fault) ⊎ (status ≡ 4) → status ≡ 0 → ⊥
+not_done (File fault) status (inl h) is = absurd cc
+not_done fault status (inl h) is = absurd cc
+not_done fault status (inr h) is = absurd cc
+
+-- Status 0 of `answer`: all requests were answered, without an error.
+abbrev IsAnswersStatus : Result Bool ToolFault → ℕ → Type 0
+IsAnswersStatus outcome status = MatchResult outcome (λ faulty. status ≡ cond faulty 1 0) (λ fault. (status ≡ fault_status fault) ⊎ (status ≡ 4))
+
+pub answers_done : (P : Bool → Type 0) (outcome : Result Bool ToolFault) (status : ℕ) → IsAnswersStatus outcome status → IfOk outcome P → status ≡ 0 → P false
+answers_done P (Ok true) status of ok is = absurd cc
+answers_done P (Ok false) status of ok is = ok
+answers_done P (Err fault) status of ok is = absurd (not_done fault status of is)
+
+-- Any other status: one of the answers is an error, or an error ended them.
+pub answers_stopped : {A : Type 0} (P : Bool → Type 0) (Q : ToolFault → Type 0) (outcome : Result Bool ToolFault) (status : ℕ) → IsAnswersStatus outcome status → IfOk outcome P → IfErr outcome (λ e. A ⊎ Q e) → status ≢ 0
+    → A ⊎ (((status ≡ 1) × P true) ⊎ ((e : ToolFault) × ((status ≡ fault_status e) ⊎ (status ≡ 4)) × Q e))
+answers_stopped P Q (Ok true) status of ok err not = inr (inl (of, ok))
+answers_stopped P Q (Ok false) status of ok err not = absurd (not of)
+answers_stopped P Q (Err fault) status of ok (inl a) not = inl a
+answers_stopped P Q (Err fault) status of ok (inr q) not = inr (inr (fault, of, q))
+
+-- Status 0 implies what holds on success.
+pub if_done : {A T : Type 0} (P : T → Type 0) (outcome : Result T ToolFault) (status : ℕ) → MatchResult outcome P (λ fault. (status ≡ fault_status fault) ⊎ (status ≡ 4))
+    → OnOk outcome A → status ≡ 0 → A
+if_done P (Ok done) status of ok is = ok
+if_done P (Err fault) status of ok is = absurd (not_done fault status of is)
+
+-- Status 1 implies that nothing was written.
+first : {A C D : Type 0} → (D → ⊥) → A ⊎ (D × C) → A
+first not (inl a) = a
+first not (inr h) = absurd (not h.0)
+
+pub still_at_1 : (A C : Type 0) (outcome : Result (Unit {0}) ToolFault) (status : ℕ) → MatchResult outcome (λ _. status ≡ 0) (λ fault. (status ≡ fault_status fault) ⊎ (status ≡ 4))
+    → IfErr outcome (λ fault. ((n : ℕ) → fault ≢ Write n) → A ⊎ ((fault ≡ OutOfMemory) × C)) → status ≡ 1 → A
+still_at_1 A C (Ok done) status of unwritten is = absurd cc
+still_at_1 A C (Err fault) status (inr memory) unwritten is = absurd cc
+still_at_1 A C (Err fault) status (inl h) unwritten is =
+    let other : (e : ToolFault) → fault_status e ≢ 1 → fault ≢ e = λ e not same. not (sym (ap fault_status same) ∙ sym h ∙ is) in
+    first (other OutOfMemory (λ e. cc)) (unwritten (λ n. other (Write n) (λ e. cc)))
+
+-- Any status but 0 implies that nothing was written, or the writer failed, or `strings` ran out of memory.
+joined : {A B C D : Type 0} → (A ⊎ (D × C)) ⊎ B → A ⊎ (B ⊎ C)
+joined (inl (inl a)) = inl a
+joined (inl (inr h)) = inr (inr h.1)
+joined (inr b) = inr (inl b)
+
+pub stopped : {A B C : Type 0} (outcome : Result (Unit {0}) ToolFault) (status : ℕ) → MatchResult outcome (λ _. status ≡ 0) (λ fault. (status ≡ fault_status fault) ⊎ (status ≡ 4))
+    → IfErr outcome (λ fault. ((n : ℕ) → fault ≢ Write n) → A ⊎ ((fault ≡ OutOfMemory) × C)) → IfErr outcome (λ fault. (n : ℕ) → fault ≡ Write n → B) → status ≢ 0 → A ⊎ (B ⊎ C)
+stopped (Ok done) status of unwritten write not = absurd (not of)
+stopped (Err fault) status of unwritten write not = joined (by_writer fault unwritten write)
+
+-- If the output goes to memory, a write error becomes out of memory, and other errors stay.
+pub told_in_memory : (action : Action) (before : Option (List ℕ)) (fault told : ToolFault) → ((n : ℕ) → fault ≡ Write n → told ≡ OutOfMemory) → (((n : ℕ) → fault ≢ Write n) → told ≡ fault)
+    → IsFaultOfOwnedInput action before fault → IsFaultOfOwnedInput action before told
+told_in_memory action before fault told memory other h =
+    ⊎_elim (λ same. subst (IsFaultOfOwnedInput action before) (sym same) h) (λ same. subst (IsFaultOfOwnedInput action before) (sym same) (record { after = h.after; is_fault = tt }))
+    (by_writer fault other memory)
+
+pub kept_in_memory : (outcome : Result (Unit {0}) ToolFault) (fault told kind : ToolFault) → outcome ≡ Err fault → (((n : ℕ) → fault ≢ Write n) → told ≡ fault) → ((n : ℕ) → kind ≢ Write n)
+    → outcome ≡ Err kind → told ≡ kind
+kept_in_memory outcome fault told kind is other not e =
+    let same : fault ≡ kind = cc in
+    other (λ n w. not n (sym same ∙ w)) ∙ same
+
+-- The status of the invocation is one that the program may end with.
+pub ends : {X E : Type 0} (texts : X → List Text) (words : Result X E) (asked : Result Invocation UsageFault) (status : ℕ)
+    → IfOk asked (λ asked. MatchResult words (λ w. ParsesToInvocation (texts w) asked) (λ _. ⊥)) → IfErr asked (λ fault. IfOk words (λ w. IsRefused (texts w) fault))
+    → MatchResult asked (λ asked. IsActionStatus asked.request.action status) (λ fault. IsRefusalStatus fault status) → IfOk words (λ w. Ends (texts w) status)
+ends texts (Ok w) (Ok asked) status wanted refused of = inl (record { request = asked.request; wanted = parses_to_request (texts w) asked wanted; ends = of })
+ends texts (Ok w) (Err fault) status wanted refused of = inr (record { fault = fault; refused = refused; ends = of })
+ends texts (Err e) asked status wanted refused of = tt

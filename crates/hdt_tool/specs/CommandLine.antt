@@ -1,0 +1,269 @@
+-- Which request a command line is, in terms of what `clap` finds in it. An entry is the text that `clap` has for an
+-- argument, if any.
+use Rattle.std.specs.Prelude.{◌≡◌, ◌≢◌, ◌<◌, ◌^◌, ◌⊎◌, List, ℕ, Bool, true, false, [], ◌∷◌, Option, Some, None, codes, string_bytes, option_map, IsSomeAnd}
+use Rattle.std.specs.Str.Parse.{IsNumeral, digits_value, without_leading_plus}
+use Rattle.std.specs.declared.alloc.Global.{Global}
+use Rattle.std.specs.declared.vec.Vec.{Vec}
+use Rattle.clap.specs.Words.{Row, Text, Kinds, IsAmong, first_of, one_of, fault_of, subcommand_of}
+use Rattle.clap.specs.declared.error.kind.ErrorKind.{ErrorKind}
+use Rattle.clap.specs.declared.error.kind.ErrorKind.TheVariants as kind
+use Rattle.hdt_build.specs.declared.options.Options.{Options}
+use Rattle.hdt_terms.specs.declared.fault.TermFault.{TermFault}
+use Rattle.hdt_terms.specs.declared.fault.LineReason.TheVariants as line
+use Rattle.hdt_terms.specs.Appending.{AppendsStringOfText}
+use Rattle.hdt_terms.specs.TermErrors.{IsTermError}
+use Rattle.hdt_tool.specs.declared.fault.UsageFault.{UsageFault}
+use Rattle.hdt_tool.specs.declared.fault.UsageFault.TheVariants.{Usage, Help, InvalidTerm, OutOfMemory}
+use Rattle.hdt_tool.specs.declared.fault.TermArgument.{TermArgument}
+use Rattle.hdt_tool.specs.declared.fault.TermArgument.TheVariants.{Term, Subject, Predicate, Object}
+use Rattle.hdt_tool.specs.declared.request.Action.{Action}
+use Rattle.hdt_tool.specs.declared.request.Invocation.{Invocation}
+use Rattle.hdt_tool.specs.declared.request.Action.TheVariants as action
+use Rattle.hdt_tool.specs.declared.request.AnswerOptions.{AnswerOptions}
+use Rattle.hdt_tool.specs.declared.request.OutputFormat.{OutputFormat}
+use Rattle.hdt_tool.specs.declared.request.OutputFormat.TheVariants.{NTriples, Numbers, Count}
+use Rattle.hdt_tool.specs.declared.request.Request.{Request}
+use Rattle.hdt_tool.specs.ErrorLines.{argument_name}
+use Rattle.hdt_usage.specs.CommandTable.{Names, AreRoles, role_name, table}
+use Rattle.hdt_tool.specs.TriplesText.{GivenStrings, find_format}
+
+-- ---- arguments
+
+-- The text is the number n in decimal, below 2^bits; a plus sign may precede it.
+abbrev pub IsDecimalOf : ℕ → Text → ℕ → Type 0
+IsDecimalOf bits text n = IsNumeral 10 (without_leading_plus text) × (digits_value 10 (without_leading_plus text) < 2 ^ bits)
+    × (n ≡ digits_value 10 (without_leading_plus text))
+
+abbrev pub ParsesAsNumber : ℕ → Option Text → ℕ → Type 0
+ParsesAsNumber bits entry n = IsSomeAnd entry (λ text. IsDecimalOf bits text n)
+
+-- The entry is a decimal u64 with this value, or it is none.
+abbrev pub ParsesAsNumberOrNone : Option Text → Option ℕ → Type 0
+ParsesAsNumberOrNone entry None = (n : ℕ) → ParsesAsNumber 64 entry n → ⊥
+ParsesAsNumberOrNone entry (Some n) = ParsesAsNumber 64 entry n
+
+-- The entry that `clap` has for a flag that is given, and for one that is not.
+abbrev pub IsUsed : Option Text → Type 0
+IsUsed entry = entry ≡ Some (codes "true")
+
+abbrev pub IsUnused : Option Text → Type 0
+IsUnused entry = entry ≡ Some (codes "false")
+
+-- With `--raw` the dictionary string is the text itself; without it, the string of the N-Triples term that the text
+-- spells.
+abbrev pub ParsesAsString : Option Text → Option Text → List ℕ → Type 0
+ParsesAsString raw entry x = IsSomeAnd entry (λ text. (IsUsed raw → x ≡ text) × (IsUnused raw → AppendsStringOfText text [] x))
+
+-- The text `?` means any string, also with `--raw`; any other text means its dictionary string.
+abbrev pub ParsesAsStringOrAny : Option Text → Option Text → Option (Vec ℕ Global) → Type 0
+ParsesAsStringOrAny raw entry None = entry ≡ Some (codes "?")
+ParsesAsStringOrAny raw entry (Some x) = (entry ≢ Some (codes "?")) × ParsesAsString raw entry x.items
+
+abbrev pub ParsesAsFlag : Option Text → Bool → Type 0
+ParsesAsFlag entry flag = (IsUsed entry → flag ≡ true) × (IsUnused entry → flag ≡ false)
+
+-- The argument S, P or O means this string, or any.
+abbrev pub ParsesAsPart : List Row → TermArgument → Option (Vec ℕ Global) → Type 0
+ParsesAsPart rows word x = ParsesAsStringOrAny (one_of (codes "raw") rows) (first_of (argument_name word) rows) x
+
+-- The arguments S, P and O mean these strings, or any.
+pub record ParsesAsPattern (rows : List Row) (given : GivenStrings) : Type 0 where
+  pub subject : Option (Vec ℕ Global)
+  pub predicate : Option (Vec ℕ Global)
+  pub object : Option (Vec ℕ Global)
+  pub are : given ≡ subject ∷ predicate ∷ object ∷ []
+  pub s : ParsesAsPart rows Subject subject
+  pub p : ParsesAsPart rows Predicate predicate
+  pub o : ParsesAsPart rows Object object
+
+-- ---- requests
+
+-- The output format: with `--count` the number of triples, else with `--numbers` IDs, else N-Triples.
+pub record ParsesAsFormat (rows : List Row) (format : OutputFormat) : Type 0 where
+  pub count : IsUsed (one_of (codes "count") rows) → format ≡ Count
+  pub numbers : IsUnused (one_of (codes "count") rows) → IsUsed (one_of (codes "numbers") rows) → format ≡ Numbers
+  pub lines : IsUnused (one_of (codes "count") rows) → IsUnused (one_of (codes "numbers") rows) → format ≡ NTriples
+
+-- The command is `find`, with this pattern, output format and limit.
+pub record IsFindCommand (name : Text) (rows : List Row) (given : GivenStrings) (format : OutputFormat) (most : Option ℕ) : Type 0 where
+  pub named : name ≡ codes "find"
+  pub words : ParsesAsPattern rows given
+  pub format_is : ParsesAsFormat rows format
+  pub most_is : ParsesAsNumberOrNone (one_of (codes "most") rows) most
+
+-- The action finds triples by these strings, in this output format and up to this limit.
+abbrev pub IsFindAction : GivenStrings → OutputFormat → Option ℕ → Action → Type 0
+IsFindAction given format most (action.Find strings numbers) = (strings ≡ given) × (find_format numbers ≡ format) × (most ≡ None)
+IsFindAction given format most (action.Search strings other n) = (strings ≡ given) × (other ≡ format) × (n ≡ most)
+IsFindAction given format most action = ⊥
+
+-- The command is `dump`: all triples, in N-Triples.
+abbrev pub IsDumpCommand : Text → GivenStrings → Bool → Type 0
+IsDumpCommand name given numbers = (name ≡ codes "dump") × (given ≡ None ∷ None ∷ None ∷ []) × (numbers ≡ false)
+
+-- The command is `verify`, with or without `--tight`.
+abbrev pub IsVerifyCommand : Text → List Row → Bool → Type 0
+IsVerifyCommand name rows tight = (name ≡ codes "verify") × ParsesAsFlag (one_of (codes "tight") rows) tight
+
+-- The command is `answer`, with these options.
+pub record IsAnswerCommand (name : Text) (rows : List Row) (options : AnswerOptions) : Type 0 where
+  pub named : name ≡ codes "answer"
+  pub format_is : ParsesAsFormat rows options.format
+  pub most_is : ParsesAsNumberOrNone (one_of (codes "most") rows) options.most
+  pub raw_is : ParsesAsFlag (one_of (codes "raw") rows) options.raw
+  pub longest_is : ParsesAsNumber 32 (one_of (codes "longest-request") rows) options.longest
+
+-- The command's name and arguments give this action, which writes no file.
+abbrev pub IsFileAction : Text → List Row → Action → Type 0
+IsFileAction name rows action.Head = name ≡ codes "head"
+IsFileAction name rows action.Verify = IsVerifyCommand name rows false
+IsFileAction name rows action.VerifyTight = IsVerifyCommand name rows true
+IsFileAction name rows (action.Strings role) = (name ≡ codes "strings") × (first_of (codes "ROLE") rows ≡ Some (role_name role))
+IsFileAction name rows (action.Nth role n) = (name ≡ codes "string") × (first_of (codes "ROLE") rows ≡ Some (role_name role))
+    × ParsesAsNumber 64 (one_of (codes "N") rows) n
+IsFileAction name rows (action.Number role x) = (name ≡ codes "number") × (first_of (codes "ROLE") rows ≡ Some (role_name role))
+    × ParsesAsString (one_of (codes "raw") rows) (first_of (codes "TERM") rows) x.items
+IsFileAction name rows (action.Find given numbers) = IsFindCommand name rows given (find_format numbers) None ⊎ IsDumpCommand name given numbers
+IsFileAction name rows (action.Search given format most) = IsFindCommand name rows given format most
+IsFileAction name rows (action.Answer options) = IsAnswerCommand name rows options
+IsFileAction name rows (action.Build options) = ⊥
+IsFileAction name rows (action.Rewrite b) = ⊥
+
+-- The request reads FILE and writes no file.
+pub record IsFileRequest (name : Text) (rows : List Row) (request : Request) : Type 0 where
+  pub file : first_of (codes "FILE") rows ≡ Some (string_bytes request.file)
+  pub out : option_map string_bytes request.out ≡ None
+  pub action : IsFileAction name rows request.action
+
+-- The options of `build` are those of the arguments, or their defaults in the table of commands.
+pub record ParsesAsOptions (rows : List Row) (options : Options) : Type 0 where
+  pub base : first_of (codes "base") rows ≡ Some options.base.items
+  pub block_size : ParsesAsNumber 32 (one_of (codes "block-size") rows) options.block_size
+
+-- The command's name and arguments give this action, which writes a file.
+abbrev pub IsMakeAction : Text → List Row → Action → Type 0
+IsMakeAction name rows (action.Build options) = (name ≡ codes "build") × ParsesAsOptions rows options
+IsMakeAction name rows (action.Rewrite b) = (name ≡ codes "rewrite") × ParsesAsNumber 32 (one_of (codes "block-size") rows) b
+IsMakeAction name rows action = ⊥
+
+-- The request reads IN and writes OUT.
+pub record IsMakeRequest (name : Text) (rows : List Row) (request : Request) : Type 0 where
+  pub file : first_of (codes "IN") rows ≡ Some (string_bytes request.file)
+  pub out : IsSomeAnd request.out (λ path. first_of (codes "OUT") rows ≡ Some (string_bytes path))
+  pub action : IsMakeAction name rows request.action
+
+-- The command's name and arguments give this request.
+abbrev pub IsRequestOf : Text → List Row → Request → Type 0
+IsRequestOf name rows request = IsFileRequest name rows request ⊎ IsMakeRequest name rows request
+
+abbrev pub IsRequestOfCommand : Option (Text × List Row) → Request → Type 0
+IsRequestOfCommand entered request = IsSomeAnd entered (λ command. IsRequestOf command.0 command.1 request)
+
+-- The kinds of error that `clap` may return for the command line; if there are none, it accepts it.
+unfoldable pub clap_errors : Names → List Text → Kinds
+clap_errors names words = fault_of (table names) words
+
+-- `clap` accepts the command line, and it gives this request.
+pub record ParsesWithRoles (names : Names) (words : List Text) (request : Request) : Type 0 where
+  pub taken : clap_errors names words ≡ []
+  pub asked : IsRequestOfCommand (subcommand_of (table names) words) request
+
+-- The same, for some list of the names of the roles.
+pub record ParsesToRequest (words : List Text) (request : Request) : Type 0 where
+  pub names : Names
+  pub roles : AreRoles names
+  pub wanted : ParsesWithRoles names words request
+
+-- The command line gives this request, and `--progress` if that is true.
+pub record ParsesToInvocation (words : List Text) (asked : Invocation) : Type 0 where
+  pub names : Names
+  pub roles : AreRoles names
+  pub wanted : ParsesWithRoles names words asked.request
+  pub progress : IsSomeAnd (subcommand_of (table names) words) (λ command. ParsesAsFlag (one_of (codes "progress") command.1) asked.progress)
+
+-- ---- errors
+
+-- Without `--raw`, the argument is not a valid term, and this is its first error.
+abbrev pub IsInvalidTerm : List Row → TermArgument → TermFault → Type 0
+IsInvalidTerm rows word fault = (IsUsed (one_of (codes "raw") rows) → ⊥) × IsSomeAnd (first_of (argument_name word) rows) (λ text. IsTermError text fault)
+
+-- The same for S, P and O, which may be `?`.
+abbrev pub IsInvalidPart : List Row → TermArgument → TermFault → Type 0
+IsInvalidPart rows word fault = (first_of (argument_name word) rows ≢ Some (codes "?")) × IsInvalidTerm rows word fault
+
+-- The argument S, P or O is valid.
+abbrev pub IsValidPart : List Row → TermArgument → Type 0
+IsValidPart rows word = (x : Option (Vec ℕ Global)) × ParsesAsPart rows word x
+
+-- This is the error of TERM of `number`, or of the first invalid one of S, P and O of `find`.
+abbrev pub HasInvalidTerm : Text → List Row → TermArgument → TermFault → Type 0
+HasInvalidTerm name rows Term fault = (name ≡ codes "number") × IsInvalidTerm rows Term fault
+HasInvalidTerm name rows Subject fault = (name ≡ codes "find") × IsInvalidPart rows Subject fault
+HasInvalidTerm name rows Predicate fault = (name ≡ codes "find") × IsValidPart rows Subject × IsInvalidPart rows Predicate fault
+HasInvalidTerm name rows Object fault = (name ≡ codes "find") × IsValidPart rows Subject × IsValidPart rows Predicate × IsInvalidPart rows Object fault
+
+abbrev pub HasInvalidTermIn : Option (Text × List Row) → TermArgument → TermFault → Type 0
+HasInvalidTermIn entered word fault = IsSomeAnd entered (λ command. HasInvalidTerm command.0 command.1 word fault)
+
+-- An error of this kind shows help or the version.
+abbrev pub IsHelpOrVersion : ErrorKind → Type 0
+IsHelpOrVersion k = (k ≡ kind.DisplayHelp) ⊎ (k ≡ kind.DisplayVersion)
+
+-- `Help` is returned only if `clap` may show help or the version; `Usage` only if the command line gives no request;
+-- and an invalid term is the first one, with its first error.
+abbrev pub IsRefusedWithRoles : Names → List Text → UsageFault → Type 0
+IsRefusedWithRoles names words (Help text) = IsAmong kind.DisplayHelp (clap_errors names words) ⊎ IsAmong kind.DisplayVersion (clap_errors names words)
+IsRefusedWithRoles names words (Usage text) = (clap_errors names words ≢ kind.DisplayHelp ∷ []) × (clap_errors names words ≢ kind.DisplayVersion ∷ [])
+    × ((request : Request) → ParsesWithRoles names words request → ⊥)
+IsRefusedWithRoles names words (InvalidTerm word fault) = (clap_errors names words ≡ []) × HasInvalidTermIn (subcommand_of (table names) words) word fault
+IsRefusedWithRoles names words OutOfMemory = Unit {0}
+
+-- The same, for some list of the names of the roles.
+pub record IsRefusedWithSomeRoles (words : List Text) (fault : UsageFault) : Type 0 where
+  pub names : Names
+  pub roles : AreRoles names
+  pub refused : IsRefusedWithRoles names words fault
+
+abbrev pub IsRefused : List Text → UsageFault → Type 0
+IsRefused words OutOfMemory = Unit {0}
+IsRefused words fault = IsRefusedWithSomeRoles words fault
+
+-- ---- errors of the single steps of parsing
+
+-- A usage error with this message, or out of memory.
+abbrev pub IsUsageText : Text → UsageFault → Type 0
+IsUsageText said (Usage text) = string_bytes text ≡ said
+IsUsageText said OutOfMemory = Unit {0}
+IsUsageText said fault = ⊥
+
+-- The error for an error of `clap` of this kind.
+abbrev pub IsFaultOfKind : ErrorKind → UsageFault → Type 0
+IsFaultOfKind k (Help text) = IsHelpOrVersion k
+IsFaultOfKind k (Usage text) = (IsHelpOrVersion k → ⊥) × (k ≢ kind.OutOfMemory)
+IsFaultOfKind k (InvalidTerm word fault) = ⊥
+IsFaultOfKind k OutOfMemory = Unit {0}
+
+-- `Usage` is returned only if P is false, an invalid term only if Q is true of it, and `Help` never.
+abbrev pub RefutesOrInvalidTerm : Type 0 → (TermArgument → TermFault → Type 0) → UsageFault → Type 0
+RefutesOrInvalidTerm P Q (Help text) = ⊥
+RefutesOrInvalidTerm P Q (Usage text) = P → ⊥
+RefutesOrInvalidTerm P Q (InvalidTerm word fault) = Q word fault
+RefutesOrInvalidTerm P Q OutOfMemory = Unit {0}
+
+-- `Usage` is returned only if P is false, and no error but that and out of memory.
+abbrev pub Refutes : Type 0 → UsageFault → Type 0
+Refutes P fault = RefutesOrInvalidTerm P (λ word fault. ⊥) fault
+
+-- The error for a failure of parsing this argument as a term.
+abbrev pub IsFaultOfTerm : TermArgument → TermFault → UsageFault → Type 0
+IsFaultOfTerm word fault (InvalidTerm other told) = (other ≡ word) × (told ≡ fault) × (fault.reason ≢ line.OutOfMemory)
+IsFaultOfTerm word fault OutOfMemory = fault.reason ≡ line.OutOfMemory
+IsFaultOfTerm word fault other = ⊥
+
+-- The dictionary string for a text: the text itself if raw, else the string of the N-Triples term that it spells.
+abbrev pub IsStringOfText : Bool → Text → List ℕ → Type 0
+IsStringOfText raw text x = (raw ≡ true → x ≡ text) × (raw ≡ false → AppendsStringOfText text [] x)
+
+-- The error is one of this argument: it is not raw, and this is the first error in its text.
+abbrev pub IsFaultOfArgument : TermArgument → Bool → Text → TermArgument → TermFault → Type 0
+IsFaultOfArgument word raw text other fault = (other ≡ word) × (raw ≡ false) × IsTermError text fault

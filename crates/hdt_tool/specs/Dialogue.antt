@@ -1,0 +1,191 @@
+-- The answers of `answer`: to one line of requests, and to all lines.
+use Rattle.std.specs.Prelude.{◌≡◌, ◌≢◌, ◌+◌, ◌^◌, ◌-◌, ℕ, Bool, true, false, nat_lt, length, ◌||◌, ◌⊎◌, List, [], ◌∷◌, ◌++◌, if◌then◌else◌, Option, None, Some, Result, Ok, Err, codes, option_map}
+use Rattle.std.specs.Fmt.{decimal}
+use Rattle.std.specs.Io.KnownBytes.{Appends}
+use Rattle.hdt_wire.specs.declared.role.Role.{Role}
+use Rattle.hdt_terms.specs.declared.fault.LineFault.{LineFault}
+use Rattle.hdt_terms.specs.declared.fault.LineReason.TheVariants as reasons
+use Rattle.hdt_terms.specs.declared.fault.TermFault.{TermFault}
+use Rattle.hdt_terms.specs.Faults.{out_of_memory}
+use Rattle.hdt_terms.specs.Documents.{AreLines, LinesSoFar, FaultAfterLines}
+use Rattle.hdt_terms.specs.RawRequestParsing.{StringPattern, is_raw_given, raw_request_in}
+use Rattle.hdt_terms.specs.Reasons.{line_reason_number, line_reason_name}
+use Rattle.hdt_terms.specs.RequestParsing.{request_in}
+use Rattle.hdt_terms.specs.Requests.{TermPattern}
+use Rattle.hdt_terms.specs.LinesReader.{LinesState}
+use Rattle.hdt_terms.specs.Terms.{dictionary_string}
+use Rattle.hdt_triples.specs.TripleSequences.{Triple}
+use Rattle.hdt_file.specs.File.{GraphParts}
+use Rattle.hdt_file.specs.Text.{IsFirstNonTerm}
+use Rattle.hdt_file.specs.TextWriting.{limited}
+use Rattle.hdt_tool.specs.Outcomes.{FailsAfter, IsLayoutWith, ReadsWith}
+use Rattle.hdt_usage.specs.CommandTable.{role_name}
+use Rattle.hdt_tool.specs.TriplesText.{FindsStrings, PrintsTriples}
+use Rattle.hdt_tool.specs.declared.fault.ToolFault.{ToolFault}
+use Rattle.hdt_tool.specs.declared.fault.ToolFault.TheVariants.{Input, Read, Write, OutOfMemory}
+use Rattle.hdt_tool.specs.declared.request.AnswerOptions.{AnswerOptions}
+use Rattle.hdt_tool.specs.declared.request.OutputFormat.{OutputFormat}
+use Rattle.hdt_tool.specs.declared.request.OutputFormat.TheVariants.{NTriples}
+
+-- ---- the request in a line
+
+-- The strings for subject, predicate and object; none matches any.
+abbrev pub RequestStrings : Type 0
+RequestStrings = List (Option (List ℕ))
+
+abbrev pub term_request_strings : TermPattern → RequestStrings
+term_request_strings asked = option_map dictionary_string asked.s ∷ option_map dictionary_string asked.p ∷ option_map dictionary_string asked.o ∷ []
+
+-- With `--raw`, the text `?` matches any; any other text is a string.
+abbrev pub raw_request_string : List ℕ → Option (List ℕ)
+raw_request_string x = if is_raw_given x then Some x else None
+
+abbrev pub raw_request_strings : StringPattern → RequestStrings
+raw_request_strings asked = raw_request_string asked.s ∷ raw_request_string asked.p ∷ raw_request_string asked.o ∷ []
+
+abbrev pub map_request : {A : Type 0} → (A → RequestStrings) → Result (Option A) TermFault → Result (Option RequestStrings) TermFault
+map_request strings (Ok None) = Ok None
+map_request strings (Ok (Some asked)) = Ok (Some (strings asked))
+map_request strings (Err fault) = Err fault
+
+-- The request in a line, of N-Triples terms or of dictionary strings: none in a blank line or a comment, or the first
+-- error.
+abbrev pub request_strings_in : Bool → List ℕ → Result (Option RequestStrings) TermFault
+request_strings_in false text = map_request term_request_strings (request_in text)
+request_strings_in true text = map_request raw_request_strings (raw_request_in text)
+
+-- The error of a line above the maximum length.
+abbrev pub too_long : TermFault
+too_long = record { column = 0; reason = reasons.TooLong }
+
+-- The request in a line, unless the line is above the maximum length.
+abbrev pub bounded_request_in : AnswerOptions → List ℕ → Result (Option RequestStrings) TermFault
+bounded_request_in options text = if nat_lt options.longest (length text) then Err too_long else request_strings_in options.raw text
+
+-- Those of the three strings that are given.
+abbrev pub given_strings : List Bool → List ℕ → List ℕ → List ℕ → RequestStrings
+given_strings [] s p o = []
+given_strings (a ∷ []) s p o = []
+given_strings (a ∷ b ∷ []) s p o = []
+given_strings (a ∷ b ∷ c ∷ rest) s p o = (if a then Some s else None) ∷ (if b then Some p else None) ∷ (if c then Some o else None) ∷ []
+
+-- The request that was parsed into the three buffers, unless memory ran out.
+abbrev pub ReadsRequest : Result (Option (List Bool)) TermFault → List ℕ → List ℕ → List ℕ → Result (Option RequestStrings) TermFault → Type 0
+ReadsRequest (Ok None) s p o read = read ≡ Ok None
+ReadsRequest (Ok (Some given)) s p o read = read ≡ Ok (Some (given_strings given s p o))
+ReadsRequest (Err fault) s p o read = (fault ≡ out_of_memory) ⊎ (read ≡ Err fault)
+
+-- ---- the answer to a line
+
+-- The comment line for an error.
+abbrev pub fault_comment : ℕ → TermFault → List ℕ
+fault_comment line fault = codes "# line " ++ decimal line ++ codes " column " ++ decimal fault.column ++ codes ": "
+    ++ decimal (line_reason_number fault.reason) ++ codes " " ++ line_reason_name fault.reason ++ codes "\n"
+
+-- The comment line for a string that is not a term.
+abbrev pub non_term_comment : Role → ℕ → List ℕ
+non_term_comment role n = codes "# " ++ role_name role ++ codes " " ++ decimal n ++ codes " is not a term\n"
+
+-- An answer ends with an empty line.
+abbrev pub ended : List ℕ → List ℕ
+ended text = text ++ 10 ∷ []
+
+-- The answer without an error: the text of the triples.
+abbrev pub AnswersTriples : OutputFormat → GraphParts → List Triple → List ℕ → Type 0
+AnswersTriples format g found answer = (text : List ℕ) × PrintsTriples format g found text × (answer ≡ ended text)
+
+-- The answer in N-Triples if a string of the triples is not a term: only a comment with the first one.
+abbrev pub AnswersNonTerm : OutputFormat → GraphParts → List Triple → List ℕ → Type 0
+AnswersNonTerm format g found answer = (role : Role) × (n : ℕ) × (format ≡ NTriples) × IsFirstNonTerm g found role n × (answer ≡ ended (non_term_comment role n))
+
+-- The answer for the triples that were found, and whether it is an error.
+abbrev pub AnswersFound : OutputFormat → GraphParts → List Triple → Bool → List ℕ → Type 0
+AnswersFound format g found false answer = AnswersTriples format g found answer
+AnswersFound format g found true answer = AnswersNonTerm format g found answer
+
+-- The answer to the request in line n: empty for a blank line or a comment, a comment for an error, or the matches up
+-- to the limit.
+abbrev pub AnswersRequest : GraphParts → AnswerOptions → ℕ → Result (Option RequestStrings) TermFault → Bool → List ℕ → Type 0
+AnswersRequest g options n (Ok None) faulty answer = (faulty ≡ false) × (answer ≡ [])
+AnswersRequest g options n (Ok (Some wanted)) faulty answer = (found : List Triple) × FindsStrings g wanted found × AnswersFound options.format g (limited options.most found) faulty answer
+AnswersRequest g options n (Err fault) faulty answer = (faulty ≡ true) × (answer ≡ ended (fault_comment n fault))
+
+-- The answer to a numbered line.
+abbrev pub AnswersLine : GraphParts → AnswerOptions → ℕ × List ℕ → Bool → List ℕ → Type 0
+AnswersLine g options line faulty answer = AnswersRequest g options line.0 (bounded_request_in options line.1) faulty answer
+
+-- The concatenated answers to lines, and whether any of them is an error.
+abbrev pub AnswersLines : GraphParts → AnswerOptions → List (ℕ × List ℕ) → Bool → List ℕ → Type 0
+AnswersLines g options [] faulty answers = (faulty ≡ false) × (answers ≡ [])
+AnswersLines g options (line ∷ lines) faulty answers = (first : Bool) × (answer : List ℕ) × (others : Bool) × (more : List ℕ)
+    × AnswersLine g options line first answer × AnswersLines g options lines others more × (faulty ≡ first || others) × (answers ≡ answer ++ more)
+
+-- ---- the answers to an input
+
+-- A limit in bytes that no input exceeds.
+abbrev pub max_input_bytes : ℕ
+max_input_bytes = 2 ^ 63 - 1
+
+-- These lines have been read from the input: those up to what is left, or all of them.
+abbrev pub HasTakenLines : LinesState → Option (List ℕ) → Option (List ℕ) → List (ℕ × List ℕ) → Type 0
+HasTakenLines s input left lines = ((s.ended ≡ false) × LinesSoFar max_input_bytes s input left lines) ⊎ ((s.ended ≡ true) × AreLines max_input_bytes input lines)
+
+-- An upper bound of the number of lines left, for termination.
+abbrev pub lines_left : LinesState → ℕ
+lines_left s = if s.ended then 0 else s.limit - s.taken + 1
+
+-- The error of `answer` if a line cannot be read.
+abbrev pub IsFaultOfLine : LineFault → ToolFault → Type 0
+IsFaultOfLine fault Read = fault.reason ≡ reasons.Read
+IsFaultOfLine fault OutOfMemory = fault.reason ≡ reasons.OutOfMemory
+IsFaultOfLine fault (Input told) = (told ≡ fault) × (fault.reason ≢ reasons.Read) × (fault.reason ≢ reasons.OutOfMemory)
+IsFaultOfLine fault other = ⊥
+
+-- The writer has gained the answers to all lines of the input.
+pub record AnswersInput (g : GraphParts) (options : AnswerOptions) (input written_before written_after : Option (List ℕ)) (faulty : Bool) : Type 0 where
+  pub lines : List (ℕ × List ℕ)
+  pub are : AreLines max_input_bytes input lines
+  pub text : List ℕ
+  pub answers : AnswersLines g options lines faulty text
+  pub written : Appends written_before written_after text
+
+-- These are the first lines of the input, or all of them.
+abbrev pub AreFirstLines : Option (List ℕ) → List (ℕ × List ℕ) → Type 0
+AreFirstLines input lines = ((s : LinesState) × (left : Option (List ℕ)) × LinesSoFar max_input_bytes s input left lines) ⊎ AreLines max_input_bytes input lines
+
+-- The writer failed after exactly the first n bytes of the answers; or another error occurred after all of them.
+abbrev pub StopsAfterAnswers : ToolFault → List ℕ → Option (List ℕ) → Option (List ℕ) → ℕ → ℕ → Type 0
+StopsAfterAnswers (Write n) text written_before written_after failed_before failed_after = FailsAfter n text written_before written_after failed_before failed_after
+StopsAfterAnswers Read text written_before written_after failed_before failed_after = (failed_after ≡ failed_before) × Appends written_before written_after text
+StopsAfterAnswers OutOfMemory text written_before written_after failed_before failed_after = (failed_after ≡ failed_before) × Appends written_before written_after text
+StopsAfterAnswers (Input fault) text written_before written_after failed_before failed_after = (failed_after ≡ failed_before) × Appends written_before written_after text
+StopsAfterAnswers fault text written_before written_after failed_before failed_after = ⊥
+
+-- If a line could not be read, these are exactly the complete lines before it; `given` is what the reader still yields
+-- after it.
+abbrev pub FollowsLines : ToolFault → Option (List ℕ) → Option (List ℕ) → List (ℕ × List ℕ) → Type 0
+FollowsLines Read input given lines = (line : ℕ) × FaultAfterLines (record { line = line; column = 0; reason = reasons.Read }) max_input_bytes input given lines
+FollowsLines (Input fault) input given lines = (fault.reason ≡ reasons.TooLong) × FaultAfterLines fault max_input_bytes input given lines
+FollowsLines fault input given lines = Unit {0}
+
+-- An error ended the answers: the writer has gained those to the first lines of the input, complete unless it failed.
+pub record AnswersUntilFault (g : GraphParts) (options : AnswerOptions) (input given written_before written_after : Option (List ℕ)) (failed_before failed_after : ℕ) (fault : ToolFault) : Type 0 where
+  pub lines : List (ℕ × List ℕ)
+  pub are : AreFirstLines input lines
+  pub behind : FollowsLines fault input given lines
+  pub faulty : Bool
+  pub text : List ℕ
+  pub answers : AnswersLines g options lines faulty text
+  pub stopped : StopsAfterAnswers fault text written_before written_after failed_before failed_after
+
+-- ---- the same over a file whose reader is owned by the run
+
+-- The file is valid, and the writer has gained the answers to all lines of the requests over its graph.
+pub record AnswersOverFile (options : AnswerOptions) (file input written_before written_after : Option (List ℕ)) (faulty : Bool) : Type 0 where
+  pub after : Option (List ℕ)
+  pub answers : ReadsWith file after (λ bytes. IsLayoutWith bytes (λ graph. AnswersInput graph options input written_before written_after faulty))
+
+-- The file is valid, and an error ended the answers to the requests over its graph.
+pub record AnswersOverFileUntilFault (options : AnswerOptions) (file input given written_before written_after : Option (List ℕ)) (failed_before failed_after : ℕ) (fault : ToolFault) : Type 0 where
+  pub after : Option (List ℕ)
+  pub answers : ReadsWith file after (λ bytes. IsLayoutWith bytes (λ graph. AnswersUntilFault graph options input given written_before written_after failed_before failed_after fault))

@@ -1,0 +1,277 @@
+-- What a run of a command does: its output, the file that it makes, and its errors. In these definitions `before` and
+-- `after` are what the reader still yields before and after the run.
+use Rattle.std.specs.Prelude.{◌≡◌, ◌≢◌, ◌<◌, ◌≤◌, ◌+◌, ℕ, List, [], ◌++◌, length, take, Option, None, Some, Err, MatchOption}
+use Rattle.std.specs.Io.KnownBytes.{Appends, Consumes, IsAtEnd}
+use Rattle.hdt_wire.specs.declared.fault.Fault.{Fault}
+use Rattle.hdt_file.specs.Head.{HeadParts, IsHead, decode_head}
+use Rattle.hdt_file.specs.File.{GraphParts, IsLayout, decode_graph}
+use Rattle.hdt_file.specs.Tight.{IsTightLayout, decode_tight_graph}
+use Rattle.hdt_file.specs.GraphView.{graph_counts}
+use Rattle.hdt_build.specs.Built.{Builds}
+use Rattle.hdt_build.specs.Options.{AreValidOptions, IsBlockSize}
+use Rattle.hdt_build.specs.Reading.{IsBuildFaultOf as IsFaultOfBuild}
+use Rattle.hdt_build.specs.Rewritten.{IsRewritten}
+use Rattle.hdt_build.specs.declared.fault.BuildFault.{BuildFault}
+use Rattle.hdt_build.specs.declared.fault.BuildFault.TheVariants as building
+use Rattle.hdt_build.specs.declared.options.Options.{Options}
+use Rattle.hdt_build.specs.declared.options.Report.{Report}
+use Rattle.hdt_terms.specs.declared.fault.LineReason.TheVariants as reasons
+use Rattle.hdt_wire.specs.declared.role.Role.{Role}
+use Rattle.hdt_dict.specs.Ids.{string_at_id}
+use Rattle.hdt_tool.specs.declared.fault.ToolFault.{ToolFault}
+use Rattle.hdt_tool.specs.declared.fault.ToolFault.TheVariants.{File, Input, NoTriples, NoSuchTerm, NoSuchNumber, NotATerm, BadOptions, Read, Write, OutOfMemory}
+use Rattle.hdt_tool.specs.declared.request.Action.{Action}
+use Rattle.hdt_tool.specs.declared.request.Request.{Request}
+use Rattle.hdt_tool.specs.declared.request.Action.TheVariants.{Head, Verify, VerifyTight, Strings, Nth, Number, Find, Search, Answer, Build, Rewrite}
+use Rattle.hdt_tool.specs.BuiltText.{built_line, rewritten_line}
+use Rattle.hdt_tool.specs.HeadText.{head_text}
+use Rattle.hdt_tool.specs.ErrorLines.{fault_status}
+use Rattle.hdt_tool.specs.Verdict.{verdict}
+use Rattle.hdt_tool.specs.StringsText.{string_lines, PrintsString, PrintsNumber}
+use Rattle.hdt_tool.specs.TriplesText.{HasNonTermIn, PrintsFound, find_format}
+use Rattle.hdt_dict.specs.Dictionary.{role_strings}
+
+-- The bytes begin with a valid head, and the text is the output of `head` for it.
+pub record PrintsHead (bytes text : List ℕ) : Type 0 where
+  pub head : HeadParts
+  pub encoded : IsHead head bytes
+  pub printed : text ≡ head_text head
+
+-- The bytes are a valid encoding of a graph whose triples use all of its strings, and the text is the output of
+-- `verify`.
+pub record PrintsTightVerdict (bytes text : List ℕ) : Type 0 where
+  pub graph : GraphParts
+  pub encoded : IsTightLayout bytes graph
+  pub printed : text ≡ verdict (graph_counts graph)
+
+-- The bytes are a valid encoding of a graph for which Holds is true.
+pub record IsLayoutWith (bytes : List ℕ) (Holds : GraphParts → Type 0) : Type 0 where
+  pub graph : GraphParts
+  pub encoded : IsLayout bytes graph
+  pub holds : Holds graph
+
+-- The bytes are a valid encoding of a graph, and Holds is true for the strings of the role.
+abbrev pub HasRoleStringsWith : List ℕ → Role → (List (List ℕ) → Type 0) → Type 0
+HasRoleStringsWith bytes role Holds = IsLayoutWith bytes (λ graph. Holds (role_strings graph.dictionary role))
+
+-- The text is the output of a command for these input bytes, if it writes no file.
+abbrev pub Prints : Action → List ℕ → List ℕ → Type 0
+Prints Head bytes text = PrintsHead bytes text
+Prints Verify bytes text = IsLayoutWith bytes (λ graph. text ≡ verdict (graph_counts graph))
+Prints VerifyTight bytes text = PrintsTightVerdict bytes text
+Prints (Strings role) bytes text = HasRoleStringsWith bytes role (λ strings. text ≡ string_lines 1 strings)
+Prints (Nth role n) bytes text = HasRoleStringsWith bytes role (λ strings. PrintsString strings n text)
+Prints (Number role x) bytes text = HasRoleStringsWith bytes role (λ strings. PrintsNumber strings x.items text)
+Prints (Find given numbers) bytes text = IsLayoutWith bytes (λ graph. PrintsFound graph given (find_format numbers) None text)
+Prints (Search given format most) bytes text = IsLayoutWith bytes (λ graph. PrintsFound graph given format most text)
+Prints (Answer options) bytes text = IsLayoutWith bytes (λ graph. text ≡ [])
+Prints (Build options) bytes text = ⊥
+Prints (Rewrite b) bytes text = ⊥
+
+-- The command reads a file and writes none.
+abbrev pub IsReadOnly : Action → Type 0
+IsReadOnly (Build options) = ⊥
+IsReadOnly (Rewrite b) = ⊥
+IsReadOnly action = Unit {0}
+
+-- The command writes a file: `build` or `rewrite`.
+abbrev pub MakesFile : Action → Type 0
+MakesFile (Build options) = Unit {0}
+MakesFile (Rewrite b) = Unit {0}
+MakesFile action = ⊥
+
+-- A request has an output path exactly if its command writes a file.
+abbrev pub HasOut : Request → Type 0
+HasOut request = MatchOption request.out (IsReadOnly request.action) (λ path. MakesFile request.action)
+
+-- The error is the first one in these bytes. `head` checks only the head, and `verify --tight` also that triples use
+-- all strings; the other commands check the complete file.
+abbrev pub HasFault : Action → List ℕ → Fault → Type 0
+HasFault Head bytes fault = decode_head bytes ≡ Err fault
+HasFault VerifyTight bytes fault = decode_tight_graph bytes ≡ Err fault
+HasFault (Build options) bytes fault = ⊥
+HasFault action bytes fault = decode_graph bytes ≡ Err fault
+
+-- The role has no string with the ID to look up.
+abbrev pub LacksNumber : Action → List ℕ → Type 0
+LacksNumber (Nth role n) bytes = HasRoleStringsWith bytes role (λ strings. string_at_id strings n ≡ None)
+LacksNumber action bytes = ⊥
+
+-- The role has no ID for the string to look up.
+abbrev pub LacksTerm : Action → List ℕ → Type 0
+LacksTerm (Number role x) bytes = HasRoleStringsWith bytes role (λ strings. (n : ℕ) → string_at_id strings n ≢ Some x.items)
+LacksTerm action bytes = ⊥
+
+-- The output format is N-Triples, and the first string to print that is not a term has this role and ID.
+abbrev pub HasNonTerm : Action → List ℕ → Role → ℕ → Type 0
+HasNonTerm (Find given numbers) bytes role n = IsLayoutWith bytes (λ graph. HasNonTermIn graph given (find_format numbers) None role n)
+HasNonTerm (Search given format most) bytes role n = IsLayoutWith bytes (λ graph. HasNonTermIn graph given format most role n)
+HasNonTerm action bytes role n = ⊥
+
+-- The bytes are valid, but the block size for `rewrite` is not.
+abbrev pub HasBadBlockSize : Action → List ℕ → Type 0
+HasBadBlockSize (Rewrite b) bytes = IsLayoutWith bytes (λ graph. IsBlockSize b → ⊥)
+HasBadBlockSize action bytes = ⊥
+
+-- The error is one that a command may return for these input bytes.
+abbrev pub IsFaultOfBytes : Action → List ℕ → ToolFault → Type 0
+IsFaultOfBytes action bytes (File fault) = HasFault action bytes fault
+IsFaultOfBytes action bytes NoSuchNumber = LacksNumber action bytes
+IsFaultOfBytes action bytes NoSuchTerm = LacksTerm action bytes
+IsFaultOfBytes action bytes (NotATerm role n) = HasNonTerm action bytes role n
+IsFaultOfBytes action bytes BadOptions = HasBadBlockSize action bytes
+IsFaultOfBytes action bytes OutOfMemory = Unit {0}
+IsFaultOfBytes action bytes fault = ⊥
+
+-- The error is one that a command that writes no file may return before it prints.
+abbrev pub IsReadOnlyFault : ToolFault → Type 0
+IsReadOnlyFault (Input fault) = ⊥
+IsReadOnlyFault NoTriples = ⊥
+IsReadOnlyFault BadOptions = ⊥
+IsReadOnlyFault (Write n) = ⊥
+IsReadOnlyFault fault = Unit {0}
+
+-- The reader has yielded exactly these bytes and is at its end.
+pub record ReadsAll (before after : Option (List ℕ)) (bytes : List ℕ) : Type 0 where
+  pub read : Consumes before after bytes
+  pub ended : IsAtEnd after
+
+-- The reader has yielded bytes for which Holds is true, and is at its end.
+pub record ReadsWith (before after : Option (List ℕ)) (Holds : List ℕ → Type 0) : Type 0 where
+  pub bytes : List ℕ
+  pub read : ReadsAll before after bytes
+  pub holds : Holds bytes
+
+-- The input is an N-Triples document, `built` is the file that `build` makes of it, and the text gives the file's
+-- counts.
+pub record BuildsFile (options : Options) (input : Option (List ℕ)) (text built : List ℕ) : Type 0 where
+  pub report : Report
+  pub file : Builds options input built report
+  pub printed : text ≡ built_line report
+
+-- The bytes are a valid encoding of a graph; `built` is the canonical file of its triples with its header body, in
+-- blocks of a valid size b; and the text gives the file's counts.
+pub record RewritesFile (b : ℕ) (bytes text built : List ℕ) : Type 0 where
+  pub graph : GraphParts
+  pub encoded : IsLayout bytes graph
+  pub size : IsBlockSize b
+  pub report : Report
+  pub file : IsRewritten b graph built report
+  pub printed : text ≡ rewritten_line report
+
+-- The text is the command's output for the input, and `built` is the new file of `build` or `rewrite`. Other commands
+-- read the complete input and make no file.
+abbrev pub Yields : Action → Option (List ℕ) → Option (List ℕ) → List ℕ → List ℕ → Type 0
+Yields (Build options) before after text built = BuildsFile options before text built
+Yields (Rewrite b) before after text built = ReadsWith before after (λ bytes. RewritesFile b bytes text built)
+Yields action before after text built = ReadsWith before after (λ bytes. Prints action bytes text) × (built ≡ [])
+
+-- The error is one that the builder may return for the document.
+abbrev pub IsFaultOfDocument : Action → Option (List ℕ) → Option (List ℕ) → BuildFault → Type 0
+IsFaultOfDocument (Build options) before after fault = IsFaultOfBuild before after fault
+IsFaultOfDocument action before after fault = ⊥
+
+-- Holds is true for the options of `build`; other commands have none.
+abbrev pub IfBuild : Action → (Options → Type 0) → Type 0
+IfBuild (Build options) Holds = Holds options
+IfBuild action Holds = Unit {0}
+
+-- The options are not valid. `build` checks them before it reads; `rewrite` checks them only if the input is valid.
+abbrev pub HasBadOptions : Action → Option (List ℕ) → Option (List ℕ) → Type 0
+HasBadOptions (Build options) before after = AreValidOptions options → ⊥
+HasBadOptions (Rewrite b) before after = ReadsWith before after (HasBadBlockSize (Rewrite b))
+HasBadOptions action before after = ⊥
+
+-- The error is one that the command may return for the input: the first one of a file or a document, a look-up without
+-- a result, or the first string to print that is not a term. Errors of reading, writing and memory may always occur.
+abbrev pub IsFaultOfInput : Action → Option (List ℕ) → Option (List ℕ) → ToolFault → Type 0
+IsFaultOfInput action before after (Input fault) = IsFaultOfDocument action before after (building.Line fault) × (fault.reason ≢ reasons.Read)
+IsFaultOfInput action before after NoTriples = IsFaultOfDocument action before after building.NoTriples
+IsFaultOfInput action before after BadOptions = HasBadOptions action before after
+IsFaultOfInput action before after Read = Unit {0}
+IsFaultOfInput action before after (Write n) = Unit {0}
+IsFaultOfInput action before after OutOfMemory = Unit {0}
+IsFaultOfInput action before after fault = ReadsWith before after (λ bytes. IsFaultOfBytes action bytes fault)
+
+-- The text is the command's output for the input, and the new file has been appended to `made`.
+pub record YieldsAppended (action : Action) (before after : Option (List ℕ)) (text made_before made_after : List ℕ) : Type 0 where
+  pub built : List ℕ
+  pub yields : Yields action before after text built
+  pub made : made_after ≡ made_before ++ built
+
+-- The run succeeded: the writer has gained the command's output for the input, and `made` the new file.
+pub record Completes (action : Action) (before after written_before written_after : Option (List ℕ)) (made_before made_after : List ℕ) : Type 0 where
+  pub text : List ℕ
+  pub makes : YieldsAppended action before after text made_before made_after
+  pub written : Appends written_before written_after text
+
+-- The writer has gained exactly the first n bytes of the command's output for the input, which is longer.
+pub record WritesOutputPrefix (action : Action) (before after written_before written_after : Option (List ℕ)) (n : ℕ) : Type 0 where
+  pub text : List ℕ
+  pub built : List ℕ
+  pub yields : Yields action before after text built
+  pub within : n < length text
+  pub written : Appends written_before written_after (take n text)
+
+-- ---- errors of replacing a file
+
+-- Out of memory, or a write error after at most all of the bytes.
+abbrev pub IsReplaceFault : List ℕ → ToolFault → Type 0
+IsReplaceFault built OutOfMemory = Unit {0}
+IsReplaceFault built (Write n) = n ≤ length built
+IsReplaceFault built fault = ⊥
+
+-- ---- incomplete output
+
+-- The writer failed once, after exactly the first n bytes of the text.
+pub record FailsAfter (n : ℕ) (text : List ℕ) (written_before written_after : Option (List ℕ)) (failed_before failed_after : ℕ) : Type 0 where
+  pub failed : failed_after ≡ failed_before + 1
+  pub within : n < length text
+  pub written : Appends written_before written_after (take n text)
+
+-- The writer has gained a prefix of the text.
+abbrev pub AppendsPrefix : Option (List ℕ) → Option (List ℕ) → List ℕ → Type 0
+AppendsPrefix written_before written_after text = (n : ℕ) × Appends written_before written_after (take n text)
+
+-- Writing the text in pieces failed: the writer failed, or memory ran out after a prefix of the text.
+abbrev pub IsCutShort : ToolFault → List ℕ → Option (List ℕ) → Option (List ℕ) → ℕ → ℕ → Type 0
+IsCutShort (Write n) text written_before written_after failed_before failed_after = FailsAfter n text written_before written_after failed_before failed_after
+IsCutShort OutOfMemory text written_before written_after failed_before failed_after = (failed_after ≡ failed_before) × AppendsPrefix written_before written_after text
+IsCutShort fault text written_before written_after failed_before failed_after = ⊥
+
+-- `strings` ran out of memory: the writer has gained a prefix of its output for the input, and did not fail.
+pub record InterruptsStrings (action : Action) (before after written_before written_after : Option (List ℕ)) (failed_before failed_after : ℕ) : Type 0 where
+  pub role : Role
+  pub asked : action ≡ Strings role
+  pub text : List ℕ
+  pub printed : ReadsWith before after (λ bytes. Prints (Strings role) bytes text)
+  pub well : failed_after ≡ failed_before
+  pub written : AppendsPrefix written_before written_after text
+
+-- ---- the same for a run that takes ownership of its reader, so that `after` is only known to exist
+
+-- The run succeeded: the writer has gained the command's output for the input, and `made` the new file.
+pub record CompletesOwned (action : Action) (before written_before written_after : Option (List ℕ)) (made_before made_after : List ℕ) : Type 0 where
+  pub after : Option (List ℕ)
+  pub answers : Completes action before after written_before written_after made_before made_after
+
+-- The writer has gained exactly the first n bytes of the command's output for the input.
+pub record WritesPrefixOwned (action : Action) (before written_before written_after : Option (List ℕ)) (n : ℕ) : Type 0 where
+  pub after : Option (List ℕ)
+  pub writes_prefix : WritesOutputPrefix action before after written_before written_after n
+
+-- `strings` ran out of memory after a prefix of its output for the input.
+pub record InterruptsStringsOwned (action : Action) (before written_before written_after : Option (List ℕ)) (failed_before failed_after : ℕ) : Type 0 where
+  pub after : Option (List ℕ)
+  pub interrupts : InterruptsStrings action before after written_before written_after failed_before failed_after
+
+-- The error is one that the command may return for the input.
+pub record IsFaultOfOwnedInput (action : Action) (before : Option (List ℕ)) (fault : ToolFault) : Type 0 where
+  pub after : Option (List ℕ)
+  pub is_fault : IsFaultOfInput action before after fault
+
+-- The command has an error of status 1 for the input.
+pub record HasInputFault (action : Action) (before : Option (List ℕ)) : Type 0 where
+  pub fault : ToolFault
+  pub status : fault_status fault ≡ 1
+  pub is_fault_of_input : IsFaultOfOwnedInput action before fault

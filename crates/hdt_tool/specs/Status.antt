@@ -1,0 +1,47 @@
+-- The exit statuses of the program.
+use Rattle.std.specs.Prelude.{◌≡◌, ◌⊎◌, ℕ, List}
+use Rattle.clap.specs.Words.{Text}
+use Rattle.hdt_tool.specs.CommandLine.{IsRefused, ParsesToRequest}
+use Rattle.hdt_tool.specs.ErrorLines.{fault_status}
+use Rattle.hdt_tool.specs.declared.request.Action.{Action}
+use Rattle.hdt_tool.specs.declared.request.Action.TheVariants.{Build}
+use Rattle.hdt_tool.specs.declared.request.Request.{Request}
+use Rattle.hdt_tool.specs.declared.fault.ToolFault.{ToolFault}
+use Rattle.hdt_tool.specs.declared.fault.UsageFault.{UsageFault}
+use Rattle.hdt_tool.specs.declared.fault.UsageFault.TheVariants as usage
+
+-- The status of success, or of some error of a command.
+abbrev pub IsCommandStatus : ℕ → Type 0
+IsCommandStatus status = (status ≡ 0) ⊎ ((fault : ToolFault) × (status ≡ fault_status fault))
+
+abbrev pub IsBuild : Action → Type 0
+IsBuild (Build options) = Unit {0}
+IsBuild action = ⊥
+
+-- The status of a command, or 2 if `build` would overwrite its input.
+abbrev pub IsActionStatus : Action → ℕ → Type 0
+IsActionStatus action status = IsCommandStatus status ⊎ (IsBuild action × (status ≡ 2))
+
+-- Help has status 0, or 3 if it cannot be printed. A usage error has status 2, or 4 if there is no memory for its
+-- message.
+abbrev pub IsRefusalStatus : UsageFault → ℕ → Type 0
+IsRefusalStatus (usage.Help text) status = (status ≡ 0) ⊎ (status ≡ 3)
+IsRefusalStatus (usage.Usage text) status = (status ≡ 2) ⊎ (status ≡ 4)
+IsRefusalStatus (usage.InvalidTerm word fault) status = (status ≡ 2) ⊎ (status ≡ 4)
+IsRefusalStatus usage.OutOfMemory status = status ≡ 4
+
+-- The command line gives a request, and the status is one of its command.
+pub record EndsCommand (words : List Text) (status : ℕ) : Type 0 where
+  pub request : Request
+  pub wanted : ParsesToRequest words request
+  pub ends : IsActionStatus request.action status
+
+-- The command line is refused, and the status is one of its error.
+pub record EndsRefusal (words : List Text) (status : ℕ) : Type 0 where
+  pub fault : UsageFault
+  pub refused : IsRefused words fault
+  pub ends : IsRefusalStatus fault status
+
+-- The program may end with this status for this command line.
+abbrev pub Ends : List Text → ℕ → Type 0
+Ends words status = EndsCommand words status ⊎ EndsRefusal words status

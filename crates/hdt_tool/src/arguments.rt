@@ -1,0 +1,245 @@
+//! Reading the arguments that `clap` has parsed.
+ghost use Rattle.std.specs.Prelude.{◌≡◌, ◌≢◌, ℕ, List, [], IfOk, IfErr, IsSome, MatchOption, Some, codes, option_map, string_bytes};
+ghost use Rattle.clap.specs.Words.{first_of, one_of, found_of, rows_of};
+ghost use Rattle.hdt_build.specs.declared.options.Options.{Options};
+ghost use Rattle.hdt_wire.specs.declared.role.Role.{Role};
+ghost use Rattle.hdt_tool.specs.CommandLine.{IsFileAction, Refutes, RefutesOrInvalidTerm, IsFaultOfArgument, IsInvalidTerm, IsInvalidPart, IsStringOfText, IsFindAction, HasInvalidTerm, ParsesAsFlag, ParsesAsFormat, ParsesAsNumber, ParsesAsNumberOrNone, ParsesAsOptions, ParsesAsString, ParsesAsPart, IsFaultOfTerm};
+ghost use Rattle.hdt_tool.specs.ErrorLines.{argument_name};
+ghost use Rattle.hdt_usage.specs.CommandTable.{role_name};
+
+use crate::fault::{UsageFault, TermArgument};
+use crate::request::{Action, AnswerOptions, OutputFormat};
+use clap::ArgMatches;
+use hdt_build::Options;
+use hdt_dict::Role;
+use hdt_terms::{LineReason, TermFault, parse_string};
+use std::alloc::Global;
+
+/// The error for a required argument without a valid value.
+pub(crate) fn missing(alloc: Global) -> UsageFault
+    ensures { Refutes ⊥ result }
+{
+    UsageFault::text(alloc, "error: a word is missing")
+}
+
+/// The text of an argument, if it is given.
+fn argument_text<'m>(matches: &ArgMatches<'m>, id: &str) -> Option<&'m str>
+    ensures { option_map (λ text. text.now) result ≡ first_of id.now (rows_of (found_of matches.now)) }
+{
+    matches.get_str(id)
+}
+
+/// The value of an argument, if it is a decimal u64.
+fn optional_number<'m>(matches: &ArgMatches<'m>, id: &str) -> Option<u64>
+    ensures { ParsesAsNumberOrNone (one_of id.now (rows_of (found_of matches.now))) result }
+{
+    matches.get_one(id)
+}
+
+/// Whether a flag is given.
+pub(crate) fn has_flag<'m>(matches: &ArgMatches<'m>, id: &str) -> bool
+    ensures { ParsesAsFlag (one_of id.now (rows_of (found_of matches.now))) result }
+{
+    matches.get_flag(id)
+}
+
+/// The text of a required argument.
+pub(crate) fn required_text<'m>(alloc: Global, matches: &ArgMatches<'m>, id: &str) -> Result<String, UsageFault>
+    ensures ok { IfOk result (λ text. first_of id.now (rows_of (found_of matches.now)) ≡ Some (string_bytes text)) }
+    ensures refused { IfErr result (Refutes (IsSome (first_of id.now (rows_of (found_of matches.now))))) }
+{
+    match argument_text(matches, id) {
+        Some(text) => Ok(String::from_str(alloc, text)?),
+        None => Err(missing(alloc)),
+    }
+}
+
+/// The role that the argument ROLE names.
+pub(crate) fn required_role<'m>(alloc: Global, matches: &ArgMatches<'m>) -> Result<Role, UsageFault>
+    ensures ok { IfOk result (λ role. first_of (codes "ROLE") (rows_of (found_of matches.now)) ≡ Some (role_name role)) }
+    ensures refused { IfErr result (Refutes ((role : Role) × (first_of (codes "ROLE") (rows_of (found_of matches.now)) ≡ Some (role_name role)))) }
+{
+    match argument_text(matches, "ROLE") {
+        Some("subject") => Ok(Role::Subject),
+        Some("predicate") => Ok(Role::Predicate),
+        Some("object") => Ok(Role::Object),
+        _ => Err(missing(alloc)),
+    }
+}
+
+/// The ID in the argument N.
+pub(crate) fn required_id<'m>(alloc: Global, matches: &ArgMatches<'m>) -> Result<u64, UsageFault>
+    ensures ok { IfOk result (λ n. ParsesAsNumber 64 (one_of (codes "N") (rows_of (found_of matches.now))) n) }
+    ensures refused { IfErr result (Refutes ((n : ℕ) × ParsesAsNumber 64 (one_of (codes "N") (rows_of (found_of matches.now))) n)) }
+{
+    match optional_number(matches, "N") {
+        Some(number) => Ok(number),
+        None => Err(missing(alloc)),
+    }
+}
+
+/// The value of a required option, a decimal u32.
+fn required_u32<'m>(alloc: Global, matches: &ArgMatches<'m>, id: &str) -> Result<u32, UsageFault>
+    ensures ok { IfOk result (λ n. ParsesAsNumber 32 (one_of id.now (rows_of (found_of matches.now))) n) }
+    ensures refused { IfErr result (Refutes ((n : ℕ) × ParsesAsNumber 32 (one_of id.now (rows_of (found_of matches.now))) n)) }
+{
+    match optional_number(matches, id) {
+        Some(number) if number < 1 << 32 => Ok(number as u32),
+        Some(_) => Err(missing(alloc)),
+        None => Err(missing(alloc)),
+    }
+}
+
+/// The value of `--block-size`.
+pub(crate) fn required_block_size<'m>(alloc: Global, matches: &ArgMatches<'m>) -> Result<u32, UsageFault>
+    ensures ok { IfOk result (λ n. ParsesAsNumber 32 (one_of (codes "block-size") (rows_of (found_of matches.now))) n) }
+    ensures refused { IfErr result (Refutes ((n : ℕ) × ParsesAsNumber 32 (one_of (codes "block-size") (rows_of (found_of matches.now))) n)) }
+{
+    required_u32(alloc, matches, "block-size")
+}
+
+/// The options of `build`, given or by default.
+pub(crate) fn build_options<'m>(alloc: Global, matches: &ArgMatches<'m>) -> Result<Options, UsageFault>
+    ensures ok { IfOk result (λ options. ParsesAsOptions (rows_of (found_of matches.now)) options) }
+    ensures refused { IfErr result (Refutes ((options : Options) × ParsesAsOptions (rows_of (found_of matches.now)) options)) }
+{
+    let base = required_text(alloc, matches, "base")?;
+    Ok(Options {
+        block_size: required_block_size(alloc, matches)?,
+        base: base.into_bytes(),
+    })
+}
+
+/// The action of `verify`, with or without `--tight`.
+pub(crate) fn verify_action<'m>(matches: &ArgMatches<'m>) -> Action
+    ensures { IsFileAction (codes "verify") (rows_of (found_of matches.now)) result }
+{
+    if has_flag(matches, "tight") {
+        return Action::VerifyTight;
+    }
+    Action::Verify
+}
+
+/// The error for an argument that is not a valid term.
+fn term_fault(word: TermArgument, fault: TermFault) -> UsageFault
+    ensures { IsFaultOfTerm word fault result }
+{
+    match fault.reason {
+        LineReason::OutOfMemory => UsageFault::OutOfMemory,
+        _ => UsageFault::InvalidTerm { word, fault },
+    }
+}
+
+/// The dictionary string for a text: the text itself if `raw`, else the string of the N-Triples term that it spells.
+fn dictionary_string(alloc: Global, word: TermArgument, text: &[u8], raw: bool) -> Result<Vec<u8>, UsageFault>
+    ensures ok { IfOk result (λ x. IsStringOfText raw text.now x.items) }
+    ensures refused { IfErr result (RefutesOrInvalidTerm (Unit {0}) (IsFaultOfArgument word raw text.now)) }
+{
+    if raw {
+        return Ok(text.to_vec(alloc)?);
+    }
+    let mut string = Vec::new(alloc);
+    match parse_string(text, &mut string) {
+        Ok(()) => Ok(string),
+        Err(fault) => Err(term_fault(word, fault)),
+    }
+}
+
+/// The dictionary string for the argument TERM.
+pub(crate) fn required_term<'m>(alloc: Global, matches: &ArgMatches<'m>) -> Result<Vec<u8>, UsageFault>
+    ensures ok { IfOk result (λ x. ParsesAsString (one_of (codes "raw") (rows_of (found_of matches.now)))
+        (first_of (codes "TERM") (rows_of (found_of matches.now))) x.items) }
+    ensures refused { IfErr result (RefutesOrInvalidTerm (IsSome (first_of (codes "TERM") (rows_of (found_of matches.now))))
+        (λ word fault. (word ≡ TermArgument.Term) × IsInvalidTerm (rows_of (found_of matches.now)) TermArgument.Term fault)) }
+{
+    let raw = has_flag(matches, "raw");
+    match argument_text(matches, "TERM") {
+        Some(text) => dictionary_string(alloc, TermArgument::Term, text.as_bytes(), raw),
+        None => Err(missing(alloc)),
+    }
+}
+
+/// The dictionary string for a text, or `None` if it is `?`.
+fn string_or_any(alloc: Global, word: TermArgument, text: &str, raw: bool) -> Result<Option<Vec<u8>>, UsageFault>
+    ensures ok { IfOk result (λ part. MatchOption part (text.now ≡ codes "?") (λ x. (text.now ≢ codes "?") × IsStringOfText raw text.now x.items)) }
+    ensures refused { IfErr result (RefutesOrInvalidTerm (Unit {0}) (λ other fault. (text.now ≢ codes "?") × IsFaultOfArgument word raw text.now other fault)) }
+{
+    if text == "?" {
+        return Ok(None);
+    }
+    Ok(Some(dictionary_string(alloc, word, text.as_bytes(), raw)?))
+}
+
+/// The dictionary string for the argument S, P or O, or `None` if it is `?`.
+fn pattern_argument<'m>(
+    alloc: Global,
+    matches: &ArgMatches<'m>,
+    word: TermArgument,
+) -> Result<Option<Vec<u8>>, UsageFault>
+    ensures ok { IfOk result (ParsesAsPart (rows_of (found_of matches.now)) word) }
+    ensures refused { IfErr result (RefutesOrInvalidTerm (IsSome (first_of (argument_name word) (rows_of (found_of matches.now))))
+        (λ other fault. (other ≡ word) × IsInvalidPart (rows_of (found_of matches.now)) word fault)) }
+{
+    let raw = has_flag(matches, "raw");
+    match argument_text(matches, word.name()) {
+        Some(text) => string_or_any(alloc, word, text, raw),
+        None => Err(missing(alloc)),
+    }
+}
+
+/// The output format, by `--count` and `--numbers`.
+fn format_option<'m>(matches: &ArgMatches<'m>) -> OutputFormat
+    ensures { ParsesAsFormat (rows_of (found_of matches.now)) result }
+{
+    if has_flag(matches, "count") {
+        return OutputFormat::Count;
+    }
+    if has_flag(matches, "numbers") {
+        return OutputFormat::Numbers;
+    }
+    OutputFormat::NTriples
+}
+
+/// The action of `find`: `Search` only if there is a count or a limit.
+fn find_or_search(given: [Option<Vec<u8>>; 3], format: OutputFormat, most: Option<u64>) -> Action
+    ensures { IsFindAction given format most result }
+{
+    match (format, most) {
+        (OutputFormat::NTriples, None) => Action::Find {
+            given,
+            numbers: false,
+        },
+        (OutputFormat::Numbers, None) => Action::Find {
+            given,
+            numbers: true,
+        },
+        _ => Action::Search { given, format, most },
+    }
+}
+
+/// The action of `find`. S, P and O are checked in this order.
+pub(crate) fn find_action<'m>(alloc: Global, matches: &ArgMatches<'m>) -> Result<Action, UsageFault>
+    ensures ok { IfOk result (IsFileAction (codes "find") (rows_of (found_of matches.now))) }
+    ensures refused { IfErr result (RefutesOrInvalidTerm ((action : Action) × IsFileAction (codes "find") (rows_of (found_of matches.now)) action)
+        (HasInvalidTerm (codes "find") (rows_of (found_of matches.now)))) }
+{
+    let subject = pattern_argument(alloc, matches, TermArgument::Subject)?;
+    let predicate = pattern_argument(alloc, matches, TermArgument::Predicate)?;
+    let object = pattern_argument(alloc, matches, TermArgument::Object)?;
+    let given = [subject, predicate, object];
+    let most = optional_number(matches, "most");
+    Ok(find_or_search(given, format_option(matches), most))
+}
+
+/// The action of `answer`.
+pub(crate) fn answer_action<'m>(alloc: Global, matches: &ArgMatches<'m>) -> Result<Action, UsageFault>
+    ensures ok { IfOk result (IsFileAction (codes "answer") (rows_of (found_of matches.now))) }
+    ensures refused { IfErr result (Refutes ((n : ℕ) × ParsesAsNumber 32 (one_of (codes "longest-request") (rows_of (found_of matches.now))) n)) }
+{
+    Ok(Action::Answer(AnswerOptions {
+        format: format_option(matches),
+        most: optional_number(matches, "most"),
+        raw: has_flag(matches, "raw"),
+        longest: required_u32(alloc, matches, "longest-request")?,
+    }))
+}

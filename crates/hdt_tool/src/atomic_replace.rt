@@ -1,0 +1,185 @@
+//! Atomic replacement of a file: a new file in the same folder is written and synced, and then renamed.
+ghost use Rattle.std.specs.Prelude.{◌≡◌, ◌≤◌, ℕ, length, IfOk, IfErr};
+ghost use Rattle.std.specs.Io.KnownBytes.{Appends};
+ghost use Rattle.hdt_tool.specs.Outcomes.{IsReplaceFault};
+
+use crate::fault::{ToolFault, file_fault};
+use crate::files::move_off_std_streams;
+use hdt_wire::Counted;
+use std::alloc::Global;
+use std::env;
+use std::fs::{self, File, Files, OpenFile, OpenOptions, Permissions};
+use std::io::{self, ErrorKind, Write};
+use std::os::unix::fs::OpenOptionsExt;
+use std::path::PathBuf;
+use std::random::RandomSource;
+use std::time::{SystemTime, UNIX_EPOCH};
+
+/// The number of random names to try for a new file.
+const NAME_ATTEMPTS: u64 = 1000;
+
+/// The mode of the new file while it is written: access for its owner only.
+const PRIVATE_MODE: u32 = 0o600;
+
+/// The mode of a new file by default, before the umask or the folder's ACL restricts it.
+const DEFAULT_MODE: u32 = 0o666;
+
+/// The canonical path of the regular file that a link leads to; `None` if it leads to anything else.
+fn linked_path<R: Files>(files: &R, alloc: Global, path: &str) -> io::Result<Option<PathBuf>> {
+    match fs::metadata(files, path) {
+        Ok(there) if there.is_file() => Ok(Some(files.canonicalize(alloc, path)?)),
+        _ => Ok(None),
+    }
+}
+
+/// The path to rename a new file to, if there is a regular file, also through a link, or nothing. `None` for anything
+/// else, such as a device, a pipe, a folder or a dangling link. (Contracts cannot describe the file system;
+/// tests/test_filesystem.py checks this.)
+pub(crate) fn replaceable_path<R: Files>(
+    files: &R,
+    alloc: Global,
+    path: &str,
+) -> io::Result<Option<PathBuf>> {
+    match fs::symlink_metadata(files, path) {
+        Ok(there) if there.is_symlink() => linked_path(files, alloc, path),
+        Ok(there) if !there.is_file() => Ok(None),
+        _ => Ok(Some(PathBuf::from_str(alloc, path)?)),
+    }
+}
+
+/// The time of the clock in nanoseconds, or 0.
+fn clock_number(rt: &HostRuntime) -> u64 {
+    match SystemTime::now(rt).map(|now| now.duration_since(UNIX_EPOCH)) {
+        Ok(Ok(since)) => since
+            .as_secs()
+            .wrapping_mul(1_000_000_000)
+            .wrapping_add(u64::from(since.subsec_nanos())),
+        _ => 0,
+    }
+}
+
+/// A random number, or the time if the system has none.
+fn random_number(rt: &HostRuntime) -> u64 {
+    let mut bytes = [0u8; 8];
+    match rt.fill_bytes(&mut bytes) {
+        Ok(()) => u64::from_le_bytes(bytes),
+        Err(_) => clock_number(rt),
+    }
+}
+
+/// Creates a file under a new random name in the current folder, and returns both.
+fn create_new(rt: &HostRuntime, mode: u32) -> io::Result<(File, String)> {
+    let mut options = OpenOptions::new();
+    options.write(true).create_new(true);
+    options.mode(mode);
+    'names: for _ in 0..NAME_ATTEMPTS {
+        let number = random_number(rt);
+        let name = format!(in rt.alloc(); "hdt-unfinished-{number:016x}")?;
+        match options.open(rt, name.as_str()) {
+            Ok(file) => return Ok((file, name)),
+            Err(error) if error.kind() == ErrorKind::AlreadyExists => {}
+            Err(error) => return Err(error),
+        }
+    }
+    Err(io::Error::from(ErrorKind::AlreadyExists))
+}
+
+/// The permissions of the file with this name, if it exists.
+fn permissions_of(rt: &HostRuntime, name: &str) -> io::Result<Option<Permissions>> {
+    match fs::metadata(rt, name) {
+        Ok(there) => Ok(Some(there.permissions())),
+        Err(error) if error.kind() == ErrorKind::NotFound => Ok(None),
+        Err(error) => Err(error),
+    }
+}
+
+/// The permissions of the file with this name, or those that a new file gets in this folder, which are found by
+/// creating and removing an empty one.
+fn default_permissions(rt: &HostRuntime, name: &str) -> io::Result<Permissions> {
+    if let Some(permissions) = permissions_of(rt, name)? {
+        return Ok(permissions);
+    }
+    let (empty, name) = create_new(rt, DEFAULT_MODE)?;
+    let metadata = empty.metadata();
+    fs::remove_file(rt, name.as_str())?;
+    Ok(metadata?.permissions())
+}
+
+/// Gives the new file the permissions of the existing file with this name, or `usual` if there is none.
+fn apply_permissions(rt: &HostRuntime, file: &File, name: &str, usual: Permissions) -> io::Result<()> {
+    let permissions = permissions_of(rt, name)?.unwrap_or(usual);
+    if file.metadata()?.permissions() == permissions {
+        return Ok(());
+    }
+    file.set_permissions(permissions)
+}
+
+/// Writes and syncs a new file.
+fn write_and_sync<F: Write + OpenFile + Drop>(file: F, built: &[u8]) -> Result<F, ToolFault>
+    // The file has gained the bytes.
+    ensures whole { IfOk result (λ whole. Appends (F.contents file) (F.contents whole) built.now) }
+    ensures fault { IfErr result (λ e. (n : ℕ) × (e ≡ ToolFault.Write n) × (n ≤ length built.now)) }
+{
+    let mut file = Counted::new(file);
+    file.write_all(built).map_err(ToolFault::Write)?;
+    let whole = file.into_inner();
+    match whole.sync_all() {
+        Ok(()) => Ok(whole),
+        Err(_) => Err(ToolFault::Write(built.len() as u64)),
+    }
+}
+
+/// Writes the new file, and gives it the permissions and the name of the old one. Other users cannot open it until it
+/// is complete and synced. A crash between the last two steps leaves its permissions too strict, never too wide.
+fn write_and_rename(
+    rt: &HostRuntime,
+    file: File,
+    new: &str,
+    name: &str,
+    usual: Permissions,
+    built: &[u8],
+) -> Result<(), ToolFault>
+    ensures fault { IfErr result (IsReplaceFault built.now) }
+{
+    let file = move_off_std_streams(file).map_err(|error| file_fault(&error, ToolFault::Write(0)))?;
+    let whole = write_and_sync(file, built)?;
+    let permitted = apply_permissions(rt, &whole, name, usual);
+    permitted.map_err(|error| file_fault(&error, ToolFault::Write(built.len() as u64)))?;
+    fs::rename(rt, new, name).map_err(|_| ToolFault::Write(built.len() as u64))
+}
+
+/// The folder of a path, and the file name.
+fn split_path(path: &str) -> (&str, &str) {
+    match path.rsplit_once('/') {
+        Some(("", name)) => ("/", name),
+        Some(parts) => parts,
+        None => (".", path),
+    }
+}
+
+/// Changes into the folder and creates the new file there. Returns the permissions for it if no old file exists, the
+/// file, and its name.
+fn begin_replacement(rt: &HostRuntime, folder: &str, name: &str) -> io::Result<(Permissions, File, String)> {
+    env::set_current_dir(rt, folder)?;
+    let usual = default_permissions(rt, name)?;
+    let (file, new) = create_new(rt, PRIVATE_MODE)?;
+    Ok((usual, file, new))
+}
+
+/// Atomically replaces the regular file at a path, or creates it. The new file has the permissions of the old one. On
+/// error the old file is unchanged, and the new one is removed. The process changes into the folder, so that the
+/// temporary name fits for the longest paths. (Contracts cannot describe the file system; tests/test_filesystem.py
+/// checks this.)
+pub(crate) fn replace_file(rt: &HostRuntime, path: &PathBuf, built: &[u8]) -> Result<(), ToolFault>
+    // Out of memory, or a write error after at most all of the bytes.
+    ensures fault { IfErr result (IsReplaceFault built.now) }
+{
+    let (folder, name) = split_path(path.as_str());
+    let begun = begin_replacement(rt, folder, name);
+    let (usual, file, new) = begun.map_err(|error| file_fault(&error, ToolFault::Write(0)))?;
+    let outcome = write_and_rename(rt, file, new.as_str(), name, usual, built);
+    if outcome.is_err() {
+        let _ = fs::remove_file(rt, new.as_str());
+    }
+    outcome
+}

@@ -1,0 +1,184 @@
+//! Parsing a command line into a request.
+ghost use Rattle.std.specs.Prelude.{◌≡◌, IfOk, IfErr, codes, map};
+ghost use Rattle.clap.specs.Words.{found_of, one_of, rows_of, kind_of};
+ghost use Rattle.hdt_tool.specs.Outcomes.{HasOut};
+ghost use Rattle.hdt_tool.specs.CommandLine.{IsFileAction, IsRequestOf, IsFileRequest, IsMakeRequest, IsMakeAction, Refutes, RefutesOrInvalidTerm, IsRefused, HasInvalidTerm, ParsesAsFlag, IsFaultOfKind, ParsesToRequest, ParsesToInvocation};
+ghost use Rattle.hdt_usage.specs.CommandTable.{AreRoles};
+ghost use Rattle.hdt_tool.specs.declared.request.Action.{Action};
+ghost use Rattle.hdt_tool.specs.declared.request.Request.{Request};
+
+use crate::arguments::{
+    answer_action, required_block_size, find_action, has_flag, missing, required_id, build_options, required_role, required_term,
+    required_text, verify_action,
+};
+use crate::fault::UsageFault;
+use crate::request::{Action, Invocation, Request};
+use clap::error::ErrorKind;
+use clap::{ArgMatches, Error};
+use hdt_usage::make_command_table;
+use std::alloc::{AllocError, Global};
+
+/// The message of a `clap` error, without trailing whitespace.
+fn error_text(alloc: Global, error: &Error) -> Result<String, AllocError> {
+    let text = error.to_string(alloc)?;
+    String::from_str(alloc, text.as_str().trim_end())
+}
+
+/// The error for an error of `clap`.
+fn usage_fault(alloc: Global, error: &Error) -> UsageFault
+    ensures { IsFaultOfKind (kind_of error.now) result }
+{
+    let Ok(text) = error_text(alloc, error) else {
+        return UsageFault::OutOfMemory;
+    };
+    match error.kind() {
+        ErrorKind::OutOfMemory => UsageFault::OutOfMemory,
+        ErrorKind::DisplayHelp | ErrorKind::DisplayVersion => UsageFault::Help(text),
+        _ => UsageFault::Usage(text),
+    }
+}
+
+/// The action of a command that reads FILE.
+fn file_action<'m>(alloc: Global, name: &str, matches: &ArgMatches<'m>) -> Result<Action, UsageFault>
+    ensures ok { IfOk result (IsFileAction name.now (rows_of (found_of matches.now))) }
+    ensures refused { IfErr result (RefutesOrInvalidTerm ((action : Action) × IsFileAction name.now (rows_of (found_of matches.now)) action)
+        (HasInvalidTerm name.now (rows_of (found_of matches.now)))) }
+{
+    match name {
+        "head" => Ok(Action::Head),
+        "verify" => Ok(verify_action(matches)),
+        "strings" => Ok(Action::Strings(required_role(alloc, matches)?)),
+        "string" => Ok(Action::Nth(required_role(alloc, matches)?, required_id(alloc, matches)?)),
+        "number" => Ok(Action::Number(required_role(alloc, matches)?, required_term(alloc, matches)?)),
+        "find" => find_action(alloc, matches),
+        "answer" => answer_action(alloc, matches),
+        "dump" => Ok(Action::Find {
+            given: [None, None, None],
+            numbers: false,
+        }),
+        _ => Err(missing(alloc)),
+    }
+}
+
+/// The request of a command that reads FILE.
+fn file_request<'m>(
+    alloc: Global,
+    name: &str,
+    matches: &ArgMatches<'m>,
+) -> Result<Request, UsageFault>
+    ensures ok { IfOk result (λ request. IsFileRequest name.now (rows_of (found_of matches.now)) request) }
+    ensures refused { IfErr result (RefutesOrInvalidTerm ((request : Request) × IsFileRequest name.now (rows_of (found_of matches.now)) request)
+        (HasInvalidTerm name.now (rows_of (found_of matches.now)))) }
+{
+    Ok(Request {
+        action: file_action(alloc, name, matches)?,
+        file: required_text(alloc, matches, "FILE")?,
+        out: None,
+    })
+}
+
+/// The action of a command that writes OUT.
+fn make_action<'m>(alloc: Global, name: &str, matches: &ArgMatches<'m>) -> Result<Action, UsageFault>
+    ensures ok { IfOk result (IsMakeAction name.now (rows_of (found_of matches.now))) }
+    ensures refused { IfErr result (Refutes ((action : Action) × IsMakeAction name.now (rows_of (found_of matches.now)) action)) }
+{
+    match name {
+        "build" => Ok(Action::Build(build_options(alloc, matches)?)),
+        "rewrite" => Ok(Action::Rewrite(required_block_size(alloc, matches)?)),
+        _ => Err(missing(alloc)),
+    }
+}
+
+/// The request of a command that writes OUT.
+fn make_request<'m>(
+    alloc: Global,
+    name: &str,
+    matches: &ArgMatches<'m>,
+) -> Result<Request, UsageFault>
+    ensures ok { IfOk result (IsMakeRequest name.now (rows_of (found_of matches.now))) }
+    ensures refused { IfErr result (Refutes ((request : Request) × IsMakeRequest name.now (rows_of (found_of matches.now)) request)) }
+{
+    Ok(Request {
+        action: make_action(alloc, name, matches)?,
+        file: required_text(alloc, matches, "IN")?,
+        out: Some(required_text(alloc, matches, "OUT")?),
+    })
+}
+
+/// The request of a command.
+fn request_of<'m>(
+    alloc: Global,
+    name: &str,
+    matches: &ArgMatches<'m>,
+) -> Result<Request, UsageFault>
+    ensures ok { IfOk result (λ request. IsRequestOf name.now (rows_of (found_of matches.now)) request) }
+    ensures refused { IfErr result (RefutesOrInvalidTerm ((request : Request) × IsRequestOf name.now (rows_of (found_of matches.now)) request)
+        (HasInvalidTerm name.now (rows_of (found_of matches.now)))) }
+{
+    match name {
+        "build" | "rewrite" => make_request(alloc, name, matches),
+        _ => file_request(alloc, name, matches),
+    }
+}
+
+/// The request of a command, and whether to report progress.
+fn invocation_of<'m>(alloc: Global, name: &str, matches: &ArgMatches<'m>) -> Result<Invocation, UsageFault>
+    ensures ok { IfOk result (λ invocation. IsRequestOf name.now (rows_of (found_of matches.now)) invocation.request) }
+    ensures progress { IfOk result (λ invocation. ParsesAsFlag (one_of (codes "progress") (rows_of (found_of matches.now))) invocation.progress) }
+    ensures refused { IfErr result (RefutesOrInvalidTerm ((request : Request) × IsRequestOf name.now (rows_of (found_of matches.now)) request)
+        (HasInvalidTerm name.now (rows_of (found_of matches.now)))) }
+{
+    Ok(Invocation {
+        request: request_of(alloc, name, matches)?,
+        progress: has_flag(matches, "progress"),
+    })
+}
+
+/// Parses a command line with the table of commands.
+fn parse_with_roles<'a>(
+    alloc: Global,
+    roles: &'a [&'a str],
+    words: &'a [&'a str],
+) -> Result<Invocation, UsageFault>
+    requires { AreRoles roles }
+    ensures ok { IfOk result (ParsesToInvocation (map (λ word. word.now) words.now)) }
+    ensures refused { IfErr result (IsRefused (map (λ word. word.now) words.now)) }
+{
+    let command = make_command_table(alloc, roles)?;
+    let matches = match command.try_get_matches_from(words) {
+        Ok(matches) => matches,
+        Err(error) => return Err(usage_fault(alloc, &error)),
+    };
+    match matches.subcommand() {
+        Some((name, entries)) => invocation_of(alloc, name, entries),
+        None => Err(missing(alloc)),
+    }
+}
+
+/// The names of the roles.
+const ROLES: [&str; 3] = ["subject", "predicate", "object"];
+
+/// Parses a command line whose first element is the program's name. [`UsageFault`] says why it is not a request, or
+/// holds the help text.
+#[tactic(auto, using(crate::proofs::Refusals::parses_to_request))]
+pub fn parse_words<'a>(alloc: Global, words: &'a [&'a str]) -> Result<Request, UsageFault>
+    // `clap` accepts the arguments, and its contract with the table of commands gives this request.
+    ensures ok { IfOk result (ParsesToRequest (map (λ word. word.now) words.now)) }
+    // Exactly the requests of `build` and `rewrite` have an output path.
+    ensures out { IfOk result HasOut }
+    // `Help` is returned only if `clap` may show help or the version, `Usage` only if the arguments are not a request.
+    // An invalid term is that of TERM, or the first invalid one of S, P and O.
+    ensures refused { IfErr result (IsRefused (map (λ word. word.now) words.now)) }
+{
+    Ok(parse_invocation(alloc, words)?.request)
+}
+
+/// Parses a command line as [`parse_words`] does, and also `--progress`.
+pub fn parse_invocation<'a>(alloc: Global, words: &'a [&'a str]) -> Result<Invocation, UsageFault>
+    // The request is that of `parse_words`; `progress` is true exactly if `--progress` is given.
+    ensures ok { IfOk result (ParsesToInvocation (map (λ word. word.now) words.now)) }
+    ensures out { IfOk result (λ invocation. HasOut invocation.request) }
+    ensures refused { IfErr result (IsRefused (map (λ word. word.now) words.now)) }
+{
+    parse_with_roles(alloc, &ROLES, words)
+}

@@ -1,0 +1,350 @@
+//! All commands, from a reader to a writer. A command reads the complete input, makes its output, and then writes it.
+//! Only `strings` and `answer` write before their output is complete.
+ghost use Rattle.std.specs.Prelude.{◌≡◌, ◌≢◌, ◌<◌, ◌++◌, ◌+◌, ◌↔◌, ◌⊎◌, ℕ, List, IfOk, IfErr, OnOk, OnErr, IsErrOf, length, take};
+ghost use Rattle.std.specs.Io.KnownBytes.{Appends};
+ghost use Rattle.hdt_wire.specs.Counted.{inner, failures};
+ghost use Rattle.hdt_build.specs.Options.{AreValidOptions};
+ghost use Rattle.hdt_tool.specs.Dialogue.{AnswersInput, AnswersUntilFault};
+ghost use Rattle.hdt_tool.specs.Whole.{query_action, whole_action};
+ghost use Rattle.hdt_tool.specs.Outcomes.{IsLayoutWith, ReadsAll, ReadsWith, Prints, IsFaultOfInput, IsFaultOfBytes, YieldsAppended, Completes, WritesOutputPrefix, InterruptsStrings, IfBuild, IsReadOnlyFault, RewritesFile};
+ghost use Rattle.hdt_tool.specs.declared.request.Action.TheVariants as Action;
+
+use crate::queries::{query_text, print_file_strings};
+use crate::dialogue::answer_requests;
+use crate::fault::ToolFault;
+use crate::printed_reports::{built_line, rewritten_line};
+use crate::request::{AnswerOptions, Request};
+use crate::whole::{Printing, Query, Whole, printing_of};
+use hdt_build::{Options, build_bytes, rewrite_bytes};
+use hdt_dict::Role;
+use hdt_file::open;
+use hdt_wire::{Counted, Failed};
+use std::alloc::{AllocError, Global};
+use std::io::{Read, Write};
+
+/// The size of the read buffer in bytes.
+const BUFFER: usize = 65_536;
+
+/// Reads to the end of the input, into a vector of this initial capacity.
+fn read_all<R: Read>(
+    alloc: Global,
+    input: &mut Counted<R>,
+    capacity: usize,
+) -> Result<Vec<u8>, ToolFault>
+    ensures ok { IfOk result (λ bytes. ReadsAll (R.remaining (inner input.old)) (R.remaining (inner input.new)) bytes.items) }
+    ensures read { IsErrOf result ToolFault.Read → failures input.new ≡ failures input.old + 1 }
+    ensures others { IfErr result (λ e. e ≢ ToolFault.Read → e ≡ ToolFault.OutOfMemory) }
+    ensures well { OnOk result (failures input.new ≡ failures input.old) }
+    ensures refused { IsErrOf result ToolFault.OutOfMemory → failures input.new ≡ failures input.old }
+{
+    let mut bytes = Vec::with_capacity(alloc, capacity)?;
+    let mut buffer = [0u8; BUFFER];
+    'reads: loop {
+        match input.read(buffer.as_mut_slice()) {
+            Ok(0) => return Ok(bytes),
+            Ok(count) => bytes.extend_from_slice(&buffer[..count])?,
+            Err(Failed) => return Err(ToolFault::Read),
+        }
+    }
+}
+
+/// The output of a command that writes no file.
+#[tactic(auto, using(crate::proofs::InputFaults::fault_of_input, crate::proofs::InputFaults::not_read, crate::proofs::InputFaults::is_read_only_fault, crate::proofs::Outputs::reads_file))]
+fn read_query_text<R: Read>(
+    alloc: Global,
+    query: Query<'_>,
+    input: &mut Counted<R>,
+    capacity: usize,
+) -> Result<Vec<u8>, ToolFault>
+    ensures ok { IfOk result (λ text. ReadsWith (R.remaining (inner input.old)) (R.remaining (inner input.new))
+        (λ bytes. Prints (query_action query.entry) bytes text.items)) }
+    ensures told { IfErr result (IsFaultOfInput (query_action query.entry) (R.remaining (inner input.old)) (R.remaining (inner input.new))) }
+    ensures read { IsErrOf result ToolFault.Read → failures input.new ≡ failures input.old + 1 }
+    ensures reader_well { OnOk result (failures input.new ≡ failures input.old) }
+    ensures reader_told { IfErr result (λ e. e ≢ ToolFault.Read → failures input.new ≡ failures input.old) }
+    ensures others { IfErr result IsReadOnlyFault }
+{
+    let bytes = read_all(alloc, input, capacity)?;
+    query_text(alloc, query, bytes.as_slice())
+}
+
+/// Appends a file to `made`; if that is empty, the file takes its place and no byte is copied.
+fn append_file(file: Vec<u8>, made: &mut Vec<u8>) -> Result<(), AllocError>
+    ensures items { OnOk result (made.new.items ≡ made.old.items ++ file.items) }
+    ensures kept { OnErr result (made.new.items ≡ made.old.items) }
+{
+    if made.is_empty() {
+        *made = file;
+        return Ok(());
+    }
+    let mut file = file;
+    made.append(&mut file)
+}
+
+/// The output of `build`; appends the new file to `made`.
+fn built_text<R: Read>(
+    alloc: Global,
+    options: &Options,
+    input: &mut Counted<R>,
+    made: &mut Vec<u8>,
+) -> Result<Vec<u8>, ToolFault>
+    ensures ok { IfOk result (λ text. YieldsAppended (Action.Build options.now) (R.remaining (inner input.old)) (R.remaining (inner input.new))
+        text.items made.old.items made.new.items) }
+    ensures told { IfErr result (IsFaultOfInput (Action.Build options.now) (R.remaining (inner input.old)) (R.remaining (inner input.new))) }
+    ensures read { IsErrOf result ToolFault.Read → failures input.new ≡ failures input.old + 1 }
+    ensures reader_well { OnOk result (failures input.new ≡ failures input.old) }
+    ensures reader_told { IfErr result (λ e. e ≢ ToolFault.Read → failures input.new ≡ failures input.old) }
+    ensures bad { IsErrOf result ToolFault.BadOptions ↔ (AreValidOptions options.now → ⊥) }
+    ensures unread { IsErrOf result ToolFault.BadOptions → input.new ≡ input.old }
+    ensures others { IfErr result (λ e. (n : ℕ) → e ≢ ToolFault.Write n) }
+    ensures kept { OnErr result (made.new.items ≡ made.old.items) }
+{
+    let (bytes, report) = build_bytes(alloc, input, options)?;
+    let text = built_line(alloc, &report)?;
+    append_file(bytes, made)?;
+    Ok(text)
+}
+
+/// The output of `rewrite` for the bytes of a file; appends the new file to `made`.
+fn rewrite_bytes_text(
+    alloc: Global,
+    block_size: u32,
+    bytes: &[u8],
+    made: &mut Vec<u8>,
+) -> Result<Vec<u8>, ToolFault>
+    ensures ok { IfOk result (λ text. (file : List ℕ) × RewritesFile block_size bytes.now text.items file × (made.new.items ≡ made.old.items ++ file)) }
+    ensures told { IfErr result (IsFaultOfBytes (Action.Rewrite block_size) bytes.now) }
+    ensures kept { OnErr result (made.new.items ≡ made.old.items) }
+{
+    let graph = open(alloc, bytes)?;
+    let options = Options {
+        block_size,
+        base: Vec::new(alloc),
+    };
+    let (file, report) = rewrite_bytes(alloc, &graph, &options)?;
+    let text = rewritten_line(alloc, &report)?;
+    append_file(file, made)?;
+    Ok(text)
+}
+
+/// The output of `rewrite`; appends the new file to `made`.
+fn rewritten_text<R: Read>(
+    alloc: Global,
+    block_size: u32,
+    input: &mut Counted<R>,
+    capacity: usize,
+    made: &mut Vec<u8>,
+) -> Result<Vec<u8>, ToolFault>
+    ensures ok { IfOk result (λ text. YieldsAppended (Action.Rewrite block_size) (R.remaining (inner input.old)) (R.remaining (inner input.new))
+        text.items made.old.items made.new.items) }
+    ensures told { IfErr result (IsFaultOfInput (Action.Rewrite block_size) (R.remaining (inner input.old)) (R.remaining (inner input.new))) }
+    ensures read { IsErrOf result ToolFault.Read → failures input.new ≡ failures input.old + 1 }
+    ensures reader_well { OnOk result (failures input.new ≡ failures input.old) }
+    ensures reader_told { IfErr result (λ e. e ≢ ToolFault.Read → failures input.new ≡ failures input.old) }
+    ensures others { IfErr result (λ e. (n : ℕ) → e ≢ ToolFault.Write n) }
+    ensures kept { OnErr result (made.new.items ≡ made.old.items) }
+{
+    let bytes = read_all(alloc, input, capacity)?;
+    rewrite_bytes_text(alloc, block_size, bytes.as_slice(), made)
+}
+
+/// The output of a command other than `strings`; appends a new file to `made`.
+fn command_text<R: Read>(
+    alloc: Global,
+    whole: Whole<'_>,
+    input: &mut Counted<R>,
+    capacity: usize,
+    made: &mut Vec<u8>,
+) -> Result<Vec<u8>, ToolFault>
+    ensures ok { IfOk result (λ text. YieldsAppended (whole_action whole.entry) (R.remaining (inner input.old)) (R.remaining (inner input.new))
+        text.items made.old.items made.new.items) }
+    ensures told { IfErr result (IsFaultOfInput (whole_action whole.entry) (R.remaining (inner input.old)) (R.remaining (inner input.new))) }
+    ensures read { IsErrOf result ToolFault.Read → failures input.new ≡ failures input.old + 1 }
+    ensures reader_well { OnOk result (failures input.new ≡ failures input.old) }
+    ensures reader_told { IfErr result (λ e. e ≢ ToolFault.Read → failures input.new ≡ failures input.old) }
+    ensures bad { IfBuild (whole_action whole.entry) (λ options. IsErrOf result ToolFault.BadOptions ↔ (AreValidOptions options → ⊥)) }
+    ensures unread { IfBuild (whole_action whole.entry) (λ options. IsErrOf result ToolFault.BadOptions → input.new ≡ input.old) }
+    ensures others { IfErr result (λ e. (n : ℕ) → e ≢ ToolFault.Write n) }
+    ensures kept { OnErr result (made.new.items ≡ made.old.items) }
+{
+    match whole {
+        Whole::Build(options) => built_text(alloc, options, input, made),
+        Whole::Rewrite(block_size) => rewritten_text(alloc, block_size, input, capacity, made),
+        Whole::Query(query) => read_query_text(alloc, query, input, capacity),
+    }
+}
+
+/// Runs a command other than `strings`: writes the output once it is complete.
+fn print_text<R: Read, W: Write>(
+    alloc: Global,
+    whole: Whole<'_>,
+    input: &mut Counted<R>,
+    capacity: usize,
+    out: &mut Counted<W>,
+    made: &mut Vec<u8>,
+) -> Result<(), ToolFault>
+    ensures ok { OnOk result (Completes (whole_action whole.entry) (R.remaining (inner input.old)) (R.remaining (inner input.new))
+        (W.contents (inner out.old)) (W.contents (inner out.new)) made.old.items made.new.items) }
+    ensures told { IfErr result (IsFaultOfInput (whole_action whole.entry) (R.remaining (inner input.old)) (R.remaining (inner input.new))) }
+    ensures bad { IfBuild (whole_action whole.entry) (λ options. IsErrOf result ToolFault.BadOptions ↔ (AreValidOptions options → ⊥)) }
+    ensures unread { IfBuild (whole_action whole.entry) (λ options. IsErrOf result ToolFault.BadOptions → input.new ≡ input.old) }
+    ensures read { IsErrOf result ToolFault.Read → failures input.new ≡ failures input.old + 1 }
+    ensures reader_well { OnOk result (failures input.new ≡ failures input.old) }
+    ensures reader_told { IfErr result (λ e. e ≢ ToolFault.Read → failures input.new ≡ failures input.old) }
+    ensures write { IfErr result (λ e. (n : ℕ) → e ≡ ToolFault.Write n → (failures out.new ≡ failures out.old + 1)
+        × WritesOutputPrefix (whole_action whole.entry) (R.remaining (inner input.old)) (R.remaining (inner input.new))
+        (W.contents (inner out.old)) (W.contents (inner out.new)) n) }
+    ensures writer_well { OnOk result (failures out.new ≡ failures out.old) }
+    ensures unwritten { IfErr result (λ e. ((n : ℕ) → e ≢ ToolFault.Write n) → out.new ≡ out.old) }
+    ensures kept { OnErr result (made.new.items ≡ made.old.items) }
+{
+    let start = made.len();
+    let text = command_text(alloc, whole, input, capacity, made)?;
+    match out.write_all(text.as_slice()) {
+        Ok(()) => Ok(()),
+        Err(count) => {
+            made.truncate(start);
+            Err(ToolFault::Write(count))
+        }
+    }
+}
+
+/// Runs `strings`, which writes its lines in pieces.
+fn run_strings<R: Read, W: Write>(
+    alloc: Global,
+    role: Role,
+    input: &mut Counted<R>,
+    capacity: usize,
+    out: &mut Counted<W>,
+) -> Result<(), ToolFault>
+    ensures ok { OnOk result ((text : List ℕ) × ReadsWith (R.remaining (inner input.old)) (R.remaining (inner input.new))
+        (λ bytes. Prints (Action.Strings role) bytes text) × Appends (W.contents (inner out.old)) (W.contents (inner out.new)) text) }
+    ensures told { IfErr result (IsFaultOfInput (Action.Strings role) (R.remaining (inner input.old)) (R.remaining (inner input.new))) }
+    ensures read { IsErrOf result ToolFault.Read → failures input.new ≡ failures input.old + 1 }
+    ensures reader_well { OnOk result (failures input.new ≡ failures input.old) }
+    ensures reader_told { IfErr result (λ e. e ≢ ToolFault.Read → failures input.new ≡ failures input.old) }
+    ensures write { IfErr result (λ e. (n : ℕ) → e ≡ ToolFault.Write n → (failures out.new ≡ failures out.old + 1)
+        × WritesOutputPrefix (Action.Strings role) (R.remaining (inner input.old)) (R.remaining (inner input.new))
+        (W.contents (inner out.old)) (W.contents (inner out.new)) n) }
+    ensures writer_well { OnOk result (failures out.new ≡ failures out.old) }
+    ensures unwritten { IfErr result (λ e. ((n : ℕ) → e ≢ ToolFault.Write n) → (out.new ≡ out.old) ⊎ ((e ≡ ToolFault.OutOfMemory)
+        × InterruptsStrings (Action.Strings role) (R.remaining (inner input.old)) (R.remaining (inner input.new))
+        (W.contents (inner out.old)) (W.contents (inner out.new)) (failures out.old) (failures out.new))) }
+{
+    let bytes = read_all(alloc, input, capacity)?;
+    print_file_strings(alloc, bytes.as_slice(), role, out)
+}
+
+/// Runs a request: reads `input` to its end and writes the command's output to `out`. `build` and `rewrite` append the
+/// new file to `made`; other commands leave it unchanged. `run` opens no file: `input` is the content of
+/// `request.file`.
+///
+/// Memory: the input and the complete output (`strings` writes in pieces). Time: that of the library call, such as
+/// [`verify`](hdt_file::verify), [`graph_text`](hdt_file::graph_text) or [`build`](hdt_build::build).
+///
+/// # Errors
+///
+/// [`ToolFault`]: the first error of the input, reading or writing failed, or out of memory.
+pub fn run<R: Read, W: Write>(
+    alloc: Global,
+    request: &Request,
+    input: &mut Counted<R>,
+    out: &mut Counted<W>,
+    made: &mut Vec<u8>,
+) -> Result<(), ToolFault>
+    // `out` has gained the command's output for the complete input, and `made` the new file.
+    ensures ok { OnOk result (Completes request.now.action (R.remaining (inner input.old)) (R.remaining (inner input.new))
+        (W.contents (inner out.old)) (W.contents (inner out.new)) made.old.items made.new.items) }
+    // An error of a file or a document is the first one of the input. `NoSuchTerm` and `NoSuchNumber` mean that the
+    // role has no such string or ID. `NotATerm` is the first string to print that is not a term. `BadOptions` is
+    // returned only by `build`, and by `rewrite` if the input is valid and the block size is not.
+    ensures told { IfErr result (IsFaultOfInput request.now.action (R.remaining (inner input.old)) (R.remaining (inner input.new))) }
+    // `build` returns it exactly if its options are not valid, and then it has read nothing.
+    ensures bad { IfBuild request.now.action (λ options. IsErrOf result ToolFault.BadOptions ↔ (AreValidOptions options → ⊥)) }
+    ensures unread { IfBuild request.now.action (λ options. IsErrOf result ToolFault.BadOptions → input.new ≡ input.old) }
+    // `Read`: the reader failed once in this call. With any other result it did not fail.
+    ensures read { IsErrOf result ToolFault.Read → failures input.new ≡ failures input.old + 1 }
+    ensures reader_well { OnOk result (failures input.new ≡ failures input.old) }
+    ensures reader_told { IfErr result (λ e. e ≢ ToolFault.Read → failures input.new ≡ failures input.old) }
+    // `Write(n)`: the writer failed once in this call, after exactly the first n bytes of the output.
+    ensures write { IfErr result (λ e. (n : ℕ) → e ≡ ToolFault.Write n → (failures out.new ≡ failures out.old + 1)
+        × WritesOutputPrefix request.now.action (R.remaining (inner input.old)) (R.remaining (inner input.new))
+        (W.contents (inner out.old)) (W.contents (inner out.new)) n) }
+    // With any other result the writer did not fail. With any other error nothing was written, except that `strings`
+    // may have written a prefix of its output before it ran out of memory.
+    ensures writer_well { OnOk result (failures out.new ≡ failures out.old) }
+    ensures unwritten { IfErr result (λ e. ((n : ℕ) → e ≢ ToolFault.Write n) → (out.new ≡ out.old) ⊎ ((e ≡ ToolFault.OutOfMemory)
+        × InterruptsStrings request.now.action (R.remaining (inner input.old)) (R.remaining (inner input.new))
+        (W.contents (inner out.old)) (W.contents (inner out.new)) (failures out.old) (failures out.new))) }
+    ensures kept { OnErr result (made.new.items ≡ made.old.items) }
+{
+    run_with_capacity(alloc, request, input, 0, out, made)
+}
+
+/// As [`run`], with an initial capacity for the input: its length in bytes, if that is known.
+pub fn run_with_capacity<R: Read, W: Write>(
+    alloc: Global,
+    request: &Request,
+    input: &mut Counted<R>,
+    capacity: usize,
+    out: &mut Counted<W>,
+    made: &mut Vec<u8>,
+) -> Result<(), ToolFault>
+    ensures ok { OnOk result (Completes request.now.action (R.remaining (inner input.old)) (R.remaining (inner input.new))
+        (W.contents (inner out.old)) (W.contents (inner out.new)) made.old.items made.new.items) }
+    ensures told { IfErr result (IsFaultOfInput request.now.action (R.remaining (inner input.old)) (R.remaining (inner input.new))) }
+    ensures bad { IfBuild request.now.action (λ options. IsErrOf result ToolFault.BadOptions ↔ (AreValidOptions options → ⊥)) }
+    ensures unread { IfBuild request.now.action (λ options. IsErrOf result ToolFault.BadOptions → input.new ≡ input.old) }
+    ensures read { IsErrOf result ToolFault.Read → failures input.new ≡ failures input.old + 1 }
+    ensures reader_well { OnOk result (failures input.new ≡ failures input.old) }
+    ensures reader_told { IfErr result (λ e. e ≢ ToolFault.Read → failures input.new ≡ failures input.old) }
+    ensures write { IfErr result (λ e. (n : ℕ) → e ≡ ToolFault.Write n → (failures out.new ≡ failures out.old + 1)
+        × WritesOutputPrefix request.now.action (R.remaining (inner input.old)) (R.remaining (inner input.new))
+        (W.contents (inner out.old)) (W.contents (inner out.new)) n) }
+    ensures writer_well { OnOk result (failures out.new ≡ failures out.old) }
+    ensures unwritten { IfErr result (λ e. ((n : ℕ) → e ≢ ToolFault.Write n) → (out.new ≡ out.old) ⊎ ((e ≡ ToolFault.OutOfMemory)
+        × InterruptsStrings request.now.action (R.remaining (inner input.old)) (R.remaining (inner input.new))
+        (W.contents (inner out.old)) (W.contents (inner out.new)) (failures out.old) (failures out.new))) }
+    ensures kept { OnErr result (made.new.items ≡ made.old.items) }
+{
+    match printing_of(&request.action) {
+        Printing::Pieces(role) => run_strings(alloc, role, input, capacity, out),
+        Printing::Whole(whole) => print_text(alloc, whole, input, capacity, out, made),
+    }
+}
+
+/// Reads and opens a file, and answers the requests of another reader over it. Returns whether any answer is an error.
+/// Memory: the file and its rank/select and inverted indexes. Time: that of opening it and of [`answer_requests`].
+///
+/// # Errors
+///
+/// The first error of the file, and those of [`answer_requests`].
+pub fn answer_file<F: Read, R: Read, W: Write>(
+    alloc: Global,
+    options: AnswerOptions,
+    file: &mut Counted<F>,
+    capacity: usize,
+    input: &mut Counted<R>,
+    out: &mut Counted<W>,
+) -> Result<bool, ToolFault>
+    // The file is valid, and `out` has gained the answers to all requests over its graph.
+    ensures ok { IfOk result (λ faulty. ReadsWith (F.remaining (inner file.old)) (F.remaining (inner file.new)) (λ bytes. IsLayoutWith bytes (λ graph.
+        AnswersInput graph options (R.remaining (inner input.old)) (W.contents (inner out.old)) (W.contents (inner out.new)) faulty))) }
+    ensures writer_well { OnOk result (failures out.new ≡ failures out.old) }
+    // `Read`: one of the two readers failed once in this call.
+    ensures read { IsErrOf result ToolFault.Read → failures file.new + failures input.new ≡ failures file.old + failures input.old + 1 }
+    // Either the file is not valid or was not read, and no request was read and nothing written; or the error occurred
+    // while answering.
+    ensures stopped { IfErr result (λ e. (IsFaultOfInput (Action.Answer options) (F.remaining (inner file.old)) (F.remaining (inner file.new)) e × (input.new ≡ input.old) × (out.new ≡ out.old))
+        ⊎ ReadsWith (F.remaining (inner file.old)) (F.remaining (inner file.new)) (λ bytes. IsLayoutWith bytes (λ graph.
+        AnswersUntilFault graph options (R.remaining (inner input.old)) (R.remaining (inner input.new)) (W.contents (inner out.old)) (W.contents (inner out.new))
+        (failures out.old) (failures out.new) e))) }
+    // `Write(n)` occurs only while answering: the writer failed once, after exactly the first n bytes of the answers.
+    ensures write { IfErr result (λ e. (n : ℕ) → e ≡ ToolFault.Write n → ReadsWith (F.remaining (inner file.old)) (F.remaining (inner file.new)) (λ bytes. IsLayoutWith bytes (λ graph.
+        AnswersUntilFault graph options (R.remaining (inner input.old)) (R.remaining (inner input.new)) (W.contents (inner out.old)) (W.contents (inner out.new))
+        (failures out.old) (failures out.new) e))) }
+{
+    let bytes = read_all(alloc, file, capacity)?;
+    let graph = open(alloc, &bytes)?;
+    answer_requests(alloc, &graph, options, input, out)
+}

@@ -1,0 +1,45 @@
+//! The command `hdt`: parses arguments, runs a command, prints one line if it fails, and returns the exit status. The
+//! program itself, hdt, is one call of `process_status`.
+//!
+//! Contracts: the output of `run`, `run_with_capacity`, `answer_file` and `answer_requests` is a stated function of the
+//! input, and an error that they return is the first one in the input. `status_of` calls them over files and streams,
+//! and its contract states the exit status.
+//!
+//! Functions that state no cost take time and memory linear in their arguments.
+//!
+//! Modules, in reading order:
+//!
+//! - `request` and `fault`: requests, and the errors of a command line and of a command;
+//! - `arguments` and `command_line`: parsing a command line with `clap` and hdt_usage's table of commands;
+//! - the modules `printed_*`: output texts;
+//! - `whole` and `queries`: the output of each command that only reads; `dialogue`: requests over one graph;
+//! - `commands`: all commands, from a reader to a writer;
+//! - `error_lines`: exit statuses and error messages;
+//! - `progress`, `files`, `atomic_replace`, `output_file` and `status`: the same over files and streams.
+#![tactic(auto)]
+
+mod queries;
+mod dialogue;
+mod arguments;
+mod fault;
+mod files;
+mod error_lines;
+mod printed_reports;
+mod printed_strings;
+mod printed_triples;
+mod progress;
+mod atomic_replace;
+mod request;
+mod commands;
+mod status;
+mod whole;
+mod command_line;
+
+pub use dialogue::answer_requests;
+pub use fault::{ToolFault, UsageFault, TermArgument};
+pub use error_lines::{fault_line, usage_line};
+pub use status::process_status;
+pub use request::{Action, AnswerOptions, Invocation, OutputFormat, Request};
+pub use commands::{answer_file, run, run_with_capacity};
+pub use status::status_of;
+pub use command_line::{parse_invocation, parse_words};

@@ -1,0 +1,107 @@
+//! The output of `head`.
+ghost use Rattle.std.specs.Prelude.{◌≡◌, ◌++◌, OnOk, IfOk};
+ghost use Rattle.hdt_wire.specs.Control.{control_info_of};
+ghost use Rattle.hdt_file.specs.Head.{head_parts};
+ghost use Rattle.hdt_tool.specs.HeadText.{labelled_line, block_lines, head_text};
+ghost use Rattle.hdt_tool.specs.Escaping.{escaped_byte, escaped};
+ghost use Rattle.hdt_tool.specs.Verdict.{verdict};
+ghost use Rattle.hdt_tool.specs.BuiltText.{built_line, counts_line, rewritten_line};
+
+use hdt_build::Report;
+use hdt_file::Head;
+use hdt_wire::Control;
+use std::alloc::{AllocError, Global};
+
+/// Appends a line with a label, a space and an escaped text.
+fn put_line(label: &str, text: &[u8], out: &mut Vec<u8>) -> Result<(), AllocError>
+    ensures { OnOk result (out.new.items ≡ out.old.items ++ labelled_line label.now text.now) }
+{
+    out.extend_from_slice(label.as_bytes())?;
+    out.push(b' ')?;
+    put_escaped(text, out)?;
+    Ok(out.push(b'\n')?)
+}
+
+/// Appends two lines for control information: its name and format, and its properties.
+fn put_block(name: &str, block: &Control<'_>, out: &mut Vec<u8>) -> Result<(), AllocError>
+    ensures { OnOk result (out.new.items ≡ out.old.items ++ block_lines name.now (control_info_of block.now)) }
+{
+    put_line(name, block.format(), out)?;
+    put_line("properties", block.properties(), out)
+}
+
+/// The output of `head`: five lines, and then the header body, unescaped.
+#[tactic(auto, using(std::proofs::Common::append_assoc), unfolding(crate::specs::HeadText::head_text))]
+pub(crate) fn head_text(alloc: Global, head: &Head<'_>) -> Result<Vec<u8>, AllocError>
+    ensures { IfOk result (λ text. text.items ≡ head_text (head_parts head.now)) }
+{
+    let body = head.body();
+    let mut text = Vec::new(alloc);
+    put_block("global", &head.global(), &mut text)?;
+    put_block("header", &head.header(), &mut text)?;
+    text.extend_from_slice(format!(in alloc; "length {}\n", body.len())?.as_bytes())?;
+    text.extend_from_slice(body)?;
+    Ok(text)
+}
+
+/// Appends a byte, escaped if need be.
+fn put_escaped_byte(byte: u8, out: &mut Vec<u8>) -> Result<(), AllocError>
+    ensures { OnOk result (out.new.items ≡ out.old.items ++ escaped_byte byte) }
+{
+    match byte {
+        b'\\' => out.extend_from_slice(b"\\\\"),
+        b'\n' => out.extend_from_slice(b"\\n"),
+        b'\r' => out.extend_from_slice(b"\\r"),
+        _ => Ok(out.push(byte)?),
+    }
+}
+
+/// Appends a text, with backslash, line feed and carriage return escaped as `\\`, `\n` and `\r`.
+pub(crate) fn put_escaped(text: &[u8], out: &mut Vec<u8>) -> Result<(), AllocError>
+    ensures { OnOk result (out.new.items ≡ out.old.items ++ escaped text.now) }
+{
+    'bytes: for &byte in text {
+        put_escaped_byte(byte, out)?;
+    }
+    Ok(())
+}
+
+/// A line with five counts: triples, and the strings of the shared, subjects, predicates and objects sections.
+pub(crate) fn verdict(alloc: Global, lens: [u64; 5]) -> Result<Vec<u8>, AllocError>
+    ensures { IfOk result (λ text. text.items ≡ verdict lens) }
+{
+    let [triples, shared, subjects, predicates, objects] = lens;
+    let line = format!(in alloc; "ok {triples} {shared} {subjects} {predicates} {objects}\n")?;
+    Ok(line.into_bytes())
+}
+
+/// A line with a word and six counts: triples, the strings of the shared, subjects, predicates and objects sections,
+/// and the bytes of the file.
+fn counts_line(alloc: Global, word: &str, report: &Report) -> Result<Vec<u8>, AllocError>
+    ensures { IfOk result (λ text. text.items ≡ counts_line word.now report.now) }
+{
+    let line = format!(in alloc;
+        "{word} {} {} {} {} {} {}\n",
+        report.triples,
+        report.shared,
+        report.subjects,
+        report.predicates,
+        report.objects,
+        report.bytes
+    )?;
+    Ok(line.into_bytes())
+}
+
+/// The output of `build`.
+pub(crate) fn built_line(alloc: Global, report: &Report) -> Result<Vec<u8>, AllocError>
+    ensures { IfOk result (λ text. text.items ≡ built_line report.now) }
+{
+    counts_line(alloc, "built", report)
+}
+
+/// The output of `rewrite`.
+pub(crate) fn rewritten_line(alloc: Global, report: &Report) -> Result<Vec<u8>, AllocError>
+    ensures { IfOk result (λ text. text.items ≡ rewritten_line report.now) }
+{
+    counts_line(alloc, "rewritten", report)
+}

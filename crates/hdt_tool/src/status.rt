@@ -1,0 +1,469 @@
+//! The program over files and streams: parses its arguments, runs the command, prints one line to standard error if it
+//! fails, and returns the exit status.
+//!
+//! | status | case |
+//! |---|---|
+//! | 0 | success, or help was printed |
+//! | 1 | the input is not valid, a look-up found nothing, or an answer is an error |
+//! | 2 | the command line is not valid, or `build` would overwrite its input |
+//! | 3 | reading or writing failed |
+//! | 4 | out of memory |
+ghost use Rattle.std.specs.Prelude.{◌≡◌, ◌≢◌, ◌⊎◌, ◌+◌, ℕ, true, false, [], Ok, Err, Some, IfOk, IfErr, OnOk, MatchResult, map, string_bytes, if◌then◌else◌, ◌≤◌};
+ghost use Rattle.std.specs.Io.KnownBytes.{Appends};
+ghost use Rattle.std.specs.IoError.{error_kind};
+ghost use Rattle.std.specs.Vec.Iter.{into_iter_items};
+ghost use Rattle.hdt_wire.specs.Counted.{inner, failures};
+ghost use Rattle.hdt_tool.specs.Outcomes.{InterruptsStringsOwned, FailsAfter, HasInputFault, HasOut, MakesFile, CompletesOwned, IsReadOnly, IsFaultOfOwnedInput, WritesPrefixOwned};
+ghost use Rattle.hdt_tool.specs.CommandLine.{IsRefused, IsUsageText, ParsesToInvocation};
+ghost use Rattle.hdt_tool.specs.Dialogue.{AnswersOverFile, AnswersOverFileUntilFault};
+ghost use Rattle.hdt_tool.specs.ErrorLines.{fault_status};
+ghost use Rattle.hdt_tool.specs.Status.{Ends, IsBuild, IsCommandStatus, IsRefusalStatus, IsActionStatus};
+
+use crate::atomic_replace::{replace_file, replaceable_path};
+use crate::command_line::parse_invocation;
+use crate::commands::{answer_file, run_with_capacity};
+use crate::error_lines::{fault_line, usage_line};
+use crate::fault::{ToolFault, UsageFault, file_fault};
+use crate::files::{STDERR_PATH, STDOUT_PATH, create, is_same_file, known_size, open_input, would_overwrite};
+use crate::request::{Action, AnswerOptions, Invocation, Request};
+use hdt_wire::Counted;
+use std::alloc::{AllocError, Global};
+use std::env::Args;
+use std::env;
+use std::io::{ErrorKind, Read, Write, self};
+
+const NOT_UTF8_MESSAGE: &str = "error: an argument is not UTF-8
+
+For more information, try '--help'.";
+
+const SAME_FILE_MESSAGE: &str = "error: IN and OUT are the same file
+
+For more information, try '--help'.";
+
+/// Prints a line to standard error, ignoring failure, and returns the status.
+fn print_error_line(rt: &HostRuntime, status: u8, line: &str) -> u8
+    ensures { result ≡ status }
+{
+    let _ = rt.eprintln(line);
+    status
+}
+
+/// Prints an error message and returns its status; 4 if there is no memory for the message.
+fn report_line(rt: &HostRuntime, line: Result<(u8, String), AllocError>) -> u8
+    ensures { MatchResult line (λ said. result ≡ said.0) (λ _. result ≡ 4) }
+{
+    match line {
+        Ok((status, text)) => print_error_line(rt, status, text.as_str()),
+        Err(AllocError) => print_error_line(rt, 4, "hdt: out of memory"),
+    }
+}
+
+/// The status of printing to standard output. A failure gets a message on standard error.
+fn print_status(rt: &HostRuntime, outcome: io::Result<()>) -> u8
+    ensures { MatchResult outcome (λ _. result ≡ 0) (λ _. result ≡ 3) }
+{
+    match outcome {
+        Ok(()) => 0,
+        Err(_) => print_error_line(rt, 3, "hdt: writing failed"),
+    }
+}
+
+/// The status of a command. Prints the message of an error.
+pub(crate) fn done(rt: &HostRuntime, outcome: Result<(), ToolFault>) -> u8
+    ensures { MatchResult outcome (λ _. result ≡ 0) (λ fault. (result ≡ fault_status fault) ⊎ (result ≡ 4)) }
+{
+    match outcome {
+        Ok(()) => 0,
+        Err(fault) => report_line(rt, fault_line(rt.alloc(), &fault)),
+    }
+}
+
+/// Borrows each argument as a text.
+fn borrow_strings<'a>(alloc: Global, words: &'a [String]) -> Result<Vec<&'a str>, AllocError>
+    ensures { IfOk result (λ texts. map (λ text. text.now) texts.items ≡ map string_bytes words.now) }
+{
+    let mut texts = Vec::new(alloc);
+    'words: for word in words {
+        texts.push(word.as_str())?;
+    }
+    Ok(texts)
+}
+
+/// Parses the arguments.
+fn parse_arguments(alloc: Global, words: &[String]) -> Result<Invocation, UsageFault>
+    ensures ok { IfOk result (ParsesToInvocation (map string_bytes words.now)) }
+    ensures out { IfOk result (λ invocation. HasOut invocation.request) }
+    ensures refused { IfErr result (IsRefused (map string_bytes words.now)) }
+{
+    let texts = borrow_strings(alloc, words)?;
+    parse_invocation(alloc, texts.as_slice())
+}
+
+/// Collects the arguments of the process, or returns the system's error. (`collect` would ignore a failed allocation.)
+pub(crate) fn collect_arguments(alloc: Global, given: io::Result<Args>) -> io::Result<Vec<String>>
+    ensures ok { IfOk result (λ words. MatchResult given (λ args. words.items ≡ into_iter_items args) (λ _. ⊥)) }
+    ensures memory { IfErr result (λ error. IfOk given (λ _. error_kind error ≡ ErrorKind.OutOfMemory)) }
+    ensures refused { IfErr given (λ error. result ≡ Err error) }
+{
+    let args = given?;
+    let mut words = Vec::new(alloc);
+    'words: for word in args {
+        words.push(word)?;
+    }
+    Ok(words)
+}
+
+/// Parses the arguments of the process. An error of the system is a usage error, unless it is lack of memory.
+fn parse_process_arguments(alloc: Global, words: io::Result<Vec<String>>) -> Result<Invocation, UsageFault>
+    ensures ok { IfOk result (λ invocation. MatchResult words (λ words. ParsesToInvocation (map string_bytes words.items) invocation) (λ _. ⊥)) }
+    ensures out { IfOk result (λ invocation. HasOut invocation.request) }
+    ensures refused { IfErr result (λ fault. IfOk words (λ words. IsRefused (map string_bytes words.items) fault)) }
+    ensures memory { IfErr words (λ error. error_kind error ≡ ErrorKind.OutOfMemory → result ≡ Err UsageFault.OutOfMemory) }
+    ensures other { IfErr words (λ error. error_kind error ≢ ErrorKind.OutOfMemory → IfErr result (IsUsageText NOT_UTF8_MESSAGE.now)) }
+{
+    match words {
+        Ok(words) => parse_arguments(alloc, words.as_slice()),
+        Err(error) if error.kind() == ErrorKind::OutOfMemory => Err(UsageFault::OutOfMemory),
+        Err(_) => Err(UsageFault::text(alloc, NOT_UTF8_MESSAGE)),
+    }
+}
+
+/// Runs a request on the result of opening its input. The new file of `build` or `rewrite` is appended to `made`.
+fn run_opened<R: Read + Drop, W: Write>(
+    alloc: Global,
+    request: &Request,
+    file: io::Result<R>,
+    capacity: usize,
+    out: &mut Counted<W>,
+    made: &mut Vec<u8>,
+) -> Result<(), ToolFault>
+    // `out` has gained the command's output for the input, and `made` the new file.
+    ensures ok { OnOk result (MatchResult file (λ input. CompletesOwned request.now.action (R.remaining input)
+        (W.contents (inner out.old)) (W.contents (inner out.new)) made.old.items made.new.items) (λ _. ⊥)) }
+    // An error is one that `run` may return for the input.
+    ensures told { IfErr result (λ e. IfOk file (λ input. IsFaultOfOwnedInput request.now.action (R.remaining input) e)) }
+    // If the input could not be opened: `OutOfMemory` if its error is of that kind, else `Read`.
+    ensures memory { IfErr file (λ e. error_kind e ≡ ErrorKind.OutOfMemory → result ≡ Err ToolFault.OutOfMemory) }
+    ensures unopened { IfErr file (λ e. error_kind e ≢ ErrorKind.OutOfMemory → result ≡ Err ToolFault.Read) }
+    // `Write(n)`: the writer failed once in this call, after exactly the first n bytes of the output.
+    ensures write { IfErr result (λ e. (n : ℕ) → e ≡ ToolFault.Write n → (failures out.new ≡ failures out.old + 1)
+        × MatchResult file (λ input. WritesPrefixOwned request.now.action (R.remaining input)
+        (W.contents (inner out.old)) (W.contents (inner out.new)) n) (λ _. ⊥)) }
+    // With any other result it did not fail. With any other error nothing was written, except that `strings` may have
+    // written a prefix of its output before it ran out of memory.
+    ensures writer_well { OnOk result (failures out.new ≡ failures out.old) }
+    ensures unwritten { IfErr result (λ e. ((n : ℕ) → e ≢ ToolFault.Write n) → (out.new ≡ out.old) ⊎ ((e ≡ ToolFault.OutOfMemory)
+        × MatchResult file (λ input. InterruptsStringsOwned request.now.action (R.remaining input)
+        (W.contents (inner out.old)) (W.contents (inner out.new)) (failures out.old) (failures out.new)) (λ _. ⊥))) }
+{
+    let mut input = match file {
+        Ok(input) => Counted::new(input),
+        Err(error) => return Err(file_fault(&error, ToolFault::Read)),
+    };
+    run_with_capacity(alloc, request, &mut input, capacity, out, made)
+}
+
+/// Runs a command that writes no file, and returns the status.
+fn run_query<R: Read + Drop, W: Write>(
+    rt: &HostRuntime,
+    request: &Request,
+    file: io::Result<R>,
+    capacity: usize,
+    out: &mut Counted<W>,
+) -> u8
+    requires { IsReadOnly request.now.action }
+    ensures statuses { IsCommandStatus result }
+    // 0: `out` has gained the command's output for the input, and no new file was lost.
+    ensures done { result ≡ 0 → MatchResult file (λ input. CompletesOwned request.now.action (R.remaining input)
+        (W.contents (inner out.old)) (W.contents (inner out.new)) [] []) (λ _. ⊥) }
+    ensures well { result ≡ 0 → failures out.new ≡ failures out.old }
+    // 1: the input is not valid or has no triples, a look-up found nothing, or a string is not a term.
+    ensures fault { result ≡ 1 → MatchResult file (λ input. HasInputFault request.now.action (R.remaining input)) (λ _. ⊥) }
+    ensures unwritten { result ≡ 1 → out.new ≡ out.old }
+    // 2, 3 and 4: nothing was written, or the writer failed, or `strings` ran out of memory after a prefix of its
+    // output.
+    ensures stopped { result ≢ 0 → (out.new ≡ out.old) ⊎ (failures out.new ≡ failures out.old + 1)
+        ⊎ MatchResult file (λ input. InterruptsStringsOwned request.now.action (R.remaining input)
+        (W.contents (inner out.old)) (W.contents (inner out.new)) (failures out.old) (failures out.new)) (λ _. ⊥) }
+{
+    let mut made = Vec::new(rt.alloc());
+    done(rt, run_opened(rt.alloc(), request, file, capacity, out, &mut made))
+}
+
+/// The error of a command that writes to memory: a write error means that memory ran out.
+fn in_memory(fault: ToolFault) -> ToolFault
+    ensures memory { (n : ℕ) → fault ≡ ToolFault.Write n → result ≡ ToolFault.OutOfMemory }
+    ensures other { ((n : ℕ) → fault ≢ ToolFault.Write n) → result ≡ fault }
+{
+    match fault {
+        ToolFault::Write(_) => ToolFault::OutOfMemory,
+        fault => fault,
+    }
+}
+
+/// Builds the new file of `build` or `rewrite` from the result of opening its input: appends it to `built`, and returns
+/// the output line.
+fn make_file<R: Read + Drop>(
+    alloc: Global,
+    request: &Request,
+    file: io::Result<R>,
+    capacity: usize,
+    built: &mut Vec<u8>,
+) -> Result<Vec<u8>, ToolFault>
+    requires { MakesFile request.now.action }
+    // The result is the command's output for the input, and `built` has gained the new file.
+    ensures ok { IfOk result (λ line. MatchResult file (λ input. CompletesOwned request.now.action (R.remaining input)
+        (Some []) (Some line.items) built.old.items built.new.items) (λ _. ⊥)) }
+    ensures told { IfErr result (λ e. IfOk file (λ input. IsFaultOfOwnedInput request.now.action (R.remaining input) e)) }
+    ensures memory { IfErr file (λ e. error_kind e ≡ ErrorKind.OutOfMemory → result ≡ Err ToolFault.OutOfMemory) }
+    ensures unopened { IfErr file (λ e. error_kind e ≢ ErrorKind.OutOfMemory → result ≡ Err ToolFault.Read) }
+    ensures others { IfErr result (λ e. (n : ℕ) → e ≢ ToolFault.Write n) }
+{
+    let mut line = Counted::new(Vec::new(alloc));
+    match run_opened(alloc, request, file, capacity, &mut line, built) {
+        Ok(()) => Ok(line.into_inner()),
+        Err(fault) => Err(in_memory(fault)),
+    }
+}
+
+/// The result of creating the output file, with its error as a [`ToolFault`].
+fn check_created<F: Write>(file: io::Result<F>) -> Result<Counted<F>, ToolFault>
+    ensures ok { IfOk result (λ counted. file ≡ Ok (inner counted)) }
+    ensures memory { IfErr file (λ e. error_kind e ≡ ErrorKind.OutOfMemory → result ≡ Err ToolFault.OutOfMemory) }
+    ensures other { IfErr file (λ e. error_kind e ≢ ErrorKind.OutOfMemory → result ≡ Err (ToolFault.Write 0)) }
+{
+    let file = file.map_err(|error| file_fault(&error, ToolFault::Write(0)))?;
+    Ok(Counted::new(file))
+}
+
+/// Writes an output line.
+fn print_line<W: Write>(out: &mut Counted<W>, line: &[u8]) -> Result<(), ToolFault>
+    ensures line { OnOk result (Appends (W.contents (inner out.old)) (W.contents (inner out.new)) line.now) }
+    ensures well { OnOk result (failures out.new ≡ failures out.old) }
+    ensures failed { IfErr result (λ e. (n : ℕ) × (e ≡ ToolFault.Write n) × FailsAfter n line.now
+        (W.contents (inner out.old)) (W.contents (inner out.new)) (failures out.old) (failures out.new)) }
+{
+    out.write_all(line).map_err(ToolFault::Write)
+}
+
+/// Writes the new file, and then the output line.
+fn write_file_and_line<F: Write, W: Write>(
+    file: &mut Counted<F>,
+    built: &[u8],
+    out: &mut Counted<W>,
+    line: &[u8],
+) -> Result<(), ToolFault>
+    // The file has gained the bytes, and the writer the line.
+    ensures file { OnOk result (Appends (F.contents (inner file.old)) (F.contents (inner file.new)) built.now) }
+    ensures line { OnOk result (Appends (W.contents (inner out.old)) (W.contents (inner out.new)) line.now) }
+    ensures well { OnOk result ((failures file.new ≡ failures file.old) × (failures out.new ≡ failures out.old)) }
+    // `Write(n)`: either the file failed after exactly n bytes, and `out` is unchanged; or the writer failed after
+    // exactly n bytes of the line, and the file is complete.
+    ensures failed { IfErr result (λ e. (n : ℕ) × (e ≡ ToolFault.Write n) × (
+        (FailsAfter n built.now (F.contents (inner file.old)) (F.contents (inner file.new)) (failures file.old) (failures file.new)
+        × (out.new ≡ out.old))
+        ⊎ (FailsAfter n line.now (W.contents (inner out.old)) (W.contents (inner out.new)) (failures out.old) (failures out.new)
+        × Appends (F.contents (inner file.old)) (F.contents (inner file.new)) built.now
+        × (failures file.new ≡ failures file.old)))) }
+{
+    file.write_all(built).map_err(ToolFault::Write)?;
+    print_line(out, line)
+}
+
+/// Prints the new file to standard output, and its line to standard error, unless both are the same file.
+fn print_built(rt: &HostRuntime, built: &[u8], line: &[u8]) -> Result<(), ToolFault> {
+    let mut out = Counted::new(io::writer(rt));
+    let mut errors = Counted::new(rt.stderr());
+    let line = if is_same_file(rt, STDOUT_PATH, STDERR_PATH) {
+        &[]
+    } else {
+        line
+    };
+    write_file_and_line(&mut out, built, &mut errors, line)
+}
+
+/// Writes the new file to a path, and prints its line. A regular file is replaced atomically; anything else is written
+/// in place.
+fn write_to_path(rt: &HostRuntime, path: &str, built: &[u8], line: &[u8]) -> Result<(), ToolFault> {
+    let mut out = Counted::new(io::writer(rt));
+    let replaced = replaceable_path(rt, rt.alloc(), path);
+    if let Some(path) = replaced.map_err(|error| file_fault(&error, ToolFault::Write(0)))? {
+        replace_file(rt, &path, built)?;
+        return print_line(&mut out, line);
+    }
+    let mut file = check_created(create(rt, path))?;
+    write_file_and_line(&mut file, built, &mut out, line)
+}
+
+/// Runs `build` or `rewrite`. The file is written only once it is complete, and the line with its counts is printed
+/// last. If `path` leads to standard output, the file is printed there.
+fn make_file_at(rt: &HostRuntime, invocation: &Invocation, path: &str) -> Result<(), ToolFault>
+    requires { MakesFile invocation.now.request.action }
+{
+    // No progress if standard error is the output file, which must hold nothing else.
+    let progress = invocation.progress && !is_same_file(rt, path, STDERR_PATH);
+    let input = open_input(rt, invocation.request.file.as_str(), progress);
+    let mut built = Vec::new(rt.alloc());
+    let capacity = known_size(&input);
+    let line = make_file(rt.alloc(), &invocation.request, input, capacity, &mut built)?;
+    if is_same_file(rt, path, STDOUT_PATH) {
+        return print_built(rt, &built, &line);
+    }
+    write_to_path(rt, path, &built, &line)
+}
+
+/// Prints help to standard output, or a usage error to standard error.
+fn refuse(rt: &HostRuntime, fault: UsageFault) -> u8
+    ensures { IsRefusalStatus fault result }
+{
+    match fault {
+        UsageFault::Help(text) => print_status(rt, rt.println(text.as_str())),
+        fault => report_line(rt, usage_line(rt.alloc(), &fault)),
+    }
+}
+
+/// Whether `build` would overwrite, and so lose, the document that it reads. (`rewrite` keeps the graph.)
+fn writes_over_its_input(rt: &HostRuntime, invocation: &Invocation, path: &str) -> bool
+    ensures { result ≡ true → IsBuild invocation.now.request.action }
+{
+    match &invocation.request.action {
+        Action::Build(_) => would_overwrite(rt, path, invocation.request.file.as_str()),
+        _ => false,
+    }
+}
+
+/// Runs `build` or `rewrite`, and returns the status. If `build` would overwrite its input, it fails before it reads
+/// anything.
+fn run_making(rt: &HostRuntime, invocation: &Invocation, path: &str) -> u8
+    requires { MakesFile invocation.now.request.action }
+    ensures { IsActionStatus invocation.now.request.action result }
+{
+    if writes_over_its_input(rt, invocation, path) {
+        return print_error_line(rt, 2, SAME_FILE_MESSAGE);
+    }
+    done(rt, make_file_at(rt, invocation, path))
+}
+
+/// The status of `answer`: 1 if any answer is an error. Prints the message of an error that ended it.
+fn answers_status(rt: &HostRuntime, outcome: Result<bool, ToolFault>) -> u8
+    ensures { MatchResult outcome (λ faulty. result ≡ (if faulty then 1 else 0)) (λ fault. (result ≡ fault_status fault) ⊎ (result ≡ 4)) }
+{
+    match outcome {
+        Ok(faulty) => u8::from(faulty),
+        Err(fault) => done(rt, Err(fault)),
+    }
+}
+
+/// Serves requests over the result of opening a file. Returns whether any answer is an error.
+fn answer_opened<F: Read + Drop, R: Read, W: Write>(
+    alloc: Global,
+    options: AnswerOptions,
+    file: io::Result<F>,
+    capacity: usize,
+    input: &mut Counted<R>,
+    out: &mut Counted<W>,
+) -> Result<bool, ToolFault>
+    // The file is valid, and `out` has gained the answers to all requests over its graph.
+    ensures ok { IfOk result (λ faulty. MatchResult file (λ file. AnswersOverFile options (F.remaining file) (R.remaining (inner input.old))
+        (W.contents (inner out.old)) (W.contents (inner out.new)) faulty) (λ _. ⊥)) }
+    ensures writer_well { OnOk result (failures out.new ≡ failures out.old) }
+    // If the file could not be opened: `OutOfMemory` if its error is of that kind, else `Read`.
+    ensures memory { IfErr file (λ e. error_kind e ≡ ErrorKind.OutOfMemory → result ≡ Err ToolFault.OutOfMemory) }
+    ensures unopened { IfErr file (λ e. error_kind e ≢ ErrorKind.OutOfMemory → result ≡ Err ToolFault.Read) }
+    // Nothing was written, or a part of the answers, as the contract of `answer_file` says.
+    ensures stopped { IfErr result (λ e. (out.new ≡ out.old) ⊎ MatchResult file (λ file. AnswersOverFileUntilFault options (F.remaining file)
+        (R.remaining (inner input.old)) (R.remaining (inner input.new)) (W.contents (inner out.old)) (W.contents (inner out.new))
+        (failures out.old) (failures out.new) e) (λ _. ⊥)) }
+{
+    let mut file = match file {
+        Ok(file) => Counted::new(file),
+        Err(why) => return Err(file_fault(&why, ToolFault::Read)),
+    };
+    answer_file(alloc, options, &mut file, capacity, input, out)
+}
+
+/// Serves requests over the result of opening a file, and returns the status.
+fn run_answer<F: Read + Drop, R: Read, W: Write>(
+    rt: &HostRuntime,
+    options: AnswerOptions,
+    file: io::Result<F>,
+    capacity: usize,
+    input: &mut Counted<R>,
+    out: &mut Counted<W>,
+) -> u8
+    ensures statuses { IsCommandStatus result }
+    // 0: `out` has gained the answers to all requests, none of which is an error.
+    ensures done { result ≡ 0 → MatchResult file (λ file. AnswersOverFile options (F.remaining file) (R.remaining (inner input.old))
+        (W.contents (inner out.old)) (W.contents (inner out.new)) false) (λ _. ⊥) }
+    ensures well { result ≡ 0 → failures out.new ≡ failures out.old }
+    // Otherwise nothing was written; or the status is 1, and one of the answers is an error; or an error with this
+    // status, or lack of memory for its message, ended the answers.
+    ensures stopped { result ≢ 0 → (out.new ≡ out.old)
+        ⊎ ((result ≡ 1) × MatchResult file (λ file. AnswersOverFile options (F.remaining file) (R.remaining (inner input.old))
+        (W.contents (inner out.old)) (W.contents (inner out.new)) true) (λ _. ⊥))
+        ⊎ ((e : ToolFault) × ((result ≡ fault_status e) ⊎ (result ≡ 4)) × MatchResult file (λ file. AnswersOverFileUntilFault options (F.remaining file)
+        (R.remaining (inner input.old)) (R.remaining (inner input.new)) (W.contents (inner out.old)) (W.contents (inner out.new))
+        (failures out.old) (failures out.new) e) (λ _. ⊥)) }
+{
+    answers_status(rt, answer_opened(rt.alloc(), options, file, capacity, input, out))
+}
+
+/// Serves the requests of standard input on standard output, and returns the status.
+fn run_answer_on_streams(rt: &HostRuntime, path: &str, options: AnswerOptions) -> u8
+    ensures { IsCommandStatus result }
+{
+    let file = open_input(rt, path, false);
+    let capacity = known_size(&file);
+    let mut input = Counted::new(rt.stdin());
+    let mut out = Counted::new(io::writer(rt));
+    run_answer(rt, options, file, capacity, &mut input, &mut out)
+}
+
+/// Runs a request, and returns the status.
+fn run_invocation(rt: &HostRuntime, invocation: &Invocation) -> u8
+    requires { HasOut invocation.now.request }
+    ensures { IsActionStatus invocation.now.request.action result }
+{
+    match &invocation.request.out {
+        Some(path) => run_making(rt, invocation, path.as_str()),
+        None => match &invocation.request.action {
+            Action::Answer(options) => run_answer_on_streams(rt, invocation.request.file.as_str(), *options),
+            _ => {
+                let file = open_input(rt, invocation.request.file.as_str(), invocation.progress);
+                let mut out = Counted::new(io::writer(rt));
+                let capacity = known_size(&file);
+                run_query(rt, &invocation.request, file, capacity, &mut out)
+            }
+        },
+    }
+}
+
+/// Runs a request, or reports a usage error.
+fn run_or_refuse(rt: &HostRuntime, invocation: Result<Invocation, UsageFault>) -> u8
+    requires { IfOk invocation (λ invocation. HasOut invocation.request) }
+    ensures { MatchResult invocation (λ invocation. IsActionStatus invocation.request.action result) (λ fault. IsRefusalStatus fault result) }
+{
+    match invocation {
+        Ok(invocation) => run_invocation(rt, &invocation),
+        Err(fault) => refuse(rt, fault),
+    }
+}
+
+/// Runs the request of these arguments, and returns the exit status: 0 success, 1 the input is not valid, 2 a usage
+/// error or a `build` that would overwrite its input, 3 reading or writing failed, 4 out of memory. Cost: that of
+/// [`run`](crate::run).
+pub fn status_of(rt: &HostRuntime, words: io::Result<Vec<String>>) -> u8
+    ensures given { IfOk words (λ words. Ends (map string_bytes words.items) result) }
+    ensures memory { IfErr words (λ error. error_kind error ≡ ErrorKind.OutOfMemory → result ≡ 4) }
+    ensures other { IfErr words (λ error. error_kind error ≢ ErrorKind.OutOfMemory → (result ≡ 2) ⊎ (result ≡ 4)) }
+{
+    run_or_refuse(rt, parse_process_arguments(rt.alloc(), words))
+}
+
+/// Runs the request of the process's arguments over its streams, as [`status_of`] does, and returns the exit status.
+/// Cost: that of [`run`](crate::run). (No contract can name the arguments: std states only their type.)
+pub fn process_status(rt: &HostRuntime) -> u8
+    ensures { result ≤ 4 }
+{
+    status_of(rt, collect_arguments(rt.alloc(), env::args(rt)))
+}
