@@ -3,7 +3,7 @@ ghost use Rattle.hdt_front.specs.Section.{AreSectionStrings};
 ghost use Rattle.hdt_front.specs.Canonical.{borrowed_texts};
 
 use crate::example_fault::ExampleFault;
-use hdt_front::{Section, SectionWriter, Seeker, SectionIter};
+use hdt_front::{Section, SectionIter, SectionWriter, Seeker};
 use hdt_seq::Steps;
 use std::alloc::Global;
 
@@ -72,7 +72,10 @@ pub(crate) fn seeker_example(
 }
 
 /// Of `SectionWriter`. The strings are what it requires: UTF-8 without zero bytes, ascending.
-pub(crate) fn section_writer_example(alloc: Global, strings: &[&[u8]]) -> Result<Vec<u8>, ExampleFault>
+pub(crate) fn section_writer_example(
+    alloc: Global,
+    strings: &[&[u8]],
+) -> Result<Vec<u8>, ExampleFault>
     requires { AreSectionStrings (borrowed_texts strings.now) }
 {
     let mut writer = SectionWriter::new(alloc, 16);

@@ -1,7 +1,7 @@
 //! The examples in the documentation of hdt_terms.
 
 use crate::example_fault::ExampleFault;
-use hdt_terms::{TermKind, Lines, Term, Triple, parse_term, put_string, put_term, term_string};
+use hdt_terms::{Lines, Term, TermKind, Triple, parse_term, put_string, put_term, term_string};
 use hdt_wire::Counted;
 use std::alloc::Global;
 

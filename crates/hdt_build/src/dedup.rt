@@ -20,7 +20,11 @@ fn is_last(strings: &[&[u8]], text: &[u8]) -> bool
 
 /// Appends a string to a list, unless it equals the last one; returns its index. Strings are compared only if the keys
 /// are equal.
-fn push_distinct<'a>(strings: &mut Vec<&'a [u8]>, text: &'a [u8], tied: bool) -> Result<usize, AllocError>
+fn push_distinct<'a>(
+    strings: &mut Vec<&'a [u8]>,
+    text: &'a [u8],
+    tied: bool,
+) -> Result<usize, AllocError>
     requires apart { IsFalse tied → IsLast (borrowed_texts strings.old.items) text.now → ⊥ }
     ensures joined { OnOk result (IsPushedOnce (borrowed_texts strings.old.items) text.now (borrowed_texts strings.new.items)) }
     ensures place { IfOk result (λ i. i + 1 ≡ length strings.new.items) }

@@ -32,7 +32,13 @@ impl Document {
     }
 
     /// Adds a triple. After an error, drop the document.
-    pub(crate) fn add(&mut self, alloc: Global, s: &[u8], p: &[u8], o: &[u8]) -> Result<(), AllocError>
+    pub(crate) fn add(
+        &mut self,
+        alloc: Global,
+        s: &[u8],
+        p: &[u8],
+        o: &[u8],
+    ) -> Result<(), AllocError>
         requires { IsValidDocument self.old }
         ensures graph { OnOk result (document_graph self.new ≡ document_graph self.old ++ (s.now, p.now, o.now) ∷ []) }
         ensures sound { OnOk result (IsValidDocument self.new) }
@@ -80,7 +86,10 @@ impl Document {
     }
 
     /// Returns the strings and the triples, and frees the cache of the interner.
-    pub(crate) fn into_parts(self, alloc: Global) -> Result<(Arena, Vec<(u64, u64, u64)>), AllocError>
+    pub(crate) fn into_parts(
+        self,
+        alloc: Global,
+    ) -> Result<(Arena, Vec<(u64, u64, u64)>), AllocError>
         requires { IsValidDocument self }
         ensures graph { IfOk result (λ parts. string_triples_of parts.0 parts.1.items ≡ document_graph self) }
         ensures within { IfOk result (λ parts. AreBelow (length parts.0) parts.1.items) }

@@ -7,9 +7,9 @@ ghost use Rattle.hdt_build.specs.Reading.{HasDictionaryStrings};
 
 use crate::dedup::dedup_strings;
 use crate::section_filter::{SectionsAndIds, write_sections};
-use crate::string_sort::sort_strings;
 use crate::sections::SectionWriters;
-use crate::triples::{sort_dedup_triples, map_ids};
+use crate::string_sort::sort_strings;
+use crate::triples::{map_ids, sort_dedup_triples};
 use hdt_dict::Arena;
 use std::alloc::{AllocError, Global};
 

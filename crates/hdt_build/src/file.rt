@@ -50,7 +50,11 @@ fn canonical_file(alloc: Global, header: &[u8], form: EncodedGraph) -> Result<Ve
 
 /// The bytes of the canonical file of a header body, four sections and ID triples, and its counts.
 #[tactic(auto, unfolding(crate::specs::Built::report_of))]
-pub(crate) fn encode_file(alloc: Global, header: &[u8], form: EncodedGraph) -> Result<(Vec<u8>, Report), AllocError>
+pub(crate) fn encode_file(
+    alloc: Global,
+    header: &[u8],
+    form: EncodedGraph,
+) -> Result<(Vec<u8>, Report), AllocError>
     requires sections { AreSections (lists_of_sections form.sections) }
     requires triples { AreWritable form.triples.items }
     requires blocks { HaveBlockSize form.sections.shared.block_size form.sections }

@@ -215,7 +215,11 @@ impl Interner {
     }
 
     /// Returns an index for each of these strings. Appends those that the cache doesn't have.
-    pub(crate) fn intern_all(&mut self, alloc: Global, strings: &Arena) -> Result<Vec<u64>, AllocError>
+    pub(crate) fn intern_all(
+        &mut self,
+        alloc: Global,
+        strings: &Arena,
+    ) -> Result<Vec<u64>, AllocError>
         ensures places { IfOk result (λ made. AreIndicesOf strings.now self.new made.items) }
         ensures list { OnOk result (ExtendsList self.old self.new) }
     {

@@ -30,37 +30,36 @@
 #![tactic(auto)]
 
 mod building;
+mod dedup;
 mod document;
+mod encoding;
 mod fault;
 mod file;
-mod encoding;
 mod header;
+mod id_map;
 mod interner;
-mod retained;
 mod keys;
 mod laws;
-mod prefetch;
 mod merging;
-mod dedup;
 mod options;
-mod section_filter;
-mod string_sort;
+mod prefetch;
 mod queue;
 mod reading;
-mod id_map;
+mod retained;
 mod rewriting;
+mod section_filter;
 mod section_run;
 mod sections;
+mod string_sort;
 mod ties;
 mod triples;
 
 pub use building::{build, build_bytes};
 pub use fault::{BuildFault, RewriteFault};
 pub use laws::{
-    canonical_files_are_layouts, equal_graphs_equal_files, no_triples_is_reported, one_canonical_file,
-    one_document, reports_are_verified,
+    canonical_files_are_layouts, equal_graphs_equal_files, no_triples_is_reported,
+    one_canonical_file, one_document, reports_are_verified, rewriting_again_changes_nothing,
+    rewriting_keeps_the_graph,
 };
-pub use options::Options;
-pub use options::Report;
+pub use options::{Options, Report};
 pub use rewriting::{rewrite, rewrite_bytes};
-pub use laws::{rewriting_again_changes_nothing, rewriting_keeps_the_graph};

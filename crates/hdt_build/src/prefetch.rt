@@ -42,7 +42,12 @@ fn touch_ends_at(list: &Arena, place: usize) -> usize {
 
 /// Prefetches the strings of the next entries with equal keys, unless this was done; returns the index up to which
 /// entries are prefetched.
-pub(crate) fn prefetch_tied(list: &Arena, entries: &[(u64, usize)], at: usize, seen: usize) -> usize {
+pub(crate) fn prefetch_tied(
+    list: &Arena,
+    entries: &[(u64, usize)],
+    at: usize,
+    seen: usize,
+) -> usize {
     if at < seen {
         return seen;
     }

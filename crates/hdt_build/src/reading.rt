@@ -8,7 +8,9 @@ ghost use Rattle.hdt_build.specs.Reading.{IsInputGraph, HasDictionaryStrings, Is
 
 use crate::document::Document;
 use crate::fault::BuildFault;
-use hdt_terms::{LineFault, LineReason, Lines, text_encodes_one_term, triples_so_far, strings_are_texts};
+use hdt_terms::{
+    LineFault, LineReason, Lines, strings_are_texts, text_encodes_one_term, triples_so_far,
+};
 use hdt_wire::Counted;
 use std::alloc::Global;
 use std::io::Read;
@@ -27,7 +29,10 @@ fn build_fault(fault: LineFault) -> BuildFault
 }
 
 /// Reads all triples of a document, up to its end or its first error.
-pub(crate) fn read_triples<R: Read>(alloc: Global, input: &mut Counted<R>) -> Result<Document, BuildFault>
+pub(crate) fn read_triples<R: Read>(
+    alloc: Global,
+    input: &mut Counted<R>,
+) -> Result<Document, BuildFault>
     ensures found { IfOk result (λ document. IsInputGraph (R.remaining (inner input.old)) (document_graph document)) }
     ensures sound { IfOk result IsValidDocument }
     ensures texts { IfOk result (λ document. HasDictionaryStrings (document_graph document)) }

@@ -41,9 +41,11 @@ fn is_retained(graph: &Graph<'_>, part: SectionId, n: u64, steps: &mut Steps) ->
 {
     match part {
         SectionId::Shared => is_used_in_both(graph, n, steps),
-        SectionId::Subjects => graph.uses(Role::Subject, n, steps) && !is_used_in_both(graph, n, steps),
+        SectionId::Subjects => graph.uses(Role::Subject, n, steps)
+            && !is_used_in_both(graph, n, steps),
         SectionId::Predicates => graph.uses(Role::Predicate, n, steps),
-        SectionId::Objects => graph.uses(Role::Object, n, steps) && !is_used_in_both(graph, n, steps),
+        SectionId::Objects => graph.uses(Role::Object, n, steps)
+            && !is_used_in_both(graph, n, steps),
     }
 }
 

@@ -11,8 +11,8 @@ ghost use Rattle.hdt_build.specs.Inside.Rewriting.{section_role, second_run_end,
 ghost use Rattle.hdt_dict.specs.Dictionary.{role_strings};
 ghost use Rattle.hdt_wire.specs.declared.role.Role.TheVariants.{Object};
 
-use crate::retained::{SectionId, run_ends};
 use crate::id_map::{IdMap, id_map_of};
+use crate::retained::{SectionId, run_ends};
 use crate::section_run::SectionRun;
 use hdt_dict::Role;
 use hdt_file::Graph;
@@ -146,11 +146,7 @@ pub(crate) struct NewIds {
 }
 
 /// The new IDs of objects, by old index: those of shared strings are the same as for subjects, all others are 0 so far.
-fn object_ids(
-    alloc: Global,
-    graph: &Graph<'_>,
-    subjects: &[u64],
-) -> Result<Vec<u64>, AllocError>
+fn object_ids(alloc: Global, graph: &Graph<'_>, subjects: &[u64]) -> Result<Vec<u64>, AllocError>
     requires { length (graph_view graph.now).dictionary.shared ≤ length subjects.now }
     ensures long { IfOk result (λ made. length made.items ≡ length (role_strings (graph_view graph.now).dictionary roles.Object)) }
     ensures shared { IfOk result (λ made. (k : ℕ) → k < length (graph_view graph.now).dictionary.shared → slice_index made.items k ≡ slice_index subjects.now k) }

@@ -114,7 +114,11 @@ pub extern "C" fn hdt_find(
     match graph.take(alloc) {
         None => CLOSED,
         Some(taken) => {
-            let given = [string_if_flag(has_s, s), string_if_flag(has_p, p), string_if_flag(has_o, o)];
+            let given = [
+                string_if_flag(has_s, s),
+                string_if_flag(has_p, p),
+                string_if_flag(has_o, o),
+            ];
             let answer = find_into(graph_ref(&taken), given, skip, out);
             graph.put(taken);
             answer
@@ -141,7 +145,11 @@ pub extern "C" fn hdt_matching(
     match graph.take(alloc) {
         None => CLOSED,
         Some(taken) => {
-            let given = [string_if_flag(has_s, s), string_if_flag(has_p, p), string_if_flag(has_o, o)];
+            let given = [
+                string_if_flag(has_s, s),
+                string_if_flag(has_p, p),
+                string_if_flag(has_o, o),
+            ];
             let answer = count_matches(graph_ref(&taken), given);
             graph.put(taken);
             answer

@@ -8,25 +8,22 @@
 //! and puts it back.
 #![tactic(auto)]
 
-mod look_ups;
 mod building;
 mod bytes;
+mod bytes_access;
+mod caller_buffer;
 mod finding;
 mod handle;
-mod bytes_access;
+mod look_ups;
 mod opening;
 mod raw_box;
 mod report;
 mod rewriting;
-mod caller_buffer;
 mod strings;
 mod text;
 mod verdict;
 
-pub use bytes::Address;
-pub use bytes::HdtBytes;
-pub use handle::HdtGraph;
-pub use handle::ResourcePtr;
-pub use report::HdtReport;
-pub use report::HdtTelling;
+pub use bytes::{Address, HdtBytes};
+pub use handle::{HdtGraph, ResourcePtr};
+pub use report::{HdtReport, HdtTelling};
 pub use verdict::HdtVerdict;

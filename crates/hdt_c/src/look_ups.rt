@@ -117,7 +117,13 @@ pub extern "C" fn hdt_number(alloc: Global, graph: &mut HdtGraph, role: u32, str
 }
 
 /// Writes a string to a buffer of the caller, as many bytes as fit, and returns its length.
-fn put_string(alloc: Global, graph: &Graph<'static>, role: u32, number: u64, buffer: &mut [u8]) -> u64
+fn put_string(
+    alloc: Global,
+    graph: &Graph<'static>,
+    role: u32,
+    number: u64,
+    buffer: &mut [u8],
+) -> u64
     ensures { ReturnsString (string_with_id (graph_view graph.now) (role_by_number role) number) result buffer.old buffer.new }
 {
     let Some(role) = role_by_number(role) else {

@@ -114,7 +114,11 @@ pub extern "C" fn hdt_text(
             *telling = for_reason(IS_CLOSED);
         }
         Some(taken) => {
-            let given = [string_if_flag(has_s, s), string_if_flag(has_p, p), string_if_flag(has_o, o)];
+            let given = [
+                string_if_flag(has_s, s),
+                string_if_flag(has_p, p),
+                string_if_flag(has_o, o),
+            ];
             *telling = put_text(alloc, graph_ref(&taken), given, out);
             graph.put(taken);
         }

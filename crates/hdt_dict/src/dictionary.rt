@@ -12,7 +12,9 @@ ghost use Rattle.hdt_dict.specs.Ids.{string_at_id, AppendsString};
 ghost use Rattle.hdt_wire.specs.declared.role.Role.{Role};
 
 use crate::disjoint::{check_objects, check_subjects};
-use crate::section_pair::{block_in_one, block_in_two, find_in_two, append_from_one, append_from_two};
+use crate::section_pair::{
+    append_from_one, append_from_two, block_in_one, block_in_two, find_in_two,
+};
 use hdt_front::{ReadFault, Section};
 use hdt_seq::Steps;
 use hdt_wire::{Kind, Role, read_control};

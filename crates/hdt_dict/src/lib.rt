@@ -22,16 +22,16 @@
 //! one vector.
 #![tactic(auto)]
 
-mod disjoint;
 mod arena;
 mod dictionary;
+mod disjoint;
 mod laws;
-mod string_batch;
 mod merge;
 mod overlap;
 mod parts;
-mod section_pair;
 mod role_cursor;
+mod section_pair;
+mod string_batch;
 mod writing;
 
 pub use arena::Arena;
@@ -43,4 +43,4 @@ pub use laws::{
 };
 pub use parts::{Parts, split};
 pub use role_cursor::RoleCursor;
-pub use writing::{put_dictionary, finish_dictionary};
+pub use writing::{finish_dictionary, put_dictionary};

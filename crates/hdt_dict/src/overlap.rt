@@ -10,7 +10,12 @@ use std::cmp::Ordering;
 /// Updates the ordering of a cursor's string and another one, and the length of their longest common prefix, after one
 /// of them advanced to a string that shares `kept` bytes with it. If `kept` is greater than that length, nothing
 /// changes; else the strings are compared from byte `kept` on.
-fn update_comparison(cursor: &Cursor<'_>, x: &[u8], kept: usize, comparison: (Ordering, usize)) -> (Ordering, usize)
+fn update_comparison(
+    cursor: &Cursor<'_>,
+    x: &[u8],
+    kept: usize,
+    comparison: (Ordering, usize),
+) -> (Ordering, usize)
     requires { IsStaleComparison kept comparison cursor.now x.now }
     ensures { IsComparison result cursor.now x.now }
 {

@@ -116,7 +116,10 @@ fn copy_list<'a>(alloc: Global, list: &[&'a [u8]]) -> Result<Vec<&'a [u8]>, Allo
 
 /// Returns the distinct strings of a list in ascending order: by unsigned bytes, a prefix before longer strings. Time:
 /// one sort. No string is copied.
-pub(crate) fn sort_dedup_strings<'a>(alloc: Global, list: &[&'a [u8]]) -> Result<Vec<&'a [u8]>, AllocError>
+pub(crate) fn sort_dedup_strings<'a>(
+    alloc: Global,
+    list: &[&'a [u8]],
+) -> Result<Vec<&'a [u8]>, AllocError>
     ensures ascending { IfOk result (λ made. IsAscending (borrowed_texts made.items)) }
     ensures same { IfOk result (λ made. SameMembers (borrowed_texts made.items) (borrowed_texts list.now)) }
 {

@@ -199,7 +199,14 @@ impl<'a> Dictionary<'a> {
                 ends,
                 steps,
             ),
-            Role::Predicate => append_batch_from_one(alloc, &self.predicates, numbers, out, ends, steps),
+            Role::Predicate => append_batch_from_one(
+                alloc,
+                &self.predicates,
+                numbers,
+                out,
+                ends,
+                steps,
+            ),
             Role::Object => append_batch_from_two(
                 alloc,
                 &self.shared,

@@ -7,7 +7,7 @@ ghost use Rattle.hdt_dict.specs.Writing.{AreSections, canonical_dictionary, cano
 
 use crate::parts::Parts;
 use hdt_front::{SectionWriter, put_section};
-use hdt_wire::{Kind, truncate_on_error, put_control};
+use hdt_wire::{Kind, put_control, truncate_on_error};
 use std::alloc::{AllocError, Global};
 
 /// Appends a dictionary; an error may leave its first bytes.

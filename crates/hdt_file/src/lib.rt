@@ -28,25 +28,23 @@ mod dictionary;
 mod fault;
 mod graph;
 mod head;
+mod laws;
 mod layout;
 mod opening;
+mod rendering;
 mod search;
-mod term_writing;
 mod term_tables;
+mod term_writing;
 mod text;
-mod laws;
 mod tight;
 
 pub use dictionary::{head_and_dictionary_are_exact, read_dictionary};
 pub use fault::{DumpFault, OpenFault};
 pub use graph::Graph;
 pub use head::{Head, one_head, read_head};
+pub use laws::{denoted_triples_are_distinct, one_text, search_is_a_filter, text_is_a_document};
 pub use layout::Layout;
 pub use opening::{layouts_are_graphs, one_layout, open, verify};
-pub use laws::{search_is_a_filter, denoted_triples_are_distinct};
 pub use term_writing::TermWriter;
-pub use text::{
-    append_graph_text, graph_text, layout_text, write_graph,
-};
-pub use laws::{one_text, text_is_a_document};
+pub use text::{append_graph_text, graph_text, layout_text, write_graph};
 pub use tight::{one_tight_layout, open_tight, verify_tight};

@@ -76,7 +76,12 @@ fn is_marked(marks: &[bool], number: u64) -> bool
 }
 
 /// Appends a string of a role as it is written in a line, if its ID is marked.
-fn put_rendered_if_marked(marked: bool, role: Role, string: &[u8], out: &mut Vec<u8>) -> Result<(), AllocError>
+fn put_rendered_if_marked(
+    marked: bool,
+    role: Role,
+    string: &[u8],
+    out: &mut Vec<u8>,
+) -> Result<(), AllocError>
     ensures { OnOk result (AppendsRenderedIfMarked marked role string.now out.old.items out.new.items) }
 {
     if marked {
@@ -186,7 +191,12 @@ fn append_line_from_tables(
 {
     let (s, p, o) = triple;
     append_rendered(Role::Subject, s, rendered_string(&tables.subjects, s), out)?;
-    append_rendered(Role::Predicate, p, rendered_string(&tables.predicates, p), out)?;
+    append_rendered(
+        Role::Predicate,
+        p,
+        rendered_string(&tables.predicates, p),
+        out,
+    )?;
     append_rendered(Role::Object, o, object, out)?;
     Ok(())
 }

@@ -17,7 +17,7 @@ use crate::fault::DumpFault;
 use crate::layout::Layout;
 use hdt_dict::Role;
 use hdt_seq::Steps;
-use hdt_terms::{TermKind, StringFault, put_string};
+use hdt_terms::{StringFault, TermKind, put_string};
 use hdt_wire::truncate_on_error;
 use std::alloc::{AllocError, Global};
 
@@ -312,9 +312,7 @@ pub(crate) fn append_line(
     ensures left { OnErr result (IsPrefixOf out.old.items out.new.items) }
 {
     let (subject, predicate, object) = triple;
-    term_writer
-        .subject
-        .put(layout, Role::Subject, subject, &mut term_writer.string, out)?;
+    term_writer.subject.put(layout, Role::Subject, subject, &mut term_writer.string, out)?;
     term_writer.put_predicate(layout, predicate, out)?;
     term_writer.put_object(layout, object, out)
 }

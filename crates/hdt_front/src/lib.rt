@@ -23,32 +23,30 @@
 //! section, and specs/`Canonical` its canonical bytes. specs/Laws has the laws that other crates use.
 #![tactic(auto)]
 
-mod lcp;
 mod cursor;
-mod laws;
-mod packed;
+mod decode;
 mod entry;
+mod laws;
+mod lcp;
+mod packed;
 mod reading;
 mod scan;
 mod search;
 mod section;
+mod section_iter;
 mod section_writer;
 mod seeker;
 mod string;
-mod decode;
-mod section_iter;
 mod writing;
 
-pub use lcp::{common_prefix, cmp_from};
 pub use cursor::Cursor;
-pub use section::ReadFault;
-pub use section::are_section_strings;
 pub use laws::{
     blocks_are_least, look_ups_are_inverse, one_section, section_is_read_again, sections_are_exact,
     string_places,
 };
-pub use section::Section;
+pub use lcp::{cmp_from, common_prefix};
+pub use section::{ReadFault, Section, are_section_strings};
+pub use section_iter::SectionIter;
 pub use section_writer::SectionWriter;
 pub use seeker::Seeker;
-pub use section_iter::SectionIter;
 pub use writing::{borrow_strings, put_section};

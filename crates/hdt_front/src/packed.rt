@@ -9,8 +9,8 @@ ghost use Rattle.hdt_front.specs.StringChecks.{rest_offset, prefix_check, check_
 
 use crate::decode::{ascends, decode_and_validate, decode_over};
 use crate::entry::{read_ascii_entry, read_leading_vbyte};
-use crate::section::ReadFault;
 use crate::scan::text_len_and_ascii;
+use crate::section::ReadFault;
 use hdt_seq::Numbers;
 use hdt_wire::{Fault, Reason, demand};
 use std::alloc::Global;

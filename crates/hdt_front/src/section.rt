@@ -140,7 +140,9 @@ impl From<hdt_wire::Fault> for ReadFault {
 fn can_follow(first: bool, before: &[u8], string: &[u8]) -> bool
     ensures { result ≡ (is_utf8 string.now && (nat_eq (len_before_zero string.now) (length string.now) && (first || precedes before.now string.now))) }
 {
-    valid(string) && len_before_zero(string) == string.len() && (first || before.cmp(string).is_lt())
+    valid(string)
+        && len_before_zero(string) == string.len()
+        && (first || before.cmp(string).is_lt())
 }
 
 /// Returns whether the strings can form a section: each is UTF-8 without a zero byte, and they ascend strictly by

@@ -5,10 +5,10 @@ ghost use Rattle.hdt_front.specs.Decoding.{kept, bytes_from_suffix, suffix_of, a
 ghost use Rattle.hdt_front.specs.SectionIteration.{located_strings};
 ghost use Rattle.hdt_front.specs.Iteration.{step_iter, next_offset, first_lcp};
 
-use crate::packed::PackedStrings;
-use crate::entry::split_entry;
-use crate::section::Section;
 use crate::decode::decode_over;
+use crate::entry::split_entry;
+use crate::packed::PackedStrings;
+use crate::section::Section;
 use std::alloc::{AllocError, Global};
 use std::marker::Model;
 

@@ -9,11 +9,11 @@ ghost use Rattle.hdt_front.specs.Searching.{lcp_len};
 ghost use Rattle.hdt_front.specs.Canonical.{entry_with_prefix, encode_entry, canonical, canonical_parts};
 ghost use Rattle.hdt_front.specs.WriterState.{last_string};
 
-use crate::lcp::common_prefix;
 use crate::decode::decode_over;
+use crate::lcp::common_prefix;
 use byteorder::{ByteOrder, LittleEndian};
 use hdt_seq::put_numbers;
-use hdt_wire::{check8, check32, truncate_on_error, put_vbyte};
+use hdt_wire::{check8, check32, put_vbyte, truncate_on_error};
 use std::alloc::{AllocError, Global};
 use std::marker::Model;
 
@@ -108,7 +108,12 @@ fn push_entry(
 }
 
 /// Appends the section preamble with its CRC. An error may leave a prefix of it.
-fn append_preamble(count: u64, size: u64, block_size: u32, out: &mut Vec<u8>) -> Result<(), AllocError>
+fn append_preamble(
+    count: u64,
+    size: u64,
+    block_size: u32,
+    out: &mut Vec<u8>,
+) -> Result<(), AllocError>
     ensures ok { OnOk result (out.new.items ≡ out.old.items ++ (section_preamble count size block_size ++ crc8 (section_preamble count size block_size) ∷ [])) }
     ensures err { OnErr result (IsPrefixOf out.old.items out.new.items) }
 {

@@ -3,9 +3,9 @@ ghost use Rattle.std.specs.Prelude.{◌≡◌, ◌≤◌, ◌<◌, ◌+◌, ◌-
 ghost use Rattle.hdt_front.specs.Strings.{strings_of, blocks_of, block_size};
 ghost use Rattle.hdt_front.specs.SeekerState.{seeker_at, strings_before_block};
 
+use crate::decode::decode_over;
 use crate::entry::split_entry;
 use crate::section::Section;
-use crate::decode::decode_over;
 use hdt_seq::Steps;
 use std::alloc::{AllocError, Global};
 use std::marker::Model;

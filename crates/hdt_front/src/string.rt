@@ -7,7 +7,7 @@ ghost use Rattle.hdt_front.specs.EntryFacts.{IsPartlyDecoded};
 ghost use Rattle.hdt_front.specs.Inside.LoadRuns.{IsLoadRun};
 ghost use Rattle.hdt_front.specs.Strings.{strings_of, block_size};
 
-use crate::entry::{split_entry, one_byte_vbyte};
+use crate::entry::{one_byte_vbyte, split_entry};
 use crate::scan::{LANES, first_set};
 use crate::section::Section;
 use hdt_seq::Steps;
@@ -125,7 +125,13 @@ fn append_string(
     let start = out.len();
     let many = i % section.packed.block + 1;
     let mut buffer = [0; BUFFER_LEN];
-    let (done, len, left) = decode_in_buffer(section, i / section.packed.block, many, &mut buffer, steps);
+    let (done, len, left) = decode_in_buffer(
+        section,
+        i / section.packed.block,
+        many,
+        &mut buffer,
+        steps,
+    );
     out.extend_from_slice(&buffer[..len])?;
     let (_, text, mut rest) = split_entry(true, left);
     extend_by(text, out)?;

@@ -28,7 +28,10 @@ fn put_borrowed_section(
 }
 
 /// Returns the vectors as slices, in order. Takes time and memory linear in their number.
-pub fn borrow_strings<'a>(alloc: Global, strings: &'a [Vec<u8>]) -> Result<Vec<&'a [u8]>, AllocError>
+pub fn borrow_strings<'a>(
+    alloc: Global,
+    strings: &'a [Vec<u8>],
+) -> Result<Vec<&'a [u8]>, AllocError>
     ensures { IfOk result (λ r. borrowed_texts r.items ≡ texts strings.now) }
 {
     let mut slices = Vec::with_capacity(alloc, strings.len())?;

@@ -1,7 +1,7 @@
 //! The arguments of a request.
 
+use crate::piece_reader::{Failure, PieceReader, ReadPlan};
 use crate::piece_writer::PieceWriter;
-use crate::piece_reader::{Failure, ReadPlan, PieceReader};
 use hdt_wire::{Counted, Kind, Reason, Role};
 use hex::FromHexError;
 use std::alloc::Global;
@@ -263,7 +263,11 @@ impl<'a> Args<'a> {
             return (None, Failure::Error, by_bytes);
         }
         match count.split_once(':') {
-            Some((count, failure)) => (Some(self.number_in(count)), self.failure(failure), by_bytes),
+            Some((count, failure)) => (
+                Some(self.number_in(count)),
+                self.failure(failure),
+                by_bytes,
+            ),
             None => (Some(self.number_in(count)), Failure::Error, by_bytes),
         }
     }

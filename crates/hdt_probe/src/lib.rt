@@ -9,17 +9,17 @@
 #![tactic(auto)]
 
 mod args;
-mod state;
+mod piece_reader;
+mod piece_writer;
 mod reason;
 mod reply;
+mod state;
 mod stats;
-mod piece_writer;
-mod piece_reader;
 
 pub use args::Args;
-pub use state::{State, split_request};
+pub use piece_reader::{PieceReader, ReadPlan};
+pub use piece_writer::PieceWriter;
 pub use reason::reason_of;
 pub use reply::{Reply, role_number};
+pub use state::{State, split_request};
 pub use stats::Stats;
-pub use piece_writer::PieceWriter;
-pub use piece_reader::{ReadPlan, PieceReader};

@@ -109,7 +109,10 @@ impl Read for PieceReader<'_> {
             self.fail()?;
             return Ok(0);
         }
-        let most = self.next_len(buf.len()).min(buf.len()).min(self.bytes.len());
+        let most = self
+            .next_len(buf.len())
+            .min(buf.len())
+            .min(self.bytes.len());
         let (given, rest) = self.bytes.split_at(most);
         buf[..most].copy_from_slice(given);
         self.bytes = rest;

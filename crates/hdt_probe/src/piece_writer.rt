@@ -1,7 +1,7 @@
 //! A writer that takes its bytes piece by piece and can fail.
 
-use crate::stats::Stats;
 use crate::piece_reader::Failure;
+use crate::stats::Stats;
 use std::alloc::Global;
 use std::io;
 use std::io::Write;

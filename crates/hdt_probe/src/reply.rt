@@ -1,9 +1,9 @@
 //! The answer to a request: values, each after a space, or an error.
 
 use crate::args::Args;
-use crate::stats::Stats;
-use crate::piece_writer::PieceWriter;
 use crate::piece_reader::PieceReader;
+use crate::piece_writer::PieceWriter;
+use crate::stats::Stats;
 use hdt_wire::{Counted, Fault, Role, put_decimal};
 use std::alloc::{AllocError, Global};
 use std::cmp::Ordering;

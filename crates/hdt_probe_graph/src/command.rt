@@ -1,10 +1,11 @@
 //! Calls of hdt_tool and hdt_usage: parsing command-line arguments.
 
 use hdt_build::Options;
-use hdt_tool::{
-    Action, AnswerOptions, OutputFormat, Request, UsageFault, parse_invocation, parse_words, usage_line,
-};
 use hdt_probe::{Args, Reply, role_number};
+use hdt_tool::{
+    Action, AnswerOptions, OutputFormat, Request, UsageFault, parse_invocation, parse_words,
+    usage_line,
+};
 use hdt_usage::make_command_table;
 
 /// The words of this module, each with its number of arguments.
@@ -93,7 +94,11 @@ fn reply_search(action: &Action, reply: &mut Reply) {
             reply_given(given, reply);
             reply.boolean(*numbers)
         }
-        Action::Search { given, format, most } => {
+        Action::Search {
+            given,
+            format,
+            most,
+        } => {
             reply.word("search");
             reply_given(given, reply);
             reply.number(form_number(*format));

@@ -3,12 +3,12 @@
 use crate::command::{reply_usage_fault, texts_of};
 use crate::faults::{line_reason_of, reply_line_fault};
 use crate::open::graph_of;
-use hdt_tool::{
-    AnswerOptions, OutputFormat, Request, ToolFault, UsageFault, TermArgument, answer_file, answer_requests, fault_line,
-    parse_words, run, run_with_capacity, usage_line,
-};
 use hdt_probe::{Args, Reply};
 use hdt_terms::{LineFault, TermFault};
+use hdt_tool::{
+    AnswerOptions, OutputFormat, Request, TermArgument, ToolFault, UsageFault, answer_file,
+    answer_requests, fault_line, parse_words, run, run_with_capacity, usage_line,
+};
 use hdt_wire::Fault;
 use std::alloc::AllocError;
 
@@ -95,7 +95,9 @@ fn reply_run_in(args: &mut Args<'_>, reply: &mut Reply) {
     let Some(request) = request_of(args, reply) else {
         return;
     };
-    if let Err(fault) = run_with_capacity(args.alloc, &request, &mut input, capacity, &mut out, &mut made) {
+    if let Err(fault) = run_with_capacity(
+        args.alloc, &request, &mut input, capacity, &mut out, &mut made,
+    ) {
         reply_tool_fault(fault, reply);
     }
     let _left = reply.finish_reader(input);
@@ -153,7 +155,9 @@ fn reply_answer_file(args: &mut Args<'_>, reply: &mut Reply) {
     let mut out = args.sink();
     let requests = args.bytes();
     let mut input = plan.source(&requests);
-    let answered = answer_file(args.alloc, asking, &mut file, capacity, &mut input, &mut out);
+    let answered = answer_file(
+        args.alloc, asking, &mut file, capacity, &mut input, &mut out,
+    );
     reply_answered(answered, reply);
     let _left = reply.finish_reader(input);
     reply.finish_writer(out)

@@ -10,8 +10,7 @@ use hdt_triples::Pattern;
 use std::alloc::AllocError;
 
 /// The words of this module, each with its number of arguments.
-pub(crate) const WORDS: &str =
-    "graph_text 1+ layout_text 2+ append_graph_text 1+ write_graph 3+";
+pub(crate) const WORDS: &str = "graph_text 1+ layout_text 2+ append_graph_text 1+ write_graph 3+";
 
 /// Answers a request with one of these words. Returns false if the word is not one of them.
 pub(crate) fn answer(word: &str, args: &mut Args<'_>, reply: &mut Reply) -> bool {

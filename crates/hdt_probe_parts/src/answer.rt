@@ -1,9 +1,10 @@
 //! Answers one request.
 
 use crate::{
-    arena, counted, dict, dict_writing, front, front_writing, search, seq, triples, section_cursors, wire,
+    arena, counted, dict, dict_writing, front, front_writing, search, section_cursors, seq,
+    triples, wire,
 };
-use hdt_probe::{Args, State, Reply, split_request};
+use hdt_probe::{Args, Reply, State, split_request};
 use std::alloc::{AllocError, Global};
 
 /// The words of this module, each with its number of arguments.

@@ -2,7 +2,7 @@
 
 use hdt_probe::{Args, Reply};
 use hdt_seq::Steps;
-use hdt_wire::{Counted, Failed, Fault, GhostCounter, truncate_on_error, demand};
+use hdt_wire::{Counted, Failed, Fault, GhostCounter, demand, truncate_on_error};
 use std::mem::size_of;
 
 /// The words of this module, each with its number of arguments.

@@ -6,7 +6,7 @@ ghost use Rattle.hdt_dict.specs.Split.{lists_of_parts};
 ghost use Rattle.hdt_dict.specs.DictionaryString.{IsDictionaryString};
 ghost use Rattle.hdt_dict.specs.Writing.{AreSections};
 
-use hdt_dict::{Parts, SectionWriter, put_dictionary, finish_dictionary, split};
+use hdt_dict::{Parts, SectionWriter, finish_dictionary, put_dictionary, split};
 use hdt_front::borrow_strings;
 use hdt_probe::{Args, Reply};
 use std::alloc::{AllocError, Global};
@@ -99,7 +99,11 @@ fn hold_valid_strings(alloc: Global, list: &[Vec<u8>]) -> Result<bool, AllocErro
 }
 
 /// A section writer that has been given these strings.
-fn section_writer_of(alloc: Global, strings: &[&[u8]], block_size: u32) -> Result<SectionWriter, AllocError>
+fn section_writer_of(
+    alloc: Global,
+    strings: &[&[u8]],
+    block_size: u32,
+) -> Result<SectionWriter, AllocError>
     requires strings { AreSectionStrings (borrowed_texts strings.now) }
     requires block { 1 ≤ block_size }
     ensures { IfOk result (λ w. w ≡ record { block_size = block_size; strings = borrowed_texts strings.now }) }

@@ -1,6 +1,6 @@
 //! Calls of hdt_front: reading sections, and comparing strings.
 
-use hdt_front::{ReadFault, Section, are_section_strings, common_prefix, cmp_from, borrow_strings};
+use hdt_front::{ReadFault, Section, are_section_strings, borrow_strings, cmp_from, common_prefix};
 use hdt_probe::{Args, Reply};
 use hdt_seq::Steps;
 
@@ -34,7 +34,10 @@ pub(crate) fn reply_read_fault(fault: ReadFault, reply: &mut Reply) {
 }
 
 /// Reads the section at an offset, or reports its error.
-pub(crate) fn section_at<'a>(args: &mut Args<'a>, reply: &mut Reply) -> Option<(Section<'a>, usize)> {
+pub(crate) fn section_at<'a>(
+    args: &mut Args<'a>,
+    reply: &mut Reply,
+) -> Option<(Section<'a>, usize)> {
     match Section::read(args.alloc, args.file, args.size()) {
         Ok(read) => Some(read),
         Err(fault) => {

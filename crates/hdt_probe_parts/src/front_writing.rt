@@ -1,7 +1,7 @@
 //! Calls of hdt_front: writing sections.
 
 use crate::wire::has_no_zero;
-use hdt_front::{SectionWriter, are_section_strings, common_prefix, borrow_strings, put_section};
+use hdt_front::{SectionWriter, are_section_strings, borrow_strings, common_prefix, put_section};
 use hdt_probe::{Args, Reply};
 use std::alloc::{AllocError, Global};
 

@@ -10,9 +10,9 @@ mod dict_writing;
 mod front;
 mod front_writing;
 mod search;
+mod section_cursors;
 mod seq;
 mod triples;
-mod section_cursors;
 mod wire;
 
 use crate::answer::answer_line;

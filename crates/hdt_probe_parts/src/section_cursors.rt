@@ -1,7 +1,7 @@
 //! Calls of hdt_front: iterating over the strings of a section.
 
 use crate::front::section_at;
-use hdt_front::{Cursor, Seeker, SectionIter};
+use hdt_front::{Cursor, SectionIter, Seeker};
 use hdt_probe::{Args, Reply};
 use hdt_seq::Steps;
 

@@ -27,7 +27,10 @@ pub(crate) fn answer(word: &str, args: &mut Args<'_>, reply: &mut Reply) -> bool
 }
 
 /// Reads the triples at an offset, with the number of strings of each role; or reports their error.
-pub(crate) fn triples_at<'a>(args: &mut Args<'a>, reply: &mut Reply) -> Option<(Triples<'a>, usize)> {
+pub(crate) fn triples_at<'a>(
+    args: &mut Args<'a>,
+    reply: &mut Reply,
+) -> Option<(Triples<'a>, usize)> {
     let at = args.size();
     let counts = Counts {
         subjects: args.number(),

@@ -4,8 +4,8 @@ ghost use Rattle.hdt_wire.specs.Control.{HasNoZero};
 
 use hdt_probe::{Args, Reply};
 use hdt_wire::{
-    bytes_at, check8, check16, check32, property, put_control, put_decimal, put_vbyte,
-    read_control, read_vbyte, text_at, vbyte_len, len_before_zero,
+    bytes_at, check8, check16, check32, len_before_zero, property, put_control, put_decimal,
+    put_vbyte, read_control, read_vbyte, text_at, vbyte_len,
 };
 
 /// The words of this module, each with its number of arguments.

@@ -1,7 +1,7 @@
 //! Answers one request.
 
 use crate::{faults, lines, requests, terms};
-use hdt_probe::{Args, State, Reply, split_request};
+use hdt_probe::{Args, Reply, State, split_request};
 use std::alloc::{AllocError, Global};
 
 /// The words of this module, each with its number of arguments.

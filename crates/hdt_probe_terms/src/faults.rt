@@ -4,7 +4,8 @@ use hdt_probe::{Args, Reply};
 use hdt_terms::{LineFault, LineReason, StringFault, TermFault};
 
 /// The words of this module, each with its number of arguments.
-pub(crate) const WORDS: &str = "line_reason 1 term_fault_text 2 line_fault_text 3 string_fault_text 1";
+pub(crate) const WORDS: &str =
+    "line_reason 1 term_fault_text 2 line_fault_text 3 string_fault_text 1";
 
 /// Answers a request with one of these words. Returns false if the word is not one of them.
 pub(crate) fn answer(word: &str, args: &mut Args<'_>, reply: &mut Reply) -> bool {

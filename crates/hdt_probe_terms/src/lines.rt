@@ -2,7 +2,7 @@
 
 use crate::faults::reply_line_fault;
 use crate::terms::reply_string_of;
-use hdt_probe::{Args, Reply, PieceReader};
+use hdt_probe::{Args, PieceReader, Reply};
 use hdt_terms::{LineFault, Lines, Triple};
 use hdt_wire::Counted;
 
@@ -24,7 +24,10 @@ pub(crate) fn answer(word: &str, args: &mut Args<'_>, reply: &mut Reply) -> bool
 }
 
 /// The lines of a reader of the input, with a limit on its bytes.
-fn lines_of<'a>(args: &mut Args<'a>, reply: &mut Reply) -> Option<(Lines, Counted<PieceReader<'a>>)> {
+fn lines_of<'a>(
+    args: &mut Args<'a>,
+    reply: &mut Reply,
+) -> Option<(Lines, Counted<PieceReader<'a>>)> {
     let limit = args.number();
     if limit >= 1 << 63 {
         reply.refused();

@@ -3,7 +3,7 @@
 use crate::faults::{reply_string_fault, reply_term_fault};
 use hdt_probe::{Args, Reply};
 use hdt_terms::{
-    TermKind, Suffix, Term, is_iri, parse_string, parse_term, put_string, put_term, string_term,
+    Suffix, Term, TermKind, is_iri, parse_string, parse_term, put_string, put_term, string_term,
     term_string,
 };
 

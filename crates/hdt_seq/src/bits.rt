@@ -1,9 +1,9 @@
 //! Bitmaps: eight bits a byte.
 ghost use Rattle.std.specs.Prelude.{◌≡◌, ◌+◌, ◌*◌, ◌%◌, ◌^◌, ◌<◌, ◌≤◌, ℕ, length};
 
+use crate::bit_access::{read_bit, read_bits};
 use crate::checks::{byte_at, crc8_at, packed_at};
 use crate::steps::Steps;
-use crate::bit_access::{read_bit, read_bits};
 use hdt_wire::{Fault, Reason, demand, read_vbyte};
 
 /// A bitmap that was read. It borrows its bytes from the input.

@@ -22,19 +22,19 @@
 //! select, are in specs/Laws: `Numbers`, `Bits`, `RankSelect`.
 #![tactic(auto)]
 
+mod bit_access;
 mod bits;
+mod checks;
 mod directory;
 mod numbers;
 mod packing;
-mod checks;
 mod steps;
-mod bit_access;
 mod writing;
 
 pub use bits::Bits;
+pub use checks::{byte_at, crc8_at, packed_at};
 pub use directory::{Directory, rank_select_inverse};
 pub use numbers::Numbers;
-pub use checks::{byte_at, crc8_at, packed_at};
-pub use steps::Steps;
 pub use packing::width_of;
+pub use steps::Steps;
 pub use writing::{bits_roundtrip, numbers_roundtrip, put_bits, put_numbers};

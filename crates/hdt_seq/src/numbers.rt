@@ -1,8 +1,8 @@
 //! Log sequences: entries of 0 to 64 bits each, packed.
 ghost use Rattle.std.specs.Prelude.{◌≡◌, ◌+◌, ◌*◌, ◌^◌, ◌<◌, ◌≤◌, ℕ, length};
 
-use crate::checks::{byte_at, crc8_at, packed_at};
 use crate::bit_access::read_entry;
+use crate::checks::{byte_at, crc8_at, packed_at};
 use hdt_wire::{Fault, Reason, demand, read_vbyte};
 
 /// A log sequence that was read. It borrows its packed bytes from the input.

@@ -7,7 +7,7 @@ ghost use Rattle.hdt_seq.specs.PackedBits.{bit_number, packed, packed_bits};
 ghost use Rattle.hdt_seq.specs.Width.{greatest, width_of};
 
 use byteorder::{ByteOrder, LittleEndian};
-use hdt_wire::{check32, check8};
+use hdt_wire::{check8, check32};
 use std::alloc::AllocError;
 
 /// Pending bits: fewer than 64, as the lowest bits of a word.
@@ -32,7 +32,12 @@ fn append_bytes(word: u128, count: u8, out: &mut Vec<u8>) -> Result<(), AllocErr
 }
 
 /// Adds an entry to the pending bits; 64 bits are appended as eight bytes.
-fn append_entry(rest: &mut PendingBits, entry: u64, width: u8, out: &mut Vec<u8>) -> Result<(), AllocError>
+fn append_entry(
+    rest: &mut PendingBits,
+    entry: u64,
+    width: u8,
+    out: &mut Vec<u8>,
+) -> Result<(), AllocError>
     requires narrow { width ≤ 64 }
     requires filled { rest.old.filled < 64 }
     requires small { rest.old.word < 2 ^ rest.old.filled }

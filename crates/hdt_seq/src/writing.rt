@@ -7,7 +7,7 @@ ghost use Rattle.hdt_seq.specs.PackedBits.{EachFits};
 ghost use Rattle.hdt_seq.specs.Numbers.{EncodesNumbers, numbers_at, numbers_offsets_at, numbers_encoding};
 ghost use Rattle.hdt_seq.specs.Bits.{EncodesBits, bits_at, bits_offsets_at, bits_encoding};
 
-use crate::packing::{append_bits, append_crc32, append_crc8, append_entries, width_of};
+use crate::packing::{append_bits, append_crc8, append_crc32, append_entries, width_of};
 use hdt_wire::{put_vbyte, truncate_on_error};
 use std::alloc::AllocError;
 

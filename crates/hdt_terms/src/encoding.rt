@@ -5,8 +5,8 @@ ghost use Rattle.std.specs.Str.Lossy.{utf8_valid_len};
 ghost use Rattle.hdt_terms.specs.Faults.{not_utf8_at};
 ghost use Rattle.hdt_terms.specs.Terms.{IsText};
 
-use crate::fault::{LineReason, TermFault};
 use crate::byte_runs::{ByteClass, run_len};
+use crate::fault::{LineReason, TermFault};
 
 /// Whether the bytes are ASCII without U+0000, as most texts are.
 pub(crate) fn is_ascii_text(bytes: &[u8]) -> bool

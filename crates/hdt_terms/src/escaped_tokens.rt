@@ -8,9 +8,9 @@ ghost use Rattle.hdt_terms.specs.Appending.{AppendsRead, identity_bytes};
 ghost use Rattle.hdt_terms.specs.Writing.{Extends};
 ghost use Rattle.hdt_terms.specs.declared.fault.ReadError.TheVariants.{Memory};
 
+use crate::byte_runs::{ByteClass, run_len};
 use crate::chars::{hex_value, is_iri_char, is_string_char};
 use crate::fault::{LineReason, ReadError, refuse};
-use crate::byte_runs::{ByteClass, run_len};
 use std::alloc::{AllocError, Global};
 
 /// A token with escapes: production IRIREF or STRING_LITERAL_QUOTE.
@@ -234,7 +234,11 @@ fn content_at_end<'a>(
 
 /// Appends the content of a token, with its escapes decoded, and returns the bytes after its end.
 #[inline(always)]
-pub(crate) fn token_content<'a>(token: Token, bytes: &'a [u8], out: &mut Vec<u8>) -> Result<&'a [u8], ReadError>
+pub(crate) fn token_content<'a>(
+    token: Token,
+    bytes: &'a [u8],
+    out: &mut Vec<u8>,
+) -> Result<&'a [u8], ReadError>
     ensures reads { AppendsRead identity_bytes out.old.items out.new.items (λ rest. rest.now) result (token_content token 0 bytes.now) }
     ensures kept { Extends out.old.items out.new.items }
 {
@@ -245,7 +249,11 @@ pub(crate) fn token_content<'a>(token: Token, bytes: &'a [u8], out: &mut Vec<u8>
 /// The content of a token, with its escapes decoded, and the bytes after its end. Without escapes it allocates exactly
 /// its length.
 #[inline(always)]
-pub(crate) fn read_token_content(alloc: Global, token: Token, bytes: &[u8]) -> Result<(Vec<u8>, &[u8]), ReadError>
+pub(crate) fn read_token_content(
+    alloc: Global,
+    token: Token,
+    bytes: &[u8],
+) -> Result<(Vec<u8>, &[u8]), ReadError>
     ensures { ReturnsUnlessOom (λ x. (x.0.items, x.1.now)) result (token_content token 0 bytes.now) }
 {
     let (plain, rest) = bytes.split_at(plain_len(token, bytes));

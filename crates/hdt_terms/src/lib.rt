@@ -30,35 +30,36 @@
 #![tactic(auto)]
 
 mod buffer;
+mod byte_runs;
 mod chars;
-mod transcode;
 mod encoding;
+mod escaped_tokens;
 mod fault;
-mod line_buffer;
 mod iri;
 mod label;
-mod byte_runs;
 mod laws;
-mod term_refs;
 mod line;
+mod line_buffer;
+mod line_prefix;
 mod lines;
 mod literal;
 mod parse;
-mod escaped_tokens;
 mod put;
 mod raw_request;
 mod request;
 mod strings;
 mod tag;
+mod term_refs;
 mod text;
+mod transcode;
 mod triple;
 
 pub use fault::{LineFault, LineReason, StringFault, TermFault};
 pub use iri::is_iri;
 pub use laws::{
-    line_or_fault, longest_label, longest_tag, text_encodes_one_term, term_string_is_injective, raw_requests,
-    request_or_fault, triples_so_far, lines_so_far, strings_are_texts, term_error_table,
-    term_or_fault, written_text_encodes_term,
+    line_or_fault, lines_so_far, longest_label, longest_tag, raw_requests, request_or_fault,
+    strings_are_texts, term_error_table, term_or_fault, term_string_is_injective,
+    text_encodes_one_term, triples_so_far, written_text_encodes_term,
 };
 pub use lines::Lines;
 pub use parse::{parse_string, parse_term};
@@ -66,6 +67,5 @@ pub use put::{put_string, put_term};
 pub use raw_request::read_raw_request;
 pub use request::read_request;
 pub use strings::{string_term, term_string};
-pub use triple::{TermKind, Suffix, Term};
 pub use text::Text;
-pub use triple::Triple;
+pub use triple::{Suffix, Term, TermKind, Triple};

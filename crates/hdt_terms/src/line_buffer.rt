@@ -6,9 +6,9 @@ ghost use Rattle.hdt_terms.specs.Lines.{HasNoLineEnd};
 ghost use Rattle.hdt_terms.specs.declared.fault.LineReason.TheVariants.{Read};
 
 use crate::buffer::Buffer;
+use crate::byte_runs::{ByteClass, run_len};
 use crate::chars::is_line_end;
 use crate::fault::LineReason;
-use crate::byte_runs::{ByteClass, run_len};
 use hdt_wire::{Counted, Failed};
 use std::io::Read;
 

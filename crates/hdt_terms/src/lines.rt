@@ -1,16 +1,16 @@
 //! The lines of a document, from any reader.
-ghost use Rattle.std.specs.Prelude.{◌≡◌, ◌≢◌, ◌+◌, ◌++◌, ◌-◌, ◌==◌, take, slice_index, ◌^◌, ◌<◌, ◌≤◌, true, false, [], length, IfOk, OnOk, OnErr, IfErr, IsErrOf, IsUtf8, None, Some, Ok, Err, IfSome};
+ghost use Rattle.std.specs.Prelude.{◌≡◌, ◌≢◌, ◌+◌, ◌-◌, ◌==◌, take, slice_index, ◌^◌, ◌<◌, ◌≤◌, true, false, [], length, IfOk, OnOk, IfErr, IsErrOf, IsUtf8, None, Some, Ok, Err, IfSome};
 ghost use Rattle.hdt_wire.specs.Counted.{inner, failures};
 ghost use Rattle.hdt_terms.specs.Chars.{is_line_end};
-ghost use Rattle.hdt_terms.specs.Inside.LineBuffer.{BuffersLine, ReadMore, text_len};
+ghost use Rattle.hdt_terms.specs.Inside.LineBuffer.{BuffersLine, text_len};
 ghost use Rattle.hdt_terms.specs.Lines.{HasNoLineEnd};
-ghost use Rattle.hdt_terms.specs.declared.fault.LineReason.TheVariants.{OutOfMemory, Read};
+ghost use Rattle.hdt_terms.specs.declared.fault.LineReason.TheVariants.{Read};
 
 use crate::buffer::Buffer;
 use crate::encoding::check_beyond_ascii;
 use crate::fault::{LineFault, LineReason, TermFault};
-use crate::line_buffer::{buffer_first_line, find_line_end, read_more};
 use crate::line::{is_blank_or_comment, put_triple, read_triple};
+use crate::line_buffer::{buffer_first_line, find_line_end};
 use crate::triple::Triple;
 use hdt_wire::Counted;
 use std::alloc::{AllocError, Global};
@@ -32,14 +32,14 @@ use std::marker::Model;
 /// ```
 #[derive(Drop)]
 pub struct Lines {
-    alloc: Global,
-    buffered: Buffer,
-    limit: u64,
-    taken: u64,
-    ends: u64,
-    after_cr: bool,
-    ended: bool,
-    failed: Option<LineFault>,
+    pub(crate) alloc: Global,
+    pub(crate) buffered: Buffer,
+    pub(crate) limit: u64,
+    pub(crate) taken: u64,
+    pub(crate) ends: u64,
+    pub(crate) after_cr: bool,
+    pub(crate) ended: bool,
+    pub(crate) failed: Option<LineFault>,
 }
 
 impl Model for Lines {
@@ -55,8 +55,7 @@ impl Model for Lines {
 
 impl Lines {
     ghost use Rattle.hdt_terms.specs.LineParsing.{is_blank_or_comment};
-    ghost use Rattle.hdt_terms.specs.LinesTexts.{TakesLinePrefix, IsNextLineError, ReturnsNextPrefix, TextClearedUnlessFound};
-    ghost use Rattle.hdt_terms.specs.LinesReader.{HasBufferedLine, LinesState, start, left, line_number, take_bytes, take_line, ChecksLine, ParsesTriple, ParsesTripleStrings, FindsTripleLine, ReturnsNextTriple, ReturnsNextStrings, StringsClearedUnlessFound};
+    ghost use Rattle.hdt_terms.specs.LinesReader.{HasBufferedLine, start, left, line_number, take_bytes, take_line, ChecksLine, ParsesTriple, ParsesTripleStrings, FindsTripleLine, ReturnsNextTriple, ReturnsNextStrings, StringsClearedUnlessFound};
 
     /// Returns a reader of lines at the start of its input. If the input has more than `limit` bytes, the error
     /// [`LineReason::TooLong`] follows the lines that end within the limit. Allocates 64 KiB, whatever the limit.
@@ -106,7 +105,7 @@ impl Lines {
     }
 
     /// An error of the current line.
-    fn fault(&self, column: u64, reason: LineReason) -> LineFault
+    pub(crate) fn fault(&self, column: u64, reason: LineReason) -> LineFault
         ensures { result ≡ record { line = self.now.ends + 1; column = column; reason = reason } }
     {
         LineFault {
@@ -186,7 +185,7 @@ impl Lines {
     }
 
     /// Consumes the line in the first n bytes and its end.
-    fn take_terminated_line(&mut self, n: usize)
+    pub(crate) fn take_terminated_line(&mut self, n: usize)
         requires within { n < length self.old.buffered }
         requires text { HasNoLineEnd (take n self.old.buffered) }
         requires end { is_line_end (slice_index self.old.buffered n) ≡ true }
@@ -202,7 +201,7 @@ impl Lines {
     }
 
     /// Consumes the complete buffer, which has no line end.
-    fn take_buffered(&mut self)
+    pub(crate) fn take_buffered(&mut self)
         requires text { HasNoLineEnd self.old.buffered }
         ensures { self.new ≡ take_bytes self.old (length self.old.buffered) }
     {
@@ -222,7 +221,10 @@ impl Lines {
     }
 
     /// Consumes lines without a triple. Returns the length of the next line with one, or `None` at the end.
-    fn find_triple_line<R: Read>(&mut self, input: &mut Counted<R>) -> Result<Option<usize>, LineFault>
+    fn find_triple_line<R: Read>(
+        &mut self,
+        input: &mut Counted<R>,
+    ) -> Result<Option<usize>, LineFault>
         requires { self.old.ended ≡ false }
         ensures does { FindsTripleLine result self.old self.new (left self.old (R.remaining (inner input.old)))
             (left self.new (R.remaining (inner input.new))) (R.remaining (inner input.new)) }
@@ -386,134 +388,6 @@ impl Lines {
             }
         }
     }
-
-    /// Notes that the input has ended.
-    fn end(&mut self)
-        ensures { self.new ≡ record self.old { ended = true } }
-    {
-        self.ended = true;
-    }
-
-    /// Reads once into the buffer. Returns whether there were more bytes.
-    fn buffer_more<R: Read>(&mut self, input: &mut Counted<R>) -> Result<bool, LineReason>
-        ensures does { ReadMore result self.old.buffered self.new.buffered (R.remaining (inner input.old)) (R.remaining (inner input.new))
-            (self.old.limit - self.old.taken) }
-        ensures others { self.new ≡ record self.old { buffered = self.new.buffered } }
-        ensures room { self.old.taken + length self.old.buffered ≤ self.old.limit }
-        ensures count { OnOk result (failures input.new ≡ failures input.old) }
-        ensures failed { IsErrOf result Read → failures input.new ≡ failures input.old + 1 }
-        ensures still { IfErr result (λ reason. reason ≢ Read → failures input.new ≡ failures input.old) }
-    {
-        let room = (self.limit - self.taken) as usize;
-        read_more(&mut self.buffered, room, input)
-    }
-
-    /// Appends the first n bytes of the buffer to `text`, up to a length of `most`.
-    fn put_buffered(&self, most: usize, n: usize, text: &mut Vec<u8>) -> Result<(), LineFault>
-        requires within { n ≤ length self.now.buffered }
-        ensures ok { OnOk result (text.new.items ≡ text.old.items ++ take (most - length text.old.items) (take n self.now.buffered)) }
-        ensures err { IfErr result (λ f. f ≡ record { line = self.now.ends + 1; column = 0; reason = OutOfMemory }) }
-    {
-        match append_up_to(most, &self.buffered.as_slice()[..n], text) {
-            Ok(()) => Ok(()),
-            Err(AllocError) => Err(self.fault(0, LineReason::OutOfMemory)),
-        }
-    }
-
-    /// Consumes the next line piece by piece, and puts the first `most` bytes of its text into the empty buffer.
-    fn take_prefix<R: Read>(
-        &mut self,
-        most: usize,
-        input: &mut Counted<R>,
-        text: &mut Vec<u8>,
-    ) -> Result<(), LineFault>
-        requires going { self.old.ended ≡ false }
-        requires empty { text.old.items ≡ [] }
-        ensures does { OnOk result (TakesLinePrefix most self.old self.new (left self.old (R.remaining (inner input.old)))
-            (left self.new (R.remaining (inner input.new))) text.new.items) }
-        ensures fault { IfErr result (λ f. IsNextLineError f self.old (left self.old (R.remaining (inner input.old))) (R.remaining (inner input.new))) }
-        ensures unread { HasBufferedLine self.old → input.new ≡ input.old }
-        ensures count { OnOk result (failures input.new ≡ failures input.old) }
-        ensures failed { IfErr result (λ f. f.reason ≡ Read → failures input.new ≡ failures input.old + 1) }
-        ensures still { IfErr result (λ f. f.reason ≢ Read → failures input.new ≡ failures input.old) }
-    {
-        // Brings the invariant of the type into the proof.
-        let _ = &self.alloc;
-        'pieces: loop {
-            match find_line_end(self.buffered.as_slice(), 0) {
-                Some(n) => {
-                    self.put_buffered(most, n, text)?;
-                    self.take_terminated_line(n);
-                    return Ok(());
-                }
-                None => self.put_buffered(most, self.buffered.len(), text)?,
-            }
-            self.take_buffered();
-            let more = match self.buffer_more(input) {
-                Ok(more) => more,
-                Err(why) => return Err(self.fault(0, why)),
-            };
-            if !more {
-                self.end();
-                return Ok(());
-            }
-        }
-    }
-
-    /// As [`Lines::next_text`], but keeps only the first `most` bytes of the text and discards the others. Linear time
-    /// in the line; memory only for the kept bytes, however long the line is.
-    ///
-    /// # Errors
-    ///
-    /// [`LineReason::Read`] if the reader failed; [`LineReason::TooLong`] if the input has more bytes than the
-    /// limit and the line has no end within it; [`LineReason::OutOfMemory`]. Later calls return the same error and read
-    /// nothing.
-    pub fn next_prefix<R: Read>(
-        &mut self,
-        most: usize,
-        input: &mut Counted<R>,
-        text: &mut Vec<u8>,
-    ) -> Result<bool, LineFault>
-        // An error is returned again, and nothing is read or consumed.
-        ensures repeated { IfSome self.old.failed (λ f. (result ≡ Err f) × (self.new ≡ self.old) × (input.new ≡ input.old)) }
-        // So is the end.
-        ensures ended { self.old.failed ≡ None → self.old.ended ≡ true →
-            (result ≡ Ok false) × (self.new ≡ self.old) × (input.new ≡ input.old) }
-        // Until then the result is determined by the remaining input.
-        ensures answers { self.old.failed ≡ None → self.old.ended ≡ false →
-            ReturnsNextPrefix result most text.new.items self.old self.new (left self.old (R.remaining (inner input.old)))
-            (left self.new (R.remaining (inner input.new))) (R.remaining (inner input.new)) }
-        ensures none { TextClearedUnlessFound result text.new.items }
-        // If a line is buffered with its end, nothing is read.
-        ensures unread { HasBufferedLine self.old → input.new ≡ input.old }
-        ensures fault { IfErr result (λ f. self.new.failed ≡ Some f) }
-        // The reader failed in this call if the error says so, and only then.
-        ensures read { self.old.failed ≡ None → IfErr result (λ f. f.reason ≡ Read → failures input.new ≡ failures input.old + 1) }
-        ensures still { IfErr result (λ f. f.reason ≢ Read → failures input.new ≡ failures input.old) }
-        ensures count { OnOk result (failures input.new ≡ failures input.old) }
-    {
-        text.clear();
-        if let Some(fault) = self.failed {
-            return Err(fault);
-        }
-        if self.ended {
-            return Ok(false);
-        }
-        if let Err(fault) = self.take_prefix(most, input, text) {
-            text.clear();
-            self.failed = Some(fault);
-            return Err(fault);
-        }
-        Ok(true)
-    }
-}
-
-/// Appends the bytes to `text`, up to a length of `most`.
-fn append_up_to(most: usize, bytes: &[u8], text: &mut Vec<u8>) -> Result<(), AllocError>
-    ensures { OnOk result (text.new.items ≡ text.old.items ++ take (most - length text.old.items) bytes.now) }
-{
-    let room = most.saturating_sub(text.len());
-    text.extend_from_slice(bytes.get(..room).unwrap_or(bytes))
 }
 
 /// Empties the buffers.

@@ -5,12 +5,12 @@ ghost use Rattle.hdt_terms.specs.Terms.{xsd_string};
 ghost use Rattle.hdt_terms.specs.TermParsing.{ReturnsUnlessOom, skip_whitespace, datatype_of, datatype_at, suffix_at, literal_at};
 
 use crate::chars::is_whitespace;
+use crate::escaped_tokens::{Token, read_token_content};
 use crate::fault::{LineReason, ReadError, refuse};
 use crate::iri::read_iri;
-use crate::escaped_tokens::{Token, read_token_content};
 use crate::tag::read_tag;
-use crate::triple::{Suffix, Term};
 use crate::text::Text;
+use crate::triple::{Suffix, Term};
 use std::alloc::Global;
 
 /// The datatype of a literal without a suffix: `xsd:string`.

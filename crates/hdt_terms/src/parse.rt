@@ -9,14 +9,14 @@ ghost use Rattle.hdt_terms.specs.Terms.{IsGrammarTerm};
 ghost use Rattle.hdt_terms.specs.Appending.{AppendsStringOfText};
 ghost use Rattle.hdt_terms.specs.Writing.{Extends};
 
-use crate::transcode::append_term;
 use crate::encoding::check_utf8;
 use crate::fault::{LineReason, ReadError, TermFault, locate_error, refuse};
 use crate::iri::read_iri;
 use crate::label::read_blank;
 use crate::literal::read_literal;
-use crate::triple::Term;
 use crate::text::Text;
+use crate::transcode::append_term;
+use crate::triple::Term;
 use std::alloc::Global;
 
 /// The term that starts here, and the bytes after it.

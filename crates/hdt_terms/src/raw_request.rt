@@ -83,7 +83,12 @@ fn expect_end(bytes: &[u8]) -> Result<(), ReadError>
 
 /// Puts the three strings of a line into the buffers.
 #[tactic(auto, unfolding(crate::specs::RawRequestParsing::raw_request_at))]
-fn put_raw_strings(text: &[u8], s: &mut Vec<u8>, p: &mut Vec<u8>, o: &mut Vec<u8>) -> Result<(), ReadError>
+fn put_raw_strings(
+    text: &[u8],
+    s: &mut Vec<u8>,
+    p: &mut Vec<u8>,
+    o: &mut Vec<u8>,
+) -> Result<(), ReadError>
     ensures { PutsRawStrings s.new.items p.new.items o.new.items result (raw_request_at text.now) }
 {
     let rest = put_raw_string(text, s)?;

@@ -5,7 +5,7 @@ ghost use Rattle.hdt_terms.specs.TermParsing.{ReturnsUnlessOom};
 
 use crate::encoding::check_utf8;
 use crate::fault::{LineReason, ReadError, TermFault, locate_error, refuse};
-use crate::line::{append_role_term, is_blank_or_comment, expect_comment_or_end};
+use crate::line::{append_role_term, expect_comment_or_end, is_blank_or_comment};
 use crate::literal::skip_whitespace;
 use hdt_wire::Role;
 

@@ -9,8 +9,8 @@ use crate::encoding::is_ascii_text;
 use crate::iri::is_iri;
 use crate::label::is_label;
 use crate::tag::is_tag;
-use crate::triple::{TermKind, Suffix, Term};
 use crate::text::Text;
+use crate::triple::{Suffix, Term, TermKind};
 use memchr::{memchr, memrchr};
 use std::alloc::{AllocError, Global};
 

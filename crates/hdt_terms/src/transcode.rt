@@ -5,11 +5,11 @@ ghost use Rattle.hdt_terms.specs.TermParsing.{blank_at, tag_at, datatype_at, suf
 ghost use Rattle.hdt_terms.specs.Terms.{dictionary_string, suffix_string};
 ghost use Rattle.hdt_terms.specs.Writing.{Extends};
 
+use crate::escaped_tokens::{Token, token_content};
 use crate::fault::{LineReason, ReadError, refuse};
 use crate::iri::append_iri;
 use crate::label::blank_token;
-use crate::literal::{skip_whitespace, is_xsd_string};
-use crate::escaped_tokens::{Token, token_content};
+use crate::literal::{is_xsd_string, skip_whitespace};
 use crate::tag::tag_token;
 
 /// Appends the string of the blank node that starts here, and returns the bytes after it.

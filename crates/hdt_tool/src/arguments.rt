@@ -7,7 +7,7 @@ ghost use Rattle.hdt_tool.specs.CommandLine.{IsFileAction, Refutes, RefutesOrInv
 ghost use Rattle.hdt_tool.specs.ErrorLines.{argument_name};
 ghost use Rattle.hdt_usage.specs.CommandTable.{role_name};
 
-use crate::fault::{UsageFault, TermArgument};
+use crate::fault::{TermArgument, UsageFault};
 use crate::request::{Action, AnswerOptions, OutputFormat};
 use clap::ArgMatches;
 use hdt_build::Options;
@@ -44,7 +44,11 @@ pub(crate) fn has_flag<'m>(matches: &ArgMatches<'m>, id: &str) -> bool
 }
 
 /// The text of a required argument.
-pub(crate) fn required_text<'m>(alloc: Global, matches: &ArgMatches<'m>, id: &str) -> Result<String, UsageFault>
+pub(crate) fn required_text<'m>(
+    alloc: Global,
+    matches: &ArgMatches<'m>,
+    id: &str,
+) -> Result<String, UsageFault>
     ensures ok { IfOk result (λ text. first_of id.now (rows_of (found_of matches.now)) ≡ Some (string_bytes text)) }
     ensures refused { IfErr result (Refutes (IsSome (first_of id.now (rows_of (found_of matches.now))))) }
 {
@@ -91,7 +95,10 @@ fn required_u32<'m>(alloc: Global, matches: &ArgMatches<'m>, id: &str) -> Result
 }
 
 /// The value of `--block-size`.
-pub(crate) fn required_block_size<'m>(alloc: Global, matches: &ArgMatches<'m>) -> Result<u32, UsageFault>
+pub(crate) fn required_block_size<'m>(
+    alloc: Global,
+    matches: &ArgMatches<'m>,
+) -> Result<u32, UsageFault>
     ensures ok { IfOk result (λ n. ParsesAsNumber 32 (one_of (codes "block-size") (rows_of (found_of matches.now))) n) }
     ensures refused { IfErr result (Refutes ((n : ℕ) × ParsesAsNumber 32 (one_of (codes "block-size") (rows_of (found_of matches.now))) n)) }
 {
@@ -99,7 +106,10 @@ pub(crate) fn required_block_size<'m>(alloc: Global, matches: &ArgMatches<'m>) -
 }
 
 /// The options of `build`, given or by default.
-pub(crate) fn build_options<'m>(alloc: Global, matches: &ArgMatches<'m>) -> Result<Options, UsageFault>
+pub(crate) fn build_options<'m>(
+    alloc: Global,
+    matches: &ArgMatches<'m>,
+) -> Result<Options, UsageFault>
     ensures ok { IfOk result (λ options. ParsesAsOptions (rows_of (found_of matches.now)) options) }
     ensures refused { IfErr result (Refutes ((options : Options) × ParsesAsOptions (rows_of (found_of matches.now)) options)) }
 {
@@ -131,7 +141,12 @@ fn term_fault(word: TermArgument, fault: TermFault) -> UsageFault
 }
 
 /// The dictionary string for a text: the text itself if `raw`, else the string of the N-Triples term that it spells.
-fn dictionary_string(alloc: Global, word: TermArgument, text: &[u8], raw: bool) -> Result<Vec<u8>, UsageFault>
+fn dictionary_string(
+    alloc: Global,
+    word: TermArgument,
+    text: &[u8],
+    raw: bool,
+) -> Result<Vec<u8>, UsageFault>
     ensures ok { IfOk result (λ x. IsStringOfText raw text.now x.items) }
     ensures refused { IfErr result (RefutesOrInvalidTerm (Unit {0}) (IsFaultOfArgument word raw text.now)) }
 {
@@ -146,7 +161,10 @@ fn dictionary_string(alloc: Global, word: TermArgument, text: &[u8], raw: bool) 
 }
 
 /// The dictionary string for the argument TERM.
-pub(crate) fn required_term<'m>(alloc: Global, matches: &ArgMatches<'m>) -> Result<Vec<u8>, UsageFault>
+pub(crate) fn required_term<'m>(
+    alloc: Global,
+    matches: &ArgMatches<'m>,
+) -> Result<Vec<u8>, UsageFault>
     ensures ok { IfOk result (λ x. ParsesAsString (one_of (codes "raw") (rows_of (found_of matches.now)))
         (first_of (codes "TERM") (rows_of (found_of matches.now))) x.items) }
     ensures refused { IfErr result (RefutesOrInvalidTerm (IsSome (first_of (codes "TERM") (rows_of (found_of matches.now))))
@@ -160,7 +178,12 @@ pub(crate) fn required_term<'m>(alloc: Global, matches: &ArgMatches<'m>) -> Resu
 }
 
 /// The dictionary string for a text, or `None` if it is `?`.
-fn string_or_any(alloc: Global, word: TermArgument, text: &str, raw: bool) -> Result<Option<Vec<u8>>, UsageFault>
+fn string_or_any(
+    alloc: Global,
+    word: TermArgument,
+    text: &str,
+    raw: bool,
+) -> Result<Option<Vec<u8>>, UsageFault>
     ensures ok { IfOk result (λ part. MatchOption part (text.now ≡ codes "?") (λ x. (text.now ≢ codes "?") × IsStringOfText raw text.now x.items)) }
     ensures refused { IfErr result (RefutesOrInvalidTerm (Unit {0}) (λ other fault. (text.now ≢ codes "?") × IsFaultOfArgument word raw text.now other fault)) }
 {
@@ -213,7 +236,11 @@ fn find_or_search(given: [Option<Vec<u8>>; 3], format: OutputFormat, most: Optio
             given,
             numbers: true,
         },
-        _ => Action::Search { given, format, most },
+        _ => Action::Search {
+            given,
+            format,
+            most,
+        },
     }
 }
 
@@ -232,7 +259,10 @@ pub(crate) fn find_action<'m>(alloc: Global, matches: &ArgMatches<'m>) -> Result
 }
 
 /// The action of `answer`.
-pub(crate) fn answer_action<'m>(alloc: Global, matches: &ArgMatches<'m>) -> Result<Action, UsageFault>
+pub(crate) fn answer_action<'m>(
+    alloc: Global,
+    matches: &ArgMatches<'m>,
+) -> Result<Action, UsageFault>
     ensures ok { IfOk result (IsFileAction (codes "answer") (rows_of (found_of matches.now))) }
     ensures refused { IfErr result (Refutes ((n : ℕ) × ParsesAsNumber 32 (one_of (codes "longest-request") (rows_of (found_of matches.now))) n)) }
 {

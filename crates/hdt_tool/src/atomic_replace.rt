@@ -106,7 +106,12 @@ fn default_permissions(rt: &HostRuntime, name: &str) -> io::Result<Permissions> 
 }
 
 /// Gives the new file the permissions of the existing file with this name, or `usual` if there is none.
-fn apply_permissions(rt: &HostRuntime, file: &File, name: &str, usual: Permissions) -> io::Result<()> {
+fn apply_permissions(
+    rt: &HostRuntime,
+    file: &File,
+    name: &str,
+    usual: Permissions,
+) -> io::Result<()> {
     let permissions = permissions_of(rt, name)?.unwrap_or(usual);
     if file.metadata()?.permissions() == permissions {
         return Ok(());
@@ -159,7 +164,11 @@ fn split_path(path: &str) -> (&str, &str) {
 
 /// Changes into the folder and creates the new file there. Returns the permissions for it if no old file exists, the
 /// file, and its name.
-fn begin_replacement(rt: &HostRuntime, folder: &str, name: &str) -> io::Result<(Permissions, File, String)> {
+fn begin_replacement(
+    rt: &HostRuntime,
+    folder: &str,
+    name: &str,
+) -> io::Result<(Permissions, File, String)> {
     env::set_current_dir(rt, folder)?;
     let usual = default_permissions(rt, name)?;
     let (file, new) = create_new(rt, PRIVATE_MODE)?;

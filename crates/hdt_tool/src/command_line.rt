@@ -8,8 +8,8 @@ ghost use Rattle.hdt_tool.specs.declared.request.Action.{Action};
 ghost use Rattle.hdt_tool.specs.declared.request.Request.{Request};
 
 use crate::arguments::{
-    answer_action, required_block_size, find_action, has_flag, missing, required_id, build_options, required_role, required_term,
-    required_text, verify_action,
+    answer_action, build_options, find_action, has_flag, missing, required_block_size, required_id,
+    required_role, required_term, required_text, verify_action,
 };
 use crate::fault::UsageFault;
 use crate::request::{Action, Invocation, Request};
@@ -39,7 +39,11 @@ fn usage_fault(alloc: Global, error: &Error) -> UsageFault
 }
 
 /// The action of a command that reads FILE.
-fn file_action<'m>(alloc: Global, name: &str, matches: &ArgMatches<'m>) -> Result<Action, UsageFault>
+fn file_action<'m>(
+    alloc: Global,
+    name: &str,
+    matches: &ArgMatches<'m>,
+) -> Result<Action, UsageFault>
     ensures ok { IfOk result (IsFileAction name.now (rows_of (found_of matches.now))) }
     ensures refused { IfErr result (RefutesOrInvalidTerm ((action : Action) × IsFileAction name.now (rows_of (found_of matches.now)) action)
         (HasInvalidTerm name.now (rows_of (found_of matches.now)))) }
@@ -49,7 +53,10 @@ fn file_action<'m>(alloc: Global, name: &str, matches: &ArgMatches<'m>) -> Resul
         "verify" => Ok(verify_action(matches)),
         "strings" => Ok(Action::Strings(required_role(alloc, matches)?)),
         "string" => Ok(Action::Nth(required_role(alloc, matches)?, required_id(alloc, matches)?)),
-        "number" => Ok(Action::Number(required_role(alloc, matches)?, required_term(alloc, matches)?)),
+        "number" => Ok(Action::Number(
+            required_role(alloc, matches)?,
+            required_term(alloc, matches)?,
+        )),
         "find" => find_action(alloc, matches),
         "answer" => answer_action(alloc, matches),
         "dump" => Ok(Action::Find {
@@ -78,7 +85,11 @@ fn file_request<'m>(
 }
 
 /// The action of a command that writes OUT.
-fn make_action<'m>(alloc: Global, name: &str, matches: &ArgMatches<'m>) -> Result<Action, UsageFault>
+fn make_action<'m>(
+    alloc: Global,
+    name: &str,
+    matches: &ArgMatches<'m>,
+) -> Result<Action, UsageFault>
     ensures ok { IfOk result (IsMakeAction name.now (rows_of (found_of matches.now))) }
     ensures refused { IfErr result (Refutes ((action : Action) × IsMakeAction name.now (rows_of (found_of matches.now)) action)) }
 {
@@ -122,7 +133,11 @@ fn request_of<'m>(
 }
 
 /// The request of a command, and whether to report progress.
-fn invocation_of<'m>(alloc: Global, name: &str, matches: &ArgMatches<'m>) -> Result<Invocation, UsageFault>
+fn invocation_of<'m>(
+    alloc: Global,
+    name: &str,
+    matches: &ArgMatches<'m>,
+) -> Result<Invocation, UsageFault>
     ensures ok { IfOk result (λ invocation. IsRequestOf name.now (rows_of (found_of matches.now)) invocation.request) }
     ensures progress { IfOk result (λ invocation. ParsesAsFlag (one_of (codes "progress") (rows_of (found_of matches.now))) invocation.progress) }
     ensures refused { IfErr result (RefutesOrInvalidTerm ((request : Request) × IsRequestOf name.now (rows_of (found_of matches.now)) request)

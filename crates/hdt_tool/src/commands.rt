@@ -9,10 +9,10 @@ ghost use Rattle.hdt_tool.specs.Whole.{query_action, whole_action};
 ghost use Rattle.hdt_tool.specs.Outcomes.{IsLayoutWith, ReadsAll, ReadsWith, Prints, IsFaultOfInput, IsFaultOfBytes, YieldsAppended, Completes, WritesOutputPrefix, InterruptsStrings, IfBuild, IsReadOnlyFault, RewritesFile};
 ghost use Rattle.hdt_tool.specs.declared.request.Action.TheVariants as Action;
 
-use crate::queries::{query_text, print_file_strings};
 use crate::dialogue::answer_requests;
 use crate::fault::ToolFault;
 use crate::printed_reports::{built_line, rewritten_line};
+use crate::queries::{print_file_strings, query_text};
 use crate::request::{AnswerOptions, Request};
 use crate::whole::{Printing, Query, Whole, printing_of};
 use hdt_build::{Options, build_bytes, rewrite_bytes};

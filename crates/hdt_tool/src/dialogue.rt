@@ -12,15 +12,15 @@ ghost use Rattle.hdt_tool.specs.Outcomes.{FailsAfter};
 ghost use Rattle.hdt_tool.specs.Dialogue.{AnswersFound, AnswersInput, AnswersLine, AnswersUntilFault, HasTakenLines, ReadsRequest, bounded_request_in, ended, fault_comment, given_strings, lines_left, max_input_bytes, non_term_comment, request_strings_in};
 ghost use Rattle.hdt_tool.specs.TriplesText.{FindsStrings};
 
-use crate::fault::{ToolFault, line_fault};
 use crate::error_lines::role_name;
+use crate::fault::{ToolFault, line_fault};
 use crate::printed_triples::append_graph_triples;
 use crate::request::AnswerOptions;
 use hdt_dict::Role;
 use hdt_file::{DumpFault, Graph, TermWriter};
 use hdt_seq::Steps;
 use hdt_terms::{
-    LineFault, LineReason, Lines, TermFault, read_raw_request, read_request, lines_so_far,
+    LineFault, LineReason, Lines, TermFault, lines_so_far, read_raw_request, read_request,
 };
 use hdt_triples::Pattern;
 use hdt_wire::{Counted, truncate_on_error};

@@ -4,7 +4,7 @@ ghost use Rattle.std.specs.Fmt.{decimal};
 ghost use Rattle.hdt_tool.specs.ErrorLines.{fault_status, fault_line, usage_status, usage_line, invalid_term_line};
 ghost use Rattle.hdt_usage.specs.CommandTable.{role_name};
 
-use crate::fault::{ToolFault, UsageFault, TermArgument};
+use crate::fault::{TermArgument, ToolFault, UsageFault};
 use hdt_dict::Role;
 use hdt_terms::{LineFault, TermFault};
 use hdt_wire::Fault;
@@ -51,7 +51,11 @@ fn string_line(alloc: Global, role: Role, number: u64) -> Result<String, AllocEr
 }
 
 /// The message for an argument that is not a term.
-fn invalid_term_line(alloc: Global, word: TermArgument, fault: TermFault) -> Result<String, AllocError>
+fn invalid_term_line(
+    alloc: Global,
+    word: TermArgument,
+    fault: TermFault,
+) -> Result<String, AllocError>
     ensures { IfOk result (λ line. string_bytes line ≡ invalid_term_line word fault) }
 {
     let word = word.name();
@@ -88,7 +92,10 @@ pub fn usage_line(alloc: Global, fault: &UsageFault) -> Result<(u8, String), All
     match fault {
         UsageFault::Usage(text) => Ok((2, text.clone()?)),
         UsageFault::Help(text) => Ok((0, text.clone()?)),
-        UsageFault::InvalidTerm { word, fault } => Ok((2, invalid_term_line(alloc, *word, *fault)?)),
+        UsageFault::InvalidTerm { word, fault } => Ok((
+            2,
+            invalid_term_line(alloc, *word, *fault)?,
+        )),
         UsageFault::OutOfMemory => Ok((4, String::from_str(alloc, "hdt: out of memory")?)),
     }
 }

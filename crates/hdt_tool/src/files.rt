@@ -83,7 +83,11 @@ impl Read for Source {
 }
 
 /// Opens the input, with progress reports to standard error if `progress`.
-pub(crate) fn open_input(rt: &HostRuntime, path: &str, progress: bool) -> io::Result<ProgressReader<Source, Stderr>> {
+pub(crate) fn open_input(
+    rt: &HostRuntime,
+    path: &str,
+    progress: bool,
+) -> io::Result<ProgressReader<Source, Stderr>> {
     let source = Source::open(rt, path)?;
     let size = source.size(rt);
     let report_to = if progress { Some(rt.stderr()) } else { None };
@@ -139,6 +143,10 @@ pub(crate) fn would_overwrite(rt: &HostRuntime, out: &str, input: &str) -> bool 
         Ok(there) => there.is_file() || there.file_type().is_block_device(),
         Err(_) => false,
     };
-    let input = if is_stdin_path(input) { STDIN_PATH } else { input };
+    let input = if is_stdin_path(input) {
+        STDIN_PATH
+    } else {
+        input
+    };
     keeps && is_same_file(rt, input, out)
 }

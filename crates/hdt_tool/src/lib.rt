@@ -18,28 +18,28 @@
 //! - `progress`, `files`, `atomic_replace`, `output_file` and `status`: the same over files and streams.
 #![tactic(auto)]
 
-mod queries;
-mod dialogue;
 mod arguments;
+mod atomic_replace;
+mod command_line;
+mod commands;
+mod dialogue;
+mod error_lines;
 mod fault;
 mod files;
-mod error_lines;
+mod output_file;
 mod printed_reports;
 mod printed_strings;
 mod printed_triples;
 mod progress;
-mod atomic_replace;
+mod queries;
 mod request;
-mod commands;
 mod status;
 mod whole;
-mod command_line;
 
-pub use dialogue::answer_requests;
-pub use fault::{ToolFault, UsageFault, TermArgument};
-pub use error_lines::{fault_line, usage_line};
-pub use status::process_status;
-pub use request::{Action, AnswerOptions, Invocation, OutputFormat, Request};
-pub use commands::{answer_file, run, run_with_capacity};
-pub use status::status_of;
 pub use command_line::{parse_invocation, parse_words};
+pub use commands::{answer_file, run, run_with_capacity};
+pub use dialogue::answer_requests;
+pub use error_lines::{fault_line, usage_line};
+pub use fault::{TermArgument, ToolFault, UsageFault};
+pub use request::{Action, AnswerOptions, Invocation, OutputFormat, Request};
+pub use status::{process_status, status_of};

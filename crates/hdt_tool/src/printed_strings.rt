@@ -10,8 +10,8 @@ ghost use Rattle.hdt_tool.specs.Outcomes.{FailsAfter, IsCutShort};
 ghost use Rattle.hdt_tool.specs.Escaping.{escaped};
 ghost use Rattle.hdt_tool.specs.StringsText.{string_line, string_lines, PrintsString, PrintsNumber};
 
-use crate::printed_reports::put_escaped;
 use crate::fault::ToolFault;
+use crate::printed_reports::put_escaped;
 use hdt_dict::Role;
 use hdt_file::Layout;
 use hdt_seq::Steps;

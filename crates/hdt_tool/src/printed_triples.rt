@@ -14,7 +14,7 @@ use crate::request::OutputFormat;
 use hdt_file::{DumpFault, Graph, Layout, TermWriter, append_graph_text, layout_text};
 use hdt_seq::Steps;
 use hdt_triples::{Matches, Pattern};
-use hdt_wire::{truncate_on_error, put_decimal};
+use hdt_wire::{put_decimal, truncate_on_error};
 use std::alloc::{AllocError, Global};
 
 /// Appends a line with the three IDs of a triple. An error may leave a prefix of it.

@@ -38,7 +38,12 @@ fn format_progress(alloc: Global, read: u64, size: Option<u64>) -> Result<String
 
 impl<R: Read, W: Write + Drop> ProgressReader<R, W> {
     /// A reader of `input`, of `size` bytes if that is known. Without a writer `report_to` it reports nothing.
-    pub(crate) fn new(alloc: Global, input: R, report_to: Option<W>, size: Option<u64>) -> ProgressReader<R, W>
+    pub(crate) fn new(
+        alloc: Global,
+        input: R,
+        report_to: Option<W>,
+        size: Option<u64>,
+    ) -> ProgressReader<R, W>
         ensures { result.input ≡ input }
     {
         ProgressReader {

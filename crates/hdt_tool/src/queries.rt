@@ -115,11 +115,19 @@ fn check_layout(alloc: Global, bytes: &[u8]) -> Result<Vec<u8>, ToolFault>
 fn find_format(numbers: bool) -> OutputFormat
     ensures { result ≡ find_format numbers }
 {
-    if numbers { OutputFormat::Numbers } else { OutputFormat::NTriples }
+    if numbers {
+        OutputFormat::Numbers
+    } else {
+        OutputFormat::NTriples
+    }
 }
 
 /// The output of a command that writes no file.
-pub(crate) fn query_text(alloc: Global, query: Query<'_>, bytes: &[u8]) -> Result<Vec<u8>, ToolFault>
+pub(crate) fn query_text(
+    alloc: Global,
+    query: Query<'_>,
+    bytes: &[u8],
+) -> Result<Vec<u8>, ToolFault>
     ensures ok { IfOk result (λ text. Prints (query_action query.entry) bytes.now text.items) }
     ensures err { IfErr result (λ e. IsFaultOfBytes (query_action query.entry) bytes.now e) }
 {
@@ -130,7 +138,11 @@ pub(crate) fn query_text(alloc: Global, query: Query<'_>, bytes: &[u8]) -> Resul
         Query::Nth(role, number) => run_string(alloc, bytes, role, number),
         Query::Number(role, string) => run_number(alloc, bytes, role, string),
         Query::Find { given, numbers } => run_find(alloc, bytes, given, find_format(numbers), None),
-        Query::Search { given, format, most } => run_find(alloc, bytes, given, format, most),
+        Query::Search {
+            given,
+            format,
+            most,
+        } => run_find(alloc, bytes, given, format, most),
         Query::Answer(_) => check_layout(alloc, bytes),
     }
 }

@@ -9,28 +9,27 @@
 //! | 3 | reading or writing failed |
 //! | 4 | out of memory |
 ghost use Rattle.std.specs.Prelude.{◌≡◌, ◌≢◌, ◌⊎◌, ◌+◌, ℕ, true, false, [], Ok, Err, Some, IfOk, IfErr, OnOk, MatchResult, map, string_bytes, if◌then◌else◌, ◌≤◌};
-ghost use Rattle.std.specs.Io.KnownBytes.{Appends};
 ghost use Rattle.std.specs.IoError.{error_kind};
 ghost use Rattle.std.specs.Vec.Iter.{into_iter_items};
 ghost use Rattle.hdt_wire.specs.Counted.{inner, failures};
-ghost use Rattle.hdt_tool.specs.Outcomes.{InterruptsStringsOwned, FailsAfter, HasInputFault, HasOut, MakesFile, CompletesOwned, IsReadOnly, IsFaultOfOwnedInput, WritesPrefixOwned};
+ghost use Rattle.hdt_tool.specs.Outcomes.{InterruptsStringsOwned, HasInputFault, HasOut, MakesFile, CompletesOwned, IsReadOnly, IsFaultOfOwnedInput, WritesPrefixOwned};
 ghost use Rattle.hdt_tool.specs.CommandLine.{IsRefused, IsUsageText, ParsesToInvocation};
 ghost use Rattle.hdt_tool.specs.Dialogue.{AnswersOverFile, AnswersOverFileUntilFault};
 ghost use Rattle.hdt_tool.specs.ErrorLines.{fault_status};
 ghost use Rattle.hdt_tool.specs.Status.{Ends, IsBuild, IsCommandStatus, IsRefusalStatus, IsActionStatus};
 
-use crate::atomic_replace::{replace_file, replaceable_path};
 use crate::command_line::parse_invocation;
 use crate::commands::{answer_file, run_with_capacity};
 use crate::error_lines::{fault_line, usage_line};
 use crate::fault::{ToolFault, UsageFault, file_fault};
-use crate::files::{STDERR_PATH, STDOUT_PATH, create, is_same_file, known_size, open_input, would_overwrite};
+use crate::files::{known_size, open_input, would_overwrite};
+use crate::output_file::make_file_at;
 use crate::request::{Action, AnswerOptions, Invocation, Request};
 use hdt_wire::Counted;
 use std::alloc::{AllocError, Global};
-use std::env::Args;
 use std::env;
-use std::io::{ErrorKind, Read, Write, self};
+use std::env::Args;
+use std::io::{self, ErrorKind, Read, Write};
 
 const NOT_UTF8_MESSAGE: &str = "error: an argument is not UTF-8
 
@@ -114,7 +113,10 @@ pub(crate) fn collect_arguments(alloc: Global, given: io::Result<Args>) -> io::R
 }
 
 /// Parses the arguments of the process. An error of the system is a usage error, unless it is lack of memory.
-fn parse_process_arguments(alloc: Global, words: io::Result<Vec<String>>) -> Result<Invocation, UsageFault>
+fn parse_process_arguments(
+    alloc: Global,
+    words: io::Result<Vec<String>>,
+) -> Result<Invocation, UsageFault>
     ensures ok { IfOk result (λ invocation. MatchResult words (λ words. ParsesToInvocation (map string_bytes words.items) invocation) (λ _. ⊥)) }
     ensures out { IfOk result (λ invocation. HasOut invocation.request) }
     ensures refused { IfErr result (λ fault. IfOk words (λ words. IsRefused (map string_bytes words.items) fault)) }
@@ -129,7 +131,7 @@ fn parse_process_arguments(alloc: Global, words: io::Result<Vec<String>>) -> Res
 }
 
 /// Runs a request on the result of opening its input. The new file of `build` or `rewrite` is appended to `made`.
-fn run_opened<R: Read + Drop, W: Write>(
+pub(crate) fn run_opened<R: Read + Drop, W: Write>(
     alloc: Global,
     request: &Request,
     file: io::Result<R>,
@@ -187,129 +189,10 @@ fn run_query<R: Read + Drop, W: Write>(
         (W.contents (inner out.old)) (W.contents (inner out.new)) (failures out.old) (failures out.new)) (λ _. ⊥) }
 {
     let mut made = Vec::new(rt.alloc());
-    done(rt, run_opened(rt.alloc(), request, file, capacity, out, &mut made))
-}
-
-/// The error of a command that writes to memory: a write error means that memory ran out.
-fn in_memory(fault: ToolFault) -> ToolFault
-    ensures memory { (n : ℕ) → fault ≡ ToolFault.Write n → result ≡ ToolFault.OutOfMemory }
-    ensures other { ((n : ℕ) → fault ≢ ToolFault.Write n) → result ≡ fault }
-{
-    match fault {
-        ToolFault::Write(_) => ToolFault::OutOfMemory,
-        fault => fault,
-    }
-}
-
-/// Builds the new file of `build` or `rewrite` from the result of opening its input: appends it to `built`, and returns
-/// the output line.
-fn make_file<R: Read + Drop>(
-    alloc: Global,
-    request: &Request,
-    file: io::Result<R>,
-    capacity: usize,
-    built: &mut Vec<u8>,
-) -> Result<Vec<u8>, ToolFault>
-    requires { MakesFile request.now.action }
-    // The result is the command's output for the input, and `built` has gained the new file.
-    ensures ok { IfOk result (λ line. MatchResult file (λ input. CompletesOwned request.now.action (R.remaining input)
-        (Some []) (Some line.items) built.old.items built.new.items) (λ _. ⊥)) }
-    ensures told { IfErr result (λ e. IfOk file (λ input. IsFaultOfOwnedInput request.now.action (R.remaining input) e)) }
-    ensures memory { IfErr file (λ e. error_kind e ≡ ErrorKind.OutOfMemory → result ≡ Err ToolFault.OutOfMemory) }
-    ensures unopened { IfErr file (λ e. error_kind e ≢ ErrorKind.OutOfMemory → result ≡ Err ToolFault.Read) }
-    ensures others { IfErr result (λ e. (n : ℕ) → e ≢ ToolFault.Write n) }
-{
-    let mut line = Counted::new(Vec::new(alloc));
-    match run_opened(alloc, request, file, capacity, &mut line, built) {
-        Ok(()) => Ok(line.into_inner()),
-        Err(fault) => Err(in_memory(fault)),
-    }
-}
-
-/// The result of creating the output file, with its error as a [`ToolFault`].
-fn check_created<F: Write>(file: io::Result<F>) -> Result<Counted<F>, ToolFault>
-    ensures ok { IfOk result (λ counted. file ≡ Ok (inner counted)) }
-    ensures memory { IfErr file (λ e. error_kind e ≡ ErrorKind.OutOfMemory → result ≡ Err ToolFault.OutOfMemory) }
-    ensures other { IfErr file (λ e. error_kind e ≢ ErrorKind.OutOfMemory → result ≡ Err (ToolFault.Write 0)) }
-{
-    let file = file.map_err(|error| file_fault(&error, ToolFault::Write(0)))?;
-    Ok(Counted::new(file))
-}
-
-/// Writes an output line.
-fn print_line<W: Write>(out: &mut Counted<W>, line: &[u8]) -> Result<(), ToolFault>
-    ensures line { OnOk result (Appends (W.contents (inner out.old)) (W.contents (inner out.new)) line.now) }
-    ensures well { OnOk result (failures out.new ≡ failures out.old) }
-    ensures failed { IfErr result (λ e. (n : ℕ) × (e ≡ ToolFault.Write n) × FailsAfter n line.now
-        (W.contents (inner out.old)) (W.contents (inner out.new)) (failures out.old) (failures out.new)) }
-{
-    out.write_all(line).map_err(ToolFault::Write)
-}
-
-/// Writes the new file, and then the output line.
-fn write_file_and_line<F: Write, W: Write>(
-    file: &mut Counted<F>,
-    built: &[u8],
-    out: &mut Counted<W>,
-    line: &[u8],
-) -> Result<(), ToolFault>
-    // The file has gained the bytes, and the writer the line.
-    ensures file { OnOk result (Appends (F.contents (inner file.old)) (F.contents (inner file.new)) built.now) }
-    ensures line { OnOk result (Appends (W.contents (inner out.old)) (W.contents (inner out.new)) line.now) }
-    ensures well { OnOk result ((failures file.new ≡ failures file.old) × (failures out.new ≡ failures out.old)) }
-    // `Write(n)`: either the file failed after exactly n bytes, and `out` is unchanged; or the writer failed after
-    // exactly n bytes of the line, and the file is complete.
-    ensures failed { IfErr result (λ e. (n : ℕ) × (e ≡ ToolFault.Write n) × (
-        (FailsAfter n built.now (F.contents (inner file.old)) (F.contents (inner file.new)) (failures file.old) (failures file.new)
-        × (out.new ≡ out.old))
-        ⊎ (FailsAfter n line.now (W.contents (inner out.old)) (W.contents (inner out.new)) (failures out.old) (failures out.new)
-        × Appends (F.contents (inner file.old)) (F.contents (inner file.new)) built.now
-        × (failures file.new ≡ failures file.old)))) }
-{
-    file.write_all(built).map_err(ToolFault::Write)?;
-    print_line(out, line)
-}
-
-/// Prints the new file to standard output, and its line to standard error, unless both are the same file.
-fn print_built(rt: &HostRuntime, built: &[u8], line: &[u8]) -> Result<(), ToolFault> {
-    let mut out = Counted::new(io::writer(rt));
-    let mut errors = Counted::new(rt.stderr());
-    let line = if is_same_file(rt, STDOUT_PATH, STDERR_PATH) {
-        &[]
-    } else {
-        line
-    };
-    write_file_and_line(&mut out, built, &mut errors, line)
-}
-
-/// Writes the new file to a path, and prints its line. A regular file is replaced atomically; anything else is written
-/// in place.
-fn write_to_path(rt: &HostRuntime, path: &str, built: &[u8], line: &[u8]) -> Result<(), ToolFault> {
-    let mut out = Counted::new(io::writer(rt));
-    let replaced = replaceable_path(rt, rt.alloc(), path);
-    if let Some(path) = replaced.map_err(|error| file_fault(&error, ToolFault::Write(0)))? {
-        replace_file(rt, &path, built)?;
-        return print_line(&mut out, line);
-    }
-    let mut file = check_created(create(rt, path))?;
-    write_file_and_line(&mut file, built, &mut out, line)
-}
-
-/// Runs `build` or `rewrite`. The file is written only once it is complete, and the line with its counts is printed
-/// last. If `path` leads to standard output, the file is printed there.
-fn make_file_at(rt: &HostRuntime, invocation: &Invocation, path: &str) -> Result<(), ToolFault>
-    requires { MakesFile invocation.now.request.action }
-{
-    // No progress if standard error is the output file, which must hold nothing else.
-    let progress = invocation.progress && !is_same_file(rt, path, STDERR_PATH);
-    let input = open_input(rt, invocation.request.file.as_str(), progress);
-    let mut built = Vec::new(rt.alloc());
-    let capacity = known_size(&input);
-    let line = make_file(rt.alloc(), &invocation.request, input, capacity, &mut built)?;
-    if is_same_file(rt, path, STDOUT_PATH) {
-        return print_built(rt, &built, &line);
-    }
-    write_to_path(rt, path, &built, &line)
+    done(
+        rt,
+        run_opened(rt.alloc(), request, file, capacity, out, &mut made),
+    )
 }
 
 /// Prints help to standard output, or a usage error to standard error.
@@ -405,7 +288,10 @@ fn run_answer<F: Read + Drop, R: Read, W: Write>(
         (R.remaining (inner input.old)) (R.remaining (inner input.new)) (W.contents (inner out.old)) (W.contents (inner out.new))
         (failures out.old) (failures out.new) e) (λ _. ⊥)) }
 {
-    answers_status(rt, answer_opened(rt.alloc(), options, file, capacity, input, out))
+    answers_status(
+        rt,
+        answer_opened(rt.alloc(), options, file, capacity, input, out),
+    )
 }
 
 /// Serves the requests of standard input on standard output, and returns the status.
@@ -427,7 +313,11 @@ fn run_invocation(rt: &HostRuntime, invocation: &Invocation) -> u8
     match &invocation.request.out {
         Some(path) => run_making(rt, invocation, path.as_str()),
         None => match &invocation.request.action {
-            Action::Answer(options) => run_answer_on_streams(rt, invocation.request.file.as_str(), *options),
+            Action::Answer(options) => run_answer_on_streams(
+                rt,
+                invocation.request.file.as_str(),
+                *options,
+            ),
             _ => {
                 let file = open_input(rt, invocation.request.file.as_str(), invocation.progress);
                 let mut out = Counted::new(io::writer(rt));

@@ -76,7 +76,11 @@ pub(crate) fn printing_of(action: &Action) -> Printing<'_>
             given,
             numbers: *numbers,
         },
-        Action::Search { given, format, most } => Query::Search {
+        Action::Search {
+            given,
+            format,
+            most,
+        } => Query::Search {
             given,
             format: *format,
             most: *most,

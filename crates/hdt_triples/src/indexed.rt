@@ -68,7 +68,8 @@ impl<'a> IndexedTriples<'a> {
         ensures is { result ≡ ones_before (triples_view (triples_indexed self.now)).bitmap_y (length (triples_view (triples_indexed self.now)).bitmap_y) }
         ensures cost { steps.new ≡ steps.old + 1 }
     {
-        self.y.rank(&self.triples.bitmap_y, self.triples.bitmap_y.len(), steps)
+        self.y
+            .rank(&self.triples.bitmap_y, self.triples.bitmap_y.len(), steps)
     }
 
     /// Returns the subject of a pair.

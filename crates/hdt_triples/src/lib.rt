@@ -32,41 +32,40 @@
 //! indexes by predicate and by object. specs/Bounds has the table of the maximal number of steps.
 #![tactic(auto)]
 
+mod access;
+mod checks;
 mod counting_sort;
 mod indexed;
 mod listed_triples;
-mod access;
-mod matches;
 mod match_counts;
+mod matches;
 mod object;
 mod pair;
 mod pattern;
-mod triple_position;
 mod predicate;
-mod predicate_object;
-mod checks;
-mod sequences;
 mod predicate_cursor;
+mod predicate_object;
+mod scan;
+mod sequences;
 mod subject;
 mod subject_object;
+mod triple_position;
 mod triples;
 mod uses;
-mod scan;
 mod writing;
 
-pub use pattern::Counts;
-pub use writing::are_writable;
 pub use indexed::IndexedTriples;
-pub use writing::{triples_are_exact, triples_round_trip, triples_ascend};
 pub use listed_triples::ListedTriples;
 pub use matches::Matches;
 pub use object::ObjectMatches;
 pub use pair::PairMatches;
-pub use pattern::Pattern;
+pub use pattern::{Counts, Pattern};
 pub use predicate::PredicateMatches;
 pub use predicate_object::PredicateObjectMatches;
+pub use scan::ScanMatches;
 pub use subject::SubjectMatches;
 pub use subject_object::SubjectObjectMatches;
 pub use triples::Triples;
-pub use scan::ScanMatches;
-pub use writing::put_triples;
+pub use writing::{
+    are_writable, put_triples, triples_are_exact, triples_ascend, triples_round_trip,
+};

@@ -4,9 +4,9 @@ ghost use Rattle.std.specs.List.{All};
 ghost use Rattle.hdt_triples.specs.InvertedIndex.{IsInvertedIndex, AreListBounds, IsListKey, positions_of};
 ghost use Rattle.hdt_triples.specs.Views.{triples_view};
 
+use crate::access::read_list;
 use crate::counting_sort::build_inverted_index;
 use crate::indexed::IndexedTriples;
-use crate::access::read_list;
 use crate::triples::Triples;
 use hdt_seq::Steps;
 use std::alloc::Global;
@@ -66,12 +66,18 @@ impl<'a> IndexedTriples<'a> {
         ensures back { IfErr result (λ t. t ≡ self.entry) }
     {
         let triples = self.triples;
-        let Ok((pair_starts, pairs)) = build_inverted_index(alloc, &triples.array_y, triples.counts.predicates)
-        else {
+        let Ok((pair_starts, pairs)) = build_inverted_index(
+            alloc,
+            &triples.array_y,
+            triples.counts.predicates,
+        ) else {
             return Err(self);
         };
-        let Ok((triple_starts, places)) = build_inverted_index(alloc, &triples.array_z, triples.counts.objects)
-        else {
+        let Ok((triple_starts, places)) = build_inverted_index(
+            alloc,
+            &triples.array_z,
+            triples.counts.objects,
+        ) else {
             return Err(self);
         };
         Ok(ListedTriples {

@@ -10,10 +10,10 @@ ghost use Rattle.hdt_triples.specs.Inside.Runs.{IsMatchRange, IsTripleRange};
 ghost use Rattle.hdt_triples.specs.Views.{triples_view};
 
 use crate::access::{lower_bound, read_bit, read_entry, read_list};
-use crate::predicate_object::digits_of;
 use crate::indexed::IndexedTriples;
 use crate::listed_triples::ListedTriples;
 use crate::pattern::Pattern;
+use crate::predicate_object::digits_of;
 use crate::triples::Triples;
 use hdt_seq::Steps;
 
@@ -222,7 +222,13 @@ impl<'a> ListedTriples<'a> {
 
     /// Returns the number of triples of a predicate's pairs, but at most `most`. Each pair has a triple, so at most
     /// `most` pairs are read.
-    fn count_predicate_by_pairs(&self, predicate: u64, pairs: &[u64], most: u64, steps: &mut Steps) -> u64
+    fn count_predicate_by_pairs(
+        &self,
+        predicate: u64,
+        pairs: &[u64],
+        most: u64,
+        steps: &mut Steps,
+    ) -> u64
         requires { pairs.now ≡ positions_of (triples_view (triples_listed self.now)).array_y predicate }
         ensures is { result ≡ min most (length (matches (of_predicate predicate) (triples_of (triples_view (triples_listed self.now))))) }
         ensures cost { steps.new ≤ steps.old + (2 * digits (groups (triples_view (triples_listed self.now)).bitmap_z) + 18) * min most (length pairs.now) }
@@ -242,13 +248,7 @@ impl<'a> ListedTriples<'a> {
     /// Returns the number of triples with this predicate, but at most `most`: pair by pair, or by a scan of all triples
     /// if that is cheaper.
     #[tactic(auto, unfolding(crate::specs::Bounds::lookup_cost))]
-    fn count_predicate(
-        &self,
-        pattern: Pattern,
-        predicate: u64,
-        most: u64,
-        steps: &mut Steps,
-    ) -> u64
+    fn count_predicate(&self, pattern: Pattern, predicate: u64, most: u64, steps: &mut Steps) -> u64
         requires { pattern ≡ of_predicate predicate }
         ensures is { result ≡ min most (length (matches pattern (triples_of (triples_view (triples_listed self.now))))) }
         ensures by_pairs { steps.new ≤ steps.old + 2 * lookup_cost (triples_view (triples_listed self.now)) * (1 + min most (length (positions_of (triples_view (triples_listed self.now)).array_y predicate))) }
@@ -268,7 +268,13 @@ impl<'a> ListedTriples<'a> {
     /// Returns the number of triples with this subject and this object: by two binary searches in the object's list, or
     /// by a scan of the subject's triples if that is cheaper.
     #[tactic(auto, unfolding(crate::specs::Bounds::lookup_cost))]
-    fn count_subject_object(&self, pattern: Pattern, subject: u64, object: u64, steps: &mut Steps) -> u64
+    fn count_subject_object(
+        &self,
+        pattern: Pattern,
+        subject: u64,
+        object: u64,
+        steps: &mut Steps,
+    ) -> u64
         requires subject_given { pattern.s ≡ Some subject }
         requires predicate_free { pattern.p ≡ None }
         requires object_given { pattern.o ≡ Some object }
@@ -335,9 +341,7 @@ impl<'a> ListedTriples<'a> {
         ensures more { steps.old ≤ steps.new }
     {
         match (pattern.s, pattern.p, pattern.o) {
-            (None, Some(predicate), None) => self.count_predicate(
-                pattern, predicate, most, steps,
-            ),
+            (None, Some(predicate), None) => self.count_predicate(pattern, predicate, most, steps),
             (None, None, Some(object)) => self.count_object(object, steps).min(most),
             (None, Some(predicate), Some(object)) => {
                 self.count_predicate_object(pattern, predicate, object, most, steps)

@@ -12,9 +12,9 @@ use crate::pair::PairMatches;
 use crate::pattern::Pattern;
 use crate::predicate::PredicateMatches;
 use crate::predicate_object::PredicateObjectMatches;
+use crate::scan::ScanMatches;
 use crate::subject::SubjectMatches;
 use crate::subject_object::SubjectObjectMatches;
-use crate::scan::ScanMatches;
 use hdt_seq::Steps;
 
 /// An iterator over the matches of a pattern, in order. Its variants are the search strategies; all return the same

@@ -7,9 +7,9 @@ ghost use Rattle.hdt_triples.specs.InvertedIndex.{IsPositionOf};
 ghost use Rattle.hdt_triples.specs.Patterns.{matches};
 ghost use Rattle.hdt_triples.specs.Views.{triples_view};
 
+use crate::access::{read_entry, read_list};
 use crate::indexed::IndexedTriples;
 use crate::listed_triples::ListedTriples;
-use crate::access::{read_entry, read_list};
 use crate::matches::Matches;
 use crate::pattern::Pattern;
 use hdt_seq::Steps;

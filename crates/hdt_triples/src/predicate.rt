@@ -7,9 +7,9 @@ ghost use Rattle.hdt_triples.specs.Inside.PredicateCursors.{IsPredicateCursor};
 ghost use Rattle.hdt_triples.specs.Views.{triples_view};
 ghost use Rattle.hdt_triples.specs.Scanning.{triples_from};
 
+use crate::access::read_entry;
 use crate::indexed::IndexedTriples;
 use crate::listed_triples::ListedTriples;
-use crate::access::read_entry;
 use crate::matches::Matches;
 use crate::predicate_cursor::PredicateCursor;
 use hdt_seq::Steps;

@@ -8,8 +8,8 @@ ghost use Rattle.hdt_triples.specs.Inside.PredicateCursors.{IsPredicateCursor};
 ghost use Rattle.hdt_triples.specs.Views.{triples_view};
 ghost use Rattle.hdt_triples.specs.Scanning.{triples_from};
 
+use crate::access::{read_bit, read_list};
 use crate::indexed::IndexedTriples;
-use crate::access::{read_list, read_bit};
 use crate::triples::Triples;
 use hdt_seq::Steps;
 
@@ -32,7 +32,12 @@ impl<'a> IndexedTriples<'a> {
     /// Returns the position unchanged if it is within a pair, and else that of the first triple of the next pair: one
     /// rank for the pair's subject, one select for its first triple.
     #[tactic(auto, unfolding(crate::specs::Views::triples_view))]
-    pub(crate) fn enter_pair<'b>(&self, cursor: PredicateCursor<'b>, predicate: u64, steps: &mut Steps) -> PredicateCursor<'b>
+    pub(crate) fn enter_pair<'b>(
+        &self,
+        cursor: PredicateCursor<'b>,
+        predicate: u64,
+        steps: &mut Steps,
+    ) -> PredicateCursor<'b>
         requires stands { IsPredicateCursor (triples_view (triples_indexed self.now)) predicate cursor }
         requires some { cursor.inside ≡ false → 0 < length cursor.rest.now }
         ensures inside { result.inside ≡ true }
@@ -60,7 +65,11 @@ impl<'a> Triples<'a> {
     /// Returns the position after a triple of the current pair. Its bit in bitmap Z shows whether the pair ends. One
     /// step.
     #[tactic(auto, unfolding(crate::specs::Views::triples_view))]
-    pub(crate) fn next_in_pair<'b>(&self, cursor: PredicateCursor<'b>, steps: &mut Steps) -> PredicateCursor<'b>
+    pub(crate) fn next_in_pair<'b>(
+        &self,
+        cursor: PredicateCursor<'b>,
+        steps: &mut Steps,
+    ) -> PredicateCursor<'b>
         requires inside { cursor.inside ≡ true }
         requires within { cursor.at < length (triples_view self.now).array_z }
         ensures at { result.at ≡ cursor.entry.at + 1 }

@@ -79,7 +79,10 @@ fn objects(alloc: Global, triples: &[(u64, u64, u64)]) -> Result<Vec<u64>, Alloc
 }
 
 /// Builds the four sequences of an ascending list of triples. Linear time.
-pub(crate) fn sequences_of(alloc: Global, triples: &[(u64, u64, u64)]) -> Result<Sequences, AllocError>
+pub(crate) fn sequences_of(
+    alloc: Global,
+    triples: &[(u64, u64, u64)],
+) -> Result<Sequences, AllocError>
     ensures { IfOk result (λ made. sequences_view made ≡ sequences_of triples.now) }
 {
     let mut pairs = pairs(alloc, triples)?;
@@ -88,5 +91,10 @@ pub(crate) fn sequences_of(alloc: Global, triples: &[(u64, u64, u64)]) -> Result
     let bitmap_y = build_bitmap_y(alloc, pairs.as_slice())?;
     let array_y = predicates(alloc, pairs.as_slice())?;
     let array_z = objects(alloc, triples)?;
-    Ok(Sequences { bitmap_y, bitmap_z, array_y, array_z })
+    Ok(Sequences {
+        bitmap_y,
+        bitmap_z,
+        array_y,
+        array_z,
+    })
 }

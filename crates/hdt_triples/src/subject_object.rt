@@ -10,11 +10,11 @@ ghost use Rattle.hdt_triples.specs.Views.{triples_view};
 ghost use Rattle.hdt_triples.specs.Scanning.{IsTriplePosition, triples_from};
 
 use crate::access::{lower_bound, read_entry, read_list};
-use crate::predicate_object::digits_of;
 use crate::indexed::IndexedTriples;
 use crate::listed_triples::ListedTriples;
 use crate::matches::Matches;
 use crate::pattern::Pattern;
+use crate::predicate_object::digits_of;
 use crate::triple_position::TriplePosition;
 use hdt_seq::Steps;
 

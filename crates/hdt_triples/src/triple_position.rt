@@ -5,7 +5,7 @@ ghost use Rattle.hdt_triples.specs.TripleSequences.{triple_at};
 ghost use Rattle.hdt_triples.specs.Views.{triples_view};
 ghost use Rattle.hdt_triples.specs.Scanning.{IsTriplePosition};
 
-use crate::access::{read_entry, read_bit};
+use crate::access::{read_bit, read_entry};
 use crate::triples::Triples;
 use hdt_seq::Steps;
 

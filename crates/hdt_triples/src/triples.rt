@@ -6,8 +6,8 @@ ghost use Rattle.hdt_seq.specs.Bits.{bits_of};
 ghost use Rattle.hdt_triples.specs.TripleSequences.{AreValidSequences};
 ghost use Rattle.hdt_triples.specs.CountsView.{counts_view};
 
-use crate::pattern::Counts;
 use crate::checks::{check_sequences, has_spo_order, ones_before};
+use crate::pattern::Counts;
 use hdt_seq::{Bits, Numbers};
 use hdt_wire::{Fault, Kind, Reason, demand, read_control};
 
@@ -45,7 +45,11 @@ impl<'a> Triples<'a> {
 
     /// Decodes triples, one check after another.
     #[tactic(auto, unfolding(crate::specs::Triples::decode_triple_parts, crate::specs::Views::triples_view))]
-    fn read_by_checks(bytes: &'a [u8], at: usize, counts: Counts) -> Result<(Triples<'a>, usize), Fault>
+    fn read_by_checks(
+        bytes: &'a [u8],
+        at: usize,
+        counts: Counts,
+    ) -> Result<(Triples<'a>, usize), Fault>
         requires subjects { counts.subjects < 2 ^ 63 }
         requires predicates { counts.predicates < 2 ^ 63 }
         requires objects { counts.objects < 2 ^ 63 }

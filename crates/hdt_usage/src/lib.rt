@@ -12,5 +12,6 @@
 #![tactic(auto)]
 
 mod commands;
+mod help;
 
 pub use commands::make_command_table;

@@ -3,9 +3,9 @@ ghost use Rattle.std.specs.Prelude.{◌≡◌, ℕ, List, ◌+◌, ◌++◌, len
 ghost use Rattle.hdt_wire.specs.Checks.{Reads, IsBytes, HasSlice};
 ghost use Rattle.hdt_wire.specs.Control.{control_info_of, control_info_at, control, control_at, kind_code, format_text, IsControlAt, HasNoZero, IsPrefixOf};
 
+use crate::checks::{bytes_at, demand, text_at, truncate_on_error};
 use crate::crc::check16;
 use crate::fault::{Fault, Reason};
-use crate::checks::{bytes_at, truncate_on_error, demand, text_at};
 use byteorder::{ByteOrder, LittleEndian};
 use std::alloc::AllocError;
 

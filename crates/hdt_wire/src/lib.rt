@@ -12,26 +12,26 @@
 //! ```
 #![tactic(auto)]
 
-mod crc32c;
-mod crc;
+mod checks;
 mod control;
 mod counted;
+mod crc;
+mod crc32c;
 mod decimal;
 mod fault;
+mod ghost_counter;
 mod properties;
 mod role;
-mod checks;
-mod ghost_counter;
 mod vbyte;
 
-pub use crc32c::check32;
-pub use crc::{check8, check16};
+pub use checks::{bytes_at, demand, len_before_zero, text_at, truncate_on_error};
 pub use control::{Control, Kind, control_roundtrip, put_control, read_control};
 pub use counted::{Counted, Failed};
+pub use crc::{check8, check16};
+pub use crc32c::check32;
 pub use decimal::put_decimal;
 pub use fault::{Fault, Reason};
+pub use ghost_counter::GhostCounter;
 pub use properties::property;
 pub use role::Role;
-pub use checks::{bytes_at, truncate_on_error, demand, text_at, len_before_zero};
-pub use ghost_counter::GhostCounter;
-pub use vbyte::{vbyte_roundtrip, put_vbyte, read_vbyte, vbyte_len};
+pub use vbyte::{put_vbyte, read_vbyte, vbyte_len, vbyte_roundtrip};

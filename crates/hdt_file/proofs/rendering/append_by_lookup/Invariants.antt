@@ -3,7 +3,7 @@ use Rattle.hdt_wire.specs.Control.{IsPrefixOf}
 use Rattle.hdt_file.specs.CachedTerms.{CachesTerms}
 use Rattle.hdt_file.specs.LayoutView.{layout_view}
 use Rattle.hdt_file.proofs.TextByLine.{ContinuesText}
-use Rattle.hdt_file.proofs.text.append_by_lookup.Given as goal
+use Rattle.hdt_file.proofs.rendering.append_by_lookup.Given as goal
 
 abbrev pub invariant-triples : goal.invariant-triples
 invariant-triples l =

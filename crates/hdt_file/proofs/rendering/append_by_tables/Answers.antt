@@ -7,7 +7,7 @@ use Rattle.hdt_file.specs.LayoutView.{layout_view}
 use Rattle.hdt_file.specs.Inside.RenderedTerms.{AreTables}
 use Rattle.hdt_file.proofs.RenderedTermLaws.{tables_of_first, tables_of_rest}
 use Rattle.hdt_file.proofs.TextByLine.{ContinuesText, text_goes_on, text_stops, none_left, ends, keeps_more}
-use Rattle.hdt_file.proofs.text.append_by_tables.Goals as goal
+use Rattle.hdt_file.proofs.rendering.append_by_tables.Goals as goal
 
 pub lines-preserved : goal.lines-preserved
 lines-preserved c =

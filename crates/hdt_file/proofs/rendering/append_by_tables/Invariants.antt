@@ -3,7 +3,7 @@ use Rattle.hdt_wire.specs.Control.{IsPrefixOf}
 use Rattle.hdt_file.specs.LayoutView.{layout_view}
 use Rattle.hdt_file.specs.Inside.RenderedTerms.{AreTables}
 use Rattle.hdt_file.proofs.TextByLine.{ContinuesText}
-use Rattle.hdt_file.proofs.text.append_by_tables.Given as goal
+use Rattle.hdt_file.proofs.rendering.append_by_tables.Given as goal
 
 abbrev pub invariant-lines : goal.invariant-lines
 invariant-lines l =

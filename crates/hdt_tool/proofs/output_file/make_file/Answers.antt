@@ -2,7 +2,7 @@ use Rattle.std.proofs.Common.{Err, ap}
 use Rattle.std.proofs.lemmas.Result.{IfErr-weaker, IfOk-weaker}
 use Rattle.hdt_tool.specs.declared.fault.ToolFault.TheVariants.{OutOfMemory, Read}
 use Rattle.hdt_tool.proofs.Statuses.{kept_in_memory, told_in_memory}
-use Rattle.hdt_tool.proofs.status.make_file.Goals as goal
+use Rattle.hdt_tool.proofs.output_file.make_file.Goals as goal
 
 pub returns-in-Err-clause-told : goal.returns-in-Err-clause-told
 returns-in-Err-clause-told g c =

@@ -2,7 +2,7 @@ use Rattle.std.proofs.Common.{◌≡◌, ◌++◌, ◌-◌, ℕ, suc, take, subs
 use Rattle.hdt_triples.specs.Remaining.{remaining_matches}
 use Rattle.hdt_file.specs.TextWriting.{limited}
 use Rattle.hdt_file.proofs.TextByLine.{one_more}
-use Rattle.hdt_file.proofs.text.collect_matches.Goals as goal
+use Rattle.hdt_file.proofs.rendering.collect_matches.Goals as goal
 
 pub triples-preserved : goal.triples-preserved
 triples-preserved c =

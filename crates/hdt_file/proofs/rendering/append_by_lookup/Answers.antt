@@ -4,7 +4,7 @@ use Rattle.std.proofs.lemmas.Result.{err_from_is_err_and}
 use Rattle.hdt_triples.specs.TripleSequences.{Triple}
 use Rattle.hdt_file.specs.LayoutView.{layout_view}
 use Rattle.hdt_file.proofs.TextByLine.{ContinuesText, goes_on, ends, keeps_more, stops}
-use Rattle.hdt_file.proofs.text.append_by_lookup.Goals as goal
+use Rattle.hdt_file.proofs.rendering.append_by_lookup.Goals as goal
 
 pub triples-preserved : goal.triples-preserved
 triples-preserved c =

@@ -1,0 +1,141 @@
+//! Writing a new file to OUT.
+ghost use Rattle.std.specs.Prelude.{◌≡◌, ◌≢◌, ◌⊎◌, ◌+◌, ℕ, [], Ok, Err, Some, IfOk, IfErr, OnOk, MatchResult};
+ghost use Rattle.std.specs.Io.KnownBytes.{Appends};
+ghost use Rattle.std.specs.IoError.{error_kind};
+ghost use Rattle.hdt_wire.specs.Counted.{inner, failures};
+ghost use Rattle.hdt_tool.specs.Outcomes.{FailsAfter, MakesFile, CompletesOwned, IsFaultOfOwnedInput};
+
+use crate::atomic_replace::{replace_file, replaceable_path};
+use crate::fault::{ToolFault, file_fault};
+use crate::files::{STDERR_PATH, STDOUT_PATH, create, is_same_file, known_size, open_input};
+use crate::request::{Invocation, Request};
+use crate::status::run_opened;
+use hdt_wire::Counted;
+use std::alloc::Global;
+use std::io::{self, ErrorKind, Read, Write};
+
+/// The error of a command that writes to memory: a write error means that memory ran out.
+fn in_memory(fault: ToolFault) -> ToolFault
+    ensures memory { (n : ℕ) → fault ≡ ToolFault.Write n → result ≡ ToolFault.OutOfMemory }
+    ensures other { ((n : ℕ) → fault ≢ ToolFault.Write n) → result ≡ fault }
+{
+    match fault {
+        ToolFault::Write(_) => ToolFault::OutOfMemory,
+        fault => fault,
+    }
+}
+
+/// Builds the new file of `build` or `rewrite` from the result of opening its input: appends it to `built`, and returns
+/// the output line.
+fn make_file<R: Read + Drop>(
+    alloc: Global,
+    request: &Request,
+    file: io::Result<R>,
+    capacity: usize,
+    built: &mut Vec<u8>,
+) -> Result<Vec<u8>, ToolFault>
+    requires { MakesFile request.now.action }
+    // The result is the command's output for the input, and `built` has gained the new file.
+    ensures ok { IfOk result (λ line. MatchResult file (λ input. CompletesOwned request.now.action (R.remaining input)
+        (Some []) (Some line.items) built.old.items built.new.items) (λ _. ⊥)) }
+    ensures told { IfErr result (λ e. IfOk file (λ input. IsFaultOfOwnedInput request.now.action (R.remaining input) e)) }
+    ensures memory { IfErr file (λ e. error_kind e ≡ ErrorKind.OutOfMemory → result ≡ Err ToolFault.OutOfMemory) }
+    ensures unopened { IfErr file (λ e. error_kind e ≢ ErrorKind.OutOfMemory → result ≡ Err ToolFault.Read) }
+    ensures others { IfErr result (λ e. (n : ℕ) → e ≢ ToolFault.Write n) }
+{
+    let mut line = Counted::new(Vec::new(alloc));
+    match run_opened(alloc, request, file, capacity, &mut line, built) {
+        Ok(()) => Ok(line.into_inner()),
+        Err(fault) => Err(in_memory(fault)),
+    }
+}
+
+/// The result of creating the output file, with its error as a [`ToolFault`].
+fn check_created<F: Write>(file: io::Result<F>) -> Result<Counted<F>, ToolFault>
+    ensures ok { IfOk result (λ counted. file ≡ Ok (inner counted)) }
+    ensures memory { IfErr file (λ e. error_kind e ≡ ErrorKind.OutOfMemory → result ≡ Err ToolFault.OutOfMemory) }
+    ensures other { IfErr file (λ e. error_kind e ≢ ErrorKind.OutOfMemory → result ≡ Err (ToolFault.Write 0)) }
+{
+    let file = file.map_err(|error| file_fault(&error, ToolFault::Write(0)))?;
+    Ok(Counted::new(file))
+}
+
+/// Writes an output line.
+fn print_line<W: Write>(out: &mut Counted<W>, line: &[u8]) -> Result<(), ToolFault>
+    ensures line { OnOk result (Appends (W.contents (inner out.old)) (W.contents (inner out.new)) line.now) }
+    ensures well { OnOk result (failures out.new ≡ failures out.old) }
+    ensures failed { IfErr result (λ e. (n : ℕ) × (e ≡ ToolFault.Write n) × FailsAfter n line.now
+        (W.contents (inner out.old)) (W.contents (inner out.new)) (failures out.old) (failures out.new)) }
+{
+    out.write_all(line).map_err(ToolFault::Write)
+}
+
+/// Writes the new file, and then the output line.
+fn write_file_and_line<F: Write, W: Write>(
+    file: &mut Counted<F>,
+    built: &[u8],
+    out: &mut Counted<W>,
+    line: &[u8],
+) -> Result<(), ToolFault>
+    // The file has gained the bytes, and the writer the line.
+    ensures file { OnOk result (Appends (F.contents (inner file.old)) (F.contents (inner file.new)) built.now) }
+    ensures line { OnOk result (Appends (W.contents (inner out.old)) (W.contents (inner out.new)) line.now) }
+    ensures well { OnOk result ((failures file.new ≡ failures file.old) × (failures out.new ≡ failures out.old)) }
+    // `Write(n)`: either the file failed after exactly n bytes, and `out` is unchanged; or the writer failed after
+    // exactly n bytes of the line, and the file is complete.
+    ensures failed { IfErr result (λ e. (n : ℕ) × (e ≡ ToolFault.Write n) × (
+        (FailsAfter n built.now (F.contents (inner file.old)) (F.contents (inner file.new)) (failures file.old) (failures file.new)
+        × (out.new ≡ out.old))
+        ⊎ (FailsAfter n line.now (W.contents (inner out.old)) (W.contents (inner out.new)) (failures out.old) (failures out.new)
+        × Appends (F.contents (inner file.old)) (F.contents (inner file.new)) built.now
+        × (failures file.new ≡ failures file.old)))) }
+{
+    file.write_all(built).map_err(ToolFault::Write)?;
+    print_line(out, line)
+}
+
+/// Prints the new file to standard output, and its line to standard error, unless both are the same file.
+fn print_built(rt: &HostRuntime, built: &[u8], line: &[u8]) -> Result<(), ToolFault> {
+    let mut out = Counted::new(io::writer(rt));
+    let mut errors = Counted::new(rt.stderr());
+    let line = if is_same_file(rt, STDOUT_PATH, STDERR_PATH) {
+        &[]
+    } else {
+        line
+    };
+    write_file_and_line(&mut out, built, &mut errors, line)
+}
+
+/// Writes the new file to a path, and prints its line. A regular file is replaced atomically; anything else is written
+/// in place.
+fn write_to_path(rt: &HostRuntime, path: &str, built: &[u8], line: &[u8]) -> Result<(), ToolFault> {
+    let mut out = Counted::new(io::writer(rt));
+    let replaced = replaceable_path(rt, rt.alloc(), path);
+    if let Some(path) = replaced.map_err(|error| file_fault(&error, ToolFault::Write(0)))? {
+        replace_file(rt, &path, built)?;
+        return print_line(&mut out, line);
+    }
+    let mut file = check_created(create(rt, path))?;
+    write_file_and_line(&mut file, built, &mut out, line)
+}
+
+/// Runs `build` or `rewrite`. The file is written only once it is complete, and the line with its counts is printed
+/// last. If `path` leads to standard output, the file is printed there.
+pub(crate) fn make_file_at(
+    rt: &HostRuntime,
+    invocation: &Invocation,
+    path: &str,
+) -> Result<(), ToolFault>
+    requires { MakesFile invocation.now.request.action }
+{
+    // No progress if standard error is the output file, which must hold nothing else.
+    let progress = invocation.progress && !is_same_file(rt, path, STDERR_PATH);
+    let input = open_input(rt, invocation.request.file.as_str(), progress);
+    let mut built = Vec::new(rt.alloc());
+    let capacity = known_size(&input);
+    let line = make_file(rt.alloc(), &invocation.request, input, capacity, &mut built)?;
+    if is_same_file(rt, path, STDOUT_PATH) {
+        return print_built(rt, &built, &line);
+    }
+    write_to_path(rt, path, &built, &line)
+}
