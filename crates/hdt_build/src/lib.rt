@@ -21,12 +21,12 @@
 //! let (canonical, report) = rewrite_bytes(alloc, &graph, &options)?; // without unused strings
 //! ```
 //!
-//! Modules, in reading order. Building: `options`, `report` and `fault`; `interner`, the list of strings; `queue` and
+//! Modules, in reading order. Building: `options` and `fault`; `interner`, the list of strings; `queue` and
 //! `document`, triples as indices of strings; `reading`, the lines of the input; `keys`, `ties`, `merging` and
-//! `string_sort`, sorting the strings; `prefetch`; `dedup`, dropping duplicates; `used` and `section_filter`, the four
-//! sections and the IDs; `triples` and `encoding`, the encoded graph; `header` and `file`, its bytes; `building` and
-//! `laws`. Rewriting: `retained`, which strings remain; `section_run`, a cursor over them; `sections` and `id_map`, the
-//! new sections and IDs; `rewriting`; `laws`.
+//! `string_sort`, sorting the strings; `prefetch`; `dedup`, dropping duplicates; `section_filter`, the four sections
+//! and the IDs; `triples` and `encoding`, the encoded graph; `header` and `file`, its bytes; `building`.
+//! Rewriting: `retained`, which strings remain; `section_run`, a cursor over them; `sections` and `id_map`, the new
+//! sections and IDs; `rewriting`. `laws`: properties of both.
 #![tactic(auto)]
 
 mod building;

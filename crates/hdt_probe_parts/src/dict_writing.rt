@@ -149,7 +149,9 @@ fn put_one_by_one(
 /// Appends the dictionary of these strings, at once or string by string, if a dictionary can hold them.
 fn write_dictionary(
     alloc: Global,
-    given: &RoleStrings,
+    subjects: &[Vec<u8>],
+    predicates: &[Vec<u8>],
+    objects: &[Vec<u8>],
     block_size: u32,
     one_by_one: bool,
     out: &mut Vec<u8>,
@@ -157,21 +159,16 @@ fn write_dictionary(
     if block_size == 0 {
         return Ok(false);
     }
-    if !hold_valid_strings(alloc, given.subjects.as_slice())? {
+    if !hold_valid_strings(alloc, subjects)? {
         return Ok(false);
     }
-    if !hold_valid_strings(alloc, given.predicates.as_slice())? {
+    if !hold_valid_strings(alloc, predicates)? {
         return Ok(false);
     }
-    if !hold_valid_strings(alloc, given.objects.as_slice())? {
+    if !hold_valid_strings(alloc, objects)? {
         return Ok(false);
     }
-    let parts = split(
-        alloc,
-        given.subjects.as_slice(),
-        given.predicates.as_slice(),
-        given.objects.as_slice(),
-    )?;
+    let parts = split(alloc, subjects, predicates, objects)?;
     if one_by_one {
         put_one_by_one(alloc, &parts, block_size, out)?;
     } else {
@@ -184,7 +181,16 @@ fn reply_put_dictionary(args: &mut Args<'_>, reply: &mut Reply, one_by_one: bool
     let mut bytes = args.bytes();
     let block_size = args.number32();
     let given = role_strings(args);
-    match write_dictionary(args.alloc, &given, block_size, one_by_one, &mut bytes) {
+    let written = write_dictionary(
+        args.alloc,
+        &given.subjects,
+        &given.predicates,
+        &given.objects,
+        block_size,
+        one_by_one,
+        &mut bytes,
+    );
+    match written {
         Ok(true) => reply.bytes(&bytes),
         Ok(false) => reply.refused(),
         Err(AllocError) => {

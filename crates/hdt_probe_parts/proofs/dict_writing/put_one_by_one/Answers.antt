@@ -1,11 +1,12 @@
-use Rattle.std.proofs.Common.{◌≡◌, List, subst, sym}
+use Rattle.std.proofs.Common.{◌≡◌, ℕ, List, subst, sym}
+use Rattle.std.specs.declared.vec.Vec.{Vec}
 use Rattle.hdt_front.specs.Section.{AreSectionStrings}
 use Rattle.hdt_front.specs.Canonical.{texts}
 use Rattle.hdt_dict.specs.Split.{lists_of_parts}
 use Rattle.hdt_probe_parts.proofs.dict_writing.put_one_by_one.Goals as goal
 
-strings_are : (xs ys : List VecOfBytes) → xs ≡ ys → AreSectionStrings (texts ys) → AreSectionStrings (texts xs)
-strings_are xs ys e are = subst (λ (l : List VecOfBytes). AreSectionStrings (texts l)) (sym e) are
+strings_are : {Z : Type 0} → (xs ys : List (Vec ℕ Z)) → xs ≡ ys → AreSectionStrings (texts ys) → AreSectionStrings (texts xs)
+strings_are {Z} xs ys e are = subst (λ (l : List (Vec ℕ Z)). AreSectionStrings (texts l)) (sym e) are
 
 pub section_of-requires-clause-strings : goal.section_of-requires-clause-strings
 unfolding lists_of_parts
