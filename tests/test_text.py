@@ -64,7 +64,7 @@ def test_part_of_every_pattern(probe: Probe, most: Optional[int]) -> None:
     """The first lines of each pattern's matches, at most so many."""
     patterns: list[Pattern] = [(s, p, o) for s, p, o in product(GIVEN, GIVEN, GIVEN)]
     probe.send(("file", THREE))
-    texts = [b"".join(LINES[IDS.index(triple)] for triple in model.matches(IDS, pattern)[:most]) for pattern in patterns]
+    texts = [b"".join(LINES[IDS.index(it)] for it in model.matches(IDS, pattern)[:most]) for pattern in patterns]
     answers = probe.send(*(("layout_text", most, *pattern) for pattern in patterns))
     assert list(zip(patterns, answers)) == [(pattern, ok(text)) for pattern, text in zip(patterns, texts)]
     answers = probe.send(*(("append_graph_text", b"", most, *pattern) for pattern in patterns))

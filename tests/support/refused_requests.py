@@ -412,10 +412,10 @@ def searching() -> Iterator[Request]:
     yield "graph_text", "none"
     yield "graph_text", *ANY
     yield "graph_text", 1, "-", "-"
-    for most in (2, "-"):
-        yield "layout_text", most, *ANY
-        yield "layout_text", most, 1, "-", "-"
-        yield "layout_text", most, "none"
+    yield "layout_text", "-", *ANY
+    yield "layout_text", 2, *ANY
+    yield "layout_text", 2, 1, "-", "-"
+    yield "layout_text", "-", "none"
     yield "append_graph_text", BEFORE, 1, *ANY, "-", "-", 1, "-", 2, "none"
     yield "write_graph", *WRITER, "none"
     yield "write_graph", *WRITER, 1, "-", "-"
