@@ -1,6 +1,6 @@
 mod Refusals
 mod OutPaths
-mod Arguments
+mod ParsedArguments
 mod StringLines
 mod Pieces
 mod InputFaults

@@ -1,4 +1,4 @@
-use Rattle.hdt_tool.proofs.Arguments.{term_fault_of_argument}
+use Rattle.hdt_tool.proofs.ParsedArguments.{term_fault_of_argument}
 use Rattle.hdt_tool.proofs.arguments.dictionary_string.Goals as goal
 
 pub returns-in-Err-clause-refused : goal.returns-in-Err-clause-refused

@@ -1,7 +1,7 @@
 use Rattle.std.proofs.Common.{◌≡◌, List, ℕ, Some, rules, subst}
 use Rattle.std.proofs.lemmas.Result.{IfErr-weaker}
 use Rattle.clap.specs.Words.{first_of, found_of, rows_of}
-use Rattle.hdt_tool.proofs.Arguments.{invalid_part}
+use Rattle.hdt_tool.proofs.ParsedArguments.{invalid_part}
 use Rattle.hdt_tool.proofs.arguments.pattern_argument.Goals as goal
 
 pub returns-in-Some-clause-refused : goal.returns-in-Some-clause-refused

@@ -1,7 +1,7 @@
 use Rattle.std.proofs.Common.{◌≡◌, Some, codes, rules}
 use Rattle.std.proofs.lemmas.Result.{IfErr-weaker}
 use Rattle.clap.specs.Words.{first_of, found_of, rows_of}
-use Rattle.hdt_tool.proofs.Arguments.{invalid_term}
+use Rattle.hdt_tool.proofs.ParsedArguments.{invalid_term}
 use Rattle.hdt_tool.specs.declared.fault.TermArgument.TheVariants.{Term}
 use Rattle.hdt_tool.proofs.arguments.required_term.Goals as goal
 

@@ -1,7 +1,7 @@
 use Rattle.std.proofs.Common.{ℕ, Option, None, Some, arith}
 use Rattle.clap.specs.Words.{Text}
 use Rattle.hdt_tool.specs.CommandLine.{ParsesAsNumber}
-use Rattle.hdt_tool.proofs.Arguments.{without}
+use Rattle.hdt_tool.proofs.ParsedArguments.{without}
 use Rattle.hdt_tool.proofs.arguments.required_u32.Goals as goal
 
 wider : (o : Option Text) (n : ℕ) → ParsesAsNumber 32 o n → ParsesAsNumber 64 o n

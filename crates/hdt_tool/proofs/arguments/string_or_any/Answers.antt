@@ -1,7 +1,7 @@
 use Rattle.std.proofs.Common.{◌≢◌, List, ℕ, codes, rules, subst}
 use Rattle.std.proofs.lemmas.Result.{err_from_is_err_and}
 use Rattle.hdt_tool.specs.CommandLine.{RefutesOrInvalidTerm, IsFaultOfArgument}
-use Rattle.hdt_tool.proofs.Arguments.{map_refutes}
+use Rattle.hdt_tool.proofs.ParsedArguments.{map_refutes}
 use Rattle.hdt_tool.proofs.arguments.string_or_any.Goals as goal
 
 pub returns-in_err-dictionary_string-clause-refused : goal.returns-in_err-dictionary_string-clause-refused

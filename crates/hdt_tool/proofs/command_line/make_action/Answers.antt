@@ -1,6 +1,6 @@
 use Rattle.std.proofs.lemmas.Result.{err_from_is_err_and}
 use Rattle.clap.specs.Words.{found_of, rows_of}
-use Rattle.hdt_tool.proofs.Arguments.{without, options_needed}
+use Rattle.hdt_tool.proofs.ParsedArguments.{without, options_needed}
 use Rattle.hdt_tool.proofs.command_line.make_action.Goals as goal
 
 pub returns-in_err-build_options-in-build-clause-refused : goal.returns-in_err-build_options-in-build-clause-refused

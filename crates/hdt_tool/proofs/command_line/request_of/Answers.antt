@@ -1,6 +1,6 @@
 use Rattle.std.proofs.lemmas.Result.{IfErr-weaker}
 use Rattle.clap.specs.Words.{found_of, rows_of}
-use Rattle.hdt_tool.proofs.Arguments.{of_making, of_others}
+use Rattle.hdt_tool.proofs.ParsedArguments.{of_making, of_others}
 use Rattle.hdt_tool.proofs.command_line.request_of.Goals as goal
 
 pub returns-in_default-clause-refused : goal.returns-in_default-clause-refused
