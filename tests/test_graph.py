@@ -247,12 +247,12 @@ def test_text_of_a_large_graph(probe: Probe, large: Large) -> None:
     lines = b"".join(map(line, large.ids[:SECTION - 1]))
     assert len(lines) == 2_309_965 and lines.endswith(b"<u:131998> <u:065998> <u:131998> .\n")
     probe.send(("file", large.data))
-    for prefix in "graph", "layout":
-        text = probe.ask(f"{prefix}_text_up_to", SECTION - 1, None, None, None)
-        assert (text == ok(lines)) is True, prefix
-        no_term = "not", "a", "term", "0", "66000"
-        assert probe.ask(f"{prefix}_text_up_to", SECTION, None, None, None) == no_term
-        assert probe.ask(f"{prefix}_text", None, None, None) == no_term
+    no_term = "not", "a", "term", "0", "66000"
+    text = probe.ask("layout_text", SECTION - 1, None, None, None)
+    assert (text == ok(lines)) is True, "a part"
+    assert probe.ask("layout_text", SECTION, None, None, None) == no_term
+    for request in ("layout_text", None), ("graph_text",):
+        assert probe.ask(*request, None, None, None) == no_term
     # The last subject's ID is large.
     assert probe.ask("graph_text", 132_000, None, None) == ("not", "a", "term", "0", "132000")
 

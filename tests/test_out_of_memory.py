@@ -278,9 +278,9 @@ def are_right(word: str, request: Request, values: list[str], ample: list[str]) 
 
 
 def arena_without(strings: list[str], refused: int) -> list[str]:
-    """The values of an arena, of which one string was refused: its length, and all strings twice."""
+    """The values of an arena, of which one string was refused: its length, and all strings."""
     kept = strings[:refused] + strings[refused + 1:]
-    return [str(len(kept)), *kept, *kept]
+    return [str(len(kept)), *kept]
 
 
 def writer_without(strings: list[str], refused: int) -> list[str]:

@@ -249,7 +249,10 @@ def test_text_is_that_of_the_reference(probe: Probe, graph: model.Written, patte
         assert answers_by_both(probe, graph.data, [asked]) == [(whole, whole)]
         assert probe.ask("layout_text", most, *asked) == first
         appended = probe.ask("append_graph_text", b"", most, *asked)
-        assert appended == (ok("done", bytes.fromhex(first[1])) if first[0] == "ok" else (*first, ""))
+        if first[0] == "ok":
+            assert appended == ok("done", bytes.fromhex(first[1]))
+        else:
+            assert appended == ok("not_a_term", *first[3:], b"")
         failing = probe.ask("write_graph", step, calls, *asked)
         text = bytes.fromhex(whole[1]) if whole[0] == "ok" else b""
         if whole[0] != "ok":
