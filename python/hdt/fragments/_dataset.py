@@ -78,7 +78,7 @@ class Dataset:
                 log.warning("%s: the file was replaced: %d triples", self.name, self._loaded.reader.counts.triples)
         except (OSError, ValueError, MemoryError) as error:
             self._refused = identity
-            self._say(f"{error}" or type(error).__name__)
+            self._say(getattr(error, "strerror", None) or str(error) or type(error).__name__)
 
     def _say(self, why: str) -> None:
         """Log an error, once."""

@@ -6,8 +6,9 @@ All text that comes from data, from the request or from the configuration is esc
 from __future__ import annotations
 
 import html
+import itertools
 import re
-from collections.abc import Mapping
+from collections.abc import Mapping, Sequence
 from dataclasses import dataclass
 from typing import Optional
 
@@ -111,25 +112,26 @@ class View:
         if role == 2 and (uses := self.link(term, 2)):
             about = "Triples with this object"
             shown += f'<a class="more" href="{text(uses)}" title="{about}" aria-label="{about}">←</a>'
-        if re.match(r"https?://", term):
+        if role != 1 and re.match(r"https?://", term):
             shown += (f'<a class="more" href="{text(terms.iri_text(term))}" rel="noopener noreferrer nofollow" '
                       f'title="Open {text(term)}" aria-label="Open the IRI">↗</a>')
         return shown
 
-    def table(self, triples: list[Triple], caption: str, subjects: bool = True) -> str:
-        """Triples as a table, in which the rows of one subject are joined."""
-        rows, last, left = [], "", 0
-        for place, (s, p, o) in enumerate(triples):
-            first = ""
-            if subjects and s != last:
-                left = next((n for n in range(place, len(triples)) if triples[n][0] != s), len(triples)) - place
-                span = f' rowspan="{left}"' if left > 1 else ""
-                first = f'<th class="s" scope="rowgroup" role="rowheader"{span}>{self.term(s, 0)}</th>'
-            last = s
-            rows.append(f'<tr role="row">{first}<td class="p" role="cell">{self.term(p, 1)}</td>'
-                        f'<td class="o" role="cell">{self.term(o, 2)}</td></tr>')
-        names = (["Subject"] if subjects else []) + ["Predicate", "Object"]
-        heads = "".join(f'<th class="{name[0].lower()}" scope="col" role="columnheader">{name}</th>' for name in names)
+    def table(self, triples: list[Triple], caption: str, roles: Sequence[int] = (0, 1, 2)) -> str:
+        """Triples as a table of these roles, in which the rows of one subject are joined."""
+        rows = []
+        for subject, group in itertools.groupby(triples, lambda triple: triple[0]):
+            found = list(group)
+            span = f' rowspan="{len(found)}"' if len(found) > 1 else ""
+            first = f'<th class="s" scope="rowgroup" role="rowheader"{span}>{self.term(subject, 0)}</th>'
+            for place, triple in enumerate(found):
+                cells = first if 0 in roles and place == 0 else ""
+                for role in roles:
+                    if role:
+                        cells += f'<td class="{ROLES[role][0]}" role="cell">{self.term(triple[role], role)}</td>'
+                rows.append(f'<tr role="row">{cells}</tr>')
+        heads = "".join(f'<th class="{ROLES[role][0]}" scope="col" role="columnheader">{ROLES[role].capitalize()}</th>'
+                        for role in roles)
         return (
             f'<table class="triples" role="table"><caption>{text(caption)}</caption>'
             f'<thead role="rowgroup"><tr role="row">{heads}</tr></thead>'

@@ -118,11 +118,12 @@ def _pointing(fragment: Fragment, view: View) -> str:
         return ""
     found, _ = reader.page(pattern, 0, _POINTING)
     link = view.link(subject, 2) or fragment.url
+    caption = f"The first {len(found):,}" if count > len(found) else "All of them"
     return (
         f'<section aria-label="Triples that point to it"><div class="bar"><h2>{count:,} '
         f'{"triple points" if count == 1 else "triples point"} to it</h2>'
         + (f'<a href="{text(link)}">All {count:,}</a>' if count > len(found) else "")
-        + f"</div>{view.table(found, f'The first {len(found):,}' if count > len(found) else 'All of them')}</section>"
+        + f"</div>{view.table(found, caption, (0, 1))}</section>"
     )
 
 
@@ -135,7 +136,8 @@ def _heading(fragment: Fragment, view: View) -> str:
     dataset, subject = fragment.dataset, fragment.pattern[0]
     if _is_about_a_subject(fragment) and subject and fragment.count:
         crumbs = _crumbs(fragment.request, fragment.config, (fragment.url, dataset.title))
-        return f'<header>{crumbs}<h1>{text(view.name(subject))}</h1><p class="iri">{text(subject)}</p><p></p></header>'
+        name = subject if subject.startswith("_:") else view.short(subject)[1]
+        return f'<header>{crumbs}<h1>{text(name)}</h1><p class="iri">{text(subject)}</p><p></p></header>'
     lead = f'<p class="lead">{text(dataset.source.description)}</p>' if dataset.source.description else ""
     return (
         f"<header>{_crumbs(fragment.request, fragment.config)}"
@@ -152,7 +154,7 @@ def _triples(fragment: Fragment, view: View) -> str:
     if not found:
         rows = '<p class="box none">No triple of this dataset matches.</p>'
     else:
-        rows = view.table(found, caption, not _is_about_a_subject(fragment))
+        rows = view.table(found, caption, (1, 2) if _is_about_a_subject(fragment) else (0, 1, 2))
     note = (f'<p class="box hint">{left_out:,} triples of this page have strings that are no terms of RDF. '
             "They are left out.</p>") if left_out else ""
     below = f'<div class="bar"><span></span>{_pager(fragment, "Pages, again")}</div>' if len(found) > 15 else ""

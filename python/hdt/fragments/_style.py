@@ -54,7 +54,7 @@ tbody th{font-weight:400;text-align:left}
 tbody td,tbody th{padding:5px 12px;vertical-align:top;border-top:1px solid var(--line);overflow-wrap:anywhere}
 td.n{text-align:right;font-variant-numeric:tabular-nums}
 .ns{color:var(--soft)}
-.more{margin-left:6px;font-size:13px}
+.more{margin-left:6px;font-size:13px;white-space:nowrap}
 td .more,th .more{color:var(--soft)}
 .kind{display:inline-block;margin-left:6px;padding:0 7px;border-radius:5px;background:var(--chip);color:var(--soft);
 font-size:12px;line-height:19px}
@@ -63,13 +63,15 @@ summary{cursor:pointer}
 .none{padding:30px;text-align:center;color:var(--soft)}
 .cards{display:grid;gap:12px;margin:18px 0;padding:0;list-style:none}
 .cards .box{margin:0}
+.cards .facts{margin-bottom:0}
 footer{color:var(--soft);font-size:14px;padding-top:8px;padding-bottom:36px}
 code{background:var(--chip);padding:2px 6px;border-radius:5px;overflow-wrap:anywhere;font-size:13px}
 @media (max-width:760px){
 header,main,footer{padding-left:12px;padding-right:12px}
 form.search{grid-template-columns:1fr}
 table.triples thead{position:absolute;left:-999px}
-table.triples,table.triples tbody{display:block}
+table.triples,table.triples tbody,table.triples caption{display:block}
+table.triples caption{padding:8px 12px}
 table.triples tr{display:flex;flex-wrap:wrap;border-top:1px solid var(--line)}
 table.triples th{flex:0 0 100%;background:var(--chip);border:0}
 table.triples td{border:0}
