@@ -21,6 +21,7 @@ P = "http://odd.example/p"
 XSD = "http://www.w3.org/2001/XMLSchema#"
 HYDRA = "http://www.w3.org/ns/hydra/core#"
 GENID = BASE + ".well-known/genid/odd/"
+SHOUT = f'<http://odd.example/s1> <{P}> "shout"@EN-gb .\n'
 ROLES = ("subject", "predicate", "object")
 FORMATS = {
     "text/turtle": "turtle",
@@ -34,7 +35,7 @@ FORMATS = {
 @pytest.fixture(scope="session")
 def odd(tmp_path_factory: pytest.TempPathFactory) -> Path:
     """The file of odd terms."""
-    return build(tmp_path_factory.mktemp("odd"), ODD)
+    return build(tmp_path_factory.mktemp("odd"), ODD + SHOUT)
 
 
 @pytest.fixture(scope="session")
@@ -140,7 +141,7 @@ def test_wrong_pages(site: Site, page: str) -> None:
 
 @pytest.mark.parametrize("text, count", [
     ('"plain"', 1), ('"plain"^^http://www.w3.org/2001/XMLSchema#string', 1), ('""', 1), ('"?x"', 1),
-    ('"colour"@en-GB', 1), ('"colour"@en-gb', 1), ('"colour"@EN-GB', 1), ('"shout"@EN-gb', 1), ('"colour"@fr', 0),
+    ('"colour"@en-GB', 1), ('"colour"@en-gb', 1), ('"colour"@EN-GB', 1), ('"shout"@EN-gb', 1), ('"shout"@en-gb', 1), ('"colour"@fr', 0),
     ('"text"', 1), (f'"text"^^{XSD}string', 1), (f'"text"^^<{XSD}string>', 1),
     (f'"5"^^{XSD}integer', 1), (f'"5"^^<{XSD}integer>', 2), ('"5"', 0), (f'"05"^^{XSD}integer', 0),
     ('"with "quotes" inside"', 1), ('"with \\"quotes\\" inside"', 1),
@@ -155,7 +156,7 @@ def test_objects(site: Site, text: str, count: Optional[int]) -> None:
     """A literal is raw or escaped, its datatype bare or in brackets, its tag as a client folds it; IRIs and variables."""
     answer = site.nquads(url(object=text))
     wanted = {'"5"^^' + XSD + "integer": 2}.get(text, count)
-    assert (answer.status, answer.total) == (200, ODD.count("\n") if wanted is None else wanted)
+    assert (answer.status, answer.total) == (200, (ODD + SHOUT).count("\n") if wanted is None else wanted)
 
 
 @pytest.mark.parametrize("text, count", [
@@ -175,7 +176,7 @@ def test_spaces_and_names(site: Site) -> None:
     literal = '"a & b + c # d % e ? f=g; h"'
     assert site.nquads("/odd?object=" + quote(literal).replace("%20", "+")).total == 1
     assert site.nquads(url(predicate="rdf:type")).total == 1
-    assert site.nquads("/odd?other=1&&predicate=&subject=%3Fs").total == ODD.count("\n")
+    assert site.nquads("/odd?other=1&&predicate=&subject=%3Fs").total == (ODD + SHOUT).count("\n")
 
 
 # ---- formats and negotiation

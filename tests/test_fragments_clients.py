@@ -19,7 +19,7 @@ from wsgiref.simple_server import WSGIServer, make_server
 import pytest
 
 from hdt.fragments.__main__ import Handler, Server
-from support.fragments import MANY, ODD, build, fragments, hdt
+from support.fragments import ODD, build, fragments, hdt
 from support.program import run
 from test_python import line as ntriples
 from test_python import matching
@@ -28,6 +28,10 @@ CLIENT = Path(__file__).parent / "support/fragments_client.pl"
 CLIENTS = ("ldf", "trine", "attean")
 MODULES = ("RDF::LDF", "RDF::Query", "AtteanX::Store::LDF")
 ACCEPTED = "text/turtle", "application/turtle", "application/x-turtle", "text/x-nquads"
+
+# The odd terms, with fewer numbers, in small pages.
+FEW = "".join(line + "\n" for line in ODD.split("\n")[:-1] if "odd.example/n>" not in line or re.search(r'"[1-4]?\d"', line))
+PAGE = 20
 
 
 def _there() -> bool:
@@ -111,13 +115,13 @@ class Rows:
     """An application whose first part of a path says what is taken away from its pages."""
 
     def __init__(self, datasets: dict[str, str]) -> None:
-        self.application = fragments.Application({"datasets": datasets, "gzip": False})
+        self.application = fragments.Application({"datasets": datasets, "gzip": False, "page_size": PAGE})
         self.elsewhere = self.application
 
     def named(self, base: str) -> None:
         """Have a row with a base of its own."""
         self.elsewhere = fragments.Application({"datasets": {
-            name: source.file for name, source in self.application.config.datasets.items()}, "base": base})
+            name: source.file for name, source in self.application.config.datasets.items()}, "base": base, "page_size": PAGE})
 
     def __call__(self, environ: dict[str, Any], start: Callable[..., Any]) -> Iterable[bytes]:
         """Answer, with what the row breaks."""
@@ -146,7 +150,7 @@ def files(tmp_path_factory: pytest.TempPathFactory) -> dict[str, str]:
     hydra = "http://www.w3.org/ns/hydra/core#"
     text = "".join(f"<u:{n}> <{hydra}{name}> <u:o> .\n" for n, name in enumerate((
         "search", "member", "template", "mapping", "variable", "property", "next")))
-    return {"odd": str(build(folder, ODD)), "hydra": str(build(folder, text, "hydra"))}
+    return {"odd": str(build(folder, FEW)), "hydra": str(build(folder, text, "hydra"))}
 
 
 @pytest.fixture(scope="module")
@@ -174,7 +178,7 @@ ASKED = (
     ("S??", "<http://odd.example/s1> <u:p> <u:o> ."),
     ("???", "<u:s> <u:p> <u:o> ."),
 )
-WANTED = [MANY, ODD.count("<http://odd.example/s1> "), ODD.count("\n")]
+WANTED = [49, FEW.count("<http://odd.example/s1> "), FEW.count("\n")]
 
 
 @pytest.fixture(scope="module")
@@ -228,14 +232,14 @@ def test_counts(needs: dict[str, Any]) -> None:
 
 def test_next(needs: dict[str, Any]) -> None:
     """Pages are followed by `hydra:next`, and by no other name."""
-    assert needs["next-page"]["ldf"][0] == [min(100, count) for count in WANTED]
+    assert needs["next-page"]["ldf"][0] == [min(PAGE, count) for count in WANTED]
 
 
 @pytest.mark.parametrize("row", ["page", "only-text-x-nquads"])
 def test_data_of_hydra(server: WSGIServer, row: str) -> None:
     """These clients take data with Hydra's predicates for controls; the counts are right."""
     said = asked((client, address(server, row, "hydra"), *ASKED[2]) for client in CLIENTS)
-    assert [len(each.lines) for each in said] == [1, 1, 1] and [each.count for each in said] == [None, "7", "7"]
+    assert [len(each.lines) for each in said] == [2, 2, 2] and [each.count for each in said] == [None, "7", "7"]
 
 
 # ---- all patterns
@@ -256,33 +260,36 @@ def test_patterns(server: WSGIServer, files: dict[str, str]) -> None:
     """Each client gets what a plain filter finds, for the eight patterns of triples with odd terms."""
     prefix = address(server).replace("/odd", "/.well-known/genid/odd/")
     with hdt.open(files["odd"]) as graph:
-        triples = [triple for triple in graph if len(triple[2]) < 2000]
-        whole = list(graph)
-    chosen = [triple for triple in triples if not triple[1].endswith("/n")] + triples[-1:]
+        triples = list(graph)
+    chosen = [triple for triple in triples if not triple[1].endswith("/n") and len(triple[2]) < 2000] + triples[-1:]
 
     def sent(term: str) -> str:
         return prefix + quote(term[2:]) if term.startswith("_:") else term
 
-    words, wanted = [], []
+    words, wanted, seen = [], [], set()
     for triple in chosen:
         for kind in (kind for kind in product((False, True), repeat=3) if any(kind)):
-            pattern = [term if has else None for term, has in zip(triple, kind)]
-            wanted.append((pattern, plain(map(str.rstrip, map(ntriples, matching(whole, pattern))), prefix)))
+            pattern = tuple(term if has else None for term, has in zip(triple, kind))
+            if pattern in seen:
+                continue
+            seen.add(pattern)
+            wanted.append((pattern, plain(map(str.rstrip, map(ntriples, matching(triples, pattern))), prefix)))
             words.append(("".join("SPO"[n] if has else "?" for n, has in enumerate(kind)),
-                          ntriples((sent(triple[0]), triple[1], sent(triple[2]))).rstrip("\n")))
+                          ntriples((sent(triple[0]), triple[1], sent(triple[2]))).rstrip("\n").replace("\t", "\\t")))
     wrong = []
-    for client in CLIENTS:
-        for (pattern, lines), said in zip(wanted, asked((client, address(server), *request) for request in words)):
+    for client, step in zip(CLIENTS, (1, 5, 2)):
+        requests = ((client, address(server), *request) for request in words[::step])
+        for (pattern, lines), said in zip(wanted[::step], asked(requests)):
             if plain(said.lines, prefix) != lines:
                 wrong.append((client, pattern, len(lines), len(said.lines)))
-    assert wrong == []
+    assert wrong == [], "\n".join(map(repr, wrong))
 
 
 # ---- SPARQL
 
 QUERIES = (
     "SELECT ?s ?name WHERE { ?s <http://odd.example/knows> ?b . ?b <http://odd.example/name> ?name }",
-    "SELECT ?n WHERE { <http://odd.example/many> <http://odd.example/n> ?n . FILTER(?n > 240) }",
+    "SELECT ?n WHERE { <http://odd.example/many> <http://odd.example/n> ?n . FILTER(?n > 40) }",
     'SELECT ?s ?o WHERE { ?s <http://odd.example/p> "plain" . ?s <http://odd.example/p> ?o . FILTER(LANG(?o) = "fr") }',
     "SELECT ?s ?c WHERE { ?s a ?c }",
     "SELECT ?a ?c WHERE { ?a <http://odd.example/knows> ?b . ?b <http://odd.example/knows> ?c }",
@@ -292,7 +299,7 @@ QUERIES = (
 def test_sparql(server: WSGIServer) -> None:
     """RDF::Query over fragments has as many answers as rdflib over the file's text, and the same literals."""
     rdflib: Any = pytest.importorskip("rdflib")
-    graph = rdflib.Graph().parse(data=ODD, format="nt11")
+    graph = rdflib.Graph().parse(data=re.sub(r"_:\S+t\S+ ", "_:third ", FEW), format="nt11")
     for query, said in zip(QUERIES, asked(("sparql", address(server), query) for query in QUERIES)):
         wanted = list(graph.query(query))
         assert len(said.lines) == len(wanted) > 0

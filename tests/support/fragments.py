@@ -43,7 +43,6 @@ _OBJECTS = r'''
 "line\nfeed\ttab\rreturn"
 "caf\u00E9 \u2014 \U0001F600"@fr
 "colour"@en-GB
-"shout"@EN-gb
 "a & b + c # d % e ? f=g; h"
 "looks like \"x\"@en"
 "looks like \"5\"^^<http://a/dt>"

@@ -2,6 +2,7 @@
 
 from __future__ import annotations
 
+import itertools
 import re
 from collections.abc import Iterator
 from typing import Optional
@@ -89,13 +90,14 @@ def _unescaped(match: re.Match[str]) -> str:
 
 
 def _tags(tag: str) -> Iterator[str]:
-    """A language tag as it is and in the usual cases: a client may fold its case, and a dictionary does not."""
+    """A language tag as it is, and with each part in lower case, upper case and with a capital.
+
+    A client may fold the case of a tag, and a dictionary does not. A tag of more than four parts is taken as it is.
+    """
     yield tag
-    yield tag.lower()
-    first, *rest = tag.lower().split("-")
-    cased = (part.upper() if len(part) == 2 else part.title() if len(part) == 4 else part for part in rest)
-    yield "-".join([first, *cased])
-    yield tag.upper()
+    parts = tag.split("-")
+    if len(parts) <= 4:
+        yield from map("-".join, itertools.product(*((part.lower(), part.upper(), part.title()) for part in parts)))
 
 
 def literals(text: str) -> Iterator[str]:
