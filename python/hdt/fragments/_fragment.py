@@ -2,6 +2,7 @@
 
 from __future__ import annotations
 
+import itertools
 from collections.abc import Mapping
 from dataclasses import dataclass
 from typing import Optional
@@ -111,9 +112,9 @@ def _named(term: str, prefix: str) -> str:
 
 
 def lines_of(triples: list[Triple]) -> str:
-    """Triples as N-Triples."""
-    spelled = {term: terms.spelled(term) for triple in triples for term in triple}
-    return "".join([f"{spelled[s]} {spelled[p]} {spelled[o]} .\n" for s, p, o in triples])
+    """Triples of terms as N-Triples."""
+    known = {term: terms.written(term) for term in set(itertools.chain.from_iterable(triples))}
+    return "".join([f"{known[s]} {known[p]} {known[o]} .\n" for s, p, o in triples])
 
 
 def fragment_of(request: Request, dataset: Dataset, loaded: Loaded, config: Config) -> Fragment:

@@ -22,6 +22,7 @@ DCTERMS = "http://purl.org/dc/terms/"
 FOAF = "http://xmlns.com/foaf/0.1/"
 
 _IRI_START = re.compile(r"[A-Za-z][A-Za-z0-9+.-]*:")
+_IRI = re.compile(r'[A-Za-z][A-Za-z0-9+.-]*:[^\x00-\x20<>"{}|^`\\]*\Z')
 _NOT_IN_IRI = re.compile(r'[\x00-\x20<>"{}|^`\\]')
 _NOT_IN_TEXT = re.compile(r'[\\"\n\r]')
 _TEXT_ESCAPES = {"\\": "\\\\", '"': '\\"', "\n": "\\n", "\r": "\\r"}
@@ -43,11 +44,6 @@ def iri_text(iri: str) -> str:
     return _NOT_IN_IRI.sub(_percent, iri)
 
 
-def is_iri(text: str) -> bool:
-    """Whether a text is an absolute IRI."""
-    return _IRI_START.match(text) is not None and _NOT_IN_IRI.search(text) is None
-
-
 def has_scheme(text: str) -> bool:
     """Whether a text begins as an absolute IRI does."""
     return _IRI_START.match(text) is not None
@@ -67,6 +63,14 @@ def spelled(term: str) -> str:
     return term if term.startswith("_:") else f"<{iri_text(term)}>"
 
 
+def written(term: str) -> str:
+    """A dictionary string that is known to be a term, as N-Triples."""
+    if term.startswith('"'):
+        end = term.rindex('"')
+        return f'"{escaped(term[1:end])}{term[end:]}' if _NOT_IN_TEXT.search(term, 1, end) else term
+    return term if term.startswith("_:") else f"<{term}>"
+
+
 def escaped(value: str) -> str:
     """The value of a literal as N-Triples writes it."""
     return _NOT_IN_TEXT.sub(lambda match: _TEXT_ESCAPES[match[0]], value)
@@ -79,7 +83,7 @@ def is_term(string: str, role: int) -> bool:
         return role == 2 and end > 0 and "\0" not in string and _STORED.match(string, end + 1) is not None
     if string.startswith("_:"):
         return role != 1 and _LABEL.match(string) is not None
-    return is_iri(string)
+    return _IRI.match(string) is not None
 
 
 def _unescaped(match: re.Match[str]) -> str:

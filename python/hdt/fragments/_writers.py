@@ -6,6 +6,7 @@ graphs.
 
 from __future__ import annotations
 
+import functools
 import json
 import re
 from typing import Any
@@ -33,11 +34,14 @@ def _short(term: str) -> str:
     return terms.spelled(term)
 
 
+_known = functools.lru_cache(256)(_short)
+
+
 def _statements(triples: list[Triple]) -> str:
     """Triples in Turtle, with the statements of one subject together."""
     written: dict[str, list[str]] = {}
     for s, p, o in triples:
-        written.setdefault(s, []).append(f"\n    {_short(p)} {_short(o)}")
+        written.setdefault(s, []).append(f"\n    {_known(p)} {_short(o)}")
     return "".join([f"\n{_short(s)}{' ;'.join(statements)} .\n" for s, statements in written.items()])
 
 
