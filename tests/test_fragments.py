@@ -108,13 +108,13 @@ def test_pages_joined(odd: Path, size: int) -> None:
 def test_far_pages(tmp_path: Path) -> None:
     """Pages behind thousands of triples are those of the graph, in any order."""
     numbers = 5000
-    text = "".join(f"<u:s{n % 100:02}> <u:p> <u:o{n:05}> .\n<u:s{n % 100:02}> <u:q> <u:o{n:05}> .\n" for n in range(numbers))
+    text = "".join(f"<u:s{n % 100:02}> <u:{p}> <u:o{n:05}> .\n" for n in range(numbers) for p in "pq")
     site = Site(fragments.Application({"datasets": {"odd": str(build(tmp_path, text))}}))
     with hdt.open(tmp_path / "odd.hdt") as graph:
-        for pattern in ({}, {"predicate": "u:q"}):
-            found = list(graph.find(p=pattern.get("predicate")))
+        for predicate in ("", "u:q"):
+            found = list(graph.find(p=predicate or None))
             for page in (len(found) // 100, 1, 21, 22, 49, 33, 21):
-                answer = site.nquads(url(**pattern, page=page))
+                answer = site.nquads(url(predicate=predicate, page=page))
                 assert data(answer.text) == ntriples(found[100 * page - 100:100 * page])
 
 
@@ -141,9 +141,10 @@ def test_wrong_pages(site: Site, page: str) -> None:
 
 @pytest.mark.parametrize("text, count", [
     ('"plain"', 1), ('"plain"^^http://www.w3.org/2001/XMLSchema#string', 1), ('""', 1), ('"?x"', 1),
-    ('"colour"@en-GB', 1), ('"colour"@en-gb', 1), ('"colour"@EN-GB', 1), ('"shout"@EN-gb', 1), ('"shout"@en-gb', 1), ('"colour"@fr', 0),
+    ('"colour"@en-GB', 1), ('"colour"@en-gb', 1), ('"colour"@EN-GB', 1), ('"shout"@EN-gb', 1),
+    ('"shout"@en-gb', 1), ('"colour"@fr', 0),
     ('"text"', 1), (f'"text"^^{XSD}string', 1), (f'"text"^^<{XSD}string>', 1),
-    (f'"5"^^{XSD}integer', 1), (f'"5"^^<{XSD}integer>', 2), ('"5"', 0), (f'"05"^^{XSD}integer', 0),
+    (f'"5"^^{XSD}integer', 2), (f'"5"^^<{XSD}integer>', 2), ('"5"', 0), (f'"05"^^{XSD}integer', 0),
     ('"with "quotes" inside"', 1), ('"with \\"quotes\\" inside"', 1),
     ('"back\\slash and \\n two characters"', 1), ('"back\\\\slash and \\\\n two characters"', 1),
     ('"line\nfeed\ttab\rreturn"', 1), ('"line\\nfeed\\ttab\\rreturn"', 1),
@@ -153,10 +154,9 @@ def test_wrong_pages(site: Site, page: str) -> None:
     ("<mailto:a@b.example>", 1), ("_:b1", 1), (GENID + "b.2-x", 1), ("nonsense", 0), ("\0", 0),
 ])
 def test_objects(site: Site, text: str, count: Optional[int]) -> None:
-    """A literal is raw or escaped, its datatype bare or in brackets, its tag as a client folds it; IRIs and variables."""
+    """A literal is raw or escaped, its datatype bare or in brackets, its tag as a client folds it. Other terms."""
     answer = site.nquads(url(object=text))
-    wanted = {'"5"^^' + XSD + "integer": 2}.get(text, count)
-    assert (answer.status, answer.total) == (200, (ODD + SHOUT).count("\n") if wanted is None else wanted)
+    assert (answer.status, answer.total) == (200, (ODD + SHOUT).count("\n") if count is None else count)
 
 
 @pytest.mark.parametrize("text, count", [
@@ -228,7 +228,8 @@ def parsed(body: bytes, name: str, target: str) -> tuple[set[Any], set[Any]]:
 ], ids=["all", "page", "odd terms", "nothing", "blank nodes"])
 def test_formats_agree(site: Site, target: str) -> None:
     """rdflib reads the same data and controls from all formats; where a format has graphs, controls have their own."""
-    pages = {media: parsed(site.ask(target, Accept=media).body, name, BASE + target[1:]) for media, name in FORMATS.items()}
+    pages = {media: parsed(site.ask(target, Accept=media).body, name, BASE + target[1:])
+             for media, name in FORMATS.items()}
     wanted, said = pages["application/n-quads"]
     assert len(said) > 25 and len(wanted) == len(data(site.nquads(target).text).split("\n")) - 1
     assert pages["application/trig"] == pages["application/ld+json"] == (wanted, said)
@@ -379,13 +380,15 @@ def test_blank_nodes_with_labels(odd: Path) -> None:
 def test_blank_nodes_elsewhere(odd: Path) -> None:
     """The prefix of blank nodes may be an IRI."""
     site = Site(fragments.Application({"datasets": {"odd": str(odd)}, "skolem": "http://a/node/"}))
-    assert "<http://a/node/odd/b.2-x> <http://odd.example/name>" in site.nquads(url(predicate="http://odd.example/name")).text
+    named = site.nquads(url(predicate="http://odd.example/name")).text
+    assert "<http://a/node/odd/b.2-x> <http://odd.example/name>" in named
     assert site.nquads(url(subject="http://a/node/odd/b1")).total == 2
 
 
 def test_dereferencing(site: Site) -> None:
     """An IRI of the data that leads here leads to its triples, in the spelling that the data has."""
-    for path, iri in (("/resource/J%C3%A4ger", BASE + "resource/J\u00e4ger"), ("/.well-known/genid/odd/b.2-x", GENID + "b.2-x")):
+    for path, iri in (("/resource/J%C3%A4ger", BASE + "resource/J\u00e4ger"),
+                      ("/.well-known/genid/odd/b.2-x", GENID + "b.2-x")):
         answer = site.ask(path)
         assert answer.status == 303
         assert unquote(answer.headers["location"]) == f"{BASE}odd?subject={iri}"

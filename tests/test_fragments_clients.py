@@ -30,7 +30,8 @@ MODULES = ("RDF::LDF", "RDF::Query", "AtteanX::Store::LDF")
 ACCEPTED = "text/turtle", "application/turtle", "application/x-turtle", "text/x-nquads"
 
 # The odd terms, with fewer numbers, in small pages.
-FEW = "".join(line + "\n" for line in ODD.split("\n")[:-1] if "odd.example/n>" not in line or re.search(r'"[1-4]?\d"', line))
+FEW = "".join(line + "\n" for line in ODD.split("\n")[:-1]
+              if "odd.example/n>" not in line or re.search(r'"[1-4]?\d"', line))
 PAGE = 20
 
 
@@ -49,7 +50,7 @@ class Said(NamedTuple):
     """What a client says: its lines, and the count where it has counts."""
 
     lines: list[str]
-    count: Optional[str]
+    counted: Optional[str]
 
 
 def asked(requests: Iterable[tuple[str, ...]]) -> list[Said]:
@@ -120,8 +121,8 @@ class Rows:
 
     def named(self, base: str) -> None:
         """Have a row with a base of its own."""
-        self.elsewhere = fragments.Application({"datasets": {
-            name: source.file for name, source in self.application.config.datasets.items()}, "base": base, "page_size": PAGE})
+        files = {name: source.file for name, source in self.application.config.datasets.items()}
+        self.elsewhere = fragments.Application({"datasets": files, "base": base, "page_size": PAGE})
 
     def __call__(self, environ: dict[str, Any], start: Callable[..., Any]) -> Iterable[bytes]:
         """Answer, with what the row breaks."""
@@ -193,7 +194,8 @@ def needs(server: WSGIServer) -> dict[str, dict[str, tuple[list[int], list[Optio
     for row in urls:
         for client in CLIENTS:
             answers = [next(said) for _ in ASKED]
-            table.setdefault(row, {})[client] = [len(each.lines) for each in answers], [each.count for each in answers]
+            counts = [each.counted for each in answers]
+            table.setdefault(row, {})[client] = [len(each.lines) for each in answers], counts
     return table
 
 
@@ -239,17 +241,22 @@ def test_next(needs: dict[str, Any]) -> None:
 def test_data_of_hydra(server: WSGIServer, row: str) -> None:
     """These clients take data with Hydra's predicates for controls; the counts are right."""
     said = asked((client, address(server, row, "hydra"), *ASKED[2]) for client in CLIENTS)
-    assert [len(each.lines) for each in said] == [2, 2, 2] and [each.count for each in said] == [None, "7", "7"]
+    assert [len(each.lines) for each in said] == [2, 2, 2] and [each.counted for each in said] == [None, "7", "7"]
 
 
 # ---- all patterns
 
 
+def unescaped(text: str) -> str:
+    """A text without the escapes of characters by their numbers."""
+    return re.sub(r"\\u([0-9A-Fa-f]{4})|\\U([0-9A-Fa-f]{8})", lambda match: chr(int(match[1] or match[2], 16)), text)
+
+
 def plain(lines: Iterable[str], prefix: str) -> list[str]:
-    """N-Triples in one spelling: without escapes, percent-encoding, xsd:string and, as Attean leaves them out, datatypes."""
+    """N-Triples in one spelling: without escapes, percent-encoding, tags and datatypes. (A client leaves these out.)"""
     found = []
     for line in lines:
-        line = re.sub(r"\\u([0-9A-Fa-f]{4})|\\U([0-9A-Fa-f]{8})", lambda match: chr(int(match[1] or match[2], 16)), line)
+        line = unescaped(line)
         line = re.sub(rf"<{re.escape(prefix)}([^>]*)>", lambda match: "_:" + unquote(match[1]), line)
         line = re.sub(r"<[^>]*>", lambda match: unquote(match[0]), line.replace("\t", "\\t"))
         found.append(re.sub(r'"(?:@[A-Za-z0-9-]+|\^\^<[^>]*>) \.$', '" .', line))
@@ -305,5 +312,4 @@ def test_sparql(server: WSGIServer) -> None:
         assert len(said.lines) == len(wanted) > 0
         literals = sorted(str(term) for row in wanted for term in row if isinstance(term, rdflib.Literal))
         found = sorted(re.findall(r'"((?:[^"\\]|\\.)*)"(?:@|\^\^|\t|$)', "\n".join(said.lines), re.MULTILINE))
-        assert [re.sub(r"\\u([0-9A-F]{4})|\\U([0-9A-F]{8})", lambda match: chr(int(match[1] or match[2], 16)), each)
-                for each in found] == literals
+        assert [unescaped(each) for each in found] == literals

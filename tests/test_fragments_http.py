@@ -8,15 +8,18 @@ import os
 import random
 import re
 import shutil
+import socket
+import subprocess
+import sys
 import threading
 import time
 from pathlib import Path
 from typing import Any, Optional
-from urllib.parse import quote
 
 import pytest
 
 from support.fragments import BASE, GUNICORN, ODD, Answer, Site, build, fragments, hdt, served, url
+from support.python_package import ENVIRONMENT
 
 needs_gunicorn = pytest.mark.skipif(not os.path.exists(GUNICORN), reason="there is no gunicorn (Debian: gunicorn)")
 
@@ -60,7 +63,8 @@ def test_tags_differ(odd: Path, site: Site) -> None:
     tags = [site.ask(target, Accept=media).headers["etag"]
             for target in targets for media in ("text/turtle", "application/trig", "text/html")]
     tags.append(site.ask("/odd", Host="other.example").headers["etag"])
-    for config in ({"page_size": 50}, {"title": "other"}):
+    changes: list[dict[str, Any]] = [{"page_size": 50}, {"title": "other"}]
+    for config in changes:
         tags.append(Site(fragments.Application({"datasets": {"odd": str(odd)}, **config})).ask("/odd").headers["etag"])
     assert len(set(tags)) == len(tags)
     same = Site(fragments.Application(site.application.config))
@@ -149,9 +153,9 @@ def test_hosts(odd: Path) -> None:
 
 
 def test_base_and_proxies(odd: Path) -> None:
-    """URLs begin with the base; else with what a trusted proxy says; else with the host and the path of the application."""
+    """URLs begin with the base; else with what a trusted proxy says; else with the host and the application's path."""
 
-    def template(config: dict[str, Any], environ: Optional[dict[str, str]] = None, **headers: str) -> str:
+    def template(config: dict[str, Any], environ: Any = None, **headers: Any) -> str:
         answer = Site(fragments.Application({"datasets": {"odd": str(odd)}, **config})).ask(
             "/odd", environ=environ, Accept="application/n-triples", **headers)
         found = re.search(r'#template> "([^"]*)\{', answer.text)
@@ -174,21 +178,25 @@ def test_base_and_proxies(odd: Path) -> None:
 def test_drawn_requests(site: Site) -> None:
     """Requests of drawn bytes are answered by a page or a refusal, whose Turtle has no term that is none."""
     draw = random.Random(7)
-    pieces = [b"subject=", b"object=", b"page=", b"%22", b'"', b"<", b">", b"%3E", b"%00", b"\xff", b"%C3", b"%A4", b"&", b"=",
-              b"http://odd.example/", b"@en", b"^^", b"\\", b"%5Cu", b"D800", b"{", b"}", b"|", b"?", b"#", b"_:", b"%0A", b"1",
-              "\u00e4".encode(), b"+", b"%E2%80%AE", b";", b"'"]
+    pieces = [b"subject=", b"object=", b"page=", b"%22", b'"', b"<", b">", b"%3E", b"%00", b"\xff", b"%C3", b"&",
+              b"http://odd.example/", b"@en", b"^^", b"\\", b"%5Cu", b"D800", b"{", b"}", b"|", b"?", b"#", b"_:",
+              "\u00e4".encode(), b"+", b"%E2%80%AE", b";", b"'", b"=", b"1", b"%A4", b"%0A"]
+    types = ["text/turtle", "application/trig", "text/html", "application/ld+json", "application/n-triples"]
     iri = re.compile(r'<[^\x00-\x20<>"{}|^`\\]*>')
-    for number in range(400):
+    triple = re.compile(rf'{iri.pattern} {iri.pattern} (?:{iri.pattern}|"(?:[^"\\\n\r]|\\.)*"\S*) \.')
+    for _ in range(400):
         query = b"".join(draw.choice(pieces) for _ in range(draw.randint(1, 12)))
-        media = draw.choice(["text/turtle", "application/trig", "text/html", "application/ld+json", "application/n-triples"])
+        media = draw.choice(types)
         answer = site.ask("/odd", environ={"QUERY_STRING": query.decode("latin-1")}, Accept=media)
         assert answer.status in (200, 400, 404), (query, answer.text)
         if answer.status == 200 and media == "application/n-triples":
             for line in answer.text.split("\n")[:-1]:
-                assert re.fullmatch(rf'{iri.pattern} {iri.pattern} (?:{iri.pattern}|"(?:[^"\\\n\r]|\\.)*"\S*) \.', line), query
+                assert triple.fullmatch(line), query
 
 
-@pytest.mark.parametrize("accept", ["a/b," * 2000, ",".join(["*/*;q=0.001"] * 600), "text/html;" + "q=1;" * 2000, "\xff\xfe"])
+@pytest.mark.parametrize("accept", [
+    "a/b," * 2000, ",".join(["*/*;q=0.001"] * 600), "text/html;" + "q=1;" * 2000, "\xff\xfe"],
+    ids=["ranges", "wildcards", "parameters", "bytes"])
 def test_long_headers(site: Site, accept: str) -> None:
     """A long Accept header costs little."""
     began = time.process_time()
@@ -222,8 +230,8 @@ def test_one_line_a_request(site: Site, caplog: pytest.LogCaptureFixture) -> Non
 
 
 @pytest.mark.parametrize("wanted, first, end", [
-    ("bytes=0-9", 0, 10), ("bytes=5-", 5, None), ("bytes=-7", -7, None), ("bytes=0-99999999", 0, None), ("bytes=9-9", 9, 10),
-    ("bytes=-99999999", 0, None), ("bytes=0-0", 0, 1),
+    ("bytes=0-9", 0, 10), ("bytes=5-", 5, None), ("bytes=-7", -7, None), ("bytes=0-99999999", 0, None),
+    ("bytes=9-9", 9, 10), ("bytes=-99999999", 0, None), ("bytes=0-0", 0, 1),
 ])
 def test_ranges(site: Site, odd: Path, wanted: str, first: int, end: Optional[int]) -> None:
     """A range of the file."""
@@ -268,7 +276,9 @@ def later(monkeypatch: pytest.MonkeyPatch, seconds: float = 2.0) -> None:
     monkeypatch.setattr(time, "monotonic", lambda: now + seconds)
 
 
-def test_replaced(odd: Path, tmp_path: Path, monkeypatch: pytest.MonkeyPatch, caplog: pytest.LogCaptureFixture) -> None:
+def test_replaced(
+    odd: Path, tmp_path: Path, monkeypatch: pytest.MonkeyPatch, caplog: pytest.LogCaptureFixture,
+) -> None:
     """A replaced file is taken over; a damaged, cut or missing one leaves the one before, and is logged once."""
     file, good = tmp_path / "swap.hdt", odd.read_bytes()
     three = build(tmp_path, "<u:a> <u:p> <u:b> .\n", "three").read_bytes()
@@ -345,8 +355,9 @@ def test_eight_clients_at_once(odd: Path) -> None:
         for _ in range(60):
             target = draw.choice(targets)
             answer: list[bytes] = []
-            environ = {"REQUEST_METHOD": "GET", "PATH_INFO": target.split("?")[0], "QUERY_STRING": target.partition("?")[2],
-                       "HTTP_HOST": "localhost:8080", "HTTP_ACCEPT": "application/n-quads", "wsgi.url_scheme": "http"}
+            path, _, query = target.partition("?")
+            environ = {"REQUEST_METHOD": "GET", "PATH_INFO": path, "QUERY_STRING": query, "wsgi.url_scheme": "http",
+                       "HTTP_HOST": "localhost:8080", "HTTP_ACCEPT": "application/n-quads"}
             answer += site.application(environ, lambda *_: None)
             if b"".join(answer) != wanted[target]:
                 wrong.append(target)
@@ -368,8 +379,8 @@ def test_servers(odd: Path, tmp_path: Path, gunicorn: bool) -> None:
     with served(tmp_path, config, gunicorn) as server:
         site = Site(fragments.Application(fragments.Config.of(config, tmp_path)))
         host = server.url[len("http://"):]
-        for target in ("/swap", url("swap", page=3), url("swap", object='"plain"'), url("swap", page=9), "/bad", "/swap/void",
-                       "/swap/data.hdt", "/swap?subject=%", "/swap?object=%22" + "x" * 6900):
+        for target in ("/swap", url("swap", page=3), url("swap", object='"plain"'), url("swap", page=9), "/bad",
+                       "/swap/void", "/swap/data.hdt", "/swap?subject=%", "/swap?object=%22" + "x" * 6900):
             over, here = server.nquads(target), site.nquads(target, Host=host)
             assert (over.status, over.body) == (here.status, here.body)
             assert over.headers.get("etag") == here.headers.get("etag")
@@ -396,8 +407,6 @@ def test_servers(odd: Path, tmp_path: Path, gunicorn: bool) -> None:
 @pytest.mark.parametrize("gunicorn", [False, pytest.param(True, marks=needs_gunicorn)], ids=["wsgiref", "gunicorn"])
 def test_no_body_behind_head(odd: Path, tmp_path: Path, gunicorn: bool) -> None:
     """Nothing follows the headers that answer HEAD."""
-    import socket
-
     shutil.copy(odd, tmp_path / "odd.hdt")
     with served(tmp_path, {"datasets": {"odd": "odd.hdt"}}, gunicorn) as server:
         host, port = server.url[len("http://"):].split(":")
@@ -411,13 +420,9 @@ def test_no_body_behind_head(odd: Path, tmp_path: Path, gunicorn: bool) -> None:
 
 def test_command(odd: Path, tmp_path: Path) -> None:
     """`python -m hdt.fragments` says what is wrong with its words."""
-    import subprocess
-    import sys
-
-    from support.python_package import ENVIRONMENT
-
     def said(*words: str) -> tuple[int, str]:
-        done = subprocess.run([sys.executable, "-m", "hdt.fragments", *words], capture_output=True, text=True, timeout=60,
+        command = [sys.executable, "-m", "hdt.fragments", *words]
+        done = subprocess.run(command, capture_output=True, text=True, timeout=60,
                               env={**os.environ, **ENVIRONMENT}, cwd=tmp_path)
         return done.returncode, done.stderr.strip().split("\n")[-1]
 

@@ -20,7 +20,7 @@ from contextlib import contextmanager
 from pathlib import Path
 from typing import Any, NamedTuple, Optional, Union
 from unittest import mock
-from urllib.parse import quote
+from urllib.parse import quote, unquote
 from wsgiref.util import setup_testing_defaults
 from wsgiref.validate import validator
 
@@ -121,14 +121,13 @@ class Site:
     def __init__(self, application: Any) -> None:
         self.application = application
 
-    def ask(self, target: str, method: str = "GET", environ: Optional[Mapping[str, str]] = None,
-            **headers: str) -> Answer:
+    def ask(self, target: str, method: str = "GET", environ: Any = None, **headers: Any) -> Answer:
         """The answer to a request; `If_Match="x"` is a header."""
         path, _, query = target.partition("?")
         asked: dict[str, Any] = {
             "REQUEST_METHOD": method,
             "SCRIPT_NAME": "",
-            "PATH_INFO": urllib.request.unquote(path, "latin-1"),
+            "PATH_INFO": unquote(path, "latin-1"),
             "QUERY_STRING": query.encode().decode("latin-1"),
             "HTTP_HOST": "localhost:8080",
             "wsgi.input": io.BytesIO(),
@@ -139,13 +138,14 @@ class Site:
         started: list[Any] = []
         with warnings.catch_warnings():
             warnings.simplefilter("ignore")  # (it warns of methods that it does not know)
-            parts = validator(self.application)(asked, lambda status, headers, info=None: started.extend((status, headers)))
+            checked: Any = validator(self.application)
+            parts = checked(asked, lambda status, headers, info=None: started.extend((status, headers)))
             body = b"".join(parts)
             parts.close()
         status, given = started
         return Answer(int(status[:3]), {name.lower(): value for name, value in given}, body)
 
-    def nquads(self, target: str, **headers: str) -> Answer:
+    def nquads(self, target: str, **headers: Any) -> Answer:
         """The answer in N-Quads."""
         return self.ask(target, Accept="application/n-quads", **headers)
 

@@ -10,7 +10,7 @@ import itertools
 import re
 from collections.abc import Mapping, Sequence
 from dataclasses import dataclass
-from typing import Optional
+from typing import Callable, Optional
 
 from hdt.fragments import _terms as terms
 from hdt.fragments._style import STYLE
@@ -44,11 +44,12 @@ def plural(count: int, one: str, many: str) -> str:
 
 @dataclass(frozen=True)
 class View:
-    """How the terms of a dataset are shown: its URL, the prefix of its blank nodes, names of namespaces by IRIs."""
+    """How terms are shown: the dataset's URL, the prefix of blank nodes, names of namespaces, what is a subject."""
 
     url: str
     skolem: str
     spaces: Mapping[str, str]
+    is_subject: Callable[[str], bool]
 
     def short(self, iri: str) -> tuple[str, str]:
         """An IRI for people: its namespace, as a prefix where it has one, and its last part."""
@@ -103,13 +104,14 @@ class View:
         """A term with its links."""
         if term.startswith('"'):
             return self.literal(term)
+        to = 0 if role == 2 and self.is_subject(term) else role
         if term.startswith("_:"):
-            shown = self._linked(text(term), term, 0 if role != 1 else 1, "blank node")
+            shown = self._linked(text(term), term, to, "blank node")
         else:
             space, local = self.short(term)
             prefix = f'<span class="ns">{text(space)}</span>' if space else ""
-            shown = self._linked(prefix + text(local), term, 1 if role == 1 else 0, term)
-        if role == 2 and (uses := self.link(term, 2)):
+            shown = self._linked(prefix + text(local), term, to, term)
+        if to != role and (uses := self.link(term, 2)):
             about = "Triples with this object"
             shown += f'<a class="more" href="{text(uses)}" title="{about}" aria-label="{about}">←</a>'
         if role != 1 and re.match(r"https?://", term):

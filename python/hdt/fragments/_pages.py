@@ -23,9 +23,10 @@ _POINTING = 10  # triples that point to a subject, on its page
 _HINTS = ("any subject: an IRI", "any predicate: an IRI", 'any object: an IRI or "text"')
 
 
-def _view(request: Request, dataset: Dataset, config: Config) -> View:
+def _view(request: Request, dataset: Dataset, loaded: Loaded, config: Config) -> View:
     spaces = {iri: name for name, iri in config.prefixes.items()}
-    return View(request.base + dataset.name, skolem_prefix(request, dataset, config), spaces)
+    prefix = skolem_prefix(request, dataset, config)
+    return View(request.base + dataset.name, prefix, spaces, lambda term: loaded.reader.has(0, term))
 
 
 def _crumbs(request: Request, config: Config, *more: tuple[str, str]) -> str:
@@ -183,7 +184,7 @@ def _alternates(url: str) -> str:
 
 def fragment_page(fragment: Fragment) -> bytes:
     """A page of a fragment."""
-    view = _view(fragment.request, fragment.dataset, fragment.config)
+    view = _view(fragment.request, fragment.dataset, fragment.loaded, fragment.config)
     hints = "".join(f'<p class="box hint" role="alert">{text(hint)}</p>' for hint in fragment.hints)
     named = [f"{role} {view.name(term)}" for role, term in zip(ROLES, fragment.pattern) if term]
     url = fragment.request.with_page(fragment.page if fragment.page > 1 else None)
@@ -198,13 +199,14 @@ def fragment_page(fragment: Fragment) -> bytes:
 
 def description_page(request: Request, dataset: Dataset, loaded: Loaded, config: Config) -> bytes:
     """The description of a dataset: its counts and its predicates."""
-    view = _view(request, dataset, config)
+    view = _view(request, dataset, loaded, config)
     known = loaded.reader.predicates(config.partitions)
     table = view.predicates(known, "The most used ones first") if known else (
         f'<p class="box none">There are more than {config.partitions:,} predicates, which are not counted here.</p>')
     file = f'<p><a href="{text(view.url)}/data.hdt">The HDT file</a></p>' if dataset.source.download else ""
     license = dataset.source.license
-    licensed = f'<p>License: <a href="{text(license)}">{text(license)}</a></p>' if license.startswith("http") else ""
+    link = f'<a href="{text(license)}" rel="noopener noreferrer nofollow">{text(license)}</a>'
+    licensed = f"<p>License: {link}</p>" if license.startswith(("http:", "https:")) else ""
     return document(
         f"Description of {dataset.title}",
         f"<header>{_crumbs(request, config, (view.url, dataset.title))}<h1>{text(dataset.title)}</h1>"
