@@ -361,7 +361,9 @@ def test_configuration_files(odd: Path, tmp_path: Path) -> None:
     ({"datasets": {"": "x"}}, "no name of a dataset"), ({"datasets": {"a": {}}}, "has no file"),
     ({"datasets": {"a": {"file": "x", "titel": "y"}}}, "no 'titel'"), ({"datasets": {"a": 3}}, "no table"),
     ({"base": "ftp://a/"}, "base"), ({"base": "http://a/?x"}, "base"), ({"dereference": {"x/": "a"}}, "no dataset"),
-    ({"page_size": 10_001}, "page_size"), ({"gzip": 1}, "gzip"),
+    ({"datasets": {"a": {"file": "x", "license": "CC0"}}}, "license"), ({"hosts": [1]}, "hosts"),
+    ({"datasets": {"a": "x"}, "dereference": {"/": "a"}}, "no dataset"), ({"prefixes": {"a": 1}}, "prefixes"),
+    ({"skolem": "a b"}, "skolem"), ({"page_size": 10_001}, "page_size"), ({"gzip": 1}, "gzip"),
 ])
 def test_wrong_configurations(config: dict[str, Any], why: str) -> None:
     """A configuration that can't be is a ValueError that says why."""

@@ -7,7 +7,7 @@ import dataclasses
 import logging
 import sys
 from socketserver import ThreadingMixIn
-from wsgiref.simple_server import ServerHandler, WSGIRequestHandler, WSGIServer, make_server
+from wsgiref.simple_server import WSGIRequestHandler, WSGIServer, make_server
 
 from hdt.fragments import Application, Config, Source
 
@@ -51,7 +51,6 @@ def main() -> int:
         return 2
     if not application.datasets:
         parser.error("there is no dataset")
-    ServerHandler.http_version = "1.1"
     with make_server("127.0.0.1", words.port, application, server_class=Server, handler_class=Handler) as server:
         print(f"http://127.0.0.1:{server.server_port}/", file=sys.stderr, flush=True)
         try:

@@ -69,7 +69,8 @@ class Application:
     def __init__(self, config: Union[Config, Mapping[str, Any]]) -> None:
         self.config = config if isinstance(config, Config) else Config.of(config)
         self.config.check()
-        self.datasets = {name: Dataset(name, source) for name, source in self.config.datasets.items()}
+        counted = self.config.partitions
+        self.datasets = {name: Dataset(name, source, counted) for name, source in self.config.datasets.items()}
         self._salt = f"{VERSION} {self.config}"
         self._changed = max(each.stat().st_mtime for each in Path(__file__).parent.glob("*.py"))
 
@@ -163,8 +164,8 @@ class Application:
 
     def _fresh(self, request: Request, loaded: Loaded, media: str) -> tuple[Headers, bool]:
         """The headers for a cache, and whether the client has the answer already, which nothing is searched for."""
-        told = f"{self._salt} {loaded.identity} {request.url} {media}"
-        tag = f'"{hashlib.sha256(told.encode()).hexdigest()[:24]}"'
+        state = f"{self._salt} {loaded.identity} {request.url} {media}"
+        tag = f'"{hashlib.sha256(state.encode()).hexdigest()[:24]}"'
         modified = int(max(loaded.modified, self._changed))
         headers = [
             ("ETag", tag),
@@ -190,10 +191,10 @@ class Application:
             kind = formats.KINDS[media]
             if kind == HTML:
                 return pages.fragment_page(fragment)
-            said, graph = fragments.controls(fragment), request.url + "#metadata"
+            statements, graph = fragments.controls(fragment), request.url + "#metadata"
             if kind == JSONLD:
-                return writers.jsonld(fragment.data(), said, graph).encode("utf-8", "replace")
-            return writers.LINES[kind](fragment.lines(), said, graph).encode("utf-8", "replace")
+                return writers.jsonld(fragment.data(), statements, graph).encode("utf-8", "replace")
+            return writers.LINES[kind](fragment.lines(), statements, graph).encode("utf-8", "replace")
 
         return self._page(request, loaded, media, make)
 
@@ -201,7 +202,7 @@ class Application:
         def make() -> bytes:
             if formats.KINDS[media] == HTML:
                 return pages.description_page(request, dataset, loaded, self.config)
-            return _document(void.description(dataset, loaded, request.base, self.config), media)
+            return _document(void.description(dataset, loaded, request.base), media)
 
         return self._page(request, loaded, media, make)
 
@@ -215,7 +216,7 @@ class Application:
         return Answer("200 OK", headers, _document(void.catalogue(opened, request.base), media))
 
     def _elsewhere(self, request: Request) -> Optional[Answer]:
-        """Where the URL is an IRI of the data, the way to what is said of it."""
+        """A redirect from an IRI of the data to the triples that have it as their subject."""
         for prefix, name in self.config.dereference.items():
             if request.path.startswith(prefix.lstrip("/")) and request.path not in self.datasets:
                 return self._lead(request, name)
@@ -227,7 +228,7 @@ class Application:
         return None
 
     def _lead(self, request: Request, name: str) -> Answer:
-        """The way to the fragment of an IRI, in the spelling that the data has."""
+        """A redirect to the fragment of an IRI, in the spelling that the data has."""
         reader, spellings = self._open(name)[1].reader, [request.place, request.base + request.path]
         iri = next((each for each in spellings if reader.has(0, each)), spellings[0])
         target = f"{request.base}{name}?subject={quote(iri, safe='')}"
@@ -258,17 +259,17 @@ class Application:
         return Answer("206 Partial Content" if part else "200 OK", headers, pieces=pieces, length=end - first)
 
 
-def _document(said: list[Triple], media: str) -> bytes:
+def _document(statements: list[Triple], media: str) -> bytes:
     """Triples as a document of their own, without graphs."""
     kind = formats.KINDS[media]
     if kind == JSONLD:
-        return writers.jsonld(said, [], "").encode("utf-8", "replace")
+        return writers.jsonld(statements, [], "").encode("utf-8", "replace")
     write = writers.ntriples if kind in (formats.NQUADS, formats.NTRIPLES) else writers.turtle
-    return write("", said, "").encode("utf-8", "replace")
+    return write("", statements, "").encode("utf-8", "replace")
 
 
 def _is_known(request: Request, tag: str, modified: int) -> bool:
-    """Whether the headers of a request say that the client has this answer."""
+    """Whether the client has this answer, by the headers of its request."""
     if wanted := request.header("If-None-Match"):
         tags = {each.strip().replace("W/", "", 1).replace('-gz"', '"') for each in wanted.split(",")}
         return tag in tags or "*" in tags

@@ -91,8 +91,18 @@ class Config:
                 raise ValueError(f"no name of a dataset: {name!r}")
         if self.base and not re.match(r"https?://[^\s<>\"{}|^`\\?#/]+(?:/[^\s<>\"{}|^`\\?#]*)?\Z", self.base):
             raise ValueError(f"the base is no URL: {self.base!r}")
+        for name, source in self.datasets.items():
+            if source.license and not terms.has_scheme(source.license):
+                raise ValueError(f"dataset {name!r}: the license is no IRI")
+        for texts in (self.prefixes, self.dereference):
+            if not all(isinstance(text, str) for text in texts.values()):
+                raise ValueError("prefixes and dereference have texts as their values")
+        if not all(isinstance(host, str) for host in self.hosts):
+            raise ValueError("hosts are texts")
+        if not re.match(r"[A-Za-z0-9._~:/#-]*\Z", self.skolem):
+            raise ValueError(f"skolem is no part of an IRI: {self.skolem!r}")
         for prefix, name in self.dereference.items():
-            if name not in self.datasets:
+            if name not in self.datasets or not prefix.strip("/"):
                 raise ValueError(f"{prefix!r} leads to no dataset: {name!r}")
         for key, least in (("page_size", 1), ("max_age", 0), ("query_limit", 100), ("partitions", 0)):
             if not least <= getattr(self, key) <= 10**9:

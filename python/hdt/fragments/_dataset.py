@@ -14,23 +14,23 @@ from hdt.fragments._reader import Reader
 
 Identity = tuple[int, int, int, int]
 
-_SECONDS = 1.0  # between two looks at the file
+_SECONDS = 1.0  # between two checks of the file
 
 log = logging.getLogger("hdt.fragments")
 
 
 def identity_of(there: os.stat_result) -> Identity:
-    """What tells a file from the one that replaces it."""
+    """What distinguishes a file from one that replaces it."""
     return there.st_dev, there.st_ino, there.st_size, there.st_mtime_ns
 
 
 class Loaded:
     """A file as it was when it was opened."""
 
-    def __init__(self, source: Source) -> None:
+    def __init__(self, source: Source, most_predicates: int) -> None:
         before = os.stat(source.file)
         while True:
-            self.reader = Reader(hdt.open(source.file, source.copy))
+            self.reader = Reader(hdt.open(source.file, source.copy), most_predicates)
             after = os.stat(source.file)
             if identity_of(before) == identity_of(after):
                 break
@@ -42,20 +42,20 @@ class Loaded:
 class Dataset:
     """A file by its name. A request that has begun goes on with the file that it has."""
 
-    def __init__(self, name: str, source: Source) -> None:
-        self.name, self.source = name, source
+    def __init__(self, name: str, source: Source, most_predicates: int) -> None:
+        self.name, self.source, self._most_predicates = name, source, most_predicates
         self.title = source.title or name
         self._lock = threading.Lock()
         self._loaded: Optional[Loaded] = None
         self._refused: Optional[Identity] = None
-        self._said = ""
+        self._reported = ""
         self._checked = time.monotonic()
         self._load()
 
     def loaded(self) -> Optional[Loaded]:
         """The file as it is now, or the last one that could be opened; None where there was none.
 
-        The file is looked at once a second at most.
+        The file is checked at most once a second.
         """
         if time.monotonic() - self._checked > _SECONDS and self._lock.acquire(blocking=False):
             try:
@@ -73,16 +73,16 @@ class Dataset:
             if identity in (self._loaded and self._loaded.identity, self._refused):
                 return
             again = self._loaded is not None
-            self._loaded, self._refused, self._said = Loaded(self.source), None, ""
+            self._loaded, self._refused, self._reported = Loaded(self.source, self._most_predicates), None, ""
             if again:
                 log.warning("%s: the file was replaced: %d triples", self.name, self._loaded.reader.counts.triples)
         except (OSError, ValueError, MemoryError) as error:
             self._refused = identity
-            self._say(getattr(error, "strerror", None) or str(error) or type(error).__name__)
+            self._report(getattr(error, "strerror", None) or str(error) or type(error).__name__)
 
-    def _say(self, why: str) -> None:
+    def _report(self, why: str) -> None:
         """Log an error, once."""
-        if why != self._said:
-            self._said = why
+        if why != self._reported:
+            self._reported = why
             kept = "the file before it is kept" if self._loaded else "it answers 503"
             log.error("%s: %s can't be opened: %s: %s", self.name, self.source.file, why, kept)

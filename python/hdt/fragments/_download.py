@@ -43,7 +43,7 @@ def opened(path: str) -> BinaryIO:
 
 
 def stat_of(file: BinaryIO) -> os.stat_result:
-    """What the system says of an open file."""
+    """The status of an open file."""
     return os.fstat(file.fileno())
 
 

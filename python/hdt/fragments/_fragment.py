@@ -1,4 +1,4 @@
-"""A fragment: the triples that match a pattern, a page of them, and what is said of both in RDF."""
+"""A fragment: the triples that match a pattern, a page of them, and its metadata and controls in RDF."""
 
 from __future__ import annotations
 
@@ -136,7 +136,7 @@ def form(dataset: Dataset, base: str) -> list[Triple]:
     """How the fragments of a dataset are asked for."""
     url = base + dataset.name
     about, pattern, template = url + "#dataset", url + "#pattern", f'"{url}{{?subject,predicate,object}}"'
-    said = [
+    statements = [
         (about, RDF + "type", VOID + "Dataset"),
         (about, RDF + "type", HYDRA + "Collection"),
         (about, DCTERMS + "title", f'"{dataset.title}"'),
@@ -146,12 +146,12 @@ def form(dataset: Dataset, base: str) -> list[Triple]:
         (pattern, HYDRA + "variableRepresentation", HYDRA + "ExplicitRepresentation"),
     ]
     for role in ROLES:
-        said.append((pattern, HYDRA + "mapping", f"{pattern}-{role}"))
-        said.append((f"{pattern}-{role}", HYDRA + "variable", f'"{role}"'))
-        said.append((f"{pattern}-{role}", HYDRA + "property", RDF + role))
+        statements.append((pattern, HYDRA + "mapping", f"{pattern}-{role}"))
+        statements.append((f"{pattern}-{role}", HYDRA + "variable", f'"{role}"'))
+        statements.append((f"{pattern}-{role}", HYDRA + "property", RDF + role))
     if dataset.source.license:
-        said.append((about, DCTERMS + "license", dataset.source.license))
-    return said
+        statements.append((about, DCTERMS + "license", dataset.source.license))
+    return statements
 
 
 def controls(fragment: Fragment) -> list[Triple]:
@@ -162,11 +162,11 @@ def controls(fragment: Fragment) -> list[Triple]:
     """
     request, about = fragment.request, fragment.url + "#dataset"
     page, whole, pages = request.url, request.with_page(None), fragment.pages
-    said = [(page + "#metadata", FOAF + "primaryTopic", about), *form(fragment.dataset, request.base)]
-    said.append((about, VOID + "subset", whole))
+    statements = [(page + "#metadata", FOAF + "primaryTopic", about), *form(fragment.dataset, request.base)]
+    statements.append((about, VOID + "subset", whole))
     if page != whole:
-        said += [(about, VOID + "subset", page), (whole, VOID + "subset", page), (whole, HYDRA + "view", page)]
-    said += [
+        statements += [(about, VOID + "subset", page), (whole, VOID + "subset", page), (whole, HYDRA + "view", page)]
+    statements += [
         (page, RDF + "type", HYDRA + "PartialCollectionView"),
         (page, DCTERMS + "title", f'"A fragment of {fragment.dataset.title}"'),
         (page, DCTERMS + "source", about),
@@ -176,9 +176,9 @@ def controls(fragment: Fragment) -> list[Triple]:
         (page, HYDRA + "first", request.with_page(1)),
     ]
     if fragment.page > 1:
-        said.append((page, HYDRA + "previous", request.with_page(fragment.page - 1)))
+        statements.append((page, HYDRA + "previous", request.with_page(fragment.page - 1)))
     if fragment.page < pages:
-        said.append((page, HYDRA + "next", request.with_page(fragment.page + 1)))
+        statements.append((page, HYDRA + "next", request.with_page(fragment.page + 1)))
     if pages:
-        said.append((page, HYDRA + "last", request.with_page(pages)))
-    return said
+        statements.append((page, HYDRA + "last", request.with_page(pages)))
+    return statements

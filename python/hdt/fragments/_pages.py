@@ -56,8 +56,7 @@ def _in_field(value: str) -> str:
 def _search(fragment: Fragment) -> str:
     """The form with three boxes."""
     given, boxes = fragment.request.given, ""
-    reader = fragment.loaded.reader
-    known = reader.predicates(min(_SUGGESTED, fragment.config.partitions))
+    known = fragment.loaded.reader.predicates[:_SUGGESTED]
     for role, hint in zip(ROLES, _HINTS):
         suggested = ' list="predicates"' if role == "predicate" and known else ""
         boxes += (
@@ -97,7 +96,7 @@ def _pager(fragment: Fragment, label: str) -> str:
 
 def _overview(fragment: Fragment, view: View) -> str:
     """The most used predicates, on the first page of a dataset."""
-    known = fragment.loaded.reader.predicates(fragment.config.partitions)
+    known = fragment.loaded.reader.predicates
     if fragment.pattern != (None, None, None) or fragment.page > 1 or not known:
         return ""
     links = " ".join(
@@ -200,7 +199,7 @@ def fragment_page(fragment: Fragment) -> bytes:
 def description_page(request: Request, dataset: Dataset, loaded: Loaded, config: Config) -> bytes:
     """The description of a dataset: its counts and its predicates."""
     view = _view(request, dataset, loaded, config)
-    known = loaded.reader.predicates(config.partitions)
+    known = loaded.reader.predicates
     table = view.predicates(known, "The most used ones first") if known else (
         f'<p class="box none">There are more than {config.partitions:,} predicates, which are not counted here.</p>')
     file = f'<p><a href="{text(view.url)}/data.hdt">The HDT file</a></p>' if dataset.source.download else ""

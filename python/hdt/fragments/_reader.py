@@ -46,12 +46,13 @@ class Kept(Generic[K, V]):
 class Reader:
     """The triples of an open graph, in pages, and their counts. Threads may share one."""
 
-    def __init__(self, graph: hdt.Graph) -> None:
+    def __init__(self, graph: hdt.Graph, most_predicates: int) -> None:
+        """Read a graph. Its predicates are counted at once, where it has no more of them than `most_predicates`."""
         self._graph = graph
         self.counts = graph.counts
         self._counted: Kept[Pattern, int] = Kept(_COUNTS_KEPT)
         self._blocks: Kept[tuple[Pattern, int], array.array[int]] = Kept(_BLOCKS_KEPT)
-        self._predicates: Optional[list[tuple[str, int]]] = None
+        self.predicates = self._by_count() if self.counts.predicates <= most_predicates else []
 
     def has(self, role: int, term: str) -> bool:
         """Whether a role has a term."""
@@ -108,12 +109,8 @@ class Reader:
         except hdt.NotATerm:
             return None
 
-    def predicates(self, most: int) -> list[tuple[str, int]]:
-        """The predicates with their counts, the most used first; none where there are more than `most`."""
-        if self.counts.predicates > most:
-            return []
-        if self._predicates is None:
-            names = self._graph.strings("predicate", range(1, self.counts.predicates + 1))
-            counted = [(name, self.count((None, name, None))) for name in names if terms.is_term(name, 1)]
-            self._predicates = sorted(counted, key=lambda each: (-each[1], each[0]))
-        return self._predicates
+    def _by_count(self) -> list[tuple[str, int]]:
+        """The predicates with the counts of their triples, the most used first."""
+        names = self._graph.strings("predicate", range(1, self.counts.predicates + 1))
+        counted = [(name, self.count((None, name, None))) for name in names if terms.is_term(name, 1)]
+        return sorted(counted, key=lambda each: (-each[1], each[0]))

@@ -5,7 +5,6 @@ from __future__ import annotations
 from collections.abc import Iterable
 
 from hdt.fragments import _terms as terms
-from hdt.fragments._config import Config
 from hdt.fragments._dataset import Dataset, Loaded
 from hdt.fragments._fragment import form
 from hdt.fragments._terms import DCTERMS, FOAF, RDF, RDFS, VOID, Triple
@@ -15,7 +14,7 @@ def counts(dataset: Dataset, loaded: Loaded, base: str) -> list[Triple]:
     """What a dataset is and how large it is."""
     url, size = base + dataset.name, loaded.reader.counts
     about = url + "#dataset"
-    said = [
+    statements = [
         *form(dataset, base),
         (about, VOID + "subset", url),
         (about, VOID + "triples", terms.integer(size.triples)),
@@ -25,29 +24,29 @@ def counts(dataset: Dataset, loaded: Loaded, base: str) -> list[Triple]:
         (about, RDFS + "seeAlso", url + "/void"),
     ]
     if dataset.source.description:
-        said.append((about, DCTERMS + "description", f'"{dataset.source.description}"'))
+        statements.append((about, DCTERMS + "description", f'"{dataset.source.description}"'))
     if dataset.source.download:
-        said.append((about, VOID + "dataDump", url + "/data.hdt"))
-    return said
+        statements.append((about, VOID + "dataDump", url + "/data.hdt"))
+    return statements
 
 
-def description(dataset: Dataset, loaded: Loaded, base: str, config: Config) -> list[Triple]:
+def description(dataset: Dataset, loaded: Loaded, base: str) -> list[Triple]:
     """The whole description, with the count of each predicate where they are not too many."""
     url = base + dataset.name
     about, document = url + "#dataset", url + "/void"
-    said = [
+    statements = [
         (document, RDF + "type", VOID + "DatasetDescription"),
         (document, FOAF + "primaryTopic", about),
         *counts(dataset, loaded, base),
     ]
-    for number, (name, count) in enumerate(loaded.reader.predicates(config.partitions), 1):
+    for number, (name, count) in enumerate(loaded.reader.predicates, 1):
         partition = f"{url}#property-{number}"
-        said += [
+        statements += [
             (about, VOID + "propertyPartition", partition),
             (partition, VOID + "property", name),
             (partition, VOID + "triples", terms.integer(count)),
         ]
-    return said
+    return statements
 
 
 def catalogue(datasets: Iterable[tuple[Dataset, Loaded]], base: str) -> list[Triple]:

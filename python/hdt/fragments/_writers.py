@@ -1,6 +1,6 @@
-"""Data and what is said of it, in each format of RDF.
+"""Data and statements about it, in each format of RDF.
 
-Data is N-Triples lines where the format takes them. What is said of it is in a graph of its own where the format has
+Data is N-Triples lines where the format takes them. The statements are in a graph of their own where the format has
 graphs.
 """
 
@@ -37,33 +37,37 @@ def _short(term: str) -> str:
 _known = functools.lru_cache(256)(_short)
 
 
-def _statements(triples: list[Triple]) -> str:
+def _grouped(triples: list[Triple]) -> str:
     """Triples in Turtle, with the statements of one subject together."""
-    written: dict[str, list[str]] = {}
+    subjects: dict[str, list[str]] = {}
     for s, p, o in triples:
-        written.setdefault(s, []).append(f"\n    {_known(p)} {_short(o)}")
-    return "".join([f"\n{_short(s)}{' ;'.join(statements)} .\n" for s, statements in written.items()])
+        subjects.setdefault(s, []).append(f"\n    {_known(p)} {_short(o)}")
+    return "".join([f"\n{_short(s)}{' ;'.join(parts)} .\n" for s, parts in subjects.items()])
 
 
-def turtle(lines: str, said: list[Triple], graph: str) -> str:
-    """Turtle: the data, then what is said of it."""
-    return f"{_HEAD}\n{lines}{_statements(said)}"
+def turtle(lines: str, statements: list[Triple], graph: str) -> str:
+    """Turtle: the data, then the statements about it."""
+    return f"{_HEAD}\n{lines}{_grouped(statements)}"
 
 
-def trig(lines: str, said: list[Triple], graph: str) -> str:
+def trig(lines: str, statements: list[Triple], graph: str) -> str:
     """TriG."""
-    return f"{_HEAD}\n{lines}\n<{terms.iri_text(graph)}> {{{_statements(said)}}}\n"
+    return f"{_HEAD}\n{lines}\n<{terms.iri_text(graph)}> {{{_grouped(statements)}}}\n"
 
 
-def ntriples(lines: str, said: list[Triple], graph: str) -> str:
+def _line(triple: Triple, graph: str) -> str:
+    return f"{' '.join(map(terms.spelled, triple))} {graph}.\n"
+
+
+def ntriples(lines: str, statements: list[Triple], graph: str) -> str:
     """N-Triples."""
-    return lines + "".join(f"{terms.spelled(s)} {terms.spelled(p)} {terms.spelled(o)} .\n" for s, p, o in said)
+    return lines + "".join(_line(triple, "") for triple in statements)
 
 
-def nquads(lines: str, said: list[Triple], graph: str) -> str:
+def nquads(lines: str, statements: list[Triple], graph: str) -> str:
     """N-Quads."""
-    name = f"<{terms.iri_text(graph)}>"
-    return lines + "".join(f"{terms.spelled(s)} {terms.spelled(p)} {terms.spelled(o)} {name} .\n" for s, p, o in said)
+    name = f"<{terms.iri_text(graph)}> "
+    return lines + "".join(_line(triple, name) for triple in statements)
 
 
 LINES = {TURTLE: turtle, TRIG: trig, NTRIPLES: ntriples, NQUADS: nquads}
@@ -90,9 +94,9 @@ def _nodes(triples: list[Triple]) -> list[dict[str, Any]]:
     return list(nodes.values())
 
 
-def jsonld(data: list[Triple], said: list[Triple], graph: str) -> str:
+def jsonld(data: list[Triple], statements: list[Triple], graph: str) -> str:
     """JSON-LD, expanded, so that no context has to be fetched."""
-    controls = [{"@id": terms.iri_text(graph), "@graph": _nodes(said)}] if said else []
+    controls = [{"@id": terms.iri_text(graph), "@graph": _nodes(statements)}] if statements else []
     whole = [*_nodes(data), *controls]
     return json.dumps(whole, ensure_ascii=False, separators=(",", ":")) + "\n"
 
