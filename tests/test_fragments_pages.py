@@ -18,9 +18,7 @@ from wsgiref.simple_server import make_server
 
 import pytest
 
-from hdt.fragments import _style as style
-from hdt.fragments.__main__ import Handler, Server
-from support.fragments import BASE, MANY, ODD, Site, build, fragments, url
+from support.fragments import BASE, MANY, ODD, Handler, Server, Site, build, fragments, style, url
 
 EVIL = "\"'><script>alert(1)</script><img src=x onerror=alert(1)>"
 ELEMENTS = set("""html head meta title link style body header nav main section footer h1 h2 p a b ul li form label input

@@ -28,8 +28,10 @@ from support.python_package import ENVIRONMENT, PACKAGE, hdt
 
 with mock.patch.object(sys, "dont_write_bytecode", True), mock.patch.object(sys, "path", [str(PACKAGE), *sys.path]):
     import hdt.fragments as fragments
+    from hdt.fragments import _style as style
+    from hdt.fragments.__main__ import Handler, Server
 
-__all__ = ["BASE", "ODD", "Answer", "Served", "Site", "fragments", "hdt", "url"]
+__all__ = ["BASE", "ODD", "Answer", "Handler", "Served", "Server", "Site", "fragments", "hdt", "style", "url"]
 
 BASE = "http://localhost:8080/"
 GUNICORN = "/usr/bin/gunicorn"

@@ -16,6 +16,7 @@ class Server(ThreadingMixIn, WSGIServer):
     """A server with a thread for each connection."""
 
     daemon_threads = True
+    request_queue_size = 128
 
 
 class Handler(WSGIRequestHandler):

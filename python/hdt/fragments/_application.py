@@ -94,19 +94,23 @@ class Application:
         return answer.pieces or [answer.body]
 
     def _answered(self, environ: dict[str, Any], method: str) -> Answer:
+        base = self.config.base
         try:
             if method == "OPTIONS":
                 return Answer("204 No Content", PREFLIGHT)
             if method not in ("GET", "HEAD"):
                 raise Refusal("405 Method Not Allowed", "It can only be read.", ("Allow", METHODS))
-            return self._answer(request_of(environ, self.config))
-        except Refusal as refusal:
-            return self._refused(environ, refusal)
+            request = request_of(environ, self.config)
+            base = request.base
+            return self._answer(request)
+        except Refusal as error:
+            refusal = error
         except MemoryError:
-            return self._refused(environ, Refusal("503 Service Unavailable", "There is no memory for this now."))
+            refusal = Refusal("503 Service Unavailable", "There is no memory for this now.")
         except Exception:
             log.exception("an error of the server")
-            return self._refused(environ, Refusal("500 Internal Server Error", "This is an error of the server."))
+            refusal = Refusal("500 Internal Server Error", "This is an error of the server.")
+        return self._refused(refusal, environ.get("HTTP_ACCEPT", ""), base)
 
     def _pack(self, answer: Answer, accept: str) -> None:
         """Compress a body that is not small, where the client takes gzip."""
@@ -118,12 +122,12 @@ class Application:
                 ("Content-Encoding", "gzip"),
             ]
 
-    def _refused(self, environ: dict[str, Any], refusal: Refusal) -> Answer:
+    def _refused(self, refusal: Refusal, accept: str, base: str) -> Answer:
         """The answer that is no page. It repeats nothing of the request."""
         headers = [*refusal.headers, NO_STORE]
-        if "html" in environ.get("HTTP_ACCEPT", ""):
+        if "html" in accept:
             headers += [("Content-Type", formats.content_type(HTML)), *pages.HEADERS]
-            return Answer(refusal.status, headers, pages.error_page(refusal.status, refusal.reason, self.config.base))
+            return Answer(refusal.status, headers, pages.error_page(refusal.status, refusal.reason, base))
         return Answer(refusal.status, [PLAIN, *headers], f"{refusal.status[4:]}: {refusal.reason}\n".encode())
 
     def _answer(self, request: Request) -> Answer:

@@ -101,8 +101,8 @@ class Fragment:
 
     def lines(self) -> str:
         """The triples of the page as N-Triples, with blank nodes as the server names them."""
-        text = self.loaded.reader.text(self.pattern, self.config.page_size)
-        if text is None or "_:" in text:
+        text = self.loaded.reader.text(self.pattern) if self.count <= self.config.page_size else None
+        if text is None or self.skolem and "_:" in text:
             return lines_of(self.data())
         return text
 

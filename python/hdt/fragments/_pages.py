@@ -48,8 +48,9 @@ def _facts(loaded: Loaded) -> str:
 
 def _in_field(value: str) -> str:
     """A parameter in a search box, which has no line breaks: a literal has them as escapes."""
-    if value.startswith('"') and value.endswith('"') and ("\n" in value or "\r" in value):
-        value = f'"{terms.escaped(value[1:-1])}"'
+    if value.startswith('"') and ("\n" in value or "\r" in value):
+        literal, suffix = terms.parts(value)
+        value = f'"{terms.escaped(literal)}"{suffix}'
     return text(value)
 
 

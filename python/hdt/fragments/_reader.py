@@ -19,7 +19,8 @@ _ROLES: tuple[hdt.Role, hdt.Role, hdt.Role] = ("subject", "predicate", "object")
 _NEAR = 2_000  # matches that are walked over for a page; past them the matches of many pages are kept
 _BLOCK = 8_192  # matches that are kept at once
 _BLOCKS_KEPT = 32
-_COUNTS_KEPT = 20_000
+_COUNTS_KEPT = 10_000
+_LONGEST_KEPT = 400  # characters of a pattern whose count is kept
 
 
 class Kept(Generic[K, V]):
@@ -60,8 +61,11 @@ class Reader:
 
     def count(self, pattern: Pattern) -> int:
         """How many triples match. The counts that were asked for last are kept, as some take a walk over matches."""
-        if pattern == (None, None, None):
+        terms_given = [term for term in pattern if term]
+        if not terms_given:
             return self.counts.triples
+        if sum(map(len, terms_given)) > _LONGEST_KEPT:
+            return self._graph.matching(*pattern)
         return self._counted.ask(pattern, lambda: self._graph.matching(*pattern))
 
     def _numbers(self, pattern: Pattern, skip: int, room: int) -> list[tuple[int, int, int]]:
@@ -100,10 +104,8 @@ class Reader:
         strings = self._graph.strings(_ROLES[role], ids)
         return {number: string if terms.is_term(string, role) else "" for number, string in zip(ids, strings)}
 
-    def text(self, pattern: Pattern, most: int) -> Optional[str]:
-        """All matching triples as N-Triples; None where they are more than `most` or not all strings are terms."""
-        if self.count(pattern) > most:
-            return None
+    def text(self, pattern: Pattern) -> Optional[str]:
+        """All matching triples as N-Triples; None where not all strings are terms."""
         try:
             return self._graph.text(*pattern)
         except hdt.NotATerm:
