@@ -222,6 +222,8 @@ def test_one_line_a_request(site: Site, caplog: pytest.LogCaptureFixture) -> Non
     with caplog.at_level(logging.INFO, "hdt.fragments"):
         site.ask("/odd?x=\n\x1b[31m")
         site.ask("/none%0A")
+        quiet = Site(fragments.Application({"log": False}))
+        assert quiet.ask("/").status == 200
     assert len(caplog.messages) == 2 and not re.search(r"[\n\x1b]", "".join(caplog.messages))
     assert re.fullmatch(r"GET '/odd\?x=\\n\\x1b\[31m' 200 \d+ [\d.]+ ms", caplog.messages[0])
 
@@ -401,7 +403,8 @@ def test_servers(odd: Path, tmp_path: Path, gunicorn: bool) -> None:
         with open(file, "r+b") as cut:  # (a file of this size is read into memory, so cutting it changes no answer)
             cut.truncate(3000)
         assert totals() == {ODD.count("\n")}
-        assert "the file before it is kept" in server.log.read_text()
+        log = server.log.read_text()
+        assert "the file before it is kept" in log and " GET '/swap?page=3' 200 " in log
 
 
 @pytest.mark.parametrize("gunicorn", [False, pytest.param(True, marks=needs_gunicorn)], ids=["wsgiref", "gunicorn"])

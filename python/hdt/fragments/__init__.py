@@ -13,6 +13,7 @@ A dataset is at `/NAME`; `?subject=`, `?predicate=`, `?object=` and `&page=` ask
 
 from __future__ import annotations
 
+import logging
 import os
 
 from hdt.fragments._application import Application
@@ -21,6 +22,12 @@ from hdt.fragments._config import Config, Source
 __all__ = ["Application", "Config", "Source", "from_environment"]
 
 
+def log_to_standard_error() -> None:
+    """Log requests and errors on standard error, unless logging is configured already."""
+    logging.basicConfig(level=logging.INFO, format="%(asctime)s %(message)s")
+
+
 def from_environment() -> Application:
-    """The application of the configuration that the environment variable FRAGMENTS names."""
+    """The application of the configuration that the environment variable FRAGMENTS names, with a log."""
+    log_to_standard_error()
     return Application(Config.read(os.environ["FRAGMENTS"]))

@@ -4,12 +4,11 @@ from __future__ import annotations
 
 import argparse
 import dataclasses
-import logging
 import sys
 from socketserver import ThreadingMixIn
 from wsgiref.simple_server import WSGIRequestHandler, WSGIServer, make_server
 
-from hdt.fragments import Application, Config, Source
+from hdt.fragments import Application, Config, Source, log_to_standard_error
 
 
 class Server(ThreadingMixIn, WSGIServer):
@@ -44,7 +43,7 @@ def main() -> int:
     parser.add_argument("--config", help="a file of TOML or JSON")
     parser.add_argument("dataset", nargs="*", metavar="NAME=FILE", help="a dataset and its HDT file")
     words = parser.parse_args()
-    logging.basicConfig(level=logging.INFO, format="%(asctime)s %(message)s", stream=sys.stderr)
+    log_to_standard_error()
     try:
         application = Application(_config(words))
     except (OSError, ValueError) as error:

@@ -83,9 +83,11 @@ class Application:
         headers = COMMON + answer.headers
         if answer.status[:3] not in ("304", "204"):
             headers.append(("Content-Length", str(length)))
-        if log.isEnabledFor(logging.INFO):
-            log.info("%s %r %s %d %.1f ms", method, f"{environ.get('PATH_INFO', '')}?{environ.get('QUERY_STRING', '')}",
-                     answer.status[:3], length, (time.perf_counter() - began) * 1e3)
+        if self.config.log and log.isEnabledFor(logging.INFO):
+            query = environ.get("QUERY_STRING", "")
+            target = environ.get("PATH_INFO", "") + ("?" + query if query else "")
+            spent = (time.perf_counter() - began) * 1e3
+            log.info("%s %r %s %d %.1f ms", method, target, answer.status[:3], length, spent)
         start(answer.status, headers)
         if method == "HEAD":
             if answer.pieces:

@@ -55,6 +55,7 @@ class Config:
     max_age: int = 3600  # seconds that a cache may keep an answer
     gzip: bool = True
     query_limit: int = 7000  # bytes
+    log: bool = True  # whether each request is a line of the log
     partitions: int = 1000  # predicates that are counted one by one, at most
     prefixes: Mapping[str, str] = field(default_factory=lambda: dict(PREFIXES))
     skolem: str = ".well-known/genid/"  # of the IRIs of blank nodes; empty where they keep their labels

@@ -95,9 +95,9 @@ class View:
         search = f'<a class="more" href="{text(url)}">triples with it</a>' if (url := self.link(term, 2)) else ""
         return (
             f'<details><summary><span{language} dir="auto">{text(value[:160])}…</span> '
-            f'<span class="soft">({len(value):,} characters)</span></summary>'
+            f'<span class="soft">({len(value):,} characters)</span>{kind}</summary>'
             f'<div class="text"{language} dir="auto">{text(value[:_SHOWN])}</div>'
-            f'<span class="soft">{more}</span>{search}</details>{kind}'
+            f'<span class="soft">{more}</span>{search}</details>'
         )
 
     def term(self, term: str, role: int) -> str:

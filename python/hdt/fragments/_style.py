@@ -36,6 +36,7 @@ form.search label{display:block}
 .s,.s a{color:var(--link)}.p,.p a{color:var(--p)}.o,.o a{color:var(--o)}
 input{width:100%;margin-top:4px;padding:8px 10px;border:1px solid var(--soft);border-radius:7px;background:var(--paper);
 color:var(--ink);font:13px/1.4 ui-monospace,"DejaVu Sans Mono",monospace}
+::placeholder{color:var(--soft);opacity:1}
 button{padding:8px 18px;border:0;border-radius:7px;background:var(--link);color:var(--button);font:inherit;
 font-weight:600;cursor:pointer}
 .hint{border-left:4px solid var(--o)}
