@@ -5,6 +5,7 @@ from __future__ import annotations
 import base64
 import hashlib
 import math
+import random
 import re
 import shutil
 import subprocess
@@ -18,6 +19,7 @@ from wsgiref.simple_server import make_server
 
 import pytest
 
+from reference import hdt as reference
 from support.fragments import BASE, MANY, ODD, Handler, Server, Site, build, fragments, style, url
 
 EVIL = "\"'><script>alert(1)</script><img src=x onerror=alert(1)>"
@@ -142,6 +144,32 @@ def test_pages_for_all_readers(site: Site, name: str) -> None:
         assert "aria-label" in given or re.sub("<[^>]*>", "", inside).strip()
     assert all("scope" in given for given in found.all("th"))
     assert len(found.all("caption")) == len(found.all("table"))
+
+
+def test_drawn_strings(tmp_path: Path) -> None:
+    """A file of another program may have any strings: its pages are safe too, and its N-Triples has terms alone."""
+    draw = random.Random(3)
+    pieces = ["<", ">", '"', "'", "&", "</a>", "<script>", "\\", "\n", "\r", "\x1b", "\u202e", "_:", "a", "http:", "//",
+              "#", "@", "en", "^^", "<u:t>", "javascript:", "{", "}", "%", " ", "\u00e9", "\U0001f600", "]]>", "-->",
+              "&lt;", "/"]
+
+    def string() -> bytes:
+        return "".join(draw.choice(pieces) for _ in range(draw.randint(1, 9))).encode()
+
+    wild = [(string(), string(), string()) for _ in range(150)]
+    ends = [b'"', b'"@en', b'"^^<u:t>']
+    tame = [(b"u:&'" + draw.choice([b"a", b"%", b"#"]), b"u:p", b'"' + string() + draw.choice(ends)) for _ in range(150)]
+    file = tmp_path / "drawn.hdt"
+    file.write_bytes(reference.graph(sorted(set(wild + tame))).data)
+    site = Site(fragments.Application({"datasets": {"odd": str(file)}, "page_size": 1000}))
+    for target in ("/odd", "/odd/void"):
+        assert page(site, target).all("h1")
+    iri = r'<[A-Za-z][A-Za-z0-9+.-]*:[^\x00-\x20<>"{}|^`\\]*>'
+    label = r"(?:_:[^ ]+|" + iri + ")"
+    line = re.compile(rf'{label} {iri} (?:{label}|"(?:[^"\\\n\r]|\\[\\"nr])*"(?:@[a-z-]+|\^\^{iri})?) \.')
+    lines = site.ask("/odd", Accept="application/n-triples").text.split("\n")[:-1]
+    assert len(lines) > 50
+    assert [each for each in lines if not line.fullmatch(each)] == []
 
 
 def test_search(site: Site) -> None:
