@@ -158,7 +158,7 @@ def test_drawn_strings(tmp_path: Path) -> None:
 
     wild = [(string(), string(), string()) for _ in range(150)]
     ends = [b'"', b'"@en', b'"^^<u:t>']
-    tame = [(b"u:&'" + draw.choice([b"a", b"%", b"#"]), b"u:p", b'"' + string() + draw.choice(ends)) for _ in range(150)]
+    tame = [(b"u:&'" + draw.choice([b"a", b"%"]), b"u:p", b'"' + string() + draw.choice(ends)) for _ in range(150)]
     file = tmp_path / "drawn.hdt"
     file.write_bytes(reference.graph(sorted(set(wild + tame))).data)
     site = Site(fragments.Application({"datasets": {"odd": str(file)}, "page_size": 1000}))

@@ -2,10 +2,23 @@
 
     python3 -m hdt.fragments --port 8080 places=places.hdt
 
-`Application` is a WSGI application. Under gunicorn, with a configuration of TOML or JSON that FRAGMENTS names:
+`Application` is a WSGI application. Under gunicorn, with a configuration of TOML or JSON:
 
     FRAGMENTS=fragments.toml gunicorn --preload -w 2 --threads 4 --limit-request-line 8190 \\
         'hdt.fragments:from_environment()'
+
+A configuration (`Config` and `Source` have all fields):
+
+    title = "Our data"
+    base = "https://data.example.org/"  # or forwarded = true, behind a proxy that sets X-Forwarded-Host and -Proto
+
+    [datasets.places]
+    file = "places.hdt"
+    title = "Places"
+    download = true
+
+    [dereference]
+    "place/" = "places"  # https://data.example.org/place/x leads to its triples
 
 A dataset is at `/NAME`; `?subject=`, `?predicate=`, `?object=` and `&page=` ask for a page of the triples that match.
 `/NAME/void` describes it, and `/NAME/data.hdt` is its file where the configuration gives it out.
