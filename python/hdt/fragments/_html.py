@@ -5,7 +5,6 @@ All text that comes from data, from the request or from the configuration is esc
 
 from __future__ import annotations
 
-import html
 import itertools
 import re
 from collections.abc import Mapping, Sequence
@@ -19,12 +18,16 @@ from hdt.fragments._terms import ROLES, Triple
 _LONGEST_LINK = 3_000  # characters of a term in a URL; a longer line is refused by servers
 _FOLDED = 300  # characters of a literal that is shown whole
 _SHOWN = 20_000  # characters of a literal that are shown at all
-_CONTROL = re.compile("[\x00-\x08\x0b\x0c\x0e-\x1f\x7f-\x9f]")
+_ESCAPES = {
+    **{character: "\ufffd" for character in (*range(9), 11, 12, *range(14, 32), *range(127, 160))},
+    **{ord(character): f"&#{ord(character)};" for character in "&<>\"'"},
+}
+_ESCAPED = re.compile("[" + re.escape("".join(map(chr, _ESCAPES))) + "]")
 
 
 def text(value: str) -> str:
     """A text as HTML, in an element or an attribute with quotes. A control character is shown as a replacement."""
-    return html.escape(_CONTROL.sub("\ufffd", value))
+    return value.translate(_ESCAPES) if _ESCAPED.search(value) else value
 
 
 def document(title: str, body: str, links: str = "") -> bytes:

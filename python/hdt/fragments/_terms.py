@@ -137,7 +137,7 @@ def blank_node(iri: str, prefix: str) -> Optional[str]:
 
 def quoted(term: str) -> str:
     """A term as the value of a parameter in a URL."""
-    return quote(term, safe="")
+    return quote(term, safe=":/")
 
 
 def integer(number: int) -> str:
