@@ -16,7 +16,7 @@ from typing import Any, Optional
 
 import pytest
 
-from support.fragments import GUNICORN, ODD, Answer, Site, build, fragments, served, url
+from support.fragments import GUNICORN, ODD, Answer, Served, Site, build, fragments, served, url
 from support.python_package import ENVIRONMENT
 
 needs_gunicorn = pytest.mark.skipif(not os.path.exists(GUNICORN), reason="there is no gunicorn (Debian: gunicorn)")
@@ -185,6 +185,50 @@ def test_no_body_behind_head(odd: Path, tmp_path: Path, gunicorn: bool) -> None:
             while piece := stream.recv(65536):
                 got += piece
         assert re.match(rb"HTTP/1\.[01] 200 ", got) and got.endswith(b"\r\n\r\n")
+
+
+NGINX = "/usr/sbin/nginx"
+NGINX_CONFIGURATION = """
+daemon off; pid {folder}/pid; error_log {folder}/error.log; worker_processes 1;
+events {{}}
+http {{
+  access_log off; client_body_temp_path {folder}/b; proxy_temp_path {folder}/p; fastcgi_temp_path {folder}/f;
+  uwsgi_temp_path {folder}/u; scgi_temp_path {folder}/s; large_client_header_buffers 4 16k;
+  server {{
+    listen 127.0.0.1:{port};
+    location /lod/ {{
+      proxy_pass {to}/;
+      proxy_set_header X-Forwarded-Host $http_host; proxy_set_header X-Forwarded-Proto $scheme;
+      proxy_set_header X-Forwarded-Prefix /lod;
+    }}
+  }}
+}}
+"""
+
+
+@pytest.mark.skipif(not os.path.exists(NGINX), reason="there is no nginx (Debian: nginx-light)")
+def test_behind_nginx(odd: Path, tmp_path: Path) -> None:
+    """Behind a proxy, below a path, URLs are those that clients see, from page to page; ranges and long queries pass."""
+    shutil.copy(odd, tmp_path / "odd.hdt")
+    config = {"datasets": {"odd": {"file": "odd.hdt", "download": True}}, "forwarded": True}
+    with socket.socket() as free:
+        free.bind(("127.0.0.1", 0))
+        port = free.getsockname()[1]
+    with served(tmp_path, config) as server:
+        file = tmp_path / "nginx.conf"
+        file.write_text(NGINX_CONFIGURATION.format(folder=tmp_path, port=port, to=server.url))
+        proxy = subprocess.Popen([NGINX, "-c", file, "-e", tmp_path / "error.log"], stderr=subprocess.DEVNULL)
+        try:
+            behind = Served.at(f"http://127.0.0.1:{port}")
+            first = behind.nquads("/lod" + url(predicate="http://odd.example/n"))
+            following = re.search(r"core#next> <([^>]*)>", first.text)
+            assert following and following[1].startswith(f"http://127.0.0.1:{port}/lod/odd?")
+            assert behind.nquads(following[1][len(behind.url):]).total == first.total
+            assert behind.ask("/lod/odd/data.hdt", Range="bytes=5-9").body == odd.read_bytes()[5:10]
+            assert behind.nquads("/lod/odd?object=%22" + "x" * 6900).total == 0
+        finally:
+            proxy.terminate()
+            proxy.wait(20)
 
 
 def test_command(tmp_path: Path) -> None:

@@ -180,6 +180,19 @@ class Served:
             time.sleep(0.05)
         raise AssertionError("it does not serve")
 
+    @classmethod
+    def at(cls, address: str) -> Served:
+        """A server that another program runs, once it serves."""
+        it = cls.__new__(cls)
+        it.url = address
+        for _ in range(100):
+            try:
+                it.ask("/")
+                break
+            except OSError:
+                time.sleep(0.05)
+        return it
+
     def ask(self, target: str, **headers: str) -> Answer:
         """The answer to a GET, by a client that follows nothing."""
         request = urllib.request.Request(self.url + target, headers={

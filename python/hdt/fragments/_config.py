@@ -39,7 +39,7 @@ class Source:
     description: str = ""
     license: str = ""  # an IRI
     download: bool = False  # whether the file itself is given out
-    copy: Optional[bool] = None  # of `hdt.open`
+    copy: Optional[bool] = None  # of `hdt.open`: a large file is mapped unless it is read, and must not change in place
 
 
 @dataclass(frozen=True)

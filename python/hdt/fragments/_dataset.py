@@ -70,14 +70,17 @@ class Dataset:
         identity = None
         try:
             identity = identity_of(os.stat(self.source.file))
-            if identity in (self._loaded and self._loaded.identity, self._refused):
+            if self._loaded and identity == self._loaded.identity:
+                self._reported = ""
+                return
+            if identity == self._refused:
                 return
             again = self._loaded is not None
             self._loaded, self._refused, self._reported = Loaded(self.source, self._most_predicates), None, ""
             if again:
                 log.warning("%s: the file was replaced: %d triples", self.name, self._loaded.reader.counts.triples)
         except (OSError, ValueError, MemoryError) as error:
-            self._refused = identity
+            self._refused = identity if isinstance(error, ValueError) else None
             self._report(getattr(error, "strerror", None) or str(error) or type(error).__name__)
 
     def _report(self, why: str) -> None:
