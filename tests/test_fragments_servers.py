@@ -81,21 +81,21 @@ def test_checked_once_a_second(odd: Path, tmp_path: Path, monkeypatch: pytest.Mo
     """The file is not checked for each request."""
     file = tmp_path / "swap.hdt"
     put(odd.read_bytes(), file)
-    site, looks = Site(fragments.Application({"datasets": {"swap": str(file)}})), []
+    site, checks = Site(fragments.Application({"datasets": {"swap": str(file)}})), []
     stat = os.stat
 
     def counting(path: Any, **more: Any) -> os.stat_result:
-        looks.append(path)
+        checks.append(path)
         return stat(path, **more)
 
     monkeypatch.setattr(os, "stat", counting)
     for _ in range(20):
         site.ask("/swap")
-    assert looks.count(str(file)) == 0
+    assert checks.count(str(file)) == 0
     later(monkeypatch)
     for _ in range(20):
         site.ask("/swap")
-    assert looks.count(str(file)) == 1
+    assert checks.count(str(file)) == 1
 
 
 def test_mended(odd: Path, tmp_path: Path, monkeypatch: pytest.MonkeyPatch) -> None:
@@ -208,7 +208,7 @@ http {{
 
 @pytest.mark.skipif(not os.path.exists(NGINX), reason="there is no nginx (Debian: nginx-light)")
 def test_behind_nginx(odd: Path, tmp_path: Path) -> None:
-    """Behind a proxy, below a path, URLs are those that clients see, from page to page; ranges and long queries pass."""
+    """Behind a proxy, below a path, URLs are those that clients see, on each page; ranges and long queries pass."""
     shutil.copy(odd, tmp_path / "odd.hdt")
     config = {"datasets": {"odd": {"file": "odd.hdt", "download": True}}, "forwarded": True}
     with socket.socket() as free:

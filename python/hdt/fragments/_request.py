@@ -53,7 +53,7 @@ def parameters(query: bytes) -> list[tuple[str, str, bytes]]:
 def _url_text(raw: bytes) -> str:
     """A part of a URL, byte for byte; a byte that no IRI of Turtle may have is percent-encoded.
 
-    Nothing is normalised: a client looks for what is said of the URL that it asked for.
+    Nothing is normalised, since a client reads the controls of the URL that it asked for.
     """
     return re.sub(rb'[^\x21-\x7e]|[<>"{}|^`\\]', lambda match: b"%%%02X" % match[0][0], raw).decode("ascii")
 
