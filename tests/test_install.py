@@ -318,7 +318,8 @@ def test_wheel_has_a_platform(wheel: Path) -> None:
 def test_wheel_has_the_library(wheel: Path) -> None:
     """The wheel has the package, its types and the library."""
     names = [f"/{name}" for name in zipfile.ZipFile(wheel).namelist()]
-    wanted = ["/hdt/__init__.py", "/hdt/_faults.py", "/hdt/_library.py", "/hdt/py.typed", "/hdt/libhdt.so"]
+    wanted = ["/hdt/__init__.py", "/hdt/_faults.py", "/hdt/_library.py", "/hdt/py.typed", "/hdt/libhdt.so",
+              "/hdt/fragments/__init__.py", "/hdt/fragments/_application.py"]
     assert [name for name in wanted if sum(it.endswith(name) for it in names) != 1] == []
 
 

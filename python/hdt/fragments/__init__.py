@@ -1,0 +1,46 @@
+"""Serves HDT files as Triple Pattern Fragments: pages of triples for people, for programs and for SPARQL clients.
+
+    python3 -m hdt.fragments --port 8080 places=places.hdt
+
+`Application` is a WSGI application. Under gunicorn, with a configuration of TOML or JSON:
+
+    FRAGMENTS=fragments.toml gunicorn --preload -w 2 --threads 4 --limit-request-line 8190 \\
+        'hdt.fragments:from_environment()'
+
+A configuration (`Config` and `Source` have all fields):
+
+    title = "Our data"
+    base = "https://data.example.org/"  # or forwarded = true, behind a proxy that sets X-Forwarded-Host and -Proto
+
+    [datasets.places]
+    file = "places.hdt"
+    title = "Places"
+    download = true
+
+    [dereference]
+    "place/" = "places"  # https://data.example.org/place/x leads to its triples
+
+A dataset is at `/NAME`; `?subject=`, `?predicate=`, `?object=` and `&page=` ask for a page of the triples that match.
+`/NAME/void` describes it, and `/NAME/data.hdt` is its file where the configuration gives it out.
+"""
+
+from __future__ import annotations
+
+import logging
+import os
+
+from hdt.fragments._application import Application
+from hdt.fragments._config import Config, Source
+
+__all__ = ["Application", "Config", "Source", "from_environment"]
+
+
+def log_to_standard_error() -> None:
+    """Log requests and errors on standard error, unless logging is configured already."""
+    logging.basicConfig(level=logging.INFO, format="%(asctime)s %(message)s")
+
+
+def from_environment() -> Application:
+    """The application of the configuration that the environment variable FRAGMENTS names, with a log."""
+    log_to_standard_error()
+    return Application(Config.read(os.environ["FRAGMENTS"]))

@@ -1,0 +1,64 @@
+"""Serves HDT files on this machine: `python3 -m hdt.fragments [--port N] [--config FILE] NAME=FILE..`"""
+
+from __future__ import annotations
+
+import argparse
+import dataclasses
+import sys
+from socketserver import ThreadingMixIn
+from wsgiref.simple_server import WSGIRequestHandler, WSGIServer, make_server
+
+from hdt.fragments import Application, Config, Source, log_to_standard_error
+
+
+class Server(ThreadingMixIn, WSGIServer):
+    """A server with a thread for each connection."""
+
+    daemon_threads = True
+    request_queue_size = 128
+
+
+class Handler(WSGIRequestHandler):
+    """Logs nothing, as the application does."""
+
+    def log_message(self, format: str, *args: object) -> None:
+        """Log nothing."""
+
+
+def _config(words: argparse.Namespace) -> Config:
+    config = Config.read(words.config) if words.config else Config()
+    more = {}
+    for word in words.dataset:
+        name, equals, file = word.partition("=")
+        if not equals:
+            raise ValueError(f"{word!r} is not NAME=FILE")
+        more[name] = Source(file)
+    return dataclasses.replace(config, datasets={**config.datasets, **more})
+
+
+def main() -> int:
+    """Serve until it is interrupted."""
+    parser = argparse.ArgumentParser(prog="hdt.fragments", description="Serves HDT files as Triple Pattern Fragments.")
+    parser.add_argument("--port", type=int, default=8080, help="of 127.0.0.1 (8080)")
+    parser.add_argument("--config", help="a file of TOML or JSON")
+    parser.add_argument("dataset", nargs="*", metavar="NAME=FILE", help="a dataset and its HDT file")
+    words = parser.parse_args()
+    log_to_standard_error()
+    try:
+        application = Application(_config(words))
+    except (OSError, ValueError) as error:
+        print(f"hdt.fragments: {error}", file=sys.stderr)
+        return 2
+    if not application.datasets:
+        parser.error("there is no dataset")
+    with make_server("127.0.0.1", words.port, application, server_class=Server, handler_class=Handler) as server:
+        print(f"http://127.0.0.1:{server.server_port}/", file=sys.stderr, flush=True)
+        try:
+            server.serve_forever()
+        except KeyboardInterrupt:
+            pass
+    return 0
+
+
+if __name__ == "__main__":
+    sys.exit(main())

@@ -1,0 +1,287 @@
+"""The WSGI application."""
+
+from __future__ import annotations
+
+import hashlib
+import logging
+import time
+import zlib
+from collections.abc import Iterable, Mapping
+from dataclasses import dataclass
+from email.utils import formatdate, parsedate_to_datetime
+from pathlib import Path
+from typing import Any, Callable, Optional, Union
+from urllib.parse import quote
+
+from hdt.fragments import _download as download
+from hdt.fragments import _formats as formats
+from hdt.fragments import _fragment as fragments
+from hdt.fragments import _pages as pages
+from hdt.fragments import _terms as terms
+from hdt.fragments import _void as void
+from hdt.fragments import _writers as writers
+from hdt.fragments._config import Config
+from hdt.fragments._dataset import Dataset, Loaded, identity_of
+from hdt.fragments._formats import HTML, JSONLD
+from hdt.fragments._request import Headers, Refusal, Request, bad, request_of
+from hdt.fragments._terms import Triple
+
+METHODS = "GET, HEAD, OPTIONS"
+COMMON = [
+    ("Access-Control-Allow-Origin", "*"),
+    ("Access-Control-Expose-Headers", "ETag, Last-Modified, Content-Range, Accept-Ranges"),
+    ("Vary", "Accept, Accept-Encoding"),
+    ("X-Content-Type-Options", "nosniff"),
+    ("Referrer-Policy", "no-referrer"),
+]
+PREFLIGHT = [
+    ("Allow", METHODS),
+    ("Access-Control-Allow-Methods", METHODS),
+    ("Access-Control-Allow-Headers", "Accept, Accept-Language, Content-Type, If-None-Match, If-Modified-Since, Range"),
+    ("Access-Control-Max-Age", "86400"),
+]
+NO_STORE = ("Cache-Control", "no-store")
+PLAIN = ("Content-Type", "text/plain;charset=utf-8")
+VERSION = "1"  # of the pages: another one makes other ETags
+_SMALLEST_PACKED = 1000  # bytes
+
+log = logging.getLogger("hdt.fragments")
+
+
+@dataclass
+class Answer:
+    """A status, headers and a body."""
+
+    status: str
+    headers: Headers
+    body: bytes = b""
+    pieces: Optional[download.Pieces] = None
+    length: int = 0  # of the pieces
+
+
+class Application:
+    """A WSGI application that serves Triple Pattern Fragments of HDT files.
+
+    It takes a `Config`, or the same values as a mapping. The files are opened at once, so a server that forks its
+    workers afterwards shares their memory. Threads may share one.
+    """
+
+    def __init__(self, config: Union[Config, Mapping[str, Any]]) -> None:
+        self.config = config if isinstance(config, Config) else Config.of(config)
+        self.config.check()
+        counted = self.config.partitions
+        self.datasets = {name: Dataset(name, source, counted) for name, source in self.config.datasets.items()}
+        self._salt = f"{VERSION} {self.config}"
+        self._changed = max(each.stat().st_mtime for each in Path(__file__).parent.glob("*.py"))
+
+    def __call__(self, environ: dict[str, Any], start: Callable[..., Any]) -> Iterable[bytes]:
+        """Answer a request."""
+        began, method = time.perf_counter(), environ["REQUEST_METHOD"]
+        answer = self._answered(environ, method)
+        self._pack(answer, environ.get("HTTP_ACCEPT_ENCODING", ""))
+        length = answer.length if answer.pieces else len(answer.body)
+        headers = COMMON + answer.headers
+        if answer.status[:3] not in ("304", "204"):
+            headers.append(("Content-Length", str(length)))
+        if self.config.log and log.isEnabledFor(logging.INFO):
+            query = environ.get("QUERY_STRING", "")
+            target = environ.get("PATH_INFO", "") + ("?" + query if query else "")
+            spent = (time.perf_counter() - began) * 1e3
+            log.info("%s %r %s %d %.1f ms", method, target, answer.status[:3], length, spent)
+        start(answer.status, headers)
+        if method == "HEAD":
+            if answer.pieces:
+                answer.pieces.close()
+            return []
+        return answer.pieces or [answer.body]
+
+    def _answered(self, environ: dict[str, Any], method: str) -> Answer:
+        base = self.config.base
+        try:
+            if method == "OPTIONS":
+                return Answer("204 No Content", PREFLIGHT)
+            if method not in ("GET", "HEAD"):
+                raise Refusal("405 Method Not Allowed", "It can only be read.", ("Allow", METHODS))
+            request = request_of(environ, self.config)
+            base = request.base
+            return self._answer(request)
+        except Refusal as error:
+            refusal = error
+        except MemoryError:
+            refusal = Refusal("503 Service Unavailable", "There is no memory for this now.")
+        except Exception:
+            log.exception("an error of the server")
+            refusal = Refusal("500 Internal Server Error", "This is an error of the server.")
+        return self._refused(refusal, environ.get("HTTP_ACCEPT", ""), base)
+
+    def _pack(self, answer: Answer, accept: str) -> None:
+        """Compress a body that is not small, where the client takes gzip."""
+        if self.config.gzip and len(answer.body) > _SMALLEST_PACKED and formats.takes_gzip(accept):
+            packer = zlib.compressobj(4, zlib.DEFLATED, 31)
+            answer.body = packer.compress(answer.body) + packer.flush()
+            answer.headers = [
+                *((name, value[:-1] + '-gz"' if name == "ETag" else value) for name, value in answer.headers),
+                ("Content-Encoding", "gzip"),
+            ]
+
+    def _refused(self, refusal: Refusal, accept: str, base: str) -> Answer:
+        """The answer that is no page. It repeats nothing of the request."""
+        headers = [*refusal.headers, NO_STORE]
+        if "html" in accept:
+            headers += [("Content-Type", formats.content_type(HTML)), *pages.HEADERS]
+            return Answer(refusal.status, headers, pages.error_page(refusal.status, refusal.reason, base))
+        return Answer(refusal.status, [PLAIN, *headers], f"{refusal.status[4:]}: {refusal.reason}\n".encode())
+
+    def _answer(self, request: Request) -> Answer:
+        name, _, rest = request.path.partition("/")
+        if rest == "data.hdt" and name in self.datasets and self.datasets[name].source.download:
+            return self._file(request, self.datasets[name])
+        if elsewhere := self._elsewhere(request):
+            return elsewhere
+        media = self._media(request)
+        if not request.path:
+            return self._index(request, media)
+        if name not in self.datasets or request.path not in (name, name + "/void"):
+            raise Refusal("404 Not Found", "There is nothing here.")
+        dataset, loaded = self._open(name)
+        if rest:
+            return self._description(request, dataset, loaded, media)
+        return self._fragment(request, dataset, loaded, media)
+
+    def _media(self, request: Request) -> str:
+        """The media type of the answer."""
+        if named := request.given.get("format"):
+            if named not in formats.NAMES:
+                raise bad(f"There is no such format; there are {', '.join(formats.NAMES)}.")
+            return formats.NAMES[named]
+        media = formats.negotiated(request.header("Accept"))
+        if media is None:
+            raise Refusal("406 Not Acceptable", f"There are {', '.join(formats.KINDS)}.")
+        return media
+
+    def _open(self, name: str) -> tuple[Dataset, Loaded]:
+        """A dataset with its file."""
+        dataset = self.datasets[name]
+        loaded = dataset.loaded()
+        if loaded is None:
+            why = "The file of this dataset can't be opened now."
+            raise Refusal("503 Service Unavailable", why, ("Retry-After", "60"))
+        return dataset, loaded
+
+    def _fresh(self, request: Request, loaded: Loaded, media: str) -> tuple[Headers, bool]:
+        """The headers for a cache, and whether the client has the answer already, which nothing is searched for."""
+        state = f"{self._salt} {loaded.identity} {request.url} {media}"
+        tag = f'"{hashlib.sha256(state.encode()).hexdigest()[:24]}"'
+        modified = int(max(loaded.modified, self._changed))
+        headers = [
+            ("ETag", tag),
+            ("Last-Modified", formatdate(modified, usegmt=True)),
+            ("Cache-Control", f"public, max-age={self.config.max_age}"),
+        ]
+        return headers, _is_known(request, tag, modified)
+
+    def _page(self, request: Request, loaded: Loaded, media: str, make: Callable[[], bytes]) -> Answer:
+        """An answer for a cache: the body is made where the client does not have it."""
+        headers, known = self._fresh(request, loaded, media)
+        if known:
+            return Answer("304 Not Modified", headers)
+        body = make()
+        more = pages.HEADERS if formats.KINDS[media] == HTML else []
+        return Answer("200 OK", [("Content-Type", formats.content_type(media)), *headers, *more], body)
+
+    def _fragment(self, request: Request, dataset: Dataset, loaded: Loaded, media: str) -> Answer:
+        request.page()
+
+        def make() -> bytes:
+            fragment = fragments.fragment_of(request, dataset, loaded, self.config)
+            kind = formats.KINDS[media]
+            if kind == HTML:
+                return pages.fragment_page(fragment)
+            statements, graph = fragments.controls(fragment), request.url + "#metadata"
+            if kind == JSONLD:
+                return writers.jsonld(fragment.data(), statements, graph).encode("utf-8", "replace")
+            return writers.LINES[kind](fragment.lines(), statements, graph).encode("utf-8", "replace")
+
+        return self._page(request, loaded, media, make)
+
+    def _description(self, request: Request, dataset: Dataset, loaded: Loaded, media: str) -> Answer:
+        def make() -> bytes:
+            if formats.KINDS[media] == HTML:
+                return pages.description_page(request, dataset, loaded, self.config)
+            return _document(void.description(dataset, loaded, request.base), media)
+
+        return self._page(request, loaded, media, make)
+
+    def _index(self, request: Request, media: str) -> Answer:
+        """The list of datasets; those that can't be opened are left out of its RDF."""
+        found = [(dataset, dataset.loaded()) for dataset in self.datasets.values()]
+        headers = [("Content-Type", formats.content_type(media)), ("Cache-Control", "public, max-age=60")]
+        if formats.KINDS[media] == HTML:
+            return Answer("200 OK", headers + pages.HEADERS, pages.index_page(request, found, self.config))
+        opened = [(dataset, loaded) for dataset, loaded in found if loaded]
+        return Answer("200 OK", headers, _document(void.catalogue(opened, request.base), media))
+
+    def _elsewhere(self, request: Request) -> Optional[Answer]:
+        """A redirect from an IRI of the data to the triples that have it as their subject."""
+        for prefix, name in self.config.dereference.items():
+            if request.path.startswith(prefix.lstrip("/")) and request.path not in self.datasets:
+                return self._lead(request, name)
+        below = self.config.skolem
+        if below and not terms.has_scheme(below) and request.path.startswith(below):
+            name = request.path[len(below):].partition("/")[0]
+            if name in self.datasets:
+                return self._lead(request, name)
+        return None
+
+    def _lead(self, request: Request, name: str) -> Answer:
+        """A redirect to the fragment of an IRI, in the spelling that the data has."""
+        reader, spellings = self._open(name)[1].reader, [request.place, request.base + request.path]
+        iri = next((each for each in spellings if reader.has(0, each)), spellings[0])
+        target = f"{request.base}{name}?subject={quote(iri, safe='')}"
+        return Answer("303 See Other", [("Location", target), PLAIN], f"See {target}\n".encode())
+
+    def _file(self, request: Request, dataset: Dataset) -> Answer:
+        """The file itself, or a range of it."""
+        loaded = self._open(dataset.name)[1]
+        headers, known = self._fresh(request, loaded, "file")
+        if known:
+            return Answer("304 Not Modified", headers)
+        file = download.opened(dataset.source.file)
+        try:
+            if identity_of(download.stat_of(file)) != loaded.identity:
+                raise Refusal("503 Service Unavailable", "The file is being replaced.", ("Retry-After", "2"))
+            size = loaded.identity[2]
+            whole = request.header("If-Range") not in ("", headers[0][1], headers[1][1])
+            part = None if whole else download.range_of(request.header("Range"), size)
+        except BaseException:
+            file.close()
+            raise
+        first, end = part or (0, size)
+        headers += [("Content-Type", "application/vnd.hdt"), ("Accept-Ranges", "bytes"),
+                    ("Content-Disposition", f'attachment; filename="{dataset.name}.hdt"')]
+        if part:
+            headers.append(("Content-Range", f"bytes {first}-{end - 1}/{size}"))
+        pieces = download.Pieces(file, first, end)
+        return Answer("206 Partial Content" if part else "200 OK", headers, pieces=pieces, length=end - first)
+
+
+def _document(statements: list[Triple], media: str) -> bytes:
+    """Triples as a document of their own, without graphs."""
+    kind = formats.KINDS[media]
+    if kind == JSONLD:
+        return writers.jsonld(statements, [], "").encode("utf-8", "replace")
+    write = writers.ntriples if kind in (formats.NQUADS, formats.NTRIPLES) else writers.turtle
+    return write("", statements, "").encode("utf-8", "replace")
+
+
+def _is_known(request: Request, tag: str, modified: int) -> bool:
+    """Whether the client has this answer, by the headers of its request."""
+    if wanted := request.header("If-None-Match"):
+        tags = {each.strip().replace("W/", "", 1).replace('-gz"', '"') for each in wanted.split(",")}
+        return tag in tags or "*" in tags
+    if since := request.header("If-Modified-Since"):
+        try:
+            return modified <= parsedate_to_datetime(since).timestamp()
+        except (TypeError, ValueError, OverflowError):
+            return False
+    return False

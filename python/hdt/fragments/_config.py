@@ -1,0 +1,145 @@
+"""The configuration: what a server has, from a file of TOML or JSON or from Python."""
+
+from __future__ import annotations
+
+import dataclasses
+import json
+import os
+import re
+from collections.abc import Mapping
+from dataclasses import dataclass, field
+from pathlib import Path
+from typing import Any, Optional, Union
+
+from hdt.fragments import _terms as terms
+
+PREFIXES = {
+    "rdf": terms.RDF,
+    "rdfs": terms.RDFS,
+    "xsd": terms.XSD,
+    "owl": "http://www.w3.org/2002/07/owl#",
+    "hydra": terms.HYDRA,
+    "void": terms.VOID,
+    "dcterms": terms.DCTERMS,
+    "dc": "http://purl.org/dc/elements/1.1/",
+    "foaf": terms.FOAF,
+    "skos": "http://www.w3.org/2004/02/skos/core#",
+    "schema": "http://schema.org/",
+    "geo": "http://www.w3.org/2003/01/geo/wgs84_pos#",
+}
+_NAME = re.compile(r"[A-Za-z0-9][A-Za-z0-9._-]{0,99}\Z")
+
+
+@dataclass(frozen=True)
+class Source:
+    """A dataset: its file, and what is said of it."""
+
+    file: str
+    title: str = ""
+    description: str = ""
+    license: str = ""  # an IRI
+    download: bool = False  # whether the file itself is given out
+    copy: Optional[bool] = None  # of `hdt.open`: a large file is mapped unless it is read, and must not change in place
+
+
+@dataclass(frozen=True)
+class Config:
+    """What a server has. `datasets` maps the last part of a dataset's URL to its file."""
+
+    datasets: Mapping[str, Source] = field(default_factory=dict)
+    title: str = "Triple Pattern Fragments"
+    base: str = ""  # the URL that clients see; without one it is that of the request
+    hosts: tuple[str, ...] = ()  # the hosts that are answered without a base; any where there are none
+    forwarded: bool = False  # whether X-Forwarded-Proto, -Host and -Prefix come from a proxy that is trusted
+    page_size: int = 100
+    max_age: int = 3600  # seconds that a cache may keep an answer
+    gzip: bool = True
+    query_limit: int = 7000  # bytes
+    log: bool = True  # whether each request is a line of the log
+    partitions: int = 1000  # predicates that are counted one by one, at most
+    prefixes: Mapping[str, str] = field(default_factory=lambda: dict(PREFIXES))
+    skolem: str = ".well-known/genid/"  # of the IRIs of blank nodes; empty where they keep their labels
+    dereference: Mapping[str, str] = field(default_factory=dict)  # the first part of a path, and its dataset
+
+    @classmethod
+    def of(cls, values: Mapping[str, Any], folder: Union[str, Path] = "") -> Config:
+        """The configuration of a file's values. Files of datasets are relative to `folder`. Raises ValueError."""
+        known = _checked(cls, values, "the configuration")
+        sources = {}
+        for name, about in dict(known.get("datasets", {})).items():
+            about = _checked(Source, {"file": about} if isinstance(about, str) else about, f"dataset {name!r}")
+            file: str = about.pop("file", "")
+            if not file:
+                raise ValueError(f"dataset {name!r} has no file")
+            sources[name] = Source(file=os.path.join(folder, file), **about)
+        known["datasets"] = sources
+        known["hosts"] = tuple(known.get("hosts", ()))
+        known["prefixes"] = {**PREFIXES, **known.get("prefixes", {})}
+        config = cls(**known)
+        config.check()
+        return config
+
+    @classmethod
+    def read(cls, path: Union[str, Path]) -> Config:
+        """The configuration of a file: TOML by its name (`.toml`, from Python 3.11 on), else JSON."""
+        path = Path(path)
+        return cls.of(_values(path), path.parent)
+
+    def check(self) -> None:
+        """Raise ValueError where a value can't be."""
+        for name in self.datasets:
+            if not _NAME.match(name):
+                raise ValueError(f"no name of a dataset: {name!r}")
+        if self.base and not re.match(r"https?://[^\s<>\"{}|^`\\?#/]+(?:/[^\s<>\"{}|^`\\?#]*)?\Z", self.base):
+            raise ValueError(f"the base is no URL: {self.base!r}")
+        for name, source in self.datasets.items():
+            if source.license and not terms.has_scheme(source.license):
+                raise ValueError(f"dataset {name!r}: the license is no IRI")
+        for texts in (self.prefixes, self.dereference):
+            if not all(isinstance(text, str) for text in texts.values()):
+                raise ValueError("prefixes and dereference have texts as their values")
+        if not all(isinstance(host, str) for host in self.hosts):
+            raise ValueError("hosts are texts")
+        if not re.match(r"[A-Za-z0-9._~:/#-]*\Z", self.skolem):
+            raise ValueError(f"skolem is no part of an IRI: {self.skolem!r}")
+        for prefix, name in self.dereference.items():
+            if name not in self.datasets or not prefix.strip("/"):
+                raise ValueError(f"{prefix!r} leads to no dataset: {name!r}")
+        for key, least in (("page_size", 1), ("max_age", 0), ("query_limit", 100), ("partitions", 0)):
+            if not least <= getattr(self, key) <= 10**9:
+                raise ValueError(f"{key} is less than {least} or too large")
+        if self.page_size > 10_000:
+            raise ValueError("page_size is more than 10,000")
+
+
+def _values(path: Path) -> dict[str, Any]:
+    if path.suffix != ".toml":
+        values = json.loads(path.read_text(encoding="utf-8"))
+    else:
+        try:
+            import tomllib
+        except ImportError:
+            raise ValueError("this Python reads no TOML: the configuration may be JSON") from None
+        values = tomllib.loads(path.read_text(encoding="utf-8"))
+    if not isinstance(values, dict):
+        raise ValueError("the configuration is no object")
+    return values
+
+
+def _checked(kind: Any, values: Any, where: str) -> dict[str, Any]:
+    """The values for a class, which are of the types that its defaults have."""
+    if not isinstance(values, Mapping):
+        raise ValueError(f"{where} is no table")
+    fields = {each.name: each for each in dataclasses.fields(kind)}
+    for name, value in values.items():
+        if name not in fields:
+            raise ValueError(f"{where} has no {name!r}: it may have {', '.join(fields)}")
+        wanted = _TYPES[str(fields[name].type).split("[")[0]]
+        if not isinstance(value, wanted) or isinstance(value, bool) and bool not in wanted:
+            raise ValueError(f"{where}: {name} is a {wanted[0].__name__}, not a {type(value).__name__}")
+    return dict(values)
+
+
+_TYPES: dict[str, tuple[type, ...]] = {
+    "str": (str,), "int": (int,), "bool": (bool,), "Optional": (bool,), "tuple": (list, tuple), "Mapping": (dict,),
+}

@@ -1,0 +1,184 @@
+"""A fragment: the triples that match a pattern, a page of them, and its metadata and controls in RDF."""
+
+from __future__ import annotations
+
+import itertools
+from collections.abc import Mapping
+from dataclasses import dataclass
+from typing import Optional
+
+from hdt.fragments import _terms as terms
+from hdt.fragments._config import Config
+from hdt.fragments._dataset import Dataset, Loaded
+from hdt.fragments._reader import Reader
+from hdt.fragments._request import Refusal, Request
+from hdt.fragments._terms import DCTERMS, FOAF, HYDRA, RDF, ROLES, VOID, Pattern, Triple
+
+
+@dataclass(frozen=True)
+class Asked:
+    """A term of a request: its dictionary string, None for any; and what is wrong with it, for people."""
+
+    term: Optional[str]
+    hint: str = ""
+
+
+def skolem_prefix(request: Request, dataset: Dataset, config: Config) -> str:
+    """What the IRIs of blank nodes of a dataset begin with; nothing where blank nodes keep their labels."""
+    if not config.skolem:
+        return ""
+    return (config.skolem if terms.has_scheme(config.skolem) else request.base + config.skolem) + dataset.name + "/"
+
+
+def asked(text: str, role: int, reader: Reader, prefix: str, prefixes: Mapping[str, str]) -> Asked:
+    """The term that a parameter means."""
+    if not text or text.startswith("?"):
+        return Asked(None)
+    if text.startswith('"'):
+        spellings = list(terms.literals(text))
+        known = next((each for each in spellings if reader.has(role, each)), None)
+        if known or spellings:
+            return Asked(known or spellings[0])
+        return Asked(text, "This literal has no end.")
+    if text.startswith("<") and text.endswith(">"):
+        text = text[1:-1]
+    if (label := terms.blank_node(text, prefix)) is not None:
+        return Asked(label)
+    if text.startswith("_:") or reader.has(role, text):
+        return Asked(text)
+    name, colon, local = text.partition(":")
+    if colon and name in prefixes:
+        return Asked(prefixes[name] + local)
+    if terms.has_scheme(text):
+        return Asked(text)
+    literal = " A text has quotes around it." if role == 2 else ""
+    return Asked(text, f"The {ROLES[role]} is no term: an IRI begins with a scheme, as http:.{literal}")
+
+
+@dataclass(frozen=True)
+class Fragment:
+    """A page of a fragment, without its triples."""
+
+    dataset: Dataset
+    loaded: Loaded
+    request: Request
+    config: Config
+    pattern: Pattern
+    hints: list[str]
+    count: int
+    page: int
+
+    @property
+    def pages(self) -> int:
+        """How many pages the fragment has."""
+        return -(-self.count // self.config.page_size)
+
+    @property
+    def skip(self) -> int:
+        """How many triples the pages before this one have."""
+        return (self.page - 1) * self.config.page_size
+
+    @property
+    def url(self) -> str:
+        """The URL of the dataset, which is that of all its triples."""
+        return self.request.base + self.dataset.name
+
+    @property
+    def skolem(self) -> str:
+        """What the IRIs of blank nodes begin with."""
+        return skolem_prefix(self.request, self.dataset, self.config)
+
+    def triples(self) -> tuple[list[Triple], int]:
+        """The triples of the page, as strings of the dictionary, and how many were left out."""
+        return self.loaded.reader.page(self.pattern, self.skip, self.config.page_size) if self.count else ([], 0)
+
+    def data(self) -> list[Triple]:
+        """The triples of the page, with blank nodes as the server names them."""
+        found, prefix = self.triples()[0], self.skolem
+        if not prefix or not any(s.startswith("_:") or o.startswith("_:") for s, _, o in found):
+            return found
+        return [(_named(s, prefix), p, _named(o, prefix)) for s, p, o in found]
+
+    def lines(self) -> str:
+        """The triples of the page as N-Triples, with blank nodes as the server names them."""
+        text = self.loaded.reader.text(self.pattern) if self.count <= self.config.page_size else None
+        if text is None or self.skolem and "_:" in text:
+            return lines_of(self.data())
+        return text
+
+
+def _named(term: str, prefix: str) -> str:
+    return terms.skolem_iri(term, prefix) if term.startswith("_:") else term
+
+
+def lines_of(triples: list[Triple]) -> str:
+    """Triples of terms as N-Triples."""
+    known = {term: terms.written(term) for term in set(itertools.chain.from_iterable(triples))}
+    return "".join([f"{known[s]} {known[p]} {known[o]} .\n" for s, p, o in triples])
+
+
+def fragment_of(request: Request, dataset: Dataset, loaded: Loaded, config: Config) -> Fragment:
+    """The fragment that a request asks for. Raises Refusal where it has no such page."""
+    page, prefix, reader = request.page(), skolem_prefix(request, dataset, config), loaded.reader
+    s, p, o = (
+        asked(request.given.get(name, ""), role, reader, prefix, config.prefixes) for role, name in enumerate(ROLES)
+    )
+    pattern = s.term, p.term, o.term
+    hints = [each.hint for each in (s, p, o) if each.hint]
+    fragment = Fragment(dataset, loaded, request, config, pattern, hints, reader.count(pattern), page)
+    if page > max(1, fragment.pages):
+        raise Refusal("404 Not Found", f"There is no page {page:,}: {fragment.count:,} triples match, "
+                      f"on {fragment.pages:,} pages.")
+    return fragment
+
+
+def form(dataset: Dataset, base: str) -> list[Triple]:
+    """How the fragments of a dataset are asked for."""
+    url = base + dataset.name
+    about, pattern, template = url + "#dataset", url + "#pattern", f'"{url}{{?subject,predicate,object}}"'
+    statements = [
+        (about, RDF + "type", VOID + "Dataset"),
+        (about, RDF + "type", HYDRA + "Collection"),
+        (about, DCTERMS + "title", f'"{dataset.title}"'),
+        (about, VOID + "uriLookupEndpoint", template),
+        (about, HYDRA + "search", pattern),
+        (pattern, HYDRA + "template", template),
+        (pattern, HYDRA + "variableRepresentation", HYDRA + "ExplicitRepresentation"),
+    ]
+    for role in ROLES:
+        statements.append((pattern, HYDRA + "mapping", f"{pattern}-{role}"))
+        statements.append((f"{pattern}-{role}", HYDRA + "variable", f'"{role}"'))
+        statements.append((f"{pattern}-{role}", HYDRA + "property", RDF + role))
+    if dataset.source.license:
+        statements.append((about, DCTERMS + "license", dataset.source.license))
+    return statements
+
+
+def controls(fragment: Fragment) -> list[Triple]:
+    """Metadata and controls of a page.
+
+    Each has the page, the dataset or the form as its subject, or a predicate that clients take for a control: to a
+    client that reads a format without graphs, all else is data.
+    """
+    request, about = fragment.request, fragment.url + "#dataset"
+    page, whole, pages = request.url, request.with_page(None), fragment.pages
+    statements = [(page + "#metadata", FOAF + "primaryTopic", about), *form(fragment.dataset, request.base)]
+    statements.append((about, VOID + "subset", whole))
+    if page != whole:
+        statements += [(about, VOID + "subset", page), (whole, VOID + "subset", page), (whole, HYDRA + "view", page)]
+    statements += [
+        (page, RDF + "type", HYDRA + "PartialCollectionView"),
+        (page, DCTERMS + "title", f'"A fragment of {fragment.dataset.title}"'),
+        (page, DCTERMS + "source", about),
+        (page, HYDRA + "totalItems", terms.integer(fragment.count)),
+        (page, VOID + "triples", terms.integer(fragment.count)),
+        (page, HYDRA + "itemsPerPage", terms.integer(fragment.config.page_size)),
+        (page, HYDRA + "first", request.with_page(1)),
+    ]
+    if fragment.page > 1:
+        statements.append((page, HYDRA + "previous", request.with_page(fragment.page - 1)))
+    if fragment.page < pages:
+        statements.append((page, HYDRA + "next", request.with_page(fragment.page + 1)))
+    if pages:
+        statements.append((page, HYDRA + "last", request.with_page(pages)))
+    return statements

@@ -1,0 +1,237 @@
+"""The pages for people: a fragment, the description of a dataset, the list of datasets, an error."""
+
+from __future__ import annotations
+
+from typing import Optional
+
+from hdt.fragments import _formats as formats
+from hdt.fragments import _terms as terms
+from hdt.fragments._config import Config
+from hdt.fragments._dataset import Dataset, Loaded
+from hdt.fragments._fragment import Fragment, skolem_prefix
+from hdt.fragments._html import View, document, plural, text
+from hdt.fragments._request import Request
+from hdt.fragments._style import HEADERS
+from hdt.fragments._terms import ROLES
+
+__all__ = ["HEADERS", "description_page", "error_page", "fragment_page", "index_page"]
+
+_FIRST_PREDICATES = 12  # on the first page of a dataset
+_SUGGESTED = 300  # predicates that the search box suggests, at most
+_POINTING = 10  # triples that point to a subject, on its page
+
+_HINTS = ("any subject: an IRI", "any predicate: an IRI", 'any object: an IRI or "text"')
+
+
+def _view(request: Request, dataset: Dataset, loaded: Loaded, config: Config) -> View:
+    spaces = {iri: name for name, iri in config.prefixes.items()}
+    prefix = skolem_prefix(request, dataset, config)
+    return View(request.base + dataset.name, prefix, spaces, lambda term: loaded.reader.has(0, term))
+
+
+def _crumbs(request: Request, config: Config, *more: tuple[str, str]) -> str:
+    links = [(request.base, config.title), *more]
+    return '<nav class="crumbs" aria-label="Path">' + " ".join(
+        f'<a href="{text(url)}">{text(title)}</a>' for url, title in links) + "</nav>"
+
+
+def _facts(loaded: Loaded) -> str:
+    size = loaded.reader.counts
+    facts = (
+        plural(size.triples, "triple", "triples"),
+        plural(size.shared + size.subjects, "subject", "subjects"),
+        plural(size.predicates, "predicate", "predicates"),
+        plural(size.shared + size.objects, "object", "objects"),
+    )
+    return '<ul class="facts">' + "".join(f"<li>{fact}</li>" for fact in facts) + "</ul>"
+
+
+def _in_field(value: str) -> str:
+    """A parameter in a search box, which has no line breaks: a literal has them as escapes."""
+    if value.startswith('"') and ("\n" in value or "\r" in value):
+        literal, suffix = terms.parts(value)
+        value = f'"{terms.escaped(literal)}"{suffix}'
+    return text(value)
+
+
+def _search(fragment: Fragment) -> str:
+    """The form with three boxes."""
+    given, boxes = fragment.request.given, ""
+    known = fragment.loaded.reader.predicates[:_SUGGESTED]
+    for role, hint in zip(ROLES, _HINTS):
+        suggested = ' list="predicates"' if role == "predicate" and known else ""
+        boxes += (
+            f'<label class="{role[0]}">{role.capitalize()}<input name="{role}" '
+            f'value="{_in_field(given.get(role, ""))}" placeholder="{text(hint)}" '
+            f'autocomplete="off" autocapitalize="off" spellcheck="false"{suggested}></label>'
+        )
+    options = "".join(f'<option value="{text(name)}">' for name, _ in known)
+    suggestions = f'<datalist id="predicates">{options}</datalist>' if known else ""
+    clear = f' <a href="{text(fragment.url)}">Clear</a>' if any(given.get(role) for role in ROLES) else ""
+    return (
+        f'<form class="search box" role="search" action="{text(fragment.url)}">{boxes}'
+        f"<div><button>Search</button>{clear}</div></form>{suggestions}"
+    )
+
+
+def _pager(fragment: Fragment, label: str) -> str:
+    """Links to other pages, and a box for the number of one."""
+    request, page, pages = fragment.request, fragment.page, fragment.pages
+    if pages < 2:
+        return ""
+
+    def link(number: int, name: str, relation: str) -> str:
+        if not 1 <= number <= pages or number == page:
+            return f'<span aria-hidden="true">{name}</span>'
+        return f'<a href="{text(request.with_page(number))}" rel="{relation}">{name}</a>'
+
+    kept = "".join(f'<input type="hidden" name="{name}" value="{text(value)}">'
+                   for name, value in request.given.items() if name != "page" and value)
+    jump = (f'<form action="{text(request.place)}">{kept}<label>Page <input name="page" value="{page}" '
+            f'inputmode="numeric" autocomplete="off"></label> of {pages:,}</form>')
+    return (
+        f'<nav class="pages" aria-label="{label}">{link(1, "« First", "first")}{link(page - 1, "‹ Previous", "prev")}'
+        f'{jump}{link(page + 1, "Next ›", "next")}{link(pages, "Last »", "last")}</nav>'
+    )
+
+
+def _overview(fragment: Fragment, view: View) -> str:
+    """The most used predicates, on the first page of a dataset."""
+    known = fragment.loaded.reader.predicates
+    if fragment.pattern != (None, None, None) or fragment.page > 1 or not known:
+        return ""
+    links = " ".join(
+        f'<li><span class="p">{view.term(name, 1)}</span> {count:,}</li>' for name, count in known[:_FIRST_PREDICATES])
+    return (
+        f'<section class="box" aria-label="Predicates"><h2>Predicates</h2><ul class="facts">{links}</ul>'
+        f'<p class="soft"><a href="{text(fragment.url)}/void">All predicates with their counts</a></p></section>'
+    )
+
+
+def _pointing(fragment: Fragment, view: View) -> str:
+    """The first triples that have the subject of the page as their object."""
+    subject = fragment.pattern[0]
+    if not _is_about_a_subject(fragment) or subject is None or subject.startswith('"'):
+        return ""
+    pattern, reader = (None, None, subject), fragment.loaded.reader
+    count = reader.count(pattern)
+    if not count:
+        return ""
+    found, _ = reader.page(pattern, 0, _POINTING)
+    link = view.link(subject, 2) or fragment.url
+    caption = f"The first {len(found):,}" if count > len(found) else "All of them"
+    return (
+        f'<section aria-label="Triples that point to it"><div class="bar"><h2>{count:,} '
+        f'{"triple points" if count == 1 else "triples point"} to it</h2>'
+        + (f'<a href="{text(link)}">All {count:,}</a>' if count > len(found) else "")
+        + f"</div>{view.table(found, caption, (0, 1))}</section>"
+    )
+
+
+def _is_about_a_subject(fragment: Fragment) -> bool:
+    return bool(fragment.pattern[0]) and not fragment.pattern[1] and not fragment.pattern[2]
+
+
+def _heading(fragment: Fragment, view: View) -> str:
+    """The heading of a fragment: that of its subject, or of the dataset."""
+    dataset, subject = fragment.dataset, fragment.pattern[0]
+    if _is_about_a_subject(fragment) and subject and fragment.count:
+        crumbs = _crumbs(fragment.request, fragment.config, (fragment.url, dataset.title))
+        name = subject if subject.startswith("_:") else view.short(subject)[1]
+        return f'<header>{crumbs}<h1>{text(name)}</h1><p class="iri">{text(subject)}</p><p></p></header>'
+    lead = f'<p class="lead">{text(dataset.source.description)}</p>' if dataset.source.description else ""
+    return (
+        f"<header>{_crumbs(fragment.request, fragment.config)}"
+        f'<h1><a href="{text(fragment.url)}">{text(dataset.title)}</a></h1>{lead}{_facts(fragment.loaded)}</header>'
+    )
+
+
+def _triples(fragment: Fragment, view: View) -> str:
+    """The triples of the page with their count and the links to other pages."""
+    found, left_out = fragment.triples()
+    first, last = fragment.skip + 1, fragment.skip + len(found) + left_out
+    caption = f"Triples {first:,} to {last:,} of {fragment.count:,}" if found else ""
+    heading = f'{fragment.count:,} {"triple matches" if fragment.count == 1 else "triples match"}'
+    if not found:
+        rows = '<p class="box none">No triple of this dataset matches.</p>'
+    else:
+        rows = view.table(found, caption, (1, 2) if _is_about_a_subject(fragment) else (0, 1, 2))
+    note = (f'<p class="box hint">{left_out:,} triples of this page have strings that are no terms of RDF. '
+            "They are left out.</p>") if left_out else ""
+    below = f'<div class="bar"><span></span>{_pager(fragment, "Pages, again")}</div>' if len(found) > 15 else ""
+    return (
+        f'<section id="triples" aria-label="Triples"><div class="bar"><h2>{heading}</h2>'
+        f'{_pager(fragment, "Pages")}</div>{note}{rows}{below}</section>'
+    )
+
+
+def _footer(url: str) -> str:
+    """The same page in other formats."""
+    joined = url + ("&" if "?" in url else "?")
+    links = ", ".join(f'<a href="{text(joined)}format={name}" rel="nofollow">{label}</a>'
+                      for name, label in formats.LABELS.items())
+    shell = url.replace("'", "%27")
+    return (
+        f"<footer><p>This page as {links}.</p>"
+        f"<p><code>curl -H 'Accept: text/turtle' '{text(shell)}'</code></p></footer>"
+    )
+
+
+def _alternates(url: str) -> str:
+    media = formats.TURTLE, formats.TRIG
+    return "".join(f'<link rel="alternate" type="{name}" href="{text(url)}">' for name in media)
+
+
+def fragment_page(fragment: Fragment) -> bytes:
+    """A page of a fragment."""
+    view = _view(fragment.request, fragment.dataset, fragment.loaded, fragment.config)
+    hints = "".join(f'<p class="box hint" role="alert">{text(hint)}</p>' for hint in fragment.hints)
+    named = [f"{role} {view.name(term)}" for role, term in zip(ROLES, fragment.pattern) if term]
+    url = fragment.request.with_page(fragment.page if fragment.page > 1 else None)
+    return document(
+        ", ".join(named + [fragment.dataset.title]) + (f", page {fragment.page:,}" if fragment.page > 1 else ""),
+        f'<a class="skip" href="#triples">Skip to the triples</a>{_heading(fragment, view)}'
+        f"<main>{_search(fragment)}{hints}{_overview(fragment, view)}{_triples(fragment, view)}"
+        f"{_pointing(fragment, view)}</main>{_footer(url)}",
+        _alternates(fragment.request.url),
+    )
+
+
+def description_page(request: Request, dataset: Dataset, loaded: Loaded, config: Config) -> bytes:
+    """The description of a dataset: its counts and its predicates."""
+    view = _view(request, dataset, loaded, config)
+    known = loaded.reader.predicates
+    table = view.predicates(known, "The most used ones first") if known else (
+        f'<p class="box none">There are more than {config.partitions:,} predicates, which are not counted here.</p>')
+    file = f'<p><a href="{text(view.url)}/data.hdt">The HDT file</a></p>' if dataset.source.download else ""
+    license = dataset.source.license
+    link = f'<a href="{text(license)}" rel="noopener noreferrer nofollow">{text(license)}</a>'
+    licensed = f"<p>License: {link}</p>" if license.startswith(("http:", "https:")) else ""
+    return document(
+        f"Description of {dataset.title}",
+        f"<header>{_crumbs(request, config, (view.url, dataset.title))}<h1>{text(dataset.title)}</h1>"
+        f'<p class="lead">{text(dataset.source.description)}</p>{_facts(loaded)}</header><main>{file}{licensed}'
+        f'<section aria-label="Predicates"><h2>Predicates</h2>{table}</section></main>{_footer(request.place)}',
+        _alternates(request.place),
+    )
+
+
+def index_page(request: Request, datasets: list[tuple[Dataset, Optional[Loaded]]], config: Config) -> bytes:
+    """The list of datasets."""
+    cards = "".join(
+        f'<li class="box"><h2><a href="{text(request.base + dataset.name)}">{text(dataset.title)}</a></h2>'
+        f'<p class="soft">{text(dataset.source.description)}</p>'
+        + (_facts(loaded) if loaded else '<p class="soft">Its file can\'t be opened now.</p>') + "</li>"
+        for dataset, loaded in datasets
+    )
+    return document(
+        config.title,
+        f'<header><h1>{text(config.title)}</h1><p class="lead">Datasets of RDF that people and programs search by the '
+        f'pattern of a triple.</p></header><main><ul class="cards">{cards}</ul></main>{_footer(request.base)}',
+    )
+
+
+def error_page(status: str, reason: str, base: str) -> bytes:
+    """An error, which repeats nothing of the request."""
+    return document(status[4:], f'<header><h1>{text(status[4:])}</h1></header><main><p>{text(reason)}</p>'
+                    f'<p><a href="{text(base or "/")}">All datasets</a></p></main>')

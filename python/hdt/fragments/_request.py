@@ -1,0 +1,135 @@
+"""A request: its parameters and the URLs that its answer names."""
+
+from __future__ import annotations
+
+import re
+from dataclasses import dataclass
+from typing import Any, Optional
+from urllib.parse import quote
+
+from hdt.fragments._config import Config
+from hdt.fragments._terms import ROLES
+
+Headers = list[tuple[str, str]]
+
+_HOST = re.compile(r"(?:[A-Za-z0-9._-]{1,253}|\[[0-9A-Fa-f:.]{2,45}\])(?::\d{1,5})?\Z")
+_PREFIX = re.compile(r"(?:/[A-Za-z0-9._~-]+)*/?\Z")
+_PAGE = re.compile(r"[1-9][0-9]{0,14}\Z")
+
+
+class Refusal(Exception):
+    """An answer that is no page: a status, a reason for people, headers."""
+
+    def __init__(self, status: str, reason: str, *headers: tuple[str, str]) -> None:
+        super().__init__(reason)
+        self.status, self.reason, self.headers = status, reason, list(headers)
+
+
+def bad(reason: str) -> Refusal:
+    """The refusal of a request that is wrong."""
+    return Refusal("400 Bad Request", reason)
+
+
+def _decoded(raw: bytes) -> str:
+    plain = raw.replace(b"+", b" ")
+    return re.sub(rb"%(..)", lambda match: bytes([int(match[1], 16)]), plain, flags=re.DOTALL).decode()
+
+
+def parameters(query: bytes) -> list[tuple[str, str, bytes]]:
+    """The parameters of a query: names and values decoded, and the bytes as they came."""
+    found = []
+    for raw in query.split(b"&"):
+        if re.search(rb"%(?![0-9A-Fa-f]{2})", raw):
+            raise bad("A percent sign of the query is not followed by two hexadecimal digits.")
+        name, _, value = raw.partition(b"=")
+        try:
+            if raw:
+                found.append((_decoded(name), _decoded(value), raw))
+        except UnicodeDecodeError:
+            raise bad("A parameter is not UTF-8 once its percent signs are decoded.") from None
+    return found
+
+
+def _url_text(raw: bytes) -> str:
+    """A part of a URL, byte for byte; a byte that no IRI of Turtle may have is percent-encoded.
+
+    Nothing is normalised, since a client reads the controls of the URL that it asked for.
+    """
+    return re.sub(rb'[^\x21-\x7e]|[<>"{}|^`\\]', lambda match: b"%%%02X" % match[0][0], raw).decode("ascii")
+
+
+@dataclass(frozen=True)
+class Request:
+    """A request: `base` is the URL of the application with a slash at its end, `path` the text behind it."""
+
+    environ: dict[str, Any]
+    base: str
+    path: str
+    query: bytes
+    given: dict[str, str]
+    without_page: bytes  # the query without its page
+
+    @property
+    def place(self) -> str:
+        """The URL without its query."""
+        return self.base + quote(self.path)
+
+    @property
+    def url(self) -> str:
+        """The URL as the client wrote it."""
+        return self.place + ("?" + _url_text(self.query) if self.query else "")
+
+    def with_page(self, page: Optional[int]) -> str:
+        """The URL of another page; of the fragment where there is none."""
+        query = self.without_page + (b"&" if self.without_page and page else b"")
+        query += b"page=%d" % page if page else b""
+        return self.place + ("?" + _url_text(query) if query else "")
+
+    def header(self, name: str) -> str:
+        """A header of the request; nothing where it has none."""
+        value: str = self.environ.get("HTTP_" + name.upper().replace("-", "_"), "")
+        return value
+
+    def page(self) -> int:
+        """The number of the page that is asked for."""
+        number = self.given.get("page", "1")
+        if not _PAGE.match(number):
+            raise bad("The page is no number from 1 on.")
+        return int(number)
+
+
+def _base_of(environ: dict[str, Any], config: Config) -> str:
+    if config.base:
+        return config.base.rstrip("/") + "/"
+    host = environ.get("HTTP_HOST") or f"{environ['SERVER_NAME']}:{environ['SERVER_PORT']}"
+    scheme, prefix = environ["wsgi.url_scheme"], environ.get("SCRIPT_NAME", "")
+    if config.forwarded:
+        host = environ.get("HTTP_X_FORWARDED_HOST", host).split(",")[0].strip()
+        scheme = environ.get("HTTP_X_FORWARDED_PROTO", scheme).split(",")[0].strip()
+        prefix = environ.get("HTTP_X_FORWARDED_PREFIX", "").rstrip("/") or prefix
+        if scheme not in ("http", "https") or not _PREFIX.match(environ.get("HTTP_X_FORWARDED_PREFIX", "")):
+            raise bad("A header of the proxy is wrong.")
+    if not _HOST.match(host):
+        raise bad("The Host header is no host.")
+    if config.hosts and host.rpartition(":")[0].lower() not in config.hosts and host.lower() not in config.hosts:
+        raise Refusal("421 Misdirected Request", "This host is not served here.")
+    return f"{scheme}://{host}{quote(prefix.encode('latin-1'))}/"
+
+
+def request_of(environ: dict[str, Any], config: Config) -> Request:
+    """The request of a WSGI environment. Raises Refusal."""
+    query = environ.get("QUERY_STRING", "").encode("latin-1")
+    if len(query) > config.query_limit:
+        raise Refusal("414 URI Too Long", f"The query has {len(query):,} bytes; {config.query_limit:,} are taken.")
+    base = _base_of(environ, config)
+    given: dict[str, str] = {}
+    others = []
+    for name, value, raw in parameters(query):
+        if name in (*ROLES, "page", "format"):
+            if name in given:
+                raise bad(f"The parameter {name} is given twice.")
+            given[name] = value
+        if name != "page":
+            others.append(raw)
+    path = environ.get("PATH_INFO", "").encode("latin-1").decode("utf-8", "replace")
+    return Request(environ, base, path[1:] if path.startswith("/") else path, query, given, b"&".join(others))

@@ -1,0 +1,326 @@
+"""The fragment server's pages for people: their parts, what is escaped, labels and contrast, and Chromium."""
+
+from __future__ import annotations
+
+import base64
+import hashlib
+import math
+import random
+import re
+import shutil
+import subprocess
+import threading
+from collections.abc import Iterable, Iterator
+from html.parser import HTMLParser
+from pathlib import Path
+from typing import Any, Callable, Optional
+from urllib.parse import quote, unquote
+from wsgiref.simple_server import make_server
+
+import pytest
+
+from reference import hdt as reference
+from support.fragments import BASE, MANY, ODD, Handler, Server, Site, build, fragments, style, url
+
+EVIL = "\"'><script>alert(1)</script><img src=x onerror=alert(1)>"
+ELEMENTS = set("""html head meta title link style body header nav main section footer h1 h2 p a b ul li form label input
+    button datalist option div span table caption thead tbody tr th td details summary code""".split())
+VOID_ELEMENTS = {"meta", "link", "input", "option", "br"}
+S1 = "http://odd.example/s1"
+
+
+class Page(HTMLParser):
+    """A page that is read strictly: elements nest, and all that can act is noted."""
+
+    def __init__(self, text: str) -> None:
+        super().__init__()
+        self.open: list[str] = []
+        self.elements: list[tuple[str, dict[str, str]]] = []
+        self.text = ""
+        self.feed(text)
+        self.close()
+        assert self.open == [], self.open
+
+    def handle_starttag(self, tag: str, attrs: list[tuple[str, Optional[str]]]) -> None:
+        """An element begins."""
+        assert len({name for name, _ in attrs}) == len(attrs)
+        self.elements.append((tag, {name: value or "" for name, value in attrs}))
+        if tag not in VOID_ELEMENTS:
+            self.open.append(tag)
+
+    def handle_endtag(self, tag: str) -> None:
+        """An element ends."""
+        assert self.open.pop() == tag
+
+    def handle_data(self, data: str) -> None:
+        """Text."""
+        if "style" not in self.open:
+            self.text += data
+
+    def all(self, tag: str, **wanted: str) -> list[dict[str, str]]:
+        """The attributes of all elements of a kind that have these."""
+        return [given for name, given in self.elements
+                if name == tag and all(given.get(key) == value for key, value in wanted.items())]
+
+
+@pytest.fixture(scope="module")
+def file(tmp_path_factory: pytest.TempPathFactory) -> Path:
+    """The file of odd terms."""
+    return build(tmp_path_factory.mktemp("odd"), ODD)
+
+
+def config(file: Path) -> dict[str, Any]:
+    """A configuration with text that would break pages."""
+    about = {"file": str(file), "title": f"Odd {EVIL}", "description": EVIL, "license": "javascript:alert(1)",
+             "download": True}
+    return {"title": f"All {EVIL}", "datasets": {"odd": about, "none": "none.hdt"}}
+
+
+@pytest.fixture(scope="module")
+def site(file: Path) -> Site:
+    """The application."""
+    return Site(fragments.Application(config(file)))
+
+
+def page(site: Site, target: str, status: int = 200) -> Page:
+    """A page, which passes the checks of all pages."""
+    answer = site.ask(target, Accept="text/html")
+    assert answer.status == status
+    policy = answer.headers["content-security-policy"]
+    sheet = re.search("<style>(.*?)</style>", answer.text, re.DOTALL)
+    assert sheet
+    digest = base64.b64encode(hashlib.sha256(sheet[1].encode()).digest()).decode()
+    assert policy == (f"default-src 'none'; style-src 'sha256-{digest}'; img-src data:; form-action 'self'; "
+                      "base-uri 'none'; frame-ancestors 'none'")
+    found = Page(answer.text)
+    assert {tag for tag, _ in found.elements} <= ELEMENTS
+    for tag, given in found.elements:
+        assert not [name for name in given if name.startswith("on") or name in ("style", "src", "srcset")]
+        if tag == "a":
+            assert re.match(r"https?://|#|/\Z", given["href"]), given
+            if not given["href"].startswith((BASE, "#", "/")):
+                assert given["rel"] == "noopener noreferrer nofollow"
+        if tag == "form":
+            assert given["action"].startswith(BASE)
+    return found
+
+
+PAGES = {
+    "all": "/odd", "the odd terms": url(predicate="http://odd.example/p"), "a subject": url(subject=S1),
+    "blank nodes": url(predicate="http://odd.example/knows"), "a blank node": url(subject="_:b1"),
+    "a page": url(page=2), "nothing": url(subject="http://none/"), "evil subject": url(subject=EVIL),
+    "evil literal": url(object=f'"{EVIL}'),
+    "evil parameter": "/odd?x=" + quote(EVIL), "a script's IRI": url(subject="javascript:alert(1)"), "the list": "/",
+    "the description": "/odd/void", "a control character": url(object='"\x01\x7f\x85\u2028"'),
+    "a long one": url(subject="http://odd.example/longer"), "lines": url(object='"line\nfeed\ttab\rreturn"'),
+}
+
+
+@pytest.mark.parametrize("name", PAGES)
+def test_pages_are_safe(site: Site, name: str) -> None:
+    """Elements nest; no script, no event, no source; links lead to the web alone; the policy has the style's hash."""
+    assert page(site, PAGES[name]).all("h1")
+
+
+@pytest.mark.parametrize("target, status", [("/none", 503), ("/" + quote(EVIL), 404), ("/odd?page=0", 400)])
+def test_errors_are_safe(site: Site, target: str, status: int) -> None:
+    """Errors are pages too, and repeat nothing."""
+    assert "alert" not in page(site, target, status).text
+
+
+@pytest.mark.parametrize("name", PAGES)
+def test_pages_for_all_readers(site: Site, name: str) -> None:
+    """A page has a language, one first heading, marked regions, and a name for each box, link and part that moves."""
+    found = page(site, PAGES[name])
+    assert [given["lang"] for given in found.all("html")] == ["en"]
+    assert len(found.all("h1")) == len(found.all("main")) == 1
+    assert found.all("meta", name="viewport") and found.all("title")
+    for given in found.all("nav") + found.all("section"):
+        assert given["aria-label"]
+    text = site.ask(PAGES[name], Accept="text/html").text
+    for box in re.findall(r"<input (?![^>]*hidden)[^>]*>", text):
+        assert re.search(rf"<label[^>]*>[^<]+{re.escape(box)}", text)
+    for given, inside in re.findall(r"<a ([^>]*)>(.*?)</a>", text):
+        assert "aria-label" in given or re.sub("<[^>]*>", "", inside).strip()
+    assert all("scope" in given for given in found.all("th"))
+    assert len(found.all("caption")) == len(found.all("table"))
+
+
+def test_drawn_strings(tmp_path: Path) -> None:
+    """A file of another program may have any strings: its pages are safe too, and its N-Triples has terms alone."""
+    draw = random.Random(3)
+    pieces = ["<", ">", '"', "'", "&", "</a>", "<script>", "\\", "\n", "\r", "\x1b", "\u202e", "_:", "a", "http:", "//",
+              "#", "@", "en", "^^", "<u:t>", "javascript:", "{", "}", "%", " ", "\u00e9", "\U0001f600", "]]>", "-->",
+              "&lt;", "/"]
+
+    def string() -> bytes:
+        return "".join(draw.choice(pieces) for _ in range(draw.randint(1, 9))).encode()
+
+    wild = [(string(), string(), string()) for _ in range(150)]
+    ends = [b'"', b'"@en', b'"^^<u:t>']
+    tame = [(b"u:&'" + draw.choice([b"a", b"%"]), b"u:p", b'"' + string() + draw.choice(ends)) for _ in range(150)]
+    file = tmp_path / "drawn.hdt"
+    file.write_bytes(reference.graph(sorted(set(wild + tame))).data)
+    site = Site(fragments.Application({"datasets": {"odd": str(file)}, "page_size": 1000}))
+    for target in ("/odd", "/odd/void"):
+        assert page(site, target).all("h1")
+    iri = r'<[A-Za-z][A-Za-z0-9+.-]*:[^\x00-\x20<>"{}|^`\\]*>'
+    label = r"(?:_:[^ ]+|" + iri + ")"
+    line = re.compile(rf'{label} {iri} (?:{label}|"(?:[^"\\\n\r]|\\[\\"nr])*"(?:@[a-z-]+|\^\^{iri})?) \.')
+    lines = site.ask("/odd", Accept="application/n-triples").text.split("\n")[:-1]
+    assert len(lines) > 50
+    assert [each for each in lines if not line.fullmatch(each)] == []
+
+
+def test_search(site: Site) -> None:
+    """The boxes have what was asked for; a term with lines comes back as it is asked for again."""
+    literal = '"line\nfeed\ttab\rreturn"'
+    boxes = {given["name"]: given for given in page(site, url(object=literal, predicate="x")).all("input")}
+    assert boxes["object"]["value"] == '"line\\nfeed\ttab\\rreturn"' and boxes["predicate"]["value"] == "x"
+    assert site.nquads(url(object=boxes["object"]["value"])).total == 1
+    assert len(page(site, "/odd").all("option")) == 5
+    assert "The predicate is no term" in page(site, url(predicate="x")).text
+    assert "A text has quotes around it" in page(site, url(object="plain")).text
+
+
+def test_links_lead_to_what_they_say(site: Site) -> None:
+    """Each link of a page of terms leads to a page that is not empty."""
+    for name in ("the odd terms", "blank nodes", "a subject", "all"):
+        links = {given["href"] for given in page(site, PAGES[name]).all("a")}
+        inside = [link for link in links if link.startswith(BASE + "odd?") and "format=" not in link]
+        assert len(inside) > 5
+        for link in inside:
+            assert site.nquads("/" + link[len(BASE):]).total > 0, unquote(link)
+
+
+def test_rows_of_one_subject(site: Site) -> None:
+    """The rows of a subject are joined, and the page of a subject has no column for it."""
+    rows = page(site, url(predicate="http://odd.example/p")).all("th", scope="rowgroup")
+    spans = [int(given.get("rowspan", 1)) for given in rows]
+    assert sum(spans) == ODD.count("<http://odd.example/p>") and max(spans) == ODD.count(f"<{S1}> ")
+    heads = [given["class"] for given in page(site, url(subject=S1)).all("th", scope="col")]
+    assert heads == ["p", "o"]
+
+
+def test_page_of_a_subject(site: Site) -> None:
+    """It has the triples of the subject and those that point to it."""
+    text = page(site, url(subject="_:b1")).text
+    assert "2 triples match" in text and "1 triple points to it" in text
+    assert "point" not in page(site, url(subject=S1)).text
+
+
+def test_literals(site: Site) -> None:
+    """A tag is the language of its text; a datatype is short; a long literal is folded and a longer one is cut."""
+    text = site.ask(url(predicate="http://odd.example/p"), Accept="text/html").text
+    assert 'lang="fr" dir="auto">caf\u00e9' in text and 'title="language en-GB">en-GB</span>' in text
+    assert 'title="datatype http://www.w3.org/2001/XMLSchema#decimal">xsd:decimal</span>' in text
+    assert text.count("<details>") == 2 and "The first 20,000 of 28,000 characters." in text
+    assert "(empty)" in text and "\x01" not in text and "<b>bold" not in text
+
+
+def test_pager(site: Site) -> None:
+    """Pages lead to each other, and keep what was asked for."""
+    found = page(site, url(predicate="http://odd.example/n", page=2))
+    links = {given["rel"]: given["href"] for given in found.all("a") if "rel" in given}
+    asked = BASE + url(predicate="http://odd.example/n")[1:]
+    pages = {"first": 1, "prev": 1, "next": 3, "last": 3}
+    assert {rel: links[rel] for rel in pages} == {rel: f"{asked}&page={number}" for rel, number in pages.items()}
+    assert {given["value"] for given in found.all("input", type="hidden")} == {"http://odd.example/n"}
+    assert f"Triples 101 to 200 of {MANY}" in found.text
+    assert not [given for given in page(site, url(subject=S1)).all("nav") if given.get("class") == "pages"]
+
+
+def test_predicates(site: Site) -> None:
+    """The first page of a dataset and its description have the predicates with their counts."""
+    for target in ("/odd", "/odd/void"):
+        assert re.search(rf"n\s*{MANY}", page(site, target).text)
+    assert "All predicates" not in page(site, url(page=2)).text
+
+
+def luminance(colour: str) -> float:
+    """The relative luminance of a colour, as WCAG defines it."""
+    digits = colour[1:] if len(colour) == 7 else "".join(2 * digit for digit in colour[1:])
+    parts = [int(digits[n:n + 2], 16) / 255 for n in (0, 2, 4)]
+    red, green, blue = (part / 12.92 if part <= 0.03928 else math.pow((part + 0.055) / 1.055, 2.4) for part in parts)
+    return 0.2126 * red + 0.7152 * green + 0.0722 * blue
+
+
+@pytest.mark.parametrize("scheme", ["light", "dark"])
+def test_contrast(scheme: str) -> None:
+    """Text is readable on each ground, by a contrast of 4.5 at least."""
+    light, dark = (dict(re.findall(r"--(\w+):(#[0-9a-f]+)", part)) for part in style.STYLE.split("@media", 2)[:2])
+    colours = {**light, **dark} if scheme == "dark" else light
+    pairs = [(ink, ground) for ink in ("ink", "soft", "link", "p", "o") for ground in ("paper", "back", "chip")]
+    for ink, ground in [*pairs, ("button", "link")]:
+        bright, dim = sorted((luminance(colours[ink]), luminance(colours[ground])), reverse=True)
+        assert (bright + 0.05) / (dim + 0.05) >= 4.5, (ink, ground)
+
+
+# ---- Chromium
+
+CHROMIUM = shutil.which("chromium") or ""
+needs_chromium = pytest.mark.skipif(not CHROMIUM, reason="there is no chromium (Debian: chromium)")
+MEASURE = (b"<script>document.body.dataset.widths=[document.documentElement.scrollWidth,innerWidth,"
+           b"document.getElementsByTagName('th').length]</script></body>")
+
+
+class Measuring:
+    """An application that notes its requests; below /measure its pages have a script that measures them."""
+
+    def __init__(self, application: Any) -> None:
+        self.application, self.asked = application, list[str]()
+
+    def __call__(self, environ: dict[str, Any], start: Callable[..., Any]) -> Iterable[bytes]:
+        """Answer."""
+        self.asked.append(environ["PATH_INFO"])
+        measured = environ["PATH_INFO"].startswith("/measure/")
+        if measured:
+            environ["PATH_INFO"] = environ["PATH_INFO"][len("/measure"):]
+        kept: list[Any] = []
+        environ["HTTP_ACCEPT_ENCODING"] = ""
+        body = b"".join(self.application(environ, lambda status, headers: kept.extend((status, headers))))
+        dropped = ("Content-Length", "Content-Security-Policy") if measured else ("Content-Length",)
+        start(kept[0], [each for each in kept[1] if each[0] not in dropped])
+        return [body.replace(b"</body>", MEASURE) if measured else body]
+
+
+@pytest.fixture(scope="module")
+def browsed(file: Path) -> Iterator[tuple[str, Measuring]]:
+    """A server for a browser."""
+    application = Measuring(fragments.Application(config(file)))
+    with make_server("127.0.0.1", 0, application, server_class=Server, handler_class=Handler) as server:
+        thread = threading.Thread(target=server.serve_forever)
+        thread.start()
+        yield f"http://127.0.0.1:{server.server_port}", application
+        server.shutdown()
+        thread.join()
+
+
+def browse(folder: Path, address: str, width: int) -> tuple[str, str]:
+    """The page as a browser has it, and what the browser says."""
+    done = subprocess.run(
+        [CHROMIUM, "--headless=new", "--no-sandbox", "--disable-gpu", "--no-first-run", f"--user-data-dir={folder}",
+         "--enable-logging=stderr", "--host-resolver-rules=MAP * ~NOTFOUND, EXCLUDE 127.0.0.1",
+         f"--window-size={width},900", "--dump-dom", address], capture_output=True, timeout=100)
+    return done.stdout.decode(), done.stderr.decode()
+
+
+@needs_chromium
+def test_browser(browsed: tuple[str, Measuring], tmp_path: Path) -> None:
+    """A browser shows the page without an error, and asks for nothing else; the style is taken."""
+    address, application = browsed
+    application.asked.clear()
+    dom, said = browse(tmp_path, address + url(predicate="http://odd.example/p"), 1280)
+    assert "triples match" in dom
+    assert application.asked == ["/odd"]
+    assert "CONSOLE" not in said, said
+
+
+@needs_chromium
+@pytest.mark.parametrize("width", [1280, 800, 500])
+def test_widths(browsed: tuple[str, Measuring], tmp_path: Path, width: int) -> None:
+    """No page is wider than the window, whatever its terms."""
+    dom, _ = browse(tmp_path, browsed[0] + "/measure" + url(predicate="http://odd.example/p"), width)
+    found = re.search(r'data-widths="(\d+),(\d+),(\d+)"', dom)
+    assert found and int(found[3]) > 5
+    assert int(found[1]) <= int(found[2]) <= width

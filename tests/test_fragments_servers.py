@@ -1,0 +1,244 @@
+"""The fragment server's files, which are replaced while they are served; servers of their own: wsgiref, gunicorn."""
+
+from __future__ import annotations
+
+import os
+import random
+import re
+import shutil
+import socket
+import subprocess
+import sys
+import threading
+import time
+from pathlib import Path
+from typing import Any, Optional
+
+import pytest
+
+from support.fragments import GUNICORN, ODD, Answer, Served, Site, build, fragments, served, url
+from support.python_package import ENVIRONMENT
+
+needs_gunicorn = pytest.mark.skipif(not os.path.exists(GUNICORN), reason="there is no gunicorn (Debian: gunicorn)")
+
+
+@pytest.fixture(scope="module")
+def odd(tmp_path_factory: pytest.TempPathFactory) -> Path:
+    """The file of odd terms."""
+    return build(tmp_path_factory.mktemp("odd"), ODD)
+
+
+# ---- files that are replaced
+
+
+def put(data: bytes, path: Path) -> None:
+    """Replace a file by rename."""
+    beside = path.with_suffix(".new")
+    beside.write_bytes(data)
+    beside.rename(path)
+
+
+def later(monkeypatch: pytest.MonkeyPatch, seconds: float = 2.0) -> None:
+    """Let time pass."""
+    now = time.monotonic()
+    monkeypatch.setattr(time, "monotonic", lambda: now + seconds)
+
+
+def test_replaced(
+    odd: Path, tmp_path: Path, monkeypatch: pytest.MonkeyPatch, caplog: pytest.LogCaptureFixture,
+) -> None:
+    """A replaced file is taken over; a damaged, cut or missing one leaves the one before, and is logged once."""
+    file, good = tmp_path / "swap.hdt", odd.read_bytes()
+    three = build(tmp_path, "<u:a> <u:p> <u:b> .\n", "three").read_bytes()
+    put(good, file)
+    site = Site(fragments.Application({"datasets": {"swap": {"file": str(file), "download": True}}}))
+    first, seconds = site.nquads("/swap"), 2.0
+
+    def after(data: Optional[bytes]) -> Answer:
+        nonlocal seconds
+        if data is None:
+            file.unlink()
+        else:
+            put(data, file)
+        before = site.nquads("/swap")
+        later(monkeypatch, seconds)
+        seconds += 2
+        assert site.nquads("/swap").total == site.nquads("/swap").total
+        assert before.status == 200
+        return site.nquads("/swap")
+
+    assert after(three).total == 1 and site.nquads("/swap").headers["etag"] != first.headers["etag"]
+    for bad, why in ((good[:5000], "fault"), (b"", "Truncated"), (good[:-1] + b"x", "fault"), (None, "No such file")):
+        caplog.clear()
+        assert after(bad).total == 1
+        assert len([line for line in caplog.messages if "the file before it is kept" in line and why in line]) == 1
+        assert site.ask("/swap/data.hdt").status == 503
+    assert after(good).total == ODD.count("\n")
+    assert site.ask("/swap/data.hdt").body == good
+
+
+def test_checked_once_a_second(odd: Path, tmp_path: Path, monkeypatch: pytest.MonkeyPatch) -> None:
+    """The file is not checked for each request."""
+    file = tmp_path / "swap.hdt"
+    put(odd.read_bytes(), file)
+    site, checks = Site(fragments.Application({"datasets": {"swap": str(file)}})), []
+    stat = os.stat
+
+    def counting(path: Any, **more: Any) -> os.stat_result:
+        checks.append(path)
+        return stat(path, **more)
+
+    monkeypatch.setattr(os, "stat", counting)
+    for _ in range(20):
+        site.ask("/swap")
+    assert checks.count(str(file)) == 0
+    later(monkeypatch)
+    for _ in range(20):
+        site.ask("/swap")
+    assert checks.count(str(file)) == 1
+
+
+def test_mended(odd: Path, tmp_path: Path, monkeypatch: pytest.MonkeyPatch) -> None:
+    """A dataset that could not be opened at first is there once its file is."""
+    file = tmp_path / "swap.hdt"
+    site = Site(fragments.Application({"datasets": {"swap": str(file)}}))
+    assert site.ask("/swap").status == 503
+    put(odd.read_bytes(), file)
+    later(monkeypatch)
+    assert site.ask("/swap").status == 200
+
+
+# ---- servers of their own
+
+
+def test_eight_clients_at_once(odd: Path) -> None:
+    """Threads share an application: each gets the answers that one gets alone."""
+    site = Site(fragments.Application({"datasets": {"odd": str(odd)}, "page_size": 9}))
+    targets = [url(page=page) for page in range(1, 32)] + [url(predicate="http://odd.example/p", page=2), "/odd/void"]
+    wanted = {target: Site(fragments.Application(site.application.config)).nquads(target).body for target in targets}
+    wrong: list[str] = []
+
+    def client(seed: int) -> None:
+        draw = random.Random(seed)
+        for _ in range(60):
+            target = draw.choice(targets)
+            answer: list[bytes] = []
+            path, _, query = target.partition("?")
+            environ = {"REQUEST_METHOD": "GET", "PATH_INFO": path, "QUERY_STRING": query, "wsgi.url_scheme": "http",
+                       "HTTP_HOST": "localhost:8080", "HTTP_ACCEPT": "application/n-quads"}
+            answer += site.application(environ, lambda *_: None)
+            if b"".join(answer) != wanted[target]:
+                wrong.append(target)
+
+    threads = [threading.Thread(target=client, args=(seed,)) for seed in range(8)]
+    for thread in threads:
+        thread.start()
+    for thread in threads:
+        thread.join()
+    assert wrong == []
+
+
+@pytest.mark.parametrize("gunicorn", [False, pytest.param(True, marks=needs_gunicorn)], ids=["wsgiref", "gunicorn"])
+def test_servers(odd: Path, tmp_path: Path, gunicorn: bool) -> None:
+    """The same answers over a socket; a file that is replaced, damaged and cut while workers serve it."""
+    file, good = tmp_path / "swap.hdt", odd.read_bytes()
+    put(good, file)
+    config = {"datasets": {"swap": {"file": "swap.hdt", "download": True}, "bad": "none.hdt"}}
+    with served(tmp_path, config, gunicorn) as server:
+        site = Site(fragments.Application(fragments.Config.of(config, tmp_path)))
+        host = server.url[len("http://"):]
+        for target in ("/swap", url("swap", page=3), url("swap", object='"plain"'), url("swap", page=9), "/bad",
+                       "/swap/void", "/swap/data.hdt", "/swap?subject=%", "/swap?object=%22" + "x" * 6900):
+            over, here = server.nquads(target), site.nquads(target, Host=host)
+            assert (over.status, over.body) == (here.status, here.body)
+            assert over.headers.get("etag") == here.headers.get("etag")
+        assert server.ask("/swap", Accept_Encoding="gzip").headers["content-encoding"] == "gzip"
+
+        def totals() -> set[int]:
+            time.sleep(1.2)
+            for _ in range(8):
+                server.nquads("/swap")
+            return {server.nquads("/swap").total for _ in range(8)}
+
+        put(build(tmp_path, "<u:a> <u:p> <u:b> .\n", "three").read_bytes(), file)
+        assert totals() == {1}
+        put(good[:5000], file)
+        assert totals() == {1}
+        put(good, file)
+        assert totals() == {ODD.count("\n")}
+        with open(file, "r+b") as cut:  # (a file of this size is read into memory, so cutting it changes no answer)
+            cut.truncate(3000)
+        assert totals() == {ODD.count("\n")}
+        log = server.log.read_text()
+        assert "the file before it is kept" in log and " GET '/swap?page=3' 200 " in log
+
+
+@pytest.mark.parametrize("gunicorn", [False, pytest.param(True, marks=needs_gunicorn)], ids=["wsgiref", "gunicorn"])
+def test_no_body_behind_head(odd: Path, tmp_path: Path, gunicorn: bool) -> None:
+    """Nothing follows the headers that answer HEAD."""
+    shutil.copy(odd, tmp_path / "odd.hdt")
+    with served(tmp_path, {"datasets": {"odd": "odd.hdt"}}, gunicorn) as server:
+        host, port = server.url[len("http://"):].split(":")
+        with socket.create_connection((host, int(port)), timeout=20) as stream:
+            stream.sendall(b"HEAD /odd HTTP/1.1\r\nHost: a\r\nConnection: close\r\n\r\n")
+            got = b""
+            while piece := stream.recv(65536):
+                got += piece
+        assert re.match(rb"HTTP/1\.[01] 200 ", got) and got.endswith(b"\r\n\r\n")
+
+
+NGINX = "/usr/sbin/nginx"
+NGINX_CONFIGURATION = """
+daemon off; pid {folder}/pid; error_log {folder}/error.log; worker_processes 1;
+events {{}}
+http {{
+  access_log off; client_body_temp_path {folder}/b; proxy_temp_path {folder}/p; fastcgi_temp_path {folder}/f;
+  uwsgi_temp_path {folder}/u; scgi_temp_path {folder}/s; large_client_header_buffers 4 16k;
+  server {{
+    listen 127.0.0.1:{port};
+    location /lod/ {{
+      proxy_pass {to}/;
+      proxy_set_header X-Forwarded-Host $http_host; proxy_set_header X-Forwarded-Proto $scheme;
+      proxy_set_header X-Forwarded-Prefix /lod;
+    }}
+  }}
+}}
+"""
+
+
+@pytest.mark.skipif(not os.path.exists(NGINX), reason="there is no nginx (Debian: nginx-light)")
+def test_behind_nginx(odd: Path, tmp_path: Path) -> None:
+    """Behind a proxy, below a path, URLs are those that clients see, on each page; ranges and long queries pass."""
+    shutil.copy(odd, tmp_path / "odd.hdt")
+    config = {"datasets": {"odd": {"file": "odd.hdt", "download": True}}, "forwarded": True}
+    with socket.socket() as free:
+        free.bind(("127.0.0.1", 0))
+        port = free.getsockname()[1]
+    with served(tmp_path, config) as server:
+        file = tmp_path / "nginx.conf"
+        file.write_text(NGINX_CONFIGURATION.format(folder=tmp_path, port=port, to=server.url))
+        proxy = subprocess.Popen([NGINX, "-c", file, "-e", tmp_path / "error.log"], stderr=subprocess.DEVNULL)
+        try:
+            behind = Served.at(f"http://127.0.0.1:{port}")
+            first = behind.nquads("/lod" + url(predicate="http://odd.example/n"))
+            following = re.search(r"core#next> <([^>]*)>", first.text)
+            assert following and following[1].startswith(f"http://127.0.0.1:{port}/lod/odd?")
+            assert behind.nquads(following[1][len(behind.url):]).total == first.total
+            assert behind.ask("/lod/odd/data.hdt", Range="bytes=5-9").body == odd.read_bytes()[5:10]
+            assert behind.nquads("/lod/odd?object=%22" + "x" * 6900).total == 0
+        finally:
+            proxy.terminate()
+            proxy.wait(20)
+
+
+def test_command(tmp_path: Path) -> None:
+    """`python -m hdt.fragments` says what is wrong with its words."""
+    def said(*words: str) -> tuple[int, str]:
+        command = [sys.executable, "-m", "hdt.fragments", *words]
+        done = subprocess.run(command, capture_output=True, text=True, timeout=60,
+                              env={**os.environ, **ENVIRONMENT}, cwd=tmp_path)
+        return done.returncode, done.stderr.strip().split("\n")[-1]
+
+    assert said() == (2, "hdt.fragments: error: there is no dataset")
+    assert said("odd") == (2, "hdt.fragments: 'odd' is not NAME=FILE")
+    assert said("a/b=x")[0] == 2 and said("--config", "none.json")[0] == 2
