@@ -30,7 +30,7 @@ class ReadOnly(TypeError):
     """A call that would change an HDT file, which never changes."""
 
     def __init__(self, *_: object, **__: object) -> None:
-        super().__init__("an HDT file is read-only: copy its triples into a graph of another store, or build a new file")
+        super().__init__("an HDT file is read-only: copy its triples into a graph in memory, or build a new file")
 
 
 class HDTStore(Store):
