@@ -44,7 +44,8 @@ class OpenFile:
         self.predicate_term: Kept[int, Term] = Kept(keep, lambda number: self._term(1, number))
         self._of_predicate: Kept[str, int] = Kept(keep, lambda p: graph.matching(None, p, None))
         self._like: Kept[tuple[int, str], tuple[str, ...]] = Kept(keep, self._spellings)
-        self._strings: tuple[Kept[int, Strings], ...] = (
+        # By role, the strings to search for if it has to be the term with an ID: a node's, or a predicate's.
+        self.strings: tuple[Kept[int, Strings], ...] = (
             Kept(keep, lambda node: self._strings_of_node(0, node)),
             Kept(keep, lambda number: (graph.string("predicate", number),)),
             Kept(keep, lambda node: self._strings_of_node(2, node)),
@@ -63,10 +64,6 @@ class OpenFile:
     def _is_in(self, role: int, node: int) -> bool:
         """Whether a node has a number in the role, 0 or 2."""
         return node <= self.subjects if role == 0 else node <= self.shared or node > self.subjects
-
-    def strings(self, role: int, number: int) -> Strings:
-        """The strings to search a role for, if it has to be the term with this ID: a node's, or a predicate's."""
-        return self._strings[role][number]
 
     def _strings_of_node(self, role: int, node: int) -> Strings:
         at, number = self.place(node)

@@ -55,9 +55,9 @@ def evaluated(ctx: Any, part: Any, over_ids: bool = True) -> Any:
     store = getattr(ctx.graph, "store", None)
     if not isinstance(store, HDTStore):
         raise NotImplementedError
-    if part.name == "BGP" and part.triples:
-        join = _Join.of(store.opened, ctx, part.triples) if over_ids else None
-        return join.solutions() if join else _over_terms(store, ctx, tuple(part.triples), {})
+    if part.name == "BGP" and (triples := part.triples):
+        join = _Join.of(store.opened, ctx, triples) if over_ids else None
+        return join.solutions() if join else _over_terms(store, ctx, tuple(triples), {})
     if part.name == "AggregateJoin":
         return counted(store.opened, ctx, part)
     raise NotImplementedError
@@ -115,15 +115,25 @@ def _estimate(store: HDTStore, given: list[Any]) -> float:
 # ---- over IDs
 
 
+class _Given:
+    """What is known of a pattern: the strings of its terms, and in which roles a variable has a value."""
+
+    __slots__ = ("strings", "bound")
+
+    def __init__(self, places: list[Optional[Place]]) -> None:
+        self.strings = [place if isinstance(place, tuple) else _ANY for place in places]
+        self.bound = [(role, place) for role, place in enumerate(places) if isinstance(place, int)]
+
+
 class _Step:
     """What is done where some patterns of a join are left: one of them is taken, with what is known by then."""
 
-    __slots__ = ("left", "choice", "taken", "rest", "places", "slots", "loop", "is_open")
+    __slots__ = ("left", "choice", "rest", "given", "slots", "loop", "is_open")
 
     def __init__(self, left: int) -> None:
-        self.left, self.choice, self.taken = left, _Choice(), -1
+        self.left, self.choice = left, _Choice()
         self.rest = 0
-        self.places: list[Optional[Place]] = []
+        self.given = _Given([])
         self.slots: list[int] = []
         self.loop = self.is_open = False
 
@@ -136,7 +146,7 @@ class _Join:
     """
 
     def __init__(self, file: OpenFile, ctx: Any, variables: dict[Any, int], predicates: set[Any]) -> None:
-        self.file, self.ctx = file, ctx
+        self.file, self.ctx, self.strings = file, ctx, file.strings
         self.variables, self.predicates = variables, predicates
         self.patterns: list[list[Place]] = []
         self.values = [0] * (len(variables) + 1)
@@ -153,11 +163,11 @@ class _Join:
             places: list[Place] = []
             for role, term in enumerate(triple):
                 value = ctx[term]
-                if isinstance(value, Path):
-                    return None
                 if value is None:
                     (predicates if role == 1 else nodes).add(term)
                     places.append(variables.setdefault(term, len(variables)))
+                elif role == 1 and isinstance(value, Path):
+                    return None
                 else:
                     places.append(file.spellings(role, value))
             patterns.append(places)
@@ -192,9 +202,9 @@ class _Join:
         step = self.steps.get(left)
         if step is None:
             step = self.steps[left] = _Step(left)
-        if step.choice.is_due() and (step.taken < 0 or left & (left - 1)):
+        if step.choice.is_due() and (left & (left - 1) or step.choice.times == 1):
             self._choose(step)
-        searches, rest = self._searches(step.places), step.rest
+        searches, rest = self._searches(step.given), step.rest
         if not step.is_open:
             if self.file.has(searches):
                 if rest:
@@ -223,30 +233,33 @@ class _Join:
 
     def _choose(self, step: _Step) -> None:
         """Take the pattern of least count, at the values of now."""
-        taken = [at for at in range(len(self.patterns)) if not step.left >> at & 1]
-        bound = {place for at in taken for place in self.patterns[at] if isinstance(place, int)}
-        best, places = -1, {}
-        for at, pattern in enumerate(self.patterns):
-            if step.left >> at & 1:
-                places[at] = [None if isinstance(it, int) and it not in bound else it for it in pattern]
-        if len(places) > 1:
-            best = min(places, key=lambda at: self.file.count(self._searches(places[at])))
-        else:
-            best = next(iter(places))
+        taken = [pattern for at, pattern in enumerate(self.patterns) if not step.left >> at & 1]
+        bound = {place for pattern in taken for place in pattern if isinstance(place, int)}
+        given = {
+            at: _Given([None if isinstance(it, int) and it not in bound else it for it in pattern])
+            for at, pattern in enumerate(self.patterns)
+            if step.left >> at & 1
+        }
+        best = next(iter(given))
+        if len(given) > 1:
+            best = min(given, key=lambda at: self.file.count(self._searches(given[at])))
         none = len(self.variables)
-        step.taken, step.rest, step.places = best, step.left & ~(1 << best), places[best]
-        pairs = zip(self.patterns[best], places[best])
-        step.slots = [it if known is None and isinstance(it, int) else none for it, known in pairs]
+        step.rest, step.given = step.left & ~(1 << best), given[best]
+        step.slots = [it if isinstance(it, int) and it not in bound else none for it in self.patterns[best]]
         step.is_open = any(at != none for at in step.slots)
         step.loop = step.slots[0] == step.slots[2] != none
 
-    def _searches(self, places: list[Optional[Place]]) -> list[Search]:
+    def _searches(self, given: _Given) -> list[Search]:
         """The searches for a pattern at the values of now; none if a value can't be in its place."""
-        strings, values = self.file.strings, self.values
-        s, p, o = (
-            _ANY if place is None else strings(role, values[place]) if isinstance(place, int) else place
-            for role, place in enumerate(places)
-        )
+        s, p, o = given.strings
+        for role, slot in given.bound:
+            strings = self.strings[role][self.values[slot]]
+            if role == 0:
+                s = strings
+            elif role == 1:
+                p = strings
+            else:
+                o = strings
         if len(s) == len(p) == len(o) == 1:
             return [(s[0], p[0], o[0])]
         return list(product(s, p, o))
