@@ -185,14 +185,15 @@ def test_exact_spellings(tmp_path: Path) -> None:
 
 NEVER: list[Any] = [
     URIRef('"x"'), BNode('"x"'), URIRef("x"), Literal('x"@en'), Literal("u:a"), Variable("x"), URIRef('"x"@en'),
-    Literal('"x"'), "u:a", Literal("a", datatype=URIRef('u:t>"')), URIRef(""), Literal("\ud800"), Literal("x\0"),
+    Literal('"x"'), "u:a", Literal("a", datatype=URIRef('u:t>"')),
+    Literal("a", datatype=URIRef('u:s>"^^<u:t')), URIRef(""), Literal("\ud800"), Literal("x\0"),
     BNode("")]
 
 
 def test_terms_that_are_like_others() -> None:
     """A term whose text is another term's string is not that term."""
     triples = [(blank("b"), iri("u:p"), plain("x")), (iri("u:a"), iri("u:p"), tagged("x", "en")),
-               (iri("u:a"), iri("u:p"), typed("a", "u:t"))]
+               (iri("u:a"), iri("u:p"), typed("a", "u:t")), (iri("u:a"), iri("u:p"), typed('a"^^<u:s>', "u:t"))]
     with stored(triples) as graph:
         for term in NEVER:
             assert list(graph.triples((None, P, term))) == [], repr(term)
