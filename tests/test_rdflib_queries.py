@@ -124,7 +124,7 @@ def patterns(draw: Any, triples: list[Row], most: int) -> str:
     return " . ".join(drawn)
 
 
-@settings(max_examples=60)
+@settings(max_examples=50)
 @given(rows(most=12), st.data())
 def test_random_patterns(triples: list[Row], data: st.DataObject) -> None:
     """Random basic graph patterns, and counts of one pattern, have the answers of rdflib's store, in each mode."""
@@ -149,7 +149,7 @@ JOINS = ["SELECT * { ?a <u:p> ?v . ?b <u:q> ?v }", "SELECT * { ?a <u:p> ?v . ?a 
          "SELECT * { ?a ?p ?v . ?b ?p ?v . ?b <u:q> ?v }", 'SELECT * { ?a ?p "x"@EN-US, ?w }']
 
 
-@settings(max_examples=60)
+@settings(max_examples=40)
 @given(st.lists(st.tuples(NODES, PREDICATES, TAGGED), min_size=1, max_size=10, unique=True))
 def test_joins_of_spellings(triples: list[Row]) -> None:
     """Literals that rdflib takes for equal join, as sets of solutions: a file keeps both spellings."""
@@ -314,6 +314,12 @@ def test_a_plan_takes_few_searches() -> None:
         searches = {mode: calls(graph, query, mode)["find_numbers"] for mode in rdf.MODES}
     assert searches["rdflib"] > 600
     assert searches["terms"] < 10 and searches["ids"] < 10
+
+
+def test_a_node_is_not_searched_where_it_cannot_be() -> None:
+    """Objects that are no subjects are not looked for as subjects."""
+    with stored([(iri(f"u:s{n}"), iri("u:p"), iri(f"u:o{n}")) for n in range(100)]) as graph:
+        assert calls(graph, "SELECT * { ?a <u:p> ?b . ?b <u:p> ?c }", "ids")["find_numbers"] == 1
 
 
 @pytest.mark.parametrize("name", list(COUNTS)[:3])
