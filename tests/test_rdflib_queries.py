@@ -31,7 +31,7 @@ modes = pytest.mark.parametrize("mode", rdf.MODES)
 
 
 def answer(graph: Graph, query: str, **options: Any) -> Any:
-    """What tells two answers apart: rows in order if the query gives one, else as often as they come; or the error."""
+    """An answer to compare: rows in order if the query gives one, else how often each comes; or the error."""
     try:
         result = graph.query(query, **options)
         if result.type == "SELECT":
@@ -324,7 +324,7 @@ def test_a_node_is_not_searched_where_it_cannot_be() -> None:
 
 @pytest.mark.parametrize("name", list(COUNTS)[:3])
 def test_counts_are_not_walked(graphs: list[tuple[Graph, Graph]], name: str) -> None:
-    """COUNT over one pattern looks at no triple."""
+    """COUNT over one pattern goes through no triples."""
     _, graph = graphs[0]
     assert calls(graph, SPARQL + COUNTS[name], "ids")["find_numbers"] == 0
     assert calls(graph, SPARQL + COUNTS["predicates"], "ids")["find_numbers"] == 0
