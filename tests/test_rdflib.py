@@ -68,7 +68,7 @@ def check_pattern(memory: Graph, graph: Graph, pattern: Any, counted: bool) -> N
         assert len(found) == len(wanted) == count, pattern
 
 
-@settings(max_examples=100)
+@settings(max_examples=settings.default.max_examples // 2)
 @given(rows(most=60), st.data())
 def test_patterns(triples: list[Row], data: st.DataObject) -> None:
     """Every pattern of triples, and of terms of other ones and of none, finds what rdflib's store finds."""
@@ -86,7 +86,7 @@ def test_patterns(triples: list[Row], data: st.DataObject) -> None:
             assert (drawn in graph) == (drawn in memory)
 
 
-@settings(max_examples=50)
+@settings(max_examples=settings.default.max_examples // 4)
 @given(rows(twins=True), st.data())
 def test_patterns_of_twins(triples: list[Row], data: st.DataObject) -> None:
     """A literal is found by its tag in any case, once a triple."""
@@ -103,7 +103,7 @@ def test_patterns_of_twins(triples: list[Row], data: st.DataObject) -> None:
                     assert len(list(graph.triples(pattern))) == len(list(memory.triples(pattern)))
 
 
-@settings(max_examples=50)
+@settings(max_examples=settings.default.max_examples // 4)
 @given(rows(twins=True))
 def test_every_string_comes_back(triples: list[Row]) -> None:
     """string_of is the inverse of term_of, and both are those of the drawn terms; what is iterated is found."""
@@ -232,7 +232,7 @@ def test_scope() -> None:
         assert list(graph.triples((BNode("f2-a"), None, None))) == []
 
 
-@settings(max_examples=50)
+@settings(max_examples=settings.default.max_examples // 4)
 @given(rows(), st.data())
 def test_choices(triples: list[Row], data: st.DataObject) -> None:
     """A list of terms at one place is as in rdflib's store, whatever its length."""

@@ -124,7 +124,7 @@ def patterns(draw: Any, triples: list[Row], most: int) -> str:
     return " . ".join(drawn)
 
 
-@settings(max_examples=50)
+@settings(max_examples=settings.default.max_examples // 4)
 @given(rows(most=12), st.data())
 def test_random_patterns(triples: list[Row], data: st.DataObject) -> None:
     """Random basic graph patterns, and counts of one pattern, have the answers of rdflib's store, in each mode."""
@@ -149,7 +149,7 @@ JOINS = ["SELECT * { ?a <u:p> ?v . ?b <u:q> ?v }", "SELECT * { ?a <u:p> ?v . ?a 
          "SELECT * { ?a ?p ?v . ?b ?p ?v . ?b <u:q> ?v }", 'SELECT * { ?a ?p "x"@EN-US, ?w }']
 
 
-@settings(max_examples=40)
+@settings(max_examples=settings.default.max_examples // 5)
 @given(st.lists(st.tuples(NODES, PREDICATES, TAGGED), min_size=1, max_size=10, unique=True))
 def test_joins_of_spellings(triples: list[Row]) -> None:
     """Literals that rdflib takes for equal join, as sets of solutions: a file keeps both spellings."""

@@ -36,8 +36,8 @@ class ReadOnly(TypeError):
 class HDTStore(Store):
     """An HDT file as a store of rdflib, for `Graph(HDTStore(path))`. It is a context manager, which closes the file.
 
-    `path` names the file, as in `open`; without it the store is closed. `identifier` is a parameter that rdflib gives;
-    it is only kept. `scope` is put before the labels of blank nodes, so that those of two files are different nodes. With
+    `path` names the file, as in `open`; without it the store is closed. `identifier` is rdflib's, and is only kept.
+    `scope` is put before the labels of blank nodes, so that those of two files are different nodes. With
     `exact` a literal is found by its own spelling alone; the module says what is equal else. `keep` is how many terms,
     and how many strings, are kept in memory, at most twice as many.
 
