@@ -247,6 +247,14 @@ def test_choices(triples: list[Row], data: st.DataObject) -> None:
             assert set(graph.triples_choices(tuple(pattern))) == set(memory.triples_choices(tuple(pattern)))
 
 
+def test_many_choices_are_terms() -> None:
+    """Many choices, among which few triples are looked up, are compared as terms, not as texts."""
+    triples = [(iri("u:a"), iri("u:p"), literal) for literal in (plain("1"), typed("1", XSD + "integer"))]
+    choices: Any = [Literal("1"), *(Literal(f"none {n}") for n in range(9))]
+    with stored(triples) as graph:
+        assert list(graph.triples_choices((None, P, choices))) == [(A, P, Literal("1"))]
+
+
 def test_choices_at_two_places(graph: Graph) -> None:
     """Choices may be a set or a tuple, at one place at most."""
     assert list(graph.triples_choices((A, (P, Q), None))) == [(A, P, B)]
