@@ -86,7 +86,7 @@ WRONG = [
           "            yield from self.triples(pattern)\n        elif", "            return\n        elif"),
     Wrong("choices are compared by text", "_store",
           "if found[0][at] in choices", "if str(found[0][at]) in map(str, choices)"),
-    Wrong("the path is opened too early", "_store", "super().__init__(None)", "super().__init__(path)"),
+    Wrong("a closed file is open", "_store", "            self._file.graph.close()\n", ""),
     Wrong("a limit counts from the start", "_store",
           "offset), limit), file.count",
           "offset), limit and limit - offset if limit and limit > offset else limit), file.count"),
