@@ -106,7 +106,7 @@ WRONG = [
     Wrong("bindings of before are lost", "_plan", "found = dict(base)", "found = {}"),
     Wrong("a known triple isn't looked for", "_plan",
           "            if self.file.has(searches):\n", "            if searches:\n"),
-    Wrong("the most frequent pattern is first", "_plan", "best = min(given,", "best = max(given,"),
+    Wrong("the most frequent pattern is first", "_plan", "step.taken = min(", "step.taken = max("),
     Wrong("terms: the most frequent pattern is first", "_plan", "choice.taken = min(", "choice.taken = max("),
     Wrong("paths are searched for", "_plan", "elif role == 1 and isinstance(value, Path):", "elif False:"),
     Wrong("planned puts nothing back", "_plan",

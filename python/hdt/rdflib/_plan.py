@@ -115,27 +115,31 @@ def _estimate(store: HDTStore, given: list[Any]) -> float:
 # ---- over IDs
 
 
-class _Given:
-    """What is known of a pattern: the strings of its terms, and in which roles a variable has a value."""
+class _Option:
+    """A pattern that may be the next one of a join.
 
-    __slots__ = ("strings", "bound")
+    `strings` are those of its terms, `bound` the roles of variables that have a value by then, with these variables,
+    `slots` the places for the values of the others, and `rest` the patterns that are left after it.
+    """
 
-    def __init__(self, places: list[Optional[Place]]) -> None:
-        self.strings = [place if isinstance(place, tuple) else _ANY for place in places]
-        self.bound = [(role, place) for role, place in enumerate(places) if isinstance(place, int)]
+    __slots__ = ("strings", "bound", "slots", "is_open", "loop", "rest")
+
+    def __init__(self, pattern: list[Place], known: set[int], no_slot: int, rest: int) -> None:
+        self.strings = [place if isinstance(place, tuple) else _ANY for place in pattern]
+        self.bound = [(role, place) for role, place in enumerate(pattern) if isinstance(place, int) and place in known]
+        self.slots = [place if isinstance(place, int) and place not in known else no_slot for place in pattern]
+        self.is_open = any(slot != no_slot for slot in self.slots)
+        self.loop = self.slots[0] == self.slots[2] != no_slot
+        self.rest = rest
 
 
 class _Step:
-    """What is done where some patterns of a join are left: one of them is taken, with what is known by then."""
+    """A place of a join where some patterns are left, of which one is taken."""
 
-    __slots__ = ("left", "choice", "rest", "given", "slots", "loop", "is_open")
+    __slots__ = ("choice", "options", "taken")
 
-    def __init__(self, left: int) -> None:
-        self.left, self.choice = left, _Choice()
-        self.rest = 0
-        self.given = _Given([])
-        self.slots: list[int] = []
-        self.loop = self.is_open = False
+    def __init__(self, options: list[_Option]) -> None:
+        self.choice, self.options, self.taken = _Choice(), options, options[0]
 
 
 class _Join:
@@ -199,21 +203,20 @@ class _Join:
 
     def _walk(self, left: int) -> Iterator[None]:
         """Give `values` each solution of the patterns that are left, in turn."""
-        step = self.steps.get(left)
-        if step is None:
-            step = self.steps[left] = _Step(left)
-        if step.choice.is_due() and (left & (left - 1) or step.choice.times == 1):
-            self._choose(step)
-        searches, rest = self._searches(step.given), step.rest
-        if not step.is_open:
+        step = self.steps.get(left) or self._step(left)
+        if len(step.options) > 1 and step.choice.is_due():
+            step.taken = min(step.options, key=self._count)
+        option = step.taken
+        searches, rest = self._searches(option), option.rest
+        if not option.is_open:
             if self.file.has(searches):
                 if rest:
                     yield from self._walk(rest)
                 else:
                     yield
             return
-        values, shared, more, loop = self.values, self.file.shared, self.file.more, step.loop
-        at_s, at_p, at_o = step.slots
+        values, shared, more, loop = self.values, self.file.shared, self.file.more, option.loop
+        at_s, at_p, at_o = option.slots
         seen: Optional[set[tuple[int, ...]]] = set() if len(searches) > 1 else None
         for search in searches:
             for s, p, o in self.file.graph.find_numbers(*search):
@@ -222,7 +225,7 @@ class _Join:
                     continue
                 values[at_s], values[at_p], values[at_o] = s, p, node
                 if seen is not None:
-                    key = tuple(values[at] for at in step.slots if at != len(self.variables))
+                    key = tuple(values[at] for at in option.slots if at != len(self.variables))
                     if key in seen:
                         continue
                     seen.add(key)
@@ -231,28 +234,24 @@ class _Join:
                 else:
                     yield
 
-    def _choose(self, step: _Step) -> None:
-        """Take the pattern of least count, at the values of now."""
-        taken = [pattern for at, pattern in enumerate(self.patterns) if not step.left >> at & 1]
-        bound = {place for pattern in taken for place in pattern if isinstance(place, int)}
-        given = {
-            at: _Given([None if isinstance(it, int) and it not in bound else it for it in pattern])
+    def _step(self, left: int) -> _Step:
+        """The step where these patterns are left: the variables of the others have a value."""
+        taken = [pattern for at, pattern in enumerate(self.patterns) if not left >> at & 1]
+        known = {place for pattern in taken for place in pattern if isinstance(place, int)}
+        step = self.steps[left] = _Step([
+            _Option(pattern, known, len(self.variables), left & ~(1 << at))
             for at, pattern in enumerate(self.patterns)
-            if step.left >> at & 1
-        }
-        best = next(iter(given))
-        if len(given) > 1:
-            best = min(given, key=lambda at: self.file.count(self._searches(given[at])))
-        none = len(self.variables)
-        step.rest, step.given = step.left & ~(1 << best), given[best]
-        step.slots = [it if isinstance(it, int) and it not in bound else none for it in self.patterns[best]]
-        step.is_open = any(at != none for at in step.slots)
-        step.loop = step.slots[0] == step.slots[2] != none
+            if left >> at & 1
+        ])
+        return step
 
-    def _searches(self, given: _Given) -> list[Search]:
+    def _count(self, option: _Option) -> int:
+        return self.file.count(self._searches(option))
+
+    def _searches(self, option: _Option) -> list[Search]:
         """The searches for a pattern at the values of now; none if a value can't be in its place."""
-        s, p, o = given.strings
-        for role, slot in given.bound:
+        s, p, o = option.strings
+        for role, slot in option.bound:
             strings = self.strings[role][self.values[slot]]
             if role == 0:
                 s = strings
