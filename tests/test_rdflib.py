@@ -136,8 +136,9 @@ def test_values_of_literals() -> None:
         assert isinstance(made, Literal)
         assert (type(made.value), made.datatype) == (type(wanted.value), wanted.datatype)
         assert made.value == wanted.value or datatype == RDF + "XMLLiteral"
-    assert Literal("x").value == term_of('"x"').value  # type: ignore[union-attr]
-    assert Literal("x", lang="en").value == term_of('"x"@en').value  # type: ignore[union-attr]
+    for string, literal in (('"x"', Literal("x")), ('"x"@en', Literal("x", lang="en"))):
+        it: Any = term_of(string)
+        assert it.value == literal.value
 
 
 TWINS = [tuple(map(str.encode, triple)) for triple in (

@@ -155,10 +155,8 @@ class OpenFile:
 
     def searches(self, pattern: Sequence[object]) -> list[Search]:
         """The searches that together answer a pattern of terms: one as a rule, none if a term can't be there."""
-        given: list[Strings] = [
-            (None,) if term is None else self.spellings(role, term) for role, term in enumerate(pattern)
-        ]
-        return list(product(*given)) if len(given) == 3 else []  # type: ignore[arg-type]
+        s, p, o = ((None,) if term is None else self.spellings(role, term) for role, term in enumerate(pattern))
+        return list(product(s, p, o))
 
     def count(self, searches: Iterable[Search]) -> int:
         """How many triples the searches find, one after another."""
