@@ -145,7 +145,8 @@ def first_test_that_sees(wrong: Wrong) -> Optional[str]:
         if wrong.old not in source:
             raise SystemExit(f"{wrong.name}: the module {wrong.module} has no such text")
         module.write_text(source.replace(wrong.old, wrong.new))
-        command = [sys.executable, "-B", "-m", "pytest", "-q", "-x", "-p", "no:cacheprovider", *TESTS]
+        tests = TESTS[::-1] if wrong.module in ("_plan", "_counts") else TESTS
+        command = [sys.executable, "-B", "-m", "pytest", "-q", "-x", "-p", "no:cacheprovider", *tests]
         try:
             done = subprocess.run(
                 command, cwd=top, stdout=subprocess.PIPE, stderr=subprocess.STDOUT, text=True, timeout=300)
