@@ -465,7 +465,7 @@ def test_threads() -> None:
             thread.join()
         assert wrong == []
         assert sum(map(len, wanted)) == 2000
-        assert len(graph.store.opened.node_term) <= 10
+        assert len(graph.store.opened.node_term) <= 10 + len(threads)
 
 
 # ---- rdflib
