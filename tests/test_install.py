@@ -2,6 +2,7 @@
 
 from __future__ import annotations
 
+import importlib.util
 import os
 import re
 import shutil
@@ -319,7 +320,8 @@ def test_wheel_has_the_library(wheel: Path) -> None:
     """The wheel has the package, its types and the library."""
     names = [f"/{name}" for name in zipfile.ZipFile(wheel).namelist()]
     wanted = ["/hdt/__init__.py", "/hdt/_faults.py", "/hdt/_library.py", "/hdt/py.typed", "/hdt/libhdt.so",
-              "/hdt/fragments/__init__.py", "/hdt/fragments/_application.py"]
+              "/hdt/fragments/__init__.py", "/hdt/fragments/_application.py", "/hdt/rdflib/__init__.py",
+              "/hdt/rdflib/_store.py"]
     assert [name for name in wanted if sum(it.endswith(name) for it in names) != 1] == []
 
 
@@ -342,6 +344,14 @@ def test_folder_is_installed_by_pip(tree: Path, tmp_path: Path) -> None:
     """`pip install ./python` gives a package that works; it takes the setuptools that are there: no network is used."""
     python = installed_by_pip(tmp_path, "--no-build-isolation", "./python", tree=tree, venv=["--system-site-packages"])
     assert succeeds(python, "-W", "error", "-c", PYTHON_PROGRAM, env=ALONE, cwd=tmp_path) == PRINTED
+
+
+@pytest.mark.skipif(not importlib.util.find_spec("rdflib"), reason="there is no rdflib")
+def test_store_of_rdflib_is_found_by_its_name(tree: Path, tmp_path: Path) -> None:
+    """rdflib finds the store of an installed package by its entry point."""
+    python = installed_by_pip(tmp_path, "--no-build-isolation", "./python", tree=tree, venv=["--system-site-packages"])
+    program = "from rdflib import Graph; print(type(Graph('HDT').store).__module__)"
+    assert succeeds(python, "-W", "ignore", "-c", program, env=ALONE, cwd=tmp_path) == "hdt.rdflib._store\n"
 
 
 def test_package_in_a_clone(tree: Path, tmp_path: Path) -> None:

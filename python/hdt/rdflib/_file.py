@@ -1,0 +1,205 @@
+"""An open file, as the store and the evaluator of queries search it: spellings, terms and IDs."""
+
+from __future__ import annotations
+
+from bisect import bisect_right
+from collections.abc import Iterable, Iterator, Sequence
+from itertools import islice, product
+from typing import Any, Optional, TypeVar
+
+import hdt
+from hdt.rdflib._terms import XSD_STRING, Kept, Term, string_of, term_of
+
+Strings = tuple[Optional[str], ...]
+Search = tuple[Optional[str], Optional[str], Optional[str]]  # the parameters of `hdt.Graph.find_numbers`
+T = TypeVar("T")
+
+ROLES: tuple[hdt.Role, ...] = ("subject", "predicate", "object")
+_MOST_LETTERS = 4  # of a tag whose spellings in both cases are looked up one by one
+_FEW = 3  # terms that are made one by one
+_PORTION = 4_096  # what is looked up at once, at most
+
+
+def portions(found: Iterator[T]) -> Iterator[list[T]]:
+    """What an iterator gives, in lists: the first of one, and longer ones after that."""
+    size = 1
+    while portion := list(islice(found, size)):
+        yield portion
+        size = min(4 * size, _PORTION)
+
+
+class OpenFile:
+    """An open file with the terms of it that are kept.
+
+    Whoever goes through a file holds this, so that nothing is mixed if the store opens another file meanwhile. Subjects
+    and objects together are the *nodes*, with one row of IDs: first the strings that are both, then those that are
+    subjects only, then those that are objects only. So a node is compared by its ID alone.
+    """
+
+    def __init__(self, graph: hdt.Graph, scope: str, exact: bool, keep: int) -> None:
+        self.graph, self.scope, self.exact = graph, scope, exact
+        self.shared, self.subjects = graph.counts.shared, graph.count("subject")
+        self.more = self.subjects - self.shared
+        self.node_term: Kept[int, Term] = Kept(keep, lambda node: self._term(*self.place(node)))
+        self.predicate_term: Kept[int, Term] = Kept(keep, lambda number: self._term(1, number))
+        self._of_predicate: Kept[str, int] = Kept(keep, lambda p: graph.matching(None, p, None))
+        self._like: Kept[tuple[int, str], tuple[str, ...]] = Kept(keep, self._spellings)
+        # By role, the strings to search for if it has to be the term with an ID: a node's, or a predicate's.
+        self.strings: tuple[Kept[int, Strings], ...] = (
+            Kept(keep, lambda node: self._strings_of_node(0, node)),
+            Kept(keep, lambda number: (graph.string("predicate", number),)),
+            Kept(keep, lambda node: self._strings_of_node(2, node)),
+        )
+
+    # ---- nodes
+
+    def place(self, node: int) -> tuple[int, int]:
+        """A role that has the node, and its number there."""
+        return (0, node) if node <= self.subjects else (2, node - self.more)
+
+    def node_of_object(self, number: int) -> int:
+        """The node of an object."""
+        return number if number <= self.shared else number + self.more
+
+    def _is_in(self, role: int, node: int) -> bool:
+        """Whether a node has a number in the role, 0 or 2."""
+        return node <= self.subjects if role == 0 else node <= self.shared or node > self.subjects
+
+    def _strings_of_node(self, role: int, node: int) -> Strings:
+        at, number = self.place(node)
+        string = self.graph.string(ROLES[at], number)
+        if string.startswith('"') and not self.exact:
+            return self._like[role, string]
+        return (string,) if self._is_in(role, node) else ()
+
+    # ---- terms
+
+    def _term(self, role: int, number: int) -> Term:
+        return self._made(role, number, self.graph.string(ROLES[role], number))
+
+    def _made(self, role: int, number: int, string: str) -> Term:
+        try:
+            return term_of(string, self.scope)
+        except ValueError:
+            raise hdt.NotATerm(ROLES[role], number) from None
+
+    def node_terms(self, nodes: set[int]) -> dict[int, Term]:
+        """The terms of nodes. Those that aren't kept are made of strings that are looked up together."""
+        found, lacking = {}, []
+        for node in nodes:
+            if (term := self.node_term.known(node)) is None:
+                lacking.append(node)
+            else:
+                found[node] = term
+        if len(lacking) <= _FEW:
+            found.update((node, self.node_term[node]) for node in lacking)
+            return found
+        lacking.sort()
+        middle = bisect_right(lacking, self.subjects)
+        strings = self.graph.strings("subject", lacking[:middle])
+        strings += self.graph.strings("object", [node - self.more for node in lacking[middle:]])
+        for node, string in zip(lacking, strings):
+            found[node] = self.node_term.keep(node, self._made(*self.place(node), string))
+        return found
+
+    # ---- spellings
+
+    def spellings(self, role: int, term: object) -> tuple[str, ...]:
+        """The strings to search a role, 0 to 2, for a term: none if it can't be there."""
+        string = string_of(term, self.scope)
+        if string is None:
+            return ()
+        return self._like[role, string] if string.startswith('"') and not self.exact else (string,)
+
+    def _spellings(self, key: tuple[int, str]) -> tuple[str, ...]:
+        """The strings of a role that are the same literal as a string: with the tag in any case, or with and without
+        xsd:string."""
+        role, string = key
+        end = string.rindex('"') + 1
+        front, tail = string[:end], string[end:]
+        if tail.startswith("@"):
+            if sum(map(str.isalpha, tail)) > _MOST_LETTERS:
+                return tuple(self._tagged(role, front + "@", tail[1:].lower()))
+            candidates = [front + "".join(tag) for tag in product(*(sorted({c.lower(), c.upper()}) for c in tail))]
+        elif tail in ("", XSD_STRING):
+            candidates = [front, front + XSD_STRING]
+        else:
+            candidates = [string]
+        return tuple(it for it in candidates if self.graph.number(ROLES[role], it) is not None)
+
+    def _tagged(self, role: int, front: str, tag: str) -> Iterator[str]:
+        """The strings of a role with that front, and behind it the tag in any case.
+
+        The strings of a section ascend, so that those with this front follow each other.
+        """
+        name, last = ROLES[role], self.graph.count(ROLES[role])
+        sections = ((1, last),) if role == 1 else ((1, self.shared), (self.shared + 1, last))
+        for low, high in sections:
+            at = self._first_from(name, low, high + 1, front.encode("utf-8", "surrogatepass"))
+            while at <= high and (string := self.graph.string(name, at)).startswith(front):
+                if string[len(front):].lower() == tag:
+                    yield string
+                at += 1
+
+    def _first_from(self, role: hdt.Role, low: int, high: int, wanted: bytes) -> int:
+        """The first number from `low` whose string isn't less than the wanted one; `high` if there is none."""
+        while low < high:
+            middle = (low + high) // 2
+            if self.graph.string(role, middle).encode() < wanted:
+                low = middle + 1
+            else:
+                high = middle
+        return low
+
+    # ---- searches
+
+    def searches(self, pattern: Sequence[object]) -> list[Search]:
+        """The searches that together answer a pattern of terms: one as a rule, none if a term can't be there."""
+        s, p, o = ((None,) if term is None else self.spellings(role, term) for role, term in enumerate(pattern))
+        return list(product(s, p, o))
+
+    def count(self, searches: Iterable[Search]) -> int:
+        """How many triples the searches find, one after another."""
+        return sum(
+            self._of_predicate[p] if s is None and o is None and p is not None else self.graph.matching(s, p, o)
+            for s, p, o in searches
+        )
+
+    def has(self, searches: Iterable[Search]) -> bool:
+        """Whether one of the searches finds a triple."""
+        return any(self.graph.matching(*search) for search in searches)
+
+    def triples(self, given: Sequence[Any], searches: list[Search], skip: int = 0) -> Iterator[tuple[Any, Any, Any]]:
+        """The triples that searches find, each once, as terms, without the first `skip` ones.
+
+        The terms that are given are in them as they are given. Raises NotATerm.
+        """
+        if len(searches) == 1:
+            yield from self._found(given, islice(self.graph.find_numbers(*searches[0]), skip, None))
+            return
+        seen = set()
+        for search in searches:
+            for found in self._found(given, self.graph.find_numbers(*search)):
+                if found not in seen:
+                    seen.add(found)
+                    if len(seen) > skip:
+                        yield found
+
+    def _found(
+        self, given: Sequence[Any], numbers: Iterator[tuple[int, int, int]]
+    ) -> Iterator[tuple[Any, Any, Any]]:
+        s, p, o = given
+        shared, more, predicate = self.shared, self.more, self.predicate_term
+        for portion in portions(numbers):
+            nodes: set[int] = set()
+            if s is None:
+                nodes.update(a for a, _, _ in portion)
+            if o is None:
+                nodes.update(c if c <= shared else c + more for _, _, c in portion)
+            node = self.node_terms(nodes)
+            for a, b, c in portion:
+                yield (
+                    node[a] if s is None else s,
+                    predicate[b] if p is None else p,
+                    node[c if c <= shared else c + more] if o is None else o,
+                )
