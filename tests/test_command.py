@@ -8,8 +8,7 @@ from __future__ import annotations
 import os
 import re
 import subprocess
-import sys
-from collections.abc import Iterator, Sequence
+from collections.abc import Sequence
 from pathlib import Path
 
 import pytest
@@ -847,31 +846,3 @@ def test_any_reader_and_writer(probe: Probe, name: str, room: int, step: int, fa
                              "-" if limit is None else f"@{limit}{how_written}",
                              *(word.encode() for word in ["hdt", *words])]
     assert probe.send(("file", data), ["run", *asked], ["run_in", room, *asked])[1:] == [wanted, wanted]
-
-
-# ---- the README
-
-
-def readme_blocks() -> Iterator[tuple[str, str]]:
-    """The fenced blocks of the README: their language and their text."""
-    for match in re.finditer(r"^```(\w+)\n(.*?)^```$", (TOP / "README.md").read_text(), re.M | re.S):
-        yield match[1], match[2]
-
-
-def test_readme_dialogue_in_the_shell() -> None:
-    """The README's example of `answer` in a shell prints what the README shows."""
-    blocks = list(readme_blocks())
-    at = next(n for n, (language, text) in enumerate(blocks) if language == "sh" and text.startswith("printf "))
-    script, (language, shown_text) = blocks[at][1], blocks[at + 1]
-    assert language == "text"
-    seen = run(["bash", "-c", script.replace("./hdt", str(PROGRAM))], cwd=TOP)
-    assert seen == Result(1, shown_text.encode(), b"")
-
-
-def test_readme_dialogue_in_python() -> None:
-    """The README's example of `answer` in Python prints what its comments show."""
-    script = next(text for language, text in readme_blocks() if language == "python" and '"answer"' in text)
-    wanted = "".join(f"{line}\n" for line in re.findall(r"print\(.*?\)  # (.*)", script))
-    assert wanted.count("\n") == 2
-    seen = run([sys.executable, "-c", script.replace("./hdt", str(PROGRAM))], cwd=TOP)
-    assert seen == done(wanted.encode())

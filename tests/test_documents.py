@@ -20,9 +20,12 @@ from support.python_package import ENVIRONMENT, faults
 
 # The blocks that each document has, by language: a document with fewer fails, so that none is silently left untested.
 BLOCKS = {
-    "README.md": {"c": 1, "python": 2, "rust": 5, "sh": 5, "text": 4},
+    "README.md": {"c": 1, "python": 1, "sh": 3},
     "CONTRIBUTING.md": {"sh": 1},
+    "docs/C.md": {"c": 1, "sh": 1},
+    "docs/GUIDE.md": {"python": 2, "sh": 5, "text": 5},
     "docs/PROBES.md": {"sh": 1},
+    "docs/RATTLE.md": {"rust": 5, "text": 3},
 }
 # At least so many examples in Rust do the comments of the sources have.
 EXAMPLES = 36
@@ -32,8 +35,7 @@ STATUSES = {"printf '<u:a> ? ?\\n? x ?\\n": 1}
 PRINTED = {
     "./hdt build samples/three.nt graph.hdt": "built 3 2 0 2 1 491",
     "./hdt verify graph.hdt": "ok 3 2 0 2 1",
-    "./hdt string graph.hdt object 3": '"x"',
-    "./hdt number graph.hdt object '\"x\"'": "3",
+    "./hdt find graph.hdt --count '?' '?' '\"x\"'": "1",
 }
 # A name that a reader gives to a program of a document, and a graph of the reader's.
 PROGRAM_NAMES = {"c": "first.c", "python": "first.py"}
@@ -122,10 +124,11 @@ def test_c_programs(document: str, number: int, clone: Path) -> None:
 
 @pytest.mark.parametrize("document, number", named("python"))
 def test_python_programs(document: str, number: int, clone: Path) -> None:
-    """A program in Python prints what its comments say, and no warning."""
+    """A program in Python prints what its comments say, and no warning (rdflib 6.1.1 itself warns)."""
     block = blocks(document, "python")[number]
     (clone / "block.py").write_text(block.text)
-    done = run([sys.executable, "-W", "error", "block.py"], cwd=clone, env=environment(clone))
+    warnings = ["-W", "ignore::DeprecationWarning"] if "rdflib" in block.text else []
+    done = run([sys.executable, "-W", "error", *warnings, "block.py"], cwd=clone, env=environment(clone))
     wanted = commented(block.text, "print", "# (.*)")
     assert (done.status, done.out.decode(), done.err) == (0, wanted, b"")
     assert wanted != ""
