@@ -4,6 +4,7 @@ from __future__ import annotations
 
 import gzip
 import re
+import shutil
 import sys
 import textwrap
 from pathlib import Path
@@ -178,6 +179,43 @@ def test_printed_commands_are_documented() -> None:
     lines = [line.partition(" #")[0].strip() for name in documents() for block in blocks(name, "sh")
              for line in block.text.splitlines() if " #" in line]
     assert [command for command in PRINTED if command not in lines] == []
+
+
+# ---- links, and spelling
+
+
+def anchor(heading: str) -> str:
+    """The anchor of a heading, as GitHub makes it."""
+    return re.sub(r"[^\w\- ]", "", heading.strip().lower()).replace(" ", "-")
+
+
+def prose(document: str) -> str:
+    """A document without its fenced blocks."""
+    return re.sub(r"^```.*?^```$", "", (TOP / document).read_text(), flags=re.M | re.S)
+
+
+@pytest.mark.parametrize("document", documents())
+def test_links(document: str) -> None:
+    """Each link of a document leads to a file of the repository, and to one of its headings."""
+    wrong = []
+    for target in re.findall(r"\]\(([^)\s]+)\)", prose(document)):
+        path, _, name = target.partition("#")
+        if re.match(r"https?:", target):
+            continue
+        file = (TOP / document).parent / path if path else TOP / document
+        if not file.exists():
+            wrong.append(target)
+        elif name and name not in map(anchor, re.findall(r"^#+ (.*)", file.read_text(), re.M)):
+            wrong.append(target)
+    assert wrong == []
+
+
+def test_spelling() -> None:
+    """The documents have none of the misspellings that codespell knows."""
+    if shutil.which("codespell") is None:
+        pytest.skip("there is no codespell")
+    done = run(["codespell", *documents()], cwd=TOP)
+    assert done.out.decode() == ""
 
 
 # ---- examples in comments
