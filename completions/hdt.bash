@@ -36,7 +36,7 @@ _hdt() {
     for i in "${words[@]:2}"; do
         case $skip$i in
         =*) skip="" ;;
-        --most | --longest-request | --base | --block-size) skip== ;;
+        --most | --longest-request | --base | --block-size) skip="=" ;;
         -?*) ;;
         *) count=$((count + 1)) ;;
         esac

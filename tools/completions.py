@@ -146,7 +146,7 @@ _hdt() {
     for i in "${words[@]:2}"; do
         case $skip$i in
         =*) skip="" ;;
-        @VALUES@) skip== ;;
+        @VALUES@) skip="=" ;;
         -?*) ;;
         *) count=$((count + 1)) ;;
         esac
