@@ -231,10 +231,10 @@ NOT_A_TERM = having(objects=model.write_section([b"x"]))
 TEXTS = {
     "Syntax": r"printf '<u:a> <u:p> <u:b>\n' | hdt build /dev/stdin new.hdt",
     "NotUtf8": r"""printf '<u:a> <u:p> "caf\351" .\n' | hdt build /dev/stdin new.hdt""",
-    "BadEscape": r"""echo '<u:a> <u:p> "C:\Users" .' | hdt build /dev/stdin new.hdt""",
+    "BadEscape": r"""printf '%s\n' '<u:a> <u:p> "C:\Users" .' | hdt build /dev/stdin new.hdt""",
     "RelativeIri": "echo '<u:a> <u:p> <b> .' | hdt build /dev/stdin new.hdt",
-    "IriCharacter": r"echo '<u:a> <u:p> <u:a\u0020b> .' | hdt build /dev/stdin new.hdt",
-    "ZeroCharacter": r"""echo '<u:a> <u:p> "x\u0000" .' | hdt build /dev/stdin new.hdt""",
+    "IriCharacter": r"printf '%s\n' '<u:a> <u:p> <u:a\u0020b> .' | hdt build /dev/stdin new.hdt",
+    "ZeroCharacter": r"""printf '%s\n' '<u:a> <u:p> "x\u0000" .' | hdt build /dev/stdin new.hdt""",
     "Read": "hdt build samples new.hdt",
     "OutOfMemory": "ulimit -v 100000; hdt build /dev/zero new.hdt",
     "TooLong": "echo '? ? ?' | hdt answer samples/three.hdt --longest-request 4",
