@@ -1,31 +1,63 @@
-# Completes the words of hdt in bash.
+# Completes the words of hdt in bash. Made by tools/completions.py from the program's help.
 _hdt() {
-    local word=${COMP_WORDS[COMP_CWORD]} command=${COMP_WORDS[1]}
-    local commands="head verify strings string number find answer dump build rewrite help"
-    if [ "$COMP_CWORD" -eq 1 ]; then
-        mapfile -t COMPREPLY < <(compgen -W "$commands --help --version" -- "$word")
+    local word=${COMP_WORDS[COMP_CWORD]} line=$COMP_LINE count=0 skip="" i
+    local -a words=()
+    # (bash cuts words at : and =, too: pieces without a blank between them are one word)
+    for ((i = 0; i <= COMP_CWORD; i++)); do
+        if ((i == 0)) || [[ $line == [[:blank:]]* ]]; then
+            words+=("${COMP_WORDS[i]}")
+        else
+            words[-1]+=${COMP_WORDS[i]}
+        fi
+        line=${line#*"${COMP_WORDS[i]}"}
+    done
+    local current=${words[-1]} options="" arguments=""
+    unset 'words[-1]'
+    compopt +o default
+    COMPREPLY=()
+    if ((${#words[@]} == 1)); then
+        mapfile -t COMPREPLY < <(compgen -W "head verify strings string number find answer dump build rewrite help --help --version" -- "$word")
         return
     fi
-    local options="--help"
-    case $command in
-    verify) options+=" --tight --progress" ;;
-    number) options+=" --raw" ;;
-    find) options+=" --raw --numbers --count --most" ;;
-    answer) options+=" --raw --numbers --count --most --longest-request" ;;
-    build) options+=" --base --block-size --progress" ;;
-    rewrite) options+=" --block-size --progress" ;;
-    help) options=$commands ;;
+    # The options of the command, and how each of its arguments is completed.
+    case ${words[1]} in
+    head) options="--help" arguments=".hdt" ;;
+    verify) options="--tight --progress --help" arguments=".hdt" ;;
+    strings) options="--help" arguments=".hdt subject|predicate|object" ;;
+    string) options="--help" arguments=".hdt subject|predicate|object |" ;;
+    number) options="--raw --help" arguments=".hdt subject|predicate|object |" ;;
+    find) options="--raw --numbers --count --most --help" arguments=".hdt | | |" ;;
+    answer) options="--raw --numbers --count --most --longest-request --help" arguments=".hdt" ;;
+    dump) options="--help" arguments=".hdt" ;;
+    build) options="--base --block-size --progress --help" arguments=".nt .hdt" ;;
+    rewrite) options="--block-size --progress --help" arguments=".hdt .hdt" ;;
+    help) options="" arguments="head|verify|strings|string|number|find|answer|dump|build|rewrite|help" ;;
     esac
-    case $word in
-    -*)
+    for i in "${words[@]:2}"; do
+        case $skip$i in
+        =*) skip="" ;;
+        --most | --longest-request | --base | --block-size) skip="=" ;;
+        -?*) ;;
+        *) count=$((count + 1)) ;;
+        esac
+    done
+    [ -z "$skip" ] || return
+    case $current in
+    -?*)
         mapfile -t COMPREPLY < <(compgen -W "$options" -- "$word")
         return
         ;;
     esac
-    case $command,$COMP_CWORD in
-    help,*) mapfile -t COMPREPLY < <(compgen -W "$options" -- "$word") ;;
-    strings,3 | string,3 | number,3) mapfile -t COMPREPLY < <(compgen -W "subject predicate object" -- "$word") ;;
-    *) mapfile -t COMPREPLY < <(compgen -f -- "$word") ;;
+    read -ra words <<<"$arguments"
+    case ${words[count]-} in
+    "") ;;
+    .*)
+        # (files with the suffix and folders; without such a file all)
+        mapfile -t COMPREPLY < <(compgen -f -X "!*${words[count]}" -- "$word")
+        compopt -o filenames -o default
+        ((${#COMPREPLY[@]} == 0)) || mapfile -t -O ${#COMPREPLY[@]} COMPREPLY < <(compgen -d -- "$word")
+        ;;
+    *) mapfile -t COMPREPLY < <(compgen -W "${words[count]//|/ }" -- "$word") ;;
     esac
 }
-complete -o filenames -F _hdt hdt
+complete -o default -F _hdt hdt

@@ -1,26 +1,83 @@
-# Completes the words of hdt in fish.
-set -l commands head verify strings string number find answer dump build rewrite help
-complete -c hdt -n "not __fish_seen_subcommand_from $commands" -f
-complete -c hdt -n "not __fish_seen_subcommand_from $commands" -a head -d "Print a file's head"
-complete -c hdt -n "not __fish_seen_subcommand_from $commands" -a verify -d "Verify a file"
-complete -c hdt -n "not __fish_seen_subcommand_from $commands" -a strings -d "Print all strings of a role"
-complete -c hdt -n "not __fish_seen_subcommand_from $commands" -a string -d "Print the string that has a number"
-complete -c hdt -n "not __fish_seen_subcommand_from $commands" -a number -d "Print the number of a term"
-complete -c hdt -n "not __fish_seen_subcommand_from $commands" -a find -d "Print the triples that have terms"
-complete -c hdt -n "not __fish_seen_subcommand_from $commands" -a answer -d "Answer requests from the standard input"
-complete -c hdt -n "not __fish_seen_subcommand_from $commands" -a dump -d "Print all triples"
-complete -c hdt -n "not __fish_seen_subcommand_from $commands" -a build -d "Build a file from N-Triples"
-complete -c hdt -n "not __fish_seen_subcommand_from $commands" -a rewrite -d "Write a file again in canonical form"
-complete -c hdt -n "not __fish_seen_subcommand_from $commands" -a help -d "Print help"
-complete -c hdt -l help -s h -d "Print help"
-complete -c hdt -n "not __fish_seen_subcommand_from $commands" -l version -s V -d "Print the version"
-complete -c hdt -n "__fish_seen_subcommand_from verify" -l tight -d "Refuse strings that no triple uses"
-complete -c hdt -n "__fish_seen_subcommand_from number find answer" -l raw -d "Take terms as dictionary strings"
-complete -c hdt -n "__fish_seen_subcommand_from find answer" -l numbers -d "Print the numbers of each triple"
-complete -c hdt -n "__fish_seen_subcommand_from find answer" -l count -d "Print how many there are"
-complete -c hdt -n "__fish_seen_subcommand_from find answer" -l most -x -d "Take the first triples alone"
-complete -c hdt -n "__fish_seen_subcommand_from answer" -l longest-request -x -d "How many bytes a line of the requests has at most"
-complete -c hdt -n "__fish_seen_subcommand_from build" -l base -x -d "The IRI that stands for the file"
-complete -c hdt -n "__fish_seen_subcommand_from verify build rewrite" -l progress -d "Tell on standard error how many bytes were read"
-complete -c hdt -n "__fish_seen_subcommand_from build rewrite" -l block-size -x -d "How many strings stand in a block"
-complete -c hdt -n "__fish_seen_subcommand_from strings string number" -a "subject predicate object"
+# Completes the words of hdt in fish. Made by tools/completions.py from the program's help.
+# Whether the next word is this argument, from 1, of this command.
+function __hdt_argument --argument-names command number
+    set -l words (commandline -opc)
+    test "$words[2]" = "$command"; or return 1
+    set -e words[1..2]
+    set -l count 1
+    set -l skip
+    for word in $words
+        switch "$skip$word"
+            case '=*'
+                set skip
+            case --most --longest-request --base --block-size
+                set skip =
+            case '-?*'
+            case '*'
+                set count (math $count + 1)
+        end
+    end
+    test -z "$skip" -a $count = $number
+end
+# Whether the word after the program's name is this command; without one, whether there is none yet.
+function __hdt_command
+    set -l words (commandline -opc)
+    test "$words[2]" = "$argv"
+end
+complete -c hdt -f
+complete -c hdt -n '__hdt_command' -a head -d 'Print a file\'s head: formats, properties and header'
+complete -c hdt -n '__hdt_command' -a verify -d 'Verify a file, and count its triples and strings'
+complete -c hdt -n '__hdt_command' -a strings -d 'Print all strings of a role with their numbers'
+complete -c hdt -n '__hdt_command' -a string -d 'Print the string of a role that has a number'
+complete -c hdt -n '__hdt_command' -a number -d 'Print the number of a term in a role'
+complete -c hdt -n '__hdt_command' -a find -d 'Print the triples that have the given terms'
+complete -c hdt -n '__hdt_command' -a answer -d 'Answer requests for triples from the standard input'
+complete -c hdt -n '__hdt_command' -a dump -d 'Print all triples'
+complete -c hdt -n '__hdt_command' -a build -d 'Build a file from N-Triples'
+complete -c hdt -n '__hdt_command' -a rewrite -d 'Write a file again in canonical form'
+complete -c hdt -n '__hdt_command' -a help -d 'Print this message or the help of the given subcommand(s)'
+complete -c hdt -n '__hdt_command' -l help -s h -d 'Print help'
+complete -c hdt -n '__hdt_command' -l version -s V -d 'Print version'
+complete -c hdt -n '__hdt_command head' -l help -s h -d 'Print help'
+complete -c hdt -n '__hdt_argument head 1' -k -a '(__fish_complete_suffix .hdt)'
+complete -c hdt -n '__hdt_command verify' -l tight -d 'Refuse strings that no triple uses'
+complete -c hdt -n '__hdt_command verify' -l progress -d 'Tell on standard error how many bytes were read'
+complete -c hdt -n '__hdt_command verify' -l help -s h -d 'Print help'
+complete -c hdt -n '__hdt_argument verify 1' -k -a '(__fish_complete_suffix .hdt)'
+complete -c hdt -n '__hdt_command strings' -l help -s h -d 'Print help'
+complete -c hdt -n '__hdt_argument strings 1' -k -a '(__fish_complete_suffix .hdt)'
+complete -c hdt -n '__hdt_argument strings 2' -k -a 'subject predicate object'
+complete -c hdt -n '__hdt_command string' -l help -s h -d 'Print help'
+complete -c hdt -n '__hdt_argument string 1' -k -a '(__fish_complete_suffix .hdt)'
+complete -c hdt -n '__hdt_argument string 2' -k -a 'subject predicate object'
+complete -c hdt -n '__hdt_command number' -l raw -d 'Take TERM as a dictionary string'
+complete -c hdt -n '__hdt_command number' -l help -s h -d 'Print help'
+complete -c hdt -n '__hdt_argument number 1' -k -a '(__fish_complete_suffix .hdt)'
+complete -c hdt -n '__hdt_argument number 2' -k -a 'subject predicate object'
+complete -c hdt -n '__hdt_command find' -l raw -d 'Take S, P and O as dictionary strings'
+complete -c hdt -n '__hdt_command find' -l numbers -d 'Print the numbers of each triple'
+complete -c hdt -n '__hdt_command find' -l count -d 'Print how many there are, and no triples'
+complete -c hdt -n '__hdt_command find' -l most -x -d 'Take the first N triples alone'
+complete -c hdt -n '__hdt_command find' -l help -s h -d 'Print help'
+complete -c hdt -n '__hdt_argument find 1' -k -a '(__fish_complete_suffix .hdt)'
+complete -c hdt -n '__hdt_command answer' -l raw -d 'Take the words of a request as dictionary strings'
+complete -c hdt -n '__hdt_command answer' -l numbers -d 'Print the numbers of each triple'
+complete -c hdt -n '__hdt_command answer' -l count -d 'Print how many there are, and no triples'
+complete -c hdt -n '__hdt_command answer' -l most -x -d 'Take the first N triples alone'
+complete -c hdt -n '__hdt_command answer' -l longest-request -x -d 'How many bytes a line of the requests has at most'
+complete -c hdt -n '__hdt_command answer' -l help -s h -d 'Print help'
+complete -c hdt -n '__hdt_argument answer 1' -k -a '(__fish_complete_suffix .hdt)'
+complete -c hdt -n '__hdt_command dump' -l help -s h -d 'Print help'
+complete -c hdt -n '__hdt_argument dump 1' -k -a '(__fish_complete_suffix .hdt)'
+complete -c hdt -n '__hdt_command build' -l base -x -d 'The IRI that stands for the file in its header'
+complete -c hdt -n '__hdt_command build' -l block-size -x -d 'How many strings stand in a block, 1 to 65535'
+complete -c hdt -n '__hdt_command build' -l progress -d 'Tell on standard error how many bytes were read'
+complete -c hdt -n '__hdt_command build' -l help -s h -d 'Print help'
+complete -c hdt -n '__hdt_argument build 1' -k -a '(__fish_complete_suffix .nt)'
+complete -c hdt -n '__hdt_argument build 2' -k -a '(__fish_complete_suffix .hdt)'
+complete -c hdt -n '__hdt_command rewrite' -l block-size -x -d 'How many strings stand in a block, 1 to 65535'
+complete -c hdt -n '__hdt_command rewrite' -l progress -d 'Tell on standard error how many bytes were read'
+complete -c hdt -n '__hdt_command rewrite' -l help -s h -d 'Print help'
+complete -c hdt -n '__hdt_argument rewrite 1' -k -a '(__fish_complete_suffix .hdt)'
+complete -c hdt -n '__hdt_argument rewrite 2' -k -a '(__fish_complete_suffix .hdt)'
+complete -c hdt -n '__hdt_argument help 1' -k -a 'head verify strings string number find answer dump build rewrite help'

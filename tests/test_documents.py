@@ -1,4 +1,4 @@
-"""The documents: programs and commands run as they are written, and the tables of errors are the engine's."""
+"""The documents: programs and commands run as they are written, links lead somewhere, and errors are the engine's."""
 
 from __future__ import annotations
 
@@ -18,6 +18,7 @@ from support.clone import copied
 from support.probe import Probe
 from support.program import run
 from support.python_package import ENVIRONMENT, faults
+from tools import contracts, promises
 
 # The blocks that each document has, by language: a document with fewer fails, so that none is silently left untested.
 BLOCKS = {
@@ -181,33 +182,7 @@ def test_printed_commands_are_documented() -> None:
     assert [command for command in PRINTED if command not in lines] == []
 
 
-# ---- links, and spelling
-
-
-def anchor(heading: str) -> str:
-    """The anchor of a heading, as GitHub makes it."""
-    return re.sub(r"[^\w\- ]", "", heading.strip().lower()).replace(" ", "-")
-
-
-def prose(document: str) -> str:
-    """A document without its fenced blocks."""
-    return re.sub(r"^```.*?^```$", "", (TOP / document).read_text(), flags=re.M | re.S)
-
-
-@pytest.mark.parametrize("document", documents())
-def test_links(document: str) -> None:
-    """Each link of a document leads to a file of the repository, and to one of its headings."""
-    wrong = []
-    for target in re.findall(r"\]\(([^)\s]+)\)", prose(document)):
-        path, _, name = target.partition("#")
-        if re.match(r"https?:", target):
-            continue
-        file = (TOP / document).parent / path if path else TOP / document
-        if not file.exists():
-            wrong.append(target)
-        elif name and name not in map(anchor, re.findall(r"^#+ (.*)", file.read_text(), re.M)):
-            wrong.append(target)
-    assert wrong == []
+# ---- spelling
 
 
 def test_spelling() -> None:
@@ -255,6 +230,65 @@ def test_examples_in_comments() -> None:
     found = examples()
     assert [place for place, block in found.items() if not is_compiled(block)] == []
     assert len(found) >= EXAMPLES
+
+
+# ---- PROOFS, and links
+
+# The links of docs/PROOFS.md to a function, with its clauses, and to a definition.
+FUNCTION = re.compile(r"\[`([\w:]+)`\]\(\.\./(crates/\w+/src/\w+\.rt)\)((?:[:,] `\w+`)*)")
+DEFINED = re.compile(r"\[`(\w+)`\]\(\.\./(crates/\w+/specs/\w+\.antt)\)")
+# At least so many functions, clauses and definitions does it name.
+NAMED = (45, 84, 18)
+PROOFS = (TOP / "docs/PROOFS.md").read_text()
+
+
+def clauses(function: str, path: str) -> list[str]:
+    """The names of the clauses that say what an exported function of a file ensures; those without one are numbered."""
+    root = f"{'/'.join(path.split('/')[:3])}/lib.rt"
+    parts = dict(contracts.contracts({it: (TOP / it).read_text() for it in (root, path)}))[function]
+    return [part.partition(" ")[2] for part in parts if part.startswith("ensures ")]
+
+
+@pytest.mark.parametrize("function, path, named_clauses", FUNCTION.findall(PROOFS))
+def test_functions_of_the_proofs(function: str, path: str, named_clauses: str) -> None:
+    """Each function that PROOFS names is exported from the file of its link, and has the clauses that are named."""
+    found = clauses(function, path)
+    wanted = re.findall(r"`(\w+)`", named_clauses)
+    assert [name for name in wanted if name not in found] == []
+    assert wanted or found == ["0"]
+
+
+@pytest.mark.parametrize("name, path", DEFINED.findall(PROOFS))
+def test_definitions_of_the_proofs(name: str, path: str) -> None:
+    """Each definition that PROOFS names is in the file of its link."""
+    assert name in promises.DEFINITION.findall((TOP / path).read_text())
+
+
+def test_proofs_name_all_parts() -> None:
+    """PROOFS names at least the functions, clauses and definitions that it named, and links no other source files."""
+    functions = FUNCTION.findall(PROOFS)
+    found = len(functions), sum(it[2].count("`") // 2 for it in functions), len(DEFINED.findall(PROOFS))
+    assert all(have >= least for have, least in zip(found, NAMED)), found
+    assert len(re.findall(r"\]\([^)]*\.(?:rt|antt)\)", PROOFS)) == found[0] + found[2]
+
+
+def anchors(document: str) -> set[str]:
+    """The anchors of a document's headings."""
+    text = re.sub(r"^```.*?^```$", "", (TOP / document).read_text(), flags=re.M | re.S)
+    headings = re.findall(r"^#+ (.*)$", text, re.M)
+    return {re.sub(r"[^\w\- ]", "", heading.lower()).replace(" ", "-") for heading in headings}
+
+
+@pytest.mark.parametrize("document", documents())
+def test_links(document: str) -> None:
+    """Each link of a document to another file, or to a heading, leads there."""
+    wrong = []
+    for target in re.findall(r"\]\((?!https?:)([^)\s]+)\)", (TOP / document).read_text()):
+        name, _, anchor = target.partition("#")
+        path = (TOP / document).parent / name if name else TOP / document
+        if not path.exists() or anchor and anchor not in anchors(str(path.resolve().relative_to(TOP))):
+            wrong.append(target)
+    assert wrong == []
 
 
 # ---- the tables of errors

@@ -1,0 +1,179 @@
+"""docs/ERRORS.md: its examples give the errors that it says, and every list of errors in the repository is the same."""
+
+from __future__ import annotations
+
+import re
+import sys
+from collections.abc import Callable
+
+import pytest
+
+from reference import hdt as model
+from reference import ntriples
+from support.built import BUILT, TOP
+from support.c_library import HEADER, file_reasons, text_reasons
+from support.program import Result, run
+from support.python_package import faults
+from tools import errors
+
+Numbered = list[tuple[int, str]]
+
+ENTRIES = errors.entries(errors.PAGE.read_text())
+WIRE, TERMS, PROBE = "crates/hdt_wire", "crates/hdt_terms", "crates/hdt_probe"
+
+# Commands of remedies, which have to succeed. `bad.hdt` is the damaged file of the error.
+REMEDIES = {
+    "NotHdt": "gzip -c samples/three.hdt | zcat | hdt verify /dev/stdin",
+    "NotUtf8": r"""printf '<u:a> <u:p> "caf\351" .\n' > IN; iconv -f LATIN1 -t UTF-8 IN > OUT; hdt build OUT new.hdt""",
+    "TrailingBytes": "head -c 457 bad.hdt > new.hdt; hdt verify new.hdt; cmp new.hdt samples/three.hdt",
+    "Unused": "hdt rewrite bad.hdt new.hdt; hdt verify --tight new.hdt",
+}
+
+
+def of_kind(kind: str) -> Numbered:
+    """The numbers and names of the page's errors of a kind, in its order."""
+    return [(entry.number, entry.name) for entry in ENTRIES if entry.kind == kind]
+
+
+def found(path: str, pattern: str) -> Numbered:
+    """The numbers and names that a pattern finds in a file, by its groups `number` (else counted) and `name`."""
+    matches = list(re.finditer(pattern, (TOP / path).read_text(), re.M))
+    return [(int(it.groupdict().get("number") or n), it["name"]) for n, it in enumerate(matches, 1)]
+
+
+def counted(names: list[str]) -> Numbered:
+    """Names with their numbers, from 1."""
+    return list(enumerate(names, 1))
+
+
+def spoken(name: str) -> str:
+    """A name in capitals, with a line between its words."""
+    return re.sub(r"(?<=[a-z0-9])(?=[A-Z])", "_", name).upper()
+
+
+# Each list of errors, by its kind and where it is.
+LISTS: dict[tuple[str, str], Callable[[], Numbered]] = {
+    ("file", "docs/FORMAT.md"): lambda: counted(file_reasons()),
+    ("file", "python/hdt"): lambda: counted(faults.REASONS),
+    ("file", "tests/reference"): lambda: [(it.value, it.name) for it in model.Reason],
+    ("file", "enum"): lambda: found(f"{WIRE}/src/fault.rt", r"^    (?P<name>\w+) = (?P<number>\d+),$"),
+    ("file", "name"): lambda: found(f"{WIRE}/src/fault.rt", r" Reason::(?P<name>\w+) => \"(?P=name)\","),
+    ("file", "numbers in specs"): lambda: found(
+        f"{WIRE}/specs/Fault.antt", r"^reason_number (?P<name>\w+) = (?P<number>\d+)$"),
+    ("file", "names in specs"): lambda: found(
+        f"{WIRE}/specs/Fault.antt", r"^reason_name (?P<name>\w+) = codes \"(?P=name)\"$"),
+    ("file", "probe"): lambda: found(f"{PROBE}/src/reason.rt", r"^ +(?P<number>\d+) => Some\(Reason::(?P<name>\w+)\)"),
+    ("text", "docs/NTRIPLES.md"): lambda: counted(text_reasons()),
+    ("text", "python/hdt"): lambda: counted(faults.LINE_REASONS),
+    ("text", "tests/reference"): lambda: [(it.value, it.name) for it in ntriples.Reason],
+    ("text", "enum"): lambda: found(f"{TERMS}/src/fault.rt", r"^    (?P<name>\w+) = (?P<number>\d+),$"),
+    ("text", "name"): lambda: found(f"{TERMS}/src/fault.rt", r" LineReason::(?P<name>\w+) => \"(?P=name)\","),
+    ("text", "numbers in specs"): lambda: found(
+        f"{TERMS}/specs/Reasons.antt", r"^line_reason_number (?P<name>\w+) = (?P<number>\d+)$"),
+    ("text", "names in specs"): lambda: found(
+        f"{TERMS}/specs/Reasons.antt", r"^line_reason_name (?P<name>\w+) = codes \"(?P=name)\"$"),
+    ("text", "probe"): lambda: found(
+        f"{PROBE}_terms/src/faults.rt", r"^ +(?P<number>\d+) => LineReason::(?P<name>\w+),$"),
+}
+
+
+def shell(command: str, data: bytes | None) -> Result:
+    """Run a shell command as the examples are run; `bad.hdt` holds the data."""
+    with errors.folder_with(data) as folder:
+        return run(["bash", "-euc", command], cwd=folder, env={"PATH": errors.search_path()})
+
+
+# ---- the page and the program
+
+
+def test_examples() -> None:
+    """Each example gives its error, with the exit status of it, and the page has the line that is printed."""
+    done = run([sys.executable, "-m", "tools.errors", "--check"], cwd=TOP, env={"HDT_BUILT": str(BUILT)})
+    assert (done.status, done.err.decode()) == (0, "")
+    assert done.out.decode() == f"{len(ENTRIES)} passed, 0 failed\n"
+
+
+def test_example_without_an_error(monkeypatch: pytest.MonkeyPatch) -> None:
+    """An example that gives no error, or another one, is reported."""
+    monkeypatch.setitem(errors.FILES, "Truncated", ("as it is", errors.THREE))
+    monkeypatch.setitem(errors.FILES, "Width", errors.FILES["BitsKind"])
+    monkeypatch.setitem(errors.TEXTS, "Syntax", "true")
+    reported = [entry.name for entry in ENTRIES[:15] + ENTRIES[34:36] if errors.tried(entry).wrong]
+    assert reported == ["Truncated", "Width", "Syntax"]
+
+
+@pytest.mark.parametrize("name", errors.FILES)
+def test_damaged_file(name: str) -> None:
+    """The reference finds the same error, at the same byte offset, as the page says of the program."""
+    entry = next(it for it in ENTRIES if (it.kind, it.name) == ("file", name))
+    printed = re.search(r"`hdt: fault (\d+) (\w+) at (\d+)`\n$", entry.example)
+    error = model.error_of(model.read_file, errors.FILES[name][1], name == "Unused")
+    assert printed and error == (int(printed[1]), printed[2], int(printed[3]))
+
+
+def test_files_are_printed() -> None:
+    """`--file NAME` prints the damaged file of an example."""
+    done = run([sys.executable, "-m", "tools.errors", "--file", "Width"], cwd=TOP)
+    assert done == Result(0, errors.FILES["Width"][1], b"")
+    assert errors.having() == errors.THREE
+
+
+@pytest.mark.parametrize("name", REMEDIES)
+def test_remedy(name: str) -> None:
+    """The commands of remedies succeed."""
+    done = shell(REMEDIES[name], errors.FILES[name][1])
+    assert (done.status, done.err) == (0, b"")
+
+
+# ---- the lists
+
+
+def test_how_many_there_are() -> None:
+    """34 errors of files and 9 of texts, from 1, in this order; each has an example, and each example an error."""
+    assert [number for number, _ in of_kind("file")] == list(range(1, 35))
+    assert [number for number, _ in of_kind("text")] == list(range(1, 10))
+    assert [name for _, name in of_kind("file")] == list(errors.FILES)
+    assert [name for _, name in of_kind("text")] == list(errors.TEXTS)
+    assert [name for _, name in of_kind("message")] == list(errors.MESSAGES)
+
+
+@pytest.mark.parametrize("kind, where", LISTS)
+def test_lists_agree(kind: str, where: str) -> None:
+    """Each list of errors has the numbers and names of the page, in its order."""
+    assert LISTS[kind, where]() == of_kind(kind)
+
+
+@pytest.mark.parametrize("kind, prefix", [("file", "FILE"), ("text", "TEXT")])
+def test_list_of_the_header(kind: str, prefix: str) -> None:
+    """c/hdt.h has the names of the page; Unused is missing as long as C has no tight reading."""
+    names = [(number, f"HDT_{prefix}_{spoken(name)}") for number, name in of_kind(kind)]
+    listed = [(int(number), name) for name, number in re.findall(rf"(HDT_{prefix}_\w+) = (\d+)", HEADER.read_text())]
+    assert listed == names[:len(listed)] and len(listed) >= {"file": 33, "text": 9}[kind]
+
+
+def test_messages_of_the_program() -> None:
+    """The page has each message of the program that is always the same, and no other one."""
+    source = (TOP / "crates/hdt_tool/src/error_lines.rt").read_text()
+    messages = set(re.findall(r'"hdt: ([a-z ]+)"', source))
+    assert messages == {name for _, name in of_kind("message") if re.fullmatch("[a-z ]+", name)}
+
+
+# ---- the texts
+
+
+@pytest.mark.parametrize("entry", ENTRIES, ids=lambda entry: f"{entry.kind}-{entry.name}")
+def test_texts_are_short(entry: errors.Entry) -> None:
+    """Meaning, cause and remedy are sentences without markup, which a terminal shows in three lines each."""
+    for text in entry.plain():
+        lines = text.splitlines()
+        assert len(lines) <= errors.LINES and max(map(len, lines)) <= errors.COLUMNS
+        assert text.endswith(".") and not set(text) & set("`[]*")
+
+
+@pytest.mark.parametrize("text", [
+    "## Other messages\n\n### no triples\n\nA.\n\n- **Cause:** B.\n- **Remedy:** C.\n- **Example:** `d`:\n  `e`\n",
+    "## Other messages\n\n### no triples (status 1)\n\nA.\n\n- **Cause:** B.\n- **Example:** `d`:\n  `e`\n"])
+def test_entries_of_another_form(text: str) -> None:
+    """A heading or an error of another form is refused."""
+    with pytest.raises(ValueError, match="another form|without one of its parts"):
+        errors.entries(text)
