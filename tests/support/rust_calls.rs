@@ -1,7 +1,8 @@
 //! What the crate `tickmarl-hdt` returns, printed for tests/test_rust.py. Bytes are hexadecimal.
 //!
 //! `calls file PATH..` prints of each file its counts or its error, then each triple's strings, and its text or the string
-//! that is no term. `calls terms` reads strings, a line each, and prints their terms.
+//! that is no term. `calls terms` reads strings, a line each, and prints their terms. `calls memory PATH` prints the errors
+//! of calls that need more memory than there is, and the length of a string.
 
 use std::env;
 use std::error::Error;
@@ -13,15 +14,11 @@ use tickmarl_hdt::{Error as HdtError, Graph, LiteralKind, Pattern, Role, Term};
 fn main() -> Result<(), Box<dyn Error>> {
     let arguments: Vec<String> = env::args().skip(1).collect();
     let mut out = BufWriter::new(io::stdout().lock());
-    if arguments[0] == "terms" {
-        for line in io::stdin().lines() {
-            print_term(&mut out, &String::from_utf8(unhex(&line?))?)?;
-        }
+    match arguments[0].as_str() {
+        "terms" => io::stdin().lines().try_for_each(|line| print_term(&mut out, &String::from_utf8(unhex(&line?))?)),
+        "memory" => print_memory(&mut out, &fs::read(&arguments[1])?),
+        _ => arguments[1..].iter().try_for_each(|path| print_file(&mut out, &fs::read(path)?)),
     }
-    for path in &arguments[1..] {
-        print_file(&mut out, &fs::read(path)?)?;
-    }
-    Ok(())
 }
 
 fn print_file(out: &mut impl Write, bytes: &[u8]) -> Result<(), Box<dyn Error>> {
@@ -52,9 +49,18 @@ fn print_file(out: &mut impl Write, bytes: &[u8]) -> Result<(), Box<dyn Error>> 
     Ok(())
 }
 
-fn print_term(out: &mut impl Write, string: &str) -> io::Result<()> {
+fn print_memory(out: &mut impl Write, bytes: &[u8]) -> Result<(), Box<dyn Error>> {
+    let graph = Graph::open(bytes)?;
+    let ids: Vec<u64> = (1..=graph.count(Role::Subject)).collect();
+    let text = graph.text(Pattern::any()).err().ok_or("there was memory for the text")?;
+    let strings = graph.strings(Role::Subject, &ids).err().ok_or("there was memory for the strings")?;
+    let string = graph.string(Role::Subject, 1)?.unwrap_or_default();
+    Ok(writeln!(out, "{text}, {strings}, {}", string.len())?)
+}
+
+fn print_term(out: &mut impl Write, string: &str) -> Result<(), Box<dyn Error>> {
     let Ok(term) = Term::from_dictionary(string) else {
-        return writeln!(out, "no term");
+        return Ok(writeln!(out, "no term")?);
     };
     assert_eq!(term.to_dictionary(), string);
     let written = hex(term.to_string().as_bytes());
@@ -72,7 +78,7 @@ fn print_term(out: &mut impl Write, string: &str) -> io::Result<()> {
             parts
         }
     };
-    writeln!(out, "{} {written}", parts.join(" "))
+    Ok(writeln!(out, "{} {written}", parts.join(" "))?)
 }
 
 fn hex(bytes: &[u8]) -> String {
