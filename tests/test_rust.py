@@ -5,21 +5,23 @@ from __future__ import annotations
 import os
 import re
 import shutil
-from collections.abc import Mapping
+from collections.abc import Callable, Mapping
 from pathlib import Path
 
 import pytest
-from hypothesis import given
+from hypothesis import example, given
 from hypothesis import strategies as st
 
+from reference import hdt as reference
 from reference import ntriples
+from reference.hdt import Strings
 from support import c_files
 from support.built import BUILT, SAMPLES, TOP
 from support.c_library import HEADER, declared, succeeds
 from support.probe import spelled
 from support.program import Result, run
 from support.python_package import hdt
-from support.terms import strings, term_values
+from support.terms import LABEL_EDGES, strings, term_values
 
 CRATE = TOP / "rust"
 FFI = CRATE / "src/ffi.rs"
@@ -249,11 +251,17 @@ def wanted_lines(path: Path) -> list[str]:
             return [*lines, f"no term {error.role} {error.number}"]
 
 
-FILES = {
+NO_TERMS: dict[str, Strings] = {
+    "subject": (b"a", b"u:p", b"u:o"),
+    "predicate": (b"u:s", b"p", b"u:o"),
+    "object": (b"u:s", b"u:p", b'"o'),
+}
+FILES: dict[str, Callable[[], dict[str, bytes]]] = {
     "samples": c_files.samples,
     "unused strings": c_files.loose_files,
     "small files": c_files.small_files,
     "graphs": c_files.graphs,
+    "a string that is no term": lambda: {role: reference.graph([triple]).data for role, triple in NO_TERMS.items()},
 }
 
 
@@ -286,6 +294,9 @@ def is_utf8(string: bytes) -> bool:
 
 @needs_cargo
 @given(st.lists(strings().filter(is_utf8), max_size=30))
+@example([f"_:{before}{character}".encode() for character in LABEL_EDGES for before in ("", "a")])
+@example([f"u:{character}".encode() for character in map(chr, range(1, 0x100))])
+@example([f'"x"^^<u:{character}>'.encode() for character in map(chr, range(1, 0x100))])
 def test_terms(calls: Path, examples: list[bytes]) -> None:
     """Strings have the terms that the reference reads, and these are written as it writes them."""
     done = run([calls, "terms"], stdin=b"".join(string.hex().encode() + b"\n" for string in examples))

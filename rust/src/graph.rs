@@ -319,3 +319,24 @@ fn put(room: usize, call: impl Fn(&mut [u8]) -> u64) -> Result<Option<Vec<u8>>, 
     out.truncate(len);
     Ok(Some(out))
 }
+
+#[cfg(test)]
+mod tests {
+    use super::{Graph, Pattern};
+    use crate::file::build;
+
+    #[test]
+    fn pages_double() {
+        let text: String = (0..1_000).map(|n| format!("<u:s{n}> <u:p> <u:o> .\n")).collect();
+        let (file, _) = build(text.as_bytes(), "u:b", 16).unwrap();
+        let graph = Graph::open(&file).unwrap();
+        let mut matches = graph.find(Pattern::any());
+        let mut pages = Vec::new();
+        while matches.next().is_some() {
+            if matches.at == 1 {
+                pages.push(matches.page.len());
+            }
+        }
+        assert_eq!(pages, [64, 128, 256, 512, 40]);
+    }
+}
