@@ -25,7 +25,7 @@ fn main() {
 
 /// The folder of the library. The error is a message for the user.
 fn folder() -> Result<PathBuf, String> {
-    let folder = match env::var_os("HDT_LIB_DIR") {
+    let folder = match env::var_os("HDT_LIB_DIR").filter(|named| !named.is_empty()) {
         Some(named) => PathBuf::from(named),
         None => shipped()?,
     };

@@ -17,7 +17,7 @@ from reference import ntriples
 from reference.hdt import Strings
 from support import c_files
 from support.built import BUILT, SAMPLES, TOP
-from support.c_library import HEADER, declared, succeeds
+from support.c_library import HEADER, declared, file_reasons, succeeds, text_reasons
 from support.probe import spelled
 from support.program import Result, run
 from support.python_package import hdt
@@ -28,10 +28,16 @@ FFI = CRATE / "src/ffi.rs"
 DOCUMENT, README = TOP / "docs/RUST.md", TOP / "README.md"
 CALLS = TOP / "tests/support/rust_calls.rs"
 SECONDS = 600
-# What c/hdt.h has and the crate does not have yet: constants, types and calls.
-MISSING: set[str] = set()
+# What c/hdt.h may have and the crate does not have yet: the constants, types and calls of version 1.1.
+MISSING = {
+    *("HDT_VERSION_MAJOR", "HDT_VERSION_MINOR", "HDT_NAME_ROOM", "HDT_FILE_UNUSED", "HDT_ANY", "HDT_ID", "HDT_STRING"),
+    *("HDT_NO_TERM", "HDT_IRI", "HDT_BLANK", "HDT_LITERAL", "HDT_TAGGED", "HDT_TYPED"),
+    *("hdt_part", "hdt_pattern", "hdt_term_parts", "hdt_verify_tight", "hdt_pattern_find", "hdt_pattern_matching"),
+    *("hdt_pattern_text", "hdt_predicates", "hdt_term", "hdt_term_string", "hdt_version", "hdt_reason_name"),
+    *("hdt_text_reason_name",),
+}
 # At least so many tests does the crate have, with the examples of its comments.
-CASES = 39
+CASES = 40
 
 
 def needs(*programs: str) -> pytest.MarkDecorator:
@@ -45,16 +51,7 @@ needs_cargo = needs("cargo", "cc")
 
 # ---- the declarations
 
-TYPES = {
-    "uint64_t": "u64",
-    "uint32_t": "u32",
-    "size_t": "usize",
-    "const uint8_t *": "*const u8",
-    "uint8_t *": "*mut u8",
-    "const uint64_t *": "*const u64",
-    "uint64_t *": "*mut u64",
-    "void *": "*mut u8",
-}
+TYPES = {"uint64_t": "u64", "uint32_t": "u32", "uint8_t": "u8", "size_t": "usize", "void": "u8"}
 
 
 def without_comments(source: str) -> str:
@@ -62,31 +59,48 @@ def without_comments(source: str) -> str:
     return " ".join(re.sub(r"/\*.*?\*/|//[^\n]*", "", source, flags=re.S).split())
 
 
-def rust_type(c_type: str, array: str) -> str:
-    """The type in Rust of a C parameter or field, by what stands before and behind its name."""
-    if array.startswith(")"):
-        return f"*mut [{TYPES[c_type.removesuffix(' (*')]}; {array[2:-1]}]"
-    if array:
-        return f"[{TYPES[c_type]}; {array[1:-1]}]"
-    return TYPES.get(c_type) or "*mut " + c_type.removesuffix(" *")
+def rust_type(c_type: str) -> str:
+    """The type in Rust of a number, a type of the header, or a pointer."""
+    name = c_type.removeprefix("const ").removesuffix(" *")
+    pointer = "*const " if c_type.startswith("const ") else "*mut " if c_type.endswith(" *") else ""
+    return pointer + TYPES.get(name, name)
 
 
-def c_fields(fields: str, separator: str) -> str:
-    """Parameters or fields of C, as they are in Rust."""
-    found = (re.fullmatch(r"(.*?) ?(\w+)([\])[\d]*)", it.strip()) for it in fields.split(separator) if it.strip())
-    return ", ".join(f"{it[2]}: {rust_type(it[1], it[3])}" for it in found if it)
+def c_field(field: str) -> str:
+    """A parameter or a field of C as it is in Rust."""
+    found = re.fullmatch(r"(.*?) ?\b(\w+)(?:\)?\[(\d+)\])?", field)
+    assert found, field
+    c_type, name, length = found.groups()
+    if c_type.endswith(" (*"):
+        return f"{name}: *mut [{rust_type(c_type[:-3])}; {length}]"
+    return f"{name}: [{rust_type(c_type)}; {length}]" if length else f"{name}: {rust_type(c_type)}"
+
+
+def c_parameters(parameters: str) -> str:
+    """The parameters of a call of C as they are in Rust."""
+    return ", ".join(c_field(it) for it in parameters.split(", ") if it != "void")
+
+
+def c_fields(fields: str) -> str:
+    """The fields of a type of C, more than one of which may be declared at once, as they are in Rust."""
+    found = []
+    for first, *more in (it.strip().split(", ") for it in fields.split(";") if it.strip()):
+        found += [first, *(f"{first.rsplit(' ', 1)[0]} {name}" for name in more)]
+    return ", ".join(map(c_field, found))
 
 
 def of_header() -> dict[str, str]:
     """What c/hdt.h declares as it is in Rust, by name: constants, the fields of types, and calls."""
     text = without_comments(HEADER.read_text())
-    found = dict(re.findall(r"\b(HDT_\w+) = (\d+)", text))
+    found = dict(re.findall(r"\b(HDT_\w+)(?: =)? (\d+)\b", text))
     for name, less in re.findall(r"#define (HDT_\w+) \(?UINT64_MAX( - \d+)?\)?", text):
         found[name] = f"u64::MAX{less}"
-    for fields, name in re.findall(r"struct \{ (.*?) \} (\w+);", text):
-        found[name] = c_fields(fields, ";")
-    for result, name, parameters in re.findall(r"(\w+) (hdt_\w+)\((.*?)\);", text):
-        found[name] = f"({c_fields(parameters, ',')})" + ("" if result == "void" else f" -> {TYPES[result]}")
+    for fields, name in re.findall(r"struct \{ ([^{}]*) \} (\w+);", text):
+        found[name] = c_fields(fields)
+    for result, name, parameters in re.findall(r"((?:const )?\w+ \*?)(hdt_\w+)\((.*?)\);", text):
+        found[name] = f"({c_parameters(parameters)})"
+        if result != "void ":
+            found[name] += f" -> {rust_type(result.strip())}"
     return found
 
 
@@ -105,22 +119,27 @@ def test_declarations_are_those_of_the_header() -> None:
     """The crate declares each constant, type and call of the header as it is there, but those that it doesn't have."""
     header = of_header()
     assert of_crate() == {name: it for name, it in header.items() if name not in MISSING}
-    assert MISSING <= set(header)
     assert header["HDT_CLOSED"] == "u64::MAX - 2" and header["HDT_FILE_TRAILING_BYTES"] == "33"
     assert header["hdt_verdict"] == "reason: u32, place: u64, counts: [u64; 5]"
     assert header["hdt_find"].endswith("o: *const u8, o_len: usize, skip: u64, out: *mut [u64; 3], room: usize) -> u64")
     assert declared() <= set(header)
 
 
+@pytest.mark.parametrize("prefix, names", [("FILE", file_reasons()), ("TEXT", text_reasons())])
+def test_reasons_have_the_documented_names(prefix: str, names: list[str]) -> None:
+    """The crate has the reasons of the header, with the names that the documents have for their numbers."""
+    numbers = {name: it for name, it in of_crate().items() if name.startswith(f"HDT_{prefix}_")}
+    variants = re.findall(rf"^ +(\w+) = (HDT_{prefix}_\w+),$", (CRATE / "src/error.rs").read_text(), re.M)
+    assert [(name, int(numbers[it])) for name, it in variants] == list(zip(names, range(1, len(numbers) + 1)))
+    assert len(variants) == len(numbers) >= 9
+
+
 def test_types_are_of_the_layout_of_c() -> None:
     """Each type of the header is `repr(C)`."""
-    types = re.findall(
-        r"(#\[repr\(C\)\] )?(?:#\[derive\(\w+\)\] )?(?:pub\(crate\) )?struct (hdt_\w+) \{",
-        without_comments(FFI.read_text()),
-    )
-    assert sorted(types) == sorted(
-        ("#[repr(C)] ", name) for name in of_header() if re.search(rf"}} {name};", HEADER.read_text())
-    )
+    text = without_comments(FFI.read_text())
+    types = re.findall(r"(#\[repr\(C\)\] )?(?:#\[derive\(\w+\)\] )?(?:pub\(crate\) )?struct (hdt_\w+) \{", text)
+    assert [name for layout, name in types if not layout] == []
+    assert len(types) == len(re.findall(r"struct hdt_", text)) >= 5
 
 
 def test_unsafe_code_is_in_one_module() -> None:

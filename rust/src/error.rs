@@ -232,7 +232,8 @@ impl Error {
         }
     }
 
-    fn other(reason: u32) -> Error {
+    /// The error of a reason that is none of a file or text, and not 0.
+    pub(crate) fn other(reason: u32) -> Error {
         match reason {
             ffi::HDT_NO_TRIPLES => Error::NoTriples,
             ffi::HDT_BAD_OPTIONS => Error::BadOptions,
@@ -250,47 +251,17 @@ mod tests {
     use super::{Error, FileReason, TextReason};
     use crate::ffi;
 
-    const FORMAT: &str = include_str!("../../docs/FORMAT.md");
-    const NTRIPLES: &str = include_str!("../../docs/NTRIPLES.md");
-
-    /// What `docs/FORMAT.md` has in its table of reasons, by number.
-    fn file_names() -> Vec<(u32, &'static str)> {
-        let table = FORMAT.split("## Reasons").nth(1).and_then(|rest| rest.split("\n## ").next()).unwrap();
-        let cells = table.lines().flat_map(|line| line.split('|')).filter_map(|cell| cell.trim().split_once(' '));
-        cells.filter_map(|(number, name)| Some((number.parse().ok()?, name))).collect()
-    }
-
-    /// The numbers and names in `docs/NTRIPLES.md`: a number, a space and a name in backquotes.
-    fn text_names() -> Vec<(u32, &'static str)> {
-        let words = NTRIPLES.split("The nine reasons").nth(1).and_then(|rest| rest.split("\n\n").next()).unwrap();
-        let words: Vec<&str> = words.split_whitespace().collect();
-        let pairs = words.windows(2).filter(|pair| pair[1].starts_with('`'));
-        let named = pairs.filter_map(|pair| Some((pair[0].parse().ok()?, pair[1].split('`').nth(1)?)));
-        named.collect()
-    }
-
     #[test]
-    fn reasons_of_files_have_the_documented_names() {
-        let documented = file_names();
-        assert!(documented.len() >= 33);
-        let last = ffi::HDT_FILE_TRAILING_BYTES;
-        for (number, name) in documented {
-            let reason = FileReason::of(number);
-            assert_eq!(reason.map(FileReason::name), (number <= last).then_some(name), "{number}");
-            assert_eq!(reason.map_or(number, FileReason::number), number);
+    fn reasons_have_numbers_and_names() {
+        for number in 1..=ffi::HDT_FILE_TRAILING_BYTES {
+            assert_eq!(FileReason::of(number).map(FileReason::number), Some(number));
         }
-        assert_eq!(FileReason::of(0), None);
-    }
-
-    #[test]
-    fn reasons_of_texts_have_the_documented_names() {
-        let documented = text_names();
-        assert_eq!(documented.len(), 9);
-        for (number, name) in documented {
-            let reason = TextReason::of(number).unwrap();
-            assert_eq!((reason.name(), reason.number()), (name, number));
+        for number in 1..=ffi::HDT_TEXT_TOO_LONG {
+            assert_eq!(TextReason::of(number).map(TextReason::number), Some(number));
         }
-        assert_eq!((TextReason::of(0), TextReason::of(10)), (None, None));
+        assert_eq!((FileReason::of(0), FileReason::of(ffi::HDT_OUT_OF_MEMORY)), (None, None));
+        assert_eq!((TextReason::of(0), TextReason::of(ffi::HDT_NO_TRIPLES)), (None, None));
+        assert_eq!((FileReason::Check16.name(), TextReason::NotUtf8.name()), ("Check16", "NotUtf8"));
     }
 
     #[test]

@@ -223,7 +223,7 @@ impl<'bytes> Graph<'bytes> {
         match telling.reason {
             ffi::HDT_DONE => Ok(text),
             ffi::HDT_NOT_A_TERM => Err(Error::NotATerm { role: Role::of(telling.role), id: telling.number }),
-            reason => Err(Error::of_file(reason, 0)),
+            reason => Err(Error::other(reason)),
         }
     }
 }
