@@ -1,9 +1,9 @@
 //! The calls of `c/hdt.h`, and safe functions over them: the only module with `unsafe`.
 //!
 //! Each block relies on this, of what the header asks for: a slice's pointer is not null, also if it is empty; shared
-//! and mutable slices don't overlap; a `&mut` of a handle or of bytes is that of one call at a time; they begin as zeros,
-//! and only the library writes their fields. A moved handle is no copy: the old one can't be used, and the library
-//! keeps no address of it.
+//! and mutable slices don't overlap; a `&mut` of a handle or of bytes is that of one call at a time; they begin as
+//! zeros, and only the library writes their fields. A moved handle is no copy: the old one can't be used, and the
+//! library keeps no address of it.
 #![allow(non_camel_case_types)]
 
 use std::fmt;

@@ -48,8 +48,8 @@ pub fn verify(bytes: &[u8]) -> Result<Counts, Error> {
 
 /// Builds the canonical file of the graph of an N-Triples text, and returns the file and its counts.
 ///
-/// `base` is the absolute IRI that names the file in its header. `block_size` is the number of strings in a block of the
-/// dictionary, at least 1; [`BLOCK_SIZE`] is usual. Time is linear in the text, except for sorting.
+/// `base` is the absolute IRI that names the file in its header. `block_size` is the number of strings in a block of
+/// the dictionary, at least 1; [`BLOCK_SIZE`] is usual. Time is linear in the text, except for sorting.
 ///
 /// # Errors
 ///

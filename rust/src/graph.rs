@@ -203,7 +203,8 @@ impl<'bytes> Graph<'bytes> {
     /// The triples that match, in the order of the file, by subject, predicate and object.
     ///
     /// It asks for pages that double, as a page scans all matches before it; so all pages together take at most thrice
-    /// the time of a single search. A page has 24 bytes per triple, and at most 64 triples more than were returned before.
+    /// the time of a single search. A page has 24 bytes per triple, and at most 64 triples more than were returned
+    /// before.
     pub fn find<'a>(&'a self, pattern: Pattern<'a>) -> Matches<'a> {
         Matches { graph: self, pattern, page: Vec::new(), at: 0, before: 0, is_last: false }
     }

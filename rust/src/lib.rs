@@ -21,13 +21,14 @@
 //! or overwritten in place ends the process (SIGBUS), so replace a file in use by rename.
 //!
 //! A string is a dictionary string everywhere: an IRI without brackets (`http://a/b`), a blank node with its label
-//! (`_:b`), or a literal with its quotes and without escapes, followed by nothing, a language tag or a datatype (`"x"`,
-//! `"x"@en`, `"1"^^<http://www.w3.org/2001/XMLSchema#integer>`). [`Term`] converts from and to them. The strings of a
-//! [`Role`] have IDs from 1.
+//! (`_:b`), or a literal with its quotes and without escapes, followed by nothing, a language tag or a datatype
+//! (`"x"`, `"x"@en`, `"1"^^<http://www.w3.org/2001/XMLSchema#integer>`). [`Term`] converts from and to them. The
+//! strings of a [`Role`] have IDs from 1.
 //!
-//! Errors are values of [`Error`]; no call panics on any input. Memory of the library comes from `malloc`; if it runs out
-//! there, a call returns [`Error::OutOfMemory`]. What Rust allocates aborts then, as it does everywhere. No call may be
-//! made in a signal handler, or in the child of a `fork` of a process with threads.
+//! Errors are values of [`Error`]; no call panics on any input. Memory of the library comes from `malloc`; if it runs
+//! out there, a call returns [`Error::OutOfMemory`]. If memory for a `Vec` or a `String` runs out, the process aborts,
+//! as in any Rust program. No call may be made in a signal handler, or in the child of a `fork` of a process with
+//! threads.
 
 #![deny(missing_docs)]
 #![deny(unsafe_code)]

@@ -1,8 +1,8 @@
 //! What the crate `tickmarl-hdt` returns, printed for tests/test_rust.py. Bytes are hexadecimal.
 //!
-//! `calls file PATH..` prints of each file its counts or its error, then each triple's strings, and its text or the string
-//! that is no term. `calls terms` reads strings, a line each, and prints their terms. `calls memory PATH` prints the errors
-//! of calls that need more memory than there is, and the length of a string.
+//! `calls file PATH..` prints the counts or the error of each file, then the strings of each triple, and the file's
+//! text or the string that is no term. `calls terms` reads strings, one per line, and prints their terms. `calls
+//! memory PATH` prints the errors of calls that need more memory than there is, and the length of a string.
 
 use std::env;
 use std::error::Error;
