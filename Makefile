@@ -8,13 +8,14 @@
 #   make uninstall  remove what `make install` has installed there
 #   make wheel      make a Python wheel with the library inside, in out/
 #   make deb        make a Debian package, in out/
+#   make rust       build and test the Rust crate, in rust/ (needs cargo)
 PREFIX = /usr/local
 DESTDIR =
 PYTHON = /usr/bin/python3
 
 export PREFIX DESTDIR
 
-.PHONY: build test prove dist install uninstall wheel deb clean
+.PHONY: build test prove dist install uninstall wheel deb rust clean
 
 build:
 	@$(PYTHON) -B -m tools.build
@@ -40,5 +41,8 @@ wheel:
 deb:
 	@tools/package deb
 
+rust:
+	@folder=$$(tools/current) && HDT_LIB_DIR="$(CURDIR)/$$folder" cargo test -q --offline --manifest-path rust/Cargo.toml
+
 clean:
-	rm -rf out crates/*/out
+	rm -rf out crates/*/out rust/target

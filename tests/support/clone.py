@@ -7,7 +7,7 @@ from pathlib import Path
 
 from support.built import TOP
 
-LEFT_OUT = shutil.ignore_patterns(".git", "out", "wrong", "__pycache__", ".hypothesis", ".*_cache")
+LEFT_OUT = shutil.ignore_patterns(".git", "out", "target", "wrong", "__pycache__", ".hypothesis", ".*_cache")
 
 
 def copied(folder: Path) -> Path:

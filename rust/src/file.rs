@@ -1,0 +1,112 @@
+//! Whole files: their validity, and making them.
+#![forbid(unsafe_code)]
+
+use crate::error::Error;
+use crate::ffi::{self, Bytes};
+
+/// The usual block size of [`build`] and [`rewrite`].
+pub const BLOCK_SIZE: u16 = 16;
+
+/// What a file has, in numbers.
+#[derive(Debug, Clone, Copy, PartialEq, Eq, Hash)]
+#[non_exhaustive]
+pub struct Counts {
+    /// Triples.
+    pub triples: u64,
+    /// Strings that are both subjects and objects.
+    pub shared: u64,
+    /// Strings that are subjects and not objects.
+    pub subjects: u64,
+    /// Predicates.
+    pub predicates: u64,
+    /// Strings that are objects and not subjects.
+    pub objects: u64,
+}
+
+impl Counts {
+    pub(crate) fn of(counts: [u64; 5]) -> Counts {
+        let [triples, shared, subjects, predicates, objects] = counts;
+        Counts { triples, shared, subjects, predicates, objects }
+    }
+}
+
+/// Checks a whole file, and returns its counts. Takes linear time.
+///
+/// # Errors
+///
+/// [`Error::File`] has the first error of the file; [`Error::OutOfMemory`].
+///
+/// ```
+/// use tickmarl_hdt::{verify, Error, FileError, FileReason};
+///
+/// let error = FileError { reason: FileReason::NotHdt, offset: 0 };
+/// assert_eq!(verify(b"no HDT file"), Err(Error::File(error)));
+/// ```
+pub fn verify(bytes: &[u8]) -> Result<Counts, Error> {
+    counts_of(&ffi::verify(bytes))
+}
+
+/// Builds the canonical file of the graph of an N-Triples text, and returns the file and its counts.
+///
+/// `base` is the absolute IRI that names the file in its header. `block_size` is the number of strings in a block of
+/// the dictionary, at least 1; [`BLOCK_SIZE`] is usual. Time is linear in the text, except for sorting.
+///
+/// # Errors
+///
+/// [`Error::BadOptions`], before it reads the text; [`Error::Text`] has the first error of the text;
+/// [`Error::NoTriples`]; [`Error::OutOfMemory`].
+///
+/// ```
+/// use tickmarl_hdt::{build, Error, TextReason, BLOCK_SIZE};
+///
+/// # fn main() -> Result<(), Error> {
+/// let (file, counts) = build(b"<u:a> <u:p> \"x\" .\n", "http://example.org/", BLOCK_SIZE)?;
+/// assert_eq!((counts.triples, counts.subjects, counts.objects), (1, 1, 1));
+/// assert!(file.starts_with(b"$HDT"));
+///
+/// let failed = build(b"<u:a> <u:p> \"x\"\n", "http://example.org/", BLOCK_SIZE);
+/// let Err(Error::Text(error)) = failed else { panic!() };
+/// assert_eq!((error.reason, error.line, error.column), (TextReason::Syntax, 1, 16));
+/// # Ok(())
+/// # }
+/// ```
+pub fn build(text: &[u8], base: &str, block_size: u16) -> Result<(Bytes, Counts), Error> {
+    let (file, report) = ffi::build(text, base, block_size);
+    match report.reason {
+        ffi::HDT_DONE => Ok((file, Counts::of(report.counts))),
+        reason => Err(Error::of_text(reason, report.line, report.column)),
+    }
+}
+
+/// Rewrites a file as the canonical file of its triples, and returns that and its counts.
+///
+/// The header stays, unused strings are left out, and blocks have `block_size` strings, at least 1. Time is linear in
+/// the file, except for sorting if IDs change their order.
+///
+/// # Errors
+///
+/// [`Error::File`] has the first error of the file; [`Error::BadOptions`]; [`Error::OutOfMemory`].
+///
+/// ```
+/// use tickmarl_hdt::{build, rewrite, BLOCK_SIZE};
+///
+/// # fn main() -> Result<(), tickmarl_hdt::Error> {
+/// let (file, counts) = build(b"<u:a> <u:p> \"x\" .\n", "http://example.org/", BLOCK_SIZE)?;
+/// let (small, same) = rewrite(&file, 64)?;
+/// assert_eq!(same, counts);
+/// assert_ne!(small[..], file[..]);
+/// # Ok(())
+/// # }
+/// ```
+pub fn rewrite(bytes: &[u8], block_size: u16) -> Result<(Bytes, Counts), Error> {
+    let (file, verdict) = ffi::rewrite(bytes, block_size);
+    Ok((file, counts_of(&verdict)?))
+}
+
+/// The counts of a verdict that is done, else its error.
+pub(crate) fn counts_of(verdict: &ffi::hdt_verdict) -> Result<Counts, Error> {
+    match verdict.reason {
+        ffi::HDT_DONE => Ok(Counts::of(verdict.counts)),
+        reason => Err(Error::of_file(reason, verdict.place)),
+    }
+}

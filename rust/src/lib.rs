@@ -1,0 +1,47 @@
+//! Verifies, searches, builds and rewrites RDF HDT files, by the proved library libhdt.
+//!
+//! ```
+//! use tickmarl_hdt::{build, Graph, Pattern, Role, BLOCK_SIZE};
+//!
+//! # fn main() -> Result<(), tickmarl_hdt::Error> {
+//! let text = b"<u:a> <u:p> <u:b> .\n<u:a> <u:q> \"x\" .\n";
+//! let (file, counts) = build(text, "http://example.org/graph", BLOCK_SIZE)?;
+//! assert_eq!(counts.triples, 2);
+//! let graph = Graph::open(&file)?;
+//! for [subject, _, object] in graph.find(Pattern::any().predicate("u:p")) {
+//!     assert_eq!(graph.string(Role::Subject, subject)?.as_deref(), Some("u:a"));
+//!     assert_eq!(graph.string(Role::Object, object)?.as_deref(), Some("u:b"));
+//! }
+//! # Ok(())
+//! # }
+//! ```
+//!
+//! All files are bytes in memory. A [`Graph`] borrows those of its file, so they stay unchanged while it is open.
+//! `std::fs::read` gives them. The standard library maps no files; with a crate that does, a mapped file that is cut
+//! or overwritten in place ends the process (SIGBUS), so replace a file in use by rename.
+//!
+//! A string is a dictionary string everywhere: an IRI without brackets (`http://a/b`), a blank node with its label
+//! (`_:b`), or a literal with its quotes and without escapes, followed by nothing, a language tag or a datatype
+//! (`"x"`, `"x"@en`, `"1"^^<http://www.w3.org/2001/XMLSchema#integer>`). [`Term`] converts from and to them. The
+//! strings of a [`Role`] have IDs from 1.
+//!
+//! Errors are values of [`Error`]; no call panics on any input. Memory of the library comes from `malloc`; if it runs
+//! out there, a call returns [`Error::OutOfMemory`]. If memory for a `Vec` or a `String` runs out, the process aborts,
+//! as in any Rust program. No call may be made in a signal handler, or in the child of a `fork` of a process with
+//! threads.
+
+#![deny(missing_docs)]
+#![deny(unsafe_code)]
+
+mod error;
+#[allow(unsafe_code)]
+mod ffi;
+mod file;
+mod graph;
+mod term;
+
+pub use error::{Error, FileError, FileReason, TextError, TextReason};
+pub use ffi::Bytes;
+pub use file::{build, rewrite, verify, Counts, BLOCK_SIZE};
+pub use graph::{Graph, Matches, Pattern, Role, Strings};
+pub use term::{InvalidTerm, LiteralKind, Term};
