@@ -151,7 +151,12 @@ impl<'a> IndexedTriples<'a> {
     /// Returns the position of a subject's first triple from index `from` on. If there is none, that is a position from
     /// which on no triple has the subject.
     #[tactic(auto, unfolding(crate::specs::Views::triples_view))]
-    pub(crate) fn start_of_subject_from(&self, subject: u64, from: u64, steps: &mut Steps) -> TriplePosition
+    pub(crate) fn start_of_subject_from(
+        &self,
+        subject: u64,
+        from: u64,
+        steps: &mut Steps,
+    ) -> TriplePosition
         requires { from < length (triples_view (triples_indexed self.now)).array_z }
         ensures stands { IsTriplePosition (triples_view (triples_indexed self.now)) result }
         ensures reached { result.at < length (triples_view (triples_indexed self.now)).array_z → subject ≤ result.subject }

@@ -73,7 +73,13 @@ impl<'a> ListedTriples<'a> {
 
     /// Finds the matches of a pattern with this object, from a triple on.
     #[tactic(auto, unfolding(crate::specs::Remaining::remaining_matches, crate::specs::Remaining::step_limit))]
-    pub(crate) fn find_object_from(&self, pattern: Pattern, object: u64, from: u64, steps: &mut Steps) -> Matches<'_>
+    pub(crate) fn find_object_from(
+        &self,
+        pattern: Pattern,
+        object: u64,
+        from: u64,
+        steps: &mut Steps,
+    ) -> Matches<'_>
         requires given { pattern.o ≡ Some object }
         requires within { from < length (triples_view (triples_listed self.now)).array_z }
         ensures items { remaining_matches result ≡ matches pattern (triples_from (triples_view (triples_listed self.now)) from) }

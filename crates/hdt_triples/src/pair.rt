@@ -144,7 +144,14 @@ impl<'a> IndexedTriples<'a> {
 
     /// Finds the matches of a pattern with this subject and this predicate, from a triple on.
     #[tactic(auto, unfolding(crate::specs::Remaining::remaining_matches, crate::specs::Remaining::step_limit))]
-    pub(crate) fn find_pair_from(&self, pattern: Pattern, subject: u64, predicate: u64, from: u64, steps: &mut Steps) -> Matches<'a>
+    pub(crate) fn find_pair_from(
+        &self,
+        pattern: Pattern,
+        subject: u64,
+        predicate: u64,
+        from: u64,
+        steps: &mut Steps,
+    ) -> Matches<'a>
         requires subject_given { pattern.s ≡ Some subject }
         requires predicate_given { pattern.p ≡ Some predicate }
         requires within { from < length (triples_view (triples_indexed self.now)).array_z }

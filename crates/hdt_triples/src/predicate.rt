@@ -55,7 +55,12 @@ impl<'a> ListedTriples<'a> {
 
     /// Finds the triples of a predicate from a triple on.
     #[tactic(auto, unfolding(crate::specs::Remaining::remaining_matches, crate::specs::Remaining::step_limit))]
-    pub(crate) fn find_predicate_from(&self, predicate: u64, from: u64, steps: &mut Steps) -> Matches<'_>
+    pub(crate) fn find_predicate_from(
+        &self,
+        predicate: u64,
+        from: u64,
+        steps: &mut Steps,
+    ) -> Matches<'_>
         requires { from < length (triples_view (triples_listed self.now)).array_z }
         ensures items { remaining_matches result ≡ matches (of_predicate predicate) (triples_from (triples_view (triples_listed self.now)) from) }
         ensures limit { step_limit result ≡ limit (predicate_cost (triples_view (triples_listed self.now)) predicate) (triples_view (triples_listed self.now)) }

@@ -104,7 +104,9 @@ impl<'a> ListedTriples<'a> {
         if by_object < pair.saturating_mul(1 + pairs.len() as u128) {
             return self.find_object_from(pattern, object, from, steps);
         }
-        let (rest, at) = self.indexed.pairs_from(pairs, predicate, object, from, steps);
+        let (rest, at) = self
+            .indexed
+            .pairs_from(pairs, predicate, object, from, steps);
         Matches::PredicateObject(PredicateObjectMatches {
             indexed: &self.indexed,
             pattern,

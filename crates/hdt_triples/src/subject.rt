@@ -54,7 +54,13 @@ impl<'a> IndexedTriples<'a> {
 
     /// Finds the matches of a pattern with this subject, from a triple on.
     #[tactic(auto, unfolding(crate::specs::Remaining::remaining_matches, crate::specs::Remaining::step_limit))]
-    pub(crate) fn find_subject_from(&self, pattern: Pattern, subject: u64, from: u64, steps: &mut Steps) -> Matches<'a>
+    pub(crate) fn find_subject_from(
+        &self,
+        pattern: Pattern,
+        subject: u64,
+        from: u64,
+        steps: &mut Steps,
+    ) -> Matches<'a>
         requires given { pattern.s ≡ Some subject }
         requires within { from < length (triples_view (triples_indexed self.now)).array_z }
         ensures items { remaining_matches result ≡ matches pattern (triples_from (triples_view (triples_indexed self.now)) from) }

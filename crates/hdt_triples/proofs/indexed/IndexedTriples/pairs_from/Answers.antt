@@ -1,4 +1,4 @@
-use Rattle.std.proofs.Common.{arith, ap, ◌≡◌, ◌<◌, ◌∙◌, ◌≤◌, ◌+◌, length}
+use Rattle.std.proofs.Common.{arith, ap, ◌<◌, ◌∙◌, ◌≤◌, ◌+◌, length}
 use Rattle.hdt_seq.specs.Laws.Numbers.{numbers_below}
 use Rattle.hdt_triples.specs.Views.{triples_view}
 use Rattle.hdt_triples.specs.TripleSequences.{pair_of}
