@@ -1,6 +1,5 @@
 -- Pages of matches.
-use Rattle.std.proofs.Common.{◌≡◌, ℕ, ◌+◌, ◌≤◌, ◌<◌, zero, suc, List, [], ◌∷◌, ◌++◌, Bool, true, false, cond, Option, Some, None, filter, length, take, drop, slice_get, refl, ap, sym, ◌∙◌, arith, subst}
-use Rattle.std.specs.Prelude.{slice_index_or}
+use Rattle.std.proofs.Common.{◌≡◌, ℕ, ◌+◌, ◌≤◌, ◌<◌, zero, suc, List, [], ◌∷◌, ◌++◌, Bool, true, false, cond, Option, Some, None, filter, length, take, drop, slice_get, refl, ap, sym, ◌∙◌, arith}
 use Rattle.std.proofs.lemmas.List.{drop-drop, get_or-drop, length-drop, length-take, take-append-le, take_all}
 use Rattle.std.proofs.lemmas.Option.{none-some}
 use Rattle.hdt_triples.specs.declared.pattern.Pattern.{Pattern}
@@ -67,8 +66,8 @@ next_by keep x xs (suc n) t true e behind is =
     }
 
 next_kept : (keep : Triple → Bool) (xs : List Triple) (n : ℕ) (t : Triple) → slice_get (drop n (filter keep xs)) 0 ≡ Some t → IsNextKept keep xs n t
-next_kept keep [] zero t is = none-some t is
-next_kept keep [] (suc n) t is = none-some t is
+next_kept keep [] zero t is = absurd (none-some t is)
+next_kept keep [] (suc n) t is = absurd (none-some t is)
 next_kept keep (x ∷ xs) n t is = next_by keep x xs n t (keep x) refl (λ m h. next_kept keep xs m t h) is
 
 -- The triple after a page, and its index.
@@ -100,4 +99,4 @@ index_of_next f pattern from most t is =
 -- Without a next one none is left.
 pub none_next : (xs : List Triple) → None ≡ slice_get xs 0 → xs ≡ []
 none_next [] is = refl
-none_next (x ∷ xs) is = none-some x (sym is)
+none_next (x ∷ xs) is = absurd (none-some x is)
