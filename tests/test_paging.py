@@ -52,7 +52,7 @@ def pages_in(words: Sequence[str]) -> Iterator[Page]:
     while at < len(words):
         after = None if words[at] == "none" else int(words[at])
         end = at + 2 + 3 * int(words[at + 1])
-        numbers = [int(word) for word in words[at + 2:end]]
+        numbers = [int(word) for word in words[at + 2 : end]]
         yield after, list(zip(numbers[::3], numbers[1::3], numbers[2::3]))
         at = end
 
@@ -60,7 +60,7 @@ def pages_in(words: Sequence[str]) -> Iterator[Page]:
 def page_in(answer: Answer) -> tuple[int, Page]:
     """What `page` answers of one pattern: the number of matches that are left, and the page behind (0, 0, 0)."""
     assert answer[0] == "ok", answer
-    (after, triples), = pages_in(answer[2:])
+    ((after, triples),) = pages_in(answer[2:])
     assert triples[0] == (0, 0, 0), "what was there is gone"
     return int(answer[1]), (after, triples[1:])
 
@@ -83,11 +83,21 @@ def fixture_many() -> Graph:
 def patterns_of(graph: Graph) -> list[Pattern]:
     """The eight patterns of a few triples, and pairs of IDs that no triple has."""
     last = len(graph.ids)
-    given = dict.fromkeys(pattern for n in (0, last // 5, last // 2, last - 500, last - 1)
-                          for pattern in model.patterns(graph.ids[n]))
+    given = dict.fromkeys(
+        pattern for n in (0, last // 5, last // 2, last - 500, last - 1) for pattern in model.patterns(graph.ids[n])
+    )
     s, p, o = (max(triple[role] for triple in graph.ids) for role in range(3))
-    return [*given, (s + 1, None, None), (None, p + 1, None), (None, None, o + 1), (1, p, None), (0, None, 0),
-            (None, p, 1), (s, None, 1), (MAX, MAX, MAX)]
+    return [
+        *given,
+        (s + 1, None, None),
+        (None, p + 1, None),
+        (None, None, o + 1),
+        (1, p, None),
+        (0, None, 0),
+        (None, p, 1),
+        (s, None, 1),
+        (MAX, MAX, MAX),
+    ]
 
 
 def test_all_pages_of_three(probe: Probe) -> None:
@@ -125,8 +135,11 @@ def test_pages_of_many_from_anywhere(probe: Probe, many: Graph) -> None:
     probe.on(many.data, "verify")
     for pattern in patterns_of(many):
         places = many.places(pattern)
-        near = [max(0, n + by) for n in places[:2] + places[-2:] + random.sample(places, min(3, len(places)))
-                for by in (-1, 0, 1)]
+        near = [
+            max(0, n + by)
+            for n in places[:2] + places[-2:] + random.sample(places, min(3, len(places)))
+            for by in (-1, 0, 1)
+        ]
         starts = [0, last - 1, last, last + 1, MAX - 1, MAX, *near, *(random.randrange(last) for _ in range(10))]
         for start in dict.fromkeys(starts):
             most = random.choice((0, 1, 2, 7, 100))
