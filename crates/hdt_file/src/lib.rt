@@ -32,6 +32,7 @@ mod laws;
 mod layout;
 mod opening;
 mod paging;
+mod prefix;
 mod rendering;
 mod search;
 mod term_tables;
