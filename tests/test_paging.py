@@ -57,12 +57,23 @@ def pages_in(words: Sequence[str]) -> Iterator[Page]:
         at = end
 
 
-def page_in(answer: Answer) -> tuple[int, Page]:
-    """What `page` answers of one pattern: the number of matches that are left, and the page behind (0, 0, 0)."""
+def answers_in(answer: Answer, count: int) -> list[tuple[int, Page]]:
+    """What `page` answers of so many patterns: the number of matches left, and the page behind (0, 0, 0), of each."""
     assert answer[0] == "ok", answer
-    ((after, triples),) = pages_in(answer[2:])
-    assert triples[0] == (0, 0, 0), "what was there is gone"
-    return int(answer[1]), (after, triples[1:])
+    found, at = [], 1
+    for _ in range(count):
+        end = at + 3 + 3 * int(answer[at + 2])
+        ((after, triples),) = pages_in(answer[at + 1 : end])
+        assert triples[0] == (0, 0, 0), "what was there is gone"
+        found.append((int(answer[at]), (after, triples[1:])))
+        at = end
+    assert at == len(answer)
+    return found
+
+
+def page_in(answer: Answer) -> tuple[int, Page]:
+    """What `page` answers of one pattern."""
+    return answers_in(answer, 1)[0]
 
 
 def of_many() -> Graph:
@@ -132,19 +143,18 @@ def test_pages_of_many_from_anywhere(probe: Probe, many: Graph) -> None:
     """The large graph: its eight patterns from both ends, past the end, around matches and from random triples."""
     random = Random(52)
     last = len(many.ids)
+    patterns = patterns_of(many)
+    places = {pattern: many.places(pattern) for pattern in patterns}
+    near = {n + by for found in places.values() for n in random.sample(found, min(2, len(found))) for by in (-1, 0, 1)}
+    starts = [0, 1, last - 1, last, last + 1, MAX - 1, MAX, *random.sample(sorted(near - {-1}), 20)]
+    starts += [random.randrange(last) for _ in range(10)]
     probe.on(many.data, "verify")
-    for pattern in patterns_of(many):
-        places = many.places(pattern)
-        near = [
-            max(0, n + by)
-            for n in places[:2] + places[-2:] + random.sample(places, min(3, len(places)))
-            for by in (-1, 0, 1)
-        ]
-        starts = [0, last - 1, last, last + 1, MAX - 1, MAX, *near, *(random.randrange(last) for _ in range(10))]
-        for start in dict.fromkeys(starts):
-            most = random.choice((0, 1, 2, 7, 100))
-            expected = sum(n >= start for n in places), many.page(places, start, most)
-            assert page_in(probe.ask("page", start, most, *pattern)) == expected, (pattern, start, most)
+    for start in dict.fromkeys(starts):
+        most = random.choice((0, 1, 2, 7, 100))
+        answer = probe.ask("page", start, most, *(n for pattern in patterns for n in pattern))
+        for pattern, found in zip(patterns, answers_in(answer, len(patterns))):
+            expected = sum(n >= start for n in places[pattern]), many.page(places[pattern], start, most)
+            assert found == expected, (pattern, start, most)
 
 
 @pytest.mark.parametrize("most", [1, 7, 1_000, 65_536, MAX])
@@ -153,7 +163,7 @@ def test_joined_pages_of_many(probe: Probe, many: Graph, tmp_path: Path, most: i
     file = tmp_path / "many.hdt"
     file.write_bytes(many.data)
     probe.on(many.data, "verify")
-    for pattern in patterns_of(many):
+    for pattern in patterns_of(many)[:8]:
         places = many.places(pattern)
         answer = probe.ask("pages", most, *pattern)
         assert answer[0] == "ok"
