@@ -10,5 +10,4 @@ pub mod Faults
 pub mod ErrorLines
 pub mod CommandLine
 pub mod Status
-pub mod Whole
 pub mod Inside
