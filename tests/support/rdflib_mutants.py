@@ -53,8 +53,6 @@ WRONG = [
           "candidates = [front, front + XSD_STRING]", "candidates = [string]"),
     Wrong("short tags have a case", "_file", "sorted({c.lower(), c.upper()}) for c in tail", "[c] for c in tail"),
     Wrong("long tags have a case", "_file", "string[len(front):].lower() == tag", "string[len(front):] == tag"),
-    Wrong("long tags are in one section", "_file",
-          "else ((1, self.shared), (self.shared + 1, last))", "else ((1, last),)"),
     Wrong("the exact mode isn't", "_file",
           "string.startswith('\"') and not self.exact else (string,)", "string.startswith('\"') else (string,)"),
     Wrong("joins have a wider equality in the exact mode", "_file",
