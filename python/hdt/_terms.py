@@ -19,7 +19,8 @@ _MORE = _BASE + "\u00b7\u0300-\u036f\u203f-\u2040-"
 _UCHAR = r"\\u[0-9A-Fa-f]{4}|\\U[0-9A-Fa-f]{8}"
 _TAG = "[A-Za-z]+(?:-[A-Za-z0-9]+)*"
 
-_IRI = re.compile(f"[A-Za-z][A-Za-z0-9+.-]*:[^{_NOT_IN_IRI}]*")
+_IRI = re.compile(f"[A-Za-z][A-Za-z0-9+.-]*:[^\0{_HALVES}]*")  # of a dictionary
+_STRICT_IRI = re.compile(f"[A-Za-z][A-Za-z0-9+.-]*:[^{_NOT_IN_IRI}]*")  # of N-Triples
 _LABEL = re.compile(f"[{_BASE}](?:[{_MORE}.]*[{_MORE}])?")
 _LANGUAGE = re.compile(_TAG)
 _TEXT = re.compile(f"[^\0{_HALVES}]*")
@@ -33,6 +34,7 @@ _SPELLED = re.compile(
 _ESCAPE = re.compile(r"\\(?:u(.{4})|U(.{8})|(.))")
 _CHARACTERS = {"t": "\t", "b": "\b", "n": "\n", "r": "\r", "f": "\f", '"': '"', "'": "'", "\\": "\\"}
 _ESCAPED = str.maketrans({"\\": "\\\\", '"': '\\"', "\n": "\\n", "\r": "\\r"})
+_ESCAPED_IN_IRI = {code: f"\\u{code:04X}" for code in [*range(0x21), *map(ord, '<>"{}|^`\\')]}
 
 
 def _no_term(text: str) -> ValueError:
@@ -40,8 +42,16 @@ def _no_term(text: str) -> ValueError:
 
 
 def _unescaped(text: str) -> str:
-    """A text without its escapes. Raises ValueError for one of no character."""
+    """A text without its escapes. Raises ValueError or OverflowError for one of no character."""
     return _ESCAPE.sub(lambda it: _CHARACTERS[it[3]] if it[3] else chr(int(it[1] or it[2], 16)), text)
+
+
+def _unescaped_iri(text: str) -> str:
+    """The same of an IRI. Raises ValueError if there are characters then that no IRI of N-Triples has."""
+    iri = _unescaped(text)
+    if not _STRICT_IRI.fullmatch(iri):
+        raise _no_term(text)
+    return iri
 
 
 @dataclass(frozen=True)
@@ -50,8 +60,9 @@ class Term:
 
     `kind` is `"iri"`, `"blank"` or `"literal"`. `lexical` is the IRI, the label without `_:`, or the text of the
     literal, without escapes. `language` and `datatype`, an IRI, are those of a literal; a plain one has neither. They
-    are kept as they are: no case is folded, no number normalized. Raises ValueError if it is no term of N-Triples: an
-    IRI has to be absolute, and no text has U+0000.
+    are kept as they are: no case is folded, no number normalized. Raises ValueError if it is no term: an IRI has to be
+    absolute, a label, a language tag and a datatype those of N-Triples, and no text has U+0000. An IRI that isn't a
+    datatype may have characters that N-Triples excludes, as a space: those of some files do.
 
     >>> hdt.Term("literal", "chat", language="fr").format()
     '"chat"@fr'
@@ -72,7 +83,7 @@ class Term:
         if (self.language, self.datatype) != (None, None):
             if self.kind != "literal" or None not in (self.language, self.datatype):
                 raise ValueError("only a literal has a language or a datatype, and not both")
-            if not _LANGUAGE.fullmatch(self.language or "x") or not _IRI.fullmatch(self.datatype or "x:"):
+            if not _LANGUAGE.fullmatch(self.language or "x") or not _STRICT_IRI.fullmatch(self.datatype or "x:"):
                 raise _no_term(self.language or self.datatype or "")
             if "" in (self.language, self.datatype):
                 raise _no_term("")
@@ -125,8 +136,8 @@ class Term:
             return cls("blank", label)
         try:
             if iri is not None:
-                return cls("iri", _unescaped(iri))
-            kind = None if datatype is None else _unescaped(datatype)
+                return cls("iri", _unescaped_iri(iri))
+            kind = None if datatype is None else _unescaped_iri(datatype)
             return cls("literal", _unescaped(literal), language, None if kind == _XSD_STRING else kind)
         except (ValueError, OverflowError):
             raise _no_term(text) from None
@@ -134,11 +145,12 @@ class Term:
     def format_ntriples(self) -> str:
         """The term as N-Triples, with as few escapes as there may be.
 
+        An IRI with characters that N-Triples excludes gets escapes that other programs, and `build`, refuse.
+
         >>> print(hdt.Term("literal", 'a "quoted" word').format_ntriples())
         "a \\"quoted\\" word"
         """
-        text = self.lexical.translate(_ESCAPED) if self.kind == "literal" else self.lexical
-        return self._put(text, "<", ">")
+        return self._put(self.lexical.translate(_ESCAPED if self.kind == "literal" else _ESCAPED_IN_IRI), "<", ">")
 
     def _put(self, text: str, left: str, right: str) -> str:
         if self.kind == "blank":
