@@ -30,9 +30,9 @@ TERMS = {
     '"a "@en\n"@de': hdt.Term("literal", 'a "@en\n', language="de"),
 }
 NO_STRINGS = [
-    "", "rel", "/a", ":a", "1:a", "u:\0", "u:\ud800", "<u:a>", "_:", "_:.", "_:a.", "_:-", "_: a",
-    "_:\u00d7", "_:a\n", '"', '"x', '"x"@', '"x"@1', '"x"@en-', '"x"@en\n', '"x"^^', '"x"^^<rel>', '"x"^^<>',
-    '"x"^^<u:t', '"x"^^u:t', '"x"^^<u:t>\n', '"\0"', '"\ud800"', '"x" ', '"x"^^<u:a b>',
+    "", "rel", "/a", ":a", "1:a", "u:\0", "u:\ud800", "<u:a>", "_:", "_:.", "_:a.", "_:-", "_: a", "_:\u00d7", "_:a\n",
+    '"', '"x', '"x"@', '"x"@1', '"x"@en-', '"x"@en\n', '"x"^^', '"x"^^<rel>', '"x"^^<>', '"x"^^<u:t', '"x"^^u:t',
+    '"x"^^<u:t>\n', '"\0"', '"\ud800"', '"x" ', '"x"^^<u:a b>',
 ]
 SPELLED = {
     "<http://a/b>": "http://a/b",
@@ -48,10 +48,10 @@ SPELLED = {
     '"x"^^<\\u0075:t>': '"x"^^<u:t>',
 }
 NO_TEXTS = [
-    "", "<rel>", "<u:a", "u:a", "<u:a b>", "<u:\\u0020>", "<u:\\n>", "<u:\\u003e>", "<\\u0072el>", "_:", "_:a.", "_:a b",
-    "_b", '"', '"x', '"\n"', '"\r"', '"\\x"', '"\\u00"', '"\\ud800"', '"\\u0000"', '"\\U00110000"', '"\\Uffffffff"', '"x"@',
-    '"x"@en-', '"x" ', ' "x"', '"x"@ en', '"x"^', '"x"^^u:t', '"x"^^<rel>', '"x"@en^^<u:t>', '"x"x', '"\0"', "<u:\ud800>",
-    '"\ud800"', "_:\ud800", "<u:a>\n", '"x"\n', "_:b\n",
+    "", "<rel>", "<u:a", "u:a", "<u:a b>", "<u:\\u0020>", "<u:\\n>", "<u:\\u003e>", "<\\u0072el>", "_:", "_:a.",
+    "_:a b", "_b", '"', '"x', '"\n"', '"\r"', '"\\x"', '"\\u00"', '"\\ud800"', '"\\u0000"', '"\\U00110000"',
+    '"\\Uffffffff"', '"x"@', '"x"@en-', '"x" ', ' "x"', '"x"@ en', '"x"^', '"x"^^u:t', '"x"^^<rel>', '"x"@en^^<u:t>',
+    '"x"x', '"\0"', "<u:\ud800>", '"\ud800"', "_:\ud800", "<u:a>\n", '"x"\n', "_:b\n",
 ]
 
 
@@ -128,21 +128,21 @@ def test_terms_are_values() -> None:
 
 
 PIECES = st.sampled_from([
-    "u:", "http://a/", "_:", "_", ":", ".", "-", '"', '"', "@", "en", "-GB", "^^<", "^^", "<", ">", "\\", " ", "\n", "\r",
-    "\t", "a", "1", "\u00e9", "\u00b7", "\u00d7", "\u037e", "\u200c", "\u2040", "\ufdd0", "\U0001f600", "\U000f0000", "\x7f",
-    f"^^<{XSD}string>", "{", "|", "`", "e\u0301",
+    "u:", "http://a/", "_:", "_", ":", ".", "-", '"', '"', "@", "en", "-GB", "^^<", "^^", "<", ">", "\\", " ", "\n",
+    "\r", "\t", "a", "1", "\u00e9", "\u00b7", "\u00d7", "\u037e", "\u200c", "\u2040", "\ufdd0", "\U0001f600",
+    "\U000f0000", "\x7f", f"^^<{XSD}string>", "{", "|", "`", "e\u0301",
 ])
 STRINGS = st.lists(PIECES, min_size=1, max_size=6).map("".join) | st.text(max_size=4).filter(lambda it: "\0" not in it)
 ESCAPES = st.sampled_from([
-    "\\n", "\\t", "\\u0041", "\\u0000", "\\ud800", "\\U0001F600", "\\U00110000", "\\u00e9", "\\x", "\\u00", "\\\\", '\\"',
-    "\\u003e", "\\u0020", "\\'",
+    "\\n", "\\t", "\\u0041", "\\u0000", "\\ud800", "\\U0001F600", "\\U00110000", "\\u00e9", "\\x", "\\u00", "\\\\",
+    '\\"', "\\u003e", "\\u0020", "\\'",
 ])
 TEXTS = (
-    st.lists(PIECES | ESCAPES, max_size=5).map(lambda it: "<u:" + "".join(it) + ">")
-    | st.builds(lambda text, tail: '"' + "".join(text) + '"' + tail, st.lists(PIECES | ESCAPES, max_size=5),
+    st.lists(PIECES | ESCAPES, max_size=5).map(lambda it: f"<u:{''.join(it)}>")
+    | st.builds(lambda text, tail: f'"{"".join(text)}"{tail}', st.lists(PIECES | ESCAPES, max_size=5),
                 st.sampled_from(["", "@en", " @en-GB", "^^<u:t>", " ^^ <u:\\u0041>", f"^^<{XSD}string>", "@", "^^<t>"]))
     | st.lists(PIECES | ESCAPES, min_size=1, max_size=5).map("".join)
-    | st.lists(PIECES, max_size=4).map(lambda it: "_:" + "".join(it))
+    | st.lists(PIECES, max_size=4).map(lambda it: f"_:{''.join(it)}")
 )
 
 

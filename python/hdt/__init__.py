@@ -14,7 +14,7 @@ label (`_:b`), a literal with its quotes and without escapes, followed by nothin
 string apart, and makes N-Triples of it and back. `Graph.text` gives N-Triples.
 
 A role is `"subject"`, `"predicate"` or `"object"`; another one raises ValueError. The strings of a role have IDs from
-1, by which triples are found, counted and joined faster than by strings.
+1, by which triples are found and counted, too.
 
 Files of 64 MiB and more are mapped, not read (`open` says more): such a file must stay as it is while a graph of it is
 open or a call looks at it. Exceptions: `Fault` (the file is none), `LineFault` (the text isn't N-Triples), `NoTriples`,
@@ -47,3 +47,7 @@ __all__ = [
     "verify",
 ]
 __version__ = "2.0.0"
+
+for _name in __all__:
+    if _name not in ("Path", "Role"):
+        globals()[_name].__module__ = __name__  # (so they are shown and pickled by their public names)

@@ -65,12 +65,15 @@ def matched(s: Given, p: Given, o: Given) -> list[Any]:
     return pattern_of(tuple(None if term is None else encoded(term) for term in (s, p, o)))
 
 
-def natural(number: int, name: str) -> int:
-    """A number that isn't negative. Raises ValueError, or TypeError if it is no integer."""
-    value = operator.index(number)
-    if value < 0:
-        raise ValueError(f"{name} is negative")
-    return value
+def window(start: int, limit: Optional[int]) -> tuple[int, Optional[int]]:
+    """Where a search begins, and how much it gives at most; None is all.
+
+    Raises ValueError for a negative number, or TypeError for no integer.
+    """
+    first, most = operator.index(start), None if limit is None else operator.index(limit)
+    if first < 0 or (most is not None and most < 0):
+        raise ValueError("start or limit is negative")
+    return first, most
 
 
 def closed() -> ValueError:

@@ -9,11 +9,11 @@ from collections.abc import Iterable, Iterator
 from itertools import chain
 from typing import IO, Any, Optional
 
-from ._calls import Counts, Given, IdTriple, Part, Path, Role, StringTriple, encoded, matched, natural, role_number
+from ._calls import Counts, Given, IdTriple, Part, Path, Role, StringTriple, encoded, matched, role_number, window
 from ._columns import Columns
 from ._files import Identity, data_of
 from ._handle import OpenHandle
-from ._ids import IdArray
+from ._ids import IdArray, rows
 from ._library import library
 
 _PORTION = 4_096  # strings that are looked up at once
@@ -86,7 +86,13 @@ class Graph(OpenHandle):
         super().__init__(data)
 
     def close(self) -> None:
-        """Close it and free its memory. A second call does nothing."""
+        """Close it and free its memory. A second call does nothing.
+
+        >>> graph = hdt.open("graph.hdt")
+        >>> graph.close()
+        >>> graph
+        <hdt.Graph, closed>
+        """
         self._end()
 
     def __enter__(self) -> Graph:
@@ -121,13 +127,23 @@ class Graph(OpenHandle):
 
     @property
     def counts(self) -> Counts:
-        """The counts of the file, as `verify` gives them."""
+        """The counts of the file, as `verify` gives them.
+
+        >>> with hdt.open("graph.hdt") as graph:
+        ...     graph.counts.predicates
+        2
+        """
         self._length()
         return self._counts
 
     @property
     def header(self) -> bytes:
-        """The header of the file, as bytes: N-Triples as a rule, which nobody looked at."""
+        """The header of the file, as bytes: N-Triples as a rule, which nobody looked at.
+
+        >>> with hdt.open("graph.hdt") as graph:
+        ...     graph.header.splitlines()[-1]
+        b'<http://a/> <http://rdfs.org/ns/void#triples> "3" .'
+        """
         return self._put(library.hdt_header) or b""
 
     def count(self, role: Role) -> int:
@@ -241,7 +257,7 @@ class Graph(OpenHandle):
     # ---- searches
 
     def matching(self, s: Given = None, p: Given = None, o: Given = None) -> int:
-        """How many triples `find` gives. It takes at most a walk over them, and for many patterns constant time.
+        """How many triples `find` gives. Raises TypeError. It takes at most a walk over them, and often less.
 
         >>> with hdt.open("graph.hdt") as graph:
         ...     graph.matching(), graph.matching(p="u:p")
@@ -250,7 +266,7 @@ class Graph(OpenHandle):
         return self._matching(matched(s, p, o))
 
     def matching_ids(self, s: Part = None, p: Part = None, o: Part = None) -> int:
-        """How many triples `find_ids` gives for these parts, which are IDs, strings, or any.
+        """How many triples `find_ids` gives for these parts: IDs, strings, or any. Raises TypeError.
 
         >>> with hdt.open("graph.hdt") as graph:
         ...     graph.matching_ids(p=1), graph.matching_ids(1, "u:q"), graph.matching_ids(9)
@@ -281,7 +297,7 @@ class Graph(OpenHandle):
         ([('u:a', 'u:p', 'u:b'), ('u:a', 'u:q', '"x"')], [('u:b', 'u:p', 'u:a')])
         """
         self._length()
-        pages = self._pages(matched(s, p, o), *_window(start, limit))
+        pages = self._pages(matched(s, p, o), *window(start, limit))
         return Columns(self, (s, p, o)).triples(pages)
 
     def __iter__(self) -> Iterator[StringTriple]:
@@ -300,8 +316,8 @@ class Graph(OpenHandle):
         ([(1, 1, 2), (2, 1, 1)], [(2, 1, 1)])
         """
         self._length()
-        pages = self._pages(self._pattern((s, p, o)), *_window(start, limit))
-        return chain.from_iterable(map(_rows, pages))
+        pages = self._pages(self._pattern((s, p, o)), *window(start, limit))
+        return chain.from_iterable(map(rows, pages))
 
     find_numbers = find_ids
 
@@ -316,7 +332,7 @@ class Graph(OpenHandle):
         ...     graph.id_array().column("predicate").tolist()
         [1, 2, 1]
         """
-        return IdArray(self._page_of_all(self._pattern((s, p, o)), *_window(start, limit)))
+        return IdArray(self._page_of_all(self._pattern((s, p, o)), *window(start, limit)))
 
     # ---- text
 
@@ -380,14 +396,3 @@ class Graph(OpenHandle):
         is_text = isinstance(file, io.TextIOBase)
         for piece in self.text_pieces(s, p, o):
             file.write(piece if is_text else piece.encode())
-
-
-def _window(start: int, limit: Optional[int]) -> tuple[int, Optional[int]]:
-    """Where a search begins, and how much it gives at most. Raises ValueError for a negative number."""
-    return natural(start, "start"), None if limit is None else natural(limit, "limit")
-
-
-def _rows(page: Any) -> Iterator[IdTriple]:
-    """The triples of a page."""
-    ids = iter(page)
-    return zip(ids, ids, ids)

@@ -9,6 +9,12 @@ from typing import Any, Union, overload
 from ._calls import IdTriple, Role, role_number
 
 
+def rows(ids: array.array[int]) -> Iterator[IdTriple]:
+    """The triples of an array that has their IDs one after another."""
+    each = iter(ids)
+    return zip(each, each, each)
+
+
 class IdArray(Sequence[IdTriple]):
     """Triples of IDs, 24 bytes each, without an object for each ID. `Graph.id_array` makes it.
 
@@ -56,8 +62,7 @@ class IdArray(Sequence[IdTriple]):
         return s, p, o
 
     def __iter__(self) -> Iterator[IdTriple]:
-        ids = iter(self.array)
-        return zip(ids, ids, ids)
+        return rows(self.array)
 
     def __eq__(self, other: object) -> bool:
         return isinstance(other, IdArray) and self.array == other.array
