@@ -224,9 +224,10 @@ def test_portions(change: dict[str, Any], many: tuple[hdt.Graph, list[Triple]]) 
 def test_kept_strings_have_a_bound(many: tuple[hdt.Graph, list[Triple]]) -> None:
     """A role whose strings take more than is kept is looked up by portions."""
     graph, found = many
-    columns = _columns.Columns(graph, (None, None, None))
+    pattern = graph._pattern(None, None, None)
+    columns = _columns.Columns(graph, (None, None, None), pattern)
     with mock.patch.multiple(_columns, _WHOLE_BYTES=100_000):
-        assert list(columns.triples(graph._pages(graph._pattern((None, None, None)), 0, None))) == found
+        assert list(columns.triples(graph._pages(pattern, 0, None), None)) == found
     assert [it is None for it in columns._whole] == columns._too_large == [True, False, True]
 
 

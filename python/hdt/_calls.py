@@ -20,6 +20,7 @@ Given = Optional[str]
 Part = Union[str, int, None]
 
 ROLES: tuple[Role, Role, Role] = ("subject", "predicate", "object")
+ANY = (False, b"", 0)  # the parameters of a call for any term
 NO_STRING = b"\xff"  # bytes that no string has, as they aren't UTF-8: what has to have them matches nothing
 
 
@@ -52,17 +53,16 @@ def encoded(term: str) -> bytes:
     return term.encode("utf-8", "surrogatepass")
 
 
-def pattern_of(strings: tuple[Optional[bytes], ...]) -> list[Any]:
-    """The parameters of a call for three strings, of which None is any."""
-    parameters: list[Any] = []
-    for string in strings:
-        parameters += [string is not None, string or b"", len(string or b"")]
-    return parameters
-
-
 def matched(s: Given, p: Given, o: Given) -> list[Any]:
     """The parameters of a call for three terms, of which None is any. Raises TypeError for anything but a str."""
-    return pattern_of(tuple(None if term is None else encoded(term) for term in (s, p, o)))
+    parameters: list[Any] = []
+    for term in (s, p, o):
+        if term is None:
+            parameters += ANY
+        else:
+            string = encoded(term)
+            parameters += (True, string, len(string))
+    return parameters
 
 
 def window(start: int, limit: Optional[int]) -> tuple[int, Optional[int]]:

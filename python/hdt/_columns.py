@@ -6,7 +6,7 @@ import array
 from collections.abc import Iterable, Iterator
 from itertools import repeat
 from operator import itemgetter
-from typing import Optional
+from typing import Any, Optional
 
 from ._calls import Given, StringTriple
 from ._handle import OpenHandle
@@ -15,7 +15,8 @@ _FEW = 4  # the first triples of a search, whose strings are looked up one by on
 _LEAST = 4_096  # triples whose strings are looked up at once, or more in large graphs,
 _MOST = 65_536  # and as long as their strings take little memory
 _BYTES = 16 * 1024 * 1024  # of strings, as str counts them; a portion with more is followed by a smaller one
-_WHOLE = 16  # a role is looked up whole if it has at most so many times the strings of a portion,
+_WHOLE = 16  # a role is looked up whole if it has at most so many strings for each triple of a portion,
+_WHOLE_OF_ALL = 4  # so many for each match,
 _WHOLE_BYTES = 64 * 1024 * 1024  # and no more of them than this
 
 
@@ -27,19 +28,21 @@ class Columns:
     once and kept, as a list by ID.
     """
 
-    def __init__(self, graph: OpenHandle, given: tuple[Given, Given, Given]) -> None:
+    def __init__(self, graph: OpenHandle, given: tuple[Given, Given, Given], pattern: list[Any]) -> None:
         counts = graph._counts
-        self._graph = graph
+        self._graph, self._pattern = graph, pattern
+        self._matches: Optional[int] = None  # as soon as they are counted
         self._given = [None if term is None else str.__str__(term) for term in given]
         self._counts = (counts.shared + counts.subjects, counts.predicates, counts.shared + counts.objects)
         self._least = max(_LEAST, sum(counts[1:]) // 64)
         self._whole: list[Optional[list[str]]] = [None, None, None]
         self._too_large = [False, False, False]
+        self._limit: Optional[int] = None
         self._taken = 0  # characters of the strings of this portion
 
-    def triples(self, pages: Iterable[array.array[int]]) -> Iterator[StringTriple]:
-        """The strings of the triples of these pages."""
-        size = _FEW
+    def triples(self, pages: Iterable[array.array[int]], limit: Optional[int]) -> Iterator[StringTriple]:
+        """The strings of the triples of these pages, which are at most so many."""
+        size, self._limit = _FEW, limit
         for page in pages:
             at = 0
             while at < len(page):
@@ -69,8 +72,10 @@ class Columns:
     def _of_role(self, role: int, size: int) -> Optional[list[str]]:
         """The strings of a role, by ID, if it is worth it for a portion of this size."""
         whole, count = self._whole[role], self._counts[role]
-        if whole or self._too_large[role] or count > _WHOLE * size:
+        if whole or self._too_large[role]:
             return whole
+        if count > size and (count > _WHOLE * size or count > _WHOLE_OF_ALL * self._expected()):
+            return None
         whole, taken = [""], 0
         for first in range(1, count + 1, _LEAST):
             strings = self._graph._strings(role, range(first, min(first + _LEAST, count + 1))) or []
@@ -81,3 +86,9 @@ class Columns:
             whole += strings
         self._whole[role] = whole
         return whole
+
+    def _expected(self) -> int:
+        """How many triples there are at most, which is counted once."""
+        if self._matches is None:
+            self._matches = self._graph._matching(self._pattern)
+        return self._matches if self._limit is None else min(self._limit, self._matches)

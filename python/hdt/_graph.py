@@ -96,14 +96,14 @@ class Graph(OpenHandle):
         self._end()
 
     def __enter__(self) -> Graph:
-        self._length()
+        self._check_open()
         return self
 
     def __exit__(self, *_: object) -> None:
         self.close()
 
     def __repr__(self) -> str:
-        if not self._is_open:
+        if not self._handle.state:
             return "<hdt.Graph, closed>"
         name = f": {os.path.basename(self._origin[0])}" if self._origin else ""
         return f"<hdt.Graph of {self._counts.triples:,} triples{name}>"
@@ -115,7 +115,7 @@ class Graph(OpenHandle):
         return self.__copy__()
 
     def __reduce__(self) -> tuple[Any, ...]:
-        self._length()
+        self._check_open()
         if self._origin is None or self._origin[2] is None:
             raise TypeError("a Graph can't be pickled unless `open` opened it from a file that can be opened again")
         return _reopened, self._origin
@@ -123,7 +123,8 @@ class Graph(OpenHandle):
     # ---- counts and the header
 
     def __len__(self) -> int:
-        return self._length()
+        self._check_open()
+        return self._counts.triples
 
     @property
     def counts(self) -> Counts:
@@ -133,7 +134,7 @@ class Graph(OpenHandle):
         ...     graph.counts.predicates
         2
         """
-        self._length()
+        self._check_open()
         return self._counts
 
     @property
@@ -272,7 +273,7 @@ class Graph(OpenHandle):
         ...     graph.matching_ids(p=1), graph.matching_ids(1, "u:q"), graph.matching_ids(9)
         (2, 1, 0)
         """
-        return self._matching(self._pattern((s, p, o)))
+        return self._matching(self._pattern(s, p, o))
 
     def __contains__(self, triple: object) -> bool:
         if not (isinstance(triple, tuple) and len(triple) == 3 and all(isinstance(term, str) for term in triple)):
@@ -296,9 +297,9 @@ class Graph(OpenHandle):
         ...     list(graph.find("u:a")), list(graph.find(limit=1, start=2))
         ([('u:a', 'u:p', 'u:b'), ('u:a', 'u:q', '"x"')], [('u:b', 'u:p', 'u:a')])
         """
-        self._length()
-        pages = self._pages(matched(s, p, o), *window(start, limit))
-        return Columns(self, (s, p, o)).triples(pages)
+        self._check_open()
+        pattern, (first, most) = matched(s, p, o), window(start, limit)
+        return Columns(self, (s, p, o), pattern).triples(self._pages(pattern, first, most), most)
 
     def __iter__(self) -> Iterator[StringTriple]:
         return self.find()
@@ -315,8 +316,8 @@ class Graph(OpenHandle):
         ...     list(graph.find_ids(p="u:p")), list(graph.find_ids(s=2, p=1))
         ([(1, 1, 2), (2, 1, 1)], [(2, 1, 1)])
         """
-        self._length()
-        pages = self._pages(self._pattern((s, p, o)), *window(start, limit))
+        self._check_open()
+        pages = self._pages(self._pattern(s, p, o), *window(start, limit))
         return chain.from_iterable(map(rows, pages))
 
     find_numbers = find_ids
@@ -332,7 +333,7 @@ class Graph(OpenHandle):
         ...     graph.id_array().column("predicate").tolist()
         [1, 2, 1]
         """
-        return IdArray(self._page_of_all(self._pattern((s, p, o)), *window(start, limit)))
+        return IdArray(self._page_of_all(self._pattern(s, p, o), *window(start, limit)))
 
     # ---- text
 
@@ -360,7 +361,7 @@ class Graph(OpenHandle):
         ...     sum(map(len, graph.text_pieces()))
         58
         """
-        self._length()
+        self._check_open()
         pattern = matched(s, p, o)
         return iter([text] if (text := self._text(pattern)) else []) if s is not None else self._pieces(pattern)
 

@@ -6,16 +6,17 @@ import array
 import ctypes
 import operator
 import threading
-from collections.abc import Iterable, Iterator, Sequence
+from collections.abc import Iterable, Iterator
 from typing import Any, Optional
 
 from . import _library
-from ._calls import NO_STRING, ROLES, Part, closed, counts_of, encoded, pattern_of
+from ._calls import ANY, NO_STRING, ROLES, Part, closed, counts_of, encoded
 from ._faults import NotATerm
 from ._library import Handle, Lent, Made, Telling, Verdict, library
 
 _FIRST_BYTES = 256  # room for a string; it grows where one needs more
 _FIRST_MATCHES = 64  # matches of the first page of a search
+_ZERO = array.array("Q", [0])
 
 
 def _cut(text: str, ends: list[int]) -> list[str]:
@@ -50,10 +51,6 @@ class OpenHandle:
             library.hdt_close(self._handle)
             self._lent.give_back()
 
-    @property
-    def _is_open(self) -> bool:
-        return bool(self._handle.state)
-
     def _asked(self, call: Any, *parameters: Any) -> Optional[int]:
         """The answer of a call on this graph; None where there is none."""
         with self._lock:
@@ -83,9 +80,10 @@ class OpenHandle:
                 raise MemoryError
             return None
 
-    def _length(self) -> int:
-        """How many triples there are. Raises ValueError once the graph is closed."""
-        return self._asked(library.hdt_len) or 0
+    def _check_open(self) -> None:
+        """Raises ValueError once the graph is closed."""
+        if not self._handle.state:
+            raise closed()
 
     # ---- strings
 
@@ -116,18 +114,17 @@ class OpenHandle:
 
     # ---- searches
 
-    def _pattern(self, parts: Sequence[Part]) -> list[Any]:
+    def _pattern(self, *parts: Part) -> list[Any]:
         """The parameters of a call for three parts: strings, IDs or any. An ID of no string matches nothing."""
-        strings: list[Optional[bytes]] = []
+        parameters: list[Any] = []
         for role, part in enumerate(parts):
             if part is None:
-                strings.append(None)
-            elif isinstance(part, str):
-                strings.append(encoded(part))
-            else:
-                string = self._string(role, operator.index(part))
-                strings.append(NO_STRING if string is None else string)
-        return pattern_of(tuple(strings))
+                parameters += ANY
+                continue
+            found = encoded(part) if isinstance(part, str) else self._string(role, operator.index(part))
+            string = NO_STRING if found is None else found
+            parameters += (True, string, len(string))
+        return parameters
 
     def _matching(self, pattern: list[Any]) -> int:
         """How many triples match."""
@@ -135,7 +132,7 @@ class OpenHandle:
 
     def _page(self, pattern: list[Any], start: int, room: int) -> array.array[int]:
         """The matches from the one at `start`, at most `room`, three IDs each, one after another."""
-        page = array.array("Q", bytes(24 * (room or 1)))
+        page = _ZERO * (3 * room or 1)
         got = self._asked(library.hdt_find, *pattern, start, page.buffer_info()[0], room) or 0
         del page[3 * got :]
         return page
@@ -146,7 +143,7 @@ class OpenHandle:
         Those before a page are walked over again for it. So each page has four times the matches of the one before, and
         as soon as there are many, they are counted: all of it takes some three times the walk over the matches.
         """
-        left = self._length() - start if limit is None else min(limit, self._length() - start)
+        left = self._counts.triples - start if limit is None else min(limit, self._counts.triples - start)
         room = _FIRST_MATCHES
         while left > 0:
             if room == 64 * _FIRST_MATCHES:
