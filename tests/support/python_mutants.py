@@ -16,10 +16,10 @@ from support.rdflib_mutants import Wrong, first_test_that_sees, judge
 TESTS = [f"tests/test_python{name}.py" for name in ("_calls", "_terms", "_docs", "")]
 
 WRONG = [
-    Wrong("an ID of no string is any", "_handle",
-          "strings.append(NO_STRING if string is None else string)", "strings.append(string)"),
+    Wrong("an ID of no string is a string's", "_handle",
+          "string = NO_STRING if found is None else found", 'string = b"u:a" if found is None else found'),
     Wrong("an ID is looked up as a subject", "_handle",
-          "string = self._string(role, operator.index(part))", "string = self._string(0, operator.index(part))"),
+          "else self._string(role, operator.index(part))", "else self._string(0, operator.index(part))"),
     Wrong("IDs wrap", "_handle", "number if 0 <= number < 2**64 else 0)", "number % 2**64)"),
     Wrong("ends count characters", "_handle",
           'text = str(made.view(), "latin-1")', 'text = str(made.view(), "utf-8")'),
