@@ -313,7 +313,7 @@ def wheel(tree: Path) -> Path:
 
 def test_wheel_has_a_platform(wheel: Path) -> None:
     """The wheel's name has the version and a platform, and no version of Python."""
-    assert re.fullmatch(r"tickmarl_hdt-1\.0\.0-py3-none-(many)?linux\w*_x86_64\.whl", wheel.name)
+    assert re.fullmatch(r"tickmarl_hdt-2\.0\.0-py3-none-(many)?linux\w*_x86_64\.whl", wheel.name)
 
 
 def test_wheel_has_the_library(wheel: Path) -> None:

@@ -628,8 +628,8 @@ def test_block_size_is_an_integer(tmp_path: Path, size: Any) -> None:
 
 @pytest.mark.parametrize("made", [copy.copy, copy.deepcopy, pickle.dumps])
 def test_graph_is_not_copied(made: Callable[[Any], Any]) -> None:
-    """A graph can't be copied or pickled, and stays open."""
-    with hdt.open(THREE) as graph:
+    """A graph of bytes can't be copied or pickled, and stays open."""
+    with hdt.Graph(THREE.read_bytes()) as graph:
         with pytest.raises(TypeError, match="Graph can't be"):
             made(graph)
         assert len(list(graph)) == 3

@@ -17,6 +17,12 @@ class Fault(ValueError):
     """The input is not a valid HDT file.
 
     `reason` is the number of its first error in docs/FORMAT.md, `name` that reason's name, and `place` its byte offset.
+
+    >>> try:
+    ...     hdt.verify("graph.nt")
+    ... except hdt.Fault as fault:
+    ...     print(fault.reason, fault.name, fault.place)
+    4 NotHdt 0
     """
 
     def __init__(self, reason: int, place: int) -> None:
@@ -34,6 +40,12 @@ class LineFault(ValueError):
 
     `reason` is the number of its first error in docs/NTRIPLES.md, `name` that reason's name; `line` and `column` say
     where it is, both from 1. Columns count bytes.
+
+    >>> try:
+    ...     hdt.build("graph.hdt", "other.hdt")
+    ... except hdt.LineFault as fault:
+    ...     print(fault.reason, fault.name, fault.line, fault.column)
+    1 Syntax 1 1
     """
 
     def __init__(self, reason: int, line: int, column: int) -> None:
@@ -48,11 +60,21 @@ class LineFault(ValueError):
 
 
 class NoTriples(ValueError):
-    """A text without triples, of which no file is made."""
+    """A text without triples, of which no file is made.
+
+    >>> hdt.build("/dev/null", "other.hdt")
+    Traceback (most recent call last):
+    hdt.NoTriples: no triples
+    """
 
 
 class NotATerm(ValueError):
-    """A string of a graph that has no form in N-Triples: the one with this `number` in this `role`."""
+    """A string of a graph that has no form in N-Triples: the one with this `number`, its ID, in this `role`.
+
+    >>> error = hdt.NotATerm("object", 3)
+    >>> print(error)
+    object 3 is not a term
+    """
 
     def __init__(self, role: str, number: int) -> None:
         self.role = role

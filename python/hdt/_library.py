@@ -6,6 +6,7 @@ import ctypes
 import ctypes.util
 import os
 import subprocess
+from collections.abc import Callable
 from pathlib import Path
 from typing import Any
 
@@ -134,7 +135,22 @@ def _load() -> Any:
         except AttributeError:
             raise ImportError(f"{candidates[0]} is another library: it has no {name}") from None
         call.argtypes, call.restype = parameters, answer
+    for name, parameters, answer in (("hdt_verify_tight", [*bytes_of, verdict], None),):
+        if hasattr(loaded, name):
+            call = getattr(loaded, name)
+            call.argtypes, call.restype = parameters, answer
+        else:
+            setattr(loaded, name, _lacking(name))
     return loaded
+
+
+def _lacking(name: str) -> Callable[..., Any]:
+    """What stands for a call that an older library doesn't have."""
+
+    def call(*_: object) -> Any:
+        raise NotImplementedError(f"this libhdt is too old: it has no {name}")
+
+    return call
 
 
 class _Buffer(ctypes.Structure):

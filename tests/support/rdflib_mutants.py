@@ -14,6 +14,7 @@ import shutil
 import subprocess
 import sys
 import tempfile
+from collections.abc import Callable, Sequence
 from pathlib import Path
 from typing import NamedTuple, Optional
 
@@ -53,8 +54,6 @@ WRONG = [
           "candidates = [front, front + XSD_STRING]", "candidates = [string]"),
     Wrong("short tags have a case", "_file", "sorted({c.lower(), c.upper()}) for c in tail", "[c] for c in tail"),
     Wrong("long tags have a case", "_file", "string[len(front):].lower() == tag", "string[len(front):] == tag"),
-    Wrong("long tags are in one section", "_file",
-          "else ((1, self.shared), (self.shared + 1, last))", "else ((1, last),)"),
     Wrong("the exact mode isn't", "_file",
           "string.startswith('\"') and not self.exact else (string,)", "string.startswith('\"') else (string,)"),
     Wrong("joins have a wider equality in the exact mode", "_file",
@@ -132,20 +131,20 @@ WRONG = [
 ]
 
 
-def first_test_that_sees(wrong: Wrong) -> Optional[str]:
-    """The first test that fails with a wrong body, or None."""
+def first_test_that_sees(wrong: Wrong, package: str = "python/hdt/rdflib", tests: Sequence[str] = ()) -> Optional[str]:
+    """The first test that fails over a copy with the wrong body in a module of a package, or None."""
     with tempfile.TemporaryDirectory() as folder:
         top = Path(folder)
         for name in ("python", "tests"):
             shutil.copytree(TOP / name, top / name, ignore=shutil.ignore_patterns("__pycache__", ".hypothesis"))
         shutil.copy(TOP / "pytest.ini", top)
         os.symlink(TOP / "samples", top / "samples")
-        module = top / "python/hdt/rdflib" / f"{wrong.module}.py"
+        module = top / package / f"{wrong.module}.py"
         source = module.read_text()
         if wrong.old not in source:
             raise SystemExit(f"{wrong.name}: the module {wrong.module} has no such text")
         module.write_text(source.replace(wrong.old, wrong.new))
-        tests = TESTS[::-1] if wrong.module in ("_plan", "_counts") else TESTS
+        tests = tests or (TESTS[::-1] if wrong.module in ("_plan", "_counts") else TESTS)
         command = [sys.executable, "-B", "-m", "pytest", "-q", "-x", "-p", "no:cacheprovider", *tests]
         try:
             done = subprocess.run(
@@ -156,17 +155,17 @@ def first_test_that_sees(wrong: Wrong) -> Optional[str]:
         return None if not done.returncode else found[1] if found else "(no test)"
 
 
-def main() -> int:
-    """Judge the bodies that are named by number, or all."""
-    chosen = [int(word) for word in sys.argv[1:]] or range(len(WRONG))
+def judge(bodies: Sequence[Wrong], see: Callable[[Wrong], Optional[str]]) -> int:
+    """Judge the bodies that the command line names by number, or all, and return the status."""
+    chosen = [int(word) for word in sys.argv[1:]] or range(len(bodies))
     missed = 0
     for number in chosen:
-        seen = first_test_that_sees(WRONG[number])
+        seen = see(bodies[number])
         missed += seen is None
-        print(f"{number:3} {WRONG[number].name:50} {seen or 'NOT SEEN'}", flush=True)
+        print(f"{number:3} {bodies[number].name:50} {seen or 'NOT SEEN'}", flush=True)
     print(f"{len(chosen) - missed} seen, {missed} not seen")
     return 1 if missed else 0
 
 
 if __name__ == "__main__":
-    sys.exit(main())
+    sys.exit(judge(WRONG, first_test_that_sees))

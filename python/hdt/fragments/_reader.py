@@ -3,7 +3,6 @@
 from __future__ import annotations
 
 import array
-import itertools
 import threading
 from collections import OrderedDict
 from typing import Callable, Generic, Optional, TypeVar
@@ -71,7 +70,7 @@ class Reader:
     def _numbers(self, pattern: Pattern, skip: int, room: int) -> list[tuple[int, int, int]]:
         """Up to `room` matches behind the first `skip` ones."""
         if skip < _NEAR:
-            return list(itertools.islice(self._graph.find_numbers(*pattern), skip, skip + room))
+            return list(self._graph.find_ids(*pattern, limit=room, start=skip))
         block = _BLOCK // room * room or room
         first = skip // block * block
         kept = self._blocks.ask((pattern, first), lambda: self._block(pattern, first, block))
@@ -79,8 +78,7 @@ class Reader:
         return list(zip(numbers[::3], numbers[1::3], numbers[2::3]))
 
     def _block(self, pattern: Pattern, skip: int, room: int) -> array.array[int]:
-        found = itertools.islice(self._graph.find_numbers(*pattern), skip, skip + room)
-        return array.array("Q", itertools.chain.from_iterable(found))
+        return self._graph.id_array(*pattern, limit=room, start=skip).array
 
     def page(self, pattern: Pattern, skip: int, room: int) -> tuple[list[Triple], int]:
         """Up to `room` matching triples behind the first `skip` ones, and how many of them were left out.

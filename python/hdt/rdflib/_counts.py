@@ -66,10 +66,9 @@ def _groups(file: OpenFile, search: Search, places: list[int], triple: list[Any]
         return {(): file.count([search])}
     numbers: Counter[Any] = Counter()
     if places == [1] and search == (None, None, None):
-        for predicate in range(1, file.graph.count("predicate") + 1):
-            numbers[predicate] = file.count([(None, file.graph.string("predicate", predicate), None)])
+        numbers.update({number: count for number, (_, count) in enumerate(file.graph.predicates(), 1)})
     else:
-        numbers.update(map(itemgetter(*places), file.graph.find_numbers(*search)))
+        numbers.update(map(itemgetter(*places), file.graph.find_ids(*search)))
     rows = [(number if len(places) > 1 else (number,), count) for number, count in numbers.items()]
     terms = [_terms(file, place, {row[at] for row, _ in rows}) for at, place in enumerate(places)]
     groups: Groups = {}

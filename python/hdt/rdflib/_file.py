@@ -11,7 +11,7 @@ import hdt
 from hdt.rdflib._terms import XSD_STRING, Kept, Term, string_of, term_of
 
 Strings = tuple[Optional[str], ...]
-Search = tuple[Optional[str], Optional[str], Optional[str]]  # the parameters of `hdt.Graph.find_numbers`
+Search = tuple[Optional[str], Optional[str], Optional[str]]  # the parameters of `hdt.Graph.find_ids`
 T = TypeVar("T")
 
 ROLES: tuple[hdt.Role, ...] = ("subject", "predicate", "object")
@@ -128,28 +128,12 @@ class OpenFile:
         return tuple(it for it in candidates if self.graph.number(ROLES[role], it) is not None)
 
     def _tagged(self, role: int, front: str, tag: str) -> Iterator[str]:
-        """The strings of a role with that front, and behind it the tag in any case.
-
-        The strings of a section ascend, so that those with this front follow each other.
-        """
-        name, last = ROLES[role], self.graph.count(ROLES[role])
-        sections = ((1, last),) if role == 1 else ((1, self.shared), (self.shared + 1, last))
-        for low, high in sections:
-            at = self._first_from(name, low, high + 1, front.encode("utf-8", "surrogatepass"))
-            while at <= high and (string := self.graph.string(name, at)).startswith(front):
+        """The strings of a role with that front, and behind it the tag in any case."""
+        name = ROLES[role]
+        for ids in self.graph.ids_with_prefix(front, name):
+            for string in self.graph.strings(name, ids):
                 if string[len(front):].lower() == tag:
                     yield string
-                at += 1
-
-    def _first_from(self, role: hdt.Role, low: int, high: int, wanted: bytes) -> int:
-        """The first number from `low` whose string isn't less than the wanted one; `high` if there is none."""
-        while low < high:
-            middle = (low + high) // 2
-            if self.graph.string(role, middle).encode() < wanted:
-                low = middle + 1
-            else:
-                high = middle
-        return low
 
     # ---- searches
 
@@ -175,11 +159,11 @@ class OpenFile:
         The terms that are given are in them as they are given. Raises NotATerm.
         """
         if len(searches) == 1:
-            yield from self._found(given, islice(self.graph.find_numbers(*searches[0]), skip, None))
+            yield from self._found(given, self.graph.find_ids(*searches[0], start=skip))
             return
         seen = set()
         for search in searches:
-            for found in self._found(given, self.graph.find_numbers(*search)):
+            for found in self._found(given, self.graph.find_ids(*search)):
                 if found not in seen:
                     seen.add(found)
                     if len(seen) > skip:

@@ -219,7 +219,7 @@ class _Join:
         at_s, at_p, at_o = option.slots
         seen: Optional[set[tuple[int, ...]]] = set() if len(searches) > 1 else None
         for search in searches:
-            for s, p, o in self.file.graph.find_numbers(*search):
+            for s, p, o in self.file.graph.find_ids(*search):
                 node = o if o <= shared else o + more
                 if loop and s != node:
                     continue

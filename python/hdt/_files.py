@@ -1,0 +1,176 @@
+"""Files: how they are read or mapped, verified, built, rewritten and replaced."""
+
+from __future__ import annotations
+
+import errno
+import io
+import mmap
+import operator
+import os
+import secrets
+import stat
+from typing import Any, NamedTuple, Optional
+
+from ._calls import Counts, Path, counts_of, encoded
+from ._library import Lent, Made, Report, Verdict, library
+
+_MAPPED = 64 * 1024 * 1024  # bytes: files of this size and more are mapped
+
+
+class Identity(NamedTuple):
+    """What distinguishes a file from one that replaced it: its inode, its size, and when it was last written to."""
+
+    inode: int
+    size: int
+    modified: int
+
+
+def data_of(path: Path, copy: Optional[bool] = None) -> tuple[Any, Optional[Identity]]:
+    """The bytes of a file, and its identity if it is a regular one.
+
+    It is read if `copy` says so or it can't be mapped, as a pipe or an empty file, else mapped. Where `copy` is None,
+    files under 64 MiB are read. Raises OSError.
+    """
+    with io.open(path, "rb") as file:
+        there = os.fstat(file.fileno())
+        is_regular = stat.S_ISREG(there.st_mode)
+        identity = Identity(there.st_ino, there.st_size, there.st_mtime_ns) if is_regular else None
+        copied = there.st_size < _MAPPED if copy is None else copy
+        if not copied and is_regular and there.st_size:
+            return mmap.mmap(file.fileno(), 0, access=mmap.ACCESS_READ), identity
+        return file.read(), identity
+
+
+def _umask() -> int:
+    """The process's umask, without changing it, as another thread may create a file meanwhile.
+
+    Where the system doesn't say, as without /proc, it is the strictest one.
+    """
+    try:
+        with io.open("/proc/self/status", encoding="ascii", errors="replace") as status:
+            return next((int(line.split()[1], 8) for line in status if line.startswith("Umask:")), 0o077)
+    except OSError:
+        return 0o077
+
+
+def _create_beside(path: str) -> tuple[int, str]:
+    """A new file in the folder of a path, which nobody else can read."""
+    while True:
+        beside = os.path.join(os.path.dirname(path), f"hdt-unfinished-{secrets.token_hex(8)}")
+        try:
+            return os.open(beside, os.O_WRONLY | os.O_CREAT | os.O_EXCL | os.O_CLOEXEC, 0o600), beside
+        except FileExistsError:
+            continue
+
+
+def _replace(path: Path, data: memoryview) -> None:
+    """Replace the file at a path by one with these bytes; a device or a pipe is written to.
+
+    A new file beside it is handed to the disk, gets the permissions of the one that it replaces, and then takes its
+    name. On failure the old file is unchanged.
+    """
+    target = os.path.realpath(os.fsdecode(path))
+    if os.path.islink(target):
+        raise OSError(errno.ELOOP, os.strerror(errno.ELOOP), os.fsdecode(path))
+    replaced = os.stat(target) if os.path.exists(target) else None
+    if replaced and not stat.S_ISREG(replaced.st_mode):
+        with io.open(target, "wb") as there:
+            there.write(data)
+        return
+    mode = stat.S_IMODE(replaced.st_mode) if replaced else 0o666 & ~_umask()
+    descriptor, beside = _create_beside(target)
+    try:
+        with io.open(descriptor, "wb") as file:
+            file.write(data)
+            file.flush()
+            os.fsync(descriptor)
+            os.fchmod(descriptor, mode)
+        os.replace(beside, target)
+    except BaseException:
+        os.unlink(beside)
+        raise
+
+
+def _block_size(size: int) -> int:
+    """A block size as the library takes it, in 32 bits; 0, which it refuses, for one that has no room there."""
+    number = operator.index(size)
+    return number if 0 <= number < 2**32 else 0
+
+
+def _checked(block_size: int) -> int:
+    """A block size that may be taken, so that bad options can only be the base."""
+    number = operator.index(block_size)
+    if not 1 <= number <= 65_535:
+        raise ValueError("the block size isn't 1 to 65535")
+    return number
+
+
+def verify(path: Path, tight: bool = False) -> Counts:
+    """Validate a whole file and return its counts.
+
+    With `tight` it is also an error if a string isn't used by a triple in the role of its section.
+
+    Errors: `Fault` with the first error and its byte offset, MemoryError, OSError; NotImplementedError for `tight` if
+    the library is older than that call. The time is linear in the file.
+
+    >>> hdt.verify("graph.hdt").triples
+    3
+    """
+    verdict = Verdict()
+    call = library.hdt_verify_tight if tight else library.hdt_verify
+    with Lent(data_of(path)[0]) as lent:
+        call(lent.address, lent.size, verdict)
+    return counts_of(verdict)
+
+
+def _are_one(path: Path, other: Path) -> bool:
+    """Whether two paths lead to one regular file."""
+    try:
+        there, here = os.stat(path), os.stat(other)
+    except OSError:
+        return False
+    return stat.S_ISREG(there.st_mode) and os.path.samestat(there, here)
+
+
+def build(nt_path: Path, out_path: Path, base: str = "http://example.org/dataset", block_size: int = 16) -> Counts:
+    """Build the HDT file of an N-Triples file, and return its counts.
+
+    `base` is the absolute IRI, without brackets, that names the file in its header. `block_size` is the number of
+    strings in a block, 1 to 65535. The output is replaced atomically: on an exception it is unchanged.
+
+    Errors: `LineFault` with the first error of the text, `NoTriples`, ValueError for the options or if both paths are
+    one file, TypeError for a block size that is no integer, MemoryError, OSError. The time is that of sorting the
+    strings and the triples; text and file are in memory at once.
+
+    >>> hdt.build("graph.nt", "graph.hdt", base="http://example.org/graph")
+    Counts(triples=3, shared=2, subjects=0, predicates=2, objects=1)
+    """
+    report, name = Report(), encoded(base)
+    if _are_one(nt_path, out_path):
+        raise ValueError("the input and the output are one file")
+    with Made() as made:
+        with Lent(data_of(nt_path)[0]) as lent:
+            library.hdt_build(lent.address, lent.size, name, len(name), _checked(block_size), made, report)
+        counts = counts_of(report)
+        _replace(out_path, made.view())
+    return counts
+
+
+def rewrite(in_path: Path, out_path: Path, block_size: int = 16) -> Counts:
+    """Write the canonical file of a file's triples, with its header and without unused strings; return its counts.
+
+    The output is replaced atomically, as by `build`; both paths may be the same.
+
+    Errors: `Fault` as of `verify`, ValueError for the block size, TypeError if it is no integer, MemoryError, OSError.
+    The time is linear in the file, but for sorting the triples if the order of the IDs changes.
+
+    >>> hdt.rewrite("graph.hdt", "other.hdt", block_size=4) == hdt.verify("other.hdt")
+    True
+    """
+    verdict = Verdict()
+    with Made() as made:
+        with Lent(data_of(in_path)[0]) as lent:
+            library.hdt_rewrite(lent.address, lent.size, _block_size(block_size), made, verdict)
+        counts = counts_of(verdict)
+        _replace(out_path, made.view())
+    return counts

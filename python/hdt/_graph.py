@@ -1,0 +1,399 @@
+"""Open files and their calls."""
+
+from __future__ import annotations
+
+import io
+import operator
+import os
+from collections.abc import Iterable, Iterator
+from itertools import chain
+from typing import IO, Any, Optional
+
+from ._calls import Counts, Given, IdTriple, Part, Path, Role, StringTriple, encoded, matched, role_number, window
+from ._columns import Columns
+from ._files import Identity, data_of
+from ._handle import OpenHandle
+from ._ids import IdArray, rows
+from ._library import library
+
+_PORTION = 4_096  # strings that are looked up at once
+_PIECE = 64 * 1024  # characters of a piece of text, at least
+_AFTER = b"\xff"  # behind a prefix: greater than every string with that prefix
+
+
+def open(path: Path, copy: Optional[bool] = None) -> Graph:
+    """Open a file for searches: use it in a `with` statement, or call `close`.
+
+    The whole file is validated first. A file under 64 MiB is read into memory, and a larger one is mapped, which
+    processes share; `copy=True` reads any, `copy=False` maps any. A mapped file must not change while the graph is
+    open: one that is cut or overwritten in place ends the process by a signal (SIGBUS). To replace a file in use, write
+    a new one and rename it, as `build` does.
+
+    Errors: `Fault` with the first error and its byte offset, MemoryError, OSError. The time is linear in the file, and
+    so is the memory for the indexes.
+
+    >>> with hdt.open("graph.hdt") as graph:
+    ...     print(len(graph), graph.count("subject"))
+    3 2
+    """
+    data, identity = data_of(path, copy)
+    graph = Graph(data)
+    graph._origin = os.path.abspath(os.fsdecode(path)), copy, identity
+    return graph
+
+
+def _reopened(path: str, copy: Optional[bool], identity: Identity) -> Graph:
+    """The graph of a file that was open when it was pickled. Raises ValueError if the path leads to another one."""
+    data, found = data_of(path, copy)
+    if found != identity:
+        raise ValueError(f"{path} isn't the file that it was when the graph was pickled")
+    graph = Graph(data)
+    graph._origin = path, copy, identity
+    return graph
+
+
+class Graph(OpenHandle):
+    """An open file. Threads may share one: it answers one call at a time.
+
+    Its length is the number of its triples; iterating gives them as `find` does. `(s, p, o) in graph` looks for one.
+    A pattern is three parts, of which None is any: strings, and in calls on IDs also the IDs of strings. Once it is
+    closed, every call but `close` raises ValueError.
+
+    A graph can't be copied. One that `open` made is pickled as its path and options: it opens the file again, and
+    raises ValueError there if the path leads to another file by then, or the file was written to.
+
+    >>> with hdt.open("graph.hdt") as graph:
+    ...     print(graph, ("u:a", "u:p", "u:b") in graph)
+    ...     for subject, predicate, object in graph:
+    ...         print(subject, predicate, object)
+    <hdt.Graph of 3 triples: graph.hdt> True
+    u:a u:p u:b
+    u:a u:q "x"
+    u:b u:p u:a
+    """
+
+    _origin: Optional[tuple[str, Optional[bool], Optional[Identity]]] = None
+
+    def __init__(self, data: Any) -> None:
+        """Open the bytes of a file: any object with the buffer protocol, as `bytes`. They are borrowed, not copied.
+
+        They must not change while the graph is open. Errors: those of `open`, TypeError.
+
+        >>> import pathlib
+        >>> len(hdt.Graph(pathlib.Path("graph.hdt").read_bytes()))
+        3
+        """
+        super().__init__(data)
+
+    def close(self) -> None:
+        """Close it and free its memory. A second call does nothing.
+
+        >>> graph = hdt.open("graph.hdt")
+        >>> graph.close()
+        >>> graph
+        <hdt.Graph, closed>
+        """
+        self._end()
+
+    def __enter__(self) -> Graph:
+        self._check_open()
+        return self
+
+    def __exit__(self, *_: object) -> None:
+        self.close()
+
+    def __repr__(self) -> str:
+        if not self._handle.state:
+            return "<hdt.Graph, closed>"
+        name = f": {os.path.basename(self._origin[0])}" if self._origin else ""
+        return f"<hdt.Graph of {self._counts.triples:,} triples{name}>"
+
+    def __copy__(self) -> Graph:
+        raise TypeError("a Graph can't be copied: threads may share it, or the file be opened again")
+
+    def __deepcopy__(self, memo: object) -> Graph:
+        return self.__copy__()
+
+    def __reduce__(self) -> tuple[Any, ...]:
+        self._check_open()
+        if self._origin is None or self._origin[2] is None:
+            raise TypeError("a Graph can't be pickled unless `open` opened it from a file that can be opened again")
+        return _reopened, self._origin
+
+    # ---- counts and the header
+
+    def __len__(self) -> int:
+        self._check_open()
+        return self._counts.triples
+
+    @property
+    def counts(self) -> Counts:
+        """The counts of the file, as `verify` gives them.
+
+        >>> with hdt.open("graph.hdt") as graph:
+        ...     graph.counts.predicates
+        2
+        """
+        self._check_open()
+        return self._counts
+
+    @property
+    def header(self) -> bytes:
+        """The header of the file, as bytes: N-Triples as a rule, which nobody looked at.
+
+        >>> with hdt.open("graph.hdt") as graph:
+        ...     graph.header.splitlines()[-1]
+        b'<http://a/> <http://rdfs.org/ns/void#triples> "3" .'
+        """
+        return self._put(library.hdt_header) or b""
+
+    def count(self, role: Role) -> int:
+        """How many strings a role has; their IDs are 1 to that. Constant time. Raises ValueError for another word.
+
+        >>> with hdt.open("graph.hdt") as graph:
+        ...     graph.count("object")
+        3
+        """
+        return self._asked(library.hdt_count, role_number(role)) or 0
+
+    # ---- strings and their IDs
+
+    def number(self, role: Role, term: str) -> Optional[int]:
+        """The ID of a term, a dictionary string, in a role; None if the role doesn't have it.
+
+        Errors: ValueError for the role, TypeError. It takes a binary search and the strings of a block.
+
+        >>> with hdt.open("graph.hdt") as graph:
+        ...     graph.number("object", '"x"'), graph.number("object", "u:none")
+        (3, None)
+        """
+        string = encoded(term)
+        return self._number(role_number(role), string)
+
+    def string(self, role: Role, n: int) -> str:
+        """The string with ID n in a role.
+
+        Errors: IndexError if n isn't 1 to `count(role)`, ValueError for the role, TypeError. It decodes a block of
+        strings; `strings` is faster for many.
+
+        >>> with hdt.open("graph.hdt") as graph:
+        ...     graph.string("object", 3)
+        '"x"'
+        """
+        string = self._string(role_number(role), operator.index(n))
+        if string is None:
+            raise IndexError(f"there is no {role} {n}")
+        return string.decode()
+
+    def strings(self, role: Role, ids: Iterable[int]) -> list[str]:
+        """The strings with these IDs in a role, in their order.
+
+        Errors: IndexError if one of them isn't 1 to `count(role)`, ValueError for the role, TypeError. It is one call
+        of the library, which decodes each block of strings once if the IDs ascend: so sort many of them.
+
+        >>> with hdt.open("graph.hdt") as graph:
+        ...     graph.strings("object", [1, 3]), graph.strings("subject", range(1, 3))
+        (['u:a', '"x"'], ['u:a', 'u:b'])
+        """
+        place = role_number(role)
+        numbers = ids if isinstance(ids, (list, range)) else list(ids)
+        strings = self._strings(place, numbers)
+        if strings is None:
+            last = self.count(role)
+            raise IndexError(f"there is no {role} {next(n for n in numbers if not 1 <= n <= last)}")
+        return strings
+
+    def terms(self, role: Role) -> Iterator[str]:
+        """Iterate over all strings of a role, in the order of their IDs. Raises ValueError for another word.
+
+        They are looked up in portions of 4,096, so that the time is linear in the strings.
+
+        >>> with hdt.open("graph.hdt") as graph:
+        ...     list(graph.terms("object"))
+        ['u:a', 'u:b', '"x"']
+        """
+        portions = range(1, self.count(role) + 1, _PORTION)
+        ids = (range(first, min(first + _PORTION, portions.stop)) for first in portions)
+        return chain.from_iterable(self._strings(role_number(role), portion) or [] for portion in ids)
+
+    def ids_with_prefix(self, prefix: str, role: Role) -> list[range]:
+        """The IDs of the strings of a role that begin with a prefix, as ranges: none, one or two, none empty.
+
+        A role has two sections, each with ascending strings: first what is a subject and an object, then what is only
+        one of them. Errors: ValueError for the role, TypeError. It looks up a string some 4 log2(count(role)) times.
+
+        >>> with hdt.open("graph.hdt") as graph:
+        ...     graph.ids_with_prefix("u:", "object"), graph.ids_with_prefix('"', "object")
+        ([range(1, 3)], [range(3, 4)])
+        """
+        wanted, place, end = encoded(prefix), role_number(role), self.count(role) + 1
+        middle = 1 if role == "predicate" else self._counts.shared + 1
+        found = (
+            range(self._first_from(place, low, high, wanted), self._first_from(place, low, high, wanted + _AFTER))
+            for low, high in ((1, middle), (middle, end))
+        )
+        return [ids for ids in found if ids]
+
+    def _first_from(self, role: int, low: int, high: int, wanted: bytes) -> int:
+        """The first ID of these of a section whose string isn't less than the wanted one; else `high`."""
+        while low < high:
+            middle = (low + high) // 2
+            if (self._string(role, middle) or b"") < wanted:
+                low = middle + 1
+            else:
+                high = middle
+        return low
+
+    def predicates(self) -> Iterator[tuple[str, int]]:
+        """Iterate over the predicates in the order of their IDs, each with the number of its triples.
+
+        The triples of a predicate are counted when it comes, in time that is linear in them.
+
+        >>> with hdt.open("graph.hdt") as graph:
+        ...     dict(graph.predicates())
+        {'u:p': 2, 'u:q': 1}
+        """
+        return ((term, self.matching(p=term)) for term in self.terms("predicate"))
+
+    # ---- searches
+
+    def matching(self, s: Given = None, p: Given = None, o: Given = None) -> int:
+        """How many triples `find` gives. Raises TypeError. It takes at most a walk over them, and often less.
+
+        >>> with hdt.open("graph.hdt") as graph:
+        ...     graph.matching(), graph.matching(p="u:p")
+        (3, 2)
+        """
+        return self._matching(matched(s, p, o))
+
+    def matching_ids(self, s: Part = None, p: Part = None, o: Part = None) -> int:
+        """How many triples `find_ids` gives for these parts: IDs, strings, or any. Raises TypeError.
+
+        >>> with hdt.open("graph.hdt") as graph:
+        ...     graph.matching_ids(p=1), graph.matching_ids(1, "u:q"), graph.matching_ids(9)
+        (2, 1, 0)
+        """
+        return self._matching(self._pattern(s, p, o))
+
+    def __contains__(self, triple: object) -> bool:
+        if not (isinstance(triple, tuple) and len(triple) == 3 and all(isinstance(term, str) for term in triple)):
+            return False
+        return self.matching(*triple) > 0
+
+    def find(
+        self, s: Given = None, p: Given = None, o: Given = None, *, limit: Optional[int] = None, start: int = 0
+    ) -> Iterator[StringTriple]:
+        """Iterate over the triples that have each given term, in the order of the file, each once.
+
+        Terms are dictionary strings, both the given ones and those of the triples; None matches any. The first `start`
+        matches are left out, and at most `limit` are given. Errors: TypeError, ValueError for a negative number.
+
+        The time is linear in the triples, those left out and the graph's strings; the first triples come at once. It
+        keeps up to 96 bytes for each triple that it has given, the strings of a portion of the triples (of up to
+        65,536, fewer if strings are long, or of a 64th as many as the graph has strings), and those of roles with few
+        strings (up to a million that take 64 MiB).
+
+        >>> with hdt.open("graph.hdt") as graph:
+        ...     list(graph.find("u:a")), list(graph.find(limit=1, start=2))
+        ([('u:a', 'u:p', 'u:b'), ('u:a', 'u:q', '"x"')], [('u:b', 'u:p', 'u:a')])
+        """
+        self._check_open()
+        pattern, (first, most) = matched(s, p, o), window(start, limit)
+        return Columns(self, (s, p, o), pattern).triples(self._pages(pattern, first, most), most)
+
+    def __iter__(self) -> Iterator[StringTriple]:
+        return self.find()
+
+    def find_ids(
+        self, s: Part = None, p: Part = None, o: Part = None, *, limit: Optional[int] = None, start: int = 0
+    ) -> Iterator[IdTriple]:
+        """Iterate over the triples of `find` as the IDs of their strings. Parts are strings, IDs, or any.
+
+        An ID that no string of the role has matches nothing. Errors: those of `find`. The time is linear in the triples
+        and those left out. It keeps up to 96 bytes for each triple that it has given; `id_array` keeps 24.
+
+        >>> with hdt.open("graph.hdt") as graph:
+        ...     list(graph.find_ids(p="u:p")), list(graph.find_ids(s=2, p=1))
+        ([(1, 1, 2), (2, 1, 1)], [(2, 1, 1)])
+        """
+        self._check_open()
+        pages = self._pages(self._pattern(s, p, o), *window(start, limit))
+        return chain.from_iterable(map(rows, pages))
+
+    find_numbers = find_ids
+
+    def id_array(
+        self, s: Part = None, p: Part = None, o: Part = None, *, limit: Optional[int] = None, start: int = 0
+    ) -> IdArray:
+        """The triples of `find_ids` in one array, which numpy takes without a copy.
+
+        Errors: those of `find_ids`, MemoryError. It counts the matches, then writes them: 24 bytes each.
+
+        >>> with hdt.open("graph.hdt") as graph:
+        ...     graph.id_array().column("predicate").tolist()
+        [1, 2, 1]
+        """
+        return IdArray(self._page_of_all(self._pattern(s, p, o), *window(start, limit)))
+
+    # ---- text
+
+    def text(self, s: Given = None, p: Given = None, o: Given = None) -> str:
+        """Return the triples of `find` as N-Triples, one a line.
+
+        Errors: `NotATerm` if a string has no form in N-Triples, which only files of other programs have; TypeError,
+        MemoryError. `text_pieces` and `write_text` keep little in memory.
+
+        >>> with hdt.open("graph.hdt") as graph:
+        ...     print(graph.text("u:a"), end="")
+        <u:a> <u:p> <u:b> .
+        <u:a> <u:q> "x" .
+        """
+        return self._text(matched(s, p, o))
+
+    def text_pieces(self, s: Given = None, p: Given = None, o: Given = None) -> Iterator[str]:
+        """Iterate over the text of `text` in pieces of whole lines, none of them empty.
+
+        A piece has 64 KiB or the lines of one subject, whatever is more. `NotATerm` comes after the pieces of the
+        subjects before. Errors else and memory: those of `find_ids`; the time is that of `text` and two look-ups of
+        each subject.
+
+        >>> with hdt.open("graph.hdt") as graph:
+        ...     sum(map(len, graph.text_pieces()))
+        58
+        """
+        self._check_open()
+        pattern = matched(s, p, o)
+        return iter([text] if (text := self._text(pattern)) else []) if s is not None else self._pieces(pattern)
+
+    def _pieces(self, pattern: list[Any]) -> Iterator[str]:
+        """The text of the matches of a pattern of any subject, of whole subjects."""
+        last, piece, size = 0, list[str](), 0
+        for page in self._pages(pattern, 0, None):
+            for subject in dict.fromkeys(page[::3]):
+                if subject == last:
+                    continue
+                last, name = subject, self._string(0, subject) or b""
+                text = self._text([True, name, len(name), *pattern[3:]])
+                piece.append(text)
+                size += len(text)
+                if size >= _PIECE:
+                    yield "".join(piece)
+                    piece, size = [], 0
+        if piece:
+            yield "".join(piece)
+
+    def write_text(self, file: IO[Any], s: Given = None, p: Given = None, o: Given = None) -> None:
+        """Write the text of `text` to a file that is open for bytes, as UTF-8, or for text, piece by piece.
+
+        Errors: those of `text_pieces`, and what the file raises.
+
+        >>> import io
+        >>> written = io.BytesIO()
+        >>> with hdt.open("graph.hdt") as graph:
+        ...     graph.write_text(written, o='"x"')
+        >>> written.getvalue()
+        b'<u:a> <u:q> "x" .\\n'
+        """
+        is_text = isinstance(file, io.TextIOBase)
+        for piece in self.text_pieces(s, p, o):
+            file.write(piece if is_text else piece.encode())

@@ -1,0 +1,109 @@
+"""The documents of the Python package: the examples of docstrings are run, and each call has one and is on the page."""
+
+from __future__ import annotations
+
+import doctest
+import inspect
+import pydoc
+import re
+import shutil
+from pathlib import Path
+from typing import Any
+
+import pytest
+
+from support.built import SAMPLES, TOP
+from support.python_package import PACKAGE, faults, hdt
+from test_documents import blocks
+
+PAGE = "docs/PYTHON.md"
+
+
+@pytest.fixture
+def folder(tmp_path: Path, monkeypatch: pytest.MonkeyPatch) -> Path:
+    """The folder that examples run in: it has graph.nt and graph.hdt."""
+    shutil.copy(SAMPLES / "three.nt", tmp_path / "graph.nt")
+    shutil.copy(SAMPLES / "three.hdt", tmp_path / "graph.hdt")
+    monkeypatch.chdir(tmp_path)
+    return tmp_path
+
+
+def public() -> dict[str, Any]:
+    """What the package exports, and the public methods and properties of its classes, by their names."""
+    found = {name: getattr(hdt, name) for name in hdt.__all__ if name not in ("Path", "Role")}
+    for name, kind in list(found.items()):
+        if inspect.isclass(kind):
+            own = [key for key in vars(kind) if not key.startswith("_")]
+            found.update({
+                f"{name}.{key}": getattr(kind, key)
+                for key in own
+                if callable(getattr(kind, key)) or isinstance(getattr(kind, key), property)
+            })
+    return found
+
+
+EXAMPLES = {
+    test.name: test
+    for name in hdt.__all__
+    for test in doctest.DocTestFinder().find(getattr(hdt, name), name, module=False, globs={"hdt": hdt})
+    if test.examples
+}
+
+
+@pytest.mark.parametrize("name", EXAMPLES)
+def test_examples(name: str, folder: Path) -> None:
+    """The examples of a docstring give what they say."""
+    told: list[str] = []
+    result = doctest.DocTestRunner(verbose=False).run(EXAMPLES[name], out=told.append)
+    assert (result.failed, "".join(told)) == (0, "")
+    assert result.attempted > 0
+
+
+def test_each_call_has_an_example() -> None:
+    """All that is exported has a docstring with an example."""
+    lacking = [name for name in public() if name not in EXAMPLES]
+    assert lacking == ["Graph.find_numbers"]
+    assert hdt.Graph.find_numbers is hdt.Graph.find_ids
+    assert len(public()) > 35
+
+
+def test_calls_name_their_errors() -> None:
+    """A call that can be given something wrong says what it raises."""
+    quiet = {"Graph.close", "Graph.predicates", "Term.format", "Term.format_ntriples"}
+    calls = {name: it for name, it in public().items() if inspect.isroutine(it) and inspect.signature(it).parameters}
+    lacking = [name for name, it in calls.items() if not re.search("Errors|Raises", inspect.getdoc(it) or "")]
+    assert set(lacking) <= quiet, lacking
+
+
+def test_annotations() -> None:
+    """Each parameter and each result has a type."""
+    for name, it in public().items():
+        if inspect.isroutine(it):
+            signature = inspect.signature(it)
+            types = [one.annotation for key, one in signature.parameters.items() if key not in ("self", "cls")]
+            assert inspect.Signature.empty not in [*types, signature.return_annotation], name
+
+
+def test_help() -> None:
+    """`help(hdt)` names what is exported by its public name, in lines that fit."""
+    text = pydoc.plain(pydoc.render_doc(hdt))
+    assert text.startswith("Python Library Documentation: package hdt")
+    for name in hdt.__all__:
+        assert re.search(rf"\b{name}\b", text), name
+    assert re.search(r"^    class Graph\(", text, re.M) and "hdt._graph" not in text and "hdt._calls" not in text
+    assert re.search(r"^VERSION\n    2\.0\.0$", text, re.M)
+
+
+def test_modules_are_short() -> None:
+    """No module of the package has more than 400 lines."""
+    sizes = {path: len(path.read_text().splitlines()) for path in PACKAGE.rglob("*.py")}
+    assert {path: size for path, size in sizes.items() if size > 400} == {}
+
+
+def test_page_has_its_blocks() -> None:
+    """docs/PYTHON.md has its programs, which tests/test_documents.py runs, and names every call and every error."""
+    text = (TOP / PAGE).read_text()
+    assert len(blocks(PAGE, "python")) >= 7
+    missing = [name for name in public() if not re.search(rf"\b{name.rpartition('.')[2]}\b", text)]
+    assert missing == []
+    assert faults.REASONS and "SIGBUS" in text and "tickmarl_hdt" in text
