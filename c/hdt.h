@@ -13,7 +13,8 @@
  *   they point to is the library's until hdt_close or hdt_free.
  * - What is put into room of yours (out, room) is yours; of `out` nothing is changed past what the answer tells.
  *
- * What you owe, as nothing checks it: no pointer is null, even for zero bytes or in a part of a pattern that is not a string (use any address: `at` of an hdt_bytes without
+ * What you owe, as nothing checks it: no pointer is null, even for zero bytes or in a part of a pattern that is not a
+ * string (use any address: `at` of an hdt_bytes without
  * bytes is null, and so may be data() of an empty C++ vector); room is as large as you say, and aligned for its type;
  * parameters don't overlap, but for two that are only read, so the bytes that are given are not those of `out`; no call is
  * made in a signal handler, or in the forked child of a process with threads.
@@ -32,8 +33,8 @@
 extern "C" {
 #endif
 
-/* The version of this header, 1.1. A greater minor version has more calls; those that are there stay as they are as long as
- * the library is libhdt.so.1. */
+/* The version of this header, 1.1. A greater minor version has more calls; those that are there stay as they are as
+ * long as the library is libhdt.so.1. */
 #define HDT_VERSION_MAJOR 1
 #define HDT_VERSION_MINOR 1
 
@@ -41,7 +42,8 @@ extern "C" {
  * fault (docs/NTRIPLES.md). And these: */
 enum {
     HDT_DONE = 0,
-    HDT_NOT_A_TERM = 250,   /* hdt_text: a string of the graph is no term of N-Triples in its role; hdt_term: no term has the string */
+    HDT_NOT_A_TERM = 250,   /* hdt_text: a string of the graph is no term of N-Triples in its role; hdt_term: no term
+                             * has the string */
     HDT_NO_TRIPLES = 251,   /* hdt_build: the text is a document without triples, of which no file is made */
     HDT_BAD_OPTIONS = 252,  /* hdt_build, hdt_rewrite: the block size isn't 1 to 65535, or the base no absolute IRI */
     HDT_IS_CLOSED = 253,    /* hdt_text, hdt_pattern_text: the graph isn't open */
@@ -115,11 +117,12 @@ typedef struct {
     uint32_t kind;         /* HDT_ANY, HDT_ID or HDT_STRING. With any other number the pattern matches nothing. */
     uint64_t id;           /* HDT_ID: the ID in the role, from 1. With one that the role doesn't have, the pattern matches
                             * nothing. With another kind it isn't read. */
-    const uint8_t *string; /* HDT_STRING: the dictionary string, as of hdt_number. With another kind it isn't read, but it */
-    size_t len;            /* may not be null, and has as many bytes as `len` says: HDT_PATTERN_INIT makes it so. */
+    const uint8_t *string; /* HDT_STRING: the dictionary string, as of hdt_number. With another kind it isn't read, but */
+    size_t len;            /* may not be null, and has `len` bytes: HDT_PATTERN_INIT makes it so. */
 } hdt_part;
 
-/* A triple pattern. Set the parts that you want after `hdt_pattern pattern = HDT_PATTERN_INIT;`, which gives any in each role. */
+/* A triple pattern. Set the parts that you want after `hdt_pattern pattern = HDT_PATTERN_INIT;`, which gives any in
+ * each role. */
 typedef struct {
     hdt_part s, p, o; /* subject, predicate, object */
 } hdt_pattern;
@@ -139,8 +142,8 @@ enum {
 /* A term, as parts of its dictionary string. Offsets and lengths are in bytes, offsets from 0. */
 typedef struct {
     uint32_t kind;       /* HDT_IRI to HDT_TYPED; HDT_NO_TERM if there is no term */
-    uint64_t at;         /* where the IRI, the label (after `_:`) or the text (after the quote) begins; 0 if there is no term */
-    uint64_t len;        /* its length; 0 if there is no term */
+    uint64_t at;         /* where the IRI, the label (after `_:`) or the text (after the quote) begins; else 0 */
+    uint64_t len;        /* its length; else 0 */
     uint64_t suffix_at;  /* HDT_TAGGED, HDT_TYPED: where the language tag or the IRI of the datatype begins; else 0 */
     uint64_t suffix_len; /* its length; else 0 */
 } hdt_term_parts;
@@ -159,10 +162,10 @@ typedef struct {
  * proportion to the bytes. */
 void hdt_verify(const uint8_t *bytes, size_t len, hdt_verdict *verdict);
 
-/* Verifies a file as hdt_verify does, but a string of the dictionary that no triple uses in the role of its section is an error
- * too: a subject, predicate or object of no triple, or a shared string that is not both a subject and an object. A file with no
- * other error has HDT_FILE_UNUSED at the byte offset of the first such string. HDT_OUT_OF_MEMORY. Time is linear in the bytes,
- * memory in the triples and strings; all of it is freed. */
+/* Verifies a file as hdt_verify does, but a string of the dictionary that no triple uses in the role of its section is
+ * an error too: a subject, predicate or object of no triple, or a shared string that is not both a subject and an
+ * object. A file with no other error has HDT_FILE_UNUSED at the byte offset of the first such string.
+ * HDT_OUT_OF_MEMORY. Time is linear in the bytes, memory in the triples and strings; all of it is freed. */
 void hdt_verify_tight(const uint8_t *bytes, size_t len, hdt_verdict *verdict);
 
 /* Opens a file: the verdict of hdt_verify. With HDT_DONE, and with nothing else, the graph is open and holds what the bytes
@@ -220,17 +223,18 @@ uint64_t hdt_matching(hdt_graph *graph, uint32_t has_s, const uint8_t *s, size_t
 void hdt_text(hdt_graph *graph, uint32_t has_s, const uint8_t *s, size_t s_len, uint32_t has_p, const uint8_t *p, size_t p_len,
               uint32_t has_o, const uint8_t *o, size_t o_len, hdt_bytes *out, hdt_telling *telling);
 
-/* hdt_find, hdt_matching and hdt_text for a pattern whose parts are strings, IDs or any. A part that is an ID isn't looked up, so
- * a join goes over the IDs that a call before has put into its `out`. All else is as described there: a string that its role
- * doesn't have matches nothing. HDT_CLOSED; of hdt_pattern_text HDT_IS_CLOSED, HDT_NOT_A_TERM and HDT_OUT_OF_MEMORY. */
+/* hdt_find, hdt_matching and hdt_text for a pattern whose parts are strings, IDs or any. A part that is an ID isn't
+ * looked up, so a join goes over the IDs that a call before has put into its `out`. All else is as described there: a
+ * string that its role doesn't have matches nothing. HDT_CLOSED; of hdt_pattern_text HDT_IS_CLOSED, HDT_NOT_A_TERM and
+ * HDT_OUT_OF_MEMORY. */
 uint64_t hdt_pattern_find(hdt_graph *graph, const hdt_pattern *pattern, uint64_t skip, uint64_t (*out)[3], size_t room);
 uint64_t hdt_pattern_matching(hdt_graph *graph, const hdt_pattern *pattern);
 void hdt_pattern_text(hdt_graph *graph, const hdt_pattern *pattern, hdt_bytes *out, hdt_telling *telling);
 
-/* The number of triples of each predicate: counts[0] is that of the predicate with ID 1, and so on. Writes the counts of the
- * first `room` predicates at most, and returns how many predicates there are, as hdt_count does. HDT_CLOSED; then counts is
- * unchanged. Each count costs what hdt_pattern_matching does for that predicate; all of them together take time in proportion
- * to the pairs of a subject and a predicate, times the logarithm of their number. */
+/* The number of triples of each predicate: counts[0] is that of the predicate with ID 1, and so on. Writes the counts
+ * of the first `room` predicates at most, and returns how many predicates there are, as hdt_count does. HDT_CLOSED;
+ * then counts is unchanged. Each count costs what hdt_pattern_matching does for that predicate; all of them together
+ * take time in proportion to the pairs of a subject and a predicate, times the logarithm of their number. */
 uint64_t hdt_predicates(hdt_graph *graph, uint64_t *counts, size_t room);
 
 /* Builds the canonical file of the graph of N-Triples, in blocks of so many strings, 1 to 65535 (16 is usual). The base is
@@ -246,26 +250,28 @@ void hdt_build(const uint8_t *text, size_t len, const uint8_t *base, size_t base
  * HDT_DONE out has it, else nothing. */
 void hdt_rewrite(const uint8_t *bytes, size_t len, uint32_t block_size, hdt_bytes *out, hdt_verdict *verdict);
 
-/* The term with a dictionary string, as hdt_string and hdt_strings give it: its kind, and which bytes of the string are its text
- * and its language tag or datatype. Nothing in them is escaped. Returns HDT_DONE; or HDT_NOT_A_TERM if no term has this string, as
- * a relative IRI, or HDT_OUT_OF_MEMORY; then all of `parts` is 0. Linear time; memory of that size, which is freed. */
+/* The term with a dictionary string, as hdt_string and hdt_strings give it: its kind, and which bytes of the string are
+ * its text and its language tag or datatype. Nothing in them is escaped. Returns HDT_DONE; or HDT_NOT_A_TERM if no term
+ * has this string, as a relative IRI, or HDT_OUT_OF_MEMORY; then all of `parts` is 0. An IRI may have characters that
+ * N-Triples excludes. Linear time; memory of that size, which is freed. */
 uint32_t hdt_term(const uint8_t *string, size_t len, hdt_term_parts *parts);
 
-/* The dictionary string of a term: the inverse of hdt_term. The text is the IRI, the label without `_:`, or the text of a literal;
- * the suffix is the language tag without `@` or the IRI of the datatype without `<` and `>`, and is not read with another kind (but
- * may not be null). Writes the first bytes of the string to out as hdt_string does, and returns its length. HDT_ABSENT if there is no
- * such term: the kind is none of HDT_IRI to HDT_TYPED, or a text is not of that kind, as a relative IRI or a tag with a space;
- * HDT_NO_MEMORY; then out is unchanged. Linear time; memory of that size, which is freed. */
-uint64_t hdt_term_string(uint32_t kind, const uint8_t *text, size_t len, const uint8_t *suffix, size_t suffix_len, uint8_t *out,
-                         size_t room);
+/* The dictionary string of a term: the inverse of hdt_term. The text is the IRI, the label without `_:`, or the text of
+ * a literal; the suffix is the language tag without `@` or the IRI of the datatype without `<` and `>`, and is not read
+ * with another kind (but may not be null). Writes the first bytes of the string to out as hdt_string does, and returns
+ * its length. HDT_ABSENT if there is no such term: the kind is none of HDT_IRI to HDT_TYPED, or a text is not of that
+ * kind, as a relative IRI or a tag with a space; HDT_NO_MEMORY; then out is unchanged. Linear time; memory of that
+ * size, which is freed. */
+uint64_t hdt_term_string(uint32_t kind, const uint8_t *text, size_t len, const uint8_t *suffix, size_t suffix_len,
+                         uint8_t *out, size_t room);
 
 /* The version of the library: its major number times 65536, plus its minor number. */
 uint32_t hdt_version(void);
 
-/* The name of a reason of a file (HDT_FILE_..) as in docs/FORMAT.md, or of a text (HDT_TEXT_..) as in docs/NTRIPLES.md, in ASCII.
- * Writes its first bytes to out as hdt_string does, with no zero byte after them, and returns its length, which is below
- * HDT_NAME_ROOM. HDT_ABSENT if no reason has this number, as 0 and 250 to 255; then out is unchanged. So this is a C string, which
- * is empty if there is no name:
+/* The name of a reason of a file (HDT_FILE_..) as in docs/FORMAT.md, or of a text (HDT_TEXT_..) as in docs/NTRIPLES.md,
+ * in ASCII. Writes its first bytes to out as hdt_string does, with no zero byte after them, and returns its length,
+ * which is below HDT_NAME_ROOM. HDT_ABSENT if no reason has this number, as 0 and 250 to 255; then out is unchanged. So
+ * this is a C string, which is empty if there is no name:
  *
  *     uint8_t name[HDT_NAME_ROOM] = {0};
  *     hdt_reason_name(verdict.reason, name, sizeof name - 1);

@@ -4,7 +4,6 @@ use Rattle.hdt_wire.specs.declared.fault.Reason.{Reason}
 use Rattle.hdt_wire.specs.Fault.{reason_number, reason_name}
 use Rattle.hdt_terms.specs.declared.fault.LineReason.{LineReason}
 use Rattle.hdt_terms.specs.Reasons.{line_reason_number, line_reason_name}
-use Rattle.hdt_c.specs.LookUps.{absent}
 use Rattle.hdt_c.specs.CallerBuffer.{overwritten_prefix}
 
 -- the text was written to the buffer, as much as fits, and its length is the result

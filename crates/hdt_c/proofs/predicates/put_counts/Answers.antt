@@ -3,8 +3,7 @@ use mathlib.Core.Path.{◌∙◌}
 use Rattle.std.proofs.Common.{arith}
 use Rattle.std.proofs.lemmas.List.{length-set}
 use Rattle.hdt_file.specs.GraphView.{graph_view}
-use Rattle.hdt_c.specs.Counts.{predicate_count, predicate_counts}
-use Rattle.hdt_c.specs.CallerBuffer.{overwritten_prefix}
+use Rattle.hdt_c.specs.Counts.{predicate_count}
 use Rattle.hdt_c.proofs.Counting.{write_next, none_left}
 use Rattle.hdt_c.proofs.predicates.put_counts.Goals as goal
 
