@@ -13,7 +13,8 @@
  *   they point to is the library's until hdt_close or hdt_free.
  * - What is put into room of yours (out, room) is yours; of `out` nothing is changed past what the answer tells.
  *
- * What you owe, as nothing checks it: no pointer is null, even for zero bytes (use any address: `at` of an hdt_bytes without
+ * What you owe, as nothing checks it: no pointer is null, even for zero bytes or in a part of a pattern that is not a
+ * string (use any address: `at` of an hdt_bytes without
  * bytes is null, and so may be data() of an empty C++ vector); room is as large as you say, and aligned for its type;
  * parameters don't overlap, but for two that are only read, so the bytes that are given are not those of `out`; no call is
  * made in a signal handler, or in the forked child of a process with threads.
@@ -21,7 +22,8 @@
  * What is looked at: whatever the bytes of a file, a text or a string are, they are checked; a graph that isn't open is
  * told (HDT_CLOSED, HDT_IS_CLOSED), one that is open already is told by hdt_open (HDT_IS_OPEN) and stays as it is; a role
  * above 2 and a number that no string has are told (HDT_ABSENT); so are block sizes and base IRIs that can't be taken
- * (HDT_BAD_OPTIONS), and want of memory, which leaves a graph as it was.
+ * (HDT_BAD_OPTIONS), and want of memory, which leaves a graph as it was. In a pattern, a kind that isn't in this header and an
+ * ID that no string has match nothing.
  */
 #ifndef HDT_H
 #define HDT_H
@@ -31,14 +33,20 @@
 extern "C" {
 #endif
 
-/* Reasons. 0: done. 1 to 33 of a file: the reason of its first fault (docs/FORMAT.md); 1 to 9 of a text: that of its first
+/* The version of this header, 1.1. A greater minor version has more calls; those that are there stay as they are as
+ * long as the library is libhdt.so.1. */
+#define HDT_VERSION_MAJOR 1
+#define HDT_VERSION_MINOR 1
+
+/* Reasons. 0: done. 1 to 34 of a file: the reason of its first fault (docs/FORMAT.md); 1 to 9 of a text: that of its first
  * fault (docs/NTRIPLES.md). And these: */
 enum {
     HDT_DONE = 0,
-    HDT_NOT_A_TERM = 250,   /* hdt_text: a string of the graph is no term of N-Triples in its role */
+    HDT_NOT_A_TERM = 250,   /* hdt_text: a string of the graph is no term of N-Triples in its role; hdt_term: no term
+                             * has the string */
     HDT_NO_TRIPLES = 251,   /* hdt_build: the text is a document without triples, of which no file is made */
     HDT_BAD_OPTIONS = 252,  /* hdt_build, hdt_rewrite: the block size isn't 1 to 65535, or the base no absolute IRI */
-    HDT_IS_CLOSED = 253,    /* hdt_text: the graph isn't open */
+    HDT_IS_CLOSED = 253,    /* hdt_text, hdt_pattern_text: the graph isn't open */
     HDT_IS_OPEN = 254,      /* hdt_open: the graph is open already, and stays as it is */
     HDT_OUT_OF_MEMORY = 255 /* memory was refused: nothing is said of the input; the call may be made again */
 };
@@ -59,7 +67,8 @@ enum {
     HDT_FILE_NOT_UTF8 = 21, HDT_FILE_STRINGS_NOT_ASCENDING = 22, HDT_FILE_SECTIONS_OVERLAP = 23,
     HDT_FILE_NO_TRIPLES = 24, HDT_FILE_LENGTHS_DIFFER = 25, HDT_FILE_LAST_MARK = 26, HDT_FILE_MARK_COUNT = 27,
     HDT_FILE_SUBJECT_RANGE = 28, HDT_FILE_PREDICATE_RANGE = 29, HDT_FILE_OBJECT_RANGE = 30,
-    HDT_FILE_PREDICATES_NOT_ASCENDING = 31, HDT_FILE_OBJECTS_NOT_ASCENDING = 32, HDT_FILE_TRAILING_BYTES = 33
+    HDT_FILE_PREDICATES_NOT_ASCENDING = 31, HDT_FILE_OBJECTS_NOT_ASCENDING = 32, HDT_FILE_TRAILING_BYTES = 33,
+    HDT_FILE_UNUSED = 34 /* of hdt_verify_tight alone */
 };
 
 /* and those of a text, by their names in docs/NTRIPLES.md. hdt_build tells neither HDT_TEXT_READ nor HDT_TEXT_OUT_OF_MEMORY. */
@@ -100,6 +109,45 @@ typedef struct {
 } hdt_graph;
 #define HDT_GRAPH_INIT {0, NULL}
 
+/* What a part of a pattern gives. */
+enum { HDT_ANY = 0, HDT_ID = 1, HDT_STRING = 2 };
+
+/* The subject, the predicate or the object of a pattern: any, one ID, or one string. */
+typedef struct {
+    uint32_t kind;         /* HDT_ANY, HDT_ID or HDT_STRING. With any other number the pattern matches nothing. */
+    uint64_t id;           /* HDT_ID: the ID in the role, from 1. With one that the role doesn't have, the pattern matches
+                            * nothing. With another kind it isn't read. */
+    const uint8_t *string; /* HDT_STRING: the dictionary string, as of hdt_number. With another kind it isn't read, but */
+    size_t len;            /* may not be null, and has `len` bytes: HDT_PATTERN_INIT makes it so. */
+} hdt_part;
+
+/* A triple pattern. Set the parts that you want after `hdt_pattern pattern = HDT_PATTERN_INIT;`, which gives any in
+ * each role. */
+typedef struct {
+    hdt_part s, p, o; /* subject, predicate, object */
+} hdt_pattern;
+#define HDT_PART_INIT {HDT_ANY, 0, (const uint8_t *)"", 0}
+#define HDT_PATTERN_INIT {HDT_PART_INIT, HDT_PART_INIT, HDT_PART_INIT}
+
+/* The kinds of terms. */
+enum {
+    HDT_NO_TERM = 0,
+    HDT_IRI = 1,     /* an IRI */
+    HDT_BLANK = 2,   /* a blank node */
+    HDT_LITERAL = 3, /* a literal without a suffix, whose datatype is xsd:string */
+    HDT_TAGGED = 4,  /* a literal with a language tag */
+    HDT_TYPED = 5    /* a literal with a datatype */
+};
+
+/* A term, as parts of its dictionary string. Offsets and lengths are in bytes, offsets from 0. */
+typedef struct {
+    uint32_t kind;       /* HDT_IRI to HDT_TYPED; HDT_NO_TERM if there is no term */
+    uint64_t at;         /* where the IRI, the label (after `_:`) or the text (after the quote) begins; else 0 */
+    uint64_t len;        /* its length; else 0 */
+    uint64_t suffix_at;  /* HDT_TAGGED, HDT_TYPED: where the language tag or the IRI of the datatype begins; else 0 */
+    uint64_t suffix_len; /* its length; else 0 */
+} hdt_term_parts;
+
 /* Bytes that the library made: read `len` bytes from `at`; no zero byte stands behind them. State 1 where it has some to free, else 0, and then len is 0. A
  * call that makes bytes frees first what `out` had, also where it makes none. */
 typedef struct {
@@ -113,6 +161,12 @@ typedef struct {
 /* The verdict on a file: whether the bytes, all of them, are one, and of what counts; else its first fault. Time is in
  * proportion to the bytes. */
 void hdt_verify(const uint8_t *bytes, size_t len, hdt_verdict *verdict);
+
+/* Verifies a file as hdt_verify does, but a string of the dictionary that no triple uses in the role of its section is
+ * an error too: a subject, predicate or object of no triple, or a shared string that is not both a subject and an
+ * object. A file with no other error has HDT_FILE_UNUSED at the byte offset of the first such string.
+ * HDT_OUT_OF_MEMORY. Time is linear in the bytes, memory in the triples and strings; all of it is freed. */
+void hdt_verify_tight(const uint8_t *bytes, size_t len, hdt_verdict *verdict);
 
 /* Opens a file: the verdict of hdt_verify. With HDT_DONE, and with nothing else, the graph is open and holds what the bytes
  * lay out; at any other reason it is as it was. Time is in proportion to the bytes. */
@@ -169,6 +223,20 @@ uint64_t hdt_matching(hdt_graph *graph, uint32_t has_s, const uint8_t *s, size_t
 void hdt_text(hdt_graph *graph, uint32_t has_s, const uint8_t *s, size_t s_len, uint32_t has_p, const uint8_t *p, size_t p_len,
               uint32_t has_o, const uint8_t *o, size_t o_len, hdt_bytes *out, hdt_telling *telling);
 
+/* hdt_find, hdt_matching and hdt_text for a pattern whose parts are strings, IDs or any. A part that is an ID isn't
+ * looked up, so a join goes over the IDs that a call before has put into its `out`. All else is as described there: a
+ * string that its role doesn't have matches nothing. HDT_CLOSED; of hdt_pattern_text HDT_IS_CLOSED, HDT_NOT_A_TERM and
+ * HDT_OUT_OF_MEMORY. */
+uint64_t hdt_pattern_find(hdt_graph *graph, const hdt_pattern *pattern, uint64_t skip, uint64_t (*out)[3], size_t room);
+uint64_t hdt_pattern_matching(hdt_graph *graph, const hdt_pattern *pattern);
+void hdt_pattern_text(hdt_graph *graph, const hdt_pattern *pattern, hdt_bytes *out, hdt_telling *telling);
+
+/* The number of triples of each predicate: counts[0] is that of the predicate with ID 1, and so on. Writes the counts
+ * of the first `room` predicates at most, and returns how many predicates there are, as hdt_count does. HDT_CLOSED;
+ * then counts is unchanged. Each count costs what hdt_pattern_matching does for that predicate; all of them together
+ * take time in proportion to the pairs of a subject and a predicate, times the logarithm of their number. */
+uint64_t hdt_predicates(hdt_graph *graph, uint64_t *counts, size_t room);
+
 /* Builds the canonical file of the graph of N-Triples, in blocks of so many strings, 1 to 65535 (16 is usual). The base is
  * the absolute IRI that stands for the file in its header. HDT_BAD_OPTIONS is told before the text is looked at; else the
  * first fault of the text, by line and column. With
@@ -181,6 +249,36 @@ void hdt_build(const uint8_t *text, size_t len, const uint8_t *base, size_t base
  * file that is one, HDT_BAD_OPTIONS may be told. With
  * HDT_DONE out has it, else nothing. */
 void hdt_rewrite(const uint8_t *bytes, size_t len, uint32_t block_size, hdt_bytes *out, hdt_verdict *verdict);
+
+/* The term with a dictionary string, as hdt_string and hdt_strings give it: its kind, and which bytes of the string are
+ * its text and its language tag or datatype. Nothing in them is escaped. Returns HDT_DONE; or HDT_NOT_A_TERM if no term
+ * has this string, as a relative IRI, or HDT_OUT_OF_MEMORY; then all of `parts` is 0. An IRI may have characters that
+ * N-Triples excludes. Linear time; memory of that size, which is freed. */
+uint32_t hdt_term(const uint8_t *string, size_t len, hdt_term_parts *parts);
+
+/* The dictionary string of a term: the inverse of hdt_term. The text is the IRI, the label without `_:`, or the text of
+ * a literal; the suffix is the language tag without `@` or the IRI of the datatype without `<` and `>`, and is not read
+ * with another kind (but may not be null). Writes the first bytes of the string to out as hdt_string does, and returns
+ * its length. HDT_ABSENT if there is no such term: the kind is none of HDT_IRI to HDT_TYPED, or a text is not of that
+ * kind, as a relative IRI or a tag with a space; HDT_NO_MEMORY; then out is unchanged. Linear time; memory of that
+ * size, which is freed. */
+uint64_t hdt_term_string(uint32_t kind, const uint8_t *text, size_t len, const uint8_t *suffix, size_t suffix_len,
+                         uint8_t *out, size_t room);
+
+/* The version of the library: its major number times 65536, plus its minor number. */
+uint32_t hdt_version(void);
+
+/* The name of a reason of a file (HDT_FILE_..) as in docs/FORMAT.md, or of a text (HDT_TEXT_..) as in docs/NTRIPLES.md,
+ * in ASCII. Writes its first bytes to out as hdt_string does, with no zero byte after them, and returns its length,
+ * which is below HDT_NAME_ROOM. HDT_ABSENT if no reason has this number, as 0 and 250 to 255; then out is unchanged. So
+ * this is a C string, which is empty if there is no name:
+ *
+ *     uint8_t name[HDT_NAME_ROOM] = {0};
+ *     hdt_reason_name(verdict.reason, name, sizeof name - 1);
+ */
+#define HDT_NAME_ROOM 32
+uint64_t hdt_reason_name(uint32_t reason, uint8_t *out, size_t room);
+uint64_t hdt_text_reason_name(uint32_t reason, uint8_t *out, size_t room);
 
 /* Frees bytes and zeroes them. Where there are none it does nothing. */
 void hdt_free(hdt_bytes *bytes);

@@ -35,16 +35,23 @@ static void end_case(void) {
 
 /* ---- patterns */
 
-typedef struct {
-    uint32_t has[3];
-    const uint8_t *at[3];
-    size_t len[3];
-} pattern;
+static const hdt_pattern any = HDT_PATTERN_INIT;
 
-static const pattern any = {{0, 0, 0}, {(const uint8_t *)"", (const uint8_t *)"", (const uint8_t *)""}, {0, 0, 0}};
-#define GIVEN(p) (p)->has[0], (p)->at[0], (p)->len[0], (p)->has[1], (p)->at[1], (p)->len[1], (p)->has[2], (p)->at[2], (p)->len[2]
+/* The flag of a part for the calls with nine parameters: any number but 0. */
+static uint32_t has(const hdt_part *part) { return part->kind == HDT_STRING ? 1u << part->len % 32 : 0; }
+#define GIVEN(q) has(&(q)->s), (q)->s.string, (q)->s.len, has(&(q)->p), (q)->p.string, (q)->p.len, has(&(q)->o), (q)->o.string, (q)->o.len
 
-static uint64_t find(hdt_graph *graph, const pattern *given, uint64_t skip, uint64_t (*out)[3], size_t room) {
+static hdt_part *part_of(hdt_pattern *pattern, uint64_t role) { return role == 0 ? &pattern->s : role == 1 ? &pattern->p : &pattern->o; }
+
+/* A part that gives a string. */
+static hdt_part given_string(const uint8_t *string, size_t len) {
+    hdt_part part = {HDT_STRING, 7, NULL, 0};
+    part.string = string;
+    part.len = len;
+    return part;
+}
+
+static uint64_t find(hdt_graph *graph, const hdt_pattern *given, uint64_t skip, uint64_t (*out)[3], size_t room) {
     return hdt_find(graph, GIVEN(given), skip, out, room);
 }
 
@@ -64,12 +71,139 @@ static int same_verdict(const hdt_verdict *a, const hdt_verdict *b) {
 
 static int has_nothing(const hdt_bytes *bytes) { return bytes->len == 0 && bytes->state == 0; }
 
+/* ---- terms */
+
+static int no_parts(const hdt_term_parts *parts) { return parts->kind == HDT_NO_TERM && parts->at == 0 && parts->len == 0 && parts->suffix_at == 0 && parts->suffix_len == 0; }
+
+/* The parts of a string, and back: with room for all, for all but one byte, and for none. */
+static uint32_t term_of(const uint8_t *string, size_t len, hdt_term_parts *parts) {
+    uint32_t kind, reason = hdt_term(string, len, parts);
+    uint8_t none = 0xAA;
+    const uint8_t *text = string + parts->at, *suffix = string + parts->suffix_at;
+    guarded room = guard(len + 1);
+    if (reason != HDT_DONE) {
+        CHECK(reason == HDT_NOT_A_TERM && no_parts(parts));
+        let_go(&room);
+        return reason;
+    }
+    CHECK(parts->kind >= HDT_IRI && parts->kind <= HDT_TYPED && parts->at + parts->len <= len && parts->suffix_at + parts->suffix_len <= len);
+    CHECK((parts->kind >= HDT_TAGGED) == (parts->suffix_at > 0));
+    memset(room.at, 0xAA, room.len);
+    CHECK(hdt_term_string(parts->kind, text, parts->len, suffix, parts->suffix_len, room.at, len + 1) == len);
+    CHECK(memcmp(room.at, string, len) == 0 && room.at[len] == 0xAA);
+    memset(room.at, 0xAA, room.len);
+    CHECK(hdt_term_string(parts->kind, text, parts->len, suffix, parts->suffix_len, room.at, len - 1) == len);
+    CHECK(memcmp(room.at, string, len - 1) == 0 && room.at[len - 1] == 0xAA);
+    CHECK(hdt_term_string(parts->kind, text, parts->len, suffix, parts->suffix_len, &none, 0) == len && none == 0xAA);
+    for (kind = 6; kind != 0; kind *= 2) {
+        CHECK(hdt_term_string(kind, text, parts->len, suffix, parts->suffix_len, &none, 1) == HDT_ABSENT && none == 0xAA);
+    }
+    CHECK(hdt_term_string(HDT_NO_TERM, text, parts->len, suffix, parts->suffix_len, &none, 1) == HDT_ABSENT && none == 0xAA);
+    let_go(&room);
+    return reason;
+}
+
+/* Strings and their terms. */
+static void terms(void) {
+    static const struct {
+        const char *string;
+        uint32_t kind;
+        const char *text, *suffix;
+    } cases[] = {
+        {"http://a/b", HDT_IRI, "http://a/b", ""},
+        {"u:a b", HDT_IRI, "u:a b", ""}, /* no IRI of N-Triples, but a dictionary may have it */
+        {"_:b0", HDT_BLANK, "b0", ""},
+        {"\"\"", HDT_LITERAL, "", ""},
+        {"\"a\"b\"", HDT_LITERAL, "a\"b", ""},
+        {"\"\"@en-GB", HDT_TAGGED, "", "en-GB"},
+        {"\"a\\n\xC3\xA9\"@fr", HDT_TAGGED, "a\\n\xC3\xA9", "fr"},
+        {"\"1\"^^<http://www.w3.org/2001/XMLSchema#integer>", HDT_TYPED, "1", "http://www.w3.org/2001/XMLSchema#integer"},
+        {"\"a\"^^<u:t>", HDT_TYPED, "a", "u:t"},
+    };
+    static const char *none[] = {"", "a", "a/b", "_:", "_:.", "\"", "\"a", "\"a\"@", "\"a\"@1", "\"a\"^", "\"a\"^^<t>", "\"a\"^^<u:t", "u:\xFF", "\"\xC3\""};
+    static const struct {
+        uint32_t kind;
+        const char *text, *suffix;
+    } bad[] = {
+        {HDT_IRI, "a", ""},      {HDT_IRI, "\"a\"", ""},    {HDT_IRI, "_:a", ""},     {HDT_IRI, "", ""},        {HDT_BLANK, "", ""},
+        {HDT_BLANK, "a b", ""},  {HDT_LITERAL, "\xFF", ""}, {HDT_TAGGED, "a", ""},     {HDT_TAGGED, "a", "e n"}, {HDT_TAGGED, "a\"@en", "1"},
+        {HDT_TYPED, "a", "rel"}, {HDT_TYPED, "a", "u: "},   {HDT_TYPED, "\xFF", "u:t"}, {0, "u:a", ""},           {6, "u:a", "u:t"},
+    };
+    size_t i;
+    long before = live;
+    current = "terms";
+    for (i = 0; i < sizeof cases / sizeof *cases; i++) {
+        hdt_term_parts parts;
+        guarded string = guarded_copy(cases[i].string, strlen(cases[i].string));
+        memset(&parts, 0xAA, sizeof parts);
+        if (CHECK(term_of(string.at, string.len, &parts) == HDT_DONE) && CHECK(parts.kind == cases[i].kind)) {
+            CHECK(parts.len == strlen(cases[i].text) && memcmp(string.at + parts.at, cases[i].text, parts.len) == 0);
+            CHECK(parts.suffix_len == strlen(cases[i].suffix) && memcmp(string.at + parts.suffix_at, cases[i].suffix, parts.suffix_len) == 0);
+        }
+        let_go(&string);
+    }
+    for (i = 0; i < sizeof none / sizeof *none; i++) {
+        hdt_term_parts parts;
+        guarded string = guarded_copy(none[i], strlen(none[i]));
+        memset(&parts, 0xAA, sizeof parts);
+        CHECK(term_of(string.at, string.len, &parts) == HDT_NOT_A_TERM);
+        let_go(&string);
+    }
+    for (i = 0; i < sizeof bad / sizeof *bad; i++) {
+        guarded text_of = guarded_copy(bad[i].text, strlen(bad[i].text)), suffix = guarded_copy(bad[i].suffix, strlen(bad[i].suffix));
+        uint8_t room = 0xAA;
+        CHECK(hdt_term_string(bad[i].kind, text_of.at, text_of.len, suffix.at, suffix.len, &room, 1) == HDT_ABSENT && room == 0xAA);
+        let_go(&text_of);
+        let_go(&suffix);
+    }
+    CHECK(live == before);
+    end_case();
+}
+
+/* ---- names */
+
+static void name_of(uint64_t (*call)(uint32_t, uint8_t *, size_t), uint32_t reason, const char *wanted) {
+    guarded room = guard(HDT_NAME_ROOM);
+    uint64_t len = strlen(wanted);
+    memset(room.at, 0xAA, room.len);
+    CHECK(call(reason, room.at, 0) == (len ? len : HDT_ABSENT) && room.at[0] == 0xAA);
+    CHECK(call(reason, room.at, 2) == (len ? len : HDT_ABSENT) && memcmp(room.at, wanted, len < 2 ? len : 2) == 0 && room.at[2] == 0xAA);
+    CHECK(call(reason, room.at, room.len) == (len ? len : HDT_ABSENT) && memcmp(room.at, wanted, len) == 0 && room.at[len] == 0xAA);
+    let_go(&room);
+}
+
+static void names(void) {
+    uint32_t i, k;
+    current = "names";
+    CHECK(hdt_version() == HDT_VERSION_MAJOR * 65536 + HDT_VERSION_MINOR);
+    name_of(hdt_reason_name, HDT_FILE_TRUNCATED, "Truncated");
+    name_of(hdt_reason_name, HDT_FILE_CHECK16, "Check16");
+    name_of(hdt_reason_name, HDT_FILE_PREDICATES_NOT_ASCENDING, "PredicatesNotAscending");
+    name_of(hdt_reason_name, HDT_FILE_UNUSED, "Unused");
+    name_of(hdt_text_reason_name, HDT_TEXT_SYNTAX, "Syntax");
+    name_of(hdt_text_reason_name, HDT_TEXT_TOO_LONG, "TooLong");
+    for (i = 0; i < 300; i++) { /* a reason has a name, and no two the same one */
+        uint8_t name[HDT_NAME_ROOM], other[HDT_NAME_ROOM];
+        uint64_t len = hdt_reason_name(i, name, sizeof name), text_len = hdt_text_reason_name(i, other, sizeof other);
+        CHECK(i >= 1 && i <= 34 ? len > 0 && len < HDT_NAME_ROOM : len == HDT_ABSENT);
+        CHECK(i >= 1 && i <= 9 ? text_len > 0 && text_len < HDT_NAME_ROOM : text_len == HDT_ABSENT);
+        for (k = 1; k < i && i <= 34; k++) {
+            CHECK(hdt_reason_name(k, other, sizeof other) != len || memcmp(name, other, len) != 0);
+        }
+    }
+    name_of(hdt_reason_name, UINT32_MAX, "");
+    name_of(hdt_text_reason_name, UINT32_MAX, "");
+    name_of(hdt_text_reason_name, HDT_OUT_OF_MEMORY, "");
+    end_case();
+}
+
 /* ---- one graph, every call */
 
 /* String n of a role, with room for all, for all but one byte, and for none; and its number. */
 static void look_up(hdt_graph *graph, uint32_t role, uint64_t number) {
     uint8_t none = 0xAA;
     uint64_t i, len = hdt_string(graph, role, number, &none, 0);
+    hdt_term_parts parts;
     guarded room, longer;
     if (!CHECK(len < HDT_CLOSED) || !CHECK(none == 0xAA)) {
         return;
@@ -77,6 +211,7 @@ static void look_up(hdt_graph *graph, uint32_t role, uint64_t number) {
     room = guard(len);
     CHECK(hdt_string(graph, role, number, room.at, len) == len);
     CHECK(hdt_number(graph, role, room.at, len) == number);
+    term_of(room.at, len, &parts);
     if (len > 0) {
         guarded less = guard(len);
         memset(less.at, 0xAA, len);
@@ -138,6 +273,32 @@ static void strings_of(hdt_graph *graph, uint32_t role, uint64_t count) {
     free(ends);
 }
 
+/* The number of triples of each predicate, with room for all, for all but one, and for none. */
+static void predicates(hdt_graph *graph, uint64_t count) {
+    guarded room = guard(8 * (count + 1));
+    uint64_t *counts = (uint64_t *)(void *)room.at, i, sum = 0, step = count / 100 + 1;
+    hdt_pattern given = any;
+    given.p.kind = HDT_ID;
+    memset(room.at, 0xAA, room.len);
+    CHECK(hdt_predicates(graph, counts, 0) == count && counts[0] == 0xAAAAAAAAAAAAAAAAu);
+    CHECK(hdt_predicates(graph, counts + 1, count) == count && counts[0] == 0xAAAAAAAAAAAAAAAAu);
+    memset(room.at, 0xAA, room.len);
+    CHECK(hdt_predicates(graph, counts, count + 1) == count && counts[count] == 0xAAAAAAAAAAAAAAAAu);
+    for (i = 0; i < count; i++) {
+        sum += counts[i];
+    }
+    CHECK(sum == hdt_len(graph));
+    for (i = 0; i < count; i += step) {
+        given.p.id = i + 1;
+        CHECK(counts[i] == hdt_pattern_matching(graph, &given));
+    }
+    if (count > 0) {
+        memset(room.at, 0xAA, room.len);
+        CHECK(hdt_predicates(graph, counts, count - 1) == count && counts[count - 1] == 0xAAAAAAAAAAAAAAAAu);
+    }
+    let_go(&room);
+}
+
 static void look_ups(hdt_graph *graph, const hdt_verdict *verdict) {
     uint8_t out[2] = {0xAA, 0xAA};
     uint64_t most = 150, wanted[3], role, number, one = 1, end = 7;
@@ -160,6 +321,7 @@ static void look_ups(hdt_graph *graph, const hdt_verdict *verdict) {
         CHECK(hdt_string(graph, (uint32_t)role, wanted[role] + 1, out, 2) == HDT_ABSENT);
         CHECK(hdt_string(graph, (uint32_t)role, UINT64_MAX, out, 2) == HDT_ABSENT);
     }
+    predicates(graph, wanted[1]);
     for (role = 3; role < 9; role++) {
         uint32_t none = role < 5 ? (uint32_t)role : UINT32_MAX << (role - 5);
         CHECK(hdt_count(graph, none) == HDT_ABSENT);
@@ -194,8 +356,52 @@ static int matches(const uint64_t *triple, const uint64_t *numbers, unsigned kin
     return (!(kinds & 1) || triple[0] == numbers[0]) && (!(kinds & 2) || triple[1] == numbers[1]) && (!(kinds & 4) || triple[2] == numbers[2]);
 }
 
+/* The calls that take a pattern, against what hdt_find has put of the same one: the parts as strings, as IDs, and mixed. */
+static void by_pattern(hdt_graph *graph, const hdt_pattern *given, const uint64_t *numbers, uint64_t (*wanted)[3], uint64_t count) {
+    static const uint32_t bad_kinds[] = {3, 4, 256, UINT32_MAX};
+    const uint64_t bad_ids[] = {0, UINT64_MAX};
+    uint64_t role, i, skip;
+    unsigned mixed;
+    guarded pages = guard(24 * (count + 1)), room = guard(sizeof(hdt_pattern));
+    hdt_pattern *asked = (hdt_pattern *)(void *)room.at;
+    uint64_t(*out)[3] = (uint64_t(*)[3])(void *)pages.at;
+    for (mixed = 0; mixed < 8; mixed++) {
+        *asked = *given;
+        for (role = 0; role < 3; role++) {
+            hdt_part *part = part_of(asked, role);
+            if (part->kind == HDT_STRING && mixed >> role & 1) {
+                hdt_part id = {HDT_ID, numbers[role], (const uint8_t *)"", 0};
+                *part = id;
+            }
+        }
+        CHECK(hdt_pattern_matching(graph, asked) == count);
+        memset(pages.at, 0xAA, pages.len);
+        CHECK(hdt_pattern_find(graph, asked, 0, out, count) == count && out[count][0] == 0xAAAAAAAAAAAAAAAAu);
+        CHECK(memcmp(out, wanted, 24 * count) == 0);
+        CHECK(hdt_pattern_find(graph, asked, 0, out, count + 1) == count && hdt_pattern_find(graph, asked, 0, out, 0) == 0);
+        skip = count - count / 3;
+        CHECK(hdt_pattern_find(graph, asked, skip, out, count + 1) == count / 3 && memcmp(out, wanted + skip, 24 * (count / 3)) == 0);
+        CHECK(hdt_pattern_find(graph, asked, UINT64_MAX, out, 1) == 0);
+    }
+    for (role = 0; role < 3; role++) {
+        *asked = *given;
+        for (i = 0; i < 4; i++) { /* kinds that there aren't match nothing, whatever else the part has */
+            hdt_part part = {bad_kinds[i], numbers[role], (const uint8_t *)"", 0};
+            *part_of(asked, role) = part;
+            CHECK(hdt_pattern_matching(graph, asked) == 0 && hdt_pattern_find(graph, asked, 0, out, 1) == 0);
+        }
+        for (i = 0; i < 3; i++) { /* so do IDs */
+            hdt_part part = {HDT_ID, i < 2 ? bad_ids[i] : hdt_count(graph, (uint32_t)role) + 1, (const uint8_t *)"", 0};
+            *part_of(asked, role) = part;
+            CHECK(hdt_pattern_matching(graph, asked) == 0 && hdt_pattern_find(graph, asked, 0, out, 1) == 0);
+        }
+    }
+    let_go(&pages);
+    let_go(&room);
+}
+
 /* What find, matching and text answer of a pattern, against a plain filter of all triples. */
-static void search(hdt_graph *graph, const pattern *given, uint64_t (*all)[3], uint64_t count, const uint64_t *numbers, unsigned kinds) {
+static void search(hdt_graph *graph, const hdt_pattern *given, uint64_t (*all)[3], uint64_t count, const uint64_t *numbers, unsigned kinds) {
     uint64_t i, wanted = 0, skip, alike = 1;
     guarded found;
     uint64_t(*out)[3];
@@ -214,6 +420,7 @@ static void search(hdt_graph *graph, const pattern *given, uint64_t (*all)[3], u
         }
     }
     CHECK(alike);
+    by_pattern(graph, given, numbers, out, wanted);
     CHECK(find(graph, given, 0, out, wanted + 1) == wanted);
     CHECK(find(graph, given, wanted, out, 1) == 0);
     CHECK(find(graph, given, UINT64_MAX, out, 1) == 0);
@@ -230,11 +437,15 @@ static void search(hdt_graph *graph, const pattern *given, uint64_t (*all)[3], u
     let_go(&found);
 }
 
-static void text(hdt_graph *graph, const pattern *given) {
-    hdt_bytes out = HDT_BYTES_INIT;
-    hdt_telling telling;
+static void text(hdt_graph *graph, const hdt_pattern *given) {
+    hdt_bytes out = HDT_BYTES_INIT, same = HDT_BYTES_INIT;
+    hdt_telling telling, told;
     long before = live;
     hdt_text(graph, GIVEN(given), &out, &telling);
+    hdt_pattern_text(graph, given, &same, &told);
+    CHECK(told.reason == telling.reason && told.role == telling.role && told.number == telling.number);
+    CHECK(same.len == out.len && same.state == out.state && (out.len == 0 || memcmp(same.at, out.at, out.len) == 0));
+    hdt_free(&same);
     if (telling.reason == HDT_DONE) {
         CHECK(telling.role == 0 && telling.number == 0);
         CHECK(lines_of(&out) == hdt_matching(graph, GIVEN(given)));
@@ -253,7 +464,7 @@ static void searches(hdt_graph *graph) {
     uint64_t count = hdt_len(graph), i, role, step = count / 12 + 1;
     uint64_t(*all)[3] = malloc((count + 1) * sizeof *all);
     unsigned kinds;
-    pattern given = any;
+    hdt_pattern given = any;
     CHECK(find(graph, &any, 0, all, count + 1) == count);
     for (i = 1; i < count; i++) {
         uint64_t *a = all[i - 1], *b = all[i];
@@ -269,18 +480,16 @@ static void searches(hdt_graph *graph) {
         }
         for (kinds = 0; kinds < 8; kinds++) {
             for (role = 0; role < 3; role++) {
-                given.has[role] = (kinds >> role & 1) << (i % 32); /* any number but 0 */
-                given.at[role] = strings[role].at;
-                given.len[role] = strings[role].len;
+                *part_of(&given, role) = kinds >> role & 1 ? given_string(strings[role].at, strings[role].len) : any.s;
             }
             search(graph, &given, all, count, all[i], kinds);
             if (kinds != 0 || i == 0) {
                 text(graph, &given);
             }
             if (kinds & 1) { /* a subject that isn't there */
-                given.at[0] = (const uint8_t *)"\xFF";
-                given.len[0] = 1;
+                given.s = given_string((const uint8_t *)"\xFF", 1);
                 CHECK(find(graph, &given, 0, all + count, 1) == 0 && hdt_matching(graph, GIVEN(&given)) == 0);
+                CHECK(hdt_pattern_find(graph, &given, 0, all + count, 1) == 0 && hdt_pattern_matching(graph, &given) == 0);
                 text(graph, &given);
             }
         }
@@ -322,6 +531,8 @@ static void remake(hdt_graph *graph, const guarded *file, const hdt_verdict *ver
         hdt_rewrite(file->at, file->len, sizes[i], &out, &told);
         CHECK(told.reason == HDT_DONE && told.place == 0 && told.counts[0] == verdict->counts[0] && out.state == 1);
         hdt_verify(out.at, out.len, &other);
+        CHECK(same_verdict(&told, &other));
+        hdt_verify_tight(out.at, out.len, &other); /* no string is left that isn't used */
         CHECK(same_verdict(&told, &other));
         hdt_open(out.at, out.len, &made, &other);
         CHECK(same_verdict(&told, &other) && alike(graph, &made));
@@ -370,6 +581,11 @@ static void closed(hdt_graph *graph) {
     CHECK(report.reason == HDT_DONE && live > before);
     hdt_text(graph, GIVEN(&any), &made, &telling); /* frees what was made */
     CHECK(telling.reason == HDT_IS_CLOSED && telling.role == 0 && telling.number == 0 && has_nothing(&made) && live == before);
+    CHECK(hdt_pattern_find(graph, &any, 0, out, 1) == HDT_CLOSED && out[0][0] == 7 && hdt_pattern_matching(graph, &any) == HDT_CLOSED);
+    CHECK(hdt_predicates(graph, &end, 1) == HDT_CLOSED && end == 7);
+    hdt_build((const uint8_t *)"<u:s> <u:p> <u:o> .", 19, base, sizeof base - 1, 16, &made, &report);
+    hdt_pattern_text(graph, &any, &made, &telling);
+    CHECK(telling.reason == HDT_IS_CLOSED && telling.role == 0 && telling.number == 0 && has_nothing(&made) && live == before);
     hdt_close(graph);
     CHECK(graph->state == 0);
 }
@@ -391,7 +607,7 @@ static void opened_again(hdt_graph *graph, const guarded *file, const hdt_verdic
 typedef struct {
     const guarded *file;
     hdt_graph *graph; /* open */
-    pattern given;
+    hdt_pattern given;
     hdt_verdict ample;
     hdt_bytes document, built, rewritten; /* with ample memory */
 } job;
@@ -404,6 +620,12 @@ static int call_verify(const job *it) {
     hdt_verdict told;
     hdt_verify(it->file->at, it->file->len, &told);
     return told.reason == HDT_OUT_OF_MEMORY ? (told.place || told.counts[0] ? WRONG : TOLD) : same_verdict(&told, &it->ample) ? AMPLE : WRONG;
+}
+
+static int call_verify_tight(const job *it) {
+    hdt_verdict told;
+    hdt_verify_tight(it->file->at, it->file->len, &told);
+    return told.reason == HDT_OUT_OF_MEMORY ? (told.place || told.counts[0] ? WRONG : TOLD) : told.reason == HDT_FILE_UNUSED || same_verdict(&told, &it->ample) ? AMPLE : WRONG;
 }
 
 static int call_open(const job *it) {
@@ -434,7 +656,7 @@ static int call_strings(const job *it) {
     return answer;
 }
 
-static int call_number(const job *it) { return hdt_number(it->graph, HDT_PREDICATE, it->given.at[1], it->given.len[1]) == 1 ? AMPLE : WRONG; }
+static int call_number(const job *it) { return hdt_number(it->graph, HDT_PREDICATE, it->given.p.string, it->given.p.len) == 1 ? AMPLE : WRONG; }
 
 static int call_header(const job *it) {
     uint8_t room[8];
@@ -446,6 +668,11 @@ static int call_find(const job *it) {
     return find(it->graph, &it->given, 0, out, 4) >= 1 && hdt_matching(it->graph, GIVEN(&it->given)) >= 1 ? AMPLE : WRONG;
 }
 
+static int call_pattern_find(const job *it) {
+    uint64_t out[4][3], count;
+    return hdt_pattern_find(it->graph, &it->given, 0, out, 4) >= 1 && hdt_pattern_matching(it->graph, &it->given) >= 1 && hdt_predicates(it->graph, &count, 1) >= 1 ? AMPLE : WRONG;
+}
+
 static int call_text(const job *it) {
     hdt_bytes made = HDT_BYTES_INIT;
     hdt_telling told;
@@ -454,6 +681,31 @@ static int call_text(const job *it) {
     answer = told.reason == HDT_OUT_OF_MEMORY ? (has_nothing(&made) ? TOLD : WRONG) : told.reason == HDT_DONE ? as_made(&made, &it->document) : told.reason == HDT_NOT_A_TERM ? AMPLE : WRONG;
     hdt_free(&made);
     return answer;
+}
+
+static int call_pattern_text(const job *it) {
+    hdt_bytes made = HDT_BYTES_INIT;
+    hdt_telling told;
+    int answer;
+    hdt_pattern_text(it->graph, &any, &made, &told);
+    answer = told.reason == HDT_OUT_OF_MEMORY ? (has_nothing(&made) ? TOLD : WRONG) : told.reason == HDT_DONE ? as_made(&made, &it->document) : told.reason == HDT_NOT_A_TERM ? AMPLE : WRONG;
+    hdt_free(&made);
+    return answer;
+}
+
+static int call_term(const job *it) {
+    static const uint8_t string[] = "\"a\"^^<http://a/t>";
+    hdt_term_parts parts;
+    uint32_t reason = hdt_term(string, sizeof string - 1, &parts);
+    (void)it;
+    return reason == HDT_OUT_OF_MEMORY ? (no_parts(&parts) ? TOLD : WRONG) : reason == HDT_DONE && parts.kind == HDT_TYPED ? AMPLE : WRONG;
+}
+
+static int call_term_string(const job *it) {
+    uint8_t room[64] = {0};
+    uint64_t len = hdt_term_string(HDT_TYPED, (const uint8_t *)"a", 1, (const uint8_t *)"http://a/t", 10, room, sizeof room);
+    (void)it;
+    return len == HDT_NO_MEMORY ? (room[0] == 0 ? TOLD : WRONG) : len == 17 && memcmp(room, "\"a\"^^<http://a/t>", 18) == 0 ? AMPLE : WRONG;
 }
 
 static int call_build(const job *it) {
@@ -508,23 +760,26 @@ static void refuse(const guarded *file, const hdt_verdict *verdict) {
     uint8_t string[4096];
     job it = {file, &graph, any, *verdict, HDT_BYTES_INIT, HDT_BYTES_INIT, HDT_BYTES_INIT};
     refuse_each("verify", call_verify, &it);
+    refuse_each("verify tight", call_verify_tight, &it);
+    refuse_each("term", call_term, &it);
+    refuse_each("term string", call_term_string, &it);
     refuse_each("open", call_open, &it);
     if (verdict->reason != HDT_DONE) {
         return;
     }
     hdt_open(file->at, file->len, &graph, &told);
-    it.given.has[1] = 1;
-    it.given.at[1] = string;
-    it.given.len[1] = hdt_string(&graph, HDT_PREDICATE, 1, string, sizeof string);
-    if (it.given.len[1] <= sizeof string) {
+    it.given.p = given_string(string, hdt_string(&graph, HDT_PREDICATE, 1, string, sizeof string));
+    if (it.given.p.len <= sizeof string) {
         refuse_each("number", call_number, &it);
         refuse_each("find", call_find, &it);
+        refuse_each("pattern find", call_pattern_find, &it);
     }
     refuse_each("string", call_string, &it);
     refuse_each("strings", call_strings, &it);
     refuse_each("header", call_header, &it);
     hdt_text(&graph, GIVEN(&any), &it.document, &telling);
     refuse_each("text", call_text, &it);
+    refuse_each("pattern text", call_pattern_text, &it);
     if (telling.reason == HDT_DONE) {
         hdt_build(it.document.at, it.document.len, base, sizeof base - 1, 16, &it.built, &report);
         refuse_each("build", call_build, &it);
@@ -536,6 +791,21 @@ static void refuse(const guarded *file, const hdt_verdict *verdict) {
     hdt_free(&it.rewritten);
     CHECK(hdt_len(&graph) == verdict->counts[0]);
     hdt_close(&graph);
+}
+
+/* ---- files whose strings are all used */
+
+/* hdt_verify_tight says what hdt_verify does, or that a string of a valid file isn't used. */
+static void tight(const guarded *file, const hdt_verdict *verdict) {
+    hdt_verdict told;
+    long before = live;
+    hdt_verify_tight(file->at, file->len, &told);
+    if (verdict->reason == HDT_DONE && told.reason != HDT_DONE) {
+        CHECK(told.reason == HDT_FILE_UNUSED && told.place > 0 && told.place < file->len && told.counts[0] == 0);
+    } else {
+        CHECK(same_verdict(verdict, &told));
+    }
+    CHECK(live == before);
 }
 
 /* ---- damaged files: verify, open and rewrite agree on them */
@@ -551,6 +821,7 @@ static void agree(const uint8_t *bytes, size_t len) {
     hdt_verify(file.at, len, &verdict);
     hdt_open(file.at, len, &graph, &told);
     CHECK(same_verdict(&verdict, &told) && graph.state == (told.reason == HDT_DONE));
+    tight(&file, &verdict);
     seen[told.reason & 255]++;
     if (told.reason != HDT_DONE) {
         CHECK(told.reason >= 1 && told.reason <= 33 && told.place <= len);
@@ -606,7 +877,7 @@ static long asked(hdt_graph *graph, int locked, uint64_t seed) {
     uint8_t string[2048];
     uint64_t i, out[4][3];
     long wrong = 0;
-    pattern given = any;
+    hdt_pattern given = any;
     for (i = 0; i < 2000; i++) {
         uint64_t count, number, len, other, found;
         if (locked) {
@@ -615,9 +886,7 @@ static long asked(hdt_graph *graph, int locked, uint64_t seed) {
         count = hdt_count(graph, HDT_SUBJECT);
         number = (i * 7919 + seed) % count + 1;
         len = hdt_string(graph, HDT_SUBJECT, number, string, sizeof string);
-        given.has[0] = 1;
-        given.at[0] = string;
-        given.len[0] = len <= sizeof string ? len : 0;
+        given.s = given_string(string, len <= sizeof string ? len : 0);
         other = len <= sizeof string ? hdt_number(graph, HDT_SUBJECT, string, len) : number;
         found = find(graph, &given, 0, out, 4);
         if (locked) {
@@ -811,6 +1080,7 @@ static void test(const guarded *file) {
     hdt_verify(file->at, file->len, &verdict);
     hdt_open(file->at, file->len, &graph, &told);
     CHECK(same_verdict(&verdict, &told) && graph.state == (told.reason == HDT_DONE));
+    tight(file, &verdict);
     if (told.reason == HDT_DONE) {
         look_ups(&graph, &verdict);
         header(&graph, file);
@@ -846,6 +1116,8 @@ int main(int argc, char **argv) {
     }
     if (!each) {
         texts();
+        terms();
+        names();
     }
     if (!each && !small) {
         large();

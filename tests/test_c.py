@@ -2,6 +2,7 @@
 
 from __future__ import annotations
 
+import ctypes
 import re
 import shutil
 from pathlib import Path
@@ -11,8 +12,8 @@ import pytest
 
 from support import c_files
 from support.built import SAMPLES, SHARED_LIBRARY, STATIC_LIBRARY
-from support.c_library import (CC, CXX, HEADER, TEST, WARNINGS, compile_test, declared, failures_of, passed_cases,
-                               succeeds, symbols)
+from support.c_library import (CC, CXX, HEADER, TEST, WARNINGS, compile_test, declared, failures_of, file_reasons,
+                               passed_cases, succeeds, symbols, text_reasons)
 from support.program import Result, run
 
 SECONDS = 300
@@ -92,6 +93,24 @@ def test_shared_library_is_hardened() -> None:
     assert not re.search(r"GNU_STACK.* RWE ", succeeds("readelf", "-lW", SHARED_LIBRARY))
 
 
+# ---- names
+
+
+@pytest.mark.parametrize(("call", "names"), [("hdt_reason_name", file_reasons()),
+                                             ("hdt_text_reason_name", text_reasons())])
+def test_names_are_those_of_the_documents(call: str, names: list[str]) -> None:
+    """Each reason has the name that the documents give it, and no other number has one."""
+    name_of = ctypes.CDLL(str(SHARED_LIBRARY))[call]
+    name_of.restype = ctypes.c_uint64
+    for number in range(300):
+        room = (ctypes.c_uint8 * 32)()
+        length = name_of(ctypes.c_uint32(number), room, ctypes.c_size_t(len(room)))
+        if 1 <= number <= len(names):
+            assert bytes(room).rstrip(b"\0").decode() == names[number - 1] and length == len(names[number - 1])
+        else:
+            assert length == 2**64 - 1 and bytes(room) == bytes(32)
+
+
 # ---- c/test.c over files
 
 
@@ -125,14 +144,14 @@ def test_every_call_on_files(group: str, sanitized: Path, tmp_path: Path) -> Non
         path.write_bytes(data)
     done = run([sanitized, "--small", *paths], seconds=SECONDS)
     assert failures_of(done) == []
-    assert passed_cases(done) == len(files) + 1  # and the N-Triples texts that it has itself
+    assert passed_cases(done) == len(files) + 3  # and the texts, terms and names that it has itself
 
 
 def test_large_input(sanitized: Path) -> None:
     """Texts of 70,000 subjects, of 66,000 predicates and with terms of 100,000 bytes, through every call."""
     done = run([sanitized], seconds=SECONDS)
     assert failures_of(done) == []
-    assert passed_cases(done) == 4
+    assert passed_cases(done) == 6
 
 
 @pytest.mark.parametrize("name", c_files.damageable())
@@ -190,6 +209,30 @@ WRONG = {
     "hdt_rewrite": Wrong("void", "const uint8_t *b, size_t n, uint32_t k, hdt_bytes *out, hdt_verdict *v",
                          "if (k > 65535) k = 65535; RIGHT(b, n, k, out, v);"),
     "hdt_free": Wrong("void", "hdt_bytes *b", "memset(b, 0, sizeof *b);"),
+    "hdt_verify_tight": Wrong("void", "const uint8_t *b, size_t n, hdt_verdict *v", "hdt_verify(b, n / 2, v);"),
+    "hdt_pattern_find": Wrong("uint64_t", "hdt_graph *g, const hdt_pattern *q, uint64_t skip, uint64_t (*out)[3], "
+                                          "size_t room",
+                              "hdt_pattern r = *q; if (r.o.kind == HDT_ID && r.o.id == 0) r.o.kind = HDT_ANY; "
+                              "return RIGHT(g, &r, skip, out, room);"),
+    "hdt_pattern_matching": Wrong("uint64_t", "hdt_graph *g, const hdt_pattern *q",
+                                  "hdt_pattern r = *q; if (r.p.kind > HDT_STRING) r.p.kind = HDT_ANY; "
+                                  "return RIGHT(g, &r);"),
+    "hdt_pattern_text": Wrong("void", "hdt_graph *g, const hdt_pattern *q, hdt_bytes *out, hdt_telling *t",
+                              "hdt_pattern r = *q; r.o.kind = HDT_ANY; RIGHT(g, &r, out, t);"),
+    "hdt_predicates": Wrong("uint64_t", "hdt_graph *g, uint64_t *counts, size_t room",
+                            "uint64_t n = RIGHT(g, counts, room); return n < HDT_CLOSED && n > room ? room : n;"),
+    "hdt_term": Wrong("uint32_t", "const uint8_t *s, size_t n, hdt_term_parts *parts",
+                      "uint32_t r = RIGHT(s, n, parts); if (parts->kind == HDT_TAGGED) parts->kind = HDT_TYPED; "
+                      "return r;"),
+    "hdt_term_string": Wrong("uint64_t", "uint32_t kind, const uint8_t *s, size_t n, const uint8_t *t, size_t tn, "
+                                         "uint8_t *out, size_t room",
+                             "uint64_t len = RIGHT(kind, s, n, t, tn, out, room); "
+                             "return len == HDT_ABSENT && kind == HDT_TYPED ? n : len;"),
+    "hdt_version": Wrong("uint32_t", "void", "return RIGHT() + 1;"),
+    "hdt_reason_name": Wrong("uint64_t", "uint32_t r, uint8_t *out, size_t room",
+                             "return RIGHT(r > 34 ? 34 : r, out, room);"),
+    "hdt_text_reason_name": Wrong("uint64_t", "uint32_t r, uint8_t *out, size_t room",
+                                  "return RIGHT(r == 9 ? 8 : r, out, room);"),
 }
 
 

@@ -1,3 +1,6 @@
 mod AsBox
+pub mod Counting
 mod Dropping
 pub mod HandleLaws
+pub mod MatchLaws
+pub mod TermLaws

@@ -1,11 +1,15 @@
+pub mod Counts
 pub mod LookUps
+pub mod Names
 pub mod Building
 pub mod Bytes
+pub mod GivenPatterns
 pub mod Handle
 pub mod ResourceOwnership
 pub mod StringLists
 pub mod Rewriting
 pub mod CallerBuffer
+pub mod TermParts
 pub mod Texts
 pub mod Verdicts
 pub mod Inside

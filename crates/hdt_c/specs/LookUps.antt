@@ -8,7 +8,6 @@ use Rattle.hdt_triples.specs.TripleSequences.{Triple}
 use Rattle.hdt_triples.specs.Patterns.{matches}
 use Rattle.hdt_triples.specs.declared.pattern.Pattern.{Pattern}
 use Rattle.hdt_file.specs.File.{GraphParts}
-use Rattle.hdt_file.specs.Search.{IsPattern}
 use Rattle.hdt_dict.specs.Dictionary.{role_strings}
 use Rattle.hdt_c.specs.CallerBuffer.{overwritten_prefix}
 
@@ -67,24 +66,22 @@ abbrev pub string_if_flag : ℕ → BorrowedString → Option BorrowedString
 string_if_flag zero x = None
 string_if_flag (suc n) x = Some x
 
--- the triples are the matches of the pattern of the given strings, or none if a string is not one of its role
-pub record AreMatches (g : GraphParts) (given : List (Option BorrowedString)) (found : List Triple) : Type 0 where
-  pub items : (p : Pattern) → IsPattern g given p → found ≡ matches p g.triples
-  pub none : ((p : Pattern) → IsPattern g given p → ⊥) → found ≡ []
+-- the triples are the matches of the pattern that is given, or none if what is given is no pattern of the graph, as
+-- with a string that is not one of its role
+pub record AreMatches (g : GraphParts) (IsGiven : Pattern → Type 0) (found : List Triple) : Type 0 where
+  pub items : (p : Pattern) → IsGiven p → found ≡ matches p g.triples
+  pub none : ((p : Pattern) → IsGiven p → ⊥) → found ≡ []
 
--- the result is the number of matches
-pub record CountsMatches (g : GraphParts) (given : List (Option BorrowedString)) (answer : ℕ) : Type 0 where
+-- P is true of the matches of the pattern that is given
+pub record OfMatches (g : GraphParts) (IsGiven : Pattern → Type 0) (P : List Triple → Type 0) : Type 0 where
   pub found : List Triple
-  pub are : AreMatches g given found
-  pub count : answer ≡ length found
+  pub are : AreMatches g IsGiven found
+  pub holds : P found
 
 -- the three IDs of a triple
 abbrev pub numbers : Triple → List ℕ
 numbers t = t.0 ∷ t.1 ∷ t.2 ∷ []
 
--- the matches after the first `skip` were written to the buffer, as many as fit, and their number is the result
-pub record FindsPage (g : GraphParts) (given : List (Option BorrowedString)) (skip answer : ℕ) (old new : List (List ℕ)) : Type 0 where
-  pub found : List Triple
-  pub are : AreMatches g given found
-  pub count : answer ≡ length (take (length old) (drop skip found))
-  pub put : new ≡ overwritten_prefix (map numbers (drop skip found)) old
+-- the triples after the first `skip` were written to the buffer, as many as fit, and their number is the result
+abbrev pub PutsPage : ℕ → ℕ → List (List ℕ) → List (List ℕ) → List Triple → Type 0
+PutsPage skip answer old new found = (answer ≡ length (take (length old) (drop skip found))) × (new ≡ overwritten_prefix (map numbers (drop skip found)) old)

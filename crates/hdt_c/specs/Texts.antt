@@ -1,15 +1,14 @@
 -- The result of making the text of a graph.
-use Rattle.std.specs.Prelude.{◌≡◌, ◌⊎◌, ⊤, ℕ, List, Option}
+use Rattle.std.specs.Prelude.{◌≡◌, ◌⊎◌, ℕ, List}
 use Rattle.hdt_wire.specs.declared.role.Role.{Role}
 use Rattle.hdt_wire.specs.declared.role.Role.TheVariants.{Subject, Predicate, Object}
-use Rattle.hdt_dict.specs.Strings.{BorrowedString}
 use Rattle.hdt_triples.specs.TripleSequences.{Triple}
 use Rattle.hdt_file.specs.Denoted.{denoted}
 use Rattle.hdt_file.specs.File.{GraphParts}
-use Rattle.hdt_file.specs.Text.{IsFirstNonTerm, IsTextOf}
+use Rattle.hdt_file.specs.Text.{IsTextOf}
+use Rattle.hdt_file.specs.TextWriting.{ReportsFirstNonTerm}
 use Rattle.hdt_file.specs.declared.fault.DumpFault.{DumpFault}
 use Rattle.hdt_file.specs.declared.fault.DumpFault.TheVariants as faults
-use Rattle.hdt_c.specs.LookUps.{AreMatches}
 use Rattle.hdt_c.specs.Bytes.{HoldsBytes, HoldsNoBytes}
 use Rattle.hdt_c.specs.declared.bytes.HdtBytes.{HdtBytes}
 use Rattle.hdt_c.specs.declared.report.HdtTelling.{HdtTelling}
@@ -30,38 +29,21 @@ telling_of_fault (faults.NotATerm role n) = record { reason = 250; role = role_n
 telling_of_fault (faults.Write n) = telling_for 255
 telling_of_fault faults.OutOfMemory = telling_for 255
 
--- the text of the matches
-pub record IsTextOfMatches (g : GraphParts) (given : List (Option BorrowedString)) (text : List ℕ) : Type 0 where
-  pub found : List Triple
-  pub are : AreMatches g given found
-  pub is : IsTextOf (denoted g found) text
-
--- the role and the ID of the first string of the first match that is not a term which its role allows
-pub record HasFirstNonTerm (g : GraphParts) (given : List (Option BorrowedString)) (role : Role) (n : ℕ) : Type 0 where
-  pub found : List Triple
-  pub are : AreMatches g given found
-  pub first : IsFirstNonTerm g found role n
-
--- the matches have the error; running out of memory says nothing of them
-abbrev pub HasTextFault : GraphParts → List (Option BorrowedString) → DumpFault → Type 0
-HasTextFault g given (faults.NotATerm role n) = HasFirstNonTerm g given role n
-HasTextFault g given (faults.Write n) = ⊥
-HasTextFault g given faults.OutOfMemory = ⊤
-
--- the bytes are the text of the matches, and the result says so
-pub record HoldsText (g : GraphParts) (given : List (Option BorrowedString)) (out : HdtBytes) (telling : HdtTelling) : Type 0 where
+-- the bytes are the text of the triples, and the result says so
+pub record HoldsText (g : GraphParts) (found : List Triple) (out : HdtBytes) (telling : HdtTelling) : Type 0 where
   pub text : List ℕ
-  pub is : IsTextOfMatches g given text
+  pub is : IsTextOf (denoted g found) text
   pub bytes : HoldsBytes out text
   pub told : telling ≡ telling_for 0
 
--- there are no bytes, and the result is that of the error
-pub record HoldsNoText (g : GraphParts) (given : List (Option BorrowedString)) (out : HdtBytes) (telling : HdtTelling) : Type 0 where
+-- there are no bytes, and the result is that of the error: the first string of the first triple that is not a term
+-- which its role allows, or that memory ran out
+pub record HoldsNoText (g : GraphParts) (found : List Triple) (out : HdtBytes) (telling : HdtTelling) : Type 0 where
   pub fault : DumpFault
-  pub stands : HasTextFault g given fault
+  pub stands : ReportsFirstNonTerm g found fault
   pub bytes : HoldsNoBytes out
   pub told : telling ≡ telling_of_fault fault
 
--- the result of `hdt_text`
-abbrev pub ReportsText : GraphParts → List (Option BorrowedString) → HdtBytes → HdtTelling → Type 0
-ReportsText g given out telling = HoldsText g given out telling ⊎ HoldsNoText g given out telling
+-- the result of making the text of triples
+abbrev pub ReportsText : GraphParts → List Triple → HdtBytes → HdtTelling → Type 0
+ReportsText g found out telling = HoldsText g found out telling ⊎ HoldsNoText g found out telling

@@ -2,8 +2,9 @@
 ghost use Rattle.std.specs.Prelude.{◌≡◌, ◌∷◌, [], map, take, drop, length, ◌<◌, ◌^◌};
 ghost use Rattle.hdt_file.specs.TextWriting.{matches_if_given};
 ghost use Rattle.hdt_file.specs.GraphView.{graph_view};
+ghost use Rattle.hdt_file.specs.Search.{IsPattern};
 ghost use Rattle.hdt_triples.specs.Remaining.{remaining_matches};
-ghost use Rattle.hdt_c.specs.LookUps.{AreMatches, CountsMatches, FindsPage, closed, numbers, string_if_flag};
+ghost use Rattle.hdt_c.specs.LookUps.{AreMatches, OfMatches, PutsPage, closed, numbers, string_if_flag};
 ghost use Rattle.hdt_c.specs.Handle.{IsClosed, OfGraph, SameGraph};
 ghost use Rattle.hdt_c.specs.CallerBuffer.{overwritten_prefix};
 
@@ -23,7 +24,7 @@ pub(crate) fn string_if_flag(has: u32, string: &[u8]) -> Option<&[u8]>
 
 /// The pattern with the IDs of the given strings; `None` if one of them is not a string of its role.
 pub(crate) fn pattern_of(graph: &Graph<'static>, given: [Option<&[u8]>; 3]) -> Option<Pattern>
-    ensures { AreMatches (graph_view graph.now) given.entry (matches_if_given (graph_view graph.now) result) }
+    ensures { AreMatches (graph_view graph.now) (IsPattern (graph_view graph.now) given.entry) (matches_if_given (graph_view graph.now) result) }
 {
     graph.pattern(given, &mut Steps::new())
 }
@@ -61,31 +62,35 @@ fn put_matches(found: Matches<'_>, buffer: &mut [[u64; 3]]) -> u64
     count as u64
 }
 
-/// The matches of given strings.
-fn find_matches<'g>(graph: &'g Graph<'static>, given: [Option<&[u8]>; 3]) -> Matches<'g>
-    ensures are { AreMatches (graph_view graph.now) given.entry (remaining_matches result) }
+/// The matches of a pattern, or none without a pattern.
+#[tactic(auto, unfolding(hdt_triples::specs::Remaining::remaining_matches))]
+fn matches_of<'g>(graph: &'g Graph<'static>, pattern: Option<Pattern>) -> Matches<'g>
+    ensures are { remaining_matches result ≡ matches_if_given (graph_view graph.now) pattern }
     ensures fits { length (remaining_matches result) < 2 ^ 64 }
 {
-    graph.find(given, &mut Steps::new())
+    match pattern {
+        Some(pattern) => graph.search(pattern),
+        None => Matches::Empty,
+    }
 }
 
 /// Writes the matches after the first `skip` to a buffer, as many as fit, and returns their number.
-fn find_into(
+pub(crate) fn find_into(
     graph: &Graph<'static>,
-    given: [Option<&[u8]>; 3],
+    pattern: Option<Pattern>,
     skip: u64,
     buffer: &mut [[u64; 3]],
 ) -> u64
-    ensures { FindsPage (graph_view graph.now) given.entry skip result buffer.old buffer.new }
+    ensures { PutsPage skip result buffer.old buffer.new (matches_if_given (graph_view graph.now) pattern) }
 {
-    put_matches(skipped(find_matches(graph, given), skip), buffer)
+    put_matches(skipped(matches_of(graph, pattern), skip), buffer)
 }
 
 /// The number of matches.
-fn count_matches(graph: &Graph<'static>, given: [Option<&[u8]>; 3]) -> u64
-    ensures { CountsMatches (graph_view graph.now) given.entry result }
+pub(crate) fn count_matches(graph: &Graph<'static>, pattern: Option<Pattern>) -> u64
+    ensures { result ≡ length (matches_if_given (graph_view graph.now) pattern) }
 {
-    match pattern_of(graph, given) {
+    match pattern {
         Some(pattern) => graph.matching(pattern, &mut Steps::new()),
         None => 0,
     }
@@ -107,7 +112,7 @@ pub extern "C" fn hdt_find(
     skip: u64,
     out: &mut [[u64; 3]],
 ) -> u64
-    ensures exact { OfGraph graph.old (λ g. FindsPage g (string_if_flag has_s s.entry ∷ string_if_flag has_p p.entry ∷ string_if_flag has_o o.entry ∷ []) skip result out.old out.new) }
+    ensures exact { OfGraph graph.old (λ g. OfMatches g (IsPattern g (string_if_flag has_s s.entry ∷ string_if_flag has_p p.entry ∷ string_if_flag has_o o.entry ∷ [])) (PutsPage skip result out.old out.new)) }
     ensures closed { IsClosed graph.old → (result ≡ closed) × (out.new ≡ out.old) }
     ensures kept { SameGraph graph.old graph.new }
 {
@@ -119,7 +124,8 @@ pub extern "C" fn hdt_find(
                 string_if_flag(has_p, p),
                 string_if_flag(has_o, o),
             ];
-            let answer = find_into(graph_ref(&taken), given, skip, out);
+            let opened = graph_ref(&taken);
+            let answer = find_into(opened, pattern_of(opened, given), skip, out);
             graph.put(taken);
             answer
         }
@@ -138,7 +144,7 @@ pub extern "C" fn hdt_matching(
     has_o: u32,
     o: &[u8],
 ) -> u64
-    ensures exact { OfGraph graph.old (λ g. CountsMatches g (string_if_flag has_s s.entry ∷ string_if_flag has_p p.entry ∷ string_if_flag has_o o.entry ∷ []) result) }
+    ensures exact { OfGraph graph.old (λ g. OfMatches g (IsPattern g (string_if_flag has_s s.entry ∷ string_if_flag has_p p.entry ∷ string_if_flag has_o o.entry ∷ [])) (λ found. result ≡ length found)) }
     ensures closed { IsClosed graph.old → result ≡ closed }
     ensures kept { SameGraph graph.old graph.new }
 {
@@ -150,7 +156,8 @@ pub extern "C" fn hdt_matching(
                 string_if_flag(has_p, p),
                 string_if_flag(has_o, o),
             ];
-            let answer = count_matches(graph_ref(&taken), given);
+            let opened = graph_ref(&taken);
+            let answer = count_matches(opened, pattern_of(opened, given));
             graph.put(taken);
             answer
         }

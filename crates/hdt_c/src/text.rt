@@ -1,10 +1,12 @@
 //! The N-Triples text of a graph.
-ghost use Rattle.std.specs.Prelude.{◌≡◌, ◌∷◌, [], IfOk, IfErr};
+ghost use Rattle.std.specs.Prelude.{◌≡◌, ◌∷◌, []};
 ghost use Rattle.hdt_file.specs.GraphView.{graph_view};
-ghost use Rattle.hdt_c.specs.LookUps.{string_if_flag};
+ghost use Rattle.hdt_file.specs.Search.{IsPattern};
+ghost use Rattle.hdt_file.specs.TextWriting.{matches_if_given};
+ghost use Rattle.hdt_c.specs.LookUps.{OfMatches, string_if_flag};
 ghost use Rattle.hdt_c.specs.Bytes.{HoldsNoBytes};
 ghost use Rattle.hdt_c.specs.Handle.{IsClosed, OfGraph, SameGraph};
-ghost use Rattle.hdt_c.specs.Texts.{IsTextOfMatches, HasTextFault, ReportsText, telling_for, role_number, telling_of_fault};
+ghost use Rattle.hdt_c.specs.Texts.{ReportsText, telling_for, role_number, telling_of_fault};
 
 use crate::bytes::HdtBytes;
 use crate::finding::{pattern_of, string_if_flag};
@@ -13,10 +15,11 @@ use crate::report::HdtTelling;
 use crate::verdict::OUT_OF_MEMORY;
 use hdt_dict::Role;
 use hdt_file::{DumpFault, Graph, graph_text};
+use hdt_triples::Pattern;
 use std::alloc::Global;
 
 /// `HDT_NOT_A_TERM`: a string is not a term that its role allows.
-const NOT_A_TERM: u32 = 250;
+pub(crate) const NOT_A_TERM: u32 = 250;
 
 /// `HDT_IS_CLOSED`: the graph is not open.
 const IS_CLOSED: u32 = 253;
@@ -57,28 +60,16 @@ fn telling_of_fault(fault: DumpFault) -> HdtTelling
     }
 }
 
-/// The text of the matches.
-fn text_of(
-    alloc: Global,
-    graph: &Graph<'static>,
-    given: [Option<&[u8]>; 3],
-) -> Result<Vec<u8>, DumpFault>
-    ensures ok { IfOk result (λ text. IsTextOfMatches (graph_view graph.now) given.entry text.items) }
-    ensures err { IfErr result (HasTextFault (graph_view graph.now) given.entry) }
-{
-    graph_text(alloc, graph, pattern_of(graph, given))
-}
-
 /// Puts the text of the matches into a handle. On an error the handle has no bytes.
-fn put_text(
+pub(crate) fn put_text(
     alloc: Global,
     graph: &Graph<'static>,
-    given: [Option<&[u8]>; 3],
+    pattern: Option<Pattern>,
     out: &mut HdtBytes,
 ) -> HdtTelling
-    ensures { ReportsText (graph_view graph.now) given.entry out.new result }
+    ensures { ReportsText (graph_view graph.now) (matches_if_given (graph_view graph.now) pattern) out.new result }
 {
-    match text_of(alloc, graph, given) {
+    match graph_text(alloc, graph, pattern) {
         Ok(text) => match out.put(alloc, text) {
             Ok(()) => for_reason(0),
             Err(_) => telling_of_fault(DumpFault::OutOfMemory),
@@ -88,6 +79,14 @@ fn put_text(
             telling_of_fault(fault)
         }
     }
+}
+
+/// The result of a graph that is not open: there is no text.
+pub(crate) fn no_graph(alloc: Global, out: &mut HdtBytes) -> HdtTelling
+    ensures { (result ≡ telling_for 253) × HoldsNoBytes out.new }
+{
+    out.free(alloc);
+    for_reason(IS_CLOSED)
 }
 
 /// `hdt_text`: makes the N-Triples text of the matches. On an error `out` has no bytes.
@@ -104,22 +103,20 @@ pub extern "C" fn hdt_text(
     out: &mut HdtBytes,
     telling: &mut HdtTelling,
 )
-    ensures exact { OfGraph graph.old (λ g. ReportsText g (string_if_flag has_s s.entry ∷ string_if_flag has_p p.entry ∷ string_if_flag has_o o.entry ∷ []) out.new telling.new) }
+    ensures exact { OfGraph graph.old (λ g. OfMatches g (IsPattern g (string_if_flag has_s s.entry ∷ string_if_flag has_p p.entry ∷ string_if_flag has_o o.entry ∷ [])) (λ found. ReportsText g found out.new telling.new)) }
     ensures closed { IsClosed graph.old → (telling.new ≡ telling_for 253) × HoldsNoBytes out.new }
     ensures kept { SameGraph graph.old graph.new }
 {
     match graph.take(alloc) {
-        None => {
-            out.free(alloc);
-            *telling = for_reason(IS_CLOSED);
-        }
+        None => *telling = no_graph(alloc, out),
         Some(taken) => {
             let given = [
                 string_if_flag(has_s, s),
                 string_if_flag(has_p, p),
                 string_if_flag(has_o, o),
             ];
-            *telling = put_text(alloc, graph_ref(&taken), given, out);
+            let opened = graph_ref(&taken);
+            *telling = put_text(alloc, opened, pattern_of(opened, given), out);
             graph.put(taken);
         }
     }

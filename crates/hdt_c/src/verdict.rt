@@ -1,9 +1,10 @@
 //! Verifying a file.
 ghost use Rattle.std.specs.Prelude.{◌≡◌, IsOk};
 ghost use Rattle.hdt_file.specs.File.{decode_graph};
+ghost use Rattle.hdt_file.specs.Tight.{decode_tight_graph};
 ghost use Rattle.hdt_c.specs.Verdicts.{IsVerdictOn, verdict_for, verdict_of_result};
 
-use hdt_file::{OpenFault, verify};
+use hdt_file::{OpenFault, verify, verify_tight};
 use std::alloc::Global;
 
 /// `HDT_OUT_OF_MEMORY`: memory ran out.
@@ -16,7 +17,7 @@ pub(crate) const BAD_OPTIONS: u32 = 252;
 #[repr(C)]
 #[derive(Clone, Copy)]
 pub struct HdtVerdict {
-    /// 0: valid; 1 to 33: the number of the first error's reason; 255: out of memory; or another one of c/hdt.h.
+    /// 0: valid; 1 to 34: the number of the first error's reason; 255: out of memory; or another one of c/hdt.h.
     pub reason: u32,
     /// The byte offset of the error; 0 if there is none.
     pub place: u64,
@@ -62,4 +63,13 @@ pub extern "C" fn hdt_verify(alloc: Global, bytes: &[u8], verdict: &mut HdtVerdi
     ensures { IsVerdictOn verdict.new (decode_graph bytes.now) }
 {
     *verdict = verdict_of_result(verify(alloc, bytes));
+}
+
+/// `hdt_verify_tight`: verifies a file whose strings have to be used, as `hdt_file::verify_tight` does.
+#[unsafe(no_mangle)]
+pub extern "C" fn hdt_verify_tight(alloc: Global, bytes: &[u8], verdict: &mut HdtVerdict)
+    // The verdict is that on the bytes, or says that memory ran out.
+    ensures { IsVerdictOn verdict.new (decode_tight_graph bytes.now) }
+{
+    *verdict = verdict_of_result(verify_tight(alloc, bytes));
 }

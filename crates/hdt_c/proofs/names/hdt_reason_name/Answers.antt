@@ -1,0 +1,5 @@
+-- The reason that was found has the number.
+use Rattle.hdt_c.proofs.names.hdt_reason_name.Goals as goal
+
+pub returns-in-Some-clause-none : goal.returns-in-Some-clause-none
+returns-in-Some-clause-none c = λ never. absurd (never c.in-Some.found ((c.file_reason.ensures c.in-Some.found).0 c.in-Some.is))
