@@ -7,6 +7,7 @@ pub mod File
 pub mod Graph
 pub mod Head
 pub mod LayoutView
+pub mod Paging
 pub mod LayoutParts
 pub mod LayoutPartsViews
 pub mod Search

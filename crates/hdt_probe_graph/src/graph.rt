@@ -2,18 +2,21 @@
 
 use crate::open::graph_of;
 use hdt_dict::RoleCursor;
+use hdt_file::Graph;
 use hdt_probe::{Args, Reply};
 use hdt_seq::Steps;
 use hdt_triples::{Matches, Pattern};
 
 /// The words of this module, each with its number of arguments.
 pub(crate) const WORDS: &str =
-    "search 3+ search_count 4+ find_strings 3 pattern 3 number_of 1+ string_of 3 strings_of 2+ uses_of 1+ strings 1";
+    "search 3+ page 5+ pages 4 search_count 4+ find_strings 3 pattern 3 number_of 1+ string_of 3 strings_of 2+ uses_of 1+ strings 1";
 
 /// Answers a request with one of these words. Returns false if the word is not one of them.
 pub(crate) fn answer(word: &str, args: &mut Args<'_>, reply: &mut Reply) -> bool {
     match word {
         "search" => reply_search(args, reply),
+        "page" => reply_page(args, reply),
+        "pages" => reply_pages(args, reply),
         "search_count" => reply_matching_up_to(args, reply),
         "find_strings" => reply_find_strings(args, reply),
         "pattern" => reply_pattern_of(args, reply),
@@ -72,6 +75,73 @@ fn reply_search(args: &mut Args<'_>, reply: &mut Reply) {
         reply_items(graph.search(pattern), reply);
         if !args.has_more() {
             break;
+        }
+    }
+}
+
+/// Makes a page. Appends the index of the next match, the number of triples of the page, and the triples; or
+/// `out of memory`, and the number of triples after the call. Returns the index.
+fn reply_one_page(
+    graph: &Graph<'_>,
+    pattern: Pattern,
+    from: u64,
+    most: u64,
+    page: &mut Vec<(u64, u64, u64)>,
+    reply: &mut Reply,
+) -> Option<u64> {
+    let next = match graph.page(pattern, from, most, page, &mut Steps::new()) {
+        Ok(next) => {
+            reply.optional_number(next);
+            next
+        }
+        Err(_) => {
+            reply.out_of_memory();
+            None
+        }
+    };
+    reply.size(page.len());
+    for triple in &*page {
+        reply.triple(*triple);
+    }
+    next
+}
+
+/// For a triple, a size and each pattern: the number of matches from the triple on, and the page of that size behind a
+/// triple that was there.
+fn reply_page(args: &mut Args<'_>, reply: &mut Reply) {
+    let Some(graph) = graph_of(args, reply) else {
+        return;
+    };
+    let from = args.number();
+    let most = args.number();
+    for _ in 0..u64::MAX {
+        let pattern = pattern_of(args);
+        let mut page = Vec::new(args.alloc);
+        if page.push((0, 0, 0)).is_err() {
+            return reply.out_of_memory();
+        }
+        reply.number(count(graph.search_from(pattern, from, &mut Steps::new())));
+        let _ = reply_one_page(&graph, pattern, from, most, &mut page, reply);
+        if !args.has_more() {
+            break;
+        }
+    }
+}
+
+/// All pages of one size of a pattern, each from where the one before says.
+fn reply_pages(args: &mut Args<'_>, reply: &mut Reply) {
+    let Some(graph) = graph_of(args, reply) else {
+        return;
+    };
+    let most = args.number();
+    let pattern = pattern_of(args);
+    let mut page = Vec::new(args.alloc);
+    let mut from = 0;
+    for _ in 0..u64::MAX {
+        page.clear();
+        match reply_one_page(&graph, pattern, from, most, &mut page, reply) {
+            Some(next) => from = next,
+            None => break,
         }
     }
 }

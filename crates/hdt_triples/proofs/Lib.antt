@@ -1,4 +1,5 @@
 mod PatternLaws
+mod StartLaws
 mod AscentLaws
 mod KeyCountLaws
 mod PreviousLaws

@@ -1,5 +1,5 @@
 -- The triples of an object.
-use Rattle.std.proofs.Common.{◌≡◌, ℕ, ◌+◌, ◌<◌, ◌≤◌, ◌==◌, List, [], ◌∷◌, length, map, filter, drop, refl, ap, sym, ◌∙◌, arith, Bool, true, false, cond, Some, slice_index, subst, eq-eqb}
+use Rattle.std.proofs.Common.{◌≡◌, ℕ, ◌+◌, ◌-◌, ◌<◌, ◌≤◌, ◌==◌, List, [], ◌∷◌, length, map, filter, drop, refl, ap, sym, ◌∙◌, arith, Bool, true, false, cond, Some, slice_index, subst, eq-eqb}
 use Rattle.std.proofs.lemmas.Bool.{eqb-true, eqb-false}
 use Rattle.std.proofs.lemmas.List.{nil_from_length}
 use Rattle.std.proofs.lemmas.List.Elements.{filter_passes, All-filter, All-from_get_or, All-rest}
@@ -8,8 +8,9 @@ use Rattle.std.specs.List.{All, range_with_len}
 use Rattle.hdt_triples.specs.declared.pattern.Pattern.{Pattern}
 use Rattle.hdt_triples.specs.TripleSequences.{BitmapTriples, Triple, triple_at, triples_of}
 use Rattle.hdt_triples.specs.Patterns.{agrees, matches}
+use Rattle.hdt_triples.specs.Scanning.{triples_from}
 use Rattle.hdt_triples.specs.Bounds.{of_object, object_cost, IsWithinBudget, limit}
-use Rattle.hdt_triples.specs.InvertedIndex.{positions_of, IsPositionOf}
+use Rattle.hdt_triples.specs.InvertedIndex.{positions_of, positions_from, IsPositionOf}
 use Rattle.hdt_triples.proofs.PatternLaws.{other_object}
 use Rattle.hdt_triples.proofs.InvertedIndexLaws.{split_rest}
 
@@ -36,6 +37,13 @@ kept_matches p t keep (j ∷ js) none = by_test p t keep j js (keep j) (agrees p
 pub object_law : (p : Pattern) (f : BitmapTriples) (o : ℕ) → p.o ≡ Some o → matches p (map (triple_at f) (positions_of f.array_z o)) ≡ matches p (triples_of f)
 unfolding matches triples_of
 object_law p f o given = kept_matches p (triple_at f) (λ j. slice_index f.array_z j == o) (range_with_len 0 (length f.array_z)) (λ j no. other_object p o (triple_at f j) given (eqb-false (slice_index f.array_z j) o no))
+
+-- The same from an index on.
+pub object_left : (p : Pattern) (f : BitmapTriples) (o a : ℕ) (js : List ℕ) → p.o ≡ Some o → js ≡ positions_from f.array_z o a → matches p (map (triple_at f) js) ≡ matches p (triples_from f a)
+unfolding matches triples_from
+object_left p f o a js given is =
+    ap (λ xs. filter (agrees p) (map (triple_at f) xs)) is
+    ∙ kept_matches p (triple_at f) (λ j. slice_index f.array_z j == o) (range_with_len a (length f.array_z - a)) (λ j no. other_object p o (triple_at f j) given (eqb-false (slice_index f.array_z j) o no))
 
 pub object_budget_first : (f : BitmapTriples) (o steps : ℕ) → steps ≤ 20 → IsWithinBudget (object_cost o) f steps (map (triple_at f) (positions_of f.array_z o))
 unfolding limit object_cost

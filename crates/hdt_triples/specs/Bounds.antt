@@ -125,6 +125,11 @@ scan_steps_by f s p o = 4 * length f.array_z
 unfoldable pub scan_steps : BitmapTriples → Pattern → ℕ
 scan_steps f p = scan_steps_by f p.s p.p p.o
 
+-- Finding where a search from a triple on begins: three searches by rank and select, a binary search among the pairs and
+-- one among the triples.
+unfoldable pub start_cost : BitmapTriples → ℕ
+start_cost f = 3 * lookup_cost f + digits (length f.array_y) + digits (length f.array_z)
+
 -- The steps so far, and the bound for the remaining triples, are within the bound for the complete search.
 abbrev pub IsWithinBudget : CostBound → BitmapTriples → ℕ → List Triple → Type 0
 IsWithinBudget c f steps left = steps + c.each * length (matches c.counted left) ≤ limit c f

@@ -83,6 +83,20 @@ impl<'a> IndexedTriples<'a> {
         self.y.rank(&self.triples.bitmap_y, pair, steps) + 1
     }
 
+    /// Returns the position of the triple with this index.
+    #[tactic(auto, unfolding(crate::specs::Views::triples_view))]
+    pub(crate) fn position_at(&self, at: u64, steps: &mut Steps) -> TriplePosition
+        requires { at < length (triples_view (triples_indexed self.now)).array_z }
+        ensures at { result.at ≡ at }
+        ensures stands { IsTriplePosition (triples_view (triples_indexed self.now)) result }
+        ensures cost { steps.new ≤ steps.old + 16 }
+        ensures more { steps.old ≤ steps.new }
+    {
+        let pair = self.z.rank(&self.triples.bitmap_z, at, steps);
+        let subject = self.subject_of_pair(pair, steps);
+        TriplePosition { at, pair, subject }
+    }
+
     /// Returns the index of a pair's first triple.
     #[tactic(auto, unfolding(crate::specs::Views::triples_view))]
     pub(crate) fn start_of_pair(&self, pair: u64, steps: &mut Steps) -> u64
@@ -120,6 +134,7 @@ impl<'a> IndexedTriples<'a> {
         ensures reached { result.at < length (triples_view (triples_indexed self.now)).array_z → subject ≤ result.subject }
         ensures before { (i : ℕ) → i < result.at → subject_at (triples_view (triples_indexed self.now)) (pair_of (triples_view (triples_indexed self.now)) i) ≢ subject }
         ensures cost { steps.new ≤ steps.old + (digits (groups (triples_view (triples_indexed self.now)).bitmap_y) + digits (groups (triples_view (triples_indexed self.now)).bitmap_z) + 17) }
+        ensures more { steps.old ≤ steps.new }
     {
         let subjects = self.subjects(steps);
         if subject == 0 || subject > subjects {
@@ -131,5 +146,29 @@ impl<'a> IndexedTriples<'a> {
         let pair = self.y.select(&self.triples.bitmap_y, subject - 1, steps) + 1;
         let at = self.z.select(&self.triples.bitmap_z, pair, steps) + 1;
         TriplePosition { at, pair, subject }
+    }
+
+    /// Returns the position of a subject's first triple from index `from` on. If there is none, that is a position from
+    /// which on no triple has the subject.
+    #[tactic(auto, unfolding(crate::specs::Views::triples_view))]
+    pub(crate) fn start_of_subject_from(
+        &self,
+        subject: u64,
+        from: u64,
+        steps: &mut Steps,
+    ) -> TriplePosition
+        requires { from < length (triples_view (triples_indexed self.now)).array_z }
+        ensures stands { IsTriplePosition (triples_view (triples_indexed self.now)) result }
+        ensures reached { result.at < length (triples_view (triples_indexed self.now)).array_z → subject ≤ result.subject }
+        ensures later { from ≤ result.at }
+        ensures before { (i : ℕ) → from ≤ i → i < result.at → subject_at (triples_view (triples_indexed self.now)) (pair_of (triples_view (triples_indexed self.now)) i) ≢ subject }
+        ensures cost { steps.new ≤ steps.old + (digits (groups (triples_view (triples_indexed self.now)).bitmap_y) + digits (groups (triples_view (triples_indexed self.now)).bitmap_z) + 33) }
+        ensures more { steps.old ≤ steps.new }
+    {
+        let start = self.start_of_subject(subject, steps);
+        if from <= start.at {
+            return start;
+        }
+        self.position_at(from, steps)
     }
 }

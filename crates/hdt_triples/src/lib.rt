@@ -29,7 +29,8 @@
 //!
 //! Searching: [`Matches`], the iterator, with one case for each search strategy. [`Triples`] scans all triples;
 //! [`IndexedTriples`] adds rank/select indexes, which find a subject and a pair; [`ListedTriples`] adds inverted
-//! indexes by predicate and by object. specs/Bounds has the table of the maximal number of steps.
+//! indexes by predicate and by object. `find_from` of the last begins at any triple, by its index. specs/Bounds has the
+//! table of the maximal number of steps.
 #![tactic(auto)]
 
 mod access;

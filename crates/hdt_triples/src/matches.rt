@@ -1,8 +1,9 @@
 //! The matches of a pattern.
-ghost use Rattle.std.specs.Prelude.{◌≡◌, ◌≤◌, ◌<◌, ◌*◌, ◌^◌, IsSome, None, length};
-ghost use Rattle.hdt_triples.specs.Bounds.{most_steps, shorter_list_steps};
+ghost use Rattle.std.specs.Prelude.{◌≡◌, ◌≤◌, ◌<◌, ◌+◌, ◌*◌, ◌^◌, IsSome, None, length, drop};
+ghost use Rattle.hdt_triples.specs.Bounds.{most_steps, shorter_list_steps, start_cost};
 ghost use Rattle.hdt_triples.specs.TripleSequences.{triples_of};
 ghost use Rattle.hdt_triples.specs.Patterns.{matches};
+ghost use Rattle.hdt_triples.specs.Scanning.{triples_from};
 ghost use Rattle.hdt_triples.specs.Views.{triples_view};
 
 use crate::indexed::IndexedTriples;
@@ -100,6 +101,56 @@ impl<'a> ListedTriples<'a> {
             (None, Some(predicate), None) => self.find_predicate(predicate),
             (None, None, None) => self.indexed.triples.find(pattern),
         }
+    }
+
+    /// Finds the matches of a pattern from a triple on. The triple must exist.
+    #[tactic(auto, using(crate::proofs::PredicateObjectLaws::shorter), unfolding(crate::specs::Bounds::most_steps, crate::specs::Bounds::shorter_list_steps, crate::specs::Bounds::start_cost, crate::specs::Bounds::lookup_cost))]
+    fn find_from_triple(&self, pattern: Pattern, from: u64, steps: &mut Steps) -> Matches<'_>
+        requires { from < length (triples_view (triples_listed self.now)).array_z }
+        ensures items { remaining_matches result ≡ matches pattern (triples_from (triples_view (triples_listed self.now)) from) }
+        ensures few { step_limit result ≤ most_steps (triples_view (triples_listed self.now)) pattern }
+        ensures short { shorter_list_step_limit result ≤ shorter_list_steps (triples_view (triples_listed self.now)) pattern }
+        ensures cost { steps.new ≤ steps.old + start_cost (triples_view (triples_listed self.now)) }
+        ensures more { steps.old ≤ steps.new }
+    {
+        match (pattern.s, pattern.p, pattern.o) {
+            (Some(subject), None, Some(object)) => {
+                self.find_subject_object_from(pattern, subject, object, from, steps)
+            }
+            (Some(subject), None, None) => {
+                self.indexed
+                    .find_subject_from(pattern, subject, from, steps)
+            }
+            (Some(subject), Some(predicate), _) => {
+                self.indexed
+                    .find_pair_from(pattern, subject, predicate, from, steps)
+            }
+            (None, None, Some(object)) => self.find_object_from(pattern, object, from, steps),
+            (None, Some(predicate), Some(object)) => {
+                self.find_predicate_object_from(pattern, predicate, object, from, steps)
+            }
+            (None, Some(predicate), None) => self.find_predicate_from(predicate, from, steps),
+            (None, None, None) => self.indexed.scan_from(pattern, from, steps),
+        }
+    }
+
+    /// Finds the matches of a pattern from triple `from` on, from 0, in order; from the number of triples on there are
+    /// none. It finds the first one by binary search, and those after it as [`ListedTriples::find`] does. Allocates
+    /// nothing.
+    pub fn find_from(&self, pattern: Pattern, from: u64, steps: &mut Steps) -> Matches<'_>
+        ensures items { remaining_matches result ≡ matches pattern (drop from (triples_of (triples_view (triples_listed self.now)))) }
+        ensures fits { length (remaining_matches result) < 2 ^ 64 }
+        // The steps of all items are bounded by the tables for all matches,
+        ensures few { step_limit result ≤ most_steps (triples_view (triples_listed self.now)) pattern }
+        ensures short { shorter_list_step_limit result ≤ shorter_list_steps (triples_view (triples_listed self.now)) pattern }
+        // and those of this call by this.
+        ensures cost { steps.new ≤ steps.old + start_cost (triples_view (triples_listed self.now)) }
+        ensures more { steps.old ≤ steps.new }
+    {
+        if from >= self.indexed.triples.len() {
+            return Matches::Empty;
+        }
+        self.find_from_triple(pattern, from, steps)
     }
 }
 

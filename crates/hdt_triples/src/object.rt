@@ -1,13 +1,15 @@
 //! Search by an object.
 ghost use Rattle.std.specs.Prelude.{◌≡◌, ◌≤◌, ◌+◌, ◌<◌, ◌^◌, map, Some, length};
 ghost use Rattle.std.specs.List.{All};
+ghost use Rattle.hdt_seq.specs.Width.{digits};
 ghost use Rattle.hdt_triples.specs.Bounds.{object_cost, IsWithinBudget, limit};
 ghost use Rattle.hdt_triples.specs.TripleSequences.{triple_at, triples_of};
 ghost use Rattle.hdt_triples.specs.InvertedIndex.{IsPositionOf};
 ghost use Rattle.hdt_triples.specs.Patterns.{matches};
 ghost use Rattle.hdt_triples.specs.Views.{triples_view};
+ghost use Rattle.hdt_triples.specs.Scanning.{triples_from};
 
-use crate::access::{read_entry, read_list};
+use crate::access::{lower_bound, read_entry, read_list};
 use crate::indexed::IndexedTriples;
 use crate::listed_triples::ListedTriples;
 use crate::matches::Matches;
@@ -66,6 +68,33 @@ impl<'a> ListedTriples<'a> {
             object,
             rest,
             steps,
+        })
+    }
+
+    /// Finds the matches of a pattern with this object, from a triple on.
+    #[tactic(auto, unfolding(crate::specs::Remaining::remaining_matches, crate::specs::Remaining::step_limit))]
+    pub(crate) fn find_object_from(
+        &self,
+        pattern: Pattern,
+        object: u64,
+        from: u64,
+        steps: &mut Steps,
+    ) -> Matches<'_>
+        requires given { pattern.o ≡ Some object }
+        requires within { from < length (triples_view (triples_listed self.now)).array_z }
+        ensures items { remaining_matches result ≡ matches pattern (triples_from (triples_view (triples_listed self.now)) from) }
+        ensures limit { step_limit result ≡ limit (object_cost object) (triples_view (triples_listed self.now)) }
+        ensures cost { steps.new ≤ steps.old + (digits (length (triples_view (triples_listed self.now)).array_z) + 2) }
+        ensures more { steps.old ≤ steps.new }
+    {
+        let places = self.positions_of(object, steps);
+        let next = lower_bound(places, from, steps);
+        Matches::Object(ObjectMatches {
+            indexed: &self.indexed,
+            pattern,
+            object,
+            rest: places.split_at(next).1,
+            steps: Steps::new(),
         })
     }
 }

@@ -2,7 +2,7 @@
 ghost use Rattle.std.specs.Prelude.{◌≡◌, ◌≤◌, ◌<◌, ◌+◌, ◌*◌, ◌^◌, ℕ, length, Some, IfSome, false};
 ghost use Rattle.hdt_seq.specs.Directory.{groups};
 ghost use Rattle.hdt_seq.specs.Width.{digits};
-ghost use Rattle.hdt_triples.specs.Bounds.{pair_cost, IsWithinBudget, limit};
+ghost use Rattle.hdt_triples.specs.Bounds.{pair_cost, IsWithinBudget, limit, start_cost};
 ghost use Rattle.hdt_triples.specs.TripleSequences.{triple_at, triples_of};
 ghost use Rattle.hdt_triples.specs.Patterns.{agrees, matches};
 ghost use Rattle.hdt_triples.specs.Inside.Runs.{IsObjectSearch, IsPairOf, IsRunOfTriples, IsPairRange};
@@ -84,6 +84,7 @@ impl<'a> IndexedTriples<'a> {
         requires predicate_given { pattern.p ≡ Some predicate }
         ensures run { IsRunOfTriples (triples_view (triples_indexed self.now)) pattern subject predicate result.0 result.1 }
         ensures before { (i : ℕ) → i < result.0 → agrees pattern (triple_at (triples_view (triples_indexed self.now)) i) ≡ false }
+        ensures one { (o : ℕ) → pattern.o ≡ Some o → result.1 ≤ result.0 + 1 }
         ensures cost { steps.new ≤ steps.old + (2 * digits (groups (triples_view (triples_indexed self.now)).bitmap_y) + 2 * digits (groups (triples_view (triples_indexed self.now)).bitmap_z) + 35 + digits (length (triples_view (triples_indexed self.now)).array_y) + digits (length (triples_view (triples_indexed self.now)).array_z)) }
         ensures more { steps.old ≤ steps.new }
     {
@@ -140,6 +141,75 @@ impl<'a> IndexedTriples<'a> {
             steps,
         })
     }
+
+    /// Finds the matches of a pattern with this subject and this predicate, from a triple on.
+    #[tactic(auto, unfolding(crate::specs::Remaining::remaining_matches, crate::specs::Remaining::step_limit))]
+    pub(crate) fn find_pair_from(
+        &self,
+        pattern: Pattern,
+        subject: u64,
+        predicate: u64,
+        from: u64,
+        steps: &mut Steps,
+    ) -> Matches<'a>
+        requires subject_given { pattern.s ≡ Some subject }
+        requires predicate_given { pattern.p ≡ Some predicate }
+        requires within { from < length (triples_view (triples_indexed self.now)).array_z }
+        ensures items { remaining_matches result ≡ matches pattern (triples_from (triples_view (triples_indexed self.now)) from) }
+        ensures limit { step_limit result ≡ limit (pair_cost (triples_view (triples_indexed self.now)) pattern) (triples_view (triples_indexed self.now)) }
+        ensures cost { steps.new ≤ steps.old + (2 * digits (groups (triples_view (triples_indexed self.now)).bitmap_y) + 2 * digits (groups (triples_view (triples_indexed self.now)).bitmap_z) + 35 + digits (length (triples_view (triples_indexed self.now)).array_y) + digits (length (triples_view (triples_indexed self.now)).array_z)) }
+        ensures more { steps.old ≤ steps.new }
+    {
+        let (start, end) = self.match_range(pattern, subject, predicate, steps);
+        Matches::Pair(PairMatches {
+            triples: self.triples,
+            pattern,
+            subject,
+            predicate,
+            at: nearest_within(from, start, end),
+            end,
+            steps: Steps::new(),
+        })
+    }
+
+    /// Returns the index of a triple in the list, from 0, or `None` if it is not there, by a binary search among the
+    /// subject's pairs and one among the pair's objects.
+    #[tactic(auto, unfolding(crate::specs::Bounds::start_cost, crate::specs::Bounds::lookup_cost))]
+    pub fn index_of(&self, triple: (u64, u64, u64), steps: &mut Steps) -> Option<u64>
+        ensures found { IfSome result (λ i. (i < length (triples_view (triples_indexed self.now)).array_z) × (triple_at (triples_view (triples_indexed self.now)) i ≡ triple)) }
+        ensures only { (i : ℕ) → i < length (triples_view (triples_indexed self.now)).array_z → triple_at (triples_view (triples_indexed self.now)) i ≡ triple → result ≡ Some i }
+        ensures cost { steps.new ≤ steps.old + start_cost (triples_view (triples_indexed self.now)) }
+        ensures more { steps.old ≤ steps.new }
+    {
+        let (subject, predicate, object) = triple;
+        let pattern = Pattern {
+            s: Some(subject),
+            p: Some(predicate),
+            o: Some(object),
+        };
+        let (at, end) = self.match_range(pattern, subject, predicate, steps);
+        if at < end {
+            return Some(at);
+        }
+        None
+    }
+}
+
+/// Returns n if it is from `low` to `high`, and else the nearer of the two.
+fn nearest_within(n: u64, low: u64, high: u64) -> u64
+    requires { low ≤ high }
+    ensures from { low ≤ result }
+    ensures to { result ≤ high }
+    ensures up { result < n → result ≡ high }
+    ensures down { n < result → result ≡ low }
+{
+    if n < low {
+        return low;
+    }
+    if n > high {
+        return high;
+    }
+    n
 }
 
 impl<'a> Iterator for PairMatches<'a> {

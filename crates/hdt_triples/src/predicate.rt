@@ -1,5 +1,7 @@
 //! Search by a predicate only.
-ghost use Rattle.std.specs.Prelude.{◌≡◌, ◌≤◌, ◌<◌, ◌^◌, length};
+ghost use Rattle.std.specs.Prelude.{◌≡◌, ◌≤◌, ◌<◌, ◌+◌, ◌^◌, length};
+ghost use Rattle.hdt_seq.specs.Directory.{groups};
+ghost use Rattle.hdt_seq.specs.Width.{digits};
 ghost use Rattle.hdt_triples.specs.Bounds.{of_predicate, predicate_cost, IsWithinBudget, limit};
 ghost use Rattle.hdt_triples.specs.TripleSequences.{triples_of};
 ghost use Rattle.hdt_triples.specs.Patterns.{matches};
@@ -48,6 +50,30 @@ impl<'a> ListedTriples<'a> {
                 inside: false,
             },
             steps,
+        })
+    }
+
+    /// Finds the triples of a predicate from a triple on.
+    #[tactic(auto, unfolding(crate::specs::Remaining::remaining_matches, crate::specs::Remaining::step_limit))]
+    pub(crate) fn find_predicate_from(
+        &self,
+        predicate: u64,
+        from: u64,
+        steps: &mut Steps,
+    ) -> Matches<'_>
+        requires { from < length (triples_view (triples_listed self.now)).array_z }
+        ensures items { remaining_matches result ≡ matches (of_predicate predicate) (triples_from (triples_view (triples_listed self.now)) from) }
+        ensures limit { step_limit result ≡ limit (predicate_cost (triples_view (triples_listed self.now)) predicate) (triples_view (triples_listed self.now)) }
+        ensures cost { steps.new ≤ steps.old + (digits (length (triples_view (triples_listed self.now)).array_y) + digits (groups (triples_view (triples_listed self.now)).bitmap_z) + 27) }
+        ensures more { steps.old ≤ steps.new }
+    {
+        let pairs = self.pairs_of(predicate, steps);
+        let cursor = self.indexed.cursor_from(pairs, predicate, from, steps);
+        Matches::Predicate(PredicateMatches {
+            indexed: &self.indexed,
+            predicate,
+            cursor,
+            steps: Steps::new(),
         })
     }
 }

@@ -3,12 +3,13 @@ ghost use Rattle.std.specs.Prelude.{◌≡◌, ◌≤◌, ◌<◌, ◌+◌, ℕ,
 ghost use Rattle.hdt_seq.specs.Directory.{groups};
 ghost use Rattle.hdt_seq.specs.Width.{digits};
 ghost use Rattle.hdt_triples.specs.Bounds.{of_predicate};
+ghost use Rattle.hdt_triples.specs.InvertedIndex.{positions_of};
 ghost use Rattle.hdt_triples.specs.Patterns.{matches};
 ghost use Rattle.hdt_triples.specs.Inside.PredicateCursors.{IsPredicateCursor};
 ghost use Rattle.hdt_triples.specs.Views.{triples_view};
 ghost use Rattle.hdt_triples.specs.Scanning.{triples_from};
 
-use crate::access::{read_bit, read_list};
+use crate::access::{lower_bound, read_bit, read_entry, read_list};
 use crate::indexed::IndexedTriples;
 use crate::triples::Triples;
 use hdt_seq::Steps;
@@ -57,6 +58,47 @@ impl<'a> IndexedTriples<'a> {
             at,
             subject,
             inside: true,
+        }
+    }
+}
+
+impl<'a> IndexedTriples<'a> {
+    ghost use Rattle.hdt_triples.specs.IndexViews.{triples_indexed};
+
+    /// Returns the position from which on the triples of a predicate are those from index `from` on, given the indices
+    /// of its pairs.
+    #[tactic(auto, unfolding(crate::specs::Views::triples_view))]
+    pub(crate) fn cursor_from<'b>(
+        &self,
+        pairs: &'b [u64],
+        predicate: u64,
+        from: u64,
+        steps: &mut Steps,
+    ) -> PredicateCursor<'b>
+        requires pairs { pairs.now ≡ positions_of (triples_view (triples_indexed self.now)).array_y predicate }
+        requires within { from < length (triples_view (triples_indexed self.now)).array_z }
+        ensures stands { IsPredicateCursor (triples_view (triples_indexed self.now)) predicate result }
+        ensures within { result.at ≤ length (triples_view (triples_indexed self.now)).array_z }
+        ensures left { matches (of_predicate predicate) (triples_from (triples_view (triples_indexed self.now)) result.at) ≡ matches (of_predicate predicate) (triples_from (triples_view (triples_indexed self.now)) from) }
+        ensures cost { steps.new ≤ steps.old + (digits (length pairs.now) + digits (groups (triples_view (triples_indexed self.now)).bitmap_z) + 25) }
+        ensures more { steps.old ≤ steps.new }
+    {
+        let position = self.position_at(from, steps);
+        let next = lower_bound(pairs, position.pair + 1, steps);
+        let rest = pairs.split_at(next).1;
+        if read_entry(&self.triples.array_y, position.pair, steps) == predicate {
+            return PredicateCursor {
+                rest,
+                at: from,
+                subject: position.subject,
+                inside: true,
+            };
+        }
+        PredicateCursor {
+            rest,
+            at: self.end_of_pair(position.pair, steps),
+            subject: 0,
+            inside: false,
         }
     }
 }

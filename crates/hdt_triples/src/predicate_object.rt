@@ -6,9 +6,11 @@ ghost use Rattle.hdt_triples.specs.Inside.PredicateCursors.{IsBeforePair};
 ghost use Rattle.hdt_triples.specs.InvertedIndex.{positions_of};
 ghost use Rattle.hdt_triples.specs.Patterns.{matches};
 ghost use Rattle.hdt_triples.specs.Views.{triples_view};
+ghost use Rattle.hdt_triples.specs.Scanning.{triples_from};
+ghost use Rattle.hdt_seq.specs.Directory.{groups};
 ghost use Rattle.hdt_seq.specs.Width.{digits};
 
-use crate::access::read_list;
+use crate::access::{lower_bound, read_list};
 use crate::indexed::IndexedTriples;
 use crate::listed_triples::ListedTriples;
 use crate::matches::Matches;
@@ -73,6 +75,81 @@ impl<'a> ListedTriples<'a> {
             at: 0,
             steps,
         })
+    }
+
+    /// Finds the matches of a pattern with this predicate, this object and no subject, from a triple on.
+    #[tactic(auto, unfolding(crate::specs::Remaining::remaining_matches, crate::specs::Remaining::step_limit, crate::specs::Remaining::shorter_list_step_limit))]
+    pub(crate) fn find_predicate_object_from(
+        &self,
+        pattern: Pattern,
+        predicate: u64,
+        object: u64,
+        from: u64,
+        steps: &mut Steps,
+    ) -> Matches<'_>
+        requires free { pattern.s ≡ None }
+        requires predicate_given { pattern.p ≡ Some predicate }
+        requires object_given { pattern.o ≡ Some object }
+        requires within { from < length (triples_view (triples_listed self.now)).array_z }
+        ensures items { remaining_matches result ≡ matches pattern (triples_from (triples_view (triples_listed self.now)) from) }
+        ensures limit { step_limit result ≡ limit (object_cost object) (triples_view (triples_listed self.now)) }
+        ensures short { shorter_list_step_limit result ≤ pair_search_cost (triples_view (triples_listed self.now)) * (1 + length (positions_of (triples_view (triples_listed self.now)).array_y predicate)) }
+        ensures cost { steps.new ≤ steps.old + (3 * digits (groups (triples_view (triples_listed self.now)).bitmap_z) + digits (length (triples_view (triples_listed self.now)).array_y) + digits (length (triples_view (triples_listed self.now)).array_z) + 46) }
+        ensures more { steps.old ≤ steps.new }
+    {
+        let pairs = self.pairs_of(predicate, steps);
+        let places = self.positions_of(object, steps);
+        let by_object = 20 * (1 + places.len() as u128);
+        let pair = u128::from(self.indexed.pair_search_cost());
+        if by_object < pair.saturating_mul(1 + pairs.len() as u128) {
+            return self.find_object_from(pattern, object, from, steps);
+        }
+        let (rest, at) = self
+            .indexed
+            .pairs_from(pairs, predicate, object, from, steps);
+        Matches::PredicateObject(PredicateObjectMatches {
+            indexed: &self.indexed,
+            pattern,
+            predicate,
+            object,
+            rest,
+            at,
+            steps: Steps::new(),
+        })
+    }
+}
+
+impl<'a> IndexedTriples<'a> {
+    ghost use Rattle.hdt_triples.specs.IndexViews.{triples_indexed};
+
+    /// Returns the pairs of a predicate in which a search for an object from index `from` on continues, and the end of
+    /// the pair before them, given the indices of all its pairs. The pair of triple `from` is one of them only if it
+    /// has the object at `from` or later.
+    #[tactic(auto, unfolding(crate::specs::Views::triples_view))]
+    fn pairs_from<'b>(
+        &self,
+        pairs: &'b [u64],
+        predicate: u64,
+        object: u64,
+        from: u64,
+        steps: &mut Steps,
+    ) -> (&'b [u64], u64)
+        requires pairs { pairs.now ≡ positions_of (triples_view (triples_indexed self.now)).array_y predicate }
+        requires within { from < length (triples_view (triples_indexed self.now)).array_z }
+        ensures between { IsBeforePair (triples_view (triples_indexed self.now)) predicate result.0.now result.1 }
+        ensures left { (p : Pattern) → p.o ≡ Some object → matches p (triples_from (triples_view (triples_indexed self.now)) result.1) ≡ matches p (triples_from (triples_view (triples_indexed self.now)) from) }
+        ensures fewer { length result.0.now ≤ length pairs.now }
+        ensures cost { steps.new ≤ steps.old + (3 * digits (groups (triples_view (triples_indexed self.now)).bitmap_z) + digits (length pairs.now) + digits (length (triples_view (triples_indexed self.now)).array_z) + 42) }
+        ensures more { steps.old ≤ steps.new }
+    {
+        let pair = self.position_at(from, steps).pair;
+        let (here, end) = self.object_in_pair(pair, object, steps);
+        if from <= here && here < end {
+            let next = lower_bound(pairs, pair, steps);
+            return (pairs.split_at(next).1, self.start_of_pair(pair, steps));
+        }
+        let next = lower_bound(pairs, pair + 1, steps);
+        (pairs.split_at(next).1, end)
     }
 }
 

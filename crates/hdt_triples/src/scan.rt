@@ -1,10 +1,11 @@
 //! Search by a scan of all triples.
-ghost use Rattle.std.specs.Prelude.{◌≡◌, ◌≤◌, ◌*◌, ◌<◌, ◌^◌, length};
+ghost use Rattle.std.specs.Prelude.{◌≡◌, ◌≤◌, ◌+◌, ◌*◌, ◌<◌, ◌^◌, length};
 ghost use Rattle.hdt_triples.specs.TripleSequences.{triples_of};
 ghost use Rattle.hdt_triples.specs.Patterns.{matches};
 ghost use Rattle.hdt_triples.specs.Views.{triples_view};
-ghost use Rattle.hdt_triples.specs.Scanning.{IsTriplePosition};
+ghost use Rattle.hdt_triples.specs.Scanning.{IsTriplePosition, triples_from};
 
+use crate::indexed::IndexedTriples;
 use crate::matches::Matches;
 use crate::pattern::Pattern;
 use crate::triple_position::TriplePosition;
@@ -38,6 +39,28 @@ impl<'a> Triples<'a> {
             triples: *self,
             pattern,
             position: self.first(),
+            steps: Steps::new(),
+        })
+    }
+}
+
+impl<'a> IndexedTriples<'a> {
+    ghost use Rattle.hdt_triples.specs.IndexViews.{triples_indexed};
+    ghost use Rattle.hdt_triples.specs.Remaining.{remaining_matches, step_limit};
+
+    /// Finds the matches of a pattern from a triple on, by a scan.
+    #[tactic(auto, unfolding(crate::specs::Remaining::remaining_matches, crate::specs::Remaining::step_limit))]
+    pub(crate) fn scan_from(&self, pattern: Pattern, from: u64, steps: &mut Steps) -> Matches<'a>
+        requires { from < length (triples_view (triples_indexed self.now)).array_z }
+        ensures items { remaining_matches result ≡ matches pattern (triples_from (triples_view (triples_indexed self.now)) from) }
+        ensures limit { step_limit result ≡ 4 * length (triples_view (triples_indexed self.now)).array_z }
+        ensures cost { steps.new ≤ steps.old + 16 }
+        ensures more { steps.old ≤ steps.new }
+    {
+        Matches::Scan(ScanMatches {
+            triples: self.triples,
+            pattern,
+            position: self.position_at(from, steps),
             steps: Steps::new(),
         })
     }

@@ -1,5 +1,7 @@
 //! Search by a subject.
-ghost use Rattle.std.specs.Prelude.{◌≡◌, ◌≤◌, ◌<◌, ◌^◌, length, Some};
+ghost use Rattle.std.specs.Prelude.{◌≡◌, ◌≤◌, ◌<◌, ◌+◌, ◌^◌, length, Some};
+ghost use Rattle.hdt_seq.specs.Directory.{groups};
+ghost use Rattle.hdt_seq.specs.Width.{digits};
 ghost use Rattle.hdt_triples.specs.Bounds.{subject_cost, IsWithinBudget, limit};
 ghost use Rattle.hdt_triples.specs.TripleSequences.{triples_of};
 ghost use Rattle.hdt_triples.specs.Patterns.{matches};
@@ -47,6 +49,32 @@ impl<'a> IndexedTriples<'a> {
             subject,
             position,
             steps,
+        })
+    }
+
+    /// Finds the matches of a pattern with this subject, from a triple on.
+    #[tactic(auto, unfolding(crate::specs::Remaining::remaining_matches, crate::specs::Remaining::step_limit))]
+    pub(crate) fn find_subject_from(
+        &self,
+        pattern: Pattern,
+        subject: u64,
+        from: u64,
+        steps: &mut Steps,
+    ) -> Matches<'a>
+        requires given { pattern.s ≡ Some subject }
+        requires within { from < length (triples_view (triples_indexed self.now)).array_z }
+        ensures items { remaining_matches result ≡ matches pattern (triples_from (triples_view (triples_indexed self.now)) from) }
+        ensures limit { step_limit result ≡ limit (subject_cost (triples_view (triples_indexed self.now)) subject) (triples_view (triples_indexed self.now)) }
+        ensures cost { steps.new ≤ steps.old + (digits (groups (triples_view (triples_indexed self.now)).bitmap_y) + digits (groups (triples_view (triples_indexed self.now)).bitmap_z) + 33) }
+        ensures more { steps.old ≤ steps.new }
+    {
+        let position = self.start_of_subject_from(subject, from, steps);
+        Matches::Subject(SubjectMatches {
+            triples: self.triples,
+            pattern,
+            subject,
+            position,
+            steps: Steps::new(),
         })
     }
 }

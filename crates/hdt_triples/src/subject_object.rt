@@ -1,5 +1,6 @@
 //! Search by a subject and an object.
 ghost use Rattle.std.specs.Prelude.{◌≡◌, ◌≢◌, ◌≤◌, ◌<◌, ◌+◌, ◌*◌, ◌^◌, ℕ, length, slice_index, IfSome, Some, None};
+ghost use Rattle.hdt_seq.specs.Directory.{groups};
 ghost use Rattle.hdt_seq.specs.Width.{digits};
 ghost use Rattle.hdt_triples.specs.Bounds.{lookup_cost, limit, of_subject, IsWithinBudget, list_search_cost, subject_cost, match_count};
 ghost use Rattle.hdt_triples.specs.TripleSequences.{pair_of, subject_at, triples_of};
@@ -115,6 +116,41 @@ impl<'a> ListedTriples<'a> {
             position,
             saved_steps: 0,
             steps,
+        })
+    }
+
+    /// Finds the matches of a pattern with this subject, this object and no predicate, from a triple on.
+    #[tactic(auto, unfolding(crate::specs::Remaining::remaining_matches, crate::specs::Remaining::step_limit, crate::specs::Remaining::shorter_list_step_limit))]
+    pub(crate) fn find_subject_object_from(
+        &self,
+        pattern: Pattern,
+        subject: u64,
+        object: u64,
+        from: u64,
+        steps: &mut Steps,
+    ) -> Matches<'_>
+        requires subject_given { pattern.s ≡ Some subject }
+        requires predicate_free { pattern.p ≡ None }
+        requires object_given { pattern.o ≡ Some object }
+        requires within { from < length (triples_view (triples_listed self.now)).array_z }
+        ensures items { remaining_matches result ≡ matches pattern (triples_from (triples_view (triples_listed self.now)) from) }
+        ensures limit { step_limit result ≡ limit (subject_cost (triples_view (triples_listed self.now)) subject) (triples_view (triples_listed self.now)) }
+        ensures short { shorter_list_step_limit result ≤ lookup_cost (triples_view (triples_listed self.now)) + 4 * list_search_cost (triples_view (triples_listed self.now)) object * (1 + match_count pattern (triples_view (triples_listed self.now))) }
+        ensures cost { steps.new ≤ steps.old + (digits (groups (triples_view (triples_listed self.now)).bitmap_y) + digits (groups (triples_view (triples_listed self.now)).bitmap_z) + 35) }
+        ensures more { steps.old ≤ steps.new }
+    {
+        let position = self.indexed.start_of_subject_from(subject, from, steps);
+        let places = self.positions_of(object, steps);
+        Matches::SubjectObject(SubjectObjectMatches {
+            indexed: &self.indexed,
+            pattern,
+            subject,
+            object,
+            places,
+            search_cost: digits_of(places.len() as u64) + 20,
+            position,
+            saved_steps: 0,
+            steps: Steps::new(),
         })
     }
 }

@@ -1,0 +1,15 @@
+-- Pages of matches.
+use Rattle.std.specs.Prelude.{◌≡◌, ℕ, ◌+◌, ◌≤◌, ◌<◌, List, length, drop, true}
+use Rattle.hdt_triples.specs.declared.pattern.Pattern.{Pattern}
+use Rattle.hdt_triples.specs.TripleSequences.{Triple}
+use Rattle.hdt_triples.specs.Order.{nth_triple}
+use Rattle.hdt_triples.specs.Patterns.{agrees, matches}
+
+-- Triple `next` is the match after the first `most` ones from triple `from` on.
+pub record IsNextMatch (ts : List Triple) (pattern : Pattern) (from most next : ℕ) : Type 0 where
+  pub within : next < length ts
+  pub is : agrees pattern (nth_triple ts next) ≡ true
+  -- the matches from it on are those that are left
+  pub rest : matches pattern (drop next ts) ≡ drop most (matches pattern (drop from ts))
+  -- there are at least `most` triples before it
+  pub later : from + most ≤ next
