@@ -363,7 +363,7 @@ static void pages(hdt_graph *graph, const hdt_pattern *pattern, uint64_t (*wante
     for (i = 0; i < 5; i++) {
         guarded room = guard(24 * (sizes[i] + 1));
         uint64_t(*out)[3] = (uint64_t(*)[3])(void *)room.at;
-        uint64_t from = 0, put = 0, turns = 0;
+        uint64_t from = 0, put = 0;
         do {
             uint64_t found;
             memset(room.at, 0xAA, room.len);
@@ -375,7 +375,7 @@ static void pages(hdt_graph *graph, const hdt_pattern *pattern, uint64_t (*wante
             put += found;
             CHECK(next == HDT_ABSENT ? put == count : put < count && next >= from + found);
             from = next;
-        } while (from != HDT_ABSENT && (sizes[i] > 0 || turns++ < 2) && put < 2000);
+        } while (from != HDT_ABSENT && put < 2000);
         let_go(&room);
     }
     CHECK(hdt_page(graph, pattern, hdt_len(graph), wanted, 0, &next) == 0 && next == HDT_ABSENT);
@@ -388,9 +388,9 @@ static void by_pattern(hdt_graph *graph, const hdt_pattern *given, const uint64_
     const uint64_t bad_ids[] = {0, UINT64_MAX};
     uint64_t role, i, skip;
     unsigned mixed;
-    guarded pages = guard(24 * (count + 1)), room = guard(sizeof(hdt_pattern));
+    guarded found = guard(24 * (count + 1)), room = guard(sizeof(hdt_pattern));
     hdt_pattern *asked = (hdt_pattern *)(void *)room.at;
-    uint64_t(*out)[3] = (uint64_t(*)[3])(void *)pages.at;
+    uint64_t(*out)[3] = (uint64_t(*)[3])(void *)found.at;
     for (mixed = 0; mixed < 8; mixed++) {
         *asked = *given;
         for (role = 0; role < 3; role++) {
@@ -401,7 +401,7 @@ static void by_pattern(hdt_graph *graph, const hdt_pattern *given, const uint64_
             }
         }
         CHECK(hdt_pattern_matching(graph, asked) == count);
-        memset(pages.at, 0xAA, pages.len);
+        memset(found.at, 0xAA, found.len);
         CHECK(hdt_pattern_find(graph, asked, 0, out, count) == count && out[count][0] == 0xAAAAAAAAAAAAAAAAu);
         CHECK(memcmp(out, wanted, 24 * count) == 0);
         CHECK(hdt_pattern_find(graph, asked, 0, out, count + 1) == count && hdt_pattern_find(graph, asked, 0, out, 0) == 0);
@@ -425,7 +425,7 @@ static void by_pattern(hdt_graph *graph, const hdt_pattern *given, const uint64_
             pages(graph, asked, out, 0);
         }
     }
-    let_go(&pages);
+    let_go(&found);
     let_go(&room);
 }
 
