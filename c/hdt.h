@@ -231,6 +231,15 @@ uint64_t hdt_pattern_find(hdt_graph *graph, const hdt_pattern *pattern, uint64_t
 uint64_t hdt_pattern_matching(hdt_graph *graph, const hdt_pattern *pattern);
 void hdt_pattern_text(hdt_graph *graph, const hdt_pattern *pattern, hdt_bytes *out, hdt_telling *telling);
 
+/* A page of the matches of a pattern: those from triple `from` on, from 0, in the order of the file. Writes the first of
+ * them to out, as many as fit, and returns their number. `next` is the index of the next match, from which the next page
+ * goes on, or HDT_ABSENT if there is none; 0 and 1,000 as `from` and `room`, then each `next` as `from`, give all matches
+ * once, in pages of 1,000. Each page is found by binary search, so pages of one size take time in proportion to the
+ * matches. HDT_NO_MEMORY, HDT_CLOSED; then out is unchanged, and `next` is HDT_ABSENT. Memory of the size of the page,
+ * which is freed. */
+uint64_t hdt_page(hdt_graph *graph, const hdt_pattern *pattern, uint64_t from, uint64_t (*out)[3], size_t room,
+                  uint64_t *next);
+
 /* The number of triples of each predicate: counts[0] is that of the predicate with ID 1, and so on. Writes the counts
  * of the first `room` predicates at most, and returns how many predicates there are, as hdt_count does. HDT_CLOSED;
  * then counts is unchanged. Each count costs what hdt_pattern_matching does for that predicate; all of them together

@@ -356,15 +356,41 @@ static int matches(const uint64_t *triple, const uint64_t *numbers, unsigned kin
     return (!(kinds & 1) || triple[0] == numbers[0]) && (!(kinds & 2) || triple[1] == numbers[1]) && (!(kinds & 4) || triple[2] == numbers[2]);
 }
 
+/* All pages of a few sizes, one after another, against what hdt_find has put of the same pattern. */
+static void pages(hdt_graph *graph, const hdt_pattern *pattern, uint64_t (*wanted)[3], uint64_t count) {
+    const uint64_t sizes[] = {1, 2, count / 3 + 1, count, count + 1};
+    uint64_t i, next = 7;
+    for (i = 0; i < 5; i++) {
+        guarded room = guard(24 * (sizes[i] + 1));
+        uint64_t(*out)[3] = (uint64_t(*)[3])(void *)room.at;
+        uint64_t from = 0, put = 0;
+        do {
+            uint64_t found;
+            memset(room.at, 0xAA, room.len);
+            found = hdt_page(graph, pattern, from, out, sizes[i], &next);
+            if (!CHECK(found <= sizes[i] && found <= count - put && out[found][0] == 0xAAAAAAAAAAAAAAAAu)) {
+                break;
+            }
+            CHECK(memcmp(out, wanted + put, 24 * found) == 0);
+            put += found;
+            CHECK(next == HDT_ABSENT ? put == count : put < count && next >= from + found);
+            from = next;
+        } while (from != HDT_ABSENT && put < 2000);
+        let_go(&room);
+    }
+    CHECK(hdt_page(graph, pattern, hdt_len(graph), wanted, 0, &next) == 0 && next == HDT_ABSENT);
+    CHECK(hdt_page(graph, pattern, UINT64_MAX, wanted, 0, &next) == 0 && next == HDT_ABSENT);
+}
+
 /* The calls that take a pattern, against what hdt_find has put of the same one: the parts as strings, as IDs, and mixed. */
 static void by_pattern(hdt_graph *graph, const hdt_pattern *given, const uint64_t *numbers, uint64_t (*wanted)[3], uint64_t count) {
     static const uint32_t bad_kinds[] = {3, 4, 256, UINT32_MAX};
     const uint64_t bad_ids[] = {0, UINT64_MAX};
     uint64_t role, i, skip;
     unsigned mixed;
-    guarded pages = guard(24 * (count + 1)), room = guard(sizeof(hdt_pattern));
+    guarded found = guard(24 * (count + 1)), room = guard(sizeof(hdt_pattern));
     hdt_pattern *asked = (hdt_pattern *)(void *)room.at;
-    uint64_t(*out)[3] = (uint64_t(*)[3])(void *)pages.at;
+    uint64_t(*out)[3] = (uint64_t(*)[3])(void *)found.at;
     for (mixed = 0; mixed < 8; mixed++) {
         *asked = *given;
         for (role = 0; role < 3; role++) {
@@ -375,13 +401,14 @@ static void by_pattern(hdt_graph *graph, const hdt_pattern *given, const uint64_
             }
         }
         CHECK(hdt_pattern_matching(graph, asked) == count);
-        memset(pages.at, 0xAA, pages.len);
+        memset(found.at, 0xAA, found.len);
         CHECK(hdt_pattern_find(graph, asked, 0, out, count) == count && out[count][0] == 0xAAAAAAAAAAAAAAAAu);
         CHECK(memcmp(out, wanted, 24 * count) == 0);
         CHECK(hdt_pattern_find(graph, asked, 0, out, count + 1) == count && hdt_pattern_find(graph, asked, 0, out, 0) == 0);
         skip = count - count / 3;
         CHECK(hdt_pattern_find(graph, asked, skip, out, count + 1) == count / 3 && memcmp(out, wanted + skip, 24 * (count / 3)) == 0);
         CHECK(hdt_pattern_find(graph, asked, UINT64_MAX, out, 1) == 0);
+        pages(graph, asked, wanted, count);
     }
     for (role = 0; role < 3; role++) {
         *asked = *given;
@@ -389,14 +416,16 @@ static void by_pattern(hdt_graph *graph, const hdt_pattern *given, const uint64_
             hdt_part part = {bad_kinds[i], numbers[role], (const uint8_t *)"", 0};
             *part_of(asked, role) = part;
             CHECK(hdt_pattern_matching(graph, asked) == 0 && hdt_pattern_find(graph, asked, 0, out, 1) == 0);
+            pages(graph, asked, out, 0);
         }
         for (i = 0; i < 3; i++) { /* so do IDs */
             hdt_part part = {HDT_ID, i < 2 ? bad_ids[i] : hdt_count(graph, (uint32_t)role) + 1, (const uint8_t *)"", 0};
             *part_of(asked, role) = part;
             CHECK(hdt_pattern_matching(graph, asked) == 0 && hdt_pattern_find(graph, asked, 0, out, 1) == 0);
+            pages(graph, asked, out, 0);
         }
     }
-    let_go(&pages);
+    let_go(&found);
     let_go(&room);
 }
 
@@ -583,6 +612,7 @@ static void closed(hdt_graph *graph) {
     CHECK(telling.reason == HDT_IS_CLOSED && telling.role == 0 && telling.number == 0 && has_nothing(&made) && live == before);
     CHECK(hdt_pattern_find(graph, &any, 0, out, 1) == HDT_CLOSED && out[0][0] == 7 && hdt_pattern_matching(graph, &any) == HDT_CLOSED);
     CHECK(hdt_predicates(graph, &end, 1) == HDT_CLOSED && end == 7);
+    CHECK(hdt_page(graph, &any, 0, out, 1, &number) == HDT_CLOSED && out[0][0] == 7 && number == HDT_ABSENT);
     hdt_build((const uint8_t *)"<u:s> <u:p> <u:o> .", 19, base, sizeof base - 1, 16, &made, &report);
     hdt_pattern_text(graph, &any, &made, &telling);
     CHECK(telling.reason == HDT_IS_CLOSED && telling.role == 0 && telling.number == 0 && has_nothing(&made) && live == before);
@@ -683,6 +713,13 @@ static int call_text(const job *it) {
     return answer;
 }
 
+static int call_page(const job *it) {
+    uint64_t out[4][3], next = 7, found;
+    out[0][0] = 7;
+    found = hdt_page(it->graph, &it->given, 0, out, 4, &next);
+    return found == HDT_NO_MEMORY ? (out[0][0] == 7 && next == HDT_ABSENT ? TOLD : WRONG) : found >= 1 && found <= 4 ? AMPLE : WRONG;
+}
+
 static int call_pattern_text(const job *it) {
     hdt_bytes made = HDT_BYTES_INIT;
     hdt_telling told;
@@ -773,6 +810,7 @@ static void refuse(const guarded *file, const hdt_verdict *verdict) {
         refuse_each("number", call_number, &it);
         refuse_each("find", call_find, &it);
         refuse_each("pattern find", call_pattern_find, &it);
+        refuse_each("page", call_page, &it);
     }
     refuse_each("string", call_string, &it);
     refuse_each("strings", call_strings, &it);

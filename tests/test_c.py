@@ -219,6 +219,10 @@ WRONG = {
                                   "return RIGHT(g, &r);"),
     "hdt_pattern_text": Wrong("void", "hdt_graph *g, const hdt_pattern *q, hdt_bytes *out, hdt_telling *t",
                               "hdt_pattern r = *q; r.o.kind = HDT_ANY; RIGHT(g, &r, out, t);"),
+    "hdt_page": Wrong("uint64_t", "hdt_graph *g, const hdt_pattern *q, uint64_t from, uint64_t (*out)[3], size_t room, "
+                                  "uint64_t *next",
+                      "uint64_t n = RIGHT(g, q, from, out, room, next); "
+                      "if (*next != HDT_ABSENT && room > 1) ++*next; return n;"),
     "hdt_predicates": Wrong("uint64_t", "hdt_graph *g, uint64_t *counts, size_t room",
                             "uint64_t n = RIGHT(g, counts, room); return n < HDT_CLOSED && n > room ? room : n;"),
     "hdt_term": Wrong("uint32_t", "const uint8_t *s, size_t n, hdt_term_parts *parts",

@@ -17,6 +17,7 @@ mod handle;
 mod look_ups;
 mod names;
 mod opening;
+mod paging;
 mod pattern;
 mod pattern_calls;
 mod predicates;

@@ -48,7 +48,7 @@ fn id_of_part(graph: &Graph<'static>, role: Role, part: &HdtPart<'_>) -> Option<
 }
 
 /// The pattern with the IDs that the parts give; `None` if one of them gives none.
-fn ids_of_parts(graph: &Graph<'static>, given: &HdtPattern<'_>) -> Option<Pattern>
+pub(crate) fn ids_of_parts(graph: &Graph<'static>, given: &HdtPattern<'_>) -> Option<Pattern>
     ensures { (p : Pattern) → (result ≡ Some p) ↔ IsGivenPattern (graph_view graph.now) given.now p }
 {
     Some(Pattern {
