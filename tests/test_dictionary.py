@@ -12,6 +12,7 @@ from reference import hdt
 from reference.answers import REFUSED, answered, fault
 from reference.hdt import MAX, Dictionary, Reason, Style, write_dictionary, write_section
 from reference.strategies import AROUND, BLOCK_SIZES, PADDING, STRING, changed
+from support import prefixes
 from support.probe import Answer, Argument, Probe, Request, ok
 
 Lists = tuple[list[bytes], list[bytes], list[bytes], list[bytes]]
@@ -256,6 +257,16 @@ def test_reads(probe: Probe, made: tuple[Lists, bytes], before: bytes, behind: b
     check(probe, before + data + behind, len(before), others)
 
 
+@given(dictionaries(), AROUND, st.lists(STRING | st.binary(max_size=3), max_size=3))
+def test_prefixes(probe: Probe, made: tuple[Lists, bytes], before: bytes, others: list[bytes]) -> None:
+    """In any dictionary the IDs of a role's strings that begin with a prefix are those of a plain filter."""
+    (shared, subjects, predicates, objects), data = made
+    for role, strings in enumerate([shared + subjects, predicates, shared + objects]):
+        tried = [*prefixes.SPECIAL, *prefixes.near(strings), *others]
+        answer = probe.on(before + data, "dictionary_ids_with_prefix", len(before), role, *tried)
+        assert prefixes.ids_of(answer, len(strings), 2) == [prefixes.begin(strings, prefix) for prefix in tried]
+
+
 @given(dictionaries(most_in_two=3), AROUND)
 def test_any_overlaps(probe: Probe, made: tuple[Lists, bytes], before: bytes) -> None:
     """Strings in two sections are found as by the reference."""
@@ -377,6 +388,18 @@ def test_every_fourth(probe: Probe) -> None:
         assert walked[1::2] == tuple(map(str, range(1, len(strings) + 1)))
         assert walked[2::2] == tuple(string.hex() for string in strings)
         assert probe.ask("dictionary_number_of", AT, role, *strings) == ok(*range(1, len(strings) + 1))
+
+
+@pytest.mark.parametrize("shared", [0, 30_000, 130_000])
+def test_prefixes_of_many_strings(probe: Probe, shared: int) -> None:
+    """The same with 130,000 subjects and 110,000 predicates and objects, of which none, some or all are shared."""
+    all_of = numerals(130_000)
+    lists: Lists = (all_of[:shared], all_of[shared:], all_of[20_000:], [b"x" + string for string in all_of[shared:]])
+    data = loose(lists)
+    for role, strings in enumerate([lists[0] + lists[1], lists[2], lists[0] + lists[3]]):
+        tried = [*prefixes.SPECIAL, *prefixes.near([strings[0], strings[-1]]), *prefixes.some(strings, 30, role)]
+        answer = probe.on(data, "dictionary_ids_with_prefix", AT, role, *tried)
+        assert prefixes.ids_of(answer, len(strings), 2) == [prefixes.begin(strings, prefix) for prefix in tried]
 
 
 def test_large_roles(probe: Probe) -> None:

@@ -12,6 +12,7 @@ from hypothesis import strategies as st
 
 from reference import hdt as model
 from reference.hdt import MAX, Pattern, Triple
+from support import prefixes
 from support.built import SAMPLES
 from support.probe import Answer, Argument, Probe, ok, spelled
 from support.properties import examples
@@ -152,6 +153,20 @@ def test_look_ups(probe: Probe) -> None:
     assert_looks_up(probe, THREE, STRINGS, IDS, [b"u:z", b"", b"u:", b"u:aa", b'"', b"v"])
 
 
+def assert_prefixes(probe: Probe, data: bytes, strings: Sequence[Sequence[bytes]], tried: Sequence[bytes]) -> None:
+    """In a graph and a layout the IDs of the strings that begin with a prefix are those of a plain filter."""
+    probe.on(data, "open")
+    for role, row in enumerate(strings):
+        found = [prefixes.begin(row, prefix) for prefix in tried]
+        for word in "ids_with_prefix", "layout_ids_with_prefix":
+            assert prefixes.ids_of(probe.ask(word, role, *tried), len(row), 2) == found, (word, role)
+
+
+def test_prefixes(probe: Probe) -> None:
+    """The IDs of the strings of each role that begin with a prefix."""
+    assert_prefixes(probe, THREE, STRINGS, [*prefixes.SPECIAL, *prefixes.near(STRINGS[0] + STRINGS[2]), b"u:z", b"v"])
+
+
 def test_whole(probe: Probe) -> None:
     """The counts, the header body, and the numbers that are held; each string is used, so the file is tight."""
     body, counts = THREE[68:218], (3, 2, 0, 2, 1)
@@ -218,6 +233,13 @@ def test_large_graph_looks_up(probe: Probe, large: Large, prefix: str, role: int
     for n, answer in expected:
         assert (probe.ask(f"{prefix}string_of", role, n, out) == answer) is True, f"another string than that of {n}"
     assert (probe.ask(f"{prefix}strings", role) == walk(strings)) is True, "another walk"
+
+
+def test_prefixes_of_a_large_graph(probe: Probe, large: Large) -> None:
+    """The same with 132,000 strings in a role, of which half are shared."""
+    rows = large.strings
+    tried = [*prefixes.SPECIAL, *prefixes.near([rows[0][0], rows[2][-1]]), *prefixes.some(rows[0] + rows[2], 30, 0)]
+    assert_prefixes(probe, large.data, rows, tried)
 
 
 def test_large_graph_searches(probe: Probe, large: Large) -> None:

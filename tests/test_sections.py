@@ -10,6 +10,7 @@ from reference import hdt
 from reference.answers import REFUSED, answered, fault
 from reference.hdt import MAX, Reason, Section, common_prefix, fold, write_packed, write_section
 from reference.strategies import AROUND, BLOCK_SIZES, STRING, ascending, changed, loose_sections, packed_sections
+from support import prefixes
 from support.probe import Answer, Argument, Probe, Request, ok
 
 BEFORE = b"\xff\x02\x80"
@@ -368,6 +369,23 @@ def test_large(probe: Probe, large: list[bytes], block_size: int) -> None:
     assert walked[2::2] == tuple(string.hex() for string in large)
     assert passed[1::2] == walked[2::2]
     assert passed[2::2] == ("less",) * 140_000 + ("more",)
+
+
+@given(loose_sections(), AROUND, st.lists(STRING | st.binary(max_size=3), max_size=3))
+def test_prefixes(probe: Probe, made: tuple[list[bytes], bytes], before: bytes, others: list[bytes]) -> None:
+    """In any section the IDs of the strings that begin with a prefix are those of a plain filter."""
+    strings, data = made
+    tried = [*prefixes.SPECIAL, *prefixes.near(strings), *others]
+    answer = probe.on(before + data, "section_prefix_range", len(before), *tried)
+    assert prefixes.ids_of(answer, len(strings), 1) == [prefixes.begin(strings, prefix) for prefix in tried]
+
+
+@pytest.mark.parametrize("block_size", [1, 3, 16, 65_535, 200_000])
+def test_prefixes_of_many_strings(probe: Probe, large: list[bytes], block_size: int) -> None:
+    """The same with 140,001 strings."""
+    tried = [*prefixes.SPECIAL, *prefixes.near([large[0], large[70_000], LONG]), *prefixes.some(large, 30, block_size)]
+    answer = probe.on(write_section(large, block_size), "section_prefix_range", 0, *tried)
+    assert prefixes.ids_of(answer, len(large), 1) == [prefixes.begin(large, prefix) for prefix in tried]
 
 
 @pytest.mark.parametrize("byte, reason", [(b"0", Reason.StringsNotAscending), (b"\xff", Reason.NotUtf8)],

@@ -136,6 +136,7 @@ def section() -> Iterator[Request]:
     yield "section_strings", 0, 1, 2, 9, len(STRINGS)
     yield "section_seek", 0, 1, 2, 9, len(STRINGS), 3
     yield "section_place_of", 0, *STRINGS[::5], b"http://a/x"
+    yield "section_prefix_range", 0, b"", b"http://a/", STRINGS[5]
     yield "section_head", 0, 1
     yield "section_block", 0, 7
     yield "section_walk", 0
@@ -212,6 +213,7 @@ def dictionary() -> Iterator[Request]:
     yield "dictionary", 1
     for role in range(3):
         yield "dictionary_number_of", 0, role, ROLES[role][0], ROLES[role][-1], b"u:none"
+        yield "dictionary_ids_with_prefix", 0, role, b"", b"u:", ROLES[role][-1]
         yield "dictionary_string_of", 0, role, len(ROLES[role]), b""
         yield "dictionary_string_of", 0, role, 2, BEFORE
         yield "dictionary_string_of", 0, role, 1_000, BEFORE
@@ -389,6 +391,8 @@ def opening() -> Iterator[Request]:
                                      "verify_tight")]
     for word in ("number_of", "layout_number_of"):
         yield word, 2, b"u:a", b'"x"', b"u:z"
+    for word in ("ids_with_prefix", "layout_ids_with_prefix"):
+        yield word, 2, b"", b"u:"
     for word in ("string_of", "layout_string_of"):
         yield word, 2, 3, b""
         yield word, 0, 1, BEFORE

@@ -9,3 +9,4 @@ pub mod IterationSteps
 pub mod ComparisonUpdates
 pub mod Appending
 pub mod Concatenation
+pub mod PrefixLemmas

@@ -1,5 +1,6 @@
 pub mod Dictionary
 pub mod Ids
+pub mod Prefixes
 pub mod Cost
 pub mod StringBatch
 pub mod Views

@@ -29,6 +29,7 @@ mod laws;
 mod merge;
 mod overlap;
 mod parts;
+mod prefix;
 mod role_cursor;
 mod section_pair;
 mod string_batch;
@@ -42,5 +43,6 @@ pub use laws::{
     dictionaries_are_exact, dictionary_is_read_again, one_dictionary, split_makes_sections,
 };
 pub use parts::{Parts, split};
+pub use prefix::PrefixRanges;
 pub use role_cursor::RoleCursor;
 pub use writing::{finish_dictionary, put_dictionary};

@@ -31,6 +31,7 @@ mod head;
 mod laws;
 mod layout;
 mod opening;
+mod prefix;
 mod rendering;
 mod search;
 mod term_tables;

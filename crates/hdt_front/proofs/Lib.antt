@@ -11,6 +11,7 @@ pub mod Utf8
 pub mod BlockIndex
 pub mod StringSequence
 pub mod LookupInverse
+pub mod PrefixLemmas
 pub mod AsciiEntryLemmas
 pub mod IterationLcp
 pub mod SeekerLemmas

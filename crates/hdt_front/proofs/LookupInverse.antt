@@ -109,7 +109,7 @@ unfolded_no_zero b (suc n) i before rest zero none h = string_no_zero (is_head b
 unfolded_no_zero b (suc n) i before rest (suc k) none h =
     unfolded_no_zero b n (i + 1) (decoded_string (is_head b i) before rest) (after_entry (is_head b i) rest) k (string_no_zero (is_head b i) before rest none) (omega (arith, h))
 
-string_has_none : (s : Section) (k : ℕ) → k < length (strings_of s) → NoZero (get_or (strings_of s) k [])
+pub string_has_none : (s : Section) (k : ℕ) → k < length (strings_of s) → NoZero (get_or (strings_of s) k [])
 unfolding strings_of NoZero
 string_has_none s k h = unfolded_no_zero s.packed.block s.packed.count 0 [] s.packed.bytes.now k tt (omega (arith, h, length-decoded_strings s.packed.block s.packed.count 0 [] s.packed.bytes.now))
 

@@ -13,6 +13,7 @@ pub mod StringIds
 pub mod Cost
 pub mod Strings
 pub mod Searching
+pub mod Prefixes
 pub mod SeekerState
 pub mod Iteration
 pub mod SectionIteration

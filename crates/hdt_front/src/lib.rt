@@ -29,6 +29,7 @@ mod entry;
 mod laws;
 mod lcp;
 mod packed;
+mod prefix;
 mod reading;
 mod scan;
 mod search;

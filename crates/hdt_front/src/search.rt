@@ -51,7 +51,8 @@ impl<'a> Section<'a> {
 
     /// Compares the first string of a block with the searched one, given that their first `from` bytes are equal.
     /// Returns also their common-prefix length, and the bytes from that string on. One step.
-    fn compare_head(
+    #[inline(always)]
+    pub(crate) fn compare_head(
         &self,
         block: u64,
         x: &[u8],
@@ -113,7 +114,8 @@ impl<'a> Section<'a> {
     }
 
     /// Splits an entry that is not the first of its block. One step.
-    fn read_entry(rest: &'a [u8], steps: &mut Steps) -> (u64, &'a [u8], &'a [u8])
+    #[inline(always)]
+    pub(crate) fn read_entry(rest: &'a [u8], steps: &mut Steps) -> (u64, &'a [u8], &'a [u8])
         requires { len_before_zero (bytes_from_suffix false rest.now) < length (bytes_from_suffix false rest.now) }
         ensures kept { result.0 ≡ kept false rest.now }
         ensures text { result.1.now ≡ suffix_of false rest.now }

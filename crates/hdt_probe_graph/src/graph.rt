@@ -8,7 +8,7 @@ use hdt_triples::{Matches, Pattern};
 
 /// The words of this module, each with its number of arguments.
 pub(crate) const WORDS: &str =
-    "search 3+ search_count 4+ find_strings 3 pattern 3 number_of 1+ string_of 3 strings_of 2+ uses_of 1+ strings 1";
+    "search 3+ search_count 4+ find_strings 3 pattern 3 number_of 1+ ids_with_prefix 1+ string_of 3 strings_of 2+ uses_of 1+ strings 1";
 
 /// Answers a request with one of these words. Returns false if the word is not one of them.
 pub(crate) fn answer(word: &str, args: &mut Args<'_>, reply: &mut Reply) -> bool {
@@ -17,6 +17,7 @@ pub(crate) fn answer(word: &str, args: &mut Args<'_>, reply: &mut Reply) -> bool
         "search_count" => reply_matching_up_to(args, reply),
         "find_strings" => reply_find_strings(args, reply),
         "pattern" => reply_pattern_of(args, reply),
+        "ids_with_prefix" => reply_ids_with_prefix(args, reply),
         "number_of" => reply_number_of(args, reply),
         "string_of" => reply_string_of(args, reply),
         "strings_of" => reply_strings_of_ids(args, reply),
@@ -131,6 +132,21 @@ fn reply_pattern_of(args: &mut Args<'_>, reply: &mut Reply) {
     let o = args.optional_bytes();
     let given = [s.as_deref(), p.as_deref(), o.as_deref()];
     reply_pattern(graph.pattern(given, &mut Steps::new()), reply)
+}
+
+/// The starts and ends of both ranges, for each prefix.
+fn reply_ids_with_prefix(args: &mut Args<'_>, reply: &mut Reply) {
+    let Some(graph) = graph_of(args, reply) else {
+        return;
+    };
+    let role = args.role();
+    for prefix in &args.strings(u64::MAX) {
+        let ranges = graph.ids_with_prefix(role, prefix, &mut Steps::new());
+        reply.number(ranges.first.start);
+        reply.number(ranges.first.end);
+        reply.number(ranges.second.start);
+        reply.number(ranges.second.end);
+    }
 }
 
 fn reply_number_of(args: &mut Args<'_>, reply: &mut Reply) {

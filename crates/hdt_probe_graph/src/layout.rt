@@ -8,7 +8,7 @@ use hdt_seq::Steps;
 
 /// The words of this module, each with its number of arguments.
 pub(crate) const WORDS: &str =
-    "layout_search 3+ graph_layout_search 3+ layout_search_count 4+ graph_layout_search_count 4+ layout_pattern 3 graph_layout_pattern 3 layout_number_of 1+ layout_string_of 3 layout_strings 1";
+    "layout_search 3+ graph_layout_search 3+ layout_search_count 4+ graph_layout_search_count 4+ layout_pattern 3 graph_layout_pattern 3 layout_number_of 1+ layout_ids_with_prefix 1+ layout_string_of 3 layout_strings 1";
 
 /// Answers a request with one of these words. Returns false if the word is not one of them.
 pub(crate) fn answer(word: &str, args: &mut Args<'_>, reply: &mut Reply) -> bool {
@@ -19,6 +19,7 @@ pub(crate) fn answer(word: &str, args: &mut Args<'_>, reply: &mut Reply) -> bool
         "graph_layout_search_count" => reply_graph_layout_matching_up_to(args, reply),
         "layout_pattern" => reply_layout_pattern(args, reply),
         "graph_layout_pattern" => reply_graph_layout_pattern(args, reply),
+        "layout_ids_with_prefix" => reply_ids_with_prefix(args, reply),
         "layout_number_of" => reply_number_of(args, reply),
         "layout_string_of" => reply_string_of(args, reply),
         "layout_strings" => reply_strings_of(args, reply),
@@ -93,6 +94,21 @@ fn reply_layout_pattern(args: &mut Args<'_>, reply: &mut Reply) {
 fn reply_graph_layout_pattern(args: &mut Args<'_>, reply: &mut Reply) {
     if let Some(graph) = graph_of(args, reply) {
         reply_pattern_of(&graph.layout(), args, reply)
+    }
+}
+
+/// The starts and ends of both ranges, for each prefix.
+fn reply_ids_with_prefix(args: &mut Args<'_>, reply: &mut Reply) {
+    let Some(layout) = layout_of(args, reply) else {
+        return;
+    };
+    let role = args.role();
+    for prefix in &args.strings(u64::MAX) {
+        let ranges = layout.ids_with_prefix(role, prefix, &mut Steps::new());
+        reply.number(ranges.first.start);
+        reply.number(ranges.first.end);
+        reply.number(ranges.second.start);
+        reply.number(ranges.second.end);
     }
 }
 

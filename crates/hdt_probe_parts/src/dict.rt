@@ -10,13 +10,14 @@ use hdt_seq::Steps;
 
 /// The words of this module, each with its number of arguments.
 pub(crate) const WORDS: &str =
-    "dictionary 1 dictionary_number_of 2+ dictionary_string_of 4 dictionary_strings_of 3+ dictionary_block 3 dictionary_string_start 3 dictionary_strings 2 dictionary_strings_kept 2";
+    "dictionary 1 dictionary_number_of 2+ dictionary_ids_with_prefix 2+ dictionary_string_of 4 dictionary_strings_of 3+ dictionary_block 3 dictionary_string_start 3 dictionary_strings 2 dictionary_strings_kept 2";
 
 /// Answers a request with one of these words. Returns false if the word is not one of them.
 pub(crate) fn answer(word: &str, args: &mut Args<'_>, reply: &mut Reply) -> bool {
     match word {
         "dictionary" => reply_dictionary(args, reply),
         "dictionary_number_of" => reply_number_of(args, reply),
+        "dictionary_ids_with_prefix" => reply_ids_with_prefix(args, reply),
         "dictionary_string_of" => reply_string_of(args, reply),
         "dictionary_strings_of" => reply_strings_of(args, reply),
         "dictionary_block" => reply_block(args, reply),
@@ -61,6 +62,21 @@ fn reply_number_of(args: &mut Args<'_>, reply: &mut Reply) {
     let role = args.role();
     for string in &args.strings(u64::MAX) {
         reply.optional_number(dictionary.number_of(role, string, &mut Steps::new()));
+    }
+}
+
+/// The starts and ends of both ranges, for each prefix.
+fn reply_ids_with_prefix(args: &mut Args<'_>, reply: &mut Reply) {
+    let Some((dictionary, _)) = dictionary_at(args, reply) else {
+        return;
+    };
+    let role = args.role();
+    for prefix in &args.strings(u64::MAX) {
+        let ranges = dictionary.ids_with_prefix(role, prefix, &mut Steps::new());
+        reply.number(ranges.first.start);
+        reply.number(ranges.first.end);
+        reply.number(ranges.second.start);
+        reply.number(ranges.second.end);
     }
 }
 

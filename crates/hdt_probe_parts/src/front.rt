@@ -6,7 +6,7 @@ use hdt_seq::Steps;
 
 /// The words of this module, each with its number of arguments.
 pub(crate) const WORDS: &str =
-    "section_read 1 section_string 3 section_strings 1+ section_place_of 1+ section_head 2 section_block 2 are_strings 0+ common_prefix 2 compared_from 3";
+    "section_read 1 section_string 3 section_strings 1+ section_place_of 1+ section_prefix_range 1+ section_head 2 section_block 2 are_strings 0+ common_prefix 2 compared_from 3";
 
 /// Answers a request with one of these words. Returns false if the word is not one of them.
 pub(crate) fn answer(word: &str, args: &mut Args<'_>, reply: &mut Reply) -> bool {
@@ -15,6 +15,7 @@ pub(crate) fn answer(word: &str, args: &mut Args<'_>, reply: &mut Reply) -> bool
         "section_string" => reply_section_string(args, reply),
         "section_strings" => reply_section_strings(args, reply),
         "section_place_of" => reply_section_place_of(args, reply),
+        "section_prefix_range" => reply_section_prefix_range(args, reply),
         "section_head" => reply_section_head(args, reply),
         "section_block" => reply_section_block(args, reply),
         "are_strings" => reply_are_strings(args, reply),
@@ -92,6 +93,18 @@ fn reply_section_place_of(args: &mut Args<'_>, reply: &mut Reply) {
     };
     for string in &args.strings(u64::MAX) {
         reply.optional_number(section.place_of(string, &mut Steps::new()));
+    }
+}
+
+/// The start and the end of the range, for each prefix.
+fn reply_section_prefix_range(args: &mut Args<'_>, reply: &mut Reply) {
+    let Some((section, _)) = section_at(args, reply) else {
+        return;
+    };
+    for prefix in &args.strings(u64::MAX) {
+        let range = section.prefix_range(prefix, &mut Steps::new());
+        reply.number(range.start);
+        reply.number(range.end);
     }
 }
 

@@ -1,0 +1,24 @@
+use Rattle.std.proofs.Common.{◌≡◌, ◌≤◌, ◌<◌, ◌+◌, ◌-◌, ◌*◌, get_or, [], length, drop, true, false}
+use Rattle.hdt_wire.specs.Checks.{len_before_zero}
+use Rattle.hdt_front.specs.Strings.{strings_of, blocks_of}
+use Rattle.hdt_seq.specs.Width.{digits}
+use Rattle.hdt_front.specs.EntryFacts.{bytes_from_entry}
+use Rattle.hdt_front.specs.Searching.{lcp_len}
+use Rattle.hdt_front.specs.Prefixes.{is_before}
+use Rattle.hdt_front.proofs.section.Section.block_boundary.Given as goal
+
+abbrev pub invariant-loop-low : goal.invariant-loop-low
+invariant-loop-low l = record {
+  in_order : l.low ≤ l.high;
+  inside : l.high ≤ blocks_of l.self;
+  before : 0 < l.low → is_before l.past l.prefix (get_or (strings_of l.self) ((l.low - 1) * l.self.packed.block) []) ≡ true;
+  same : 0 < l.low → lcp_len (get_or (strings_of l.self) ((l.low - 1) * l.self.packed.block) []) l.prefix ≡ l.same;
+  ends : 0 < l.low → len_before_zero l.last < length l.last;
+  rest : 0 < l.low → drop (len_before_zero l.last + 1) l.last ≡ bytes_from_entry l.self.packed.block ((l.low - 1) * l.self.packed.block + 1) l.self.packed.bytes.now;
+  next : l.high < blocks_of l.self → is_before l.past l.prefix (get_or (strings_of l.self) (l.high * l.self.packed.block) []) ≡ false;
+  cost : l.steps + digits (l.high - l.low) ≤ l.fn.steps + digits (blocks_of l.self);
+  more : l.fn.steps ≤ l.steps;
+}
+
+abbrev pub decreases-loop-low : goal.decreases-loop-low
+decreases-loop-low l = l.high - l.low
