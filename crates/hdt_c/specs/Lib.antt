@@ -7,6 +7,7 @@ pub mod GivenPatterns
 pub mod Handle
 pub mod ResourceOwnership
 pub mod StringLists
+pub mod Ranges
 pub mod Rewriting
 pub mod CallerBuffer
 pub mod TermParts
