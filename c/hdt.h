@@ -148,6 +148,12 @@ typedef struct {
     uint64_t suffix_len; /* its length; else 0 */
 } hdt_term_parts;
 
+/* Two ranges of IDs, each from its first number to before its second one. Each may be empty. */
+typedef struct {
+    uint64_t first[2];  /* IDs of strings that are both subjects and objects; of predicates */
+    uint64_t second[2]; /* IDs of the other subjects or objects, which are greater; empty for predicates */
+} hdt_ranges;
+
 /* Bytes that the library made: read `len` bytes from `at`; no zero byte stands behind them. State 1 where it has some to free, else 0, and then len is 0. A
  * call that makes bytes frees first what `out` had, also where it makes none. */
 typedef struct {
@@ -199,6 +205,11 @@ uint64_t hdt_string(hdt_graph *graph, uint32_t role, uint64_t number, uint8_t *o
  * in any other order each may unfold its block, as hdt_string does: so sort them. */
 uint64_t hdt_strings(hdt_graph *graph, uint32_t role, const uint64_t *numbers, size_t count, hdt_bytes *out, uint64_t *ends,
                      size_t room);
+
+/* The IDs of the strings of a role that begin with a prefix, which may be any bytes: all IDs if it has none. Writes them as
+ * two ranges, and returns how many IDs they have. HDT_ABSENT (no such role), HDT_CLOSED; then ranges is unchanged. Takes at
+ * most twice the time of hdt_number. */
+uint64_t hdt_prefix(hdt_graph *graph, uint32_t role, const uint8_t *prefix, size_t len, hdt_ranges *ranges);
 
 /* The header of the file, N-Triples that nobody looked at: how many bytes it has. Its first bytes are put into out, as by
  * hdt_string. HDT_CLOSED. */

@@ -299,6 +299,26 @@ static void predicates(hdt_graph *graph, uint64_t count) {
     let_go(&room);
 }
 
+/* The IDs whose strings begin with the first bytes of a string, against all strings of the role. */
+static void prefixes(hdt_graph *graph, uint32_t role, uint64_t count, uint64_t number) {
+    uint8_t string[64], other[64];
+    uint64_t i, len = hdt_string(graph, role, number, string, sizeof string), size;
+    len = len < sizeof string ? len : sizeof string;
+    for (size = 0; size <= len; size += size < 4 || size == len ? 1 : len - size) {
+        hdt_ranges ranges = {{7, 7}, {7, 7}};
+        guarded prefix = guarded_copy(string, size);
+        uint64_t found = hdt_prefix(graph, role, prefix.at, size, &ranges), wanted = 0, wrong = 0;
+        for (i = 1; i <= count; i++) {
+            uint64_t own = hdt_string(graph, role, i, other, sizeof other);
+            int begins = own >= size && memcmp(other, string, size) == 0;
+            wanted += begins ? 1 : 0;
+            wrong += begins != ((ranges.first[0] <= i && i < ranges.first[1]) || (ranges.second[0] <= i && i < ranges.second[1]));
+        }
+        CHECK(found == wanted && wrong == 0 && ranges.first[1] <= ranges.second[0] && ranges.second[1] <= count + 1);
+        let_go(&prefix);
+    }
+}
+
 static void look_ups(hdt_graph *graph, const hdt_verdict *verdict) {
     uint8_t out[2] = {0xAA, 0xAA};
     uint64_t most = 150, wanted[3], role, number, one = 1, end = 7;
@@ -316,6 +336,9 @@ static void look_ups(hdt_graph *graph, const hdt_verdict *verdict) {
         if (wanted[role] > 0) {
             look_up(graph, (uint32_t)role, wanted[role]);
             strings_of(graph, (uint32_t)role, wanted[role]);
+            if (wanted[role] < 3000) {
+                prefixes(graph, (uint32_t)role, wanted[role], wanted[role] / 2 + 1);
+            }
         }
         CHECK(hdt_string(graph, (uint32_t)role, 0, out, 2) == HDT_ABSENT);
         CHECK(hdt_string(graph, (uint32_t)role, wanted[role] + 1, out, 2) == HDT_ABSENT);
@@ -324,6 +347,8 @@ static void look_ups(hdt_graph *graph, const hdt_verdict *verdict) {
     predicates(graph, wanted[1]);
     for (role = 3; role < 9; role++) {
         uint32_t none = role < 5 ? (uint32_t)role : UINT32_MAX << (role - 5);
+        hdt_ranges ranges = {{7, 7}, {7, 7}};
+        CHECK(hdt_prefix(graph, none, out, 1, &ranges) == HDT_ABSENT && ranges.first[0] == 7 && ranges.second[1] == 7);
         CHECK(hdt_count(graph, none) == HDT_ABSENT);
         CHECK(hdt_number(graph, none, out, 1) == HDT_ABSENT);
         CHECK(hdt_string(graph, none, 1, out, 2) == HDT_ABSENT);
@@ -597,7 +622,9 @@ static void closed(hdt_graph *graph) {
     hdt_telling telling;
     hdt_report report;
     hdt_bytes made = HDT_BYTES_INIT;
+    hdt_ranges ranges = {{7, 7}, {7, 7}};
     long before = live;
+    CHECK(hdt_prefix(graph, 0, &room, 1, &ranges) == HDT_CLOSED && ranges.first[0] == 7 && ranges.second[1] == 7);
     CHECK(graph->state == 0);
     CHECK(hdt_len(graph) == HDT_CLOSED && hdt_count(graph, 0) == HDT_CLOSED && hdt_count(graph, 3) == HDT_CLOSED);
     CHECK(hdt_number(graph, 0, &room, 1) == HDT_CLOSED && hdt_number(graph, 3, &room, 1) == HDT_CLOSED);

@@ -225,6 +225,8 @@ WRONG = {
                       "if (*next != HDT_ABSENT && room > 1) ++*next; return n;"),
     "hdt_predicates": Wrong("uint64_t", "hdt_graph *g, uint64_t *counts, size_t room",
                             "uint64_t n = RIGHT(g, counts, room); return n < HDT_CLOSED && n > room ? room : n;"),
+    "hdt_prefix": Wrong("uint64_t", "hdt_graph *g, uint32_t r, const uint8_t *s, size_t n, hdt_ranges *ranges",
+                        "return RIGHT(g, r, s, n ? n - 1 : 0, ranges);"),
     "hdt_term": Wrong("uint32_t", "const uint8_t *s, size_t n, hdt_term_parts *parts",
                       "uint32_t r = RIGHT(s, n, parts); if (parts->kind == HDT_TAGGED) parts->kind = HDT_TYPED; "
                       "return r;"),
