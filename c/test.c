@@ -383,9 +383,9 @@ static int matches(const uint64_t *triple, const uint64_t *numbers, unsigned kin
 
 /* All pages of a few sizes, one after another, against what hdt_find has put of the same pattern. */
 static void pages(hdt_graph *graph, const hdt_pattern *pattern, uint64_t (*wanted)[3], uint64_t count) {
-    const uint64_t sizes[] = {1, 2, count / 3 + 1, count, count + 1};
+    const uint64_t sizes[] = {1, count / 3 + 1, count, count + 1};
     uint64_t i, next = 7;
-    for (i = 0; i < 5; i++) {
+    for (i = 0; i < 4; i++) {
         guarded room = guard(24 * (sizes[i] + 1));
         uint64_t(*out)[3] = (uint64_t(*)[3])(void *)room.at;
         uint64_t from = 0, put = 0;
@@ -400,7 +400,7 @@ static void pages(hdt_graph *graph, const hdt_pattern *pattern, uint64_t (*wante
             put += found;
             CHECK(next == HDT_ABSENT ? put == count : put < count && next >= from + found);
             from = next;
-        } while (from != HDT_ABSENT && put < 2000);
+        } while (from != HDT_ABSENT && put < 200);
         let_go(&room);
     }
     CHECK(hdt_page(graph, pattern, hdt_len(graph), wanted, 0, &next) == 0 && next == HDT_ABSENT);
@@ -433,7 +433,9 @@ static void by_pattern(hdt_graph *graph, const hdt_pattern *given, const uint64_
         skip = count - count / 3;
         CHECK(hdt_pattern_find(graph, asked, skip, out, count + 1) == count / 3 && memcmp(out, wanted + skip, 24 * (count / 3)) == 0);
         CHECK(hdt_pattern_find(graph, asked, UINT64_MAX, out, 1) == 0);
-        pages(graph, asked, wanted, count);
+        if (mixed == 0 || mixed == 7) {
+            pages(graph, asked, wanted, count);
+        }
     }
     for (role = 0; role < 3; role++) {
         *asked = *given;
