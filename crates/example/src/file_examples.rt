@@ -4,6 +4,7 @@ use crate::example_fault::ExampleFault;
 use hdt_dict::Role;
 use hdt_file::{Graph, Layout, layout_text, open, open_tight, read_dictionary, write_graph};
 use hdt_seq::Steps;
+use hdt_triples::Pattern;
 use hdt_wire::{Counted, property};
 use std::alloc::Global;
 use std::io::Write;
@@ -44,6 +45,22 @@ pub(crate) fn graph_example<W: Write + Drop>(
     let pattern = graph.pattern([Some(b"u:a"), None, None], &mut steps);
     write_graph(alloc, &graph, pattern, &mut Counted::new(writer))?;
     Ok(id)
+}
+
+/// Of `Graph::page`.
+pub(crate) fn page_example(
+    alloc: Global,
+    graph: &Graph<'_>,
+    pattern: Pattern,
+) -> Result<Vec<(u64, u64, u64)>, ExampleFault> {
+    let mut page = Vec::new(alloc);
+    let mut steps = Steps::new();
+    let mut from = Some(0);
+    while let Some(at) = from {
+        page.clear();
+        from = graph.page(pattern, at, 100, &mut page, &mut steps)?;
+    }
+    Ok(page)
 }
 
 /// Of `Layout`.
