@@ -2,6 +2,8 @@ mod Refusals
 mod OutPaths
 mod ParsedArguments
 mod StringLines
+mod CountLines
+mod LineChecking
 mod Pieces
 mod InputFaults
 mod Outputs
