@@ -4,6 +4,7 @@ mod ParsedArguments
 mod StringLines
 mod CountLines
 mod LineChecking
+mod Lints
 mod Pieces
 mod InputFaults
 mod Outputs

@@ -1,5 +1,5 @@
 -- The output of `lint`: the errors of the lines of a document, or also the lines without an error.
-use Rattle.std.specs.Prelude.{◌≡◌, ◌++◌, ◌∷◌, ◌⊎◌, ◌≤◌, ℕ, Bool, true, false, List, [], length, if◌then◌else◌, Option, None, Some, Result, Ok, Err, codes, option_map}
+use Rattle.std.specs.Prelude.{◌≡◌, ◌++◌, ◌∷◌, ◌⊎◌, ℕ, Bool, true, false, List, [], length, Option, None, Some, Result, Ok, Err, codes, option_map}
 use Rattle.std.specs.Fmt.{decimal}
 use Rattle.std.specs.Io.KnownBytes.{Appends}
 use Rattle.std.specs.List.{filter_map, flat_map}
@@ -57,9 +57,13 @@ abbrev pub kept_unless_faulty : Option LineFault → List ℕ → List ℕ
 kept_unless_faulty None text = terminated text
 kept_unless_faulty (Some fault) text = []
 
--- With `--keep`, the lines without an error, each with a line feed, but empty lines; else nothing.
+abbrev pub kept_line : Bool → ℕ × List ℕ → List ℕ
+kept_line false line = []
+kept_line true line = kept_unless_faulty (line_fault line) line.1
+
+-- With `--keep`, the lines without an error, each with a line feed, but no empty lines; else nothing.
 abbrev pub kept_lines : Bool → List (ℕ × List ℕ) → List ℕ
-kept_lines keep lines = flat_map (λ line. if keep then kept_unless_faulty (line_fault line) line.1 else []) lines
+kept_lines keep lines = flat_map (kept_line keep) lines
 
 -- ---- complete and interrupted runs
 
