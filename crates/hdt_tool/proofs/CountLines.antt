@@ -131,14 +131,16 @@ walked_all g role raw w r text h e not =
 pub key_string : (g : GraphParts) (role : Role) (keys : List (ℕ × ℕ)) → AreFrequencyKeys g role keys → All (λ (k : ℕ × ℕ). (string : List ℕ) × (string_at_id (role_strings g.dictionary role) k.1 ≡ Some string)) keys
 key_string g role keys h = All-permutation (λ (k : ℕ × ℕ). (string : List ℕ) × (string_at_id (role_strings g.dictionary role) k.1 ≡ Some string)) (map (frequency_key g role) (role_ids g role)) keys h.all made
   where
-  strings : List (List ℕ)
-  strings = role_strings g.dictionary role
-  one : (i : ℕ) → i < length strings → (string : List ℕ) × (string_at_id strings (1 + i) ≡ Some string)
-  one i lt = let e : 1 + i ≡ suc i = omega arith in (get_or strings i [], rw e (slice_get-get_or strings i [] lt))
-  made : All (λ (k : ℕ × ℕ). (string : List ℕ) × (string_at_id strings k.1 ≡ Some string)) (map (frequency_key g role) (range_with_len 1 (length strings)))
-  made i d lt =
-      let within : i < length strings = omega (arith, lt, length-map-range_with_len (frequency_key g role) 1 (length strings)) in
-      subst (λ (k : ℕ × ℕ). (string : List ℕ) × (string_at_id strings k.1 ≡ Some string)) (sym (get_or-map-range_with_len (frequency_key g role) 1 (length strings) i (1 + i) d within refl)) (one i within)
+    strings : List (List ℕ)
+    strings = role_strings g.dictionary role
+
+    one : (i : ℕ) → i < length strings → (string : List ℕ) × (string_at_id strings (1 + i) ≡ Some string)
+    one i lt = let e : 1 + i ≡ suc i = omega arith in (get_or strings i [], rw e (slice_get-get_or strings i [] lt))
+
+    made : All (λ (k : ℕ × ℕ). (string : List ℕ) × (string_at_id strings k.1 ≡ Some string)) (map (frequency_key g role) (range_with_len 1 (length strings)))
+    made i d lt =
+        let within : i < length strings = omega (arith, lt, length-map-range_with_len (frequency_key g role) 1 (length strings)) in
+        subst (λ (k : ℕ × ℕ). (string : List ℕ) × (string_at_id strings k.1 ≡ Some string)) (sym (get_or-map-range_with_len (frequency_key g role) 1 (length strings) i (1 + i) d within refl)) (one i within)
 
 appended_is : (there : Option (List ℕ)) (appended : Bool) (old new string : List ℕ) → there ≡ Some string → old ≡ [] → AppendsString there appended old new → there ≡ Some new
 appended_is None appended old new string is empty h = absurd cc
@@ -180,9 +182,9 @@ keys_all g role top raw keys at text h is lines = record {
   lines = subst (λ (l : List (ℕ × ℕ)). AreCountLines g role raw (map (λ (k : ℕ × ℕ). k.1) l) text) (same at top keys is) lines;
 }
   where
-  same : (at top : ℕ) (keys : List (ℕ × ℕ)) → at ≡ min top (length keys) → take at keys ≡ take top keys
-  same at top keys is =
-      elim (cases_lt top (length keys)) [
-        | inl lt ↦ ap (λ n. take n keys) (omega (arith, is, lt))
-        | inr le ↦ let all : at ≡ length keys = omega (arith, is, le) in ap (λ n. take n keys) all ∙ take-length keys ∙ sym (take_all top keys (omega (arith, le)))
-      ]
+    same : (at top : ℕ) (keys : List (ℕ × ℕ)) → at ≡ min top (length keys) → take at keys ≡ take top keys
+    same at top keys is =
+        elim (cases_lt top (length keys)) [
+          | inl lt ↦ ap (λ n. take n keys) (omega (arith, is, lt))
+          | inr le ↦ let all : at ≡ length keys = omega (arith, is, le) in ap (λ n. take n keys) all ∙ take-length keys ∙ sym (take_all top keys (omega (arith, le)))
+        ]

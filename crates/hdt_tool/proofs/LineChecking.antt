@@ -82,9 +82,9 @@ at_end (Some zs) ys e h = let same : zs ≡ ys = cc in sym same ∙ h
 right : (x : Option Triple) (text : List ℕ) → ((fault : TermFault) → Line text x → LineParseFails text fault → ⊥) → Line text x → text_fault text ≡ None
 right x text apart line = of_result (line_in text) (λ fault e. apart fault line e)
   where
-  of_result : (r : Result (Option Triple) TermFault) → ((fault : TermFault) → r ≡ Err fault → ⊥) → fault_of r ≡ None
-  of_result (Ok x) none = refl
-  of_result (Err fault) none = absurd (none fault refl)
+    of_result : (r : Result (Option Triple) TermFault) → ((fault : TermFault) → r ≡ Err fault → ⊥) → fault_of r ≡ None
+    of_result (Ok x) none = refl
+    of_result (Err fault) none = absurd (none fault refl)
 
 -- The laws of lines.
 abbrev Apart : Type 0
@@ -111,23 +111,23 @@ found apart text nt old new given triple idle h =
     let failed : new.failed ≡ None = takes.failed ∙ idle.well in
     this apart text nt new ys bytes front triple failed left.2 (prepend_known new.buffered given) (at_end (prepend_known new.buffered given) ys left.3) h.4 (before h.3.lines front (bytes ++ ys) text nt h.3.ended whole) whole
   where
-  this : Apart → (text : List ℕ) → HasNoLineEnd text → (new : LinesState) (ys bytes front : List ℕ) (triple : Triple) → new.failed ≡ None → (ys ≡ [] → new.buffered ≡ []) → (after : Option (List ℕ)) → (IsAtEnd after → ys ≡ [])
-      → IsTakenLine bytes (Some triple) new after → Before front (bytes ++ ys) text → front ++ (bytes ++ ys) ≡ text ++ 10 ∷ [] → IsIdle new × (text_fault text ≡ None)
-  this apart text nt new ys bytes front triple failed none after end (t, line, nl, inl (e, ie, is, going)) (inl nothing) whole =
-      let cut : t ++ e ∷ ys ≡ text ++ 10 ∷ [] = sym (append_assoc t (e ∷ []) ys) ∙ ap (λ l. l ++ ys) (sym is) ∙ ap (λ l. l ++ (bytes ++ ys)) (sym nothing) ∙ whole in
-      let one = one_split t text e 10 ys [] nl nt ie refl cut in
-      (record { empty = none one.1; going = going; well = failed }, right (Some triple) text (apart text (Some triple)) (subst (λ l. Line l (Some triple)) one.0 line))
-  this apart text nt new ys bytes front triple failed none after end (t, line, nl, inr (is, ended, empty, done)) (inl nothing) whole =
-      let cut : text ++ 10 ∷ [] ≡ t = sym whole ∙ ap (λ l. l ++ (bytes ++ ys)) nothing ∙ ap (λ l. bytes ++ l) (end done) ∙ append-nil bytes ∙ is in
-      absurd (no_end text t [] 10 nl refl cut)
-  this apart text nt new ys bytes front triple failed none after end (t, line, nl, inl (e, ie, is, going)) (inr (own, more)) whole =
-      let cut : t ++ e ∷ ys ≡ [] = sym (append_assoc t (e ∷ []) ys) ∙ ap (λ l. l ++ ys) (sym is) ∙ more in
-      let last : e ∷ ys ≡ [] = nothing_else t _ cut in
-      absurd cc
-  this apart text nt new ys bytes front triple failed none after end (t, line, nl, inr (is, ended, empty, done)) (inr (own, more)) whole =
-      let cut : t ≡ [] = sym is ∙ sym (append-nil bytes) ∙ ap (λ l. bytes ++ l) (sym (end done)) ∙ more in
-      let spelled = line.1 in
-      absurd (full_stop spelled.before_s spelled.s spelled.before_p spelled.p spelled.before_o spelled.o spelled.before_stop spelled.behind (sym spelled.whole ∙ cut))
+    this : Apart → (text : List ℕ) → HasNoLineEnd text → (new : LinesState) (ys bytes front : List ℕ) (triple : Triple) → new.failed ≡ None → (ys ≡ [] → new.buffered ≡ []) → (after : Option (List ℕ)) → (IsAtEnd after → ys ≡ [])
+        → IsTakenLine bytes (Some triple) new after → Before front (bytes ++ ys) text → front ++ (bytes ++ ys) ≡ text ++ 10 ∷ [] → IsIdle new × (text_fault text ≡ None)
+    this apart text nt new ys bytes front triple failed none after end (t, line, nl, inl (e, ie, is, going)) (inl nothing) whole =
+        let cut : t ++ e ∷ ys ≡ text ++ 10 ∷ [] = sym (append_assoc t (e ∷ []) ys) ∙ ap (λ l. l ++ ys) (sym is) ∙ ap (λ l. l ++ (bytes ++ ys)) (sym nothing) ∙ whole in
+        let one = one_split t text e 10 ys [] nl nt ie refl cut in
+        (record { empty = none one.1; going = going; well = failed }, right (Some triple) text (apart text (Some triple)) (subst (λ l. Line l (Some triple)) one.0 line))
+    this apart text nt new ys bytes front triple failed none after end (t, line, nl, inr (is, ended, empty, done)) (inl nothing) whole =
+        let cut : text ++ 10 ∷ [] ≡ t = sym whole ∙ ap (λ l. l ++ (bytes ++ ys)) nothing ∙ ap (λ l. bytes ++ l) (end done) ∙ append-nil bytes ∙ is in
+        absurd (no_end text t [] 10 nl refl cut)
+    this apart text nt new ys bytes front triple failed none after end (t, line, nl, inl (e, ie, is, going)) (inr (own, more)) whole =
+        let cut : t ++ e ∷ ys ≡ [] = sym (append_assoc t (e ∷ []) ys) ∙ ap (λ l. l ++ ys) (sym is) ∙ more in
+        let last : e ∷ ys ≡ [] = nothing_else t _ cut in
+        absurd cc
+    this apart text nt new ys bytes front triple failed none after end (t, line, nl, inr (is, ended, empty, done)) (inr (own, more)) whole =
+        let cut : t ≡ [] = sym is ∙ sym (append-nil bytes) ∙ ap (λ l. bytes ++ l) (sym (end done)) ∙ more in
+        let spelled = line.1 in
+        absurd (full_stop spelled.before_s spelled.s spelled.before_p spelled.p spelled.before_o spelled.o spelled.before_stop spelled.behind (sym spelled.whole ∙ cut))
 
 none_found : Apart → (text : List ℕ) → HasNoLineEnd text → (old new : LinesState) (given : Option (List ℕ)) → TakesRest old new (Some (text ++ 10 ∷ [])) (left new given) → text_fault text ≡ None
 none_found apart text nt old new given h =
@@ -138,11 +138,11 @@ none_found apart text nt old new given h =
     let whole : front ++ (last ++ ys) ≡ text ++ 10 ∷ [] = sym (append_assoc front last ys) ∙ sym left.1 in
     this apart text ys last front h.5 (at_end (prepend_known new.buffered given) ys left.3 h.8) (before h.3.lines front (last ++ ys) text nt h.3.ended whole) whole
   where
-  this : Apart → (text ys last front : List ℕ) → HasNoLineEnd last → ys ≡ [] → Before front (last ++ ys) text → front ++ (last ++ ys) ≡ text ++ 10 ∷ [] → text_fault text ≡ None
-  this apart text ys last front nl end (inl nothing) whole =
-      let cut : text ++ 10 ∷ [] ≡ last = sym whole ∙ ap (λ l. l ++ (last ++ ys)) nothing ∙ ap (λ l. last ++ l) end ∙ append-nil last in
-      absurd (no_end text last [] 10 nl refl cut)
-  this apart text ys last front nl end (inr (own, more)) whole = right own.0 text (apart text own.0) own.1
+    this : Apart → (text ys last front : List ℕ) → HasNoLineEnd last → ys ≡ [] → Before front (last ++ ys) text → front ++ (last ++ ys) ≡ text ++ 10 ∷ [] → text_fault text ≡ None
+    this apart text ys last front nl end (inl nothing) whole =
+        let cut : text ++ 10 ∷ [] ≡ last = sym whole ∙ ap (λ l. l ++ (last ++ ys)) nothing ∙ ap (λ l. last ++ l) end ∙ append-nil last in
+        absurd (no_end text last [] 10 nl refl cut)
+    this apart text ys last front nl end (inr (own, more)) whole = right own.0 text (apart text own.0) own.1
 
 -- The error of a text.
 text_error : Apart → (text : List ℕ) → HasNoLineEnd text → (column taken limit : ℕ) (reason : LineReason) (front zs : List ℕ) → Before front zs text → front ++ zs ≡ text ++ 10 ∷ []

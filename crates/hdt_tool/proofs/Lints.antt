@@ -1,7 +1,7 @@
 -- Checking the lines of a document one after another.
-use Rattle.std.proofs.Common.{◌≡◌, ◌≢◌, ◌⊎◌, ◌+◌, ◌<◌, ◌≤◌, ◌^◌, ◌-◌, ℕ, Bool, true, false, List, [], ◌∷◌, ◌++◌, Option, None, Some, refl, sym, ap, subst, ◌∙◌, inl, inr, arith, length, take, append_assoc, append-nil}
-use Rattle.std.proofs.Math.Seq.{take-append-add, take-append_seam, take-length}
-use Rattle.std.proofs.lemmas.Bool.{cases_lt}
+use Rattle.std.proofs.Common.{◌≡◌, ◌≢◌, ◌⊎◌, ◌+◌, ◌<◌, ◌≤◌, ◌^◌, ◌-◌, ℕ, Bool, true, false, List, [], ◌∷◌, ◌++◌, Option, None, Some, refl, sym, ap, subst, ◌∙◌, inl, inr, arith, nat_lt, length, take, append_assoc, append-nil}
+use Rattle.std.proofs.Math.Seq.{take-append-add, take-append_seam}
+use Rattle.std.proofs.lemmas.Bool.{ltb-false, ltb-true}
 use Rattle.std.proofs.lemmas.List.{length-append, take_all}
 use Rattle.std.proofs.lemmas.List.Elements.{filter_map-append}
 use Rattle.std.proofs.lemmas.Grind.{flat_map-append}
@@ -19,7 +19,7 @@ use Rattle.hdt_tool.specs.Lint.{LintsInput, LintsUntilFault, fault_reports, faul
 use Rattle.hdt_tool.specs.Outcomes.{AppendsPrefix}
 use Rattle.hdt_tool.specs.declared.fault.ToolFault.{ToolFault}
 use Rattle.hdt_tool.specs.declared.fault.ToolFault.TheVariants.{Input, Read, Write, OutOfMemory}
-use Rattle.hdt_tool.proofs.Dialogues.{GainedButFor, gone_some, stopped_behind}
+use Rattle.hdt_tool.proofs.Dialogues.{GainedButFor, gained_answer, gone_some, stopped_behind}
 
 -- ---- the text of a line
 
@@ -69,9 +69,6 @@ flushed a b c text kept new h one none =
     let whole : text ≡ h.0 ++ one.0 = h.1 ∙ ap (λ t. h.0 ++ t) (one.1 ∙ ap (λ t. one.0 ++ t) none ∙ append-nil one.0) in
     subst (Appends a c) (sym whole) (Appends-trans a b c h.0 one.0 h.2 one.2)
 
-pub whole_prefix : (a c : Option (List ℕ)) (text : List ℕ) → Appends a c text → AppendsPrefix a c text
-whole_prefix a c text h = (length text, subst (Appends a c) (sym (take-length text)) h)
-
 -- A part of pending output is a prefix of it.
 pub part_prefix : (b c : Option (List ℕ)) (kept new : List ℕ) → ((part : List ℕ) × (kept ≡ part ++ new) × Appends b c part) → AppendsPrefix b c kept
 part_prefix b c kept new (part, is, gained) = (length part, subst (Appends b c) (sym (ap (take (length part)) is ∙ take-append_seam part new)) gained)
@@ -88,13 +85,13 @@ cut keep s input mid given a b c d lines e taken (inr (n, is)) kept told =
 
 -- A line that could not be read.
 pub unread : (keep : Bool) (s : LinesState) (input mid given a b c d : Option (List ℕ)) (lines : List (ℕ × List ℕ)) (fault : LineFault) (e : ToolFault) → HasTakenLines s input mid lines → IsFaultOfLine fault e
-    → FaultAfterLines fault max_input_bytes input given lines → Appends a b (kept_lines keep lines) → Appends c d (fault_reports lines) → LintsUntilFault keep input given a b c d e
+    → FaultAfterLines fault max_input_bytes input given lines → AppendsPrefix a b (kept_lines keep lines) → AppendsPrefix c d (fault_reports lines) → LintsUntilFault keep input given a b c d e
 unread keep s input mid given a b c d lines fault e taken is h kept told = record {
   lines = lines;
   are = gone_some s input mid lines taken;
   behind = stopped_behind fault e input given lines is h;
-  kept = whole_prefix a b (kept_lines keep lines) kept;
-  told = whole_prefix c d (fault_reports lines) told;
+  kept = kept;
+  told = told;
 }
 
 -- Before the first line.
@@ -108,7 +105,21 @@ nothing_read begins keep input given a c = record {
 }
 
 -- All lines were checked, or as many faulty ones as were asked for.
-pub lines_end : (wanted : Bool) (count most : ℕ) (s : LinesState) (input mid : Option (List ℕ)) (lines : List (ℕ × List ℕ)) → HasTakenLines s input mid lines → (wanted ≡ false → most ≤ count) → count ≤ most → (wanted ≡ false) ⊎ AreLines max_input_bytes input lines
+pub lines_end : (count most : ℕ) (s : LinesState) (input mid : Option (List ℕ)) (lines : List (ℕ × List ℕ)) → HasTakenLines s input mid lines → count ≤ most → (nat_lt count most ≡ false) ⊎ AreLines max_input_bytes input lines
     → AreLines max_input_bytes input lines ⊎ ((count ≡ most) × AreFirstLines input lines)
-lines_end wanted count most s input mid lines taken test within (inl none) = inr (omega (arith, test none, within), gone_some s input mid lines taken)
-lines_end wanted count most s input mid lines taken test within (inr are) = inl are
+lines_end count most s input mid lines taken within (inl none) = inr (omega (arith, ltb-false count most none, within), gone_some s input mid lines taken)
+lines_end count most s input mid lines taken within (inr are) = inl are
+
+pub below_most : (count most more : ℕ) → nat_lt count most ≡ true → more ≤ 1 → count + more ≤ most
+below_most count most more test one = omega (arith, ltb-true count most test, one)
+
+-- What is kept of one more line, and what is reported of it, is pending.
+pub kept_added : (keep : Bool) (lines : List (ℕ × List ℕ)) (line : ℕ × List ℕ) (a b : Option (List ℕ)) (pending grown : List ℕ) → GainedButFor a b (kept_lines keep lines) pending → grown ≡ pending ++ kept_line keep line
+    → GainedButFor a b (kept_lines keep (lines ++ line ∷ [])) grown
+kept_added keep lines line a b pending grown h is =
+    subst (λ text. GainedButFor a b text grown) (sym (kept_on keep lines line)) (gained_answer a b (kept_lines keep lines) pending (kept_line keep line) grown h is)
+
+pub told_added : (lines : List (ℕ × List ℕ)) (line : ℕ × List ℕ) (a b : Option (List ℕ)) (pending grown : List ℕ) → GainedButFor a b (fault_reports lines) pending → grown ≡ pending ++ report_if_faulty (line_fault line)
+    → GainedButFor a b (fault_reports (lines ++ line ∷ [])) grown
+told_added lines line a b pending grown h is =
+    subst (λ text. GainedButFor a b text grown) (sym (told_on lines line)) (gained_answer a b (fault_reports lines) pending (report_if_faulty (line_fault line)) grown h is)

@@ -85,7 +85,11 @@ fn all_lines(alloc: Global, graph: &Graph<'_>, role: Role, raw: bool) -> Result<
 }
 
 /// The keys of all IDs of a role, ascending: a key is the greatest `u64` less the count, and the ID.
-fn frequency_keys(alloc: Global, graph: &Graph<'_>, role: Role) -> Result<Vec<(u64, u64)>, AllocError>
+fn frequency_keys(
+    alloc: Global,
+    graph: &Graph<'_>,
+    role: Role,
+) -> Result<Vec<(u64, u64)>, AllocError>
     ensures { IfOk result (λ keys. AreFrequencyKeys (graph_view graph.now) role keys.items) }
 {
     let count = graph.count(role);

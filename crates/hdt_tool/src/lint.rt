@@ -175,6 +175,23 @@ fn write_both_if_long<K: Write, T: Write>(
     Ok((first, second))
 }
 
+/// Writes all pending output, as far as the writers take it: an error of reading comes before theirs.
+fn flush_before_error<K: Write, T: Write>(
+    kept_text: &mut Vec<u8>,
+    told_text: &mut Vec<u8>,
+    written: (u64, u64),
+    kept: &mut Counted<K>,
+    told: &mut Counted<T>,
+)
+    ensures kept { AppendsPrefix (K.contents (inner kept.old)) (K.contents (inner kept.new)) kept_text.old.items }
+    ensures told { AppendsPrefix (T.contents (inner told.old)) (T.contents (inner told.new)) told_text.old.items }
+{
+    match write_both_if_long(0, kept_text, told_text, written, kept, told) {
+        Ok(_) => {}
+        Err(_) => {}
+    }
+}
+
 /// Checks every line of a document, and reports each faulty one to `told`, in a line with the number of the line, the
 /// column in bytes, and the number and the name of the reason. Returns how many there are. With `keep`, writes the lines
 /// without an error to `kept`, each with a line feed; empty lines are left out. Stops after `most` faulty lines.
@@ -219,7 +236,7 @@ pub fn lint_document<R: Read, K: Write, T: Write>(
                 return Ok(count);
             }
             Err(fault) => {
-                write_both_if_long(0, &mut kept_text, &mut told_text, written, kept, told)?;
+                flush_before_error(&mut kept_text, &mut told_text, written, kept, told);
                 return Err(line_fault(fault));
             }
         }

@@ -13,7 +13,7 @@ returns-clause-more g c = λ all done gone ok.
           let whole = whole_line c.args.lines.now c.next_prefix.new.self _ _ c.next_prefix.new.text.items h.1.takes.limit line in (
             whole.1,
             line_taken c.next_prefix.new.self all _ done line.0 c.next_prefix.new.text.items whole.0
-            (gone_on c.lines_so_far.ensures.goes_on c.lines_so_far.ensures.last c.args.lines.now c.next_prefix.new.self all _ _ done line.0 h.0 line.1 (inl h)),
+                (gone_on c.lines_so_far.ensures.goes_on c.lines_so_far.ensures.last c.args.lines.now c.next_prefix.new.self all _ _ done line.0 h.0 line.1 (inl h)),
           )
       | inr h ↦ let ended = (c.next_prefix.ensures.ended c.requires h.0).0 in absurd (cc (ok, ended))
     ]
