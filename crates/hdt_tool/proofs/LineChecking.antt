@@ -13,7 +13,7 @@ use Rattle.hdt_terms.specs.declared.fault.LineReason.{LineReason}
 use Rattle.hdt_terms.specs.declared.fault.LineReason.TheVariants as reasons
 use Rattle.hdt_terms.specs.declared.fault.TermFault.{TermFault}
 use Rattle.hdt_terms.specs.declared.triple.Triple.{Triple}
-use Rattle.hdt_tool.specs.Inside.LineChecks.{IsIdle, IsTextFault, ParsesText}
+use Rattle.hdt_tool.specs.Inside.LineChecks.{IsIdle, IsLineTextFault, ParsesText}
 use Rattle.hdt_tool.specs.Lint.{fault_of, text_fault}
 
 head_is : (c : ℕ) (cs : List ℕ) → HasNoLineEnd (c ∷ cs) → is_line_end c ≡ false
@@ -170,13 +170,13 @@ text_error apart text nt column taken limit reason front zs (inr (own, more)) wh
     absurd (apart [] None _ empty_line empty)
 
 any_error : Apart → (text : List ℕ) → HasNoLineEnd text → (column taken limit : ℕ) (reason : LineReason) (front zs : List ℕ) (given : Option (List ℕ)) → Before front zs text → front ++ zs ≡ text ++ 10 ∷ []
-    → IsLineError reason column taken limit (Some zs) given → IsTextFault text column reason
+    → IsLineError reason column taken limit (Some zs) given → IsLineTextFault text column reason
 any_error apart text nt column taken limit reasons.Read front zs given b whole h = tt
 any_error apart text nt column taken limit reasons.TooLong front zs given b whole h = tt
 any_error apart text nt column taken limit reasons.OutOfMemory front zs given b whole h = tt
 any_error apart text nt column taken limit reason front zs given b whole h = text_error apart text nt column taken limit reason front zs b whole h
 
-failed_at : Apart → (text : List ℕ) → HasNoLineEnd text → (old : LinesState) (given : Option (List ℕ)) (fault : LineFault) → IsNextTripleError fault old (Some (text ++ 10 ∷ [])) given → IsTextFault text fault.column fault.reason
+failed_at : Apart → (text : List ℕ) → HasNoLineEnd text → (old : LinesState) (given : Option (List ℕ)) (fault : LineFault) → IsNextTripleError fault old (Some (text ++ 10 ∷ [])) given → IsLineTextFault text fault.column fault.reason
 failed_at apart text nt old given fault h =
     let k = consumed (text ++ 10 ∷ []) h.front h.rest h.consumed in
     any_error apart text nt fault.column (old.taken + length h.front) old.limit fault.reason h.front k.0 given (before h.bare.lines h.front k.0 text nt h.bare.ended (sym k.1)) (sym k.1)

@@ -1,7 +1,7 @@
 //! Parsing lines one by one.
 ghost use Rattle.std.specs.Prelude.{◌≡◌, ◌++◌, ◌∷◌, ℕ, List, [], IfOk, OnOk};
 ghost use Rattle.hdt_terms.specs.Lines.{HasNoLineEnd};
-ghost use Rattle.hdt_tool.specs.Inside.LineChecks.{IsIdle, IsTextFault, ParsesText};
+ghost use Rattle.hdt_tool.specs.Inside.LineChecks.{IsIdle, IsLineTextFault, ParsesText};
 ghost use Rattle.hdt_tool.specs.Lint.{text_fault};
 
 use hdt_terms::{LineFault, LineReason, Lines, TermFault, line_or_fault};
@@ -13,7 +13,7 @@ const MAX_LINE_BYTES: u64 = 9_223_372_036_854_775_807;
 
 /// The error of a text. Fails if the error is one of reading, which a text in memory can only have for lack of memory.
 fn text_error(fault: LineFault) -> Result<Option<TermFault>, AllocError>
-    ensures { (text : List ℕ) → IsTextFault text fault.column fault.reason → IfOk result (λ error. error ≡ text_fault text) }
+    ensures { (text : List ℕ) → IsLineTextFault text fault.column fault.reason → IfOk result (λ error. error ≡ text_fault text) }
 {
     match fault.reason {
         LineReason::Read | LineReason::TooLong | LineReason::OutOfMemory => Err(AllocError),

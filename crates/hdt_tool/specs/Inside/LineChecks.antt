@@ -13,14 +13,14 @@ pub record IsIdle (s : LinesState) : Type 0 where
   pub well : s.failed ≡ None
 
 -- The error with this reason is that of the text, unless it is an error of reading.
-abbrev pub IsTextFault : List ℕ → ℕ → LineReason → Type 0
-IsTextFault text column Read = Unit {0}
-IsTextFault text column TooLong = Unit {0}
-IsTextFault text column OutOfMemory = Unit {0}
-IsTextFault text column reason = text_fault text ≡ Some (record { column = column; reason = reason })
+abbrev pub IsLineTextFault : List ℕ → ℕ → LineReason → Type 0
+IsLineTextFault text column Read = Unit {0}
+IsLineTextFault text column TooLong = Unit {0}
+IsLineTextFault text column OutOfMemory = Unit {0}
+IsLineTextFault text column reason = text_fault text ≡ Some (record { column = column; reason = reason })
 
 -- The result of parsing the text with a line feed; after a triple the reader is idle again.
 abbrev pub ParsesText : List ℕ → LinesState → Result Bool LineFault → Type 0
 ParsesText text new (Ok true) = IsIdle new × (text_fault text ≡ None)
 ParsesText text new (Ok false) = text_fault text ≡ None
-ParsesText text new (Err fault) = IsTextFault text fault.column fault.reason
+ParsesText text new (Err fault) = IsLineTextFault text fault.column fault.reason
