@@ -139,10 +139,10 @@ returns-in_ok-line-in-Rewrite-clause-write g c =
     let f' = failures c.write_text-in-Rewrite.new.out in
     let line = c.in_ok-line-in-Rewrite.line.items in
     let makes =
-        rewrites c.in-Rewrite.block_size before after c.in_ok-bytes-in-Rewrite.bytes.items c.deref-in-Rewrite.result.now line c.args.made.now.items c.rewrite_file.new.made.items
-        c.in_ok-bytes-in-Rewrite.ensures.ok c.deref-in-Rewrite.ensures.value c.in_ok-line-in-Rewrite.ensures.ok in
+    rewrites c.in-Rewrite.block_size before after c.in_ok-bytes-in-Rewrite.bytes.items c.deref-in-Rewrite.result.now line c.args.made.now.items c.rewrite_file.new.made.items
+    c.in_ok-bytes-in-Rewrite.ensures.ok c.deref-in-Rewrite.ensures.value c.in_ok-line-in-Rewrite.ensures.ok in
     let fails =
-        subst (λ (text : List ℕ). IfErr c.write_text-in-Rewrite.result (IsWriteFault text old new f f')) c.deref-in-Rewrite-2.ensures.value c.write_text-in-Rewrite.ensures.failed in
+    subst (λ (text : List ℕ). IfErr c.write_text-in-Rewrite.result (IsWriteFault text old new f f')) c.deref-in-Rewrite-2.ensures.value c.write_text-in-Rewrite.ensures.failed in
     writes_prefix c.truncate_on_error-in-Rewrite.result c.args.request.now.action before after old new line makes.built f f'
     (subst (λ (a : Action). Yields a before after line makes.built) (sym c.in-Rewrite.is) makes.yields)
     (subst (λ r. IfErr r (IsWriteFault line old new f f')) (sym c.truncate_on_error-in-Rewrite.ensures.same) fails)

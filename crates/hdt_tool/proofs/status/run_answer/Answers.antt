@@ -48,13 +48,13 @@ returns-clause-stopped g c not =
     let f = failures c.args.out.now in
     let g' = failures c.answer_file.new.out in
     let whole =
-        IfOk-weaker c.answer_file.result _ (λ faulty. MatchResult c.args.file (λ file. AnswersOverFile c.args.options (left file) input old new faulty) (λ _. ⊥))
-        (λ faulty h. opened (λ file. AnswersOverFile c.args.options (left file) input old new faulty) c.args.file c.in-Ok.file (inner c.new-file.result) c.in-Ok.is
-        c.new-file.ensures.inner (record { after = after; answers = h })) c.answer_file.ensures.ok in
+    IfOk-weaker c.answer_file.result _ (λ faulty. MatchResult c.args.file (λ file. AnswersOverFile c.args.options (left file) input old new faulty) (λ _. ⊥))
+    (λ faulty h. opened (λ file. AnswersOverFile c.args.options (left file) input old new faulty) c.args.file c.in-Ok.file (inner c.new-file.result) c.in-Ok.is
+    c.new-file.ensures.inner (record { after = after; answers = h })) c.answer_file.ensures.ok in
     let cut =
-        IfErr-weaker c.answer_file.result _ _ (λ e h. elim h [
-          | inl none ↦ inl none.2
-          | inr some ↦ inr (opened (λ file. AnswersOverFileUntilFault c.args.options (left file) input given old new f g' e) c.args.file c.in-Ok.file (inner c.new-file.result)
-              c.in-Ok.is c.new-file.ensures.inner (record { after = after; answers = some }))
-        ]) c.answer_file.ensures.stopped in
+    IfErr-weaker c.answer_file.result _ _ (λ e h. elim h [
+      | inl none ↦ inl none.2
+      | inr some ↦ inr (opened (λ file. AnswersOverFileUntilFault c.args.options (left file) input given old new f g' e) c.args.file c.in-Ok.file (inner c.new-file.result)
+          c.in-Ok.is c.new-file.ensures.inner (record { after = after; answers = some }))
+    ]) c.answer_file.ensures.stopped in
     answers_stopped _ _ c.answer_file.result c.answers_status.result c.answers_status.ensures whole cut not

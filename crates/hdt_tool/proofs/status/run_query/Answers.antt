@@ -64,16 +64,16 @@ returns-clause-stopped g c not =
     let f = failures c.args.out.now in
     let g' = failures c.run_with_capacity.new.out in
     let interrupted =
-        IfErr-weaker c.run_with_capacity.result _ _ (λ e h none. ⊎_map (λ a. a) (λ b. (
-          b.0,
-          opened (λ input. InterruptsStringsOwned action (left input) old new f g') c.args.file c.in-Ok.input seen c.in-Ok.is c.new-input.ensures.inner
-              (record { after = after; interrupts = b.1 }),
-        )) (h none)) c.run_with_capacity.ensures.unwritten in
+    IfErr-weaker c.run_with_capacity.result _ _ (λ e h none. ⊎_map (λ a. a) (λ b. (
+      b.0,
+      opened (λ input. InterruptsStringsOwned action (left input) old new f g') c.args.file c.in-Ok.input seen c.in-Ok.is c.new-input.ensures.inner
+          (record { after = after; interrupts = b.1 }),
+    )) (h none)) c.run_with_capacity.ensures.unwritten in
     let cut =
-        IfErr-weaker c.run_with_capacity.result _ _ (λ e h n is. let w = h n is in (
-          w.0,
-          n,
-          opened (λ input. WritesPrefixOwned action (left input) old new n) c.args.file c.in-Ok.input seen c.in-Ok.is c.new-input.ensures.inner
-              (record { after = after; writes_prefix = w.1 }),
-        )) c.run_with_capacity.ensures.write in
+    IfErr-weaker c.run_with_capacity.result _ _ (λ e h n is. let w = h n is in (
+      w.0,
+      n,
+      opened (λ input. WritesPrefixOwned action (left input) old new n) c.args.file c.in-Ok.input seen c.in-Ok.is c.new-input.ensures.inner
+          (record { after = after; writes_prefix = w.1 }),
+    )) c.run_with_capacity.ensures.write in
     stopped c.run_with_capacity.result c.done-2.result c.done-2.ensures interrupted cut not
