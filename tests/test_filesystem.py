@@ -30,7 +30,7 @@ as_root = pytest.mark.skipif(os.geteuid() != 0, reason="only root may be another
 # The commands that make a file.
 MAKERS = ("build", "rewrite")
 # Paths of the standard output.
-OUTPUTS = ("/dev/stdout", "/dev/fd/1", "/proc/self/fd/1")
+OUTPUTS = ("/dev/stdout", "/dev/fd/1", "/proc/self/fd/1", "-")
 # The name of a file that is being written, beside OUT.
 UNFINISHED = re.compile(r"hdt-unfinished-[0-9a-f]{16}")
 # What a program of an older version left there.
@@ -296,6 +296,15 @@ def test_an_output_that_is_no_file(command: str, path: str, made: dict[str, Made
     assert shell('exec "$0" "$1" "$2" "$3" > /dev/full', command, source, path) == WRITING_FAILED
     assert closed(1, command, source, path) == WRITING_FAILED
     assert hdt(command, source.parent / "missing", path) == READING_FAILED
+
+
+@pytest.mark.parametrize("command", MAKERS)
+def test_a_file_named_like_a_stream(command: str, made: dict[str, Made], tmp_path: Path) -> None:
+    """`./-` is a file with the name `-`, not a standard stream."""
+    source, file, line = made[command]
+    assert shell('"$0" "$1" "$2" ./-', command, source, cwd=tmp_path) == Result(0, line, b"")
+    assert ((tmp_path / "-").read_bytes(), names(tmp_path)) == (file, ["-"])
+    assert shell('"$0" verify ./- < /dev/null', cwd=tmp_path) == Result(0, b"ok 3 2 0 2 1\n", b"")
 
 
 @pytest.mark.parametrize("command", MAKERS)
@@ -797,7 +806,7 @@ def test_one_socket_for_both_streams(made: dict[str, Made]) -> None:
 
 # ---- standard input by its path
 
-INPUTS = ("/dev/stdin", "/dev/fd/0", "/proc/self/fd/0")
+INPUTS = ("/dev/stdin", "/dev/fd/0", "/proc/self/fd/0", "-")
 
 
 class Reading(NamedTuple):

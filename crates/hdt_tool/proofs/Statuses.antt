@@ -1,12 +1,11 @@
 -- What an exit status implies about the result that it was computed from.
-use Rattle.std.proofs.Common.{◌≡◌, ◌≢◌, ◌⊎◌, ◌∙◌, ap, ℕ, Bool, true, false, cond, Option, refl, inl, inr, subst, sym}
+use Rattle.std.proofs.Common.{◌≡◌, ◌≢◌, ◌⊎◌, ◌∙◌, ap, ℕ, Bool, true, false, cond, refl, inl, inr, subst, sym}
 use Rattle.std.specs.Prelude.{List, Result, Ok, Err, MatchResult, IfOk, IfErr, OnOk}
 use Rattle.clap.specs.Words.{Text}
 use Rattle.hdt_tool.specs.declared.fault.ToolFault.{ToolFault}
 use Rattle.hdt_tool.specs.declared.fault.ToolFault.TheVariants.{File, NoTriples, Read, Write, OutOfMemory}
 use Rattle.hdt_tool.specs.declared.fault.UsageFault.{UsageFault}
 use Rattle.hdt_tool.specs.declared.request.Invocation.{Invocation}
-use Rattle.hdt_tool.specs.declared.request.Action.{Action}
 use Rattle.hdt_tool.specs.CommandLine.{IsRefused, ParsesToInvocation}
 use Rattle.hdt_tool.specs.ErrorLines.{fault_status}
 use Rattle.hdt_tool.specs.Status.{Ends, IsCommandStatus, IsRefusalStatus, IsActionStatus}

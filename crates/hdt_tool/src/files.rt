@@ -16,9 +16,14 @@ pub(crate) const STDOUT_PATH: &str = "/proc/self/fd/1";
 /// The path of standard error.
 pub(crate) const STDERR_PATH: &str = "/proc/self/fd/2";
 
-/// Whether a path names standard input.
+/// Whether a path names standard input. `-` does; a file of that name is `./-`.
 fn is_stdin_path(path: &str) -> bool {
-    matches!(path, "/dev/stdin" | "/dev/fd/0" | "/proc/self/fd/0")
+    matches!(path, "-" | "/dev/stdin" | "/dev/fd/0" | "/proc/self/fd/0")
+}
+
+/// The path to write to: `-` is standard output; a file of that name is `./-`.
+pub(crate) fn output_path(path: &str) -> &str {
+    if path == "-" { STDOUT_PATH } else { path }
 }
 
 /// Moves a file to a descriptor above 2. If a standard stream is closed, the next open file gets its descriptor; reads

@@ -22,7 +22,7 @@ use crate::command_line::parse_invocation;
 use crate::commands::{answer_file, run_with_capacity};
 use crate::error_lines::{OUT_OF_MEMORY, fault_line, usage_line};
 use crate::fault::{ToolFault, UsageFault, file_fault};
-use crate::files::{known_size, open_input, would_overwrite};
+use crate::files::{known_size, open_input, output_path, would_overwrite};
 use crate::output_file::make_file_at;
 use crate::request::{Action, AnswerOptions, Invocation, Request};
 use hdt_wire::Counted;
@@ -262,10 +262,11 @@ pub fn status_of(rt: &HostRuntime, words: io::Result<Vec<String>>) -> u8
     };
     let request = &invocation.request;
     if let Some(path) = &request.out {
-        if writes_over_its_input(rt, request, path.as_str()) {
+        let path = output_path(path.as_str());
+        if writes_over_its_input(rt, request, path) {
             return print_error_line(rt, 2, SAME_FILE_MESSAGE);
         }
-        return done(rt, make_file_at(rt, &invocation, path.as_str()));
+        return done(rt, make_file_at(rt, &invocation, path));
     }
     match &request.action {
         Action::Answer(options) => run_answer_on_streams(rt, request.file.as_str(), *options),

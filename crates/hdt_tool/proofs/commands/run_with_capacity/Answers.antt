@@ -8,7 +8,7 @@ use Rattle.hdt_build.specs.Options.{AreValidOptions}
 use Rattle.hdt_build.specs.declared.options.Options.{Options}
 use Rattle.hdt_tool.specs.Outcomes.{Completes, IfBuild, IsReadOnly, Prints, ReadsWith, IsFaultOfBytes, IsFaultOfInput, WritesOutputPrefix, Yields, YieldsAppended}
 use Rattle.hdt_tool.specs.declared.request.Action.{Action}
-use Rattle.hdt_tool.specs.declared.request.Action.TheVariants.{Build, Rewrite, Strings}
+use Rattle.hdt_tool.specs.declared.request.Action.TheVariants.{Rewrite}
 use Rattle.hdt_tool.specs.declared.fault.ToolFault.TheVariants.{BadOptions}
 use Rattle.hdt_tool.proofs.InputFaults.{fault_of_input}
 use Rattle.hdt_tool.proofs.Outputs.{IsWriteFault, completes, no_options, not_bad_writing, nothing_built, only_writing, read_only, restored, rewrites, told_writing, writes_prefix}

@@ -1,9 +1,9 @@
-use Rattle.std.proofs.Common.{◌≡◌, ℕ, List, [], Some, refl, subst, sym}
+use Rattle.std.proofs.Common.{ℕ, List, [], Some, refl, subst, sym}
 use Rattle.std.proofs.lemmas.Result.{IfErr-weaker, IfOk-weaker}
 use Rattle.hdt_wire.specs.Counted.{inner}
 use Rattle.hdt_tool.specs.Outcomes.{CompletesOwned, IsFaultOfBytes, IsFaultOfInput, IsFaultOfOwnedInput, YieldsAppended}
 use Rattle.hdt_tool.specs.declared.request.Action.{Action}
-use Rattle.hdt_tool.specs.declared.request.Action.TheVariants.{Build, Rewrite}
+use Rattle.hdt_tool.specs.declared.request.Action.TheVariants.{Rewrite}
 use Rattle.hdt_tool.proofs.InputFaults.{fault_of_input}
 use Rattle.hdt_tool.proofs.Outputs.{rewrites}
 use Rattle.hdt_tool.proofs.Statuses.{if_opened, opened}

@@ -7,7 +7,7 @@ use Rattle.hdt_file.specs.LayoutView.{layout_view}
 use Rattle.hdt_tool.specs.declared.fault.ToolFault.TheVariants.{OutOfMemory, NoSuchTerm}
 use Rattle.hdt_tool.specs.declared.request.Action.{Action}
 use Rattle.hdt_tool.specs.declared.request.OutputFormat.{OutputFormat}
-use Rattle.hdt_tool.specs.Outcomes.{IsFaultOfBytes, IsLayoutWith, Prints}
+use Rattle.hdt_tool.specs.Outcomes.{IsFaultOfBytes, Prints}
 use Rattle.hdt_tool.specs.StringsText.{PrintsNumber}
 use Rattle.hdt_tool.specs.TriplesText.{PrintsFound}
 use Rattle.hdt_tool.specs.Verdict.{verdict}

@@ -1,0 +1,32 @@
+use Rattle.std.proofs.Common.{map, inl, inr, string_bytes}
+use Rattle.hdt_tool.proofs.Statuses.{command_status, ends_with, was_given}
+use Rattle.hdt_tool.proofs.status.status_of.Goals as goal
+
+pub returns-then-writes_over_its_input-clause-given : goal.returns-then-writes_over_its_input-clause-given
+returns-then-writes_over_its_input-clause-given c =
+    ends_with (λ words. map string_bytes words.items) c.args.words c.parse_process_arguments.result c.in-Ok.invocation c.print_error_line.result c.in-Ok.is
+    c.parse_process_arguments.ensures.ok c.parse_process_arguments.ensures.refused
+    (inr (c.writes_over_its_input.ensures c.if-writes_over_its_input.true, c.print_error_line.ensures))
+
+pub returns-in-Some-clause-given : goal.returns-in-Some-clause-given
+returns-in-Some-clause-given c =
+    ends_with (λ words. map string_bytes words.items) c.args.words c.parse_process_arguments.result c.in-Ok.invocation c.done.result c.in-Ok.is
+    c.parse_process_arguments.ensures.ok c.parse_process_arguments.ensures.refused (inl (command_status c.make_file_at.result c.done.result c.done.ensures))
+
+pub returns-in-Answer-clause-given : goal.returns-in-Answer-clause-given
+returns-in-Answer-clause-given c =
+    ends_with (λ words. map string_bytes words.items) c.args.words c.parse_process_arguments.result c.in-Ok.invocation c.run_answer_on_streams.result c.in-Ok.is
+    c.parse_process_arguments.ensures.ok c.parse_process_arguments.ensures.refused (inl c.run_answer_on_streams.ensures)
+
+pub returns-clause-given : goal.returns-clause-given
+returns-clause-given c =
+    ends_with (λ words. map string_bytes words.items) c.args.words c.parse_process_arguments.result c.in-Ok.invocation c.run_query.result c.in-Ok.is
+    c.parse_process_arguments.ensures.ok c.parse_process_arguments.ensures.refused (inl c.run_query.ensures.statuses)
+
+pub returns-clause-memory : goal.returns-clause-memory
+returns-clause-memory c =
+    was_given (λ words. map string_bytes words.items) c.args.words c.parse_process_arguments.result c.in-Ok.invocation _ c.in-Ok.is c.parse_process_arguments.ensures.ok
+
+pub returns-clause-other : goal.returns-clause-other
+returns-clause-other c =
+    was_given (λ words. map string_bytes words.items) c.args.words c.parse_process_arguments.result c.in-Ok.invocation _ c.in-Ok.is c.parse_process_arguments.ensures.ok
