@@ -183,6 +183,8 @@ def reading_commands(path: Word) -> list[list[Word]]:
         ["find", "--count", path, "?", "?", "<u:x>"],
         ["find", "--most", "1", path, "?", "?", "?"],
         ["dump", path],
+        ["count", path, "object", "--raw"],
+        ["count", path, "object", "--raw", "--top", "1"],
     ]
 
 
@@ -771,6 +773,8 @@ REQUESTS: list[tuple[str, str]] = [
     ("build --base= --block-size=0 a.hdt b.hdt", f"{A} {B} build 0 "),
     ("rewrite a.hdt b.hdt", f"{A} {B} rewrite 16"),
     ("rewrite --block-size 65535 a.hdt b.hdt", f"{A} {B} rewrite 65535"),
+    ("count a.hdt subject", f"{A} none count 0 none 0"),
+    ("count --raw a.hdt object --top=18446744073709551615", f"{A} none count 2 18446744073709551615 1"),
     ("answer a.hdt", f"{A} none answer 0 none 0 1048576"),
     ("answer --raw --numbers --most 7 a.hdt", f"{A} none answer 1 7 1 1048576"),
     ("answer --count --numbers --longest-request 4294967295 a.hdt", f"{A} none answer 2 none 0 4294967295"),

@@ -17,7 +17,7 @@ from support.program import hdt, run
 from support.terminal import Terminal
 from tools import completions
 
-COMMANDS = ["head", "verify", "strings", "string", "number", "find", "answer", "dump", "build", "rewrite", "help"]
+COMMANDS = ["head", "verify", "strings", "string", "number", "find", "answer", "dump", "count", "build", "rewrite", "help"]
 SHELLS = ["bash", "zsh", "fish"]
 # The program that reads each file: a warning is a line on standard error.
 READERS = {
@@ -73,6 +73,8 @@ OFFERED: dict[str, list[str]] = {
     "hdt dump no": ["notes.txt"],
     "hdt strings graph.hdt ": ["object", "predicate", "subject"],
     "hdt find graph.hdt ": [],
+    "hdt count graph.hdt ": ["object", "predicate", "subject"],
+    "hdt count --t": ["--top"],
 }
 
 # An interactive zsh that prints what it offers between two marks, and ends then.

@@ -104,6 +104,12 @@ fn reply_search(action: &Action, reply: &mut Reply) {
             reply.number(form_number(*format));
             reply.optional_number(*most)
         }
+        Action::Count { role, top, raw } => {
+            reply.word("count");
+            reply.number(role_number(*role));
+            reply.optional_number(*top);
+            reply.number(u64::from(*raw))
+        }
         Action::Answer(asking) => reply_asking(*asking, reply),
         Action::Build(options) => reply_options(options, reply),
         Action::Rewrite(block_size) => {

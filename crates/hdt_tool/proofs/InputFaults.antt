@@ -5,13 +5,14 @@ use Rattle.std.specs.declared.vec.Vec.{Vec}
 use Rattle.hdt_tool.specs.declared.fault.ToolFault.{ToolFault}
 use Rattle.hdt_tool.specs.declared.fault.ToolFault.TheVariants.{Input, NoTriples, NoSuchTerm, NoSuchNumber, NotATerm, BadOptions, Read, Write, OutOfMemory}
 use Rattle.hdt_tool.specs.declared.request.Action.{Action}
-use Rattle.hdt_tool.specs.declared.request.Action.TheVariants.{Nth, Number, Find, Search, Rewrite}
+use Rattle.hdt_tool.specs.declared.request.Action.TheVariants.{Nth, Number, Find, Search, Count, Rewrite}
 use Rattle.hdt_tool.specs.declared.request.OutputFormat.{OutputFormat}
 use Rattle.hdt_wire.specs.declared.role.Role.{Role}
 use Rattle.hdt_dict.specs.Ids.{string_at_id}
 use Rattle.hdt_file.specs.File.{GraphParts, IsLayout}
 use Rattle.hdt_dict.specs.Dictionary.{role_strings}
 use Rattle.hdt_tool.specs.Outcomes.{HasBadBlockSize, HasNonTerm, IsFaultOfBytes, ReadsAll, IsFaultOfInput, HasBadOptions}
+use Rattle.hdt_tool.specs.TermCounts.{IsCountFault}
 use Rattle.hdt_tool.specs.TriplesText.{GivenStrings, IsFindFault, find_format}
 
 -- A block size that is not valid.
@@ -59,3 +60,10 @@ pub no_find : (given : GivenStrings) (numbers : Bool) (format : OutputFormat) (b
     → IsFaultOfBytes (Find given numbers) bytes e
 no_find given numbers format bytes (NotATerm role n) is h = subst (λ (f : OutputFormat). HasNonTerm (Search given f None) bytes role n) is h
 no_find given numbers format bytes fault is h = h
+
+-- Terms that cannot be printed with their counts.
+pub no_counts : (role : Role) (top : Option ℕ) (raw : Bool) (bytes : List ℕ) (graph : GraphParts) (e : ToolFault) → IsLayout bytes graph
+    → IsCountFault graph role top raw e → IsFaultOfBytes (Count role top raw) bytes e
+no_counts role top raw bytes graph (NotATerm other n) encoded h = record { graph = graph; encoded = encoded; holds = h }
+no_counts role top raw bytes graph OutOfMemory encoded h = tt
+no_counts role top raw bytes graph fault encoded h = absurd h

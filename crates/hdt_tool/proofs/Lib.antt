@@ -2,6 +2,9 @@ mod Refusals
 mod OutPaths
 mod ParsedArguments
 mod StringLines
+mod CountLines
+mod LineChecking
+mod Lints
 mod Pieces
 mod InputFaults
 mod Outputs

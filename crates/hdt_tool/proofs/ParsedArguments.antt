@@ -87,6 +87,7 @@ none_on_file : (name : Text) (rows : List Row) → (name ≡ codes "build") ⊎ 
 none_on_file name rows is action.Head h = other_name name _ is h refl refl
 none_on_file name rows is (action.Find given numbers) (inl h) = other_name name _ is h.named refl refl
 none_on_file name rows is (action.Search given format most) h = other_name name _ is h.named refl refl
+none_on_file name rows is (action.Count role top raw) h = other_name name _ is h.named refl refl
 none_on_file name rows is (action.Answer options) h = other_name name _ is h.named refl refl
 none_on_file name rows is (action.Build options) h = h
 none_on_file name rows is (action.Rewrite b) h = h

@@ -8,6 +8,7 @@ use Rattle.clap.specs.Words.{Row, Text, Kinds, IsAmong, first_of, one_of, fault_
 use Rattle.clap.specs.declared.error.kind.ErrorKind.{ErrorKind}
 use Rattle.clap.specs.declared.error.kind.ErrorKind.TheVariants as kind
 use Rattle.hdt_build.specs.declared.options.Options.{Options}
+use Rattle.hdt_wire.specs.declared.role.Role.{Role}
 use Rattle.hdt_terms.specs.declared.fault.TermFault.{TermFault}
 use Rattle.hdt_terms.specs.declared.fault.LineReason.TheVariants as line
 use Rattle.hdt_terms.specs.Appending.{AppendsStringOfText}
@@ -113,6 +114,13 @@ pub record IsAnswerCommand (name : Text) (rows : List Row) (options : AnswerOpti
   pub raw_is : ParsesAsFlag (one_of (codes "raw") rows) options.raw
   pub longest_is : ParsesAsNumber 32 (one_of (codes "longest-request") rows) options.longest
 
+-- The command is `count`, with this role, number of terms and format.
+pub record IsCountCommand (name : Text) (rows : List Row) (role : Role) (top : Option ℕ) (raw : Bool) : Type 0 where
+  pub named : name ≡ codes "count"
+  pub role_is : first_of (codes "ROLE") rows ≡ Some (role_name role)
+  pub top_is : ParsesAsNumberOrNone (one_of (codes "top") rows) top
+  pub raw_is : ParsesAsFlag (one_of (codes "raw") rows) raw
+
 -- The command's name and arguments give this action, which writes no file.
 abbrev pub IsFileAction : Text → List Row → Action → Type 0
 IsFileAction name rows action.Head = name ≡ codes "head"
@@ -125,6 +133,7 @@ IsFileAction name rows (action.Number role x) = (name ≡ codes "number") × (fi
     × ParsesAsString (one_of (codes "raw") rows) (first_of (codes "TERM") rows) x.items
 IsFileAction name rows (action.Find given numbers) = IsFindCommand name rows given (find_format numbers) None ⊎ IsDumpCommand name given numbers
 IsFileAction name rows (action.Search given format most) = IsFindCommand name rows given format most
+IsFileAction name rows (action.Count role top raw) = IsCountCommand name rows role top raw
 IsFileAction name rows (action.Answer options) = IsAnswerCommand name rows options
 IsFileAction name rows (action.Build options) = ⊥
 IsFileAction name rows (action.Rewrite b) = ⊥

@@ -1,1 +1,2 @@
 pub mod ProgressText
+pub mod LineChecks

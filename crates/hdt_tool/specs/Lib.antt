@@ -2,12 +2,14 @@ pub mod Escaping
 pub mod HeadText
 pub mod StringsText
 pub mod TriplesText
+pub mod TermCounts
 pub mod Verdict
 pub mod BuiltText
 pub mod Outcomes
 pub mod Dialogue
 pub mod Faults
 pub mod ErrorLines
+pub mod Lint
 pub mod CommandLine
 pub mod Status
 pub mod Inside

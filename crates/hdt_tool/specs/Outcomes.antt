@@ -22,12 +22,13 @@ use Rattle.hdt_tool.specs.declared.fault.ToolFault.{ToolFault}
 use Rattle.hdt_tool.specs.declared.fault.ToolFault.TheVariants.{File, Input, NoTriples, NoSuchTerm, NoSuchNumber, NotATerm, BadOptions, Read, Write, OutOfMemory}
 use Rattle.hdt_tool.specs.declared.request.Action.{Action}
 use Rattle.hdt_tool.specs.declared.request.Request.{Request}
-use Rattle.hdt_tool.specs.declared.request.Action.TheVariants.{Head, Verify, VerifyTight, Strings, Nth, Number, Find, Search, Answer, Build, Rewrite}
+use Rattle.hdt_tool.specs.declared.request.Action.TheVariants.{Head, Verify, VerifyTight, Strings, Nth, Number, Find, Search, Count, Answer, Build, Rewrite}
 use Rattle.hdt_tool.specs.BuiltText.{built_line, rewritten_line}
 use Rattle.hdt_tool.specs.HeadText.{head_text}
 use Rattle.hdt_tool.specs.ErrorLines.{fault_status}
 use Rattle.hdt_tool.specs.Verdict.{verdict}
 use Rattle.hdt_tool.specs.StringsText.{string_lines, PrintsString, PrintsNumber}
+use Rattle.hdt_tool.specs.TermCounts.{IsCountFault, PrintsCounts}
 use Rattle.hdt_tool.specs.TriplesText.{HasNonTermIn, PrintsFound, find_format}
 use Rattle.hdt_dict.specs.Dictionary.{role_strings}
 
@@ -64,6 +65,7 @@ Prints (Nth role n) bytes text = HasRoleStringsWith bytes role (λ strings. Prin
 Prints (Number role x) bytes text = HasRoleStringsWith bytes role (λ strings. PrintsNumber strings x.items text)
 Prints (Find given numbers) bytes text = IsLayoutWith bytes (λ graph. PrintsFound graph given (find_format numbers) None text)
 Prints (Search given format most) bytes text = IsLayoutWith bytes (λ graph. PrintsFound graph given format most text)
+Prints (Count role top raw) bytes text = IsLayoutWith bytes (λ graph. PrintsCounts graph role top raw text)
 Prints (Answer options) bytes text = IsLayoutWith bytes (λ graph. text ≡ [])
 Prints (Build options) bytes text = ⊥
 Prints (Rewrite b) bytes text = ⊥
@@ -107,10 +109,12 @@ abbrev pub LacksTerm : Action → List ℕ → Type 0
 LacksTerm (Number role x) bytes = HasRoleStringsWith bytes role (λ strings. (n : ℕ) → string_at_id strings n ≢ Some x.items)
 LacksTerm action bytes = ⊥
 
--- The output format is N-Triples, and the first string to print that is not a term has this role and ID.
+-- The output format is N-Triples, or `count` prints terms, and the first string to print that is not a term has this
+-- role and ID.
 abbrev pub HasNonTerm : Action → List ℕ → Role → ℕ → Type 0
 HasNonTerm (Find given numbers) bytes role n = IsLayoutWith bytes (λ graph. HasNonTermIn graph given (find_format numbers) None role n)
 HasNonTerm (Search given format most) bytes role n = IsLayoutWith bytes (λ graph. HasNonTermIn graph given format most role n)
+HasNonTerm (Count role top raw) bytes other n = IsLayoutWith bytes (λ graph. IsCountFault graph role top raw (NotATerm other n))
 HasNonTerm action bytes role n = ⊥
 
 -- The bytes are valid, but the block size for `rewrite` is not.

@@ -258,6 +258,19 @@ pub(crate) fn find_action<'m>(alloc: Global, matches: &ArgMatches<'m>) -> Result
     Ok(find_or_search(given, format_option(matches), most))
 }
 
+/// The action of `count`.
+pub(crate) fn count_action<'m>(
+    alloc: Global,
+    matches: &ArgMatches<'m>,
+) -> Result<Action, UsageFault>
+    ensures ok { IfOk result (IsFileAction (codes "count") (rows_of (found_of matches.now))) }
+    ensures refused { IfErr result (Refutes ((role : Role) × (first_of (codes "ROLE") (rows_of (found_of matches.now)) ≡ Some (role_name role)))) }
+{
+    let role = required_role(alloc, matches)?;
+    let (top, raw) = (optional_number(matches, "top"), has_flag(matches, "raw"));
+    Ok(Action::Count { role, top, raw })
+}
+
 /// The action of `answer`.
 pub(crate) fn answer_action<'m>(
     alloc: Global,

@@ -8,8 +8,8 @@ ghost use Rattle.hdt_tool.specs.declared.request.Action.{Action};
 ghost use Rattle.hdt_tool.specs.declared.request.Request.{Request};
 
 use crate::arguments::{
-    answer_action, build_options, find_action, has_flag, missing, required_block_size, required_id,
-    required_role, required_term, required_text, verify_action,
+    answer_action, build_options, count_action, find_action, has_flag, missing,
+    required_block_size, required_id, required_role, required_term, required_text, verify_action,
 };
 use crate::fault::UsageFault;
 use crate::request::{Action, Invocation, Request};
@@ -58,6 +58,7 @@ fn file_action<'m>(
             required_term(alloc, matches)?,
         )),
         "find" => find_action(alloc, matches),
+        "count" => count_action(alloc, matches),
         "answer" => answer_action(alloc, matches),
         "dump" => Ok(Action::Find {
             given: [None, None, None],

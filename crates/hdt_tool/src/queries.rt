@@ -7,13 +7,14 @@ ghost use Rattle.hdt_tool.specs.StringsText.{string_lines};
 ghost use Rattle.hdt_tool.specs.TriplesText.{find_format};
 ghost use Rattle.hdt_tool.specs.declared.request.Action.TheVariants as Action;
 
+use crate::counts::count_lines;
 use crate::fault::ToolFault;
 use crate::printed_reports::{head_text, verdict};
 use crate::printed_strings::{number_text, print_strings, string_text};
 use crate::printed_triples::triples_text;
 use crate::request::{Action, OutputFormat};
 use hdt_dict::Role;
-use hdt_file::{Layout, read_head, verify, verify_tight};
+use hdt_file::{Layout, open, read_head, verify, verify_tight};
 use hdt_wire::Counted;
 use std::alloc::Global;
 use std::io::Write;
@@ -71,6 +72,10 @@ pub(crate) fn file_text(alloc: Global, action: &Action, bytes: &[u8]) -> Result<
             format,
             most,
         } => triples_text(alloc, &Layout::read(alloc, bytes)?, given, *format, *most),
+        Action::Count { role, top, raw } => {
+            let graph = open(alloc, bytes)?;
+            count_lines(alloc, &graph, *role, *top, *raw)
+        }
         Action::Answer(_) => {
             Layout::read(alloc, bytes)?;
             Ok(Vec::new(alloc))

@@ -58,6 +58,15 @@ pub enum Action {
         /// The maximum number of triples; `None` for no limit.
         most: Option<u64>,
     },
+    /// Prints the number of triples of each term of a role.
+    Count {
+        /// The role.
+        role: Role,
+        /// How many terms to print, the most frequent first; `None` for all, in the order of IDs.
+        top: Option<u64>,
+        /// Whether dictionary strings are printed instead of terms.
+        raw: bool,
+    },
     /// Answers the requests of standard input over a file.
     Answer(AnswerOptions),
     /// Builds an HDT file from an N-Triples document, and prints the counts of its parts.

@@ -66,9 +66,18 @@ abbrev pub number_command : Names → App
 number_command names =
     with_rule (with_rule (with_rule (file_command (codes "number")) (role_arg names)) (required_arg (codes "TERM"))) (flag_arg (codes "raw"))
 
--- `--most N`: a number below 2^64; no default.
+-- `--name N`: a number below 2^64; no default.
+abbrev pub limit_option : Text → Rule
+limit_option id = record (new_rule id) { long = Some id; value_names = 1; parser = Some (parser.Unsigned 0 18446744073709551615) }
+
+-- `--most N`
 abbrev pub most_option : Rule
-most_option = record (new_rule (codes "most")) { long = Some (codes "most"); value_names = 1; parser = Some (parser.Unsigned 0 18446744073709551615) }
+most_option = limit_option (codes "most")
+
+-- `count FILE ROLE`, with `--top` and `--raw`
+abbrev pub count_command : Names → App
+count_command names =
+    with_rule (with_rule (with_rule (file_command (codes "count")) (role_arg names)) (limit_option (codes "top"))) (flag_arg (codes "raw"))
 
 -- `find FILE S P O`
 abbrev pub find_pattern_command : App
@@ -134,4 +143,4 @@ abbrev pub triple_commands : Names → App
 triple_commands names = with_subcommand (with_subcommand (with_subcommand (lookup_commands names) find_command.top) answer_command.top) dump_command.top
 
 abbrev pub table : Names → App
-table names = with_subcommand (with_subcommand (triple_commands names) build_command.top) rewrite_command.top
+table names = with_subcommand (with_subcommand (with_subcommand (triple_commands names) (count_command names).top) build_command.top) rewrite_command.top

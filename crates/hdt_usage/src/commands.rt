@@ -2,16 +2,17 @@
 ghost use Rattle.std.specs.Prelude.{◌≡◌, IfOk, false};
 ghost use Rattle.clap.specs.Words.{app_of, rule_of, with_rule, with_subcommand};
 ghost use Rattle.clap.specs.declared.builder.command.Command.TheViews.{out-Command as fields_of};
-ghost use Rattle.hdt_usage.specs.CommandTable.{required_arg, flag_arg, option_arg, role_arg, base_option, block_size_option, build_command, rewrite_command, in_out_command, progress_flag, number_arg, file_command, head_command, verify_command, strings_command, string_command, number_command, answer_command, find_command, find_pattern_command, longest_request_option, most_option, dump_command, empty_program, file_commands, lookup_commands, triple_commands, table};
+ghost use Rattle.hdt_usage.specs.CommandTable.{required_arg, flag_arg, option_arg, role_arg, base_option, block_size_option, build_command, rewrite_command, in_out_command, progress_flag, number_arg, file_command, head_command, verify_command, strings_command, string_command, number_command, count_command, limit_option, answer_command, find_command, find_pattern_command, longest_request_option, most_option, dump_command, empty_program, file_commands, lookup_commands, triple_commands, table};
 
 use crate::help::{
     ABOUT, ANSWER_ABOUT, ANSWER_LONG_ABOUT, BASE, BASE_HELP, BLOCK_SIZE_HELP, BUILD_ABOUT,
-    BUILD_LONG_ABOUT, COUNT_HELP, DUMP_ABOUT, DUMP_LONG_ABOUT, FILE_HELP, FIND_ABOUT,
-    FIND_LONG_ABOUT, HEAD_ABOUT, HEAD_LONG_ABOUT, IN_HELP, LONGEST_REQUEST_HELP, MOST_HELP,
-    NUMBER_ABOUT, NUMBER_HELP, NUMBER_LONG_ABOUT, NUMBERS_HELP, OBJECT_HELP, OUT_HELP,
-    PREDICATE_HELP, PROGRESS_HELP, RAW_HELP, RAW_PARTS_HELP, RAW_REQUESTS_HELP, REWRITE_ABOUT,
-    REWRITE_LONG_ABOUT, ROLE_HELP, STATUSES, STRING_ABOUT, STRINGS_ABOUT, STRINGS_LONG_ABOUT,
-    SUBJECT_HELP, TERM_HELP, TIGHT_HELP, VERIFY_ABOUT, VERIFY_LONG_ABOUT, VERSION,
+    BUILD_LONG_ABOUT, COUNT_ABOUT, COUNT_HELP, COUNT_LONG_ABOUT, DUMP_ABOUT, DUMP_LONG_ABOUT,
+    FILE_HELP, FIND_ABOUT, FIND_LONG_ABOUT, HEAD_ABOUT, HEAD_LONG_ABOUT, IN_HELP,
+    LONGEST_REQUEST_HELP, MOST_HELP, NUMBER_ABOUT, NUMBER_HELP, NUMBER_LONG_ABOUT, NUMBERS_HELP,
+    OBJECT_HELP, OUT_HELP, PREDICATE_HELP, PROGRESS_HELP, RAW_HELP, RAW_PARTS_HELP,
+    RAW_REQUESTS_HELP, RAW_STRINGS_HELP, REWRITE_ABOUT, REWRITE_LONG_ABOUT, ROLE_HELP, STATUSES,
+    STRING_ABOUT, STRINGS_ABOUT, STRINGS_LONG_ABOUT, SUBJECT_HELP, TERM_HELP, TIGHT_HELP, TOP_HELP,
+    VERIFY_ABOUT, VERIFY_LONG_ABOUT, VERSION,
 };
 use clap::{Arg, ArgAction, Command, value_parser};
 use std::alloc::{AllocError, Global};
@@ -189,17 +190,39 @@ fn new_number_command<'a>(alloc: Global, roles: &'a [&'a str]) -> Result<Command
     with_flag(alloc, command, "raw", RAW_HELP)
 }
 
+/// Adds an option whose value is a number below 2^64, without a default, to the command.
+fn with_limit<'a>(
+    alloc: Global,
+    command: Command<'a>,
+    id: &'a str,
+    help: &'a str,
+) -> Result<Command<'a>, AllocError>
+    requires { (fields_of command).has_globals ≡ false }
+    ensures shape { IfOk result (λ c. app_of c ≡ with_rule (app_of command.entry) (limit_option id.entry.now)) }
+    ensures local { IfOk result (λ c. (fields_of c).has_globals ≡ false) }
+{
+    let option = Arg::new(alloc, id).long(id).value_name("N").help(help);
+    command.arg(option.value_parser(value_parser!(u64)))
+}
+
 /// Adds `--most` to the command.
 fn with_most<'a>(alloc: Global, command: Command<'a>) -> Result<Command<'a>, AllocError>
     requires { (fields_of command).has_globals ≡ false }
     ensures shape { IfOk result (λ c. app_of c ≡ with_rule (app_of command.entry) most_option) }
     ensures local { IfOk result (λ c. (fields_of c).has_globals ≡ false) }
 {
-    let option = Arg::new(alloc, "most")
-        .long("most")
-        .value_name("N")
-        .help(MOST_HELP);
-    command.arg(option.value_parser(value_parser!(u64)))
+    with_limit(alloc, command, "most", MOST_HELP)
+}
+
+/// `count FILE ROLE`, with `--top` and `--raw`.
+fn new_count_command<'a>(alloc: Global, roles: &'a [&'a str]) -> Result<Command<'a>, AllocError>
+    ensures shape { IfOk result (λ c. app_of c ≡ count_command roles.entry) }
+    ensures local { IfOk result (λ c. (fields_of c).has_globals ≡ false) }
+{
+    let command = file_command(alloc, "count", COUNT_ABOUT, COUNT_LONG_ABOUT)?;
+    let command = with_role(alloc, command, roles)?;
+    let command = with_limit(alloc, command, "top", TOP_HELP)?;
+    with_flag(alloc, command, "raw", RAW_STRINGS_HELP)
 }
 
 /// Adds `--longest-request` to the command.
@@ -369,6 +392,7 @@ pub fn make_command_table<'a>(
     ensures { IfOk result (λ c. app_of c ≡ table roles.entry) }
 {
     let program = triple_commands(alloc, roles)?;
+    let program = with_command(program, new_count_command(alloc, roles)?)?;
     let program = with_command(program, new_build_command(alloc)?)?;
     with_command(program, new_rewrite_command(alloc)?)
 }

@@ -55,6 +55,16 @@ pub(crate) const NUMBER_LONG_ABOUT: &str = "Print the number of a term in a role
 TERM is an N-Triples term, as <http://example.org/a>, _:b or '\"text\"@en'. With --raw it is
 the dictionary string itself: an IRI without its brackets, for one.";
 
+pub(crate) const COUNT_ABOUT: &str = "Count the triples of each term of a role";
+
+pub(crate) const COUNT_LONG_ABOUT: &str = "Count the triples of each term of a role.
+
+One line per term: the number of its triples, a tab, and the term in N-Triples, in the order of
+the IDs. With --top N only the N most frequent terms are printed, the most frequent first, and of
+terms with as many triples the one with the smaller ID first. With --raw the dictionary strings
+are printed, also those that are not terms; \\, a line feed and a carriage return in a string
+are printed as \\\\, \\n and \\r.";
+
 pub(crate) const FIND_ABOUT: &str = "Print the triples that have the given terms";
 
 pub(crate) const FIND_LONG_ABOUT: &str = "Print the triples that have the given terms.
@@ -151,6 +161,10 @@ pub(crate) const NUMBER_HELP: &str = "The number, from 1";
 pub(crate) const TERM_HELP: &str = "The term, in N-Triples";
 
 pub(crate) const RAW_HELP: &str = "Take TERM as a dictionary string";
+
+pub(crate) const RAW_STRINGS_HELP: &str = "Print dictionary strings instead of terms";
+
+pub(crate) const TOP_HELP: &str = "Print the N most frequent terms only";
 
 pub(crate) const SUBJECT_HELP: &str = "The subject, in N-Triples, or ? for any";
 

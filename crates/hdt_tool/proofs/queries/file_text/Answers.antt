@@ -2,6 +2,7 @@ use Rattle.std.proofs.Common.{◌≡◌, ◌≢◌, ◌⊎◌, ◌∙◌, ℕ, L
 use Rattle.std.proofs.lemmas.Result.{IfErr-weaker, IfOk-weaker}
 use Rattle.hdt_dict.specs.Dictionary.{role_strings}
 use Rattle.hdt_dict.specs.Ids.{string_at_id}
+use Rattle.hdt_file.specs.GraphView.{graph_view}
 use Rattle.hdt_file.specs.LayoutView.{layout_view}
 use Rattle.hdt_tool.specs.declared.fault.ToolFault.TheVariants.{OutOfMemory, NoSuchTerm}
 use Rattle.hdt_tool.specs.declared.request.Action.{Action}
@@ -10,7 +11,7 @@ use Rattle.hdt_tool.specs.Outcomes.{IsFaultOfBytes, Prints}
 use Rattle.hdt_tool.specs.StringsText.{PrintsNumber}
 use Rattle.hdt_tool.specs.TriplesText.{PrintsFound}
 use Rattle.hdt_tool.specs.Verdict.{verdict}
-use Rattle.hdt_tool.proofs.InputFaults.{no_find, no_number, no_term, no_text}
+use Rattle.hdt_tool.proofs.InputFaults.{no_counts, no_find, no_number, no_term, no_text}
 use Rattle.hdt_tool.proofs.queries.file_text.Goals as goal
 
 pub returns-in_ok-verdict-in-Verify-clause-ok : goal.returns-in_ok-verdict-in-Verify-clause-ok
@@ -86,6 +87,19 @@ returns-in_ok-read-in-Search-clause-err c =
     (λ e h. subst (λ (a : Action). IsFaultOfBytes a c.args.bytes.now e) (sym c.in-Search.is)
     (no_text c.in-Search.given c.in-Search.format c.in-Search.most c.args.bytes.now (layout_view c.in_ok-read-in-Search.field-0) e c.in_ok-read-in-Search.ensures.found h))
     c.triples_text-in-Search.ensures.err
+
+pub returns-in_ok-graph-in-Count-clause-ok : goal.returns-in_ok-graph-in-Count-clause-ok
+returns-in_ok-graph-in-Count-clause-ok c =
+    IfOk-weaker c.count_lines.result _ _
+    (λ text h. subst (λ (a : Action). Prints a c.args.bytes.now text.items) (sym c.in-Count.is)
+    (record { graph = graph_view c.in_ok-graph-in-Count.graph; encoded = c.in_ok-graph-in-Count.ensures.found; holds = h })) c.count_lines.ensures.ok
+
+pub returns-in_ok-graph-in-Count-clause-err : goal.returns-in_ok-graph-in-Count-clause-err
+returns-in_ok-graph-in-Count-clause-err c =
+    IfErr-weaker c.count_lines.result _ _
+    (λ e h. subst (λ (a : Action). IsFaultOfBytes a c.args.bytes.now e) (sym c.in-Count.is)
+    (no_counts c.in-Count.role c.in-Count.top c.in-Count.raw c.args.bytes.now (graph_view c.in_ok-graph-in-Count.graph) e c.in_ok-graph-in-Count.ensures.found h))
+    c.count_lines.ensures.err
 
 pub returns-in_ok-read-in-Answer-clause-ok : goal.returns-in_ok-read-in-Answer-clause-ok
 returns-in_ok-read-in-Answer-clause-ok c =
