@@ -80,7 +80,14 @@ pub extern "C" fn hdt_page(
         }
         Some(taken) => {
             let opened = graph_ref(&taken);
-            let answer = put_page(alloc, opened, ids_of_parts(opened, pattern), from, out, next);
+            let answer = put_page(
+                alloc,
+                opened,
+                ids_of_parts(opened, pattern),
+                from,
+                out,
+                next,
+            );
             graph.put(taken);
             answer
         }

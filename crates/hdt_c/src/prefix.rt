@@ -23,12 +23,7 @@ pub struct HdtRanges {
 }
 
 /// Writes the IDs of the strings of a role that begin with a prefix, and returns their number.
-fn put_ranges(
-    graph: &Graph<'static>,
-    role: Role,
-    prefix: &[u8],
-    ranges: &mut HdtRanges,
-) -> u64
+fn put_ranges(graph: &Graph<'static>, role: Role, prefix: &[u8], ranges: &mut HdtRanges) -> u64
     ensures { HasIdsWithPrefix (graph_view graph.now) role prefix.now result ranges.new }
 {
     let found = graph.ids_with_prefix(role, prefix, &mut Steps::new());
@@ -40,12 +35,7 @@ fn put_ranges(
 }
 
 /// The same for a role that is given by its number.
-fn put_ranges_of(
-    graph: &Graph<'static>,
-    role: u32,
-    prefix: &[u8],
-    ranges: &mut HdtRanges,
-) -> u64
+fn put_ranges_of(graph: &Graph<'static>, role: u32, prefix: &[u8], ranges: &mut HdtRanges) -> u64
     ensures { ReturnsRanges (graph_view graph.now) (role_by_number role) prefix.now result ranges.old ranges.new }
 {
     match role_by_number(role) {
