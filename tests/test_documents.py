@@ -308,8 +308,8 @@ def test_how_many_errors_there_are() -> None:
 
 @pytest.mark.parametrize("prefix", ["FILE", "TEXT"])
 def test_errors_of_the_header(prefix: str) -> None:
-    """c/hdt.h has the documented names; the last error of files is that of tight reading, which C does not have."""
-    names = file_reasons()[:33] if prefix == "FILE" else text_reasons()
+    """c/hdt.h has the documented names."""
+    names = file_reasons() if prefix == "FILE" else text_reasons()
     wanted = [(f"HDT_{prefix}_{spoken(name)}", str(number)) for number, name in enumerate(names, 1)]
     assert re.findall(rf"(HDT_{prefix}_\w+) = (\d+)", HEADER.read_text()) == wanted
 
