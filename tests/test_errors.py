@@ -161,6 +161,19 @@ def test_messages_of_the_program() -> None:
 # ---- the texts
 
 
+def test_explanations() -> None:
+    """The texts of `hdt explain` are those of the page."""
+    assert errors.MODULE.read_text() == errors.rattle_module(ENTRIES)
+
+
+@pytest.mark.parametrize("entry", [it for it in ENTRIES if it.kind != "message"], ids=lambda it: f"{it.kind}-{it.name}")
+def test_commands_are_in_one_line(entry: errors.Entry) -> None:
+    """A command of a cause or a remedy is not broken at the end of a line."""
+    lines = errors.explanation(entry).splitlines()
+    for command in re.findall("`([^`]*)`", f"{entry.meaning} {entry.cause} {entry.remedy}"):
+        assert any(command in line for line in lines)
+
+
 @pytest.mark.parametrize("entry", ENTRIES, ids=lambda entry: f"{entry.kind}-{entry.name}")
 def test_texts_are_short(entry: errors.Entry) -> None:
     """Meaning, cause and remedy are sentences without markup, which a terminal shows in three lines each."""

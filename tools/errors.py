@@ -3,6 +3,7 @@
     python3 -m tools.errors                 write the examples into docs/ERRORS.md
     python3 -m tools.errors --check         check that they are there, word for word
     python3 -m tools.errors --file Width    print the damaged file of an example to standard output
+    python3 -m tools.errors --rattle        write the explanations of `hdt explain`, crates/hdt_tool/src/explanations.rt
 
 The page is the source of the texts. An error is a heading (`### 13 Width`), one paragraph of meaning, and a list of its
 cause, its remedy and its example; `entries` reads them. The example alone is made here: a line that says what is wrong
@@ -32,8 +33,9 @@ sys.path.insert(0, str(TOP / "tests"))
 from reference import hdt as model  # noqa: E402
 
 PAGE = TOP / "docs/ERRORS.md"
+MODULE = TOP / "crates/hdt_tool/src/explanations.rt"
 THREE = (TOP / "samples/three.hdt").read_bytes()
-# A text of the page, as `hdt explain` could print it, has at most so many lines of so many columns.
+# A text of the page, as `hdt explain` prints it, has at most so many lines of so many columns.
 LINES, COLUMNS = 3, 90
 # The sections of the page that have errors, and the kind of each.
 SECTIONS = {
@@ -46,6 +48,12 @@ ENTRY = re.compile(
     r"- \*\*Cause:\*\* (?P<cause>(?:.+\n)+?)- \*\*Remedy:\*\* (?P<remedy>(?:.+\n)+?)"
     r"- \*\*Example:\*\*(?P<example>.*\n(?:.+\n)*)"
 )
+
+
+def filled(text: str) -> str:
+    """Return a text of the page without markup, in lines of at most COLUMNS columns. A command is in one line."""
+    kept = re.sub("`([^`]*)`", lambda command: command[1].replace(" ", "\0"), text)
+    return textwrap.fill(kept, COLUMNS, break_on_hyphens=False).replace("\0", " ")
 
 
 class Entry(NamedTuple):
@@ -63,12 +71,49 @@ class Entry(NamedTuple):
     example: str
 
     def plain(self) -> tuple[str, str, str]:
-        """Return meaning, cause and remedy without markup, in lines of at most COLUMNS columns."""
-        meaning, cause, remedy = (
-            textwrap.fill(it.replace("`", ""), COLUMNS, break_on_hyphens=False)
-            for it in (self.meaning, self.cause, self.remedy)
-        )
+        """Return meaning, cause and remedy without markup, in lines of at most COLUMNS columns.
+
+        A command is in one line.
+        """
+        meaning, cause, remedy = map(filled, (self.meaning, self.cause, self.remedy))
         return meaning, cause, remedy
+
+
+# The tables of the module, by the kind of their errors: name, comment, and the heading of an explanation.
+TABLES = {
+    "file": ("FILE_ERRORS", "The errors of an HDT file.", "Error {number} of an HDT file"),
+    "text": ("TEXT_ERRORS", "The errors of an N-Triples text.", "Error {number} of an N-Triples text"),
+}
+
+
+def explanation(entry: Entry) -> str:
+    """Return what `hdt explain` prints of an error of a file or a text."""
+    heading = TABLES[entry.kind][2].format(number=entry.number)
+    parts = (f"{heading}: {entry.name}", entry.meaning, f"Cause: {entry.cause}", f"Remedy: {entry.remedy}")
+    return "\n\n".join(map(filled, parts))
+
+
+def rattle_text(text: str) -> str:
+    """Return a text as a literal of Rattle. Its line ends stay as they are."""
+    escaped = text.replace("\\", "\\\\").replace('"', '\\"')
+    return f'"{escaped}"'
+
+
+def rattle_module(found: list[Entry]) -> str:
+    """Return the Rattle module with the explanations of these errors."""
+    parts = [
+        "//! The explanations that `hdt explain` prints. `python3 -m tools.errors --rattle` makes them of docs/ERRORS.md.\n",
+        "use crate::explain::Explanation;\n",
+    ]
+    for kind, (name, comment, _) in TABLES.items():
+        rows = "".join(
+            f"    Explanation {{\n        number: {rattle_text(str(entry.number))},\n"
+            f"        name: {rattle_text(entry.name)},\n        text: {rattle_text(explanation(entry))},\n    }},\n"
+            for entry in found
+            if entry.kind == kind
+        )
+        parts.append(f"/// {comment}\npub(crate) const {name}: &[Explanation] = &[\n{rows}];\n")
+    return "\n".join(parts)
 
 
 class Example(NamedTuple):
@@ -355,12 +400,16 @@ def main() -> int:
     )
     parser.add_argument("--check", action="store_true", help="check the page and write nothing")
     parser.add_argument("--file", metavar="NAME", choices=FILES, help="print the file of an example")
+    parser.add_argument("--rattle", action="store_true", help="write the texts of `hdt explain`, and no examples")
     options = parser.parse_args()
     if options.file:
         sys.stdout.buffer.write(FILES[options.file][1])
         return 0
     page = PAGE.read_text()
     found = entries(page)
+    if options.rattle:
+        MODULE.write_text(rattle_module(found))
+        return 0
     outcomes = [tried(entry) for entry in found]
     wrong = []
     for entry, it in zip(found, outcomes):

@@ -7,5 +7,6 @@ mod InputFaults
 mod Outputs
 mod Rewriting
 mod Triples
+mod Shown
 pub mod Statuses
 pub mod Dialogues

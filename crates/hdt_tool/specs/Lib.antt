@@ -11,4 +11,6 @@ pub mod ErrorLines
 pub mod CommandLine
 pub mod Status
 pub mod Whole
+pub mod Explanations
+pub mod Context
 pub mod Inside

@@ -15,6 +15,7 @@
 //! - `whole` and `queries`: the output of each command that only reads; `dialogue`: requests over one graph;
 //! - `commands`: all commands, from a reader to a writer;
 //! - `error_lines`: exit statuses and error messages;
+//! - `explain`, with the texts of `explanations`, `context` and `hints`: explanations of errors, and lines that follow a message;
 //! - `progress`, `files`, `atomic_replace`, `output_file` and `status`: the same over files and streams.
 #![tactic(auto)]
 
@@ -22,10 +23,14 @@ mod arguments;
 mod atomic_replace;
 mod command_line;
 mod commands;
+mod context;
 mod dialogue;
 mod error_lines;
+mod explain;
+mod explanations;
 mod fault;
 mod files;
+mod hints;
 mod output_file;
 mod printed_reports;
 mod printed_strings;

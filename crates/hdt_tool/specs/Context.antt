@@ -1,0 +1,44 @@
+-- The lines that follow an error message.
+use Rattle.std.specs.Prelude.{ℕ, ◌+◌, ◌-◌, ◌/◌, ◌%◌, Bool, ◌&&◌, ◌||◌, ◌==◌, slice_index, List, [], ◌∷◌, ◌++◌, length, take, drop, replicate, codes, nat_lt, nat_le, nat_eq, if◌then◌else◌}
+use Rattle.hdt_tool.specs.declared.context.Hint.{Hint}
+use Rattle.std.specs.List.{flat_map, starts_with, list_any}
+
+-- A hexadecimal digit.
+abbrev pub hex_digit : ℕ → ℕ
+hex_digit n = if nat_lt n 10 then 48 + n else 55 + n
+
+-- A byte as a terminal shows it: printable ASCII as it is, any other byte as `\xHH`.
+abbrev pub shown_byte : ℕ → List ℕ
+shown_byte b = if (nat_le 32 b && nat_le b 126) then b ∷ [] else 92 ∷ 120 ∷ hex_digit (b / 16) ∷ hex_digit (b % 16) ∷ []
+
+abbrev pub shown : List ℕ → List ℕ
+shown bytes = flat_map shown_byte bytes
+
+-- Where the part of a shown line begins that is printed: half the width before the marked place.
+abbrev pub window_start : ℕ → ℕ → ℕ
+window_start place width = place - width / 2
+
+-- A shown line, cut to a width around a place in it, and a line with `^` below that place. Both are indented by two spaces.
+abbrev pub marked_line : List ℕ → ℕ → ℕ → List ℕ
+marked_line text place width = 32 ∷ 32 ∷ (take width (drop (window_start place width) text)
+    ++ 10 ∷ 32 ∷ 32 ∷ (replicate (place - window_start place width) 32 ++ 94 ∷ 10 ∷ []))
+
+-- The first hint for bytes that begin as it says, or an empty text.
+abbrev pub hint_in : List ℕ → List Hint → List ℕ
+hint_in first [] = []
+hint_in first (h ∷ hs) = if starts_with nat_eq first h.start.now then h.text.now else hint_in first hs
+
+-- Whether a text begins as an IRI, a literal or a blank node does.
+abbrev pub begins_as_term : List ℕ → Bool
+begins_as_term text = (slice_index text 0 == 60) || (slice_index text 0 == 34) || (slice_index text 0 == 95)
+
+-- Whether a text begins with a digit or a sign.
+abbrev pub begins_as_number : List ℕ → Bool
+begins_as_number text = (nat_le 48 (slice_index text 0) && nat_le (slice_index text 0) 57) || (slice_index text 0 == 43) || (slice_index text 0 == 45)
+
+-- What to do about an argument that is not an N-Triples term: nothing is known of one that begins as a term does.
+abbrev pub term_hint : List ℕ → List ℕ
+term_hint term = if begins_as_term term then []
+    else if list_any (λ b. nat_eq b 58) term then codes "an IRI is written between < and >, in single quotes: '<http://example.org/a>'"
+    else if begins_as_number term then codes "a number is a literal: '\"5\"^^<http://www.w3.org/2001/XMLSchema#integer>'"
+    else codes "a literal is written in double quotes, within single ones: '\"text\"'"
