@@ -44,7 +44,10 @@ pub(crate) fn explain_reason(
     ensures { IfOk result (λ found. option_map string_bytes found
         ≡ both_texts (explanation_in word.now file_errors.now) (explanation_in word.now text_errors.now)) }
 {
-    match (explanation_in(word, file_errors), explanation_in(word, text_errors)) {
+    match (
+        explanation_in(word, file_errors),
+        explanation_in(word, text_errors),
+    ) {
         (None, None) => Ok(None),
         (Some(text), None) | (None, Some(text)) => Ok(Some(String::from_str(alloc, text)?)),
         (Some(file), Some(text)) => Ok(Some(format!(in alloc; "{file}\n\n{text}")?)),
