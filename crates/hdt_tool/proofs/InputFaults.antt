@@ -11,18 +11,13 @@ use Rattle.hdt_wire.specs.declared.role.Role.{Role}
 use Rattle.hdt_dict.specs.Ids.{string_at_id}
 use Rattle.hdt_file.specs.File.{GraphParts, IsLayout}
 use Rattle.hdt_dict.specs.Dictionary.{role_strings}
-use Rattle.hdt_tool.specs.Outcomes.{HasBadBlockSize, HasNonTerm, IsReadOnlyFault, IsFaultOfBytes, ReadsAll, IsReadOnly, IsFaultOfInput, HasBadOptions}
+use Rattle.hdt_tool.specs.Outcomes.{HasBadBlockSize, HasNonTerm, IsFaultOfBytes, ReadsAll, IsFaultOfInput, HasBadOptions}
 use Rattle.hdt_tool.specs.TriplesText.{GivenStrings, IsFindFault, find_format}
 
 -- A block size that is not valid.
 bad_blocks : (action : Action) (before after : Option (List ℕ)) (bytes : List ℕ) → ReadsAll before after bytes → HasBadBlockSize action bytes → HasBadOptions action before after
 bad_blocks (Rewrite b) before after bytes read h = record { bytes = bytes; read = read; holds = h }
 bad_blocks action before after bytes read h = absurd h
-
--- A command that writes no file has no block size.
-no_blocks : (action : Action) (bytes : List ℕ) → IsReadOnly action → HasBadBlockSize action bytes → ⊥
-no_blocks (Rewrite b) bytes is h = is
-no_blocks action bytes is h = h
 
 -- An error for the bytes that were read is an error of the run.
 pub fault_of_input : (action : Action) (before after : Option (List ℕ)) (bytes : List ℕ) (e : ToolFault) → ReadsAll before after bytes → IsFaultOfBytes action bytes e → IsFaultOfInput action before after e
@@ -64,11 +59,3 @@ pub no_find : (given : GivenStrings) (numbers : Bool) (format : OutputFormat) (b
     → IsFaultOfBytes (Find given numbers) bytes e
 no_find given numbers format bytes (NotATerm role n) is h = subst (λ (f : OutputFormat). HasNonTerm (Search given f None) bytes role n) is h
 no_find given numbers format bytes fault is h = h
-
--- An error for the bytes of a command that writes no file is one that such a command may return.
-pub is_read_only_fault : (action : Action) (bytes : List ℕ) (e : ToolFault) → IsReadOnly action → IsFaultOfBytes action bytes e → IsReadOnlyFault e
-is_read_only_fault action bytes (Input fault) is h = h
-is_read_only_fault action bytes NoTriples is h = h
-is_read_only_fault action bytes BadOptions is h = no_blocks action bytes is h
-is_read_only_fault action bytes (Write n) is h = h
-is_read_only_fault action bytes fault is h = tt

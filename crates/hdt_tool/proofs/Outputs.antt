@@ -1,17 +1,17 @@
 -- The output and the new file of a run, by kind of command.
-use Rattle.std.proofs.Common.{◌≡◌, ◌≢◌, ◌++◌, ◌∙◌, ℕ, List, [], Option, refl, sym, ap, subst}
-use Rattle.std.proofs.lemmas.List.{append-nil}
+use Rattle.std.proofs.Common.{◌≡◌, ◌≢◌, ◌+◌, ◌++◌, ◌∙◌, ℕ, List, [], Option, Result, Ok, Err, length, take, refl, sym, ap, subst}
+use Rattle.std.specs.Prelude.{IfErr, IsErrOf, OnErr, OnOk}
+use Rattle.std.specs.Io.KnownBytes.{Appends}
+use Rattle.std.proofs.lemmas.List.{append-nil, take_at}
 use Rattle.hdt_build.specs.Reading.{ReadFailed}
 use Rattle.hdt_build.specs.declared.fault.BuildFault.{BuildFault}
 use Rattle.hdt_build.specs.declared.fault.BuildFault.TheVariants as building
 use Rattle.hdt_build.specs.declared.options.Options.{Options}
-use Rattle.hdt_tool.specs.declared.fault.ToolFault.TheVariants.{Read}
+use Rattle.hdt_tool.specs.declared.fault.ToolFault.{ToolFault}
+use Rattle.hdt_tool.specs.declared.fault.ToolFault.TheVariants.{BadOptions, Read, Write}
 use Rattle.hdt_tool.specs.declared.request.Action.{Action}
 use Rattle.hdt_tool.specs.declared.request.Action.TheVariants.{Build, Rewrite}
-use Rattle.hdt_tool.specs.Whole.{query_action}
-use Rattle.hdt_tool.specs.declared.whole.Query.{Query}
-use Rattle.hdt_tool.specs.declared.whole.Query.TheVariants as query
-use Rattle.hdt_tool.specs.Outcomes.{IfBuild, YieldsAppended, CompletesOwned, Prints, IsReadOnly, ReadsWith}
+use Rattle.hdt_tool.specs.Outcomes.{Completes, CompletesOwned, FailsAfter, IfBuild, IsFaultOfInput, IsReadOnly, Prints, ReadsAll, ReadsWith, RewritesFile, WritesOutputPrefix, Yields, YieldsAppended}
 use Rattle.hdt_tool.specs.Faults.{build_fault_of, fault_of_reason}
 
 -- If the command's error is not a read error, neither is that of the builder.
@@ -19,10 +19,11 @@ pub not_failed : (fault : BuildFault) → build_fault_of fault ≢ Read → Read
 not_failed (building.Line fault) not h = not (ap (fault_of_reason fault) h)
 not_failed fault not h = h
 
--- A query writes no file.
-pub reads_file : (q : Query) → IsReadOnly (query_action q)
-reads_file query.Head = tt
-reads_file q = tt
+-- A command other than `build` and `rewrite` writes no file.
+pub read_only : (action : Action) → ((options : Options) → action ≢ Build options) → ((b : ℕ) → action ≢ Rewrite b) → IsReadOnly action
+read_only (Build options) not_build not_rewrite = absurd (not_build options refl)
+read_only (Rewrite b) not_build not_rewrite = absurd (not_rewrite b refl)
+read_only action not_build not_rewrite = tt
 
 -- A command that writes no file leaves `made` unchanged.
 pub nothing_built : (action : Action) → IsReadOnly action → (before after : Option (List ℕ)) (text made : List ℕ) → ReadsWith before after (λ bytes. Prints action bytes text)
@@ -30,6 +31,15 @@ pub nothing_built : (action : Action) → IsReadOnly action → (before after : 
 nothing_built (Build options) is before after text made h = absurd is
 nothing_built (Rewrite b) is before after text made h = absurd is
 nothing_built action is before after text made h = record { built = []; yields = (h, refl); made = sym (append-nil made) }
+
+-- `rewrite` of the bytes that were read.
+pub rewrites : (b : ℕ) (before after : Option (List ℕ)) (bytes seen text made more : List ℕ) → ReadsAll before after bytes → seen ≡ bytes
+    → ((file : List ℕ) × RewritesFile b seen text file × (more ≡ made ++ file)) → YieldsAppended (Rewrite b) before after text made more
+rewrites b before after bytes seen text made more read same h = record {
+  built = h.0;
+  yields = record { bytes = bytes; read = read; holds = subst (λ (bytes : List ℕ). RewritesFile b bytes text h.0) same h.1 };
+  made = h.2;
+}
 
 nothing_made : (action : Action) → IsReadOnly action → (before after : Option (List ℕ)) (text made more : List ℕ) → YieldsAppended action before after text made more → more ≡ made
 nothing_made (Build options) is before after text made more h = absurd is
@@ -45,3 +55,48 @@ nothing_lost action is before old new more h =
 pub no_options : (action : Action) (Holds : Options → Type 0) → IsReadOnly action → IfBuild action Holds
 no_options (Build options) Holds is = absurd is
 no_options action Holds is = tt
+
+-- ---- writing a complete text
+
+-- The writer failed after a prefix of the text.
+abbrev pub IsWriteFault : List ℕ → Option (List ℕ) → Option (List ℕ) → ℕ → ℕ → ToolFault → Type 0
+IsWriteFault text old new f g e = (n : ℕ) × (e ≡ Write n) × FailsAfter n text old new f g
+
+-- All of the text is written.
+pub completes : (r : Result (Unit {0}) ToolFault) (action : Action) (before after old new : Option (List ℕ)) (text made mid last : List ℕ) → YieldsAppended action before after text made mid
+    → OnOk r (Appends old new text) → OnOk r (last ≡ mid) → OnOk r (Completes action before after old new made last)
+completes (Ok done) action before after old new text made mid last makes written same =
+    record { text = text; makes = subst (YieldsAppended action before after text made) (sym same) makes; written = written }
+completes (Err e) action before after old new text made mid last makes written same = tt
+
+-- A prefix of it is written.
+pub writes_prefix : (r : Result (Unit {0}) ToolFault) (action : Action) (before after old new : Option (List ℕ)) (text built : List ℕ) (f g : ℕ) → Yields action before after text built
+    → IfErr r (IsWriteFault text old new f g) → IfErr r (λ e. (n : ℕ) → e ≡ Write n → (g ≡ f + 1) × WritesOutputPrefix action before after old new n)
+writes_prefix (Ok done) action before after old new text built f g yields fails = tt
+writes_prefix (Err e) action before after old new text built f g yields fails = λ n is.
+    let same : Write fails.0 ≡ Write n = sym fails.1 ∙ is in
+    let count : fails.0 ≡ n = cc in
+    let cut : FailsAfter n text old new f g = subst (λ m. FailsAfter m text old new f g) count fails.2 in
+    (cut.failed, record { text = text; built = built; yields = yields; within = cut.within; written = cut.written })
+
+-- A write error is an error of any run, and no other error.
+pub told_writing : (r : Result (Unit {0}) ToolFault) (action : Action) (before after old new : Option (List ℕ)) (text : List ℕ) (f g : ℕ) → IfErr r (IsWriteFault text old new f g)
+    → IfErr r (IsFaultOfInput action before after)
+told_writing (Ok done) action before after old new text f g fails = tt
+told_writing (Err e) action before after old new text f g fails = subst (IsFaultOfInput action before after) (sym fails.1) tt
+
+pub only_writing : (A : ToolFault → Type 0) (r : Result (Unit {0}) ToolFault) (old new : Option (List ℕ)) (text : List ℕ) (f g : ℕ) → IfErr r (IsWriteFault text old new f g)
+    → IfErr r (λ e. ((n : ℕ) → e ≢ Write n) → A e)
+only_writing A (Ok done) old new text f g fails = tt
+only_writing A (Err e) old new text f g fails = λ none. absurd (none fails.0 fails.1)
+
+pub not_bad_writing : (r : Result (Unit {0}) ToolFault) (old new : Option (List ℕ)) (text : List ℕ) (f g : ℕ) → IfErr r (IsWriteFault text old new f g) → IsErrOf r BadOptions → ⊥
+not_bad_writing (Ok done) old new text f g fails is = absurd cc
+not_bad_writing (Err e) old new text f g fails is =
+    let bad : e ≡ BadOptions = cc in
+    let same : Write fails.0 ≡ BadOptions = sym fails.1 ∙ bad in absurd cc
+
+-- Truncation removes exactly what was appended.
+pub restored : (r : Result (Unit {0}) ToolFault) (start : ℕ) (before built after new : List ℕ) → length before ≡ start → after ≡ before ++ built → OnErr r (new ≡ take start after) → OnErr r (new ≡ before)
+restored (Ok done) start before built after new long made cut = tt
+restored (Err e) start before built after new long made cut = cut ∙ ap (take start) made ∙ take_at before built start long

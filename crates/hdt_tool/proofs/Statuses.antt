@@ -1,13 +1,12 @@
 -- What an exit status implies about the result that it was computed from.
-use Rattle.std.proofs.Common.{◌≡◌, ◌≢◌, ◌⊎◌, ⊎_elim, ◌∙◌, ap, ℕ, Bool, true, false, cond, Option, refl, inl, inr, subst, sym}
+use Rattle.std.proofs.Common.{◌≡◌, ◌≢◌, ◌⊎◌, ◌∙◌, ap, ℕ, Bool, true, false, cond, Option, refl, inl, inr, subst, sym}
 use Rattle.std.specs.Prelude.{List, Result, Ok, Err, MatchResult, IfOk, IfErr, OnOk}
 use Rattle.clap.specs.Words.{Text}
 use Rattle.hdt_tool.specs.declared.fault.ToolFault.{ToolFault}
-use Rattle.hdt_tool.specs.declared.fault.ToolFault.TheVariants.{File, NoTriples, Write, OutOfMemory}
+use Rattle.hdt_tool.specs.declared.fault.ToolFault.TheVariants.{File, NoTriples, Read, Write, OutOfMemory}
 use Rattle.hdt_tool.specs.declared.fault.UsageFault.{UsageFault}
 use Rattle.hdt_tool.specs.declared.request.Invocation.{Invocation}
 use Rattle.hdt_tool.specs.declared.request.Action.{Action}
-use Rattle.hdt_tool.specs.Outcomes.{IsFaultOfOwnedInput}
 use Rattle.hdt_tool.specs.CommandLine.{IsRefused, ParsesToInvocation}
 use Rattle.hdt_tool.specs.ErrorLines.{fault_status}
 use Rattle.hdt_tool.specs.Status.{Ends, IsCommandStatus, IsRefusalStatus, IsActionStatus}
@@ -74,6 +73,13 @@ still_at_1 A C (Err fault) status (inl h) unwritten is =
     let other : (e : ToolFault) → fault_status e ≢ 1 → fault ≢ e = λ e not same. not (sym (ap fault_status same) ∙ sym h ∙ is) in
     first (other OutOfMemory (λ e. cc)) (unwritten (λ n. other (Write n) (λ e. cc)))
 
+-- Status 1 implies an error of that status.
+pub faulted : (Q : ToolFault → Type 0) (outcome : Result (Unit {0}) ToolFault) (status : ℕ) → MatchResult outcome (λ _. status ≡ 0) (λ fault. (status ≡ fault_status fault) ⊎ (status ≡ 4))
+    → IfErr outcome Q → status ≡ 1 → (fault : ToolFault) × (fault_status fault ≡ 1) × Q fault
+faulted Q (Ok done) status of told is = absurd cc
+faulted Q (Err fault) status (inl h) told is = (fault, sym h ∙ is, told)
+faulted Q (Err fault) status (inr h) told is = absurd cc
+
 -- Any status but 0 implies that nothing was written, or the writer failed, or `strings` ran out of memory.
 joined : {A B C D : Type 0} → (A ⊎ (D × C)) ⊎ B → A ⊎ (B ⊎ C)
 joined (inl (inl a)) = inl a
@@ -85,18 +91,30 @@ pub stopped : {A B C : Type 0} (outcome : Result (Unit {0}) ToolFault) (status :
 stopped (Ok done) status of unwritten write not = absurd (not of)
 stopped (Err fault) status of unwritten write not = joined (by_writer fault unwritten write)
 
--- If the output goes to memory, a write error becomes out of memory, and other errors stay.
-pub told_in_memory : (action : Action) (before : Option (List ℕ)) (fault told : ToolFault) → ((n : ℕ) → fault ≡ Write n → told ≡ OutOfMemory) → (((n : ℕ) → fault ≢ Write n) → told ≡ fault)
-    → IsFaultOfOwnedInput action before fault → IsFaultOfOwnedInput action before told
-told_in_memory action before fault told memory other h =
-    ⊎_elim (λ same. subst (IsFaultOfOwnedInput action before) (sym same) h) (λ same. subst (IsFaultOfOwnedInput action before) (sym same) (record { after = h.after; is_fault = tt }))
-    (by_writer fault other memory)
+-- ---- the input, as it was opened
 
-pub kept_in_memory : (outcome : Result (Unit {0}) ToolFault) (fault told kind : ToolFault) → outcome ≡ Err fault → (((n : ℕ) → fault ≢ Write n) → told ≡ fault) → ((n : ℕ) → kind ≢ Write n)
-    → outcome ≡ Err kind → told ≡ kind
-kept_in_memory outcome fault told kind is other not e =
-    let same : fault ≡ kind = cc in
-    other (λ n w. not n (sym same ∙ w)) ∙ same
+-- What holds for the reader holds for the result of opening it.
+pub opened : {F E : Type 0} (P : F → Type 0) (file : Result F E) (input seen : F) → file ≡ Ok input → seen ≡ input → P seen → MatchResult file P (λ _. ⊥)
+opened {F} {E} P file input seen is same h = subst (λ (r : Result F E). MatchResult r P (λ _. ⊥)) (sym is) (subst P same h)
+
+pub if_opened : {F E : Type 0} (P : F → Type 0) (file : Result F E) (input seen : F) → file ≡ Ok input → seen ≡ input → P seen → IfOk file P
+if_opened {F} {E} P file input seen is same h = subst (λ (r : Result F E). IfOk r P) (sym is) (subst P same h)
+
+-- The status if it could not be opened.
+pub memory_status : (fault : ToolFault) (status : ℕ) → fault ≡ OutOfMemory → (status ≡ fault_status fault) ⊎ (status ≡ 4) → status ≡ 4
+memory_status fault status memory (inl h) = h ∙ ap fault_status memory
+memory_status fault status memory (inr h) = h
+
+pub unopened_status : (fault : ToolFault) (status : ℕ) → (fault ≡ OutOfMemory) ⊎ (fault ≡ Read) → (status ≡ fault_status fault) ⊎ (status ≡ 4) → (status ≡ 3) ⊎ (status ≡ 4)
+unopened_status fault status (inl memory) (inl h) = inr (h ∙ ap fault_status memory)
+unopened_status fault status (inr read) (inl h) = inl (h ∙ ap fault_status read)
+unopened_status fault status either (inr h) = inr h
+
+pub not_one : (status : ℕ) → (status ≡ 3) ⊎ (status ≡ 4) → status ≡ 1 → ⊥
+not_one status (inl h) is = absurd cc
+not_one status (inr h) is = absurd cc
+
+-- ---- the program
 
 -- The status of the invocation is one that the program may end with.
 pub ends : {X E : Type 0} (texts : X → List Text) (words : Result X E) (asked : Result Invocation UsageFault) (status : ℕ)
@@ -105,3 +123,17 @@ pub ends : {X E : Type 0} (texts : X → List Text) (words : Result X E) (asked 
 ends texts (Ok w) (Ok asked) status wanted refused of = inl (record { request = asked.request; wanted = parses_to_request (texts w) asked wanted; ends = of })
 ends texts (Ok w) (Err fault) status wanted refused of = inr (record { fault = fault; refused = refused; ends = of })
 ends texts (Err e) asked status wanted refused of = tt
+
+-- A request that was parsed was given.
+pub was_given : {X E : Type 0} (texts : X → List Text) (words : Result X E) (asked : Result Invocation UsageFault) (invocation : Invocation) (Q : E → Type 0) → asked ≡ Ok invocation
+    → IfOk asked (λ asked. MatchResult words (λ w. ParsesToInvocation (texts w) asked) (λ _. ⊥)) → IfErr words Q
+was_given texts (Ok w) asked invocation Q is ok = tt
+was_given texts (Err e) asked invocation Q is ok = absurd (subst (λ (r : Result Invocation UsageFault). IfOk r (λ _. ⊥)) is ok)
+
+-- The status of its command is one that the program may end with.
+pub ends_with : {X E : Type 0} (texts : X → List Text) (words : Result X E) (asked : Result Invocation UsageFault) (invocation : Invocation) (status : ℕ) → asked ≡ Ok invocation
+    → IfOk asked (λ asked. MatchResult words (λ w. ParsesToInvocation (texts w) asked) (λ _. ⊥)) → IfErr asked (λ fault. IfOk words (λ w. IsRefused (texts w) fault))
+    → IsActionStatus invocation.request.action status → IfOk words (λ w. Ends (texts w) status)
+ends_with texts words asked invocation status is wanted refused of =
+    ends texts words asked status wanted refused
+    (subst (λ (r : Result Invocation UsageFault). MatchResult r (λ asked. IsActionStatus asked.request.action status) (λ fault. IsRefusalStatus fault status)) (sym is) of)

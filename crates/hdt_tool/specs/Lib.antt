@@ -10,7 +10,6 @@ pub mod Faults
 pub mod ErrorLines
 pub mod CommandLine
 pub mod Status
-pub mod Whole
 pub mod Explanations
 pub mod Context
 pub mod Inside

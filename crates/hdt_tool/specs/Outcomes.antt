@@ -74,6 +74,11 @@ IsReadOnly (Build options) = ⊥
 IsReadOnly (Rewrite b) = ⊥
 IsReadOnly action = Unit {0}
 
+-- The command prints one complete text and writes no file: `strings` prints in pieces.
+abbrev pub PrintsText : Action → Type 0
+PrintsText (Strings role) = ⊥
+PrintsText action = IsReadOnly action
+
 -- The command writes a file: `build` or `rewrite`.
 abbrev pub MakesFile : Action → Type 0
 MakesFile (Build options) = Unit {0}
@@ -122,14 +127,6 @@ IsFaultOfBytes action bytes (NotATerm role n) = HasNonTerm action bytes role n
 IsFaultOfBytes action bytes BadOptions = HasBadBlockSize action bytes
 IsFaultOfBytes action bytes OutOfMemory = Unit {0}
 IsFaultOfBytes action bytes fault = ⊥
-
--- The error is one that a command that writes no file may return before it prints.
-abbrev pub IsReadOnlyFault : ToolFault → Type 0
-IsReadOnlyFault (Input fault) = ⊥
-IsReadOnlyFault NoTriples = ⊥
-IsReadOnlyFault BadOptions = ⊥
-IsReadOnlyFault (Write n) = ⊥
-IsReadOnlyFault fault = Unit {0}
 
 -- The reader has yielded exactly these bytes and is at its end.
 pub record ReadsAll (before after : Option (List ℕ)) (bytes : List ℕ) : Type 0 where

@@ -5,20 +5,19 @@ ghost use Rattle.std.specs.Io.KnownBytes.{Appends};
 ghost use Rattle.hdt_wire.specs.Counted.{inner, failures};
 ghost use Rattle.hdt_build.specs.Options.{AreValidOptions};
 ghost use Rattle.hdt_tool.specs.Dialogue.{AnswersInput, AnswersUntilFault};
-ghost use Rattle.hdt_tool.specs.Whole.{query_action, whole_action};
-ghost use Rattle.hdt_tool.specs.Outcomes.{IsLayoutWith, ReadsAll, ReadsWith, Prints, IsFaultOfInput, IsFaultOfBytes, YieldsAppended, Completes, WritesOutputPrefix, InterruptsStrings, IfBuild, IsReadOnlyFault, RewritesFile};
+ghost use Rattle.hdt_tool.specs.BuiltText.{counts_line};
+ghost use Rattle.hdt_tool.specs.Outcomes.{IsLayoutWith, ReadsAll, ReadsWith, Prints, IsFaultOfInput, IsFaultOfBytes, YieldsAppended, Completes, WritesOutputPrefix, InterruptsStrings, IfBuild, RewritesFile, FailsAfter};
 ghost use Rattle.hdt_tool.specs.declared.request.Action.TheVariants as Action;
 
 use crate::dialogue::answer_requests;
 use crate::fault::ToolFault;
-use crate::printed_reports::{built_line, rewritten_line};
-use crate::queries::{print_file_strings, query_text};
-use crate::request::{AnswerOptions, Request};
-use crate::whole::{Printing, Query, Whole, printing_of};
-use hdt_build::{Options, build_bytes, rewrite_bytes};
+use crate::printed_reports::counts_line;
+use crate::queries::{file_text, print_file_strings};
+use crate::request::{Action, AnswerOptions, Request};
+use hdt_build::{Options, Report, build_bytes, rewrite_bytes};
 use hdt_dict::Role;
 use hdt_file::open;
-use hdt_wire::{Counted, Failed};
+use hdt_wire::{Counted, Failed, truncate_on_error};
 use std::alloc::{AllocError, Global};
 use std::io::{Read, Write};
 
@@ -26,7 +25,7 @@ use std::io::{Read, Write};
 const BUFFER: usize = 65_536;
 
 /// Reads to the end of the input, into a vector of this initial capacity.
-fn read_all<R: Read>(
+pub(crate) fn read_all<R: Read>(
     alloc: Global,
     input: &mut Counted<R>,
     capacity: usize,
@@ -48,41 +47,31 @@ fn read_all<R: Read>(
     }
 }
 
-/// The output of a command that writes no file.
-#[tactic(auto, using(crate::proofs::InputFaults::fault_of_input, crate::proofs::InputFaults::not_read, crate::proofs::InputFaults::is_read_only_fault, crate::proofs::Outputs::reads_file))]
-fn read_query_text<R: Read>(
+/// Appends a new file to `made`, and returns the line with its counts. If `made` is empty, the file takes its place and no
+/// byte is copied.
+fn append_file(
     alloc: Global,
-    query: Query<'_>,
-    input: &mut Counted<R>,
-    capacity: usize,
-) -> Result<Vec<u8>, ToolFault>
-    ensures ok { IfOk result (λ text. ReadsWith (R.remaining (inner input.old)) (R.remaining (inner input.new))
-        (λ bytes. Prints (query_action query.entry) bytes text.items)) }
-    ensures told { IfErr result (IsFaultOfInput (query_action query.entry) (R.remaining (inner input.old)) (R.remaining (inner input.new))) }
-    ensures read { IsErrOf result ToolFault.Read → failures input.new ≡ failures input.old + 1 }
-    ensures reader_well { OnOk result (failures input.new ≡ failures input.old) }
-    ensures reader_told { IfErr result (λ e. e ≢ ToolFault.Read → failures input.new ≡ failures input.old) }
-    ensures others { IfErr result IsReadOnlyFault }
-{
-    let bytes = read_all(alloc, input, capacity)?;
-    query_text(alloc, query, bytes.as_slice())
-}
-
-/// Appends a file to `made`; if that is empty, the file takes its place and no byte is copied.
-fn append_file(file: Vec<u8>, made: &mut Vec<u8>) -> Result<(), AllocError>
+    word: &str,
+    file: Vec<u8>,
+    report: &Report,
+    made: &mut Vec<u8>,
+) -> Result<Vec<u8>, AllocError>
+    ensures line { IfOk result (λ line. line.items ≡ counts_line word.now report.now) }
     ensures items { OnOk result (made.new.items ≡ made.old.items ++ file.items) }
     ensures kept { OnErr result (made.new.items ≡ made.old.items) }
 {
+    let line = counts_line(alloc, word, report)?;
     if made.is_empty() {
         *made = file;
-        return Ok(());
+        return Ok(line);
     }
     let mut file = file;
-    made.append(&mut file)
+    made.append(&mut file)?;
+    Ok(line)
 }
 
 /// The output of `build`; appends the new file to `made`.
-fn built_text<R: Read>(
+pub(crate) fn build_file<R: Read>(
     alloc: Global,
     options: &Options,
     input: &mut Counted<R>,
@@ -99,14 +88,13 @@ fn built_text<R: Read>(
     ensures others { IfErr result (λ e. (n : ℕ) → e ≢ ToolFault.Write n) }
     ensures kept { OnErr result (made.new.items ≡ made.old.items) }
 {
-    let (bytes, report) = build_bytes(alloc, input, options)?;
-    let text = built_line(alloc, &report)?;
-    append_file(bytes, made)?;
+    let (file, report) = build_bytes(alloc, input, options)?;
+    let text = append_file(alloc, "built", file, &report, made)?;
     Ok(text)
 }
 
 /// The output of `rewrite` for the bytes of a file; appends the new file to `made`.
-fn rewrite_bytes_text(
+pub(crate) fn rewrite_file(
     alloc: Global,
     block_size: u32,
     bytes: &[u8],
@@ -122,91 +110,18 @@ fn rewrite_bytes_text(
         base: Vec::new(alloc),
     };
     let (file, report) = rewrite_bytes(alloc, &graph, &options)?;
-    let text = rewritten_line(alloc, &report)?;
-    append_file(file, made)?;
+    let text = append_file(alloc, "rewritten", file, &report, made)?;
     Ok(text)
 }
 
-/// The output of `rewrite`; appends the new file to `made`.
-fn rewritten_text<R: Read>(
-    alloc: Global,
-    block_size: u32,
-    input: &mut Counted<R>,
-    capacity: usize,
-    made: &mut Vec<u8>,
-) -> Result<Vec<u8>, ToolFault>
-    ensures ok { IfOk result (λ text. YieldsAppended (Action.Rewrite block_size) (R.remaining (inner input.old)) (R.remaining (inner input.new))
-        text.items made.old.items made.new.items) }
-    ensures told { IfErr result (IsFaultOfInput (Action.Rewrite block_size) (R.remaining (inner input.old)) (R.remaining (inner input.new))) }
-    ensures read { IsErrOf result ToolFault.Read → failures input.new ≡ failures input.old + 1 }
-    ensures reader_well { OnOk result (failures input.new ≡ failures input.old) }
-    ensures reader_told { IfErr result (λ e. e ≢ ToolFault.Read → failures input.new ≡ failures input.old) }
-    ensures others { IfErr result (λ e. (n : ℕ) → e ≢ ToolFault.Write n) }
-    ensures kept { OnErr result (made.new.items ≡ made.old.items) }
+/// Writes a text.
+pub(crate) fn write_text<W: Write>(text: &[u8], out: &mut Counted<W>) -> Result<(), ToolFault>
+    ensures ok { OnOk result (Appends (W.contents (inner out.old)) (W.contents (inner out.new)) text.now) }
+    ensures well { OnOk result (failures out.new ≡ failures out.old) }
+    ensures failed { IfErr result (λ e. (n : ℕ) × (e ≡ ToolFault.Write n) × FailsAfter n text.now
+        (W.contents (inner out.old)) (W.contents (inner out.new)) (failures out.old) (failures out.new)) }
 {
-    let bytes = read_all(alloc, input, capacity)?;
-    rewrite_bytes_text(alloc, block_size, bytes.as_slice(), made)
-}
-
-/// The output of a command other than `strings`; appends a new file to `made`.
-fn command_text<R: Read>(
-    alloc: Global,
-    whole: Whole<'_>,
-    input: &mut Counted<R>,
-    capacity: usize,
-    made: &mut Vec<u8>,
-) -> Result<Vec<u8>, ToolFault>
-    ensures ok { IfOk result (λ text. YieldsAppended (whole_action whole.entry) (R.remaining (inner input.old)) (R.remaining (inner input.new))
-        text.items made.old.items made.new.items) }
-    ensures told { IfErr result (IsFaultOfInput (whole_action whole.entry) (R.remaining (inner input.old)) (R.remaining (inner input.new))) }
-    ensures read { IsErrOf result ToolFault.Read → failures input.new ≡ failures input.old + 1 }
-    ensures reader_well { OnOk result (failures input.new ≡ failures input.old) }
-    ensures reader_told { IfErr result (λ e. e ≢ ToolFault.Read → failures input.new ≡ failures input.old) }
-    ensures bad { IfBuild (whole_action whole.entry) (λ options. IsErrOf result ToolFault.BadOptions ↔ (AreValidOptions options → ⊥)) }
-    ensures unread { IfBuild (whole_action whole.entry) (λ options. IsErrOf result ToolFault.BadOptions → input.new ≡ input.old) }
-    ensures others { IfErr result (λ e. (n : ℕ) → e ≢ ToolFault.Write n) }
-    ensures kept { OnErr result (made.new.items ≡ made.old.items) }
-{
-    match whole {
-        Whole::Build(options) => built_text(alloc, options, input, made),
-        Whole::Rewrite(block_size) => rewritten_text(alloc, block_size, input, capacity, made),
-        Whole::Query(query) => read_query_text(alloc, query, input, capacity),
-    }
-}
-
-/// Runs a command other than `strings`: writes the output once it is complete.
-fn print_text<R: Read, W: Write>(
-    alloc: Global,
-    whole: Whole<'_>,
-    input: &mut Counted<R>,
-    capacity: usize,
-    out: &mut Counted<W>,
-    made: &mut Vec<u8>,
-) -> Result<(), ToolFault>
-    ensures ok { OnOk result (Completes (whole_action whole.entry) (R.remaining (inner input.old)) (R.remaining (inner input.new))
-        (W.contents (inner out.old)) (W.contents (inner out.new)) made.old.items made.new.items) }
-    ensures told { IfErr result (IsFaultOfInput (whole_action whole.entry) (R.remaining (inner input.old)) (R.remaining (inner input.new))) }
-    ensures bad { IfBuild (whole_action whole.entry) (λ options. IsErrOf result ToolFault.BadOptions ↔ (AreValidOptions options → ⊥)) }
-    ensures unread { IfBuild (whole_action whole.entry) (λ options. IsErrOf result ToolFault.BadOptions → input.new ≡ input.old) }
-    ensures read { IsErrOf result ToolFault.Read → failures input.new ≡ failures input.old + 1 }
-    ensures reader_well { OnOk result (failures input.new ≡ failures input.old) }
-    ensures reader_told { IfErr result (λ e. e ≢ ToolFault.Read → failures input.new ≡ failures input.old) }
-    ensures write { IfErr result (λ e. (n : ℕ) → e ≡ ToolFault.Write n → (failures out.new ≡ failures out.old + 1)
-        × WritesOutputPrefix (whole_action whole.entry) (R.remaining (inner input.old)) (R.remaining (inner input.new))
-        (W.contents (inner out.old)) (W.contents (inner out.new)) n) }
-    ensures writer_well { OnOk result (failures out.new ≡ failures out.old) }
-    ensures unwritten { IfErr result (λ e. ((n : ℕ) → e ≢ ToolFault.Write n) → out.new ≡ out.old) }
-    ensures kept { OnErr result (made.new.items ≡ made.old.items) }
-{
-    let start = made.len();
-    let text = command_text(alloc, whole, input, capacity, made)?;
-    match out.write_all(text.as_slice()) {
-        Ok(()) => Ok(()),
-        Err(count) => {
-            made.truncate(start);
-            Err(ToolFault::Write(count))
-        }
-    }
+    out.write_all(text).map_err(ToolFault::Write)
 }
 
 /// Runs `strings`, which writes its lines in pieces.
@@ -307,9 +222,24 @@ pub fn run_with_capacity<R: Read, W: Write>(
         (W.contents (inner out.old)) (W.contents (inner out.new)) (failures out.old) (failures out.new))) }
     ensures kept { OnErr result (made.new.items ≡ made.old.items) }
 {
-    match printing_of(&request.action) {
-        Printing::Pieces(role) => run_strings(alloc, role, input, capacity, out),
-        Printing::Whole(whole) => print_text(alloc, whole, input, capacity, out, made),
+    match &request.action {
+        Action::Strings(role) => run_strings(alloc, *role, input, capacity, out),
+        Action::Build(options) => {
+            let start = made.len();
+            let line = build_file(alloc, options, input, made)?;
+            truncate_on_error(write_text(&line, out), start, made)
+        }
+        Action::Rewrite(block_size) => {
+            let start = made.len();
+            let bytes = read_all(alloc, input, capacity)?;
+            let line = rewrite_file(alloc, *block_size, &bytes, made)?;
+            truncate_on_error(write_text(&line, out), start, made)
+        }
+        action => {
+            let bytes = read_all(alloc, input, capacity)?;
+            let text = file_text(alloc, action, &bytes)?;
+            write_text(&text, out)
+        }
     }
 }
 

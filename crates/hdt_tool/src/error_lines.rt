@@ -10,6 +10,9 @@ use hdt_terms::{LineFault, TermFault};
 use hdt_wire::Fault;
 use std::alloc::{AllocError, Global};
 
+/// The message if memory ran out.
+pub(crate) const OUT_OF_MEMORY: &str = "hdt: out of memory";
+
 /// The message for an error of an HDT file.
 fn file_line(alloc: Global, fault: Fault) -> Result<String, AllocError>
     ensures { IfOk result (λ line. string_bytes line ≡ fault_line (ToolFault.File fault)) }
@@ -80,7 +83,7 @@ pub fn fault_line(alloc: Global, fault: &ToolFault) -> Result<(u8, String), Allo
         ToolFault::BadOptions => Ok((2, String::from_str(alloc, "hdt: bad options")?)),
         ToolFault::Read => Ok((3, String::from_str(alloc, "hdt: reading failed")?)),
         ToolFault::Write(_) => Ok((3, String::from_str(alloc, "hdt: writing failed")?)),
-        ToolFault::OutOfMemory => Ok((4, String::from_str(alloc, "hdt: out of memory")?)),
+        ToolFault::OutOfMemory => Ok((4, String::from_str(alloc, OUT_OF_MEMORY)?)),
     }
 }
 
@@ -96,6 +99,6 @@ pub fn usage_line(alloc: Global, fault: &UsageFault) -> Result<(u8, String), All
             2,
             invalid_term_line(alloc, *word, *fault)?,
         )),
-        UsageFault::OutOfMemory => Ok((4, String::from_str(alloc, "hdt: out of memory")?)),
+        UsageFault::OutOfMemory => fault_line(alloc, &ToolFault::OutOfMemory),
     }
 }

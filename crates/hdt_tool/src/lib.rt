@@ -12,7 +12,7 @@
 //! - `request` and `fault`: requests, and the errors of a command line and of a command;
 //! - `arguments` and `command_line`: parsing a command line with `clap` and hdt_usage's table of commands;
 //! - the modules `printed_*`: output texts;
-//! - `whole` and `queries`: the output of each command that only reads; `dialogue`: requests over one graph;
+//! - `queries`: the output of each command that only reads; `dialogue`: requests over one graph;
 //! - `commands`: all commands, from a reader to a writer;
 //! - `error_lines`: exit statuses and error messages;
 //! - `explain`, with the texts of `explanations`, `context` and `hints`: explanations of errors, and lines that follow a message;
@@ -39,7 +39,6 @@ mod progress;
 mod queries;
 mod request;
 mod status;
-mod whole;
 
 pub use command_line::{parse_invocation, parse_words};
 pub use commands::{answer_file, run, run_with_capacity};

@@ -6,24 +6,13 @@ ghost use Rattle.hdt_wire.specs.Counted.{inner, failures};
 ghost use Rattle.hdt_tool.specs.Outcomes.{FailsAfter, MakesFile, CompletesOwned, IsFaultOfOwnedInput};
 
 use crate::atomic_replace::{replace_file, replaceable_path};
+use crate::commands::{build_file, read_all, rewrite_file, write_text};
 use crate::fault::{ToolFault, file_fault};
 use crate::files::{STDERR_PATH, STDOUT_PATH, create, is_same_file, known_size, open_input};
-use crate::request::{Invocation, Request};
-use crate::status::run_opened;
+use crate::request::{Action, Invocation, Request};
 use hdt_wire::Counted;
 use std::alloc::Global;
 use std::io::{self, ErrorKind, Read, Write};
-
-/// The error of a command that writes to memory: a write error means that memory ran out.
-fn in_memory(fault: ToolFault) -> ToolFault
-    ensures memory { (n : ℕ) → fault ≡ ToolFault.Write n → result ≡ ToolFault.OutOfMemory }
-    ensures other { ((n : ℕ) → fault ≢ ToolFault.Write n) → result ≡ fault }
-{
-    match fault {
-        ToolFault::Write(_) => ToolFault::OutOfMemory,
-        fault => fault,
-    }
-}
 
 /// Builds the new file of `build` or `rewrite` from the result of opening its input: appends it to `built`, and returns
 /// the output line.
@@ -43,10 +32,17 @@ fn make_file<R: Read + Drop>(
     ensures unopened { IfErr file (λ e. error_kind e ≢ ErrorKind.OutOfMemory → result ≡ Err ToolFault.Read) }
     ensures others { IfErr result (λ e. (n : ℕ) → e ≢ ToolFault.Write n) }
 {
-    let mut line = Counted::new(Vec::new(alloc));
-    match run_opened(alloc, request, file, capacity, &mut line, built) {
-        Ok(()) => Ok(line.into_inner()),
-        Err(fault) => Err(in_memory(fault)),
+    let mut input = match file {
+        Ok(input) => Counted::new(input),
+        Err(error) => return Err(file_fault(&error, ToolFault::Read)),
+    };
+    match &request.action {
+        Action::Build(options) => build_file(alloc, options, &mut input, built),
+        Action::Rewrite(block_size) => {
+            let bytes = read_all(alloc, &mut input, capacity)?;
+            rewrite_file(alloc, *block_size, &bytes, built)
+        }
+        _ => unreachable!(),
     }
 }
 
@@ -58,16 +54,6 @@ fn check_created<F: Write>(file: io::Result<F>) -> Result<Counted<F>, ToolFault>
 {
     let file = file.map_err(|error| file_fault(&error, ToolFault::Write(0)))?;
     Ok(Counted::new(file))
-}
-
-/// Writes an output line.
-fn print_line<W: Write>(out: &mut Counted<W>, line: &[u8]) -> Result<(), ToolFault>
-    ensures line { OnOk result (Appends (W.contents (inner out.old)) (W.contents (inner out.new)) line.now) }
-    ensures well { OnOk result (failures out.new ≡ failures out.old) }
-    ensures failed { IfErr result (λ e. (n : ℕ) × (e ≡ ToolFault.Write n) × FailsAfter n line.now
-        (W.contents (inner out.old)) (W.contents (inner out.new)) (failures out.old) (failures out.new)) }
-{
-    out.write_all(line).map_err(ToolFault::Write)
 }
 
 /// Writes the new file, and then the output line.
@@ -91,7 +77,7 @@ fn write_file_and_line<F: Write, W: Write>(
         × (failures file.new ≡ failures file.old)))) }
 {
     file.write_all(built).map_err(ToolFault::Write)?;
-    print_line(out, line)
+    write_text(line, out)
 }
 
 /// Prints the new file to standard output, and its line to standard error, unless both are the same file.
@@ -113,7 +99,7 @@ fn write_to_path(rt: &HostRuntime, path: &str, built: &[u8], line: &[u8]) -> Res
     let replaced = replaceable_path(rt, rt.alloc(), path);
     if let Some(path) = replaced.map_err(|error| file_fault(&error, ToolFault::Write(0)))? {
         replace_file(rt, &path, built)?;
-        return print_line(&mut out, line);
+        return write_text(line, &mut out);
     }
     let mut file = check_created(create(rt, path))?;
     write_file_and_line(&mut file, built, &mut out, line)

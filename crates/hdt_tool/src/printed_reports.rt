@@ -5,7 +5,7 @@ ghost use Rattle.hdt_file.specs.Head.{head_parts};
 ghost use Rattle.hdt_tool.specs.HeadText.{labelled_line, block_lines, head_text};
 ghost use Rattle.hdt_tool.specs.Escaping.{escaped_byte, escaped};
 ghost use Rattle.hdt_tool.specs.Verdict.{verdict};
-ghost use Rattle.hdt_tool.specs.BuiltText.{built_line, counts_line, rewritten_line};
+ghost use Rattle.hdt_tool.specs.BuiltText.{counts_line};
 
 use hdt_build::Report;
 use hdt_file::Head;
@@ -75,9 +75,9 @@ pub(crate) fn verdict(alloc: Global, lens: [u64; 5]) -> Result<Vec<u8>, AllocErr
     Ok(line.into_bytes())
 }
 
-/// A line with a word and six counts: triples, the strings of the shared, subjects, predicates and objects sections,
-/// and the bytes of the file.
-fn counts_line(alloc: Global, word: &str, report: &Report) -> Result<Vec<u8>, AllocError>
+/// The output of `build` or `rewrite`: a word and six counts, of triples, of the strings of the shared, subjects,
+/// predicates and objects sections, and of the bytes of the file.
+pub(crate) fn counts_line(alloc: Global, word: &str, report: &Report) -> Result<Vec<u8>, AllocError>
     ensures { IfOk result (λ text. text.items ≡ counts_line word.now report.now) }
 {
     let line = format!(in alloc;
@@ -90,18 +90,4 @@ fn counts_line(alloc: Global, word: &str, report: &Report) -> Result<Vec<u8>, Al
         report.bytes
     )?;
     Ok(line.into_bytes())
-}
-
-/// The output of `build`.
-pub(crate) fn built_line(alloc: Global, report: &Report) -> Result<Vec<u8>, AllocError>
-    ensures { IfOk result (λ text. text.items ≡ built_line report.now) }
-{
-    counts_line(alloc, "built", report)
-}
-
-/// The output of `rewrite`.
-pub(crate) fn rewritten_line(alloc: Global, report: &Report) -> Result<Vec<u8>, AllocError>
-    ensures { IfOk result (λ text. text.items ≡ rewritten_line report.now) }
-{
-    counts_line(alloc, "rewritten", report)
 }

@@ -12,15 +12,15 @@ ghost use Rattle.std.specs.Prelude.{◌≡◌, ◌≢◌, ◌⊎◌, ◌+◌, �
 ghost use Rattle.std.specs.IoError.{error_kind};
 ghost use Rattle.std.specs.Vec.Iter.{into_iter_items};
 ghost use Rattle.hdt_wire.specs.Counted.{inner, failures};
-ghost use Rattle.hdt_tool.specs.Outcomes.{InterruptsStringsOwned, HasInputFault, HasOut, MakesFile, CompletesOwned, IsReadOnly, IsFaultOfOwnedInput, WritesPrefixOwned};
+ghost use Rattle.hdt_tool.specs.Outcomes.{InterruptsStringsOwned, HasInputFault, HasOut, CompletesOwned, IsReadOnly, WritesPrefixOwned};
 ghost use Rattle.hdt_tool.specs.CommandLine.{IsRefused, IsUsageText, ParsesToInvocation};
 ghost use Rattle.hdt_tool.specs.Dialogue.{AnswersOverFile, AnswersOverFileUntilFault};
 ghost use Rattle.hdt_tool.specs.ErrorLines.{fault_status};
-ghost use Rattle.hdt_tool.specs.Status.{Ends, IsBuild, IsCommandStatus, IsRefusalStatus, IsActionStatus};
+ghost use Rattle.hdt_tool.specs.Status.{Ends, IsBuild, IsCommandStatus, IsRefusalStatus};
 
 use crate::command_line::parse_invocation;
 use crate::commands::{answer_file, run_with_capacity};
-use crate::error_lines::{fault_line, usage_line};
+use crate::error_lines::{OUT_OF_MEMORY, fault_line, usage_line};
 use crate::fault::{ToolFault, UsageFault, file_fault};
 use crate::files::{known_size, open_input, would_overwrite};
 use crate::output_file::make_file_at;
@@ -53,7 +53,7 @@ fn report_line(rt: &HostRuntime, line: Result<(u8, String), AllocError>) -> u8
 {
     match line {
         Ok((status, text)) => print_error_line(rt, status, text.as_str()),
-        Err(AllocError) => print_error_line(rt, 4, "hdt: out of memory"),
+        Err(AllocError) => print_error_line(rt, 4, OUT_OF_MEMORY),
     }
 }
 
@@ -130,42 +130,7 @@ fn parse_process_arguments(
     }
 }
 
-/// Runs a request on the result of opening its input. The new file of `build` or `rewrite` is appended to `made`.
-pub(crate) fn run_opened<R: Read + Drop, W: Write>(
-    alloc: Global,
-    request: &Request,
-    file: io::Result<R>,
-    capacity: usize,
-    out: &mut Counted<W>,
-    made: &mut Vec<u8>,
-) -> Result<(), ToolFault>
-    // `out` has gained the command's output for the input, and `made` the new file.
-    ensures ok { OnOk result (MatchResult file (λ input. CompletesOwned request.now.action (R.remaining input)
-        (W.contents (inner out.old)) (W.contents (inner out.new)) made.old.items made.new.items) (λ _. ⊥)) }
-    // An error is one that `run` may return for the input.
-    ensures told { IfErr result (λ e. IfOk file (λ input. IsFaultOfOwnedInput request.now.action (R.remaining input) e)) }
-    // If the input could not be opened: `OutOfMemory` if its error is of that kind, else `Read`.
-    ensures memory { IfErr file (λ e. error_kind e ≡ ErrorKind.OutOfMemory → result ≡ Err ToolFault.OutOfMemory) }
-    ensures unopened { IfErr file (λ e. error_kind e ≢ ErrorKind.OutOfMemory → result ≡ Err ToolFault.Read) }
-    // `Write(n)`: the writer failed once in this call, after exactly the first n bytes of the output.
-    ensures write { IfErr result (λ e. (n : ℕ) → e ≡ ToolFault.Write n → (failures out.new ≡ failures out.old + 1)
-        × MatchResult file (λ input. WritesPrefixOwned request.now.action (R.remaining input)
-        (W.contents (inner out.old)) (W.contents (inner out.new)) n) (λ _. ⊥)) }
-    // With any other result it did not fail. With any other error nothing was written, except that `strings` may have
-    // written a prefix of its output before it ran out of memory.
-    ensures writer_well { OnOk result (failures out.new ≡ failures out.old) }
-    ensures unwritten { IfErr result (λ e. ((n : ℕ) → e ≢ ToolFault.Write n) → (out.new ≡ out.old) ⊎ ((e ≡ ToolFault.OutOfMemory)
-        × MatchResult file (λ input. InterruptsStringsOwned request.now.action (R.remaining input)
-        (W.contents (inner out.old)) (W.contents (inner out.new)) (failures out.old) (failures out.new)) (λ _. ⊥))) }
-{
-    let mut input = match file {
-        Ok(input) => Counted::new(input),
-        Err(error) => return Err(file_fault(&error, ToolFault::Read)),
-    };
-    run_with_capacity(alloc, request, &mut input, capacity, out, made)
-}
-
-/// Runs a command that writes no file, and returns the status.
+/// Runs a command that writes no file on the result of opening its input, and returns the status.
 fn run_query<R: Read + Drop, W: Write>(
     rt: &HostRuntime,
     request: &Request,
@@ -182,16 +147,26 @@ fn run_query<R: Read + Drop, W: Write>(
     // 1: the input is not valid or has no triples, a look-up found nothing, or a string is not a term.
     ensures fault { result ≡ 1 → MatchResult file (λ input. HasInputFault request.now.action (R.remaining input)) (λ _. ⊥) }
     ensures unwritten { result ≡ 1 → out.new ≡ out.old }
-    // 2, 3 and 4: nothing was written, or the writer failed, or `strings` ran out of memory after a prefix of its
-    // output.
-    ensures stopped { result ≢ 0 → (out.new ≡ out.old) ⊎ (failures out.new ≡ failures out.old + 1)
+    // If the input could not be opened: 4 if its error is `OutOfMemory`, else 3; or 4 if there is no memory for the
+    // message.
+    ensures memory { IfErr file (λ e. error_kind e ≡ ErrorKind.OutOfMemory → result ≡ 4) }
+    ensures unopened { IfErr file (λ e. error_kind e ≢ ErrorKind.OutOfMemory → (result ≡ 3) ⊎ (result ≡ 4)) }
+    // 2, 3 and 4: nothing was written; or the writer failed once, after exactly the first n bytes of the output; or
+    // `strings` ran out of memory after a prefix of its output.
+    ensures stopped { result ≢ 0 → (out.new ≡ out.old)
+        ⊎ ((failures out.new ≡ failures out.old + 1) × (n : ℕ) × MatchResult file (λ input. WritesPrefixOwned request.now.action (R.remaining input)
+        (W.contents (inner out.old)) (W.contents (inner out.new)) n) (λ _. ⊥))
         ⊎ MatchResult file (λ input. InterruptsStringsOwned request.now.action (R.remaining input)
         (W.contents (inner out.old)) (W.contents (inner out.new)) (failures out.old) (failures out.new)) (λ _. ⊥) }
 {
+    let mut input = match file {
+        Ok(input) => Counted::new(input),
+        Err(error) => return done(rt, Err(file_fault(&error, ToolFault::Read))),
+    };
     let mut made = Vec::new(rt.alloc());
     done(
         rt,
-        run_opened(rt.alloc(), request, file, capacity, out, &mut made),
+        run_with_capacity(rt.alloc(), request, &mut input, capacity, out, &mut made),
     )
 }
 
@@ -206,25 +181,13 @@ fn refuse(rt: &HostRuntime, fault: UsageFault) -> u8
 }
 
 /// Whether `build` would overwrite, and so lose, the document that it reads. (`rewrite` keeps the graph.)
-fn writes_over_its_input(rt: &HostRuntime, invocation: &Invocation, path: &str) -> bool
-    ensures { result ≡ true → IsBuild invocation.now.request.action }
+fn writes_over_its_input(rt: &HostRuntime, request: &Request, path: &str) -> bool
+    ensures { result ≡ true → IsBuild request.now.action }
 {
-    match &invocation.request.action {
-        Action::Build(_) => would_overwrite(rt, path, invocation.request.file.as_str()),
+    match &request.action {
+        Action::Build(_) => would_overwrite(rt, path, request.file.as_str()),
         _ => false,
     }
-}
-
-/// Runs `build` or `rewrite`, and returns the status. If `build` would overwrite its input, it fails before it reads
-/// anything.
-fn run_making(rt: &HostRuntime, invocation: &Invocation, path: &str) -> u8
-    requires { MakesFile invocation.now.request.action }
-    ensures { IsActionStatus invocation.now.request.action result }
-{
-    if writes_over_its_input(rt, invocation, path) {
-        return print_error_line(rt, 2, SAME_FILE_MESSAGE);
-    }
-    done(rt, make_file_at(rt, invocation, path))
 }
 
 /// The status of `answer`: 1 if any answer is an error. Prints the message of an error that ended it.
@@ -235,34 +198,6 @@ fn answers_status(rt: &HostRuntime, outcome: Result<bool, ToolFault>) -> u8
         Ok(faulty) => u8::from(faulty),
         Err(fault) => done(rt, Err(fault)),
     }
-}
-
-/// Serves requests over the result of opening a file. Returns whether any answer is an error.
-fn answer_opened<F: Read + Drop, R: Read, W: Write>(
-    alloc: Global,
-    options: AnswerOptions,
-    file: io::Result<F>,
-    capacity: usize,
-    input: &mut Counted<R>,
-    out: &mut Counted<W>,
-) -> Result<bool, ToolFault>
-    // The file is valid, and `out` has gained the answers to all requests over its graph.
-    ensures ok { IfOk result (λ faulty. MatchResult file (λ file. AnswersOverFile options (F.remaining file) (R.remaining (inner input.old))
-        (W.contents (inner out.old)) (W.contents (inner out.new)) faulty) (λ _. ⊥)) }
-    ensures writer_well { OnOk result (failures out.new ≡ failures out.old) }
-    // If the file could not be opened: `OutOfMemory` if its error is of that kind, else `Read`.
-    ensures memory { IfErr file (λ e. error_kind e ≡ ErrorKind.OutOfMemory → result ≡ Err ToolFault.OutOfMemory) }
-    ensures unopened { IfErr file (λ e. error_kind e ≢ ErrorKind.OutOfMemory → result ≡ Err ToolFault.Read) }
-    // Nothing was written, or a part of the answers, as the contract of `answer_file` says.
-    ensures stopped { IfErr result (λ e. (out.new ≡ out.old) ⊎ MatchResult file (λ file. AnswersOverFileUntilFault options (F.remaining file)
-        (R.remaining (inner input.old)) (R.remaining (inner input.new)) (W.contents (inner out.old)) (W.contents (inner out.new))
-        (failures out.old) (failures out.new) e) (λ _. ⊥)) }
-{
-    let mut file = match file {
-        Ok(file) => Counted::new(file),
-        Err(why) => return Err(file_fault(&why, ToolFault::Read)),
-    };
-    answer_file(alloc, options, &mut file, capacity, input, out)
 }
 
 /// Serves requests over the result of opening a file, and returns the status.
@@ -279,6 +214,10 @@ fn run_answer<F: Read + Drop, R: Read, W: Write>(
     ensures done { result ≡ 0 → MatchResult file (λ file. AnswersOverFile options (F.remaining file) (R.remaining (inner input.old))
         (W.contents (inner out.old)) (W.contents (inner out.new)) false) (λ _. ⊥) }
     ensures well { result ≡ 0 → failures out.new ≡ failures out.old }
+    // If the file could not be opened: 4 if its error is `OutOfMemory`, else 3; or 4 if there is no memory for the
+    // message.
+    ensures memory { IfErr file (λ e. error_kind e ≡ ErrorKind.OutOfMemory → result ≡ 4) }
+    ensures unopened { IfErr file (λ e. error_kind e ≢ ErrorKind.OutOfMemory → (result ≡ 3) ⊎ (result ≡ 4)) }
     // Otherwise nothing was written; or the status is 1, and one of the answers is an error; or an error with this
     // status, or lack of memory for its message, ended the answers.
     ensures stopped { result ≢ 0 → (out.new ≡ out.old)
@@ -288,9 +227,13 @@ fn run_answer<F: Read + Drop, R: Read, W: Write>(
         (R.remaining (inner input.old)) (R.remaining (inner input.new)) (W.contents (inner out.old)) (W.contents (inner out.new))
         (failures out.old) (failures out.new) e) (λ _. ⊥)) }
 {
+    let mut file = match file {
+        Ok(file) => Counted::new(file),
+        Err(why) => return done(rt, Err(file_fault(&why, ToolFault::Read))),
+    };
     answers_status(
         rt,
-        answer_opened(rt.alloc(), options, file, capacity, input, out),
+        answer_file(rt.alloc(), options, &mut file, capacity, input, out),
     )
 }
 
@@ -305,40 +248,6 @@ fn run_answer_on_streams(rt: &HostRuntime, path: &str, options: AnswerOptions) -
     run_answer(rt, options, file, capacity, &mut input, &mut out)
 }
 
-/// Runs a request, and returns the status.
-fn run_invocation(rt: &HostRuntime, invocation: &Invocation) -> u8
-    requires { HasOut invocation.now.request }
-    ensures { IsActionStatus invocation.now.request.action result }
-{
-    match &invocation.request.out {
-        Some(path) => run_making(rt, invocation, path.as_str()),
-        None => match &invocation.request.action {
-            Action::Answer(options) => run_answer_on_streams(
-                rt,
-                invocation.request.file.as_str(),
-                *options,
-            ),
-            _ => {
-                let file = open_input(rt, invocation.request.file.as_str(), invocation.progress);
-                let mut out = Counted::new(io::writer(rt));
-                let capacity = known_size(&file);
-                run_query(rt, &invocation.request, file, capacity, &mut out)
-            }
-        },
-    }
-}
-
-/// Runs a request, or reports a usage error.
-fn run_or_refuse(rt: &HostRuntime, invocation: Result<Invocation, UsageFault>) -> u8
-    requires { IfOk invocation (λ invocation. HasOut invocation.request) }
-    ensures { MatchResult invocation (λ invocation. IsActionStatus invocation.request.action result) (λ fault. IsRefusalStatus fault result) }
-{
-    match invocation {
-        Ok(invocation) => run_invocation(rt, &invocation),
-        Err(fault) => refuse(rt, fault),
-    }
-}
-
 /// Runs the request of these arguments, and returns the exit status: 0 success, 1 the input is not valid, 2 a usage
 /// error or a `build` that would overwrite its input, 3 reading or writing failed, 4 out of memory. Cost: that of
 /// [`run`](crate::run).
@@ -347,7 +256,31 @@ pub fn status_of(rt: &HostRuntime, words: io::Result<Vec<String>>) -> u8
     ensures memory { IfErr words (λ error. error_kind error ≡ ErrorKind.OutOfMemory → result ≡ 4) }
     ensures other { IfErr words (λ error. error_kind error ≢ ErrorKind.OutOfMemory → (result ≡ 2) ⊎ (result ≡ 4)) }
 {
-    run_or_refuse(rt, parse_process_arguments(rt.alloc(), words))
+    let invocation = match parse_process_arguments(rt.alloc(), words) {
+        Ok(invocation) => invocation,
+        Err(fault) => return refuse(rt, fault),
+    };
+    let request = &invocation.request;
+    if let Some(path) = &request.out {
+        if writes_over_its_input(rt, request, path.as_str()) {
+            return print_error_line(rt, 2, SAME_FILE_MESSAGE);
+        }
+        return done(rt, make_file_at(rt, &invocation, path.as_str()));
+    }
+    match &request.action {
+        Action::Answer(options) => run_answer_on_streams(rt, request.file.as_str(), *options),
+        _ => {
+            let file = open_input(rt, request.file.as_str(), invocation.progress);
+            let capacity = known_size(&file);
+            run_query(
+                rt,
+                request,
+                file,
+                capacity,
+                &mut Counted::new(io::writer(rt)),
+            )
+        }
+    }
 }
 
 /// Runs the request of the process's arguments over its streams, as [`status_of`] does, and returns the exit status.

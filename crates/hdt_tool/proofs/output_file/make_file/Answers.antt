@@ -1,21 +1,78 @@
-use Rattle.std.proofs.Common.{Err, ap}
+use Rattle.std.proofs.Common.{◌≡◌, ℕ, List, [], Some, refl, subst, sym}
 use Rattle.std.proofs.lemmas.Result.{IfErr-weaker, IfOk-weaker}
-use Rattle.hdt_tool.specs.declared.fault.ToolFault.TheVariants.{OutOfMemory, Read}
-use Rattle.hdt_tool.proofs.Statuses.{kept_in_memory, told_in_memory}
+use Rattle.hdt_wire.specs.Counted.{inner}
+use Rattle.hdt_tool.specs.Outcomes.{CompletesOwned, IsFaultOfBytes, IsFaultOfInput, IsFaultOfOwnedInput, YieldsAppended}
+use Rattle.hdt_tool.specs.declared.request.Action.{Action}
+use Rattle.hdt_tool.specs.declared.request.Action.TheVariants.{Build, Rewrite}
+use Rattle.hdt_tool.proofs.InputFaults.{fault_of_input, not_write}
+use Rattle.hdt_tool.proofs.Outputs.{rewrites}
+use Rattle.hdt_tool.proofs.Statuses.{if_opened, opened}
 use Rattle.hdt_tool.proofs.output_file.make_file.Goals as goal
 
-pub returns-in-Err-clause-told : goal.returns-in-Err-clause-told
-returns-in-Err-clause-told g c =
-    IfOk-weaker c.args.file _ _
-    (λ input h. told_in_memory c.args.request.now.action (g.R.Read.remaining input) c.in-Err.fault c.in_memory.result c.in_memory.ensures.memory c.in_memory.ensures.other h)
-    c.in-Err.ensures.told
+pub returns-in-Build-clause-ok : goal.returns-in-Build-clause-ok
+returns-in-Build-clause-ok g c =
+    let left = g.R.Read.remaining in
+    let action = c.args.request.now.action in
+    let seen = inner c.new-input.result in
+    let after = left (inner c.build_file.new.input) in
+    IfOk-weaker c.build_file.result _ _
+    (λ line h. opened (λ input. CompletesOwned action (left input) (Some []) (Some line.items) c.args.built.now.items c.build_file.new.made.items) c.args.file c.in-Ok.input seen
+    c.in-Ok.is c.new-input.ensures.inner
+    (record {
+      after = after;
+      answers = record {
+        text = line.items;
+        makes = subst (λ (a : Action). YieldsAppended a (left seen) after line.items c.args.built.now.items c.build_file.new.made.items) (sym c.in-Build.is) h;
+        written = refl;
+      };
+    })) c.build_file.ensures.ok
 
-pub returns-in-Err-clause-memory : goal.returns-in-Err-clause-memory
-returns-in-Err-clause-memory g c =
-    IfErr-weaker c.args.file _ _
-    (λ e h kind. ap Err (kept_in_memory c.run_opened.result c.in-Err.fault c.in_memory.result OutOfMemory c.in-Err.is c.in_memory.ensures.other (λ n w. cc) (h kind))) c.run_opened.ensures.memory
+pub returns-in-Build-clause-told : goal.returns-in-Build-clause-told
+returns-in-Build-clause-told g c =
+    let left = g.R.Read.remaining in
+    let action = c.args.request.now.action in
+    let seen = inner c.new-input.result in
+    let after = left (inner c.build_file.new.input) in
+    IfErr-weaker c.build_file.result _ _
+    (λ e h. if_opened (λ input. IsFaultOfOwnedInput action (left input) e) c.args.file c.in-Ok.input seen c.in-Ok.is c.new-input.ensures.inner
+    (record { after = after; is_fault = subst (λ (a : Action). IsFaultOfInput a (left seen) after e) (sym c.in-Build.is) h })) c.build_file.ensures.told
 
-pub returns-in-Err-clause-unopened : goal.returns-in-Err-clause-unopened
-returns-in-Err-clause-unopened g c =
-    IfErr-weaker c.args.file _ _
-    (λ e h kind. ap Err (kept_in_memory c.run_opened.result c.in-Err.fault c.in_memory.result Read c.in-Err.is c.in_memory.ensures.other (λ n w. cc) (h kind))) c.run_opened.ensures.unopened
+pub returns-in_ok-bytes-in-Rewrite-clause-ok : goal.returns-in_ok-bytes-in-Rewrite-clause-ok
+returns-in_ok-bytes-in-Rewrite-clause-ok g c =
+    let left = g.R.Read.remaining in
+    let action = c.args.request.now.action in
+    let seen = inner c.new-input.result in
+    let after = left (inner c.read_all.new.input) in
+    let bytes = c.in_ok-bytes.bytes.items in
+    IfOk-weaker c.rewrite_file.result _ _
+    (λ line h. opened (λ input. CompletesOwned action (left input) (Some []) (Some line.items) c.args.built.now.items c.rewrite_file.new.made.items) c.args.file c.in-Ok.input seen
+    c.in-Ok.is c.new-input.ensures.inner
+    (record {
+      after = after;
+      answers = record {
+        text = line.items;
+        makes = subst (λ (a : Action). YieldsAppended a (left seen) after line.items c.args.built.now.items c.rewrite_file.new.made.items) (sym c.in-Rewrite.is)
+            (rewrites c.in-Rewrite.block_size (left seen) after bytes c.deref.result.now line.items c.args.built.now.items c.rewrite_file.new.made.items c.in_ok-bytes.ensures.ok c.deref.ensures.value h);
+        written = refl;
+      };
+    })) c.rewrite_file.ensures.ok
+
+pub returns-in_ok-bytes-in-Rewrite-clause-told : goal.returns-in_ok-bytes-in-Rewrite-clause-told
+returns-in_ok-bytes-in-Rewrite-clause-told g c =
+    let left = g.R.Read.remaining in
+    let action = c.args.request.now.action in
+    let seen = inner c.new-input.result in
+    let after = left (inner c.read_all.new.input) in
+    let bytes = c.in_ok-bytes.bytes.items in
+    IfErr-weaker c.rewrite_file.result _ _
+    (λ e h. if_opened (λ input. IsFaultOfOwnedInput action (left input) e) c.args.file c.in-Ok.input seen c.in-Ok.is c.new-input.ensures.inner
+    (record {
+      after = after;
+      is_fault = subst (λ (a : Action). IsFaultOfInput a (left seen) after e) (sym c.in-Rewrite.is)
+          (fault_of_input (Rewrite c.in-Rewrite.block_size) (left seen) after bytes e c.in_ok-bytes.ensures.ok
+          (subst (λ (b : List ℕ). IsFaultOfBytes (Rewrite c.in-Rewrite.block_size) b e) c.deref.ensures.value h));
+    })) c.rewrite_file.ensures.told
+
+pub returns-in_ok-bytes-in-Rewrite-clause-others : goal.returns-in_ok-bytes-in-Rewrite-clause-others
+returns-in_ok-bytes-in-Rewrite-clause-others g c =
+    IfErr-weaker c.rewrite_file.result _ _ (λ e h n is. not_write (Rewrite c.in-Rewrite.block_size) c.deref.result.now e n h is) c.rewrite_file.ensures.told

@@ -1,14 +1,60 @@
-use Rattle.hdt_tool.proofs.Statuses.{answers_status, answers_done, answers_stopped, if_done}
+use Rattle.std.proofs.Common.{Err, IfErr, MatchResult, false, inl, inr, subst, sym}
+use Rattle.std.proofs.lemmas.Result.{IfErr-weaker, IfOk-weaker}
+use Rattle.hdt_wire.specs.Counted.{inner, failures}
+use Rattle.hdt_tool.specs.Dialogue.{AnswersOverFile, AnswersOverFileUntilFault}
+use Rattle.hdt_tool.proofs.Statuses.{answers_done, answers_status, answers_stopped, command_status, if_done, memory_status, opened, unopened_status}
 use Rattle.hdt_tool.proofs.status.run_answer.Goals as goal
 
+pub returns-in-Err-clause-statuses : goal.returns-in-Err-clause-statuses
+returns-in-Err-clause-statuses g c = command_status (Err c.file_fault.result) c.done.result c.done.ensures
+
+pub returns-in-Err-clause-done : goal.returns-in-Err-clause-done
+returns-in-Err-clause-done g c is = if_done _ (Err c.file_fault.result) c.done.result c.done.ensures tt is
+
+pub returns-in-Err-clause-memory : goal.returns-in-Err-clause-memory
+returns-in-Err-clause-memory g c =
+    subst (λ file. IfErr file _) (sym c.in-Err.is) (λ kind. memory_status c.file_fault.result c.done.result (c.file_fault.ensures.memory kind) c.done.ensures)
+
+pub returns-in-Err-clause-unopened : goal.returns-in-Err-clause-unopened
+returns-in-Err-clause-unopened g c =
+    subst (λ file. IfErr file _) (sym c.in-Err.is) (λ kind. unopened_status c.file_fault.result c.done.result c.file_fault.ensures.either c.done.ensures)
+
 pub returns-clause-statuses : goal.returns-clause-statuses
-returns-clause-statuses g c = answers_status c.answer_opened.result c.answers_status.result c.answers_status.ensures
+returns-clause-statuses g c = answers_status c.answer_file.result c.answers_status.result c.answers_status.ensures
 
 pub returns-clause-done : goal.returns-clause-done
-returns-clause-done g c is = answers_done _ c.answer_opened.result c.answers_status.result c.answers_status.ensures c.answer_opened.ensures.ok is
+returns-clause-done g c is =
+    let left = g.F.Read.remaining in
+    let input = g.R.Read.remaining (inner c.args.input.now) in
+    let old = g.W.Write.contents (inner c.args.out.now) in
+    let new = g.W.Write.contents (inner c.answer_file.new.out) in
+    opened (λ file. AnswersOverFile c.args.options (left file) input old new false) c.args.file c.in-Ok.file (inner c.new-file.result) c.in-Ok.is c.new-file.ensures.inner
+    (record {
+      after = left (inner c.answer_file.new.file);
+      answers = answers_done _ c.answer_file.result c.answers_status.result c.answers_status.ensures c.answer_file.ensures.ok is;
+    })
 
 pub returns-clause-well : goal.returns-clause-well
-returns-clause-well g c is = if_done _ c.answer_opened.result c.answers_status.result c.answers_status.ensures c.answer_opened.ensures.writer_well is
+returns-clause-well g c is = if_done _ c.answer_file.result c.answers_status.result c.answers_status.ensures c.answer_file.ensures.writer_well is
 
 pub returns-clause-stopped : goal.returns-clause-stopped
-returns-clause-stopped g c not = answers_stopped _ _ c.answer_opened.result c.answers_status.result c.answers_status.ensures c.answer_opened.ensures.ok c.answer_opened.ensures.stopped not
+returns-clause-stopped g c not =
+    let left = g.F.Read.remaining in
+    let after = left (inner c.answer_file.new.file) in
+    let input = g.R.Read.remaining (inner c.args.input.now) in
+    let given = g.R.Read.remaining (inner c.answer_file.new.input) in
+    let old = g.W.Write.contents (inner c.args.out.now) in
+    let new = g.W.Write.contents (inner c.answer_file.new.out) in
+    let f = failures c.args.out.now in
+    let g' = failures c.answer_file.new.out in
+    let whole =
+        IfOk-weaker c.answer_file.result _ (λ faulty. MatchResult c.args.file (λ file. AnswersOverFile c.args.options (left file) input old new faulty) (λ _. ⊥))
+        (λ faulty h. opened (λ file. AnswersOverFile c.args.options (left file) input old new faulty) c.args.file c.in-Ok.file (inner c.new-file.result) c.in-Ok.is
+        c.new-file.ensures.inner (record { after = after; answers = h })) c.answer_file.ensures.ok in
+    let cut =
+        IfErr-weaker c.answer_file.result _ _ (λ e h. elim h [
+          | inl none ↦ inl none.2
+          | inr some ↦ inr (opened (λ file. AnswersOverFileUntilFault c.args.options (left file) input given old new f g' e) c.args.file c.in-Ok.file (inner c.new-file.result)
+              c.in-Ok.is c.new-file.ensures.inner (record { after = after; answers = some }))
+        ]) c.answer_file.ensures.stopped in
+    answers_stopped _ _ c.answer_file.result c.answers_status.result c.answers_status.ensures whole cut not

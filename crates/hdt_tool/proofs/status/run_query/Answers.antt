@@ -1,28 +1,79 @@
-use Rattle.std.proofs.Common.{◌≡◌, ℕ, List, [], rules, subst}
-use Rattle.std.proofs.lemmas.Result.{IfErr-weaker, MatchResult-weaker}
-use Rattle.hdt_wire.specs.Counted.{inner}
-use Rattle.hdt_tool.specs.Outcomes.{CompletesOwned}
+use Rattle.std.proofs.Common.{◌≡◌, ℕ, List, [], Err, IfErr, rules, subst, sym}
+use Rattle.std.proofs.Math.Logic.{⊎_map}
+use Rattle.std.proofs.lemmas.Result.{IfErr-weaker}
+use Rattle.hdt_wire.specs.Counted.{inner, failures}
+use Rattle.hdt_tool.specs.Outcomes.{Completes, CompletesOwned, HasInputFault, InterruptsStringsOwned, WritesPrefixOwned}
 use Rattle.hdt_tool.proofs.Outputs.{nothing_lost}
-use Rattle.hdt_tool.proofs.Statuses.{command_status, if_done, still_at_1, stopped}
+use Rattle.hdt_tool.proofs.Statuses.{command_status, faulted, if_done, memory_status, not_one, opened, still_at_1, stopped, unopened_status}
 use Rattle.hdt_tool.proofs.status.run_query.Goals as goal
 
+pub returns-in-Err-clause-statuses : goal.returns-in-Err-clause-statuses
+returns-in-Err-clause-statuses g c = command_status (Err c.file_fault.result) c.done.result c.done.ensures
+
+pub returns-in-Err-clause-done : goal.returns-in-Err-clause-done
+returns-in-Err-clause-done g c is = if_done _ (Err c.file_fault.result) c.done.result c.done.ensures tt is
+
+pub returns-in-Err-clause-fault : goal.returns-in-Err-clause-fault
+returns-in-Err-clause-fault g c is = absurd (not_one c.done.result (unopened_status c.file_fault.result c.done.result c.file_fault.ensures.either c.done.ensures) is)
+
+pub returns-in-Err-clause-memory : goal.returns-in-Err-clause-memory
+returns-in-Err-clause-memory g c =
+    subst (λ file. IfErr file _) (sym c.in-Err.is) (λ kind. memory_status c.file_fault.result c.done.result (c.file_fault.ensures.memory kind) c.done.ensures)
+
+pub returns-in-Err-clause-unopened : goal.returns-in-Err-clause-unopened
+returns-in-Err-clause-unopened g c =
+    subst (λ file. IfErr file _) (sym c.in-Err.is) (λ kind. unopened_status c.file_fault.result c.done.result c.file_fault.ensures.either c.done.ensures)
+
 pub returns-clause-statuses : goal.returns-clause-statuses
-returns-clause-statuses g c = command_status c.run_opened.result c.done.result c.done.ensures
+returns-clause-statuses g c = command_status c.run_with_capacity.result c.done.result c.done.ensures
 
 pub returns-clause-done : goal.returns-clause-done
 returns-clause-done g c is =
     let left = g.R.Read.remaining in
     let action = c.args.request.now.action in
+    let seen = inner c.new-input.result in
+    let after = left (inner c.run_with_capacity.new.input) in
     let old = g.W.Write.contents (inner c.args.out.now) in
-    let new = g.W.Write.contents (inner c.run_opened.new.out) in
-    let more = c.run_opened.new.made.items in
+    let new = g.W.Write.contents (inner c.run_with_capacity.new.out) in
+    let more = c.run_with_capacity.new.made.items in
     let none : c.new-made.result.items ≡ [] = search rules in
-    MatchResult-weaker c.args.file (if_done _ c.run_opened.result c.done.result c.done.ensures c.run_opened.ensures.ok is)
-    (λ input h. nothing_lost action c.requires (left input) old new more (subst (λ (made : List ℕ). CompletesOwned action (left input) old new made more) none h)) (λ e h. h)
+    let whole = if_done _ c.run_with_capacity.result c.done.result c.done.ensures c.run_with_capacity.ensures.ok is in
+    opened (λ input. CompletesOwned action (left input) old new [] []) c.args.file c.in-Ok.input seen c.in-Ok.is c.new-input.ensures.inner
+    (nothing_lost action c.requires (left seen) old new more
+    (record { after = after; answers = subst (λ (made : List ℕ). Completes action (left seen) after old new made more) none whole }))
+
+pub returns-clause-fault : goal.returns-clause-fault
+returns-clause-fault g c is =
+    let left = g.R.Read.remaining in
+    let action = c.args.request.now.action in
+    let fault = faulted _ c.run_with_capacity.result c.done.result c.done.ensures c.run_with_capacity.ensures.told is in
+    opened (λ input. HasInputFault action (left input)) c.args.file c.in-Ok.input (inner c.new-input.result) c.in-Ok.is c.new-input.ensures.inner
+    (record { fault = fault.0; status = fault.1; is_fault_of_input = record { after = left (inner c.run_with_capacity.new.input); is_fault = fault.2 } })
 
 pub returns-clause-unwritten : goal.returns-clause-unwritten
-returns-clause-unwritten g c is = still_at_1 _ _ c.run_opened.result c.done.result c.done.ensures c.run_opened.ensures.unwritten is
+returns-clause-unwritten g c is = still_at_1 _ _ c.run_with_capacity.result c.done.result c.done.ensures c.run_with_capacity.ensures.unwritten is
 
 pub returns-clause-stopped : goal.returns-clause-stopped
 returns-clause-stopped g c not =
-    stopped c.run_opened.result c.done.result c.done.ensures c.run_opened.ensures.unwritten (IfErr-weaker c.run_opened.result _ _ (λ e h n is. (h n is).0) c.run_opened.ensures.write) not
+    let left = g.R.Read.remaining in
+    let action = c.args.request.now.action in
+    let seen = inner c.new-input.result in
+    let after = left (inner c.run_with_capacity.new.input) in
+    let old = g.W.Write.contents (inner c.args.out.now) in
+    let new = g.W.Write.contents (inner c.run_with_capacity.new.out) in
+    let f = failures c.args.out.now in
+    let g' = failures c.run_with_capacity.new.out in
+    let interrupted =
+        IfErr-weaker c.run_with_capacity.result _ _ (λ e h none. ⊎_map (λ a. a) (λ b. (
+          b.0,
+          opened (λ input. InterruptsStringsOwned action (left input) old new f g') c.args.file c.in-Ok.input seen c.in-Ok.is c.new-input.ensures.inner
+              (record { after = after; interrupts = b.1 }),
+        )) (h none)) c.run_with_capacity.ensures.unwritten in
+    let cut =
+        IfErr-weaker c.run_with_capacity.result _ _ (λ e h n is. let w = h n is in (
+          w.0,
+          n,
+          opened (λ input. WritesPrefixOwned action (left input) old new n) c.args.file c.in-Ok.input seen c.in-Ok.is c.new-input.ensures.inner
+              (record { after = after; writes_prefix = w.1 }),
+        )) c.run_with_capacity.ensures.write in
+    stopped c.run_with_capacity.result c.done.result c.done.ensures interrupted cut not

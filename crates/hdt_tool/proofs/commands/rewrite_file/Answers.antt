@@ -2,7 +2,7 @@ use Rattle.std.proofs.Common.{Err, ap}
 use Rattle.std.proofs.lemmas.Result.{err_from_is_err_and}
 use Rattle.hdt_file.specs.GraphView.{graph_view}
 use Rattle.hdt_tool.proofs.Rewriting.{not_rewritten, size_written}
-use Rattle.hdt_tool.proofs.commands.rewrite_bytes_text.Goals as goal
+use Rattle.hdt_tool.proofs.commands.rewrite_file.Goals as goal
 
 pub returns-in_err-file-clause-told : goal.returns-in_err-file-clause-told
 returns-in_err-file-clause-told c =
@@ -19,7 +19,7 @@ returns-clause-ok c = (
     size = size_written c.args.block_size (λ bad. let told = c.in_ok-file.ensures.bad.1 bad in absurd cc);
     report = c.in_ok-file.report;
     file = c.in_ok-file.ensures.made;
-    printed = c.in_ok-text.ensures;
+    printed = c.in_ok-text.ensures.line;
   },
-  c.in_ok-append_file.ensures.items,
+  c.in_ok-text.ensures.items,
 )
