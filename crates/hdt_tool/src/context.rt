@@ -23,7 +23,7 @@ fn put_shown_byte(byte: u8, out: &mut Vec<u8>) -> Result<(), AllocError>
 }
 
 /// Appends bytes as a terminal shows them.
-fn put_shown(bytes: &[u8], out: &mut Vec<u8>) -> Result<(), AllocError>
+pub(crate) fn put_shown(bytes: &[u8], out: &mut Vec<u8>) -> Result<(), AllocError>
     ensures { OnOk result (out.new.items ≡ out.old.items ++ shown bytes.now) }
 {
     'bytes: for &byte in bytes {

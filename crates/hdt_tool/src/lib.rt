@@ -15,7 +15,8 @@
 //! - `queries`: the output of each command that only reads; `dialogue`: requests over one graph;
 //! - `commands`: all commands, from a reader to a writer;
 //! - `error_lines`: exit statuses and error messages;
-//! - `explain`, with the texts of `explanations`, `context` and `hints`: explanations of errors, and lines that follow a message;
+//! - `explain` and `explanations`: the explanations of errors;
+//! - `context`, `hints` and `error_context`: the lines that follow a message on a terminal;
 //! - `progress`, `files`, `atomic_replace`, `output_file` and `status`: the same over files and streams.
 #![tactic(auto)]
 
@@ -25,6 +26,7 @@ mod command_line;
 mod commands;
 mod context;
 mod dialogue;
+mod error_context;
 mod error_lines;
 mod explain;
 mod explanations;
