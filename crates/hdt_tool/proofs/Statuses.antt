@@ -110,6 +110,16 @@ unopened_status fault status (inl memory) (inl h) = inr (h ∙ ap fault_status m
 unopened_status fault status (inr read) (inl h) = inl (h ∙ ap fault_status read)
 unopened_status fault status either (inr h) = inr h
 
+pub refused_memory : {F E : Type 0} (K : E → Type 0) (file : Result F E) (error : E) (fault : ToolFault) (status : ℕ) → file ≡ Err error → (K error → fault ≡ OutOfMemory)
+    → (status ≡ fault_status fault) ⊎ (status ≡ 4) → IfErr file (λ e. K e → status ≡ 4)
+refused_memory {F} {E} K file error fault status is memory of =
+    subst (λ (r : Result F E). IfErr r (λ e. K e → status ≡ 4)) (sym is) (λ kind. memory_status fault status (memory kind) of)
+
+pub refused_unopened : {F E : Type 0} (K : E → Type 0) (file : Result F E) (error : E) (fault : ToolFault) (status : ℕ) → file ≡ Err error → (fault ≡ OutOfMemory) ⊎ (fault ≡ Read)
+    → (status ≡ fault_status fault) ⊎ (status ≡ 4) → IfErr file (λ e. K e → (status ≡ 3) ⊎ (status ≡ 4))
+refused_unopened {F} {E} K file error fault status is either of =
+    subst (λ (r : Result F E). IfErr r (λ e. K e → (status ≡ 3) ⊎ (status ≡ 4))) (sym is) (λ kind. unopened_status fault status either of)
+
 pub not_one : (status : ℕ) → (status ≡ 3) ⊎ (status ≡ 4) → status ≡ 1 → ⊥
 not_one status (inl h) is = absurd cc
 not_one status (inr h) is = absurd cc

@@ -4,7 +4,7 @@ use Rattle.hdt_wire.specs.Counted.{inner}
 use Rattle.hdt_tool.specs.Outcomes.{CompletesOwned, IsFaultOfBytes, IsFaultOfInput, IsFaultOfOwnedInput, YieldsAppended}
 use Rattle.hdt_tool.specs.declared.request.Action.{Action}
 use Rattle.hdt_tool.specs.declared.request.Action.TheVariants.{Build, Rewrite}
-use Rattle.hdt_tool.proofs.InputFaults.{fault_of_input, not_write}
+use Rattle.hdt_tool.proofs.InputFaults.{fault_of_input}
 use Rattle.hdt_tool.proofs.Outputs.{rewrites}
 use Rattle.hdt_tool.proofs.Statuses.{if_opened, opened}
 use Rattle.hdt_tool.proofs.output_file.make_file.Goals as goal
@@ -37,13 +37,13 @@ returns-in-Build-clause-told g c =
     (λ e h. if_opened (λ input. IsFaultOfOwnedInput action (left input) e) c.args.file c.in-Ok.input seen c.in-Ok.is c.new-input.ensures.inner
     (record { after = after; is_fault = subst (λ (a : Action). IsFaultOfInput a (left seen) after e) (sym c.in-Build.is) h })) c.build_file.ensures.told
 
-pub returns-in_ok-bytes-in-Rewrite-clause-ok : goal.returns-in_ok-bytes-in-Rewrite-clause-ok
-returns-in_ok-bytes-in-Rewrite-clause-ok g c =
+pub returns-in-Rewrite-clause-ok : goal.returns-in-Rewrite-clause-ok
+returns-in-Rewrite-clause-ok g c =
     let left = g.R.Read.remaining in
     let action = c.args.request.now.action in
     let seen = inner c.new-input.result in
     let after = left (inner c.read_all.new.input) in
-    let bytes = c.in_ok-bytes.bytes.items in
+    let bytes = c.in_ok-bytes-in-Rewrite.bytes.items in
     IfOk-weaker c.rewrite_file.result _ _
     (λ line h. opened (λ input. CompletesOwned action (left input) (Some []) (Some line.items) c.args.built.now.items c.rewrite_file.new.made.items) c.args.file c.in-Ok.input seen
     c.in-Ok.is c.new-input.ensures.inner
@@ -52,27 +52,23 @@ returns-in_ok-bytes-in-Rewrite-clause-ok g c =
       answers = record {
         text = line.items;
         makes = subst (λ (a : Action). YieldsAppended a (left seen) after line.items c.args.built.now.items c.rewrite_file.new.made.items) (sym c.in-Rewrite.is)
-            (rewrites c.in-Rewrite.block_size (left seen) after bytes c.deref.result.now line.items c.args.built.now.items c.rewrite_file.new.made.items c.in_ok-bytes.ensures.ok c.deref.ensures.value h);
+            (rewrites c.in-Rewrite.block_size (left seen) after bytes c.deref.result.now line.items c.args.built.now.items c.rewrite_file.new.made.items c.in_ok-bytes-in-Rewrite.ensures.ok c.deref.ensures.value h);
         written = refl;
       };
     })) c.rewrite_file.ensures.ok
 
-pub returns-in_ok-bytes-in-Rewrite-clause-told : goal.returns-in_ok-bytes-in-Rewrite-clause-told
-returns-in_ok-bytes-in-Rewrite-clause-told g c =
+pub returns-in-Rewrite-clause-told : goal.returns-in-Rewrite-clause-told
+returns-in-Rewrite-clause-told g c =
     let left = g.R.Read.remaining in
     let action = c.args.request.now.action in
     let seen = inner c.new-input.result in
     let after = left (inner c.read_all.new.input) in
-    let bytes = c.in_ok-bytes.bytes.items in
+    let bytes = c.in_ok-bytes-in-Rewrite.bytes.items in
     IfErr-weaker c.rewrite_file.result _ _
     (λ e h. if_opened (λ input. IsFaultOfOwnedInput action (left input) e) c.args.file c.in-Ok.input seen c.in-Ok.is c.new-input.ensures.inner
     (record {
       after = after;
       is_fault = subst (λ (a : Action). IsFaultOfInput a (left seen) after e) (sym c.in-Rewrite.is)
-          (fault_of_input (Rewrite c.in-Rewrite.block_size) (left seen) after bytes e c.in_ok-bytes.ensures.ok
+          (fault_of_input (Rewrite c.in-Rewrite.block_size) (left seen) after bytes e c.in_ok-bytes-in-Rewrite.ensures.ok
           (subst (λ (b : List ℕ). IsFaultOfBytes (Rewrite c.in-Rewrite.block_size) b e) c.deref.ensures.value h));
     })) c.rewrite_file.ensures.told
-
-pub returns-in_ok-bytes-in-Rewrite-clause-others : goal.returns-in_ok-bytes-in-Rewrite-clause-others
-returns-in_ok-bytes-in-Rewrite-clause-others g c =
-    IfErr-weaker c.rewrite_file.result _ _ (λ e h n is. not_write (Rewrite c.in-Rewrite.block_size) c.deref.result.now e n h is) c.rewrite_file.ensures.told

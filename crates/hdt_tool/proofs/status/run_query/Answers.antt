@@ -1,31 +1,31 @@
-use Rattle.std.proofs.Common.{◌≡◌, ℕ, List, [], Err, IfErr, rules, subst, sym}
+use Rattle.std.proofs.Common.{◌≡◌, ℕ, List, [], Err, rules, subst}
 use Rattle.std.proofs.Math.Logic.{⊎_map}
 use Rattle.std.proofs.lemmas.Result.{IfErr-weaker}
 use Rattle.hdt_wire.specs.Counted.{inner, failures}
 use Rattle.hdt_tool.specs.Outcomes.{Completes, CompletesOwned, HasInputFault, InterruptsStringsOwned, WritesPrefixOwned}
 use Rattle.hdt_tool.proofs.Outputs.{nothing_lost}
-use Rattle.hdt_tool.proofs.Statuses.{command_status, faulted, if_done, memory_status, not_one, opened, still_at_1, stopped, unopened_status}
+use Rattle.hdt_tool.proofs.Statuses.{command_status, faulted, if_done, not_one, opened, refused_memory, refused_unopened, still_at_1, stopped, unopened_status}
 use Rattle.hdt_tool.proofs.status.run_query.Goals as goal
 
 pub returns-in-Err-clause-statuses : goal.returns-in-Err-clause-statuses
 returns-in-Err-clause-statuses g c = command_status (Err c.file_fault.result) c.done.result c.done.ensures
 
 pub returns-in-Err-clause-done : goal.returns-in-Err-clause-done
-returns-in-Err-clause-done g c is = if_done _ (Err c.file_fault.result) c.done.result c.done.ensures tt is
+returns-in-Err-clause-done g c is = if_done {T = Unit {0}} (λ _. c.done.result ≡ 0) (Err c.file_fault.result) c.done.result c.done.ensures tt is
 
 pub returns-in-Err-clause-fault : goal.returns-in-Err-clause-fault
 returns-in-Err-clause-fault g c is = absurd (not_one c.done.result (unopened_status c.file_fault.result c.done.result c.file_fault.ensures.either c.done.ensures) is)
 
 pub returns-in-Err-clause-memory : goal.returns-in-Err-clause-memory
 returns-in-Err-clause-memory g c =
-    subst (λ file. IfErr file _) (sym c.in-Err.is) (λ kind. memory_status c.file_fault.result c.done.result (c.file_fault.ensures.memory kind) c.done.ensures)
+    refused_memory _ c.args.file c.in-Err.error c.file_fault.result c.done.result c.in-Err.is c.file_fault.ensures.memory c.done.ensures
 
 pub returns-in-Err-clause-unopened : goal.returns-in-Err-clause-unopened
 returns-in-Err-clause-unopened g c =
-    subst (λ file. IfErr file _) (sym c.in-Err.is) (λ kind. unopened_status c.file_fault.result c.done.result c.file_fault.ensures.either c.done.ensures)
+    refused_unopened _ c.args.file c.in-Err.error c.file_fault.result c.done.result c.in-Err.is c.file_fault.ensures.either c.done.ensures
 
 pub returns-clause-statuses : goal.returns-clause-statuses
-returns-clause-statuses g c = command_status c.run_with_capacity.result c.done.result c.done.ensures
+returns-clause-statuses g c = command_status c.run_with_capacity.result c.done-2.result c.done-2.ensures
 
 pub returns-clause-done : goal.returns-clause-done
 returns-clause-done g c is =
@@ -37,7 +37,7 @@ returns-clause-done g c is =
     let new = g.W.Write.contents (inner c.run_with_capacity.new.out) in
     let more = c.run_with_capacity.new.made.items in
     let none : c.new-made.result.items ≡ [] = search rules in
-    let whole = if_done _ c.run_with_capacity.result c.done.result c.done.ensures c.run_with_capacity.ensures.ok is in
+    let whole = if_done _ c.run_with_capacity.result c.done-2.result c.done-2.ensures c.run_with_capacity.ensures.ok is in
     opened (λ input. CompletesOwned action (left input) old new [] []) c.args.file c.in-Ok.input seen c.in-Ok.is c.new-input.ensures.inner
     (nothing_lost action c.requires (left seen) old new more
     (record { after = after; answers = subst (λ (made : List ℕ). Completes action (left seen) after old new made more) none whole }))
@@ -46,12 +46,12 @@ pub returns-clause-fault : goal.returns-clause-fault
 returns-clause-fault g c is =
     let left = g.R.Read.remaining in
     let action = c.args.request.now.action in
-    let fault = faulted _ c.run_with_capacity.result c.done.result c.done.ensures c.run_with_capacity.ensures.told is in
+    let fault = faulted _ c.run_with_capacity.result c.done-2.result c.done-2.ensures c.run_with_capacity.ensures.told is in
     opened (λ input. HasInputFault action (left input)) c.args.file c.in-Ok.input (inner c.new-input.result) c.in-Ok.is c.new-input.ensures.inner
     (record { fault = fault.0; status = fault.1; is_fault_of_input = record { after = left (inner c.run_with_capacity.new.input); is_fault = fault.2 } })
 
 pub returns-clause-unwritten : goal.returns-clause-unwritten
-returns-clause-unwritten g c is = still_at_1 _ _ c.run_with_capacity.result c.done.result c.done.ensures c.run_with_capacity.ensures.unwritten is
+returns-clause-unwritten g c is = still_at_1 _ _ c.run_with_capacity.result c.done-2.result c.done-2.ensures c.run_with_capacity.ensures.unwritten is
 
 pub returns-clause-stopped : goal.returns-clause-stopped
 returns-clause-stopped g c not =
@@ -76,4 +76,4 @@ returns-clause-stopped g c not =
           opened (λ input. WritesPrefixOwned action (left input) old new n) c.args.file c.in-Ok.input seen c.in-Ok.is c.new-input.ensures.inner
               (record { after = after; writes_prefix = w.1 }),
         )) c.run_with_capacity.ensures.write in
-    stopped c.run_with_capacity.result c.done.result c.done.ensures interrupted cut not
+    stopped c.run_with_capacity.result c.done-2.result c.done-2.ensures interrupted cut not
