@@ -3,6 +3,7 @@
 use crate::context::{hint_in, marked_line, put_shown};
 use crate::fault::ToolFault;
 use crate::hints::{DOCUMENT_HINTS, FILE_HINTS};
+use crate::request::Request;
 use hdt_terms::LineFault;
 use hdt_wire::put_decimal;
 use std::alloc::Global;
@@ -15,10 +16,21 @@ use std::io::{self, BufRead, BufReader, IsTerminal, Read, Write};
 pub(crate) struct Subject<'a> {
     /// The path of the input.
     pub(crate) input: &'a str,
-    /// Whether the input is an N-Triples document, and not an HDT file.
-    pub(crate) is_document: bool,
-    /// The path of the output.
+    /// The path of the output, or its name.
     pub(crate) output: &'a str,
+}
+
+impl Subject<'_> {
+    /// What the errors of a request are about.
+    pub(crate) fn of(request: &Request) -> Subject<'_> {
+        Subject {
+            input: request.file.as_str(),
+            output: match &request.out {
+                Some(path) => path.as_str(),
+                None => "standard output",
+            },
+        }
+    }
 }
 
 /// The width of a terminal of which nothing is known, in columns.

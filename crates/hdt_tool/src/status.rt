@@ -20,6 +20,7 @@ ghost use Rattle.hdt_tool.specs.Status.{Ends, IsBuild, IsCommandStatus, IsRefusa
 
 use crate::command_line::parse_invocation;
 use crate::commands::{answer_file, run_with_capacity};
+use crate::error_context::{Subject, print_context};
 use crate::error_lines::{OUT_OF_MEMORY, fault_line, usage_line};
 use crate::fault::{ToolFault, UsageFault, file_fault};
 use crate::files::{known_size, open_input, would_overwrite};
@@ -67,13 +68,17 @@ fn print_status(rt: &HostRuntime, outcome: io::Result<()>) -> u8
     }
 }
 
-/// The status of a command. Prints the message of an error.
-pub(crate) fn done(rt: &HostRuntime, outcome: Result<(), ToolFault>) -> u8
+/// The status of a command. Prints the message of an error, and on a terminal what is known of it.
+fn done(rt: &HostRuntime, subject: Subject<'_>, outcome: Result<(), ToolFault>) -> u8
     ensures { MatchResult outcome (λ _. result ≡ 0) (λ fault. (result ≡ fault_status fault) ⊎ (result ≡ 4)) }
 {
     match outcome {
         Ok(()) => 0,
-        Err(fault) => report_line(rt, fault_line(rt.alloc(), &fault)),
+        Err(fault) => {
+            let status = report_line(rt, fault_line(rt.alloc(), &fault));
+            print_context(rt, subject, &fault);
+            status
+        }
     }
 }
 
@@ -159,13 +164,15 @@ fn run_query<R: Read + Drop, W: Write>(
         ⊎ MatchResult file (λ input. InterruptsStringsOwned request.now.action (R.remaining input)
         (W.contents (inner out.old)) (W.contents (inner out.new)) (failures out.old) (failures out.new)) (λ _. ⊥) }
 {
+    let subject = Subject::of(request);
     let mut input = match file {
         Ok(input) => Counted::new(input),
-        Err(error) => return done(rt, Err(file_fault(&error, ToolFault::Read))),
+        Err(error) => return done(rt, subject, Err(file_fault(&error, ToolFault::Read))),
     };
     let mut made = Vec::new(rt.alloc());
     done(
         rt,
+        subject,
         run_with_capacity(rt.alloc(), request, &mut input, capacity, out, &mut made),
     )
 }
@@ -191,18 +198,23 @@ fn writes_over_its_input(rt: &HostRuntime, request: &Request, path: &str) -> boo
 }
 
 /// The status of `answer`: 1 if any answer is an error. Prints the message of an error that ended it.
-fn answers_status(rt: &HostRuntime, outcome: Result<bool, ToolFault>) -> u8
+fn answers_status(
+    rt: &HostRuntime,
+    subject: Subject<'_>,
+    outcome: Result<bool, ToolFault>,
+) -> u8
     ensures { MatchResult outcome (λ faulty. result ≡ (if faulty then 1 else 0)) (λ fault. (result ≡ fault_status fault) ⊎ (result ≡ 4)) }
 {
     match outcome {
         Ok(faulty) => u8::from(faulty),
-        Err(fault) => done(rt, Err(fault)),
+        Err(fault) => done(rt, subject, Err(fault)),
     }
 }
 
 /// Serves requests over the result of opening a file, and returns the status.
 fn run_answer<F: Read + Drop, R: Read, W: Write>(
     rt: &HostRuntime,
+    subject: Subject<'_>,
     options: AnswerOptions,
     file: io::Result<F>,
     capacity: usize,
@@ -229,23 +241,32 @@ fn run_answer<F: Read + Drop, R: Read, W: Write>(
 {
     let mut file = match file {
         Ok(file) => Counted::new(file),
-        Err(why) => return done(rt, Err(file_fault(&why, ToolFault::Read))),
+        Err(why) => return done(rt, subject, Err(file_fault(&why, ToolFault::Read))),
     };
     answers_status(
         rt,
+        subject,
         answer_file(rt.alloc(), options, &mut file, capacity, input, out),
     )
 }
 
 /// Serves the requests of standard input on standard output, and returns the status.
-fn run_answer_on_streams(rt: &HostRuntime, path: &str, options: AnswerOptions) -> u8
+fn run_answer_on_streams(rt: &HostRuntime, request: &Request, options: AnswerOptions) -> u8
     ensures { IsCommandStatus result }
 {
-    let file = open_input(rt, path, false);
+    let file = open_input(rt, request.file.as_str(), false);
     let capacity = known_size(&file);
     let mut input = Counted::new(rt.stdin());
     let mut out = Counted::new(io::writer(rt));
-    run_answer(rt, options, file, capacity, &mut input, &mut out)
+    run_answer(
+        rt,
+        Subject::of(request),
+        options,
+        file,
+        capacity,
+        &mut input,
+        &mut out,
+    )
 }
 
 /// Runs the request of these arguments, and returns the exit status: 0 success, 1 the input is not valid, 2 a usage
@@ -265,10 +286,11 @@ pub fn status_of(rt: &HostRuntime, words: io::Result<Vec<String>>) -> u8
         if writes_over_its_input(rt, request, path.as_str()) {
             return print_error_line(rt, 2, SAME_FILE_MESSAGE);
         }
-        return done(rt, make_file_at(rt, &invocation, path.as_str()));
+        let outcome = make_file_at(rt, &invocation, path.as_str());
+        return done(rt, Subject::of(request), outcome);
     }
     match &request.action {
-        Action::Answer(options) => run_answer_on_streams(rt, request.file.as_str(), *options),
+        Action::Answer(options) => run_answer_on_streams(rt, request, *options),
         _ => {
             let file = open_input(rt, request.file.as_str(), invocation.progress);
             let capacity = known_size(&file);
