@@ -1,11 +1,8 @@
 -- The lines that follow an error message.
-use Rattle.std.specs.Prelude.{ℕ, ◌+◌, ◌-◌, ◌/◌, ◌%◌, Bool, ◌&&◌, ◌||◌, ◌==◌, slice_index, List, [], ◌∷◌, ◌++◌, length, take, drop, replicate, codes, nat_lt, nat_le, nat_eq, if◌then◌else◌}
+use Rattle.std.specs.Prelude.{ℕ, ◌+◌, ◌-◌, ◌/◌, ◌%◌, Bool, ◌&&◌, ◌||◌, ◌==◌, slice_index, List, [], ◌∷◌, ◌++◌, length, take, drop, replicate, codes, nat_le, nat_eq, if◌then◌else◌}
+use Rattle.hdt_terms.specs.Writing.{hex_digit}
 use Rattle.hdt_tool.specs.declared.context.Hint.{Hint}
 use Rattle.std.specs.List.{flat_map, starts_with, list_any}
-
--- A hexadecimal digit.
-abbrev pub hex_digit : ℕ → ℕ
-hex_digit n = if nat_lt n 10 then 48 + n else 55 + n
 
 -- A byte as a terminal shows it: printable ASCII as it is, any other byte as `\xHH`.
 abbrev pub shown_byte : ℕ → List ℕ

@@ -1,6 +1,7 @@
 //! The lines that follow an error message: hints, and the line of an N-Triples document.
 ghost use Rattle.std.specs.Prelude.{◌≡◌, ◌++◌, ◌≤◌, ◌<◌, OnOk, IfOk, length, take, drop, replicate, slice_index};
-ghost use Rattle.hdt_tool.specs.Context.{shown_byte, shown, hex_digit, marked_line, hint_in, term_hint, begins_as_term, begins_as_number};
+ghost use Rattle.hdt_terms.specs.Writing.{hex_digit};
+ghost use Rattle.hdt_tool.specs.Context.{shown_byte, shown, marked_line, hint_in, term_hint, begins_as_term, begins_as_number};
 
 use std::alloc::{AllocError, Global};
 
