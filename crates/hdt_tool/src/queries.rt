@@ -10,7 +10,7 @@ ghost use Rattle.hdt_tool.specs.declared.request.Action.TheVariants as Action;
 use crate::fault::ToolFault;
 use crate::printed_reports::{head_text, verdict};
 use crate::printed_strings::{number_text, print_strings, string_text};
-use crate::printed_triples::triples_text;
+use crate::printed_triples::{check_match, triples_text};
 use crate::request::{Action, OutputFormat};
 use hdt_dict::Role;
 use hdt_file::{Layout, read_head, verify, verify_tight};
@@ -71,6 +71,10 @@ pub(crate) fn file_text(alloc: Global, action: &Action, bytes: &[u8]) -> Result<
             format,
             most,
         } => triples_text(alloc, &Layout::read(alloc, bytes)?, given, *format, *most),
+        Action::Exists { given } => {
+            check_match(&Layout::read(alloc, bytes)?, given)?;
+            Ok(Vec::new(alloc))
+        }
         Action::Answer(_) => {
             Layout::read(alloc, bytes)?;
             Ok(Vec::new(alloc))

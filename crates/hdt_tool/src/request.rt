@@ -58,6 +58,11 @@ pub enum Action {
         /// The maximum number of triples; `None` for no limit.
         most: Option<u64>,
     },
+    /// Finds out whether there is a triple with these dictionary strings, and prints nothing.
+    Exists {
+        /// The strings of subject, predicate and object; `None` matches any.
+        given: [Option<Vec<u8>>; 3],
+    },
     /// Answers the requests of standard input over a file.
     Answer(AnswerOptions),
     /// Builds an HDT file from an N-Triples document, and prints the counts of its parts.

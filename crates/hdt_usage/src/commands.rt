@@ -9,9 +9,10 @@ use crate::help::{
     BUILD_LONG_ABOUT, COUNT_HELP, DUMP_ABOUT, DUMP_LONG_ABOUT, FILE_HELP, FIND_ABOUT,
     FIND_LONG_ABOUT, HEAD_ABOUT, HEAD_LONG_ABOUT, IN_HELP, LONGEST_REQUEST_HELP, MOST_HELP,
     NUMBER_ABOUT, NUMBER_HELP, NUMBER_LONG_ABOUT, NUMBERS_HELP, OBJECT_HELP, OUT_HELP,
-    PREDICATE_HELP, PROGRESS_HELP, RAW_HELP, RAW_PARTS_HELP, RAW_REQUESTS_HELP, REWRITE_ABOUT,
-    REWRITE_LONG_ABOUT, ROLE_HELP, STATUSES, STRING_ABOUT, STRINGS_ABOUT, STRINGS_LONG_ABOUT,
-    SUBJECT_HELP, TERM_HELP, TIGHT_HELP, VERIFY_ABOUT, VERIFY_LONG_ABOUT, VERSION,
+    PREDICATE_HELP, PROGRESS_HELP, QUIET_HELP, RAW_HELP, RAW_PARTS_HELP, RAW_REQUESTS_HELP,
+    REWRITE_ABOUT, REWRITE_LONG_ABOUT, ROLE_HELP, STATUSES, STRING_ABOUT, STRINGS_ABOUT,
+    STRINGS_LONG_ABOUT, SUBJECT_HELP, TERM_HELP, TIGHT_HELP, VERIFY_ABOUT, VERIFY_LONG_ABOUT,
+    VERSION,
 };
 use clap::{Arg, ArgAction, Command, value_parser};
 use std::alloc::{AllocError, Global};
@@ -229,7 +230,7 @@ fn find_pattern_command<'a>(alloc: Global) -> Result<Command<'a>, AllocError>
     with_required_arg(alloc, command, "O", OBJECT_HELP)
 }
 
-/// `find FILE S P O`, with `--raw`, `--numbers`, `--count` and `--most`.
+/// `find FILE S P O`, with `--raw`, `--numbers`, `--count`, `--quiet` and `--most`.
 fn new_find_command<'a>(alloc: Global) -> Result<Command<'a>, AllocError>
     ensures shape { IfOk result (λ c. app_of c ≡ find_command) }
     ensures local { IfOk result (λ c. (fields_of c).has_globals ≡ false) }
@@ -238,6 +239,7 @@ fn new_find_command<'a>(alloc: Global) -> Result<Command<'a>, AllocError>
     let command = with_flag(alloc, command, "raw", RAW_PARTS_HELP)?;
     let command = with_flag(alloc, command, "numbers", NUMBERS_HELP)?;
     let command = with_flag(alloc, command, "count", COUNT_HELP)?;
+    let command = with_flag(alloc, command, "quiet", QUIET_HELP)?;
     with_most(alloc, command)
 }
 
