@@ -8,16 +8,17 @@ import sys
 from itertools import product
 from pathlib import Path
 from typing import Any, Optional
+from unittest import mock
 from urllib.parse import quote, unquote
 
 import pytest
 
 from reference import hdt as reference
-from support.fragments import BASE, MANY, ODD, Site, build, fragments, hdt, url
+from support.fragments import BASE, MANY, ODD, Answer, Site, build, fragments, hdt, url
 from test_python import lines as ntriples
 from test_python import matching
 
-P = "http://odd.example/p"
+P, N = "http://odd.example/p", "http://odd.example/n"
 XSD = "http://www.w3.org/2001/XMLSchema#"
 HYDRA = "http://www.w3.org/ns/hydra/core#"
 GENID = BASE + ".well-known/genid/odd/"
@@ -116,6 +117,58 @@ def test_far_pages(tmp_path: Path) -> None:
             for page in (len(found) // 100, 1, 21, 22, 49, 33, 21):
                 answer = site.nquads(url(predicate=predicate, page=page))
                 assert data(answer.text) == ntriples(found[100 * page - 100:100 * page])
+
+
+def next_of(answer: Answer) -> str:
+    """The path that the control `next` leads to."""
+    found = [o for _, p, o in controls(answer.text) if p == HYDRA + "next"]
+    assert len(found) == 1
+    return "/" + found[0][len(BASE):]
+
+
+def test_next_pages_take_no_walk(odd: Path) -> None:
+    """Who follows `next` gets each page by its position: nothing is counted up to it."""
+    site = Site(fragments.Application({"datasets": {"odd": str(odd)}, "page_size": 7}))
+    with mock.patch.object(hdt.Graph, "position", side_effect=AssertionError):
+        patterns: list[dict[str, str]] = [{}, {"predicate": N}, {"subject": "http://odd.example/many", "predicate": N}]
+        for given in patterns:
+            joined, pages = followed(site, url(**given))
+            assert pages > 30 and joined.count("\n") >= MANY
+            assert data(site.nquads(url(**{**given, "page": "1"})).text) == data(site.nquads(url(**given)).text)
+
+
+def test_positions_of_no_link(odd: Path) -> None:
+    """Where a page begins is taken from a link to that page of that file only, else it is ignored."""
+    site = Site(fragments.Application({"datasets": {"odd": str(odd)}}))
+    second = next_of(site.nquads(url(predicate=N)))
+    third = next_of(site.nquads(second))
+    begins, position = second.partition("&from=")[2], third.partition("&from=")[2]
+    assert re.fullmatch("[0-9]+-[0-9a-f]{8}", begins) and "&page=2&" in second
+    wanted = data(site.nquads(url(predicate=N, page=2)).text)
+    assert data(site.nquads(second).text) == wanted and wanted.count("\n") == 100
+    number, digest = begins.split("-")
+    other = Site(fragments.Application({"datasets": {"odd": str(odd)}, "page_size": 50}))
+    assert data(other.nquads(second).text) == data(other.nquads(url(predicate=N, page=2)).text)
+    for wrong in (number, f"{number}-", f"{int(number) + 1}-{digest}", f"0{begins}", f"{begins}0", position, "0", "-1",
+                  "x", "", "9" * 30, f"\u0661-{digest}", f"{number}-{'0' * 8}", "<script>", "\x00"):
+        answer = site.nquads(url(predicate=N, page=2, **{"from": wrong}))
+        assert (answer.status, data(answer.text)) == (200, wanted), wrong
+        assert next_of(answer) == third
+    assert site.nquads(url(predicate=N, object="http://none/", page=2, **{"from": begins})).status == 404
+    assert data(site.nquads(url(predicate=N, page=3, **{"from": begins})).text) == data(site.nquads(third).text)
+    assert site.nquads(second + "&from=" + begins).status == 400
+    whole = url(**{"from": begins})
+    assert data(site.nquads(whole).text) == data(site.nquads("/odd").text)
+
+
+def test_positions_of_another_file(tmp_path: Path) -> None:
+    """A link of the file before it was replaced leads to the same page of the new one."""
+    path = build(tmp_path, "".join(f"<u:s> <u:p> <u:o{n:03}> .\n" for n in range(300)))
+    site = Site(fragments.Application({"datasets": {"odd": str(path)}}))
+    second = next_of(site.nquads(url(predicate="u:p")))
+    build(tmp_path, "".join(f"<u:r> <u:{p}> <u:o{n:03}> .\n" for n in range(300) for p in "op"), "other").replace(path)
+    again = Site(fragments.Application({"datasets": {"odd": str(path)}}))
+    assert data(again.nquads(second).text) == "".join(f"<u:r> <u:p> <u:o{n:03}> .\n" for n in range(100, 200))
 
 
 def test_past_the_last_page(site: Site) -> None:
@@ -261,6 +314,8 @@ def test_controls(site: Site) -> None:
     page = BASE + written[1:]
     said = controls(site.nquads(written).text)
     about, whole = BASE + "odd#dataset", page.replace("page=2&&", "")
+    following = BASE + next_of(site.nquads(written))[1:]
+    assert re.fullmatch(re.escape(whole + "&page=3&from=") + "[0-9]+-[0-9a-f]{8}", following)
     for triple in (
         (page, HYDRA + "totalItems", f'"{MANY}"^^<{XSD}integer>'),
         (page, "http://rdfs.org/ns/void#triples", f'"{MANY}"^^<{XSD}integer>'),
@@ -268,7 +323,7 @@ def test_controls(site: Site) -> None:
         (page, "http://purl.org/dc/terms/source", about),
         (page, HYDRA + "first", whole + "&page=1"),
         (page, HYDRA + "previous", whole + "&page=1"),
-        (page, HYDRA + "next", whole + "&page=3"),
+        (page, HYDRA + "next", following),
         (page, HYDRA + "last", whole + "&page=3"),
         (about, "http://rdfs.org/ns/void#subset", whole),
         (whole, HYDRA + "view", page),

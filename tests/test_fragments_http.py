@@ -50,7 +50,7 @@ def test_not_modified(site: Site, header: str, value: str, status: int) -> None:
 
 def test_tags_differ(odd: Path, site: Site) -> None:
     """Each page, format, host, configuration and file has a tag of its own; an equal server has the same one."""
-    targets = ("/odd", url(page=2), url(predicate="x:y"), "/odd/void", "/other")
+    targets = ("/odd", url(page=2), url(page=2, **{"from": "1"}), url(predicate="x:y"), "/odd/void", "/other")
     tags = [site.ask(target, Accept=media).headers["etag"]
             for target in targets for media in ("text/turtle", "application/trig", "text/html")]
     tags.append(site.ask("/odd", Host="other.example").headers["etag"])

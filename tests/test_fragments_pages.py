@@ -224,7 +224,11 @@ def test_pager(site: Site) -> None:
     links = {given["rel"]: given["href"] for given in found.all("a") if "rel" in given}
     asked = BASE + url(predicate="http://odd.example/n")[1:]
     pages = {"first": 1, "prev": 1, "next": 3, "last": 3}
-    assert {rel: links[rel] for rel in pages} == {rel: f"{asked}&page={number}" for rel, number in pages.items()}
+    following, _, begins = links["next"].partition("&from=")
+    assert begins and not found.all("input", name="from")
+    assert {rel: {**links, "next": following}[rel] for rel in pages} == {
+        rel: f"{asked}&page={number}" for rel, number in pages.items()}
+    assert f"Triples 201 to {MANY} of {MANY}" in page(site, "/" + links["next"][len(BASE):]).text
     assert {given["value"] for given in found.all("input", type="hidden")} == {"http://odd.example/n"}
     assert f"Triples 101 to 200 of {MANY}" in found.text
     assert not [given for given in page(site, url(subject=S1)).all("nav") if given.get("class") == "pages"]

@@ -11,6 +11,7 @@ import pickle
 import random
 import sys
 from collections.abc import Callable, Iterator
+from functools import partial
 from itertools import chain, product
 from pathlib import Path
 from typing import Any, Optional, Union
@@ -21,12 +22,13 @@ from hypothesis import example, given
 from hypothesis import strategies as st
 
 from reference import hdt as reference
-from support import program
+from support import c_files, program
 from support.built import SAMPLES
+from support.c_library import CC, succeeds
 from support.python_package import ENVIRONMENT, PACKAGE, hdt
 from test_python import GRAPHS, ROLES, THREE, WORKED, Triple, built, lines, matching, patterns_of, strings_of
 
-from hdt import _columns, _graph, _library
+from hdt import _calls, _columns, _handle, _library
 
 Ids = tuple[int, int, int]
 Part = Union[str, int, None]
@@ -207,6 +209,95 @@ def test_many_ids(many: tuple[hdt.Graph, list[Triple]]) -> None:
     assert list(graph.find(start=90_000)) == found[90_000:]
 
 
+# ---- pages
+
+
+def followed(page: Callable[..., tuple[list[Any], Optional[int]]], size: int) -> list[Any]:
+    """All pages of this size, joined, each from the position that the one before it names."""
+    found, start = [], 0
+    while True:
+        some, following = page(start=start, limit=size)
+        found += some
+        if following is None:
+            return found
+        assert len(some) == size and following >= start + size
+        start = following
+
+
+@given(GRAPHS, st.integers(0, 19), st.integers(1, 9))
+@example(WORKED, 0, 1)
+def test_pages(triples: list[Triple], at: int, size: int) -> None:
+    """The pages of each pattern from any position on are the matches from there; the positions are those of `find`."""
+    with hdt.Graph(reference.graph(strings_of(triples)).data) as graph:
+        found = list(graph)
+        for pattern in patterns_of(found[at % len(found)]):
+            places = [n for n, triple in enumerate(found) if triple in matching(found, pattern)]
+            parts = [term if term is None else graph.number(role, term) for role, term in zip(ROLES, pattern)]
+            for start in range(len(found) + 2):
+                wanted = [n for n in places if n >= start]
+                following = wanted[size] if len(wanted) > size else None
+                assert graph.page(*pattern, start=start, limit=size) == ([found[n] for n in wanted[:size]], following)
+                ids = [numbers_of(graph, found[n]) for n in wanted[:size]]
+                assert graph.page_ids(*parts, start=start, limit=size) == (ids, following)
+                assert graph.page(*pattern, start=start, limit=0) == ([], wanted[0] if wanted else None)
+                skipped = places[start] if start < len(places) else None
+                assert graph.position(*pattern, skip=start) == graph.position(*parts, skip=start) == skipped
+            assert graph.position(*pattern) == places[0]
+
+
+@pytest.mark.parametrize("size", [7, 100, 5_000])
+def test_many_pages(size: int, many: tuple[hdt.Graph, list[Triple]]) -> None:
+    """The pages of a large graph, joined, are what `find` gives, for the eight patterns."""
+    graph, found = many
+    for kind, pattern in enumerate(patterns_of(found[50_000])):
+        wanted = found if kind == 0 else matching(found, pattern)
+        by_id: list[Part] = [term if term is None else graph.number(role, term) for role, term in zip(ROLES, pattern)]
+        ids = list(graph.find_ids(*by_id))
+        assert followed(partial(graph.page_ids, *by_id), size) == ids and len(ids) == len(wanted)
+        if size > 7 or kind:
+            assert followed(partial(graph.page, *pattern), size) == wanted == list(graph.find(*pattern))
+
+
+@pytest.mark.parametrize("start", [3, 4, 2**63, 2**64 - 1, 2**64, 2**70])
+def test_pages_past_the_end(start: int, three: hdt.Graph) -> None:
+    """From the end on there is nothing, and no match is skipped to."""
+    for pattern in patterns_of(("u:b", "u:p", "u:a")):
+        assert three.page(*pattern, start=start) == ([], None) == three.page_ids(*pattern, start=start)
+        assert three.position(*pattern, skip=start) is None
+    assert three.page(start=2) == ([("u:b", "u:p", "u:a")], None)
+    assert three.page(limit=2**70) == (list(three), None)
+
+
+BAD_PAGES: dict[str, tuple[dict[str, Any], type[Exception]]] = {
+    "negative start": ({"start": -1}, ValueError),
+    "negative limit": ({"limit": -1}, ValueError),
+    "no limit": ({"limit": None}, TypeError),
+    "no integer": ({"limit": 1.0}, TypeError),
+    "no integer to start": ({"start": "1"}, TypeError),
+    "bytes": ({"s": b"u:a"}, TypeError),
+    "a number of no kind": ({"o": 1.0}, TypeError),
+}
+
+
+@pytest.mark.parametrize("call", ["page", "page_ids"])
+@pytest.mark.parametrize("wrong", BAD_PAGES)
+def test_bad_pages(wrong: str, call: str, three: hdt.Graph) -> None:
+    """A negative number is a ValueError, and another type a TypeError."""
+    options, error = BAD_PAGES[wrong]
+    with pytest.raises(error):
+        getattr(three, call)(**options)
+
+
+def test_bad_positions(three: hdt.Graph) -> None:
+    """`page` takes strings only; a position is after so many matches as a number says that isn't negative."""
+    with pytest.raises(TypeError):
+        three.page(1)  # type: ignore[arg-type]
+    with pytest.raises(ValueError):
+        three.position(skip=-1)
+    with pytest.raises(TypeError):
+        three.position(skip=1.0)  # type: ignore[arg-type]
+
+
 # ---- strings of many triples
 
 
@@ -224,10 +315,9 @@ def test_portions(change: dict[str, Any], many: tuple[hdt.Graph, list[Triple]]) 
 def test_kept_strings_have_a_bound(many: tuple[hdt.Graph, list[Triple]]) -> None:
     """A role whose strings take more than is kept is looked up by portions."""
     graph, found = many
-    pattern = graph._pattern(None, None, None)
-    columns = _columns.Columns(graph, (None, None, None), pattern)
+    columns = _columns.Columns(graph, (None, None, None), _calls.matched(None, None, None))
     with mock.patch.multiple(_columns, _WHOLE_BYTES=100_000):
-        assert list(columns.triples(graph._pages(pattern, 0, None), None)) == found
+        assert list(columns.triples(0, None)) == found
     assert [it is None for it in columns._whole] == columns._too_large == [True, False, True]
 
 
@@ -289,7 +379,7 @@ def test_other_roles(call: Callable[[hdt.Graph], object], three: hdt.Graph) -> N
 @example(WORKED, 0, 1)
 def test_text_in_pieces(triples: list[Triple], at: int, size: int) -> None:
     """The pieces of each pattern's text, none of them empty, are that text."""
-    with hdt.Graph(reference.graph(strings_of(triples)).data) as graph, mock.patch.object(_graph, "_PIECE", size):
+    with hdt.Graph(reference.graph(strings_of(triples)).data) as graph, mock.patch.object(_handle, "_PIECE", size):
         found = list(graph)
         for pattern in [*patterns_of(found[at % len(found)]), [None, "u:none", None], ["u:none", None, None]]:
             pieces = list(graph.text_pieces(*pattern))
@@ -316,7 +406,7 @@ def test_many_pieces(many: tuple[hdt.Graph, list[Triple]], tmp_path: Path) -> No
 def test_pieces_with_a_string_that_is_no_term() -> None:
     """The pieces before it come; then it is an error, as of `text`."""
     strings = [(b"u:a", b"u:p", b"u:b"), (b"u:a", b"u:q", b"rel"), (b"u:b", b"u:p", b"u:a")]
-    with hdt.Graph(reference.graph(strings).data) as graph, mock.patch.object(_graph, "_PIECE", 1):
+    with hdt.Graph(reference.graph(strings).data) as graph, mock.patch.object(_handle, "_PIECE", 1):
         assert list(graph.text_pieces(p="u:p")) == ["<u:a> <u:p> <u:b> .\n", "<u:b> <u:p> <u:a> .\n"]
         for subject in (None, "u:a"):
             with pytest.raises(hdt.NotATerm) as raised:
@@ -331,6 +421,9 @@ CLOSED_CALLS: dict[str, Callable[[hdt.Graph], object]] = {
     "find_ids": lambda graph: graph.find_ids(1),
     "matching_ids": lambda graph: graph.matching_ids(p=1),
     "id_array": lambda graph: graph.id_array(),
+    "page": lambda graph: graph.page(),
+    "page_ids": lambda graph: graph.page_ids(1),
+    "position": lambda graph: graph.position(),
     "terms": lambda graph: graph.terms("subject"),
     "predicates": lambda graph: graph.predicates(),
     "ids_with_prefix": lambda graph: graph.ids_with_prefix("", "object"),
@@ -426,15 +519,13 @@ if __name__ == "__main__":
 # ---- tight verification
 
 
-def test_tight(monkeypatch: pytest.MonkeyPatch) -> None:
-    """A string that no triple uses is an error of tight verification only; an older library doesn't have it."""
-    path = SAMPLES / "unused-object.hdt"
-    if not path.exists() or not hasattr(_library.library.hdt_verify_tight, "argtypes"):
-        with pytest.raises(NotImplementedError, match="hdt_verify_tight"):
-            hdt.verify(THREE, tight=True)
-        return
+@pytest.mark.parametrize("name", c_files.loose_files())
+def test_tight(name: str, tmp_path: Path) -> None:
+    """A string that no triple uses is an error of tight verification only, and the program says the same."""
+    path = tmp_path / "unused.hdt"
+    path.write_bytes(c_files.loose_files()[name])
     assert hdt.verify(THREE, tight=True) == hdt.verify(THREE)
-    hdt.verify(path)
+    assert hdt.verify(path).triples == 1
     with pytest.raises(hdt.Fault) as raised:
         hdt.verify(path, tight=True)
     assert (raised.value.reason, raised.value.name) == (34, "Unused")
@@ -487,3 +578,14 @@ def test_version() -> None:
     """The version of the package is that of its distribution."""
     assert f'version = "{hdt.__version__}"\n' in (PACKAGE / "pyproject.toml").read_text()
     assert importlib.util.find_spec("hdt") is None or hdt.__version__ == "2.0.0"
+    assert hdt.LIBHDT_VERSION == _library.VERSION == "1.1"
+
+
+def test_an_old_library_is_refused(tmp_path: Path) -> None:
+    """A library without one of the calls isn't taken."""
+    (tmp_path / "old.c").write_text("void hdt_verify(void) {}\n")
+    library = tmp_path / "libhdt.so"
+    succeeds(CC, "-shared", "-fPIC", "-o", library, tmp_path / "old.c")
+    done = program.run([sys.executable, "-c", "import hdt"], env={**ENVIRONMENT, "HDT_LIBRARY": str(library)})
+    assert done.status == 1
+    assert f"{library} is another library, or an older one: it has no hdt_verify_tight" in done.err.decode()

@@ -19,6 +19,8 @@ A role is `"subject"`, `"predicate"` or `"object"`; another one raises ValueErro
 Files of 64 MiB and more are mapped, not read (`open` says more): such a file must stay as it is while a graph of it is
 open or a call looks at it. Exceptions: `Fault` (the file is none), `LineFault` (the text isn't N-Triples), `NoTriples`,
 `NotATerm`, all of them ValueError; MemoryError; OSError of files. After an exception a graph is as it was.
+
+`__version__` is the version of the package, `LIBHDT_VERSION` that of the library, as "1.1".
 """
 
 from __future__ import annotations
@@ -28,6 +30,7 @@ from ._faults import Fault, LineFault, NotATerm, NoTriples
 from ._files import build, rewrite, verify
 from ._graph import Graph, open
 from ._ids import IdArray
+from ._library import VERSION
 from ._terms import Term
 
 __all__ = [
@@ -47,6 +50,7 @@ __all__ = [
     "verify",
 ]
 __version__ = "2.0.0"
+LIBHDT_VERSION = VERSION
 
 for _name in __all__:
     if _name not in ("Path", "Role"):

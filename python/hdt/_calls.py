@@ -2,8 +2,10 @@
 
 from __future__ import annotations
 
+import array
 import operator
 import os
+import struct
 from typing import Any, Literal, NamedTuple, Optional, Union
 
 from . import _library
@@ -20,8 +22,10 @@ Given = Optional[str]
 Part = Union[str, int, None]
 
 ROLES: tuple[Role, Role, Role] = ("subject", "predicate", "object")
-ANY = (False, b"", 0)  # the parameters of a call for any term
-NO_STRING = b"\xff"  # bytes that no string has, as they aren't UTF-8: what has to have them matches nothing
+_PARTS = struct.Struct("IQQQ" * 3)  # an hdt_pattern
+_NOTHING = array.array("B", [0])  # where a part that is no string points to
+_ADDRESS = _NOTHING.buffer_info()[0]
+_ANY = (_library.ANY, 0, _ADDRESS, 0)
 
 
 class Counts(NamedTuple):
@@ -53,16 +57,37 @@ def encoded(term: str) -> bytes:
     return term.encode("utf-8", "surrogatepass")
 
 
-def matched(s: Given, p: Given, o: Given) -> list[Any]:
-    """The parameters of a call for three terms, of which None is any. Raises TypeError for anything but a str."""
-    parameters: list[Any] = []
-    for term in (s, p, o):
-        if term is None:
-            parameters += ANY
+class Pattern(NamedTuple):
+    """A pattern as calls take it: the bytes of an hdt_pattern, which point to the strings, and its parts."""
+
+    packed: bytes
+    parts: tuple[Part, Part, Part]
+    strings: list[array.array[int]]
+
+
+def pattern_of(s: Part, p: Part, o: Part) -> Pattern:
+    """The pattern of three parts: strings, IDs or any. An ID of no string matches nothing. Raises TypeError."""
+    fields: list[int] = []
+    strings = []
+    for part in (s, p, o):
+        if part is None:
+            fields += _ANY
+        elif isinstance(part, str):
+            string = array.array("B", encoded(part) + b"\0")  # (an empty array has no address)
+            strings.append(string)
+            fields += (_library.STRING, 0, string.buffer_info()[0], len(string) - 1)
         else:
-            string = encoded(term)
-            parameters += (True, string, len(string))
-    return parameters
+            number = operator.index(part)
+            fields += (_library.ID, number if 0 <= number < 2**64 else 0, _ADDRESS, 0)
+    return Pattern(_PARTS.pack(*fields), (s, p, o), strings)
+
+
+def matched(s: Given, p: Given, o: Given) -> Pattern:
+    """The pattern of three terms, of which None is any. Raises TypeError for anything but a str."""
+    for term in (s, p, o):
+        if not (term is None or isinstance(term, str)):
+            raise TypeError(f"a term is a str, not {type(term).__name__}")
+    return pattern_of(s, p, o)
 
 
 def window(start: int, limit: Optional[int]) -> tuple[int, Optional[int]]:

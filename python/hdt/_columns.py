@@ -6,9 +6,9 @@ import array
 from collections.abc import Iterable, Iterator
 from itertools import repeat
 from operator import itemgetter
-from typing import Any, Optional
+from typing import Optional
 
-from ._calls import Given, StringTriple
+from ._calls import Given, Pattern, StringTriple
 from ._handle import OpenHandle
 
 _FEW = 4  # the first triples of a search, whose strings are looked up one by one
@@ -28,7 +28,7 @@ class Columns:
     once and kept, as a list by ID.
     """
 
-    def __init__(self, graph: OpenHandle, given: tuple[Given, Given, Given], pattern: list[Any]) -> None:
+    def __init__(self, graph: OpenHandle, given: tuple[Given, Given, Given], pattern: Pattern) -> None:
         counts = graph._counts
         self._graph, self._pattern = graph, pattern
         self._matches: Optional[int] = None  # as soon as they are counted
@@ -40,10 +40,10 @@ class Columns:
         self._limit: Optional[int] = None
         self._taken = 0  # characters of the strings of this portion
 
-    def triples(self, pages: Iterable[array.array[int]], limit: Optional[int]) -> Iterator[StringTriple]:
-        """The strings of the triples of these pages, which are at most so many."""
-        size, self._limit = _FEW, limit
-        for page in pages:
+    def triples(self, skip: int, limit: Optional[int]) -> Iterator[StringTriple]:
+        """The strings of the matches after the first `skip` ones, at most `limit`."""
+        size, most, self._limit = _FEW, max(_MOST, self._least), limit
+        for page in self._graph._pages(self._pattern, skip, limit, most):
             at = 0
             while at < len(page):
                 portion = page[at : at + 3 * size]
@@ -51,7 +51,7 @@ class Columns:
                 self._taken = 0
                 yield from zip(*(self._column(role, portion[role::3]) for role in range(3)))
                 if self._taken < _BYTES:
-                    size = min(4 * size, max(_MOST, self._least))
+                    size = min(4 * size, most)
                 else:
                     size = max(size // 4, self._least)
 
@@ -64,10 +64,22 @@ class Columns:
             return [(self._graph._string(role, number) or b"").decode() for number in ids]
         if whole := self._of_role(role, len(ids)):
             return itemgetter(*ids)(whole)  # type: ignore[no-any-return]
+        return self._looked_up(role, ids)
+
+    def page(self, ids: array.array[int]) -> list[StringTriple]:
+        """The strings of the triples of one page."""
+        s, p, o = (self._looked_up(role, ids[role::3]) for role in range(3))
+        return list(zip(s, p, o))
+
+    def _looked_up(self, role: int, ids: array.array[int]) -> Iterable[str]:
+        """The strings of these IDs of a role in one call."""
+        term = self._given[role]
+        if term is not None:
+            return repeat(term, len(ids))
         distinct = sorted(set(ids))
         strings = self._graph._strings(role, distinct) or []
         self._taken += sum(map(len, strings))
-        return itemgetter(*ids)(dict(zip(distinct, strings)))  # type: ignore[no-any-return]
+        return map(dict(zip(distinct, strings)).__getitem__, ids)
 
     def _of_role(self, role: int, size: int) -> Optional[list[str]]:
         """The strings of a role, by ID, if it is worth it for a portion of this size."""

@@ -110,8 +110,8 @@ def verify(path: Path, tight: bool = False) -> Counts:
 
     With `tight` it is also an error if a string isn't used by a triple in the role of its section.
 
-    Errors: `Fault` with the first error and its byte offset, MemoryError, OSError; NotImplementedError for `tight` if
-    the library is older than that call. The time is linear in the file.
+    Errors: `Fault` with the first error and its byte offset, MemoryError, OSError. The time is linear in the file; with
+    `tight`, memory is linear in the triples and strings.
 
     >>> hdt.verify("graph.hdt").triples
     3

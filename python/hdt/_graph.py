@@ -9,16 +9,13 @@ from collections.abc import Iterable, Iterator
 from itertools import chain
 from typing import IO, Any, Optional
 
-from ._calls import Counts, Given, IdTriple, Part, Path, Role, StringTriple, encoded, matched, role_number, window
+from ._calls import Counts, Given, IdTriple, Part, Path, Role, StringTriple
+from ._calls import encoded, matched, pattern_of, role_number, window
 from ._columns import Columns
 from ._files import Identity, data_of
 from ._handle import OpenHandle
 from ._ids import IdArray, rows
 from ._library import library
-
-_PORTION = 4_096  # strings that are looked up at once
-_PIECE = 64 * 1024  # characters of a piece of text, at least
-_AFTER = b"\xff"  # behind a prefix: greater than every string with that prefix
 
 
 def open(path: Path, copy: Optional[bool] = None) -> Graph:
@@ -63,13 +60,8 @@ class Graph(OpenHandle):
     raises ValueError there if the path leads to another file by then, or the file was written to.
 
     >>> with hdt.open("graph.hdt") as graph:
-    ...     print(graph, ("u:a", "u:p", "u:b") in graph)
-    ...     for subject, predicate, object in graph:
-    ...         print(subject, predicate, object)
-    <hdt.Graph of 3 triples: graph.hdt> True
-    u:a u:p u:b
-    u:a u:q "x"
-    u:b u:p u:a
+    ...     print(graph, ("u:a", "u:p", "u:b") in graph, next(iter(graph)))
+    <hdt.Graph of 3 triples: graph.hdt> True ('u:a', 'u:p', 'u:b')
     """
 
     _origin: Optional[tuple[str, Optional[bool], Optional[Identity]]] = None
@@ -206,54 +198,36 @@ class Graph(OpenHandle):
     def terms(self, role: Role) -> Iterator[str]:
         """Iterate over all strings of a role, in the order of their IDs. Raises ValueError for another word.
 
-        They are looked up in portions of 4,096, so that the time is linear in the strings.
+        They are looked up in portions of 4,096, so the time is linear in the strings.
 
         >>> with hdt.open("graph.hdt") as graph:
         ...     list(graph.terms("object"))
         ['u:a', 'u:b', '"x"']
         """
-        portions = range(1, self.count(role) + 1, _PORTION)
-        ids = (range(first, min(first + _PORTION, portions.stop)) for first in portions)
-        return chain.from_iterable(self._strings(role_number(role), portion) or [] for portion in ids)
+        return self._terms(role_number(role), self.count(role))
 
     def ids_with_prefix(self, prefix: str, role: Role) -> list[range]:
         """The IDs of the strings of a role that begin with a prefix, as ranges: none, one or two, none empty.
 
         A role has two sections, each with ascending strings: first what is a subject and an object, then what is only
-        one of them. Errors: ValueError for the role, TypeError. It looks up a string some 4 log2(count(role)) times.
+        one of them. Errors: ValueError for the role, TypeError. It takes about as long as `number`.
 
         >>> with hdt.open("graph.hdt") as graph:
         ...     graph.ids_with_prefix("u:", "object"), graph.ids_with_prefix('"', "object")
         ([range(1, 3)], [range(3, 4)])
         """
-        wanted, place, end = encoded(prefix), role_number(role), self.count(role) + 1
-        middle = 1 if role == "predicate" else self._counts.shared + 1
-        found = (
-            range(self._first_from(place, low, high, wanted), self._first_from(place, low, high, wanted + _AFTER))
-            for low, high in ((1, middle), (middle, end))
-        )
-        return [ids for ids in found if ids]
-
-    def _first_from(self, role: int, low: int, high: int, wanted: bytes) -> int:
-        """The first ID of these of a section whose string isn't less than the wanted one; else `high`."""
-        while low < high:
-            middle = (low + high) // 2
-            if (self._string(role, middle) or b"") < wanted:
-                low = middle + 1
-            else:
-                high = middle
-        return low
+        return self._with_prefix(role_number(role), encoded(prefix))
 
     def predicates(self) -> Iterator[tuple[str, int]]:
         """Iterate over the predicates in the order of their IDs, each with the number of its triples.
 
-        The triples of a predicate are counted when it comes, in time that is linear in them.
+        All are counted at once, in time that is at most linear in the triples, times a logarithm.
 
         >>> with hdt.open("graph.hdt") as graph:
         ...     dict(graph.predicates())
         {'u:p': 2, 'u:q': 1}
         """
-        return ((term, self.matching(p=term)) for term in self.terms("predicate"))
+        return zip(self.terms("predicate"), self._by_predicate())
 
     # ---- searches
 
@@ -273,7 +247,7 @@ class Graph(OpenHandle):
         ...     graph.matching_ids(p=1), graph.matching_ids(1, "u:q"), graph.matching_ids(9)
         (2, 1, 0)
         """
-        return self._matching(self._pattern(s, p, o))
+        return self._matching(pattern_of(s, p, o))
 
     def __contains__(self, triple: object) -> bool:
         if not (isinstance(triple, tuple) and len(triple) == 3 and all(isinstance(term, str) for term in triple)):
@@ -289,9 +263,8 @@ class Graph(OpenHandle):
         matches are left out, and at most `limit` are given. Errors: TypeError, ValueError for a negative number.
 
         The time is linear in the triples, those left out and the graph's strings; the first triples come at once. It
-        keeps up to 96 bytes for each triple that it has given, the strings of a portion of the triples (of up to
-        65,536, fewer if strings are long, or of a 64th as many as the graph has strings), and those of roles with few
-        strings (up to a million that take 64 MiB).
+        keeps the IDs and strings of a portion of the triples (of up to 65,536, fewer if strings are long, or of a 64th
+        as many as the graph has strings), and those of roles with few strings (up to a million that take 64 MiB).
 
         >>> with hdt.open("graph.hdt") as graph:
         ...     list(graph.find("u:a")), list(graph.find(limit=1, start=2))
@@ -299,7 +272,7 @@ class Graph(OpenHandle):
         """
         self._check_open()
         pattern, (first, most) = matched(s, p, o), window(start, limit)
-        return Columns(self, (s, p, o), pattern).triples(self._pages(pattern, first, most), most)
+        return Columns(self, (s, p, o), pattern).triples(first, most)
 
     def __iter__(self) -> Iterator[StringTriple]:
         return self.find()
@@ -310,14 +283,14 @@ class Graph(OpenHandle):
         """Iterate over the triples of `find` as the IDs of their strings. Parts are strings, IDs, or any.
 
         An ID that no string of the role has matches nothing. Errors: those of `find`. The time is linear in the triples
-        and those left out. It keeps up to 96 bytes for each triple that it has given; `id_array` keeps 24.
+        and those left out. It keeps 24 bytes for each triple of a portion of up to 16,384.
 
         >>> with hdt.open("graph.hdt") as graph:
         ...     list(graph.find_ids(p="u:p")), list(graph.find_ids(s=2, p=1))
         ([(1, 1, 2), (2, 1, 1)], [(2, 1, 1)])
         """
         self._check_open()
-        pages = self._pages(self._pattern(s, p, o), *window(start, limit))
+        pages = self._pages(pattern_of(s, p, o), *window(start, limit))
         return chain.from_iterable(map(rows, pages))
 
     find_numbers = find_ids
@@ -333,7 +306,50 @@ class Graph(OpenHandle):
         ...     graph.id_array().column("predicate").tolist()
         [1, 2, 1]
         """
-        return IdArray(self._page_of_all(self._pattern(s, p, o), *window(start, limit)))
+        return IdArray(self._page_of_all(pattern_of(s, p, o), *window(start, limit)))
+
+    def page(
+        self, s: Given = None, p: Given = None, o: Given = None, *, start: int = 0, limit: int = 100
+    ) -> tuple[list[StringTriple], Optional[int]]:
+        """The triples of `find` from position `start` on, at most `limit`, and where the next page begins.
+
+        The position of a triple is its index in the file, from 0. The second value is the position of the next match,
+        or None if there are no more. `start` may be any position. A page takes the same time wherever it is. Errors:
+        those of `find`.
+
+        >>> with hdt.open("graph.hdt") as graph:
+        ...     graph.page(p="u:p", limit=1), graph.page(p="u:p", limit=1, start=2)
+        (([('u:a', 'u:p', 'u:b')], 2), ([('u:b', 'u:p', 'u:a')], None))
+        """
+        pattern, (first, most) = matched(s, p, o), window(start, operator.index(limit))
+        ids, following = self._page(pattern, first, most or 0)
+        return Columns(self, (s, p, o), pattern).page(ids), following
+
+    def page_ids(
+        self, s: Part = None, p: Part = None, o: Part = None, *, start: int = 0, limit: int = 100
+    ) -> tuple[list[IdTriple], Optional[int]]:
+        """A page of the triples of `find_ids`, as `page`. Errors: those of `find`.
+
+        >>> with hdt.open("graph.hdt") as graph:
+        ...     graph.page_ids(limit=2), graph.page_ids(limit=2, start=2)
+        (([(1, 1, 2), (1, 2, 3)], 2), ([(2, 1, 1)], None))
+        """
+        first, most = window(start, operator.index(limit))
+        ids, following = self._page(pattern_of(s, p, o), first, most or 0)
+        return list(rows(ids)), following
+
+    def position(self, s: Part = None, p: Part = None, o: Part = None, *, skip: int = 0) -> Optional[int]:
+        """The position of the match after the first `skip` ones, for `page`; None if there is none.
+
+        Errors: those of `find`. The time is linear in `skip`, but that of a page if the parts that are given are the
+        first ones.
+
+        >>> with hdt.open("graph.hdt") as graph:
+        ...     graph.position(p="u:p", skip=1), graph.position("u:a", skip=2)
+        (2, None)
+        """
+        first, _ = window(skip, None)
+        return self._position(pattern_of(s, p, o), first)
 
     # ---- text
 
@@ -354,8 +370,8 @@ class Graph(OpenHandle):
         """Iterate over the text of `text` in pieces of whole lines, none of them empty.
 
         A piece has 64 KiB or the lines of one subject, whatever is more. `NotATerm` comes after the pieces of the
-        subjects before. Errors else and memory: those of `find_ids`; the time is that of `text` and two look-ups of
-        each subject.
+        subjects before. Errors else and memory: those of `find_ids`; the time is that of `text` and a search of each
+        subject.
 
         >>> with hdt.open("graph.hdt") as graph:
         ...     sum(map(len, graph.text_pieces()))
@@ -364,23 +380,6 @@ class Graph(OpenHandle):
         self._check_open()
         pattern = matched(s, p, o)
         return iter([text] if (text := self._text(pattern)) else []) if s is not None else self._pieces(pattern)
-
-    def _pieces(self, pattern: list[Any]) -> Iterator[str]:
-        """The text of the matches of a pattern of any subject, of whole subjects."""
-        last, piece, size = 0, list[str](), 0
-        for page in self._pages(pattern, 0, None):
-            for subject in dict.fromkeys(page[::3]):
-                if subject == last:
-                    continue
-                last, name = subject, self._string(0, subject) or b""
-                text = self._text([True, name, len(name), *pattern[3:]])
-                piece.append(text)
-                size += len(text)
-                if size >= _PIECE:
-                    yield "".join(piece)
-                    piece, size = [], 0
-        if piece:
-            yield "".join(piece)
 
     def write_text(self, file: IO[Any], s: Given = None, p: Given = None, o: Given = None) -> None:
         """Write the text of `text` to a file that is open for bytes, as UTF-8, or for text, piece by piece.

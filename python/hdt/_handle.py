@@ -4,18 +4,21 @@ from __future__ import annotations
 
 import array
 import ctypes
-import operator
 import threading
 from collections.abc import Iterable, Iterator
 from typing import Any, Optional
 
 from . import _library
-from ._calls import ANY, NO_STRING, ROLES, Part, closed, counts_of, encoded
+from ._calls import ROLES, Pattern, closed, counts_of, pattern_of
 from ._faults import NotATerm
-from ._library import Handle, Lent, Made, Telling, Verdict, library
+from ._library import Handle, Lent, Made, Ranges, Telling, Verdict, library
 
 _FIRST_BYTES = 256  # room for a string; it grows where one needs more
-_FIRST_MATCHES = 64  # matches of the first page of a search
+_PORTION = 4_096  # strings that are looked up at once
+_FIRST_MATCHES = 64  # matches of the first page of a search; each page has four times as many as the one before,
+_MOST_MATCHES = 16_384  # up to this
+_LARGEST = 2**64 - 1
+_PIECE = 64 * 1024  # characters of a piece of text, at least
 _ZERO = array.array("Q", [0])
 
 
@@ -112,62 +115,85 @@ class OpenHandle:
         ends.pop()
         return _cut(text, ends.tolist())
 
+    def _terms(self, role: int, count: int) -> Iterator[str]:
+        """The strings of a role, which are so many, looked up by portions."""
+        for first in range(1, count + 1, _PORTION):
+            yield from self._strings(role, range(first, min(first + _PORTION, count + 1))) or []
+
+    def _with_prefix(self, role: int, prefix: bytes) -> list[range]:
+        """The IDs of the strings that begin with a prefix, as ranges, of which none is empty."""
+        ranges = Ranges()
+        self._asked(library.hdt_prefix, role, prefix, len(prefix), ranges)
+        return [ids for ids in (range(*ranges.first), range(*ranges.second)) if ids]
+
+    def _by_predicate(self) -> array.array[int]:
+        """The number of triples of each predicate, by ID."""
+        counts = _ZERO * self._counts.predicates
+        self._asked(library.hdt_predicates, counts.buffer_info()[0], len(counts))
+        return counts
+
     # ---- searches
 
-    def _pattern(self, *parts: Part) -> list[Any]:
-        """The parameters of a call for three parts: strings, IDs or any. An ID of no string matches nothing."""
-        parameters: list[Any] = []
-        for role, part in enumerate(parts):
-            if part is None:
-                parameters += ANY
-                continue
-            found = encoded(part) if isinstance(part, str) else self._string(role, operator.index(part))
-            string = NO_STRING if found is None else found
-            parameters += (True, string, len(string))
-        return parameters
-
-    def _matching(self, pattern: list[Any]) -> int:
+    def _matching(self, pattern: Pattern) -> int:
         """How many triples match."""
-        return self._asked(library.hdt_matching, *pattern) or 0
+        return self._asked(library.hdt_pattern_matching, pattern.packed) or 0
 
-    def _page(self, pattern: list[Any], start: int, room: int) -> array.array[int]:
-        """The matches from the one at `start`, at most `room`, three IDs each, one after another."""
-        page = _ZERO * (3 * room or 1)
-        got = self._asked(library.hdt_find, *pattern, start, page.buffer_info()[0], room) or 0
+    def _matches(self, pattern: Pattern, skip: int, room: int) -> array.array[int]:
+        """The matches after the first `skip` ones, at most `room`: three IDs each, one after another."""
+        found = _ZERO * (3 * room or 1)
+        at = min(skip, _LARGEST)
+        got = self._asked(library.hdt_pattern_find, pattern.packed, at, found.buffer_info()[0], room) or 0
+        del found[3 * got :]
+        return found
+
+    def _page(self, pattern: Pattern, start: int, room: int) -> tuple[array.array[int], Optional[int]]:
+        """The matches from a position on, at most `room`, and the position of the next one; None if it is the last."""
+        room = min(room, max(self._counts.triples - start, 0))
+        page, following = _ZERO * (3 * room or 1), _ZERO[:]
+        places = page.buffer_info()[0], room, following.buffer_info()[0]
+        got = self._asked(library.hdt_page, pattern.packed, min(start, _LARGEST), *places) or 0
         del page[3 * got :]
-        return page
+        return page, None if following[0] == _library.ABSENT else following[0]
 
-    def _pages(self, pattern: list[Any], start: int, limit: Optional[int]) -> Iterator[array.array[int]]:
-        """The matches from the one at `start`, at most `limit`, in pages, of which none is empty.
+    def _position(self, pattern: Pattern, skip: int) -> Optional[int]:
+        """The position of the match after the first `skip` ones; None if there are no more.
 
-        Those before a page are walked over again for it. So each page has four times the matches of the one before, and
-        as soon as there are many, they are counted: all of it takes some three times the walk over the matches.
+        If the matches follow one another in the file, it is `skip` positions after the first one. Else so many are
+        walked over.
         """
-        left = self._counts.triples - start if limit is None else min(limit, self._counts.triples - start)
+        first = self._page(pattern, 0, 0)[1]
+        if first is None or not skip:
+            return first
+        s, p, o = (part is not None for part in pattern.parts)
+        if s >= p >= o:
+            return first + skip if self._page(pattern, first + skip, 0)[1] == first + skip else None
+        match = self._matches(pattern, skip, 1)
+        return self._page(pattern_of(*match), 0, 0)[1] if match else None
+
+    def _pages(
+        self, pattern: Pattern, skip: int, limit: Optional[int], most: int = _MOST_MATCHES
+    ) -> Iterator[array.array[int]]:
+        """The matches after the first `skip` ones, at most `limit`, in pages of at most `most`, none of them empty."""
+        left = self._counts.triples if limit is None else limit
+        start = self._position(pattern, skip) if skip else 0
         room = _FIRST_MATCHES
-        while left > 0:
-            if room == 64 * _FIRST_MATCHES:
-                left = min(left, max(self._matching(pattern) - start, 0))
-            room = min(room, left)
-            page = self._page(pattern, start, room)
-            got = len(page) // 3
-            if got:
+        while left > 0 and start is not None:
+            page, start = self._page(pattern, start, min(room, left))
+            if page:
                 yield page
-            if got < room:
-                return
-            start, left, room = start + got, left - got, 4 * room
+            left, room = left - len(page) // 3, min(4 * room, most)
 
-    def _page_of_all(self, pattern: list[Any], start: int, limit: Optional[int]) -> array.array[int]:
-        """The matches from the one at `start`, at most `limit`, as one page."""
-        count = max(self._matching(pattern) - start, 0)
-        return self._page(pattern, min(start, 2**64 - 1), count if limit is None else min(limit, count))
+    def _page_of_all(self, pattern: Pattern, skip: int, limit: Optional[int]) -> array.array[int]:
+        """The matches after the first `skip` ones, at most `limit`, as one page."""
+        count = max(self._matching(pattern) - skip, 0)
+        return self._matches(pattern, skip, count if limit is None else min(limit, count))
 
-    def _text(self, pattern: list[Any]) -> str:
+    def _text(self, pattern: Pattern) -> str:
         """The matches as N-Triples. Raises NotATerm."""
         telling = Telling()
         with Made() as made:
             with self._lock:
-                library.hdt_text(self._handle, *pattern, made, telling)
+                library.hdt_pattern_text(self._handle, pattern.packed, made, telling)
             if telling.reason == _library.IS_CLOSED:
                 raise closed()
             if telling.reason == _library.OUT_OF_MEMORY:
@@ -175,3 +201,20 @@ class OpenHandle:
             if telling.reason == _library.NOT_A_TERM:
                 raise NotATerm(ROLES[telling.role], telling.number)
             return str(made.view(), "utf-8")
+
+    def _pieces(self, pattern: Pattern) -> Iterator[str]:
+        """The text of the matches of a pattern of any subject, in pieces of whole subjects."""
+        last, piece, size = 0, list[str](), 0
+        for page in self._pages(pattern, 0, None):
+            for subject in dict.fromkeys(page[::3]):
+                if subject == last:
+                    continue
+                last, (_, p, o) = subject, pattern.parts
+                text = self._text(pattern_of(subject, p, o))
+                piece.append(text)
+                size += len(text)
+                if size >= _PIECE:
+                    yield "".join(piece)
+                    piece, size = [], 0
+        if piece:
+            yield "".join(piece)

@@ -6,13 +6,13 @@ import ctypes
 import ctypes.util
 import os
 import subprocess
-from collections.abc import Callable
 from pathlib import Path
 from typing import Any
 
 # Answers and reasons of c/hdt.h.
 ABSENT, NO_MEMORY, CLOSED = 2**64 - 1, 2**64 - 2, 2**64 - 3
 DONE, NOT_A_TERM, NO_TRIPLES, BAD_OPTIONS, IS_CLOSED, IS_OPEN, OUT_OF_MEMORY = 0, 250, 251, 252, 253, 254, 255
+ANY, ID, STRING = 0, 1, 2  # kinds of a part of a pattern
 
 
 class Verdict(ctypes.Structure):
@@ -36,6 +36,12 @@ class Telling(ctypes.Structure):
     """An hdt_telling."""
 
     _fields_ = [("reason", ctypes.c_uint32), ("role", ctypes.c_uint32), ("number", ctypes.c_uint64)]
+
+
+class Ranges(ctypes.Structure):
+    """An hdt_ranges."""
+
+    _fields_ = [("first", ctypes.c_uint64 * 2), ("second", ctypes.c_uint64 * 2)]
 
 
 class Handle(ctypes.Structure):
@@ -110,11 +116,12 @@ def _load() -> Any:
         ctypes.c_uint64,
         ctypes.c_size_t,
     )
-    pattern = [role, *bytes_of] * 3
-    made, room = ctypes.POINTER(Made), ctypes.c_void_p
+    pattern, room = ctypes.c_void_p, ctypes.c_void_p  # (a pattern is given as its bytes)
+    made, ranges = ctypes.POINTER(Made), ctypes.POINTER(Ranges)
     verdict, report, telling = ctypes.POINTER(Verdict), ctypes.POINTER(Report), ctypes.POINTER(Telling)
     for name, parameters, answer in (
         ("hdt_verify", [*bytes_of, verdict], None),
+        ("hdt_verify_tight", [*bytes_of, verdict], None),
         ("hdt_open", [*bytes_of, graph, verdict], None),
         ("hdt_close", [graph], None),
         ("hdt_len", [graph], number),
@@ -123,34 +130,23 @@ def _load() -> Any:
         ("hdt_string", [graph, role, number, room, size], number),
         ("hdt_strings", [graph, role, room, size, made, room, size], number),
         ("hdt_header", [graph, room, size], number),
-        ("hdt_find", [graph, *pattern, number, room, size], number),
-        ("hdt_matching", [graph, *pattern], number),
-        ("hdt_text", [graph, *pattern, made, telling], None),
+        ("hdt_prefix", [graph, role, ctypes.c_char_p, size, ranges], number),
+        ("hdt_predicates", [graph, room, size], number),
+        ("hdt_pattern_find", [graph, pattern, number, room, size], number),
+        ("hdt_pattern_matching", [graph, pattern], number),
+        ("hdt_pattern_text", [graph, pattern, made, telling], None),
+        ("hdt_page", [graph, pattern, number, room, size, room], number),
         ("hdt_build", [*bytes_of, *bytes_of, ctypes.c_uint32, made, report], None),
         ("hdt_rewrite", [*bytes_of, ctypes.c_uint32, made, verdict], None),
         ("hdt_free", [made], None),
+        ("hdt_version", [], ctypes.c_uint32),
     ):
         try:
             call = getattr(loaded, name)
         except AttributeError:
-            raise ImportError(f"{candidates[0]} is another library: it has no {name}") from None
+            raise ImportError(f"{candidates[0]} is another library, or an older one: it has no {name}") from None
         call.argtypes, call.restype = parameters, answer
-    for name, parameters, answer in (("hdt_verify_tight", [*bytes_of, verdict], None),):
-        if hasattr(loaded, name):
-            call = getattr(loaded, name)
-            call.argtypes, call.restype = parameters, answer
-        else:
-            setattr(loaded, name, _lacking(name))
     return loaded
-
-
-def _lacking(name: str) -> Callable[..., Any]:
-    """What stands for a call that an older library doesn't have."""
-
-    def call(*_: object) -> Any:
-        raise NotImplementedError(f"this libhdt is too old: it has no {name}")
-
-    return call
 
 
 class _Buffer(ctypes.Structure):
@@ -200,3 +196,4 @@ class Lent:
 
 
 library = _load()
+VERSION = "{}.{}".format(*divmod(library.hdt_version(), 2**16))  # of hdt.h: its major and its minor number

@@ -15,6 +15,7 @@ from typing import TYPE_CHECKING
 
 if TYPE_CHECKING:
     from hdt import *  # noqa: F401, F403
+    from hdt import LIBHDT_VERSION as LIBHDT_VERSION  # noqa: F401
     from hdt import __version__ as __version__  # noqa: F401
 
 _OWN = Path(__file__).resolve().parent.parent / "hdt/__init__.py"

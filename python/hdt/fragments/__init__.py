@@ -21,6 +21,8 @@ A configuration (`Config` and `Source` have all fields):
     "place/" = "places"  # https://data.example.org/place/x leads to its triples
 
 A dataset is at `/NAME`; `?subject=`, `?predicate=`, `?object=` and `&page=` ask for a page of the triples that match.
+Links to the next page add `&from=`, by which it costs what the first one does; a page is the same without it. It is
+ignored unless it is that of a link to this page of this file.
 `/NAME/void` describes it, and `/NAME/data.hdt` is its file where the configuration gives it out.
 """
 

@@ -2,17 +2,23 @@
 
 from __future__ import annotations
 
+import hashlib
 import itertools
+import re
 from collections.abc import Mapping
 from dataclasses import dataclass
+from functools import cached_property
 from typing import Optional
 
 from hdt.fragments import _terms as terms
 from hdt.fragments._config import Config
 from hdt.fragments._dataset import Dataset, Loaded
-from hdt.fragments._reader import Reader
+from hdt.fragments._reader import Page, Reader
 from hdt.fragments._request import Refusal, Request
 from hdt.fragments._terms import DCTERMS, FOAF, HYDRA, RDF, ROLES, VOID, Pattern, Triple
+
+
+_POSITION = re.compile(r"[0-9]{1,15}")
 
 
 @dataclass(frozen=True)
@@ -88,13 +94,35 @@ class Fragment:
         """What the IRIs of blank nodes begin with."""
         return skolem_prefix(self.request, self.dataset, self.config)
 
-    def triples(self) -> tuple[list[Triple], int]:
-        """The triples of the page, as strings of the dictionary, and how many were left out."""
-        return self.loaded.reader.page(self.pattern, self.skip, self.config.page_size) if self.count else ([], 0)
+    def _begins(self, page: int, position: int) -> str:
+        """Where a page begins, as a link says it: its position, and a digest of what that is true of."""
+        about = repr((self.loaded.identity, self.pattern, self.config.page_size, page, position))
+        return f"{position}-{hashlib.sha256(about.encode()).hexdigest()[:8]}"
+
+    @property
+    def _start(self) -> Optional[int]:
+        """The position that the request gives for the page; None unless it is that of a link to this page."""
+        given = self.request.given.get("from", "")
+        position = given.partition("-")[0]
+        is_right = _POSITION.fullmatch(position) and given == self._begins(self.page, int(position))
+        return int(position) if is_right else None
+
+    @cached_property
+    def found(self) -> Page:
+        """The triples of the page, as strings of the dictionary."""
+        return self.loaded.reader.page(self.pattern, self.skip, self.config.page_size, self._start)
+
+    @property
+    def next(self) -> Optional[str]:
+        """The URL of the next page, which names its position; None where there is none."""
+        following = self.found.following if self.page < self.pages else None
+        if following is None:
+            return None
+        return self.request.with_page(self.page + 1, self._begins(self.page + 1, following))
 
     def data(self) -> list[Triple]:
         """The triples of the page, with blank nodes as the server names them."""
-        found, prefix = self.triples()[0], self.skolem
+        found, prefix = self.found.triples, self.skolem
         if not prefix or not any(s.startswith("_:") or o.startswith("_:") for s, _, o in found):
             return found
         return [(_named(s, prefix), p, _named(o, prefix)) for s, p, o in found]
@@ -177,8 +205,8 @@ def controls(fragment: Fragment) -> list[Triple]:
     ]
     if fragment.page > 1:
         statements.append((page, HYDRA + "previous", request.with_page(fragment.page - 1)))
-    if fragment.page < pages:
-        statements.append((page, HYDRA + "next", request.with_page(fragment.page + 1)))
+    if fragment.next:
+        statements.append((page, HYDRA + "next", fragment.next))
     if pages:
         statements.append((page, HYDRA + "last", request.with_page(pages)))
     return statements

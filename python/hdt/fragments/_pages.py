@@ -83,10 +83,11 @@ def _pager(fragment: Fragment, label: str) -> str:
     def link(number: int, name: str, relation: str) -> str:
         if not 1 <= number <= pages or number == page:
             return f'<span aria-hidden="true">{name}</span>'
-        return f'<a href="{text(request.with_page(number))}" rel="{relation}">{name}</a>'
+        url = fragment.next if relation == "next" else None
+        return f'<a href="{text(url or request.with_page(number))}" rel="{relation}">{name}</a>'
 
     kept = "".join(f'<input type="hidden" name="{name}" value="{text(value)}">'
-                   for name, value in request.given.items() if name != "page" and value)
+                   for name, value in request.given.items() if name not in ("page", "from") and value)
     jump = (f'<form action="{text(request.place)}">{kept}<label>Page <input name="page" value="{page}" '
             f'inputmode="numeric" autocomplete="off"></label> of {pages:,}</form>')
     return (
@@ -117,7 +118,7 @@ def _pointing(fragment: Fragment, view: View) -> str:
     count = reader.count(pattern)
     if not count:
         return ""
-    found, _ = reader.page(pattern, 0, _POINTING)
+    found = reader.page(pattern, 0, _POINTING).triples
     link = view.link(subject, 2) or fragment.url
     caption = f"The first {len(found):,}" if count > len(found) else "All of them"
     return (
@@ -148,7 +149,7 @@ def _heading(fragment: Fragment, view: View) -> str:
 
 def _triples(fragment: Fragment, view: View) -> str:
     """The triples of the page with their count and the links to other pages."""
-    found, left_out = fragment.triples()
+    found, left_out, _ = fragment.found
     first, last = fragment.skip + 1, fragment.skip + len(found) + left_out
     caption = f"Triples {first:,} to {last:,} of {fragment.count:,}" if found else ""
     heading = f'{fragment.count:,} {"triple matches" if fragment.count == 1 else "triples match"}'

@@ -2,10 +2,9 @@
 
 from __future__ import annotations
 
-import array
 import threading
 from collections import OrderedDict
-from typing import Callable, Generic, Optional, TypeVar
+from typing import Callable, Generic, NamedTuple, Optional, TypeVar
 
 import hdt
 from hdt.fragments import _terms as terms
@@ -15,11 +14,8 @@ K = TypeVar("K")
 V = TypeVar("V")
 
 _ROLES: tuple[hdt.Role, hdt.Role, hdt.Role] = ("subject", "predicate", "object")
-_NEAR = 2_000  # matches that are walked over for a page; past them the matches of many pages are kept
-_BLOCK = 8_192  # matches that are kept at once
-_BLOCKS_KEPT = 32
-_COUNTS_KEPT = 10_000
-_LONGEST_KEPT = 400  # characters of a pattern whose count is kept
+_KEPT = 10_000  # counts, and positions
+_LONGEST_KEPT = 400  # characters of a pattern whose counts and positions are kept
 
 
 class Kept(Generic[K, V]):
@@ -43,6 +39,14 @@ class Kept(Generic[K, V]):
         return made
 
 
+class Page(NamedTuple):
+    """Triples of a graph, how many were left out, and the position of the next match; None where there is none."""
+
+    triples: list[Triple]
+    left_out: int
+    following: Optional[int]
+
+
 class Reader:
     """The triples of an open graph, in pages, and their counts. Threads may share one."""
 
@@ -50,8 +54,8 @@ class Reader:
         """Read a graph. Its predicates are counted at once, where it has no more of them than `most_predicates`."""
         self._graph = graph
         self.counts = graph.counts
-        self._counted: Kept[Pattern, int] = Kept(_COUNTS_KEPT)
-        self._blocks: Kept[tuple[Pattern, int], array.array[int]] = Kept(_BLOCKS_KEPT)
+        self._counted: Kept[Pattern, int] = Kept(_KEPT)
+        self._positions: Kept[tuple[Pattern, int], Optional[int]] = Kept(_KEPT)
         self.predicates = self._by_count() if self.counts.predicates <= most_predicates else []
 
     def has(self, role: int, term: str) -> bool:
@@ -60,41 +64,44 @@ class Reader:
 
     def count(self, pattern: Pattern) -> int:
         """How many triples match. The counts that were asked for last are kept, as some take a walk over matches."""
-        terms_given = [term for term in pattern if term]
-        if not terms_given:
+        if pattern == (None, None, None):
             return self.counts.triples
-        if sum(map(len, terms_given)) > _LONGEST_KEPT:
+        if _is_long(pattern):
             return self._graph.matching(*pattern)
         return self._counted.ask(pattern, lambda: self._graph.matching(*pattern))
 
-    def _numbers(self, pattern: Pattern, skip: int, room: int) -> list[tuple[int, int, int]]:
-        """Up to `room` matches behind the first `skip` ones."""
-        if skip < _NEAR:
-            return list(self._graph.find_ids(*pattern, limit=room, start=skip))
-        block = _BLOCK // room * room or room
-        first = skip // block * block
-        kept = self._blocks.ask((pattern, first), lambda: self._block(pattern, first, block))
-        numbers = kept[3 * (skip - first):3 * (skip - first + room)]
-        return list(zip(numbers[::3], numbers[1::3], numbers[2::3]))
+    def _position(self, pattern: Pattern, skip: int, known: Optional[int] = None) -> Optional[int]:
+        """The position of the match behind the first `skip` ones, if it is not known; None where there is none.
 
-    def _block(self, pattern: Pattern, skip: int, room: int) -> array.array[int]:
-        return self._graph.id_array(*pattern, limit=room, start=skip).array
+        The last positions are kept, as some take a walk over the matches before them.
+        """
+        def made() -> Optional[int]:
+            return self._graph.position(*pattern, skip=skip) if known is None else known
 
-    def page(self, pattern: Pattern, skip: int, room: int) -> tuple[list[Triple], int]:
-        """Up to `room` matching triples behind the first `skip` ones, and how many of them were left out.
+        if not skip:
+            return 0
+        return made() if _is_long(pattern) else self._positions.ask((pattern, skip), made)
+
+    def page(self, pattern: Pattern, skip: int, room: int, start: Optional[int] = None) -> Page:
+        """Up to `room` matching triples behind the first `skip` ones; `start` is their position where it is known.
 
         A triple with a string that is no term is left out.
         """
-        found = self._numbers(pattern, skip, room)
+        position = self._position(pattern, skip, start)
+        if position is None:
+            return Page([], 0, None)
+        found, following = self._graph.page_ids(*pattern, start=position, limit=room)
+        if following is not None:
+            self._position(pattern, skip + room, following)
         known = [self._strings(role, numbers) for role, numbers in enumerate(zip(*found))]
         if not known:
-            return [], 0
+            return Page([], 0, None)
         subjects, predicates, objects = known
         triples = [(subjects[s], predicates[p], objects[o]) for s, p, o in found]
         whole = triples
         if any("" in each.values() for each in known):
             whole = [triple for triple in triples if all(triple)]
-        return whole, len(found) - len(whole)
+        return Page(whole, len(found) - len(whole), following)
 
     def _strings(self, role: int, numbers: tuple[int, ...]) -> dict[int, str]:
         """The terms of these numbers; nothing where a string is no term."""
@@ -111,6 +118,10 @@ class Reader:
 
     def _by_count(self) -> list[tuple[str, int]]:
         """The predicates with the counts of their triples, the most used first."""
-        names = self._graph.strings("predicate", range(1, self.counts.predicates + 1))
-        counted = [(name, self.count((None, name, None))) for name in names if terms.is_term(name, 1)]
+        counted = [(name, count) for name, count in self._graph.predicates() if terms.is_term(name, 1)]
         return sorted(counted, key=lambda each: (-each[1], each[0]))
+
+
+def _is_long(pattern: Pattern) -> bool:
+    """Whether a pattern is too long to be kept."""
+    return sum(len(term) for term in pattern if term) > _LONGEST_KEPT

@@ -67,7 +67,7 @@ class Request:
     path: str
     query: bytes
     given: dict[str, str]
-    without_page: bytes  # the query without its page
+    without_page: bytes  # the query without its page and where that begins
 
     @property
     def place(self) -> str:
@@ -79,10 +79,11 @@ class Request:
         """The URL as the client wrote it."""
         return self.place + ("?" + _url_text(self.query) if self.query else "")
 
-    def with_page(self, page: Optional[int]) -> str:
-        """The URL of another page; of the fragment where there is none."""
+    def with_page(self, page: Optional[int], begins: str = "") -> str:
+        """The URL of another page, with where it begins if that is known; of the fragment where there is none."""
         query = self.without_page + (b"&" if self.without_page and page else b"")
         query += b"page=%d" % page if page else b""
+        query += b"&from=" + begins.encode() if begins else b""
         return self.place + ("?" + _url_text(query) if query else "")
 
     def header(self, name: str) -> str:
@@ -125,11 +126,11 @@ def request_of(environ: dict[str, Any], config: Config) -> Request:
     given: dict[str, str] = {}
     others = []
     for name, value, raw in parameters(query):
-        if name in (*ROLES, "page", "format"):
+        if name in (*ROLES, "page", "from", "format"):
             if name in given:
                 raise bad(f"The parameter {name} is given twice.")
             given[name] = value
-        if name != "page":
+        if name not in ("page", "from"):
             others.append(raw)
     path = environ.get("PATH_INFO", "").encode("latin-1").decode("utf-8", "replace")
     return Request(environ, base, path[1:] if path.startswith("/") else path, query, given, b"&".join(others))

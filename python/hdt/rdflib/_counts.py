@@ -7,7 +7,7 @@ from collections.abc import Iterator
 from operator import itemgetter
 from typing import Any, Optional
 
-from hdt.rdflib._file import OpenFile, Search
+from hdt.rdflib._file import ROLES, OpenFile, Search
 from rdflib.paths import Path
 from rdflib.plugins.sparql.sparql import FrozenBindings
 from rdflib.term import BNode, Literal, Variable
@@ -18,9 +18,10 @@ Groups = dict[tuple[Any, ...], int]
 def counted(file: OpenFile, ctx: Any, part: Any) -> Iterator[Any]:
     """The groups of an AggregateJoin of rdflib's algebra, if it counts the solutions of one triple pattern.
 
-    The aggregates are COUNT of everything or of a variable of the pattern, without DISTINCT, and the sample of a
-    variable by which it is grouped, which is rdflib's way to give it. Else raises NotImplementedError. Groups by
-    predicate take one count of each predicate, other ones a walk over the IDs of the triples.
+    The aggregates are COUNT of everything or of a variable of the pattern, without DISTINCT unless there is no GROUP
+    BY, and the sample of a variable by which it is grouped, which is rdflib's way to give it. Else raises
+    NotImplementedError. Groups by predicate take one count of each predicate, other ones and DISTINCT a walk over the
+    IDs of the triples.
     """
     triple, keys = _pattern(ctx, part)
     if not all(_is_counted(it, triple, keys) for it in part.A):
@@ -31,7 +32,12 @@ def counted(file: OpenFile, ctx: Any, part: Any) -> Iterator[Any]:
     groups = _groups(file, searches[0], [triple.index(key) for key in keys], triple) if searches else {}
     if not searches and not keys:
         groups = {(): 0}
-    return _bindings(ctx, part, keys, groups)
+    distinct = {
+        it.res: _distinct(file, searches, triple.index(it.vars))
+        for it in part.A
+        if it.name == "Aggregate_Count" and it.distinct
+    }
+    return _bindings(ctx, part, keys, groups, distinct)
 
 
 def _pattern(ctx: Any, part: Any) -> tuple[list[Any], list[Variable]]:
@@ -55,9 +61,18 @@ def _pattern(ctx: Any, part: Any) -> tuple[list[Any], list[Variable]]:
 def _is_counted(aggregate: Any, triple: list[Any], keys: list[Variable]) -> bool:
     if aggregate.name == "Aggregate_Sample":
         return isinstance(aggregate.vars, Variable) and aggregate.vars in keys
-    if aggregate.name != "Aggregate_Count" or aggregate.distinct:
+    if aggregate.name != "Aggregate_Count" or (aggregate.distinct and (keys or aggregate.vars == "*")):
         return False
     return aggregate.vars == "*" or (isinstance(aggregate.vars, Variable) and aggregate.vars in triple)
+
+
+def _distinct(file: OpenFile, searches: list[Search], role: int) -> int:
+    """How many different terms a role has in the triples of these searches; literals differ as rdflib says."""
+    numbers: set[int] = set()
+    for search in searches:
+        numbers.update(file.graph.id_array(*search).column(ROLES[role]))
+    literals = {number for number in numbers if file.is_literal(role, number)}
+    return len(numbers) - len(literals) + len(set(_terms(file, role, literals).values()))
 
 
 def _groups(file: OpenFile, search: Search, places: list[int], triple: list[Any]) -> Groups:
@@ -88,13 +103,17 @@ def _terms(file: OpenFile, role: int, numbers: set[int]) -> dict[int, Any]:
     return {number: terms[file.node_of_object(number)] for number in numbers}
 
 
-def _bindings(ctx: Any, part: Any, keys: list[Variable], groups: Groups) -> Iterator[Any]:
+def _bindings(
+    ctx: Any, part: Any, keys: list[Variable], groups: Groups, distinct: dict[Any, int]
+) -> Iterator[Any]:
     for key, count in groups.items():
         values: dict[Variable, Any] = dict(zip(keys, key))
         found: dict[Any, Optional[Any]] = {}
         for aggregate in part.A:
             is_count = aggregate.name == "Aggregate_Count"
-            found[aggregate.res] = Literal(count) if is_count else values[aggregate.vars]
+            found[aggregate.res] = (
+                Literal(distinct.get(aggregate.res, count)) if is_count else values[aggregate.vars]
+            )
         yield FrozenBindings(ctx, found)
     if not groups:
         yield FrozenBindings(ctx)  # as rdflib does for no groups

@@ -4,19 +4,20 @@ from __future__ import annotations
 
 from bisect import bisect_right
 from collections.abc import Iterable, Iterator, Sequence
-from itertools import islice, product
+from itertools import chain, islice, product
 from typing import Any, Optional, TypeVar
 
 import hdt
 from hdt.rdflib._terms import XSD_STRING, Kept, Term, string_of, term_of
 
-Strings = tuple[Optional[str], ...]
-Search = tuple[Optional[str], Optional[str], Optional[str]]  # the parameters of `hdt.Graph.find_ids`
+Ids = tuple[Optional[int], ...]
+Search = tuple[Optional[int], Optional[int], Optional[int]]  # the parameters of `hdt.Graph.find_ids`
 T = TypeVar("T")
 
 ROLES: tuple[hdt.Role, ...] = ("subject", "predicate", "object")
 _MOST_LETTERS = 4  # of a tag whose spellings in both cases are looked up one by one
 _FEW = 3  # terms that are made one by one
+_FIRST = 64  # triples of the first page of a search
 _PORTION = 4_096  # what is looked up at once, at most
 
 
@@ -42,14 +43,15 @@ class OpenFile:
         self.more = self.subjects - self.shared
         self.node_term: Kept[int, Term] = Kept(keep, lambda node: self._term(*self.place(node)))
         self.predicate_term: Kept[int, Term] = Kept(keep, lambda number: self._term(1, number))
-        self._of_predicate: Kept[str, int] = Kept(keep, lambda p: graph.matching(None, p, None))
-        self._like: Kept[tuple[int, str], tuple[str, ...]] = Kept(keep, self._spellings)
-        # By role, the strings to search for if it has to be the term with an ID: a node's, or a predicate's.
-        self.strings: tuple[Kept[int, Strings], ...] = (
-            Kept(keep, lambda node: self._strings_of_node(0, node)),
-            Kept(keep, lambda number: (graph.string("predicate", number),)),
-            Kept(keep, lambda node: self._strings_of_node(2, node)),
+        self._of_predicate: Kept[int, int] = Kept(keep, lambda p: graph.matching_ids(None, p, None))
+        self._like: Kept[tuple[int, str], tuple[int, ...]] = Kept(keep, self._spellings)
+        # By role, the IDs to search for if it has to be the term with an ID: a node's, or a predicate's.
+        self.ids: tuple[Kept[int, Ids], ...] = (
+            Kept(keep, lambda node: self._ids_of_node(0, node)),
+            Kept(keep, lambda number: (number,)),
+            Kept(keep, lambda node: self._ids_of_node(2, node)),
         )
+        self._literals = [graph.ids_with_prefix('"', role) for role in ROLES]
 
     # ---- nodes
 
@@ -61,16 +63,15 @@ class OpenFile:
         """The node of an object."""
         return number if number <= self.shared else number + self.more
 
-    def _is_in(self, role: int, node: int) -> bool:
-        """Whether a node has a number in the role, 0 or 2."""
-        return node <= self.subjects if role == 0 else node <= self.shared or node > self.subjects
+    def is_literal(self, role: int, number: int) -> bool:
+        """Whether the string with an ID is that of a literal."""
+        return any(number in literals for literals in self._literals[role])
 
-    def _strings_of_node(self, role: int, node: int) -> Strings:
+    def _ids_of_node(self, role: int, node: int) -> Ids:
         at, number = self.place(node)
-        string = self.graph.string(ROLES[at], number)
-        if string.startswith('"') and not self.exact:
-            return self._like[role, string]
-        return (string,) if self._is_in(role, node) else ()
+        if not self.exact and self.is_literal(at, number):
+            return self._like[role, self.graph.string(ROLES[at], number)]
+        return (number,) if at == role or node <= self.shared else ()
 
     # ---- terms
 
@@ -104,16 +105,21 @@ class OpenFile:
 
     # ---- spellings
 
-    def spellings(self, role: int, term: object) -> tuple[str, ...]:
-        """The strings to search a role, 0 to 2, for a term: none if it can't be there."""
+    def spellings(self, role: int, term: object) -> tuple[int, ...]:
+        """The IDs to search a role, 0 to 2, for a term: none if it isn't there."""
         string = string_of(term, self.scope)
         if string is None:
             return ()
-        return self._like[role, string] if string.startswith('"') and not self.exact else (string,)
+        return self._like[role, string] if string.startswith('"') and not self.exact else self._known(role, [string])
 
-    def _spellings(self, key: tuple[int, str]) -> tuple[str, ...]:
-        """The strings of a role that are the same literal as a string: with the tag in any case, or with and without
-        xsd:string."""
+    def _known(self, role: int, strings: Iterable[str]) -> tuple[int, ...]:
+        """The IDs of those of the strings that the role has."""
+        found = (self.graph.number(ROLES[role], string) for string in strings)
+        return tuple(number for number in found if number is not None)
+
+    def _spellings(self, key: tuple[int, str]) -> tuple[int, ...]:
+        """The IDs of the strings of a role that are the same literal as a string: with the tag in any case, or with
+        and without xsd:string."""
         role, string = key
         end = string.rindex('"') + 1
         front, tail = string[:end], string[end:]
@@ -125,15 +131,15 @@ class OpenFile:
             candidates = [front, front + XSD_STRING]
         else:
             candidates = [string]
-        return tuple(it for it in candidates if self.graph.number(ROLES[role], it) is not None)
+        return self._known(role, candidates)
 
-    def _tagged(self, role: int, front: str, tag: str) -> Iterator[str]:
-        """The strings of a role with that front, and behind it the tag in any case."""
+    def _tagged(self, role: int, front: str, tag: str) -> Iterator[int]:
+        """The IDs of the strings of a role with that front, and behind it the tag in any case."""
         name = ROLES[role]
         for ids in self.graph.ids_with_prefix(front, name):
-            for string in self.graph.strings(name, ids):
+            for number, string in zip(ids, self.graph.strings(name, ids)):
                 if string[len(front):].lower() == tag:
-                    yield string
+                    yield number
 
     # ---- searches
 
@@ -145,13 +151,20 @@ class OpenFile:
     def count(self, searches: Iterable[Search]) -> int:
         """How many triples the searches find, one after another."""
         return sum(
-            self._of_predicate[p] if s is None and o is None and p is not None else self.graph.matching(s, p, o)
+            self._of_predicate[p] if s is None and o is None and p is not None else self.graph.matching_ids(s, p, o)
             for s, p, o in searches
         )
 
     def has(self, searches: Iterable[Search]) -> bool:
         """Whether one of the searches finds a triple."""
-        return any(self.graph.matching(*search) for search in searches)
+        return any(self.graph.matching_ids(*search) for search in searches)
+
+    def found(self, search: Search) -> Iterator[tuple[int, int, int]]:
+        """The triples that a search finds, as IDs. As most of a join find few, the first page is asked for at once."""
+        page, following = self.graph.page_ids(*search, limit=_FIRST)
+        if following is None:
+            return iter(page)
+        return chain(page, self.graph.find_ids(*search, start=_FIRST))
 
     def triples(self, given: Sequence[Any], searches: list[Search], skip: int = 0) -> Iterator[tuple[Any, Any, Any]]:
         """The triples that searches find, each once, as terms, without the first `skip` ones.

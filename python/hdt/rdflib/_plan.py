@@ -8,24 +8,24 @@ from itertools import product
 from typing import Any, Optional, Union
 
 from hdt.rdflib._counts import counted
-from hdt.rdflib._file import OpenFile, Search, Strings, portions
+from hdt.rdflib._file import Ids, OpenFile, Search, portions
 from hdt.rdflib._store import HDTStore
 from rdflib.paths import Path
 from rdflib.plugins.sparql import CUSTOM_EVALS
 from rdflib.plugins.sparql.sparql import AlreadyBound, FrozenBindings
 
 _NAME = "hdt"
-_ANY: Strings = (None,)
-# A place of a pattern: the strings of a term that is given, or which variable is there.
-Place = Union[Strings, int]
+_ANY: Ids = (None,)
+# A place of a pattern: the IDs of a term that is given, or which variable is there.
+Place = Union[Ids, int]
 
 
 def plan_sparql(on: bool = True) -> None:
     """From now on evaluate queries over an HDTStore by the counts of the file; with `on` false, no longer.
 
     It holds for the whole process and is off at first. Basic graph patterns are joined in an order by counts, over IDs
-    where they can be; COUNT over one pattern is answered by counting. The answers are those of rdflib, in another order
-    where the query gives none. Other stores are evaluated as before.
+    where they can be; COUNT, also of DISTINCT terms, over one pattern is answered by counting. The answers are those of
+    rdflib, in another order where the query gives none. Other stores are evaluated as before.
     """
     if on:
         CUSTOM_EVALS[_NAME] = evaluated
@@ -118,14 +118,14 @@ def _estimate(store: HDTStore, given: list[Any]) -> float:
 class _Option:
     """A pattern that may be the next one of a join.
 
-    `strings` are those of its terms, `bound` the roles of variables that have a value by then, with these variables,
+    `ids` are those of its terms, `bound` the roles of variables that have a value by then, with these variables,
     `slots` the places for the values of the others, and `rest` the patterns that are left after it.
     """
 
-    __slots__ = ("strings", "bound", "slots", "is_open", "loop", "rest")
+    __slots__ = ("ids", "bound", "slots", "is_open", "loop", "rest")
 
     def __init__(self, pattern: list[Place], known: set[int], no_slot: int, rest: int) -> None:
-        self.strings = [place if isinstance(place, tuple) else _ANY for place in pattern]
+        self.ids = [place if isinstance(place, tuple) else _ANY for place in pattern]
         self.bound = [(role, place) for role, place in enumerate(pattern) if isinstance(place, int) and place in known]
         self.slots = [place if isinstance(place, int) and place not in known else no_slot for place in pattern]
         self.is_open = any(slot != no_slot for slot in self.slots)
@@ -150,7 +150,7 @@ class _Join:
     """
 
     def __init__(self, file: OpenFile, ctx: Any, variables: dict[Any, int], predicates: set[Any]) -> None:
-        self.file, self.ctx, self.strings = file, ctx, file.strings
+        self.file, self.ctx, self.ids = file, ctx, file.ids
         self.variables, self.predicates = variables, predicates
         self.patterns: list[list[Place]] = []
         self.values = [0] * (len(variables) + 1)
@@ -219,7 +219,7 @@ class _Join:
         at_s, at_p, at_o = option.slots
         seen: Optional[set[tuple[int, ...]]] = set() if len(searches) > 1 else None
         for search in searches:
-            for s, p, o in self.file.graph.find_ids(*search):
+            for s, p, o in self.file.found(search):
                 node = o if o <= shared else o + more
                 if loop and s != node:
                     continue
@@ -250,15 +250,15 @@ class _Join:
 
     def _searches(self, option: _Option) -> list[Search]:
         """The searches for a pattern at the values of now; none if a value can't be in its place."""
-        s, p, o = option.strings
+        s, p, o = option.ids
         for role, slot in option.bound:
-            strings = self.strings[role][self.values[slot]]
+            ids = self.ids[role][self.values[slot]]
             if role == 0:
-                s = strings
+                s = ids
             elif role == 1:
-                p = strings
+                p = ids
             else:
-                o = strings
+                o = ids
         if len(s) == len(p) == len(o) == 1:
             return [(s[0], p[0], o[0])]
         return list(product(s, p, o))
