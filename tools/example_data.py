@@ -1,6 +1,6 @@
 """Make a graph of real data: the Turtle files of some Debian packages, as N-Triples and as an HDT file.
 
-    python3 -m tools.example_data FOLDER      writes FOLDER/lv2.nt and FOLDER/lv2.hdt
+    python3 -m tools.example_data [FOLDER]    writes FOLDER/lv2.nt and FOLDER/lv2.hdt (out/data)
 
 The packages describe LV2 audio plugins, and the ontologies of Tracker. They are downloaded with `apt-get download` and
 unpacked in a temporary folder, not installed. It needs `serdi` (Debian's package serdi) and `apt-get`.
@@ -57,7 +57,7 @@ def main(words: Sequence[str] | None = None) -> int:
     parser = argparse.ArgumentParser(
         prog="python3 -m tools.example_data", description=__doc__, formatter_class=argparse.RawDescriptionHelpFormatter
     )
-    parser.add_argument("folder", metavar="FOLDER", type=Path)
+    parser.add_argument("folder", metavar="FOLDER", type=Path, nargs="?", default=TOP / "out/data")
     folder = parser.parse_args(words).folder
     missing = [name for name in ("apt-get", "dpkg-deb", "serdi") if shutil.which(name) is None]
     if missing:
