@@ -16,7 +16,7 @@ _hdt() {
     compopt +o default
     COMPREPLY=()
     if ((${#words[@]} == 1)); then
-        mapfile -t COMPREPLY < <(compgen -W "head verify strings string number find answer dump build rewrite help --help --version" -- "$word")
+        mapfile -t COMPREPLY < <(compgen -W "head verify strings string number find answer dump count build rewrite help --help --version" -- "$word")
         return
     fi
     # The options of the command, and how each of its arguments is completed.
@@ -29,14 +29,15 @@ _hdt() {
     find) options="--raw --numbers --count --most --help" arguments=".hdt | | |" ;;
     answer) options="--raw --numbers --count --most --longest-request --help" arguments=".hdt" ;;
     dump) options="--help" arguments=".hdt" ;;
+    count) options="--top --raw --help" arguments=".hdt subject|predicate|object" ;;
     build) options="--base --block-size --progress --help" arguments=".nt .hdt" ;;
     rewrite) options="--block-size --progress --help" arguments=".hdt .hdt" ;;
-    help) options="" arguments="head|verify|strings|string|number|find|answer|dump|build|rewrite|help" ;;
+    help) options="" arguments="head|verify|strings|string|number|find|answer|dump|count|build|rewrite|help" ;;
     esac
     for i in "${words[@]:2}"; do
         case $skip$i in
         =*) skip="" ;;
-        --most | --longest-request | --base | --block-size) skip="=" ;;
+        --most | --longest-request | --top | --base | --block-size) skip="=" ;;
         -?*) ;;
         *) count=$((count + 1)) ;;
         esac

@@ -10,7 +10,7 @@ function __hdt_argument --argument-names command number
         switch "$skip$word"
             case '=*'
                 set skip
-            case --most --longest-request --base --block-size
+            case --most --longest-request --top --base --block-size
                 set skip =
             case '-?*'
             case '*'
@@ -33,6 +33,7 @@ complete -c hdt -n '__hdt_command' -a number -d 'Print the number of a term in a
 complete -c hdt -n '__hdt_command' -a find -d 'Print the triples that have the given terms'
 complete -c hdt -n '__hdt_command' -a answer -d 'Answer requests for triples from the standard input'
 complete -c hdt -n '__hdt_command' -a dump -d 'Print all triples'
+complete -c hdt -n '__hdt_command' -a count -d 'Count the triples of each term of a role'
 complete -c hdt -n '__hdt_command' -a build -d 'Build a file from N-Triples'
 complete -c hdt -n '__hdt_command' -a rewrite -d 'Write a file again in canonical form'
 complete -c hdt -n '__hdt_command' -a help -d 'Print this message or the help of the given subcommand(s)'
@@ -69,6 +70,11 @@ complete -c hdt -n '__hdt_command answer' -l help -s h -d 'Print help'
 complete -c hdt -n '__hdt_argument answer 1' -k -a '(__fish_complete_suffix .hdt)'
 complete -c hdt -n '__hdt_command dump' -l help -s h -d 'Print help'
 complete -c hdt -n '__hdt_argument dump 1' -k -a '(__fish_complete_suffix .hdt)'
+complete -c hdt -n '__hdt_command count' -l top -x -d 'Print the N most frequent terms only'
+complete -c hdt -n '__hdt_command count' -l raw -d 'Print dictionary strings instead of terms'
+complete -c hdt -n '__hdt_command count' -l help -s h -d 'Print help'
+complete -c hdt -n '__hdt_argument count 1' -k -a '(__fish_complete_suffix .hdt)'
+complete -c hdt -n '__hdt_argument count 2' -k -a 'subject predicate object'
 complete -c hdt -n '__hdt_command build' -l base -x -d 'The IRI that stands for the file in its header'
 complete -c hdt -n '__hdt_command build' -l block-size -x -d 'How many strings stand in a block, 1 to 65535'
 complete -c hdt -n '__hdt_command build' -l progress -d 'Tell on standard error how many bytes were read'
@@ -80,4 +86,4 @@ complete -c hdt -n '__hdt_command rewrite' -l progress -d 'Tell on standard erro
 complete -c hdt -n '__hdt_command rewrite' -l help -s h -d 'Print help'
 complete -c hdt -n '__hdt_argument rewrite 1' -k -a '(__fish_complete_suffix .hdt)'
 complete -c hdt -n '__hdt_argument rewrite 2' -k -a '(__fish_complete_suffix .hdt)'
-complete -c hdt -n '__hdt_argument help 1' -k -a 'head verify strings string number find answer dump build rewrite help'
+complete -c hdt -n '__hdt_argument help 1' -k -a 'head verify strings string number find answer dump count build rewrite help'
