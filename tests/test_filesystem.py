@@ -127,7 +127,7 @@ def test_reading_a_closed_standard_input() -> None:
 
 # ---- paths
 
-STRANGE_NAMES = (" blanks at its ends ", "-", "file:", "a\nb", "--", "c.hdt ", "--base")
+STRANGE_NAMES = (" blanks at its ends ", "file:", "a\nb", "--", "c.hdt ", "--base")
 LIKE_ADDRESSES = ("http://three.hdt", "http://./three.hdt", "file://three.hdt")
 # Each is the path of an output that can't be written.
 NO_OUTPUTS = ("", ".", "missing/out.hdt")
