@@ -18,7 +18,7 @@ from hypothesis import strategies as st
 from reference import hdt as reference
 from support.built import PROGRAM, SAMPLES, TOP
 from support.probe import Answer, Argument, Probe, Request
-from support.program import (BAD_OPTIONS, NO_SUCH_NUMBER, READING_FAILED, WRITING_FAILED, Result, Word, brief, done,
+from support.program import (BAD_OPTIONS, NO_SUCH_NUMBER, WRITING_FAILED, Result, Word, brief, done,
                              failed, fault, hdt, hdt_from, hdt_into, piped, run)
 
 V1 = (SAMPLES / "v1.hdt").read_bytes()
