@@ -274,6 +274,8 @@ def are_right(word: str, request: Request, values: list[str], ample: list[str]) 
         return values[at:] == ample[at + 1:]
     if word in WALKING and values == ample[:len(values)]:
         return True
+    if word in ("page", "pages"):
+        return values in pages_without_one(word, ample)
     if word in WITHOUT_ONE:
         skipped, model = WITHOUT_ONE[word]
         strings = [spelled(token) for token in request[skipped:]]
@@ -295,6 +297,22 @@ def writer_without(strings: list[str], refused: int) -> list[str]:
             kept.append(string)
         values += [str(len(kept) - 1), kept[-1]]
     return values
+
+
+def pages_without_one(word: str, ample: list[str]) -> list[list[str]]:
+    """The values of `page` or `pages` if one page ran out of memory: its vector is unchanged, and `pages` ends there."""
+    found, at = [], 0
+    before = 1 if word == "page" else 0  # the number of matches, which needs no memory
+    while at < len(ample):
+        size = at + before + 1
+        end = size + 1 + 3 * int(ample[size])
+        counted = ample[:at + before]
+        if word == "page":
+            found += [ample[:at], [*counted, "1", "0", "0", "0", *ample[end:]]]
+        else:
+            found.append([*counted, "0"])
+        at = end
+    return found
 
 
 # Words that do without one string whose allocation was refused: where the strings begin, and the values without one.

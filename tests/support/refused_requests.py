@@ -409,6 +409,8 @@ def searching() -> Iterator[Request]:
         yield word, *ANY, 1, "-", "-", "-", 1, "-", "-", "-", 1, 1, 1, "-", 1, "-", 2, "-", 1, 2, 1, 1, 2
     for word in ("search_count", "layout_search_count", "graph_layout_search_count"):
         yield word, 1, *ANY, 1, "-", "-", "-", 1, "-", "-", "-", 1, "-", 1, 2
+    yield "page", 1, 1, *ANY, 1, "-", "-", "-", 1, "-", "-", "-", 1, 1, 1, "-", 1, "-", 2, "-", 1, 2, 1, 1, 2
+    yield "pages", 1, *ANY
     for word in ("pattern", "layout_pattern", "graph_layout_pattern", "find_strings"):
         yield word, b"u:a", "-", "-"
         yield word, "-", b"u:p", b"u:z"
@@ -458,6 +460,7 @@ def large_graph() -> Iterator[Request]:
     yield "file", of_document(numbered(3_000))
     yield from [(word,) for word in ("open", "open_tight", "verify", "verify_tight", "layout")]
     yield "search", 1, "-", "-", "-", "-", 1
+    yield "page", 7, 1_000, *ANY
     yield "find_strings", "-", "-", b"http://a/7"
     yield "append_graph_text", BEFORE, 1_000, *ANY
     yield "write_graph", 1_000, "-", "-", 1, "-"
