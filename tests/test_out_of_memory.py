@@ -300,7 +300,7 @@ def writer_without(strings: list[str], refused: int) -> list[str]:
 
 
 def pages_without_one(word: str, ample: list[str]) -> list[list[str]]:
-    """The values of `page` or `pages` if one page ran out of memory: its vector is unchanged, and `pages` ends there."""
+    """The values of `page` or `pages` if one page ran out of memory: its vector is unchanged; `pages` ends there."""
     found, at = [], 0
     before = 1 if word == "page" else 0  # the number of matches, which needs no memory
     while at < len(ample):
