@@ -35,6 +35,7 @@ mod paging;
 mod prefix;
 mod rendering;
 mod search;
+mod skipping;
 mod term_tables;
 mod term_writing;
 mod text;
