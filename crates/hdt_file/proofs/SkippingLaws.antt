@@ -1,19 +1,25 @@
 -- Skipping matches.
-use Rattle.std.proofs.Common.{◌≡◌, ◌≢◌, ◌⊎◌, ◌&&◌, ℕ, ◌+◌, ◌-◌, ◌≤◌, ◌<◌, zero, suc, List, [], ◌∷◌, Bool, true, false, cond, Option, Some, None, filter, length, drop, inl, inr, refl, ap, sym, ◌∙◌, subst, arith, eq-eqb, eqb}
+use Rattle.std.proofs.Common.{◌≡◌, ◌≢◌, ◌⊎◌, ◌&&◌, ℕ, ◌+◌, ◌-◌, ◌≤◌, ◌<◌, zero, suc, List, [], ◌∷◌, Bool, true, false, cond, Option, Some, None, filter, length, drop, inl, inr, slice_get, refl, ap, sym, ◌∙◌, subst, arith, eq-eqb, eqb}
 use Rattle.std.proofs.lemmas.Bool.{and_left, and_right, and_parts, and_from, eqb-true, ne_eqb}
 use Rattle.std.proofs.lemmas.List.{drop-drop, drop_all, drop_more}
 use Rattle.std.proofs.lemmas.Option.{none-some}
 use Rattle.hdt_triples.specs.declared.pattern.Pattern.{Pattern}
-use Rattle.hdt_triples.specs.TripleSequences.{Triple}
+use Rattle.hdt_triples.specs.TripleSequences.{BitmapTriples, Triple, triples_of}
 use Rattle.hdt_triples.specs.Order.{AreAscending, TripleLess, nth_triple}
 use Rattle.hdt_triples.specs.Patterns.{admits, agrees, matches}
 use Rattle.hdt_file.specs.Inside.Consecutive.{HasConsecutiveMatches}
 use Rattle.hdt_file.specs.Paging.{IsNextMatch}
+use Rattle.hdt_file.proofs.PagingLaws.{IsIndexOfNext, index_of_next}
 
 -- Dropping the first elements of a list, one by one.
 pub drop_one : {X : Type 0} (n : ℕ) (x : X) (xs : List X) → n ≢ 0 → drop n (x ∷ xs) ≡ drop (n - 1) xs
 drop_one zero x xs some = absurd (some refl)
 drop_one (suc n) x xs some = ap (λ k. drop k xs) (omega arith)
+
+-- The first match, and its index.
+pub index_of_first : (f g : BitmapTriples) (pattern : Pattern) (t : Triple) (rest : List Triple) → g ≡ f → matches pattern (triples_of f) ≡ t ∷ rest → IsIndexOfNext g pattern 0 0 t
+index_of_first f g pattern t rest same first =
+    index_of_next g pattern 0 0 t (ap (λ (h : BitmapTriples). slice_get (matches pattern (triples_of h)) 0) same ∙ ap (λ xs. slice_get xs 0) first)
 
 -- ---- the triples from one on ascend
 
@@ -59,11 +65,11 @@ module _ (keep : Triple → Bool) (Past : Triple → Type 0)
   pub drop_run : (x : Triple) (xs : List Triple) → AreAscending (x ∷ xs) → keep x ≡ true → (n : ℕ) → filter keep (drop n (x ∷ xs)) ≡ drop n (filter keep (x ∷ xs))
   drop_run x xs h is zero = refl
   drop_run x [] h is (suc n) = none_of_nothing n ∙ sym (nothing_dropped n) ∙ with_first x [] n is
-  drop_run x (y ∷ ys) h is (suc n) = by (next x y (first_less x y ys h) is) ∙ with_first x (y ∷ ys) n is
+  drop_run x (y ∷ ys) h is (suc n) = by (next x y (first_less x y ys h) is) (λ own. drop_run y ys (ascend_after x (y ∷ ys) h) own n) ∙ with_first x (y ∷ ys) n is
     where
-      by : (keep y ≡ true) ⊎ Past y → filter keep (drop n (y ∷ ys)) ≡ drop n (filter keep (y ∷ ys))
-      by (inl own) = drop_run y ys (ascend_after x (y ∷ ys) h) own n
-      by (inr p) =
+      by : (keep y ≡ true) ⊎ Past y → (keep y ≡ true → filter keep (drop n (y ∷ ys)) ≡ drop n (filter keep (y ∷ ys))) → filter keep (drop n (y ∷ ys)) ≡ drop n (filter keep (y ∷ ys))
+      by (inl own) same = same own
+      by (inr p) same =
           let none = none_left y ys (ascend_after x (y ∷ ys) h) p in
           none n ∙ sym (nothing_dropped n) ∙ sym (ap (drop n) (none 0))
 
@@ -83,11 +89,13 @@ abbrev IsRun : Option ℕ → Option ℕ → Type 0
 IsRun s p = s ≡ None → p ≡ None
 
 is_out : (s p : Option ℕ) (x : Triple) → IsPast s p x → keeps s p x ≡ false
+is_out None p x h = absurd h
 is_out (Some s) None x h = and_left (eqb s x.0 && true) true (and_left (eqb s x.0) true (ne_eqb s x.0 (λ e. omega (arith, e, h))))
 is_out (Some s) (Some q) x (inl h) = and_left (eqb s x.0 && eqb q x.1) true (and_left (eqb s x.0) (eqb q x.1) (ne_eqb s x.0 (λ e. omega (arith, e, h))))
 is_out (Some s) (Some q) x (inr h) = and_left (eqb s x.0 && eqb q x.1) true (and_right (eqb s x.0) (eqb q x.1) (ne_eqb q x.1 (λ e. omega (arith, e, h.1))))
 
 is_past : (s p : Option ℕ) (x y : Triple) → TripleLess x y → IsPast s p x → IsPast s p y
+is_past None p x y less h = absurd h
 is_past (Some s) None x y (inl less) h = omega (arith, less, h)
 is_past (Some s) None x y (inr less) h = omega (arith, less.0, h)
 is_past (Some s) (Some q) x y (inl less) (inl h) = inl (omega (arith, less, h))
@@ -137,6 +145,18 @@ skip_consecutive ts pattern run ascend first skip is =
     same_next t u e (inr h) = inr h
 
 -- After the last triple there is no match.
-pub none_after_last : (ts : List Triple) (pattern : Pattern) (n : ℕ) → length ts ≤ n → matches pattern (drop n ts) ≡ []
+none_after_last : (ts : List Triple) (pattern : Pattern) (n : ℕ) → length ts ≤ n → matches pattern (drop n ts) ≡ []
 unfolding matches
 none_after_last ts pattern n past = ap (filter (agrees pattern)) (drop_all n ts past)
+
+-- Without matches none is left,
+pub skip_none : (ts : List Triple) (pattern : Pattern) (len skip : ℕ) → len ≡ length ts → matches pattern ts ≡ [] → matches pattern (drop len ts) ≡ drop skip (matches pattern ts)
+skip_none ts pattern len skip is none = none_after_last ts pattern len (omega (arith, is)) ∙ sym (drop_all skip [] (omega arith)) ∙ sym (ap (drop skip) none)
+
+-- nor if as many are skipped as there are triples.
+pub skip_all : (ts : List Triple) (pattern : Pattern) → HasConsecutiveMatches pattern → AreAscending ts → (len first skip : ℕ) → len ≡ length ts → IsNextMatch ts pattern 0 0 first → len - first ≤ skip
+    → matches pattern (drop len ts) ≡ drop skip (matches pattern ts)
+skip_all ts pattern run ascend len first skip size is past =
+    none_after_last ts pattern len (omega (arith, size))
+    ∙ sym (none_after_last ts pattern (first + skip) (omega (arith, size, past, is.within)))
+    ∙ skip_consecutive ts pattern run ascend first skip is

@@ -65,12 +65,14 @@ impl<'a> Graph<'a> {
         ensures more { steps.old ≤ steps.new }
     {
         self.is_graph();
-        match self.first_match(pattern, steps) {
-            Some(first) if skip < self.len() - first => {
-                self.search_from(pattern, first + skip, steps)
-            }
-            _ => Matches::Empty,
+        let len = self.len();
+        let Some(first) = self.first_match(pattern, steps) else {
+            return self.search_from(pattern, len, steps);
+        };
+        if skip >= len - first {
+            return self.search_from(pattern, len, steps);
         }
+        self.search_from(pattern, first + skip, steps)
     }
 
     /// Returns the matches of a pattern after the first `skip`: those of [`Graph::search`] without them. It allocates
