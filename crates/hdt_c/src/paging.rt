@@ -121,7 +121,15 @@ fn page_text(
     };
     let mut term_writer = TermWriter::with_cache(alloc)?;
     let mut steps = Steps::new();
-    match graph.page_text(alloc, pattern, from, most, &mut term_writer, &mut text, &mut steps)? {
+    match graph.page_text(
+        alloc,
+        pattern,
+        from,
+        most,
+        &mut term_writer,
+        &mut text,
+        &mut steps,
+    )? {
         Some(index) => Ok((text, index)),
         None => Ok((text, ABSENT)),
     }
@@ -142,9 +150,9 @@ fn put_page_text(
 {
     *next = ABSENT;
     match page_text(alloc, graph, pattern, from, most) {
-        Ok((text, index)) => match out.put(alloc, text) {
+        Ok((text, after)) => match out.put(alloc, text) {
             Ok(()) => {
-                *next = index;
+                *next = after;
                 for_reason(0)
             }
             Err(_) => telling_of_fault(DumpFault::OutOfMemory),
