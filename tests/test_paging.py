@@ -1,5 +1,7 @@
-"""Pages of matches and their text: those of the eight patterns from any triple on, joined and one by one, and the matches
-after any number of others, against a filter of all."""
+"""Pages of matches and their text, and the matches after any number of others, against a filter of all triples.
+
+The eight patterns; pages from any triple on, joined and one by one.
+"""
 
 from __future__ import annotations
 
@@ -228,7 +230,8 @@ def test_joined_page_texts_of_many(probe: Probe, many: Graph, most: int) -> None
 
 def test_page_with_a_string_that_is_not_a_term(probe: Probe) -> None:
     """The first such string of the page is reported and the text is unchanged; other pages are not affected."""
-    graph = Graph([(b"u:a", b"u:p", b"u:b"), (b"u:b", b"rel", b"u:b"), (b"u:b", b"u:q", b"rel"), (b"u:c", b"u:p", b"u:b")])
+    graph = Graph([(b"u:a", b"u:p", b"u:o"), (b"u:b", b"rel", b"u:o"), (b"u:b", b"u:q", b"rel"),
+                   (b"u:c", b"u:p", b"u:o")])
     strings = sorted({triple[1] for triple in graph.strings})
     bad = next(n for n, triple in enumerate(graph.strings) if triple[1] == b"rel")
     assert bad == 1 and graph.strings[2][2] == b"rel"
