@@ -52,4 +52,4 @@ pub use layout::Layout;
 pub use opening::{layouts_are_graphs, one_layout, open, verify};
 pub use term_writing::TermWriter;
 pub use text::{append_graph_text, graph_text, layout_text, write_graph};
-pub use tight::{one_tight_layout, open_tight, verify_tight};
+pub use tight::{SectionId, one_tight_layout, open_tight, verify_tight};
