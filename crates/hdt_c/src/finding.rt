@@ -47,7 +47,6 @@ fn put_matches(found: Matches<'_>, buffer: &mut [[u64; 3]]) -> u64
 }
 
 /// The matches of a pattern after the first `skip`, or none without a pattern.
-#[tactic(auto, using(crate::proofs::Dropping::drop_none), unfolding(hdt_triples::specs::Remaining::remaining_matches))]
 fn matches_after<'g>(graph: &'g Graph<'static>, pattern: Option<Pattern>, skip: u64) -> Matches<'g>
     ensures { remaining_matches result ≡ drop skip (matches_if_given (graph_view graph.now) pattern) }
 {
