@@ -120,7 +120,15 @@ fn append_pages(
     let mut steps = Steps::new();
     let mut from = from;
     'pages: for _ in 0..count {
-        match graph.page_text(args.alloc, pattern, from, most, &mut term_writer, out, &mut steps) {
+        match graph.page_text(
+            args.alloc,
+            pattern,
+            from,
+            most,
+            &mut term_writer,
+            out,
+            &mut steps,
+        ) {
             Ok(next) => {
                 reply.optional_number(next);
                 match next {
