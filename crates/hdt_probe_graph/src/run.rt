@@ -38,6 +38,7 @@ fn reply_tool_fault(fault: ToolFault, reply: &mut Reply) {
         ToolFault::Input(fault) => reply_line_fault(fault, reply),
         ToolFault::NoTriples => reply.error("no triples"),
         ToolFault::NoSuchTerm => reply.error("no such term"),
+        ToolFault::NoMatch => reply.error("no match"),
         ToolFault::NoSuchNumber => reply.error("no such number"),
         ToolFault::NotATerm(role, number) => reply.not_a_term(role, number),
         ToolFault::BadOptions => reply.error("bad options"),

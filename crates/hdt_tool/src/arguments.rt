@@ -254,6 +254,9 @@ pub(crate) fn find_action<'m>(alloc: Global, matches: &ArgMatches<'m>) -> Result
     let predicate = pattern_argument(alloc, matches, TermArgument::Predicate)?;
     let object = pattern_argument(alloc, matches, TermArgument::Object)?;
     let given = [subject, predicate, object];
+    if has_flag(matches, "quiet") {
+        return Ok(Action::Exists { given });
+    }
     let most = optional_number(matches, "most");
     Ok(find_or_search(given, format_option(matches), most))
 }

@@ -11,7 +11,7 @@ use crate::counts::count_lines;
 use crate::fault::ToolFault;
 use crate::printed_reports::{head_text, verdict};
 use crate::printed_strings::{number_text, print_strings, string_text};
-use crate::printed_triples::triples_text;
+use crate::printed_triples::{check_match, triples_text};
 use crate::request::{Action, OutputFormat};
 use hdt_dict::Role;
 use hdt_file::{Layout, open, read_head, verify, verify_tight};
@@ -72,6 +72,10 @@ pub(crate) fn file_text(alloc: Global, action: &Action, bytes: &[u8]) -> Result<
             format,
             most,
         } => triples_text(alloc, &Layout::read(alloc, bytes)?, given, *format, *most),
+        Action::Exists { given } => {
+            check_match(&Layout::read(alloc, bytes)?, given)?;
+            Ok(Vec::new(alloc))
+        }
         Action::Count { role, top, raw } => {
             let graph = open(alloc, bytes)?;
             count_lines(alloc, &graph, *role, *top, *raw)

@@ -58,6 +58,11 @@ pub enum Action {
         /// The maximum number of triples; `None` for no limit.
         most: Option<u64>,
     },
+    /// Finds out whether there is a triple with these dictionary strings, and prints nothing.
+    Exists {
+        /// The strings of subject, predicate and object; `None` matches any.
+        given: [Option<Vec<u8>>; 3],
+    },
     /// Prints the number of triples of each term of a role.
     Count {
         /// The role.

@@ -84,11 +84,11 @@ abbrev pub find_pattern_command : App
 find_pattern_command =
     with_rule (with_rule (with_rule (file_command (codes "find")) (required_arg (codes "S"))) (required_arg (codes "P"))) (required_arg (codes "O"))
 
--- `find FILE S P O`, with `--raw`, `--numbers`, `--count` and `--most`
+-- `find FILE S P O`, with `--raw`, `--numbers`, `--count`, `--quiet` and `--most`
 abbrev pub find_command : App
 find_command =
-    with_rule (with_rule (with_rule (with_rule find_pattern_command (flag_arg (codes "raw"))) (flag_arg (codes "numbers")))
-    (flag_arg (codes "count"))) most_option
+    with_rule (with_rule (with_rule (with_rule (with_rule find_pattern_command (flag_arg (codes "raw"))) (flag_arg (codes "numbers")))
+    (flag_arg (codes "count"))) (flag_arg (codes "quiet"))) most_option
 
 -- `dump FILE`
 abbrev pub dump_command : App

@@ -178,4 +178,6 @@ pub(crate) const NUMBERS_HELP: &str = "Print the numbers of each triple";
 
 pub(crate) const COUNT_HELP: &str = "Print how many there are, and no triples";
 
+pub(crate) const QUIET_HELP: &str = "Print nothing: exit 0 if a triple matches, else 1";
+
 pub(crate) const MOST_HELP: &str = "Take the first N triples alone";
