@@ -3,6 +3,7 @@ mod OutPaths
 mod ParsedArguments
 mod StringLines
 mod CountLines
+mod ListedLines
 mod LineChecking
 mod Lints
 mod Pieces

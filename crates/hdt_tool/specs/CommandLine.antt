@@ -67,6 +67,11 @@ ParsesAsFlag entry flag = (IsUsed entry → flag ≡ true) × (IsUnused entry �
 abbrev pub ParsesAsPart : List Row → TermArgument → Option (Vec ℕ Global) → Type 0
 ParsesAsPart rows word x = ParsesAsStringOrAny (one_of (codes "raw") rows) (first_of (argument_name word) rows) x
 
+-- The prefix is the text of `--prefix`, or empty without it.
+abbrev pub ParsesAsPrefix : Option Text → List ℕ → Type 0
+ParsesAsPrefix None prefix = prefix ≡ []
+ParsesAsPrefix (Some text) prefix = prefix ≡ text
+
 -- The arguments S, P and O mean these strings, or any.
 pub record ParsesAsPattern (rows : List Row) (given : GivenStrings) : Type 0 where
   pub subject : Option (Vec ℕ Global)
@@ -132,6 +137,9 @@ IsFileAction name rows action.Head = name ≡ codes "head"
 IsFileAction name rows action.Verify = IsVerifyCommand name rows false
 IsFileAction name rows action.VerifyTight = IsVerifyCommand name rows true
 IsFileAction name rows (action.Strings role) = (name ≡ codes "strings") × (first_of (codes "ROLE") rows ≡ Some (role_name role))
+    × ParsesAsFlag (one_of (codes "terms") rows) false × (first_of (codes "prefix") rows ≡ None)
+IsFileAction name rows (action.ListStrings role prefix terms) = (name ≡ codes "strings") × (first_of (codes "ROLE") rows ≡ Some (role_name role))
+    × ParsesAsFlag (one_of (codes "terms") rows) terms × ParsesAsPrefix (first_of (codes "prefix") rows) prefix.items
 IsFileAction name rows (action.Nth role n) = (name ≡ codes "string") × (first_of (codes "ROLE") rows ≡ Some (role_name role))
     × ParsesAsNumber 64 (one_of (codes "N") rows) n
 IsFileAction name rows (action.Number role x) = (name ≡ codes "number") × (first_of (codes "ROLE") rows ≡ Some (role_name role))

@@ -29,6 +29,7 @@ mod fault;
 mod files;
 mod line_parser;
 mod lint;
+mod listed_strings;
 mod output_file;
 mod printed_reports;
 mod printed_strings;

@@ -9,6 +9,7 @@ ghost use Rattle.hdt_tool.specs.declared.request.Action.TheVariants as Action;
 
 use crate::counts::count_lines;
 use crate::fault::ToolFault;
+use crate::listed_strings::listed_text;
 use crate::printed_reports::{head_text, verdict};
 use crate::printed_strings::{number_text, print_strings, string_text};
 use crate::printed_triples::{check_match, triples_text};
@@ -57,6 +58,11 @@ pub(crate) fn file_text(alloc: Global, action: &Action, bytes: &[u8]) -> Result<
         Action::Head => Ok(head_text(alloc, &read_head(bytes)?)?),
         Action::Verify => Ok(verdict(alloc, verify(alloc, bytes)?)?),
         Action::VerifyTight => Ok(verdict(alloc, verify_tight(alloc, bytes)?)?),
+        Action::ListStrings {
+            role,
+            prefix,
+            terms,
+        } => listed_text(alloc, &Layout::read(alloc, bytes)?, *role, prefix, *terms),
         Action::Nth(role, number) => {
             string_text(alloc, &Layout::read(alloc, bytes)?, *role, *number)
         }

@@ -38,6 +38,15 @@ pub enum Action {
     VerifyTight,
     /// Prints all strings of a role, with their IDs.
     Strings(Role),
+    /// Prints the strings of a role that begin with a prefix.
+    ListStrings {
+        /// The role.
+        role: Role,
+        /// The bytes with which the strings begin; empty for all strings.
+        prefix: Vec<u8>,
+        /// Whether N-Triples terms are printed instead of IDs and strings.
+        terms: bool,
+    },
     /// Prints the string of a role with this ID, from 1.
     Nth(Role, u64),
     /// Prints the ID that this dictionary string has in a role.

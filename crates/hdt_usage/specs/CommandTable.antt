@@ -53,9 +53,14 @@ progress_flag = flag_arg (codes "progress")
 abbrev pub verify_command : App
 verify_command = with_rule (with_rule (file_command (codes "verify")) (flag_arg (codes "tight"))) progress_flag
 
--- `strings FILE ROLE`
+-- `--name TEXT`, without a default.
+abbrev pub text_option : Text → Rule
+text_option id = record (new_rule id) { long = Some id; value_names = 1 }
+
+-- `strings FILE ROLE`, with `--prefix` and `--terms`
 abbrev pub strings_command : Names → App
-strings_command names = with_rule (file_command (codes "strings")) (role_arg names)
+strings_command names =
+    with_rule (with_rule (with_rule (file_command (codes "strings")) (role_arg names)) (text_option (codes "prefix"))) (flag_arg (codes "terms"))
 
 -- `string FILE ROLE N`
 abbrev pub string_command : Names → App

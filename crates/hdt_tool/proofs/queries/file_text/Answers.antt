@@ -8,10 +8,11 @@ use Rattle.hdt_tool.specs.declared.fault.ToolFault.TheVariants.{OutOfMemory, NoS
 use Rattle.hdt_tool.specs.declared.request.Action.{Action}
 use Rattle.hdt_tool.specs.declared.request.OutputFormat.{OutputFormat}
 use Rattle.hdt_tool.specs.Outcomes.{IsFaultOfBytes, Prints}
+use Rattle.hdt_tool.specs.ListedStrings.{IsListFault, PrintsListed}
 use Rattle.hdt_tool.specs.StringsText.{PrintsNumber}
 use Rattle.hdt_tool.specs.TriplesText.{PrintsFound}
 use Rattle.hdt_tool.specs.Verdict.{verdict}
-use Rattle.hdt_tool.proofs.InputFaults.{no_counts, no_find, no_number, no_term, no_text}
+use Rattle.hdt_tool.proofs.InputFaults.{no_counts, no_find, no_listing, no_number, no_term, no_text}
 use Rattle.hdt_tool.proofs.queries.file_text.Goals as goal
 
 pub returns-in_ok-verdict-in-Verify-clause-ok : goal.returns-in_ok-verdict-in-Verify-clause-ok
@@ -105,3 +106,27 @@ pub returns-in_ok-read-in-Answer-clause-ok : goal.returns-in_ok-read-in-Answer-c
 returns-in_ok-read-in-Answer-clause-ok c =
     subst (λ (a : Action). Prints a c.args.bytes.now c.new.result.items) (sym c.in-Answer.is)
     (record { graph = layout_view c.in_ok-read-in-Answer.field-0; encoded = c.in_ok-read-in-Answer.ensures.found; holds = c.new.ensures.items })
+
+pub returns-in_ok-read-in-ListStrings-clause-ok : goal.returns-in_ok-read-in-ListStrings-clause-ok
+returns-in_ok-read-in-ListStrings-clause-ok c =
+    let graph = layout_view c.in_ok-read-in-ListStrings.field-0 in
+    IfOk-weaker c.listed_text.result _ _
+    (λ text h. subst (λ (a : Action). Prints a c.args.bytes.now text.items) (sym c.in-ListStrings.is) (record {
+      graph = graph;
+      encoded = c.in_ok-read-in-ListStrings.ensures.found;
+      holds = subst (λ (x : List ℕ). PrintsListed (role_strings graph.dictionary c.in-ListStrings.role) x c.in-ListStrings.terms text.items) c.deref-in-ListStrings.ensures.value h;
+    })) c.listed_text.ensures.ok
+
+pub returns-in_ok-read-in-ListStrings-clause-err : goal.returns-in_ok-read-in-ListStrings-clause-err
+returns-in_ok-read-in-ListStrings-clause-err c =
+    let graph = layout_view c.in_ok-read-in-ListStrings.field-0 in
+    IfErr-weaker c.listed_text.result _ _
+    (λ e h. subst (λ (a : Action). IsFaultOfBytes a c.args.bytes.now e) (sym c.in-ListStrings.is)
+    (no_listing c.in-ListStrings.role c.in-ListStrings.prefix c.in-ListStrings.terms c.args.bytes.now graph e c.in_ok-read-in-ListStrings.ensures.found
+    (subst (λ (x : List ℕ). IsListFault (role_strings graph.dictionary c.in-ListStrings.role) x c.in-ListStrings.role c.in-ListStrings.terms e) c.deref-in-ListStrings.ensures.value h)))
+    c.listed_text.ensures.err
+
+pub returns-in_ok-check_match-clause-ok : goal.returns-in_ok-check_match-clause-ok
+returns-in_ok-check_match-clause-ok c =
+    subst (λ (a : Action). Prints a c.args.bytes.now c.new.result.items) (sym c.in-Exists.is)
+    (record { graph = layout_view c.in_ok-read-in-Exists.field-0; encoded = c.in_ok-read-in-Exists.ensures.found; holds = (c.in_ok-check_match.ensures.ok, c.new.ensures.items) })
