@@ -94,7 +94,7 @@ pub id_fails : (strings : List (List ℕ)) (prefix : List ℕ) (role : Role) (te
 id_fails strings prefix role terms ids at number d text string e h lt is lines there (inl out) = subst (IsListFault strings prefix role terms) (sym out) tt
 id_fails strings prefix role terms ids at number d text string e h lt is lines there (inr fails) =
     let cut : ids ≡ take at ids ++ number ∷ drop (suc at) ids = around ids at d lt ∙ ap (λ n. take at ids ++ n ∷ drop (suc at) ids) (sym is) in
-    subst (IsListFault strings prefix role terms) (sym fails.0) (refl, fails.1, (ids, h, record {
+    let last : IsFirstNotListed strings ids number = record {
       front = take at ids;
       behind = drop (suc at) ids;
       text = text;
@@ -103,4 +103,5 @@ id_fails strings prefix role terms ids at number d text string e h lt is lines t
       string = string;
       there = there;
       none = fails.2;
-    }))
+    } in
+    subst (IsListFault strings prefix role terms) (sym fails.0) (refl, (fails.1, (ids, h, last)))

@@ -263,7 +263,7 @@ pub(crate) fn find_action<'m>(alloc: Global, matches: &ArgMatches<'m>) -> Result
 
 /// The bytes of a text; none without a text.
 fn bytes_or_none(alloc: Global, text: Option<&str>) -> Result<Vec<u8>, AllocError>
-    ensures { IfOk result (λ bytes. ParsesAsPrefix (option_map (λ text. text.now) text) bytes.items) }
+    ensures { IfOk result (λ bytes. ParsesAsPrefix (option_map (λ given. given.now) text.entry) bytes.items) }
 {
     match text {
         Some(text) => text.as_bytes().to_vec(alloc),
