@@ -53,14 +53,14 @@ progress_flag = flag_arg (codes "progress")
 abbrev pub verify_command : App
 verify_command = with_rule (with_rule (file_command (codes "verify")) (flag_arg (codes "tight"))) progress_flag
 
--- `--name TEXT`, without a default.
-abbrev pub text_option : Text → Rule
-text_option id = record (new_rule id) { long = Some id; value_names = 1 }
+-- `--prefix STR`: a text; no default.
+abbrev pub prefix_option : Rule
+prefix_option = record (new_rule (codes "prefix")) { long = Some (codes "prefix"); value_names = 1 }
 
 -- `strings FILE ROLE`, with `--prefix` and `--terms`
 abbrev pub strings_command : Names → App
 strings_command names =
-    with_rule (with_rule (with_rule (file_command (codes "strings")) (role_arg names)) (text_option (codes "prefix"))) (flag_arg (codes "terms"))
+    with_rule (with_rule (with_rule (file_command (codes "strings")) (role_arg names)) prefix_option) (flag_arg (codes "terms"))
 
 -- `string FILE ROLE N`
 abbrev pub string_command : Names → App
