@@ -188,6 +188,7 @@ fn tool_fault_of(args: &mut Args<'_>) -> ToolFault {
         "input" => ToolFault::Input(line_fault_of(args)),
         "no_triples" => ToolFault::NoTriples,
         "no_such_term" => ToolFault::NoSuchTerm,
+        "no_match" => ToolFault::NoMatch,
         "no_such_number" => ToolFault::NoSuchNumber,
         "not_a_term" => ToolFault::NotATerm(args.role(), args.number()),
         "bad_options" => ToolFault::BadOptions,
