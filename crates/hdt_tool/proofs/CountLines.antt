@@ -116,7 +116,7 @@ walk_fails g role raw w v n text e h s fails =
     line_fails g role None raw (role_ids g role) (range_with_len 1 w.given) (range_with_len (w.given + 2) (length v.ahead)) text n e refl
     (ap (range_with_len 1) len ∙ range_more w.given v.ahead ∙ ap (λ k. range_with_len 1 w.given ++ k ∷ range_with_len (w.given + 2) (length v.ahead)) (sym s.number)) h.lines fails
 
-none_ahead : (w : Progress) (ahead : List (List ℕ)) (r : Option ℕ) → r ≡ next_id w ahead → ((n : ℕ) → r ≡ Some n → ⊥) → ahead ≡ []
+pub none_ahead : (w : Progress) (ahead : List (List ℕ)) (r : Option ℕ) → r ≡ next_id w ahead → ((n : ℕ) → r ≡ Some n → ⊥) → ahead ≡ []
 none_ahead w [] r e not = refl
 none_ahead w (x ∷ xs) r e not = absurd (not (w.given + 1) e)
 

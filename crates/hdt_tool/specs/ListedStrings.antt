@@ -1,5 +1,5 @@
 -- The output of `strings` with `--prefix` or `--terms`: the strings of a role that begin with a prefix.
-use Rattle.std.specs.Prelude.{◌≡◌, ◌≢◌, ◌↔◌, ◌-◌, ℕ, Bool, true, false, List, [], ◌∷◌, ◌++◌, Some, length}
+use Rattle.std.specs.Prelude.{◌≡◌, ◌≢◌, ◌↔◌, ◌-◌, ◌<◌, ℕ, suc, Bool, true, false, List, [], ◌∷◌, ◌++◌, Some, get_or, length}
 use Rattle.std.specs.List.{range_with_len}
 use Rattle.hdt_wire.specs.declared.role.Role.{Role}
 use Rattle.hdt_terms.specs.declared.triple.Term.{Term}
@@ -24,6 +24,11 @@ pub record ArePrefixIds (strings : List (List ℕ)) (prefix ids : List ℕ) : Ty
   pub exact : (n : ℕ) → IsInRanges ranges n ↔ SomeBeginsWith prefix (string_at_id strings n)
   pub ascend : RangesAscend ranges (length strings)
   pub ids_are : ids ≡ range_ids ranges
+
+-- The IDs ascend, and each has a string.
+pub record AreAscendingIds (strings : List (List ℕ)) (ids : List ℕ) : Type 0 where
+  pub there : (i d : ℕ) → i < length ids → (string : List ℕ) × (string_at_id strings (get_or ids i d) ≡ Some string)
+  pub ascend : (i d : ℕ) → suc i < length ids → get_or ids i d < get_or ids (suc i) d
 
 -- ---- lines
 
@@ -65,6 +70,12 @@ pub record IsFirstNotListed (strings : List (List ℕ)) (ids : List ℕ) (n : �
   pub string : List ℕ
   pub there : string_at_id strings n ≡ Some string
   pub none : IsNoTermString string
+
+-- The error is one that printing these IDs of the role may return.
+abbrev pub IsLineFault : List (List ℕ) → List ℕ → Role → Bool → ToolFault → Type 0
+IsLineFault strings ids role terms (NotATerm other n) = (other ≡ role) × (terms ≡ true) × IsFirstNotListed strings ids n
+IsLineFault strings ids role terms OutOfMemory = Unit {0}
+IsLineFault strings ids role terms fault = ⊥
 
 -- With `--terms`, ID n of the role is the first one to print whose string is not a term.
 abbrev pub HasUnlistedTerm : List (List ℕ) → List ℕ → Bool → ℕ → Type 0

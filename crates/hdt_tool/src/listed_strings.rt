@@ -3,7 +3,7 @@ ghost use Rattle.std.specs.Prelude.{◌≡◌, ◌++◌, ◌-◌, ◌⊎◌, ◌
 ghost use Rattle.std.specs.List.{range_with_len};
 ghost use Rattle.hdt_dict.specs.Dictionary.{role_strings};
 ghost use Rattle.hdt_file.specs.LayoutView.{layout_view};
-ghost use Rattle.hdt_tool.specs.ListedStrings.{ArePrefixIds, IsListedLine, IsListFault, IsNoTermString, PrintsListed};
+ghost use Rattle.hdt_tool.specs.ListedStrings.{AreAscendingIds, AreLinesOfIds, ArePrefixIds, IsLineFault, IsListedLine, IsListFault, IsNoTermString, PrintsListed};
 
 use crate::counts::put_shown;
 use crate::fault::ToolFault;
@@ -66,10 +66,83 @@ fn put_listed_line(
     }
 }
 
+/// The lines of a few IDs. Decodes a block for each.
+fn look_up_lines(
+    alloc: Global,
+    layout: &Layout<'_>,
+    role: Role,
+    terms: bool,
+    ids: &[u64],
+) -> Result<Vec<u8>, ToolFault>
+    requires { AreAscendingIds (role_strings (layout_view layout.now).dictionary role) ids.now }
+    ensures ok { IfOk result (λ text. AreLinesOfIds (role_strings (layout_view layout.now).dictionary role) terms ids.now text.items) }
+    ensures err { IfErr result (IsLineFault (role_strings (layout_view layout.now).dictionary role) ids.now role terms) }
+{
+    let mut text = Vec::new(alloc);
+    let mut string = Vec::new(alloc);
+    'ids: for at in 0..ids.len() {
+        let number = ids[at];
+        string.clear();
+        layout.string_of(role, number, &mut string, &mut Steps::new())?;
+        put_listed_line(role, number, terms, &string, &mut text)?;
+    }
+    Ok(text)
+}
+
+/// The lines of many IDs. Decodes each string of the role up to the last ID once.
+fn walk_lines(
+    alloc: Global,
+    layout: &Layout<'_>,
+    role: Role,
+    terms: bool,
+    ids: &[u64],
+) -> Result<Vec<u8>, ToolFault>
+    requires { AreAscendingIds (role_strings (layout_view layout.now).dictionary role) ids.now }
+    ensures ok { IfOk result (λ text. AreLinesOfIds (role_strings (layout_view layout.now).dictionary role) terms ids.now text.items) }
+    ensures err { IfErr result (IsLineFault (role_strings (layout_view layout.now).dictionary role) ids.now role terms) }
+{
+    let mut text = Vec::new(alloc);
+    let mut strings = layout.strings(alloc, role);
+    let mut at = 0;
+    'strings: while at < ids.len() {
+        let Some(number) = strings.next()? else {
+            return Ok(text);
+        };
+        if number != ids[at] {
+            continue;
+        }
+        put_listed_line(role, number, terms, strings.last(), &mut text)?;
+        at += 1;
+    }
+    Ok(text)
+}
+
+/// Up to this many strings are decoded by themselves. So they cost little in any file, whatever its block size.
+const FEW: usize = 64;
+
+/// The lines of these IDs.
+fn id_lines(
+    alloc: Global,
+    layout: &Layout<'_>,
+    role: Role,
+    terms: bool,
+    ids: &[u64],
+) -> Result<Vec<u8>, ToolFault>
+    requires { AreAscendingIds (role_strings (layout_view layout.now).dictionary role) ids.now }
+    ensures ok { IfOk result (λ text. AreLinesOfIds (role_strings (layout_view layout.now).dictionary role) terms ids.now text.items) }
+    ensures err { IfErr result (IsLineFault (role_strings (layout_view layout.now).dictionary role) ids.now role terms) }
+{
+    if ids.len() <= FEW {
+        return look_up_lines(alloc, layout, role, terms, ids);
+    }
+    walk_lines(alloc, layout, role, terms, ids)
+}
+
 /// The lines of the strings of a role that begin with a prefix, in the order of their IDs: with `terms` the terms, else
 /// each ID, a tab and the escaped string.
 ///
-/// Time: a binary search for the IDs, and for each line decoding a block. Memory: the text, and 8 bytes for each line.
+/// Time: a binary search for the IDs, and decoding a block for each line, or from 65 lines on each string of the role up
+/// to the last line's. Memory: the text, and 8 bytes for each line.
 ///
 /// # Errors
 ///
@@ -85,13 +158,5 @@ pub(crate) fn listed_text(
     ensures err { IfErr result (IsListFault (role_strings (layout_view layout.now).dictionary role) prefix.now role terms) }
 {
     let ids = prefix_ids(alloc, layout, role, prefix)?;
-    let mut text = Vec::new(alloc);
-    let mut string = Vec::new(alloc);
-    'ids: for at in 0..ids.len() {
-        let number = ids[at];
-        string.clear();
-        layout.string_of(role, number, &mut string, &mut Steps::new())?;
-        put_listed_line(role, number, terms, &string, &mut text)?;
-    }
-    Ok(text)
+    id_lines(alloc, layout, role, terms, &ids)
 }
