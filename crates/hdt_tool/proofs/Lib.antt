@@ -3,6 +3,7 @@ mod OutPaths
 mod ParsedArguments
 mod StringLines
 mod CountLines
+mod ListedLines
 mod Pieces
 mod InputFaults
 mod Outputs

@@ -1,6 +1,7 @@
 pub mod Escaping
 pub mod HeadText
 pub mod StringsText
+pub mod ListedStrings
 pub mod TriplesText
 pub mod TermCounts
 pub mod Verdict

@@ -57,9 +57,14 @@ progress_flag = flag_arg (codes "progress")
 abbrev pub verify_command : App
 verify_command = with_rule (with_rule (file_command (codes "verify")) (flag_arg (codes "tight"))) progress_flag
 
--- `strings FILE ROLE`
+-- `--prefix STR`: a text; no default.
+abbrev pub prefix_option : Rule
+prefix_option = record (new_rule (codes "prefix")) { long = Some (codes "prefix"); value_names = 1 }
+
+-- `strings FILE ROLE`, with `--prefix` and `--terms`
 abbrev pub strings_command : Names → App
-strings_command names = with_rule (file_command (codes "strings")) (role_arg names)
+strings_command names =
+    with_rule (with_rule (with_rule (file_command (codes "strings")) (role_arg names)) prefix_option) (flag_arg (codes "terms"))
 
 -- `string FILE ROLE N`
 abbrev pub string_command : Names → App
@@ -88,11 +93,11 @@ abbrev pub find_pattern_command : App
 find_pattern_command =
     with_rule (with_rule (with_rule (file_command (codes "find")) (required_arg (codes "S"))) (required_arg (codes "P"))) (required_arg (codes "O"))
 
--- `find FILE S P O`, with `--raw`, `--numbers`, `--count` and `--most`
+-- `find FILE S P O`, with `--raw`, `--numbers`, `--count`, `--quiet` and `--most`
 abbrev pub find_command : App
 find_command =
-    with_rule (with_rule (with_rule (with_rule find_pattern_command (flag_arg (codes "raw"))) (flag_arg (codes "numbers")))
-    (flag_arg (codes "count"))) most_option
+    with_rule (with_rule (with_rule (with_rule (with_rule find_pattern_command (flag_arg (codes "raw"))) (flag_arg (codes "numbers")))
+    (flag_arg (codes "count"))) (flag_arg (codes "quiet"))) most_option
 
 -- `dump FILE`
 abbrev pub dump_command : App
