@@ -11,6 +11,7 @@
 //! ```
 #![tactic(auto)]
 
+mod arguments;
 mod commands;
 mod help;
 
