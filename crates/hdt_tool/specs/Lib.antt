@@ -4,6 +4,8 @@ pub mod StringsText
 pub mod TriplesText
 pub mod TermCounts
 pub mod Verdict
+pub mod InfoText
+pub mod Info
 pub mod BuiltText
 pub mod Outcomes
 pub mod Dialogue

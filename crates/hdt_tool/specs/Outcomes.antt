@@ -22,10 +22,11 @@ use Rattle.hdt_tool.specs.declared.fault.ToolFault.{ToolFault}
 use Rattle.hdt_tool.specs.declared.fault.ToolFault.TheVariants.{File, Input, NoTriples, NoSuchTerm, NoSuchNumber, NotATerm, BadOptions, Read, Write, OutOfMemory}
 use Rattle.hdt_tool.specs.declared.request.Action.{Action}
 use Rattle.hdt_tool.specs.declared.request.Request.{Request}
-use Rattle.hdt_tool.specs.declared.request.Action.TheVariants.{Head, Verify, VerifyTight, Strings, Nth, Number, Find, Search, Count, Answer, Build, Rewrite}
+use Rattle.hdt_tool.specs.declared.request.Action.TheVariants.{Head, Verify, VerifyTight, Info, Strings, Nth, Number, Find, Search, Count, Answer, Build, Rewrite}
 use Rattle.hdt_tool.specs.BuiltText.{built_line, rewritten_line}
 use Rattle.hdt_tool.specs.HeadText.{head_text}
 use Rattle.hdt_tool.specs.ErrorLines.{fault_status}
+use Rattle.hdt_tool.specs.Info.{PrintsInfo}
 use Rattle.hdt_tool.specs.Verdict.{verdict}
 use Rattle.hdt_tool.specs.StringsText.{string_lines, PrintsString, PrintsNumber}
 use Rattle.hdt_tool.specs.TermCounts.{IsCountFault, PrintsCounts}
@@ -60,6 +61,7 @@ abbrev pub Prints : Action → List ℕ → List ℕ → Type 0
 Prints Head bytes text = PrintsHead bytes text
 Prints Verify bytes text = IsLayoutWith bytes (λ graph. text ≡ verdict (graph_counts graph))
 Prints VerifyTight bytes text = PrintsTightVerdict bytes text
+Prints (Info json) bytes text = PrintsInfo json bytes text
 Prints (Strings role) bytes text = HasRoleStringsWith bytes role (λ strings. text ≡ string_lines 1 strings)
 Prints (Nth role n) bytes text = HasRoleStringsWith bytes role (λ strings. PrintsString strings n text)
 Prints (Number role x) bytes text = HasRoleStringsWith bytes role (λ strings. PrintsNumber strings x.items text)

@@ -8,7 +8,7 @@ ghost use Rattle.hdt_tool.specs.declared.request.Action.{Action};
 ghost use Rattle.hdt_tool.specs.declared.request.Request.{Request};
 
 use crate::arguments::{
-    answer_action, build_options, count_action, find_action, has_flag, missing,
+    answer_action, build_options, count_action, find_action, has_flag, info_action, missing,
     required_block_size, required_id, required_role, required_term, required_text, verify_action,
 };
 use crate::fault::UsageFault;
@@ -51,6 +51,7 @@ fn file_action<'m>(
     match name {
         "head" => Ok(Action::Head),
         "verify" => Ok(verify_action(matches)),
+        "info" => Ok(info_action(matches)),
         "strings" => Ok(Action::Strings(required_role(alloc, matches)?)),
         "string" => Ok(Action::Nth(required_role(alloc, matches)?, required_id(alloc, matches)?)),
         "number" => Ok(Action::Number(
