@@ -29,5 +29,5 @@ pub record PrintsInfo (json : Bool) (bytes text : List ℕ) : Type 0 where
   pub tight : Bool
   pub is_tight : IsTrue tight ↔ IsTightFile bytes
   pub canonical : Bool
-  pub is_canonical : IsTrue canonical ↔ IsRewrittenAs info.predicates.block_size bytes
+  pub is_canonical : IsTrue canonical ↔ IsRewrittenAs info.dictionary.predicates.block_size bytes
   pub printed : text ≡ info_text json info tight canonical

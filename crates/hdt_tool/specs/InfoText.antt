@@ -3,6 +3,8 @@
 use Rattle.std.specs.Prelude.{ℕ, ◌*◌, ◌/◌, ◌%◌, Bool, true, false, List, [], ◌∷◌, ◌++◌, codes, max}
 use Rattle.std.specs.Fmt.{decimal}
 use Rattle.hdt_file.specs.declared.info.SectionInfo.{SectionInfo}
+use Rattle.hdt_file.specs.declared.info.DictionaryInfo.{DictionaryInfo}
+use Rattle.hdt_file.specs.declared.info.EntryBits.{EntryBits}
 use Rattle.hdt_file.specs.declared.info.FileInfo.{FileInfo}
 
 -- A name, up to its value.
@@ -16,15 +18,15 @@ value_end true = codes ","
 value_end false = 10 ∷ []
 
 -- A number with its name.
-abbrev pub number_text : Bool → List ℕ → ℕ → List ℕ
+unfoldable pub number_text : Bool → List ℕ → ℕ → List ℕ
 number_text json name n = name_text json name ++ (decimal n ++ value_end json)
 
 -- total / count with one digit after the point, rounded down; 0.0 if both are 0.
-abbrev pub mean : ℕ → ℕ → List ℕ
+unfoldable pub mean : ℕ → ℕ → List ℕ
 mean total count = decimal (total / max count 1) ++ 46 ∷ decimal (total % max count 1 * 10 / max count 1)
 
 -- A mean with its name.
-abbrev pub mean_text : Bool → List ℕ → ℕ → ℕ → List ℕ
+unfoldable pub mean_text : Bool → List ℕ → ℕ → ℕ → List ℕ
 mean_text json name total count = name_text json name ++ (mean total count ++ value_end json)
 
 -- Whether a property holds.
@@ -34,27 +36,36 @@ flag_text true false = codes "false"
 flag_text false true = codes "yes"
 flag_text false false = codes "no"
 
+-- The bytes of the file and of its header body, and the number of triples.
+unfoldable pub sizes_text : Bool → FileInfo → List ℕ
+sizes_text json info = number_text json (codes "bytes") info.bytes ++ (number_text json (codes "header-bytes") info.header_bytes
+    ++ number_text json (codes "triples") info.triples)
+
+-- The number of strings of each section.
+unfoldable pub strings_text : Bool → DictionaryInfo → List ℕ
+strings_text json d = number_text json (codes "shared") d.shared.strings ++ (number_text json (codes "subjects") d.subjects.strings
+    ++ (number_text json (codes "predicates") d.predicates.strings ++ number_text json (codes "objects") d.objects.strings))
+
 -- The sizes of a section.
-abbrev pub section_text : Bool → List ℕ → SectionInfo → List ℕ
+unfoldable pub section_text : Bool → List ℕ → SectionInfo → List ℕ
 section_text json section s = number_text json (section ++ codes "-bytes") s.bytes ++ (number_text json (section ++ codes "-block-size") s.block_size
     ++ (mean_text json (section ++ codes "-mean-length") s.string_bytes s.strings ++ number_text json (section ++ codes "-offset-bits") s.offset_bits))
 
--- The bytes of the file and of its header, and the numbers of triples and of the strings of each section.
-abbrev pub counts_text : Bool → FileInfo → List ℕ
-counts_text json info = number_text json (codes "bytes") info.bytes ++ (number_text json (codes "header-bytes") info.header_bytes
-    ++ (number_text json (codes "triples") info.triples ++ (number_text json (codes "shared") info.shared.strings
-    ++ (number_text json (codes "subjects") info.subjects.strings ++ (number_text json (codes "predicates") info.predicates.strings
-    ++ number_text json (codes "objects") info.objects.strings)))))
+-- The sizes of all sections.
+unfoldable pub sections_text : Bool → DictionaryInfo → List ℕ
+sections_text json d = section_text json (codes "shared") d.shared ++ (section_text json (codes "subjects") d.subjects
+    ++ (section_text json (codes "predicates") d.predicates ++ section_text json (codes "objects") d.objects))
 
 -- The bits of an entry of each sequence of the triples.
-abbrev pub widths_text : Bool → FileInfo → List ℕ
-widths_text json info = number_text json (codes "bitmap-y-bits") info.bitmap_y_bits ++ (number_text json (codes "bitmap-z-bits") info.bitmap_z_bits
-    ++ (number_text json (codes "array-y-bits") info.array_y_bits ++ number_text json (codes "array-z-bits") info.array_z_bits))
+unfoldable pub widths_text : Bool → EntryBits → List ℕ
+widths_text json bits = number_text json (codes "bitmap-y-bits") bits.bitmap_y ++ (number_text json (codes "bitmap-z-bits") bits.bitmap_z
+    ++ (number_text json (codes "array-y-bits") bits.array_y ++ number_text json (codes "array-z-bits") bits.array_z))
 
 -- Whether the file is tight, and whether it is canonical.
-abbrev pub flags_text : Bool → Bool → Bool → List ℕ
+unfoldable pub flags_text : Bool → Bool → Bool → List ℕ
 flags_text json tight canonical = name_text json (codes "tight") ++ (flag_text json tight ++ (value_end json ++ (name_text json (codes "canonical") ++ flag_text json canonical)))
 
+-- What precedes the first value and what follows the last.
 abbrev pub opening : Bool → List ℕ
 opening true = codes "{"
 opening false = []
@@ -65,6 +76,5 @@ closing false = 10 ∷ []
 
 -- The output.
 unfoldable pub info_text : Bool → FileInfo → Bool → Bool → List ℕ
-info_text json info tight canonical = opening json ++ (counts_text json info ++ (section_text json (codes "shared") info.shared
-    ++ (section_text json (codes "subjects") info.subjects ++ (section_text json (codes "predicates") info.predicates
-    ++ (section_text json (codes "objects") info.objects ++ (widths_text json info ++ (flags_text json tight canonical ++ closing json)))))))
+info_text json info tight canonical = opening json ++ (sizes_text json info ++ (strings_text json info.dictionary ++ (sections_text json info.dictionary
+    ++ (widths_text json info.entry_bits ++ (flags_text json tight canonical ++ closing json)))))

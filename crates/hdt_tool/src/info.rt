@@ -1,6 +1,6 @@
 //! What `info` finds out about a file.
 ghost use Rattle.std.specs.Prelude.{◌≡◌, ◌↔◌, Bool, IfErr, IfOk, IsTrue};
-ghost use Rattle.hdt_file.specs.File.{IsLayout};
+ghost use Rattle.hdt_file.specs.File.{GraphParts, IsLayout};
 ghost use Rattle.hdt_file.specs.GraphView.{graph_view};
 ghost use Rattle.hdt_tool.specs.Info.{IsTightFile, IsRewrittenAs, PrintsInfo};
 ghost use Rattle.hdt_tool.specs.Outcomes.{IsFaultOfBytes};
@@ -9,7 +9,7 @@ ghost use Rattle.hdt_tool.specs.declared.request.Action.TheVariants as Action;
 use crate::fault::ToolFault;
 use crate::printed_info::info_text;
 use hdt_build::{Options, RewriteFault, one_canonical_file, rewrite_bytes};
-use hdt_file::{Graph, OpenFault, file_info, one_layout, open, verify_tight};
+use hdt_file::{Graph, OpenFault, file_info, open, verify_tight};
 use std::alloc::Global;
 
 /// Whether the bytes are a valid file whose triples use all of its strings.
@@ -24,18 +24,18 @@ fn is_tight(alloc: Global, bytes: &[u8]) -> Result<bool, ToolFault>
     }
 }
 
-/// Whether the bytes, which are the file of the graph, are also the file that `rewrite` makes of it with this block size.
+/// Whether the bytes, which encode only this graph, are the file that `rewrite` makes of it with this block size.
 fn is_rewritten_as(
     alloc: Global,
     graph: &Graph<'_>,
     block_size: u32,
     bytes: &[u8],
 ) -> Result<bool, ToolFault>
-    requires { IsLayout bytes.now (graph_view graph.now) }
+    requires encoded { IsLayout bytes.now (graph_view graph.now) }
+    requires only { (other : GraphParts) → IsLayout bytes.now other → other ≡ graph_view graph.now }
     ensures ok { IfOk result (λ same. IsTrue same ↔ IsRewrittenAs block_size bytes.now) }
     ensures err { IfErr result (λ e. e ≡ ToolFault.OutOfMemory) }
 {
-    one_layout();
     one_canonical_file();
     let options = Options {
         block_size,
@@ -43,8 +43,9 @@ fn is_rewritten_as(
     };
     match rewrite_bytes(alloc, graph, &options) {
         Ok((file, _)) => Ok(file.as_slice() == bytes),
+        Err(RewriteFault::BadOptions) => Ok(false),
         Err(RewriteFault::OutOfMemory) => Err(ToolFault::OutOfMemory),
-        Err(_) => Ok(false),
+        Err(RewriteFault::Write(_)) => unreachable!(),
     }
 }
 
@@ -68,16 +69,12 @@ fn is_canonical(alloc: Global, block_size: u64, bytes: &[u8]) -> Result<bool, To
 /// # Errors
 ///
 /// [`ToolFault::File`] with the first error of the file; [`ToolFault::OutOfMemory`].
-pub(crate) fn file_info_text(
-    alloc: Global,
-    json: bool,
-    bytes: &[u8],
-) -> Result<Vec<u8>, ToolFault>
+pub(crate) fn file_info_text(alloc: Global, json: bool, bytes: &[u8]) -> Result<Vec<u8>, ToolFault>
     ensures ok { IfOk result (λ text. PrintsInfo json bytes.now text.items) }
     ensures err { IfErr result (IsFaultOfBytes (Action.Info json) bytes.now) }
 {
     let info = file_info(alloc, bytes)?;
     let tight = is_tight(alloc, bytes)?;
-    let canonical = is_canonical(alloc, info.predicates.block_size, bytes)?;
+    let canonical = is_canonical(alloc, info.dictionary.predicates.block_size, bytes)?;
     Ok(info_text(alloc, json, &info, tight, canonical)?)
 }

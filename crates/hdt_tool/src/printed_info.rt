@@ -1,9 +1,9 @@
 //! The output of `info`.
 ghost use Rattle.std.specs.Prelude.{◌≡◌, ◌++◌, ◌%◌, ◌/◌, ◌*◌, codes, IfOk, OnOk};
 ghost use Rattle.std.specs.Fmt.{decimal};
-ghost use Rattle.hdt_tool.specs.InfoText.{name_text, value_end, number_text, mean, mean_text, flag_text, section_text, counts_text, widths_text, flags_text, opening, closing, info_text};
+ghost use Rattle.hdt_tool.specs.InfoText.{name_text, value_end, number_text, mean, mean_text, flag_text, sizes_text, strings_text, section_text, sections_text, widths_text, flags_text, opening, closing, info_text};
 
-use hdt_file::{FileInfo, SectionInfo};
+use hdt_file::{DictionaryInfo, EntryBits, FileInfo, SectionInfo};
 use hdt_wire::put_decimal;
 use std::alloc::{AllocError, Global};
 
@@ -34,7 +34,7 @@ fn put_value_end(json: bool, out: &mut Vec<u8>) -> Result<(), AllocError>
 }
 
 /// Appends a number with its name, which is in two parts.
-#[tactic(auto, using(std::proofs::Common::append_assoc))]
+#[tactic(auto, using(std::proofs::Common::append_assoc), unfolding(crate::specs::InfoText::number_text))]
 fn put_number(
     json: bool,
     part: &str,
@@ -49,9 +49,9 @@ fn put_number(
     put_value_end(json, out)
 }
 
-/// Appends a mean with one digit after the point, rounded down.
-#[tactic(auto, using(std::proofs::Common::append_assoc))]
-fn put_mean(alloc: Global, total: u128, count: u64, out: &mut Vec<u8>) -> Result<(), AllocError>
+/// Appends a quotient with one digit after the point, rounded down.
+#[tactic(auto, using(std::proofs::Common::append_assoc), unfolding(crate::specs::InfoText::mean))]
+fn put_quotient(alloc: Global, total: u128, count: u64, out: &mut Vec<u8>) -> Result<(), AllocError>
     ensures { OnOk result (out.new.items ≡ out.old.items ++ mean total count) }
 {
     let divisor = u128::from(count.max(1));
@@ -59,24 +59,26 @@ fn put_mean(alloc: Global, total: u128, count: u64, out: &mut Vec<u8>) -> Result
     out.extend_from_slice(format!(in alloc; "{whole}.{tenth}")?.as_bytes())
 }
 
-/// Appends the mean length of a section's strings with its name.
-#[tactic(auto, using(std::proofs::Common::append_assoc))]
-fn put_mean_length(
+/// Appends a mean with its name, which is in two parts.
+#[tactic(auto, using(std::proofs::Common::append_assoc), unfolding(crate::specs::InfoText::mean_text))]
+fn put_mean(
     alloc: Global,
     json: bool,
-    section: &str,
-    info: &SectionInfo,
+    part: &str,
+    name: &str,
+    total: u128,
+    count: u64,
     out: &mut Vec<u8>,
 ) -> Result<(), AllocError>
-    ensures { OnOk result (out.new.items ≡ out.old.items ++ mean_text json (section.now ++ codes "-mean-length") info.now.string_bytes info.now.strings) }
+    ensures { OnOk result (out.new.items ≡ out.old.items ++ mean_text json (part.now ++ name.now) total count) }
 {
-    put_name(json, section, "-mean-length", out)?;
-    put_mean(alloc, info.string_bytes, info.strings, out)?;
+    put_name(json, part, name, out)?;
+    put_quotient(alloc, total, count, out)?;
     put_value_end(json, out)
 }
 
 /// Appends the sizes of a section.
-#[tactic(auto, using(std::proofs::Common::append_assoc))]
+#[tactic(auto, using(std::proofs::Common::append_assoc), unfolding(crate::specs::InfoText::section_text))]
 fn put_section(
     alloc: Global,
     json: bool,
@@ -88,18 +90,48 @@ fn put_section(
 {
     put_number(json, section, "-bytes", info.bytes, out)?;
     put_number(json, section, "-block-size", info.block_size, out)?;
-    put_mean_length(alloc, json, section, info, out)?;
-    put_number(json, section, "-offset-bits", u64::from(info.offset_bits), out)
+    let (total, count) = (info.string_bytes, info.strings);
+    put_mean(alloc, json, section, "-mean-length", total, count, out)?;
+    put_number(
+        json,
+        section,
+        "-offset-bits",
+        u64::from(info.offset_bits),
+        out,
+    )
 }
 
-/// Appends the bytes of the file and of its header, and the numbers of triples and of the strings of each section.
-#[tactic(auto, using(std::proofs::Common::append_assoc))]
-fn put_counts(json: bool, info: &FileInfo, out: &mut Vec<u8>) -> Result<(), AllocError>
-    ensures { OnOk result (out.new.items ≡ out.old.items ++ counts_text json info.now) }
+/// Appends the sizes of all sections.
+#[tactic(auto, using(std::proofs::Common::append_assoc), unfolding(crate::specs::InfoText::sections_text))]
+fn put_sections(
+    alloc: Global,
+    json: bool,
+    info: &DictionaryInfo,
+    out: &mut Vec<u8>,
+) -> Result<(), AllocError>
+    ensures { OnOk result (out.new.items ≡ out.old.items ++ sections_text json info.now) }
+{
+    put_section(alloc, json, "shared", &info.shared, out)?;
+    put_section(alloc, json, "subjects", &info.subjects, out)?;
+    put_section(alloc, json, "predicates", &info.predicates, out)?;
+    put_section(alloc, json, "objects", &info.objects, out)
+}
+
+/// Appends the bytes of the file and of its header body, and the number of triples.
+#[tactic(auto, using(std::proofs::Common::append_assoc), unfolding(crate::specs::InfoText::sizes_text))]
+fn put_sizes(json: bool, info: &FileInfo, out: &mut Vec<u8>) -> Result<(), AllocError>
+    ensures { OnOk result (out.new.items ≡ out.old.items ++ sizes_text json info.now) }
 {
     put_number(json, "", "bytes", info.bytes, out)?;
     put_number(json, "", "header-bytes", info.header_bytes, out)?;
-    put_number(json, "", "triples", info.triples, out)?;
+    put_number(json, "", "triples", info.triples, out)
+}
+
+/// Appends the number of strings of each section.
+#[tactic(auto, using(std::proofs::Common::append_assoc), unfolding(crate::specs::InfoText::strings_text))]
+fn put_string_counts(json: bool, info: &DictionaryInfo, out: &mut Vec<u8>) -> Result<(), AllocError>
+    ensures { OnOk result (out.new.items ≡ out.old.items ++ strings_text json info.now) }
+{
     put_number(json, "", "shared", info.shared.strings, out)?;
     put_number(json, "", "subjects", info.subjects.strings, out)?;
     put_number(json, "", "predicates", info.predicates.strings, out)?;
@@ -107,14 +139,14 @@ fn put_counts(json: bool, info: &FileInfo, out: &mut Vec<u8>) -> Result<(), Allo
 }
 
 /// Appends the bits of an entry of each sequence of the triples.
-#[tactic(auto, using(std::proofs::Common::append_assoc))]
-fn put_widths(json: bool, info: &FileInfo, out: &mut Vec<u8>) -> Result<(), AllocError>
-    ensures { OnOk result (out.new.items ≡ out.old.items ++ widths_text json info.now) }
+#[tactic(auto, using(std::proofs::Common::append_assoc), unfolding(crate::specs::InfoText::widths_text))]
+fn put_widths(json: bool, bits: EntryBits, out: &mut Vec<u8>) -> Result<(), AllocError>
+    ensures { OnOk result (out.new.items ≡ out.old.items ++ widths_text json bits) }
 {
-    put_number(json, "", "bitmap-y-bits", u64::from(info.bitmap_y_bits), out)?;
-    put_number(json, "", "bitmap-z-bits", u64::from(info.bitmap_z_bits), out)?;
-    put_number(json, "", "array-y-bits", u64::from(info.array_y_bits), out)?;
-    put_number(json, "", "array-z-bits", u64::from(info.array_z_bits), out)
+    put_number(json, "", "bitmap-y-bits", u64::from(bits.bitmap_y), out)?;
+    put_number(json, "", "bitmap-z-bits", u64::from(bits.bitmap_z), out)?;
+    put_number(json, "", "array-y-bits", u64::from(bits.array_y), out)?;
+    put_number(json, "", "array-z-bits", u64::from(bits.array_z), out)
 }
 
 /// The text of a flag.
@@ -130,13 +162,8 @@ fn flag_text(json: bool, set: bool) -> &'static str
 }
 
 /// Appends whether the file is tight, and whether it is canonical.
-#[tactic(auto, using(std::proofs::Common::append_assoc))]
-fn put_flags(
-    json: bool,
-    tight: bool,
-    canonical: bool,
-    out: &mut Vec<u8>,
-) -> Result<(), AllocError>
+#[tactic(auto, using(std::proofs::Common::append_assoc), unfolding(crate::specs::InfoText::flags_text))]
+fn put_flags(json: bool, tight: bool, canonical: bool, out: &mut Vec<u8>) -> Result<(), AllocError>
     ensures { OnOk result (out.new.items ≡ out.old.items ++ flags_text json tight canonical) }
 {
     put_name(json, "", "tight", out)?;
@@ -174,12 +201,10 @@ pub(crate) fn info_text(
 {
     let mut text = Vec::new(alloc);
     text.extend_from_slice(opening(json).as_bytes())?;
-    put_counts(json, info, &mut text)?;
-    put_section(alloc, json, "shared", &info.shared, &mut text)?;
-    put_section(alloc, json, "subjects", &info.subjects, &mut text)?;
-    put_section(alloc, json, "predicates", &info.predicates, &mut text)?;
-    put_section(alloc, json, "objects", &info.objects, &mut text)?;
-    put_widths(json, info, &mut text)?;
+    put_sizes(json, info, &mut text)?;
+    put_string_counts(json, &info.dictionary, &mut text)?;
+    put_sections(alloc, json, &info.dictionary, &mut text)?;
+    put_widths(json, info.entry_bits, &mut text)?;
     put_flags(json, tight, canonical, &mut text)?;
     text.extend_from_slice(closing(json).as_bytes())?;
     Ok(text)
