@@ -8,6 +8,7 @@ mod Pieces
 mod InputFaults
 mod Outputs
 mod Rewriting
+mod InfoLaws
 mod Triples
 pub mod Statuses
 pub mod Dialogues

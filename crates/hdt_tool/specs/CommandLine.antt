@@ -117,6 +117,10 @@ IsDumpCommand name given numbers = (name ≡ codes "dump") × (given ≡ None �
 abbrev pub IsVerifyCommand : Text → List Row → Bool → Type 0
 IsVerifyCommand name rows tight = (name ≡ codes "verify") × ParsesAsFlag (one_of (codes "tight") rows) tight
 
+-- The command is `info`, with or without `--json`.
+abbrev pub IsInfoCommand : Text → List Row → Bool → Type 0
+IsInfoCommand name rows json = (name ≡ codes "info") × ParsesAsFlag (one_of (codes "json") rows) json
+
 -- The command is `answer`, with these options.
 pub record IsAnswerCommand (name : Text) (rows : List Row) (options : AnswerOptions) : Type 0 where
   pub named : name ≡ codes "answer"
@@ -137,6 +141,7 @@ abbrev pub IsFileAction : Text → List Row → Action → Type 0
 IsFileAction name rows action.Head = name ≡ codes "head"
 IsFileAction name rows action.Verify = IsVerifyCommand name rows false
 IsFileAction name rows action.VerifyTight = IsVerifyCommand name rows true
+IsFileAction name rows (action.Info json) = IsInfoCommand name rows json
 IsFileAction name rows (action.Strings role) = (name ≡ codes "strings") × (first_of (codes "ROLE") rows ≡ Some (role_name role))
     × ParsesAsFlag (one_of (codes "terms") rows) false × (first_of (codes "prefix") rows ≡ None)
 IsFileAction name rows (action.ListStrings role prefix terms) = (name ≡ codes "strings") × (first_of (codes "ROLE") rows ≡ Some (role_name role))

@@ -5,6 +5,8 @@ pub mod ListedStrings
 pub mod TriplesText
 pub mod TermCounts
 pub mod Verdict
+pub mod InfoText
+pub mod Info
 pub mod BuiltText
 pub mod Outcomes
 pub mod Dialogue

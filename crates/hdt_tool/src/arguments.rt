@@ -131,6 +131,15 @@ pub(crate) fn verify_action<'m>(matches: &ArgMatches<'m>) -> Action
     Action::Verify
 }
 
+/// The action of `info`.
+pub(crate) fn info_action<'m>(matches: &ArgMatches<'m>) -> Action
+    ensures { IsFileAction (codes "info") (rows_of (found_of matches.now)) result }
+{
+    Action::Info {
+        json: has_flag(matches, "json"),
+    }
+}
+
 /// The error for an argument that is not a valid term.
 fn term_fault(word: TermArgument, fault: TermFault) -> UsageFault
     ensures { IsFaultOfTerm word fault result }

@@ -57,6 +57,10 @@ progress_flag = flag_arg (codes "progress")
 abbrev pub verify_command : App
 verify_command = with_rule (with_rule (file_command (codes "verify")) (flag_arg (codes "tight"))) progress_flag
 
+-- `info FILE`, with `--json`
+abbrev pub info_command : App
+info_command = with_rule (file_command (codes "info")) (flag_arg (codes "json"))
+
 -- `--prefix STR`: a text; no default.
 abbrev pub prefix_option : Rule
 prefix_option = record (new_rule (codes "prefix")) { long = Some (codes "prefix"); value_names = 1 }
@@ -147,7 +151,7 @@ empty_program = let app = new_app (codes "hdt") in record app { top = record app
 
 -- The program with its commands, added in groups.
 abbrev pub file_commands : App
-file_commands = with_subcommand (with_subcommand empty_program head_command.top) verify_command.top
+file_commands = with_subcommand (with_subcommand (with_subcommand empty_program head_command.top) verify_command.top) info_command.top
 
 abbrev pub lookup_commands : Names → App
 lookup_commands names = with_subcommand (with_subcommand (with_subcommand file_commands (strings_command names).top) (string_command names).top) (number_command names).top

@@ -44,6 +44,27 @@ pub(crate) const TIGHT_HELP: &str = "Also reject strings that no triple uses";
 
 pub(crate) const PROGRESS_HELP: &str = "Report the bytes read on standard error";
 
+pub(crate) const INFO_ABOUT: &str = "Print the sizes of the parts of a file";
+
+pub(crate) const INFO_LONG_ABOUT: &str = "Print the sizes of the parts of a file.
+
+One line per value: its name, a tab, the value. With --json, one object with the same names.
+
+`bytes` and `header-bytes` are the sizes of the file and of its header; `triples`, `shared`,
+`subjects`, `predicates` and `objects` are the numbers of triples and of the strings of each
+section. For each section, `-bytes` is its size, `-block-size` the number of strings per block,
+`-mean-length` the mean length of a string in bytes, and `-offset-bits` the bits per block offset.
+`bitmap-y-bits`, `bitmap-z-bits`, `array-y-bits` and `array-z-bits` are the bits per entry of the
+sequences that encode the triples.
+
+`tight` is yes if triples use all strings, as `verify --tight` requires. `canonical` is yes if
+`rewrite` with the block size of the predicates would write the same bytes. With --json both are
+true or false.
+
+If the file is not valid, report the first error, as `verify` does.";
+
+pub(crate) const JSON_HELP: &str = "Print one JSON object";
+
 pub(crate) const STRINGS_ABOUT: &str = "Print all strings of a role with their IDs";
 
 pub(crate) const STRINGS_LONG_ABOUT: &str = "Print all strings of a role with their IDs.
