@@ -327,7 +327,7 @@ USAGES: list[tuple[list[Word], bytes]] = [
     (["vierge", "a.hdt"], b"unrecognized subcommand 'vierge'\n\nUsage: hdt <COMMAND>"),
     (["head", "a.hdt", "b.hdt"], b"unexpected argument 'b.hdt' found\n\nUsage: hdt head <FILE>"),
     ([], b"'hdt' requires a subcommand but one was not provided\n  [subcommands: head, verify, strings, string, "
-         b"number, find, answer, dump, count, build, rewrite, help]\n\nUsage: hdt <COMMAND>"),
+         b"number, find, answer, dump, count, build, rewrite, explain, help]\n\nUsage: hdt <COMMAND>"),
     (["head", b"\xff"], b"an argument is not UTF-8"),
 ]
 

@@ -88,6 +88,7 @@ COMMANDS: dict[str, tuple[list[Word], int]] = {
 HELP: list[list[Word]] = [
     ["--help"], ["--version"], ["-V"], ["help"], ["head", "--help"], ["head", "-h"], ["help", "head"],
     ["find", "--help"], ["build", "--help"], ["verify", "--help"], ["rewrite", "--help"], ["help", "dump"],
+    ["explain", "2"],
 ]
 # Command lines that are refused, and words that aren't terms.
 REFUSED: list[tuple[list[Word], int]] = [

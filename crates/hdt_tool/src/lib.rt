@@ -14,7 +14,7 @@
 //! - the modules `printed_*`: output texts;
 //! - `queries`: the output of each command that only reads; `dialogue`: requests over one graph;
 //! - `commands`: all commands, from a reader to a writer;
-//! - `error_lines`: exit statuses and error messages;
+//! - `error_lines`: exit statuses and error messages; `error_context`: the lines that follow a message;
 //! - `progress`, `files`, `atomic_replace`, `output_file` and `status`: the same over files and streams.
 #![tactic(auto)]
 
@@ -24,6 +24,7 @@ mod command_line;
 mod commands;
 mod counts;
 mod dialogue;
+mod error_context;
 mod error_lines;
 mod fault;
 mod files;

@@ -86,11 +86,13 @@ pub struct Request {
     pub out: Option<String>,
 }
 
-/// A request, and whether to report progress.
+/// A request, and how to report progress and errors.
 #[derive(Debug, Drop)]
 pub struct Invocation {
     /// The request.
     pub request: Request,
     /// Whether to report the progress of reading.
     pub progress: bool,
+    /// Whether more lines follow an error message.
+    pub verbose: bool,
 }
