@@ -3,8 +3,6 @@ mod OutPaths
 mod ParsedArguments
 mod StringLines
 mod CountLines
-mod LineChecking
-mod Lints
 mod Pieces
 mod InputFaults
 mod Outputs

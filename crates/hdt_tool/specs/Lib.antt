@@ -9,7 +9,6 @@ pub mod Outcomes
 pub mod Dialogue
 pub mod Faults
 pub mod ErrorLines
-pub mod Lint
 pub mod CommandLine
 pub mod Status
 pub mod Inside
