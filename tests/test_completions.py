@@ -17,7 +17,7 @@ from support.program import hdt, run
 from support.terminal import Terminal
 from tools import completions
 
-COMMANDS = "head verify strings string number find answer dump count build rewrite help".split()
+COMMANDS = "head verify info strings string number find answer dump count build rewrite help".split()
 SHELLS = ["bash", "zsh", "fish"]
 # The program that reads each file: a warning is a line on standard error.
 READERS = {

@@ -104,6 +104,10 @@ fn reply_search(action: &Action, reply: &mut Reply) {
             reply.number(form_number(*format));
             reply.optional_number(*most)
         }
+        Action::Info { json } => {
+            reply.word("info");
+            reply.boolean(*json)
+        }
         Action::Count { role, top, raw } => {
             reply.word("count");
             reply.number(role_number(*role));
