@@ -75,6 +75,8 @@ OFFERED: dict[str, list[str]] = {
     "hdt find graph.hdt ": [],
     "hdt count graph.hdt ": ["object", "predicate", "subject"],
     "hdt count --t": ["--top"],
+    "hdt info --j": ["--json"],
+    "hdt i": ["info"],
 }
 
 # An interactive zsh that prints what it offers between two marks, and ends then.
