@@ -165,6 +165,8 @@ def reading_commands(path: Word) -> list[list[Word]]:
         ["find", "--count", path, "?", "?", "<u:x>"],
         ["find", "--most", "1", path, "?", "?", "?"],
         ["dump", path],
+        ["info", path],
+        ["info", path, "--json"],
         ["count", path, "object", "--raw"],
         ["count", path, "object", "--raw", "--top", "1"],
     ]
@@ -601,6 +603,8 @@ REQUESTS: list[tuple[str, str]] = [
     ("build --base= --block-size=0 a.hdt b.hdt", f"{A} {B} build 0 "),
     ("rewrite a.hdt b.hdt", f"{A} {B} rewrite 16"),
     ("rewrite --block-size 65535 a.hdt b.hdt", f"{A} {B} rewrite 65535"),
+    ("info a.hdt", f"{A} none info false"),
+    ("info --json a.hdt", f"{A} none info true"),
     ("count a.hdt subject", f"{A} none count 0 none 0"),
     ("count --raw a.hdt object --top=18446744073709551615", f"{A} none count 2 18446744073709551615 1"),
     ("answer a.hdt", f"{A} none answer 0 none 0 1048576"),
