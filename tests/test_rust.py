@@ -111,7 +111,7 @@ def of_crate() -> dict[str, str]:
 
 
 def test_declarations_are_those_of_the_header() -> None:
-    """The crate declares the constants, types and calls of the header as they are there, but calls that others replace."""
+    """The crate declares what the header declares, as it is there, but for the calls that others replace."""
     header = of_header()
     assert of_crate() == {name: it for name, it in header.items() if name not in REPLACED}
     assert header["HDT_CLOSED"] == "u64::MAX - 2" and header["HDT_FILE_TRAILING_BYTES"] == "33"
