@@ -340,7 +340,7 @@ def test_out_of_memory_for_a_term(calls: Path) -> None:
     """Where the library has too little memory for a term, the process aborts, as for a `String`."""
     done = run(["sh", "-c", 'ulimit -v 32768 && exec "$@"', "sh", calls, "abort"])
     assert (done.status, done.out) == (-signal.SIGABRT, b"")
-    assert done.err.startswith(b"memory allocation of 12000002 bytes failed")
+    assert done.err.startswith(b"memory allocation of 20000000 bytes failed")
 
 
 # ---- the build script

@@ -18,7 +18,7 @@ fn main() -> Result<(), Box<dyn Error>> {
     match arguments[0].as_str() {
         "terms" => io::stdin().lines().try_for_each(|line| print_term(&mut out, &String::from_utf8(unhex(&line?))?)),
         "memory" => print_memory(&mut out, &fs::read(&arguments[1])?),
-        "abort" => Ok(writeln!(out, "{:?}", Term::from_dictionary(&format!("u:{}", "a".repeat(12_000_000))))?),
+        "abort" => Ok(writeln!(out, "{:?}", Term::from_dictionary(&"u:".repeat(10_000_000)))?),
         _ => arguments[1..].iter().try_for_each(|path| print_file(&mut out, &fs::read(path)?)),
     }
 }
