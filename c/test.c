@@ -928,6 +928,22 @@ static void tight(const guarded *file, const hdt_verdict *verdict) {
 
 static long seen[256]; /* of each reason, how many files had it */
 
+/* Whether a valid file is the one before but for the body of its header: then the calls on its graph take the same path. */
+static int is_as_before(hdt_graph *graph, const guarded *file) {
+    static uint8_t before[1 << 16], body[1 << 16];
+    static size_t before_len;
+    uint64_t len = hdt_header(graph, body, sizeof body);
+    const uint8_t *found = len <= sizeof body ? memmem(file->at, file->len, body, len) : NULL;
+    size_t front = found ? (size_t)(found - file->at) : 0, rest = file->len - front - (found ? len : 0);
+    int same = found && before_len == front + rest && memcmp(before, file->at, front) == 0 && memcmp(before + front, file->at + front + len, rest) == 0;
+    before_len = found && front + rest <= sizeof before ? front + rest : 0;
+    if (before_len > 0) {
+        memcpy(before, file->at, front);
+        memcpy(before + front, file->at + front + len, rest);
+    }
+    return same;
+}
+
 static void agree(const uint8_t *bytes, size_t len) {
     guarded file = guarded_copy(bytes, len);
     hdt_graph graph = HDT_GRAPH_INIT;
@@ -943,6 +959,8 @@ static void agree(const uint8_t *bytes, size_t len) {
         CHECK(told.reason >= 1 && told.reason <= 33 && told.place <= len);
         hdt_rewrite(file.at, len, 16, &out, &told);
         CHECK(same_verdict(&verdict, &told) && has_nothing(&out));
+    } else if (is_as_before(&graph, &file)) {
+        header(&graph, &file);
     } else {
         look_ups(&graph, &verdict);
         searches(&graph);
