@@ -149,6 +149,11 @@ def only_subjects(graph: hdt.Graph) -> Optional[int]:
     return graph.position(s=shared + 1) if shared < graph.count("subject") else None
 
 
+def has(graph: hdt.Graph, role: hdt.Role, term: str) -> bool:
+    """Whether a role has a term."""
+    return graph.number(role, term) is not None
+
+
 def text(graph: hdt.Graph, pattern: Pattern) -> str:
     """The matches as N-Triples."""
     return graph.text(*pattern)

@@ -37,8 +37,8 @@ def open(folder: Path, executor: Optional[Executor] = None) -> Graph:
     Without one this process has the files open. A process validates a file, and compares it with its SHA-256, when it
     is first asked; here only its size is checked.
 
-    Errors: `PartFault` for a manifest or a part that is missing or has another size, OSError; later calls raise it, too,
-    for a part that is damaged or another one.
+    Errors: `PartFault` for a manifest or a part that is missing or has another size, OSError. Later calls raise
+    `PartFault`, too, for a part that is damaged or another one.
 
     >>> with hdt.parts.open("graph.parts") as graph:
     ...     print(graph)
@@ -137,8 +137,9 @@ class Graph:
     def _each(self, numbers: Iterable[int], task: Callable[[int], Task[T]]) -> Iterator[tuple[int, Task[T]]]:
         """Tasks for parts, some of which are given to the executor before their results are needed."""
         waiting, ahead = iter(numbers), deque[tuple[int, Task[T]]]()
+        most = 1 if self._executor is None else _AHEAD
         while True:
-            ahead.extend((number, task(number)) for number in islice(waiting, _AHEAD - len(ahead)))
+            ahead.extend((number, task(number)) for number in islice(waiting, most - len(ahead)))
             if not ahead:
                 return
             yield ahead.popleft()
@@ -362,7 +363,11 @@ class Graph:
 
         for number, asked in self._each(numbers, task):
             text, following = asked.result()
-            found += islice(_triples(text), room - len(found))
+            triples = list(_triples(text))
+            if len(triples) > room - len(found):  # (it was asked before others had been found)
+                text, following = task(number).result()
+                triples = list(_triples(text))
+            found += triples
             while following is not None:
                 if len(found) == room:
                     return found, self._begins[number] + following
