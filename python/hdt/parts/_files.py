@@ -20,6 +20,7 @@ from hdt.parts._errors import PartFault
 from hdt.parts._manifest import Part, part_of
 
 Pattern = tuple[Given, Given, Given]
+Page = tuple[str, Optional[int]]  # see `page`
 T = TypeVar("T")
 
 _MOST_OPEN = 256  # files that a process of an executor keeps open
@@ -124,7 +125,7 @@ def matching(graph: hdt.Graph, patterns: Sequence[Pattern]) -> list[int]:
 
 def page(
     graph: hdt.Graph, pattern: Pattern, start: int, limit: int, stop: Optional[int] = None
-) -> tuple[str, Optional[int]]:
+) -> Page:
     """A page of matches from a position on, and where the next one begins; None after the last one.
 
     With `stop`, which is what `only_subjects` gives, matches from there on are left out. Their strings are one text,
