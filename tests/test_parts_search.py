@@ -70,7 +70,8 @@ def test_random_graphs(
 @pytest.mark.parametrize("count", [1, 2, 7, 300])
 def test_many_matches(tmp_path: Path, count: int) -> None:
     """More matches than a page has, by any number of parts."""
-    parts.build(inputs(tmp_path, TEXT.splitlines(), 1), tmp_path / "out", count)
+    with small(10**6, 10**6):
+        parts.build(inputs(tmp_path, TEXT.splitlines(), 1), tmp_path / "out", count)
     with of_one(tmp_path, TEXT.encode()) as one, parts.open(tmp_path / "out") as graph:
         check_same(one, graph, patterns(GRAPH, 1) + [(None, "u:p1", None)])
 

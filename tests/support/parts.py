@@ -34,8 +34,8 @@ ABSENT = [("u:none", None, None), (None, "u:none", None), (None, None, '"none"')
 
 @contextmanager
 def small(range_size: int, block: int, first: int = 4, most: int = 16) -> Iterator[None]:
-    """Ranges, blocks and messages of these sizes in this process."""
-    with mock.patch.multiple(_inputs, RANGE=range_size, BLOCK=block), \
+    """Ranges, blocks and messages of these sizes in this process, where nothing waits for the disk."""
+    with mock.patch.multiple(_inputs, RANGE=range_size, BLOCK=block), mock.patch("os.fsync"), \
             mock.patch.multiple(_folder, _FIRST=first, MOST=most):
         yield
 
