@@ -2,6 +2,7 @@
 
 from __future__ import annotations
 
+import secrets
 from collections.abc import Callable, Iterable, Iterator
 from concurrent.futures import BrokenExecutor, Executor
 from concurrent.futures import wait as wait_for
@@ -22,7 +23,7 @@ class Task(Generic[T]):
         self._future: Any = None
         if executor is not None:
             with _told(what):
-                self._future = executor.submit(call, *parameters)
+                self._future = executor.submit(_run, secrets.token_hex(8), call, *parameters)
 
     def result(self) -> T:
         """Wait for the result. Raises what the call raises, or WorkerDied."""
@@ -36,6 +37,11 @@ class Task(Generic[T]):
     def future(self) -> Any:
         """The future of the executor; None if there is none."""
         return self._future
+
+
+def _run(_: str, call: Callable[..., Any], *parameters: Any) -> Any:
+    """A call that is none of before, as its first parameter says: Dask remembers results, and errors, of equal ones."""
+    return call(*parameters)
 
 
 class _told:

@@ -63,6 +63,11 @@ class StringIds(Graph):
         for number in self._there:
             self._here(number)
 
+    def count(self, role: hdt.Role) -> int:
+        """The count of a role, of those that `counts` has."""
+        counts = self.counts
+        return (counts.subjects, counts.predicates, counts.objects)[role_number(role)]
+
     @property
     def counts(self) -> hdt.Counts:
         """The counts of triples, subjects and predicates. How many objects there are isn't known: it says 0."""
