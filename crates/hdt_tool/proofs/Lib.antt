@@ -3,8 +3,7 @@ mod OutPaths
 mod ParsedArguments
 mod StringLines
 mod CountLines
-mod LineChecking
-mod Lints
+mod ListedLines
 mod Pieces
 mod InputFaults
 mod Outputs

@@ -1,6 +1,7 @@
 pub mod Escaping
 pub mod HeadText
 pub mod StringsText
+pub mod ListedStrings
 pub mod TriplesText
 pub mod TermCounts
 pub mod Verdict
@@ -11,7 +12,6 @@ pub mod Outcomes
 pub mod Dialogue
 pub mod Faults
 pub mod ErrorLines
-pub mod Lint
 pub mod CommandLine
 pub mod Status
 pub mod Inside

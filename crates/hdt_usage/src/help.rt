@@ -17,6 +17,9 @@ Exit status:
   3  reading or writing failed; a closed pipe is a failed write
   4  out of memory
 
+After an error message more lines follow, indented, if standard error is a terminal or with
+--verbose: the path, the place and the system's reason, the line, the error's meaning, and hints.
+
 Beyond a limit on file size (ulimit -f) the system ends the program by the signal SIGXFSZ.
 If that signal is ignored, writing fails.";
 
@@ -67,7 +70,16 @@ pub(crate) const STRINGS_ABOUT: &str = "Print all strings of a role with their I
 pub(crate) const STRINGS_LONG_ABOUT: &str = "Print all strings of a role with their IDs.
 
 One line per string: the ID, a tab, the string. IDs count from 1. In a string \\, a line feed
-and a carriage return are printed as \\\\, \\n and \\r.";
+and a carriage return are printed as \\\\, \\n and \\r.
+
+With --prefix STR only the strings that begin with STR are printed. A search finds them. STR is
+the start of a dictionary string: of an IRI without brackets, or of a literal with its first
+quotation mark. With --terms each line is the N-Triples term of a string and nothing else, ready
+for `find`. If a string has no form in N-Triples, nothing is printed and the exit status is 1.";
+
+pub(crate) const PREFIX_HELP: &str = "Print the strings that begin with STR only";
+
+pub(crate) const TERMS_HELP: &str = "Print N-Triples terms, without IDs";
 
 pub(crate) const STRING_ABOUT: &str = "Print the string of a role that has an ID";
 
@@ -101,7 +113,10 @@ literal without escapes.
 With --numbers a line has the IDs of subject, predicate and object. This also shows triples with
 strings that have no form in N-Triples. With --count only the number of matching triples is
 printed, and --numbers has no effect. With --most N only the first N matching triples are
-printed or counted.";
+printed or counted.
+
+With --quiet nothing is printed. The exit status is 0 if a triple matches and 1 if none does. The
+search stops at the first match, so --numbers, --count and --most have no effect.";
 
 pub(crate) const ANSWER_ABOUT: &str = "Answer requests for triples from standard input";
 
@@ -167,6 +182,19 @@ If OUT is - or the file or pipe of standard output, the file goes there, after w
 written there, and the line of counts to standard error. If that goes there too, the line is not
 printed.";
 
+pub(crate) const EXPLAIN_ABOUT: &str = "Explain an error of a file or a text";
+
+pub(crate) const EXPLAIN_LONG_ABOUT: &str =
+    "Explain an error of an HDT file or of an N-Triples text.
+
+Print what the error means, what usually causes it, and what to do. REASON is the number or the
+name in an error message, as 11 or Check32. A number may be that of two errors: one of a file and
+one of a text. docs/ERRORS.md has the same texts, and those of the other messages.";
+
+pub(crate) const REASON_HELP: &str = "The number or the name of the error";
+
+pub(crate) const VERBOSE_HELP: &str = "Print more lines after an error message";
+
 pub(crate) const IN_HELP: &str = "Path of the N-Triples document to read, or - for standard input";
 
 pub(crate) const OUT_HELP: &str = "Path of the HDT file to write, or - for standard output";
@@ -204,5 +232,7 @@ pub(crate) const RAW_PARTS_HELP: &str = "Take S, P and O as dictionary strings";
 pub(crate) const NUMBERS_HELP: &str = "Print the IDs of each triple";
 
 pub(crate) const COUNT_HELP: &str = "Print the number of matching triples only";
+
+pub(crate) const QUIET_HELP: &str = "Print nothing; exit with 0 if a triple matches, else 1";
 
 pub(crate) const MOST_HELP: &str = "Stop after N triples";
