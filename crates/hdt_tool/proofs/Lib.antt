@@ -4,12 +4,11 @@ mod ParsedArguments
 mod StringLines
 mod CountLines
 mod ListedLines
-mod LineChecking
-mod Lints
 mod Pieces
 mod InputFaults
 mod Outputs
 mod Rewriting
+mod InfoLaws
 mod Triples
 pub mod Statuses
 pub mod Dialogues

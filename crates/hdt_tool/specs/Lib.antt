@@ -5,12 +5,13 @@ pub mod ListedStrings
 pub mod TriplesText
 pub mod TermCounts
 pub mod Verdict
+pub mod InfoText
+pub mod Info
 pub mod BuiltText
 pub mod Outcomes
 pub mod Dialogue
 pub mod Faults
 pub mod ErrorLines
-pub mod Lint
 pub mod CommandLine
 pub mod Status
 pub mod Inside

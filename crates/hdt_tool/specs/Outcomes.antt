@@ -22,10 +22,11 @@ use Rattle.hdt_tool.specs.declared.fault.ToolFault.{ToolFault}
 use Rattle.hdt_tool.specs.declared.fault.ToolFault.TheVariants.{File, Input, NoTriples, NoSuchTerm, NoMatch, NoSuchNumber, NotATerm, BadOptions, Read, Write, OutOfMemory}
 use Rattle.hdt_tool.specs.declared.request.Action.{Action}
 use Rattle.hdt_tool.specs.declared.request.Request.{Request}
-use Rattle.hdt_tool.specs.declared.request.Action.TheVariants.{Head, Verify, VerifyTight, Strings, ListStrings, Nth, Number, Find, Search, Exists, Count, Answer, Build, Rewrite}
+use Rattle.hdt_tool.specs.declared.request.Action.TheVariants.{Head, Verify, VerifyTight, Strings, ListStrings, Nth, Number, Find, Search, Exists, Count, Answer, Build, Rewrite, Info}
 use Rattle.hdt_tool.specs.BuiltText.{built_line, rewritten_line}
 use Rattle.hdt_tool.specs.HeadText.{head_text}
 use Rattle.hdt_tool.specs.ErrorLines.{fault_status}
+use Rattle.hdt_tool.specs.Info.{PrintsInfo}
 use Rattle.hdt_tool.specs.Verdict.{verdict}
 use Rattle.hdt_tool.specs.StringsText.{string_lines, PrintsString, PrintsNumber}
 use Rattle.hdt_tool.specs.ListedStrings.{HasUnlistedTerm, PrintsListed}
@@ -61,6 +62,7 @@ abbrev pub Prints : Action → List ℕ → List ℕ → Type 0
 Prints Head bytes text = PrintsHead bytes text
 Prints Verify bytes text = IsLayoutWith bytes (λ graph. text ≡ verdict (graph_counts graph))
 Prints VerifyTight bytes text = PrintsTightVerdict bytes text
+Prints (Info json) bytes text = PrintsInfo json bytes text
 Prints (Strings role) bytes text = HasRoleStringsWith bytes role (λ strings. text ≡ string_lines 1 strings)
 Prints (ListStrings role prefix terms) bytes text = HasRoleStringsWith bytes role (λ strings. PrintsListed strings prefix.items terms text)
 Prints (Nth role n) bytes text = HasRoleStringsWith bytes role (λ strings. PrintsString strings n text)

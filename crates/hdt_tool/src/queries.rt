@@ -9,6 +9,7 @@ ghost use Rattle.hdt_tool.specs.declared.request.Action.TheVariants as Action;
 
 use crate::counts::count_lines;
 use crate::fault::ToolFault;
+use crate::info::file_info_text;
 use crate::listed_strings::listed_text;
 use crate::printed_reports::{head_text, verdict};
 use crate::printed_strings::{number_text, print_strings, string_text};
@@ -58,6 +59,7 @@ pub(crate) fn file_text(alloc: Global, action: &Action, bytes: &[u8]) -> Result<
         Action::Head => Ok(head_text(alloc, &read_head(bytes)?)?),
         Action::Verify => Ok(verdict(alloc, verify(alloc, bytes)?)?),
         Action::VerifyTight => Ok(verdict(alloc, verify_tight(alloc, bytes)?)?),
+        Action::Info { json } => file_info_text(alloc, *json, bytes),
         Action::ListStrings {
             role,
             prefix,

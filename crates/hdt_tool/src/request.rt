@@ -36,6 +36,11 @@ pub enum Action {
     Verify,
     /// Verifies a file, and that every string of its dictionary is used in the role of its section.
     VerifyTight,
+    /// Prints the sizes of a file's parts, and whether it is tight and canonical.
+    Info {
+        /// Whether one JSON object is printed instead of lines.
+        json: bool,
+    },
     /// Prints all strings of a role, with their IDs.
     Strings(Role),
     /// Prints the strings of a role that begin with a prefix.
@@ -100,11 +105,13 @@ pub struct Request {
     pub out: Option<String>,
 }
 
-/// A request, and whether to report progress.
+/// A request, and how to report progress and errors.
 #[derive(Debug, Drop)]
 pub struct Invocation {
     /// The request.
     pub request: Request,
     /// Whether to report the progress of reading.
     pub progress: bool,
+    /// Whether more lines follow an error message.
+    pub verbose: bool,
 }

@@ -2,25 +2,44 @@
 ghost use Rattle.std.specs.Prelude.{◌≡◌, IfOk, false};
 ghost use Rattle.clap.specs.Words.{app_of, with_subcommand};
 ghost use Rattle.clap.specs.declared.builder.command.Command.TheViews.{out-Command as fields_of};
-ghost use Rattle.hdt_usage.specs.CommandTable.{build_command, rewrite_command, in_out_command, file_command, head_command, verify_command, strings_command, string_command, number_command, count_command, answer_command, find_command, find_pattern_command, dump_command, empty_program, file_commands, lookup_commands, triple_commands, table};
+ghost use Rattle.hdt_usage.specs.CommandTable.{build_command, rewrite_command, in_out_command, file_command, head_command, verify_command, strings_command, string_command, number_command, count_command, answer_command, find_command, find_pattern_command, dump_command, explain_command, empty_program, file_commands, lookup_commands, triple_commands, writing_commands, table, info_command};
 
 use crate::arguments::{
     with_base, with_block_size, with_flag, with_limit, with_longest_request, with_most,
-    with_number, with_prefix, with_progress, with_required_arg, with_role,
+    with_number, with_prefix, with_progress, with_required_arg, with_role, with_verbose,
 };
 use crate::help::{
     ABOUT, AFTER_HELP, ANSWER_ABOUT, ANSWER_LONG_ABOUT, BUILD_ABOUT, BUILD_LONG_ABOUT, COUNT_ABOUT,
-    COUNT_HELP, COUNT_LONG_ABOUT, DUMP_ABOUT, DUMP_LONG_ABOUT, FILE_HELP, FIND_ABOUT,
-    FIND_LONG_ABOUT, HEAD_ABOUT, HEAD_LONG_ABOUT, IN_HELP, NUMBER_ABOUT, NUMBER_LONG_ABOUT,
-    NUMBERS_HELP, OBJECT_HELP, OUT_HELP, PREDICATE_HELP, QUIET_HELP, RAW_HELP, RAW_PARTS_HELP,
-    RAW_REQUESTS_HELP, RAW_STRINGS_HELP, REWRITE_ABOUT, REWRITE_LONG_ABOUT, SERVED_FILE_HELP,
+    COUNT_HELP, COUNT_LONG_ABOUT, DUMP_ABOUT, DUMP_LONG_ABOUT, EXPLAIN_ABOUT, EXPLAIN_LONG_ABOUT,
+    FILE_HELP, FIND_ABOUT, FIND_LONG_ABOUT, HEAD_ABOUT, HEAD_LONG_ABOUT, IN_HELP, INFO_ABOUT,
+    INFO_LONG_ABOUT, JSON_HELP, NUMBER_ABOUT, NUMBER_LONG_ABOUT, NUMBERS_HELP, OBJECT_HELP,
+    OUT_HELP, PREDICATE_HELP, QUIET_HELP, RAW_HELP, RAW_PARTS_HELP, RAW_REQUESTS_HELP,
+    RAW_STRINGS_HELP, REASON_HELP, REWRITE_ABOUT, REWRITE_LONG_ABOUT, SERVED_FILE_HELP,
     STRING_ABOUT, STRINGS_ABOUT, STRINGS_LONG_ABOUT, SUBJECT_HELP, TERM_HELP, TERMS_HELP,
     TIGHT_HELP, TOP_HELP, VERIFY_ABOUT, VERIFY_LONG_ABOUT, VERSION,
 };
 use clap::Command;
 use std::alloc::{AllocError, Global};
 
-/// A command with the argument FILE.
+/// A command with the argument FILE, with this help, and `--verbose`.
+fn new_file_command<'a>(
+    alloc: Global,
+    name: &'a str,
+    about: &'a str,
+    long_about: &'a str,
+    file_help: &'a str,
+) -> Result<Command<'a>, AllocError>
+    ensures shape { IfOk result (λ c. app_of c ≡ file_command name.entry.now) }
+    ensures local { IfOk result (λ c. (fields_of c).has_globals ≡ false) }
+{
+    let command = Command::new(alloc, name)
+        .about(about)
+        .long_about(long_about);
+    let command = with_required_arg(alloc, command, "FILE", file_help)?;
+    with_verbose(alloc, command)
+}
+
+/// A command with the argument FILE and `--verbose`.
 fn file_command<'a>(
     alloc: Global,
     name: &'a str,
@@ -30,10 +49,7 @@ fn file_command<'a>(
     ensures shape { IfOk result (λ c. app_of c ≡ file_command name.entry.now) }
     ensures local { IfOk result (λ c. (fields_of c).has_globals ≡ false) }
 {
-    let command = Command::new(alloc, name)
-        .about(about)
-        .long_about(long_about);
-    with_required_arg(alloc, command, "FILE", FILE_HELP)
+    new_file_command(alloc, name, about, long_about, FILE_HELP)
 }
 
 /// `head FILE`.
@@ -52,6 +68,15 @@ fn new_verify_command<'a>(alloc: Global) -> Result<Command<'a>, AllocError>
     let command = file_command(alloc, "verify", VERIFY_ABOUT, VERIFY_LONG_ABOUT)?;
     let command = with_flag(alloc, command, "tight", TIGHT_HELP)?;
     with_progress(alloc, command)
+}
+
+/// `info FILE`, with `--json`.
+fn new_info_command<'a>(alloc: Global) -> Result<Command<'a>, AllocError>
+    ensures shape { IfOk result (λ c. app_of c ≡ info_command) }
+    ensures local { IfOk result (λ c. (fields_of c).has_globals ≡ false) }
+{
+    let command = file_command(alloc, "info", INFO_ABOUT, INFO_LONG_ABOUT)?;
+    with_flag(alloc, command, "json", JSON_HELP)
 }
 
 /// `strings FILE ROLE`, with `--prefix` and `--terms`.
@@ -129,7 +154,7 @@ fn new_dump_command<'a>(alloc: Global) -> Result<Command<'a>, AllocError>
     file_command(alloc, "dump", DUMP_ABOUT, DUMP_LONG_ABOUT)
 }
 
-/// A command that writes a file, with the arguments IN and OUT.
+/// A command that writes a file, with the arguments IN and OUT and `--verbose`.
 fn in_out_command<'a>(
     alloc: Global,
     name: &'a str,
@@ -144,7 +169,8 @@ fn in_out_command<'a>(
         .about(about)
         .long_about(long_about);
     let command = with_required_arg(alloc, command, "IN", in_help)?;
-    with_required_arg(alloc, command, "OUT", OUT_HELP)
+    let command = with_required_arg(alloc, command, "OUT", OUT_HELP)?;
+    with_verbose(alloc, command)
 }
 
 /// `build IN OUT`, with `--base`, `--block-size` and `--progress`.
@@ -179,15 +205,29 @@ fn new_answer_command<'a>(alloc: Global) -> Result<Command<'a>, AllocError>
     ensures shape { IfOk result (λ c. app_of c ≡ answer_command) }
     ensures local { IfOk result (λ c. (fields_of c).has_globals ≡ false) }
 {
-    let command = Command::new(alloc, "answer")
-        .about(ANSWER_ABOUT)
-        .long_about(ANSWER_LONG_ABOUT);
-    let command = with_required_arg(alloc, command, "FILE", SERVED_FILE_HELP)?;
+    let command = new_file_command(
+        alloc,
+        "answer",
+        ANSWER_ABOUT,
+        ANSWER_LONG_ABOUT,
+        SERVED_FILE_HELP,
+    )?;
     let command = with_flag(alloc, command, "raw", RAW_REQUESTS_HELP)?;
     let command = with_flag(alloc, command, "numbers", NUMBERS_HELP)?;
     let command = with_flag(alloc, command, "count", COUNT_HELP)?;
     let command = with_most(alloc, command)?;
     with_longest_request(alloc, command)
+}
+
+/// `explain REASON`.
+fn new_explain_command<'a>(alloc: Global) -> Result<Command<'a>, AllocError>
+    ensures shape { IfOk result (λ c. app_of c ≡ explain_command) }
+    ensures local { IfOk result (λ c. (fields_of c).has_globals ≡ false) }
+{
+    let command = Command::new(alloc, "explain")
+        .about(EXPLAIN_ABOUT)
+        .long_about(EXPLAIN_LONG_ABOUT);
+    with_required_arg(alloc, command, "REASON", REASON_HELP)
 }
 
 /// The program without commands.
@@ -210,13 +250,14 @@ fn with_command<'a>(program: Command<'a>, command: Command<'a>) -> Result<Comman
     program.subcommand(command)
 }
 
-/// The program with `head` and `verify`. (Adding all commands in one function would take minutes to prove.)
+/// The program with `head`, `verify` and `info`. (Adding all commands in one function would take minutes to prove.)
 fn file_commands<'a>(alloc: Global) -> Result<Command<'a>, AllocError>
     ensures { IfOk result (λ c. app_of c ≡ file_commands) }
 {
     let program = program(alloc)?;
     let program = with_command(program, new_head_command(alloc)?)?;
-    with_command(program, new_verify_command(alloc)?)
+    let program = with_command(program, new_verify_command(alloc)?)?;
+    with_command(program, new_info_command(alloc)?)
 }
 
 /// The program with these and the dictionary lookups `strings`, `string` and `number`.
@@ -239,6 +280,16 @@ fn triple_commands<'a>(alloc: Global, roles: &'a [&'a str]) -> Result<Command<'a
     with_command(program, new_dump_command(alloc)?)
 }
 
+/// The program with these and `count`, `build` and `rewrite`.
+fn writing_commands<'a>(alloc: Global, roles: &'a [&'a str]) -> Result<Command<'a>, AllocError>
+    ensures { IfOk result (λ c. app_of c ≡ writing_commands roles.entry) }
+{
+    let program = triple_commands(alloc, roles)?;
+    let program = with_command(program, new_count_command(alloc, roles)?)?;
+    let program = with_command(program, new_build_command(alloc)?)?;
+    with_command(program, new_rewrite_command(alloc)?)
+}
+
 /// Returns the command table: all commands with their arguments, options and help. It borrows the names of the roles.
 /// Constant time; some hundred allocations.
 ///
@@ -251,8 +302,6 @@ pub fn make_command_table<'a>(
 ) -> Result<Command<'a>, AllocError>
     ensures { IfOk result (λ c. app_of c ≡ table roles.entry) }
 {
-    let program = triple_commands(alloc, roles)?;
-    let program = with_command(program, new_count_command(alloc, roles)?)?;
-    let program = with_command(program, new_build_command(alloc)?)?;
-    with_command(program, new_rewrite_command(alloc)?)
+    let program = writing_commands(alloc, roles)?;
+    with_command(program, new_explain_command(alloc)?)
 }

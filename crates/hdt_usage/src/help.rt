@@ -17,6 +17,9 @@ Exit status:
   3  reading or writing failed; a closed pipe is a failed write
   4  out of memory
 
+After an error message more lines follow, indented, if standard error is a terminal or with
+--verbose: the path, the place and the system's reason, the line, the error's meaning, and hints.
+
 Beyond a limit on file size (ulimit -f) the system ends the program by the signal SIGXFSZ.
 If that signal is ignored, writing fails.";
 
@@ -40,6 +43,27 @@ of its section. `rewrite` leaves such strings out.";
 pub(crate) const TIGHT_HELP: &str = "Also reject strings that no triple uses";
 
 pub(crate) const PROGRESS_HELP: &str = "Report the bytes read on standard error";
+
+pub(crate) const INFO_ABOUT: &str = "Print the sizes of the parts of a file";
+
+pub(crate) const INFO_LONG_ABOUT: &str = "Print the sizes of the parts of a file.
+
+One line per value: its name, a tab, the value. With --json, one object with the same names.
+
+`bytes` and `header-bytes` are the sizes of the file and of its header; `triples`, `shared`,
+`subjects`, `predicates` and `objects` are the numbers of triples and of the strings of each
+section. For each section, `-bytes` is its size, `-block-size` the number of strings per block,
+`-mean-length` the mean length of a string in bytes, and `-offset-bits` the bits per block offset.
+`bitmap-y-bits`, `bitmap-z-bits`, `array-y-bits` and `array-z-bits` are the bits per entry of the
+sequences that encode the triples.
+
+`tight` is yes if triples use all strings, as `verify --tight` requires. `canonical` is yes if
+`rewrite` with the block size of the predicates would write the same bytes. With --json both are
+true or false.
+
+If the file is not valid, report the first error, as `verify` does.";
+
+pub(crate) const JSON_HELP: &str = "Print one JSON object";
 
 pub(crate) const STRINGS_ABOUT: &str = "Print all strings of a role with their IDs";
 
@@ -157,6 +181,19 @@ regular file, it is opened and written.
 If OUT is - or the file or pipe of standard output, the file goes there, after what is already
 written there, and the line of counts to standard error. If that goes there too, the line is not
 printed.";
+
+pub(crate) const EXPLAIN_ABOUT: &str = "Explain an error of a file or a text";
+
+pub(crate) const EXPLAIN_LONG_ABOUT: &str =
+    "Explain an error of an HDT file or of an N-Triples text.
+
+Print what the error means, what usually causes it, and what to do. REASON is the number or the
+name in an error message, as 11 or Check32. A number may be that of two errors: one of a file and
+one of a text. docs/ERRORS.md has the same texts, and those of the other messages.";
+
+pub(crate) const REASON_HELP: &str = "The number or the name of the error";
+
+pub(crate) const VERBOSE_HELP: &str = "Print more lines after an error message";
 
 pub(crate) const IN_HELP: &str = "Path of the N-Triples document to read, or - for standard input";
 

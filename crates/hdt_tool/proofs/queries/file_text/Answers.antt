@@ -27,6 +27,14 @@ returns-in_ok-verdict-in-VerifyTight-clause-ok c =
     subst (λ (a : Action). Prints a c.args.bytes.now c.in_ok-verdict-in-VerifyTight.field-0.items) (sym c.in-VerifyTight.is)
     (record { graph = found.value; encoded = found.is; printed = c.in_ok-verdict-in-VerifyTight.ensures ∙ ap verdict (sym found.viewed_as) })
 
+pub returns-in-Info-clause-ok : goal.returns-in-Info-clause-ok
+returns-in-Info-clause-ok c =
+    IfOk-weaker c.file_info_text.result _ _ (λ text h. subst (λ (a : Action). Prints a c.args.bytes.now text.items) (sym c.in-Info.is) h) c.file_info_text.ensures.ok
+
+pub returns-in-Info-clause-err : goal.returns-in-Info-clause-err
+returns-in-Info-clause-err c =
+    IfErr-weaker c.file_info_text.result _ _ (λ e h. subst (λ (a : Action). IsFaultOfBytes a c.args.bytes.now e) (sym c.in-Info.is) h) c.file_info_text.ensures.err
+
 pub returns-in_ok-read-in-Nth-clause-ok : goal.returns-in_ok-read-in-Nth-clause-ok
 returns-in_ok-read-in-Nth-clause-ok c =
     IfOk-weaker c.string_text.result _ _
