@@ -65,7 +65,7 @@ TYPED = {
 OFFERED: dict[str, list[str]] = {
     "hdt re": ["rewrite"],
     "hdt verify --t": ["--tight"],
-    "hdt find --": ["--count", "--help", "--most", "--numbers", "--raw", "--verbose"],
+    "hdt find --": ["--count", "--help", "--most", "--numbers", "--quiet", "--raw", "--verbose"],
     "hdt string x.hdt o": ["object"],
     "hdt build --b": ["--base", "--block-size"],
     "hdt rewrite --p": ["--progress"],
