@@ -68,6 +68,11 @@ ParsesAsFlag entry flag = (IsUsed entry → flag ≡ true) × (IsUnused entry �
 abbrev pub ParsesAsPart : List Row → TermArgument → Option (Vec ℕ Global) → Type 0
 ParsesAsPart rows word x = ParsesAsStringOrAny (one_of (codes "raw") rows) (first_of (argument_name word) rows) x
 
+-- The prefix is the text of `--prefix`, or empty without it.
+abbrev pub ParsesAsPrefix : Option Text → List ℕ → Type 0
+ParsesAsPrefix None prefix = prefix ≡ []
+ParsesAsPrefix (Some text) prefix = prefix ≡ text
+
 -- The arguments S, P and O mean these strings, or any.
 pub record ParsesAsPattern (rows : List Row) (given : GivenStrings) : Type 0 where
   pub subject : Option (Vec ℕ Global)
@@ -86,12 +91,17 @@ pub record ParsesAsFormat (rows : List Row) (format : OutputFormat) : Type 0 whe
   pub numbers : IsUnused (one_of (codes "count") rows) → IsUsed (one_of (codes "numbers") rows) → format ≡ Numbers
   pub lines : IsUnused (one_of (codes "count") rows) → IsUnused (one_of (codes "numbers") rows) → format ≡ NTriples
 
--- The command is `find`, with this pattern, output format and limit.
+-- The command is `find`, without `--quiet`, and with this pattern, output format and limit.
 pub record IsFindCommand (name : Text) (rows : List Row) (given : GivenStrings) (format : OutputFormat) (most : Option ℕ) : Type 0 where
   pub named : name ≡ codes "find"
   pub words : ParsesAsPattern rows given
   pub format_is : ParsesAsFormat rows format
   pub most_is : ParsesAsNumberOrNone (one_of (codes "most") rows) most
+  pub not_quiet : ParsesAsFlag (one_of (codes "quiet") rows) false
+
+-- The command is `find`, with `--quiet` and this pattern.
+abbrev pub IsQuietFindCommand : Text → List Row → GivenStrings → Type 0
+IsQuietFindCommand name rows given = (name ≡ codes "find") × ParsesAsPattern rows given × ParsesAsFlag (one_of (codes "quiet") rows) true
 
 -- The action finds triples by these strings, in this output format and up to this limit.
 abbrev pub IsFindAction : GivenStrings → OutputFormat → Option ℕ → Action → Type 0
@@ -106,6 +116,10 @@ IsDumpCommand name given numbers = (name ≡ codes "dump") × (given ≡ None �
 -- The command is `verify`, with or without `--tight`.
 abbrev pub IsVerifyCommand : Text → List Row → Bool → Type 0
 IsVerifyCommand name rows tight = (name ≡ codes "verify") × ParsesAsFlag (one_of (codes "tight") rows) tight
+
+-- The command is `info`, with or without `--json`.
+abbrev pub IsInfoCommand : Text → List Row → Bool → Type 0
+IsInfoCommand name rows json = (name ≡ codes "info") × ParsesAsFlag (one_of (codes "json") rows) json
 
 -- The command is `answer`, with these options.
 pub record IsAnswerCommand (name : Text) (rows : List Row) (options : AnswerOptions) : Type 0 where
@@ -127,13 +141,18 @@ abbrev pub IsFileAction : Text → List Row → Action → Type 0
 IsFileAction name rows action.Head = name ≡ codes "head"
 IsFileAction name rows action.Verify = IsVerifyCommand name rows false
 IsFileAction name rows action.VerifyTight = IsVerifyCommand name rows true
+IsFileAction name rows (action.Info json) = IsInfoCommand name rows json
 IsFileAction name rows (action.Strings role) = (name ≡ codes "strings") × (first_of (codes "ROLE") rows ≡ Some (role_name role))
+    × ParsesAsFlag (one_of (codes "terms") rows) false × (first_of (codes "prefix") rows ≡ None)
+IsFileAction name rows (action.ListStrings role prefix terms) = (name ≡ codes "strings") × (first_of (codes "ROLE") rows ≡ Some (role_name role))
+    × ParsesAsFlag (one_of (codes "terms") rows) terms × ParsesAsPrefix (first_of (codes "prefix") rows) prefix.items
 IsFileAction name rows (action.Nth role n) = (name ≡ codes "string") × (first_of (codes "ROLE") rows ≡ Some (role_name role))
     × ParsesAsNumber 64 (one_of (codes "N") rows) n
 IsFileAction name rows (action.Number role x) = (name ≡ codes "number") × (first_of (codes "ROLE") rows ≡ Some (role_name role))
     × ParsesAsString (one_of (codes "raw") rows) (first_of (codes "TERM") rows) x.items
 IsFileAction name rows (action.Find given numbers) = IsFindCommand name rows given (find_format numbers) None ⊎ IsDumpCommand name given numbers
 IsFileAction name rows (action.Search given format most) = IsFindCommand name rows given format most
+IsFileAction name rows (action.Exists given) = IsQuietFindCommand name rows given
 IsFileAction name rows (action.Count role top raw) = IsCountCommand name rows role top raw
 IsFileAction name rows (action.Answer options) = IsAnswerCommand name rows options
 IsFileAction name rows (action.Build options) = ⊥

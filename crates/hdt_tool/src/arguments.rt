@@ -3,7 +3,7 @@ ghost use Rattle.std.specs.Prelude.{◌≡◌, ◌≢◌, ℕ, List, [], IfOk, I
 ghost use Rattle.clap.specs.Words.{first_of, one_of, found_of, rows_of};
 ghost use Rattle.hdt_build.specs.declared.options.Options.{Options};
 ghost use Rattle.hdt_wire.specs.declared.role.Role.{Role};
-ghost use Rattle.hdt_tool.specs.CommandLine.{IsFileAction, Refutes, RefutesOrInvalidTerm, IsFaultOfArgument, IsInvalidTerm, IsInvalidPart, IsStringOfText, IsExplanation, IsFindAction, HasInvalidTerm, ParsesAsFlag, ParsesAsFormat, ParsesAsNumber, ParsesAsNumberOrNone, ParsesAsOptions, ParsesAsString, ParsesAsPart, IsFaultOfTerm};
+ghost use Rattle.hdt_tool.specs.CommandLine.{IsFileAction, Refutes, RefutesOrInvalidTerm, IsFaultOfArgument, IsInvalidTerm, IsInvalidPart, IsStringOfText, IsExplanation, IsFindAction, HasInvalidTerm, ParsesAsFlag, ParsesAsFormat, ParsesAsNumber, ParsesAsNumberOrNone, ParsesAsOptions, ParsesAsString, ParsesAsPart, IsFaultOfTerm, ParsesAsPrefix};
 ghost use Rattle.hdt_tool.specs.ErrorLines.{argument_name};
 ghost use Rattle.hdt_usage.specs.CommandTable.{role_name};
 
@@ -131,6 +131,15 @@ pub(crate) fn verify_action<'m>(matches: &ArgMatches<'m>) -> Action
     Action::Verify
 }
 
+/// The action of `info`.
+pub(crate) fn info_action<'m>(matches: &ArgMatches<'m>) -> Action
+    ensures { IsFileAction (codes "info") (rows_of (found_of matches.now)) result }
+{
+    Action::Info {
+        json: has_flag(matches, "json"),
+    }
+}
+
 /// The error for an argument that is not a valid term.
 fn term_fault(word: TermArgument, fault: TermFault) -> UsageFault
     ensures { IsFaultOfTerm word fault result }
@@ -255,8 +264,43 @@ pub(crate) fn find_action<'m>(alloc: Global, matches: &ArgMatches<'m>) -> Result
     let predicate = pattern_argument(alloc, matches, TermArgument::Predicate)?;
     let object = pattern_argument(alloc, matches, TermArgument::Object)?;
     let given = [subject, predicate, object];
+    if has_flag(matches, "quiet") {
+        return Ok(Action::Exists { given });
+    }
     let most = optional_number(matches, "most");
     Ok(find_or_search(given, format_option(matches), most))
+}
+
+/// The bytes of a text; none without a text.
+fn bytes_or_none(alloc: Global, text: Option<&str>) -> Result<Vec<u8>, AllocError>
+    ensures { IfOk result (λ bytes. ParsesAsPrefix (option_map (λ given. given.now) text.entry) bytes.items) }
+{
+    match text {
+        Some(text) => text.as_bytes().to_vec(alloc),
+        None => Ok(Vec::new(alloc)),
+    }
+}
+
+/// The action of `strings`: `Strings` without `--prefix` and `--terms`.
+pub(crate) fn strings_action<'m>(
+    alloc: Global,
+    matches: &ArgMatches<'m>,
+) -> Result<Action, UsageFault>
+    ensures ok { IfOk result (IsFileAction (codes "strings") (rows_of (found_of matches.now))) }
+    ensures refused { IfErr result (Refutes ((role : Role) × (first_of (codes "ROLE") (rows_of (found_of matches.now)) ≡ Some (role_name role)))) }
+{
+    let role = required_role(alloc, matches)?;
+    let terms = has_flag(matches, "terms");
+    let prefix = argument_text(matches, "prefix");
+    if !terms && prefix.is_none() {
+        return Ok(Action::Strings(role));
+    }
+    let prefix = bytes_or_none(alloc, prefix)?;
+    Ok(Action::ListStrings {
+        role,
+        prefix,
+        terms,
+    })
 }
 
 /// The action of `count`.

@@ -9,8 +9,8 @@ ghost use Rattle.hdt_tool.specs.declared.request.Request.{Request};
 
 use crate::arguments::{
     answer_action, argument_text, build_options, count_action, explanation, find_action, has_flag,
-    missing, required_block_size, required_id, required_role, required_term, required_text,
-    verify_action,
+    info_action, missing, required_block_size, required_id, required_role, required_term,
+    required_text, strings_action, verify_action,
 };
 use crate::fault::{TermArgument, UsageFault};
 use crate::request::{Action, Invocation, Request};
@@ -52,7 +52,8 @@ fn file_action<'m>(
     match name {
         "head" => Ok(Action::Head),
         "verify" => Ok(verify_action(matches)),
-        "strings" => Ok(Action::Strings(required_role(alloc, matches)?)),
+        "info" => Ok(info_action(matches)),
+        "strings" => strings_action(alloc, matches),
         "string" => Ok(Action::Nth(required_role(alloc, matches)?, required_id(alloc, matches)?)),
         "number" => Ok(Action::Number(
             required_role(alloc, matches)?,

@@ -254,7 +254,7 @@ fn put_context(
         ToolFault::NoTriples | ToolFault::NoSuchTerm | ToolFault::NoSuchNumber => {
             put_path_line(subject.input, out)
         }
-        ToolFault::OutOfMemory | ToolFault::BadOptions => Ok(()),
+        ToolFault::OutOfMemory | ToolFault::BadOptions | ToolFault::NoMatch => Ok(()),
     }
 }
 

@@ -99,6 +99,9 @@ pub enum ToolFault {
     /// The role has no such string.
     #[error("no such term")]
     NoSuchTerm,
+    /// No triple has the given strings.
+    #[error("no match")]
+    NoMatch,
     /// The role has no string with this ID.
     #[error("no such number")]
     NoSuchNumber,

@@ -11,7 +11,7 @@
 //!
 //! - `request` and `fault`: requests, and the errors of a command line and of a command;
 //! - `arguments` and `command_line`: parsing a command line with `clap` and hdt_usage's table of commands;
-//! - the modules `printed_*`: output texts;
+//! - the modules `printed_*`, `listed_strings` and `counts`: output texts;
 //! - `queries`: the output of each command that only reads; `dialogue`: requests over one graph;
 //! - `commands`: all commands, from a reader to a writer;
 //! - `error_lines`: exit statuses and error messages; `error_context`: the lines that follow a message;
@@ -28,7 +28,10 @@ mod error_context;
 mod error_lines;
 mod fault;
 mod files;
+mod info;
+mod listed_strings;
 mod output_file;
+mod printed_info;
 mod printed_reports;
 mod printed_strings;
 mod printed_triples;

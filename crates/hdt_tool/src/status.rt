@@ -68,12 +68,14 @@ fn print_status(rt: &HostRuntime, outcome: io::Result<()>) -> u8
     }
 }
 
-/// The status of a command. Prints the message of an error, and the lines that follow it.
-fn done(rt: &HostRuntime, subject: Subject<'_>, outcome: Result<(), ToolFault>) -> u8
+/// The status of a command. Prints the message of an error, and the lines that follow it; none if `find --quiet` has no
+/// match.
+pub(crate) fn done(rt: &HostRuntime, subject: Subject<'_>, outcome: Result<(), ToolFault>) -> u8
     ensures { MatchResult outcome (λ _. result ≡ 0) (λ fault. (result ≡ fault_status fault) ⊎ (result ≡ 4)) }
 {
     match outcome {
         Ok(()) => 0,
+        Err(ToolFault::NoMatch) => 1,
         Err(fault) => {
             let status = report_line(rt, fault_line(rt.alloc(), &fault));
             print_context(rt, subject, &fault);

@@ -57,9 +57,18 @@ progress_flag = flag_arg (codes "progress")
 abbrev pub verify_command : App
 verify_command = with_rule (with_rule (file_command (codes "verify")) (flag_arg (codes "tight"))) progress_flag
 
--- `strings FILE ROLE`
+-- `info FILE`, with `--json`
+abbrev pub info_command : App
+info_command = with_rule (file_command (codes "info")) (flag_arg (codes "json"))
+
+-- `--prefix STR`: a text; no default.
+abbrev pub prefix_option : Rule
+prefix_option = record (new_rule (codes "prefix")) { long = Some (codes "prefix"); value_names = 1 }
+
+-- `strings FILE ROLE`, with `--prefix` and `--terms`
 abbrev pub strings_command : Names → App
-strings_command names = with_rule (file_command (codes "strings")) (role_arg names)
+strings_command names =
+    with_rule (with_rule (with_rule (file_command (codes "strings")) (role_arg names)) prefix_option) (flag_arg (codes "terms"))
 
 -- `string FILE ROLE N`
 abbrev pub string_command : Names → App
@@ -88,11 +97,11 @@ abbrev pub find_pattern_command : App
 find_pattern_command =
     with_rule (with_rule (with_rule (file_command (codes "find")) (required_arg (codes "S"))) (required_arg (codes "P"))) (required_arg (codes "O"))
 
--- `find FILE S P O`, with `--raw`, `--numbers`, `--count` and `--most`
+-- `find FILE S P O`, with `--raw`, `--numbers`, `--count`, `--quiet` and `--most`
 abbrev pub find_command : App
 find_command =
-    with_rule (with_rule (with_rule (with_rule find_pattern_command (flag_arg (codes "raw"))) (flag_arg (codes "numbers")))
-    (flag_arg (codes "count"))) most_option
+    with_rule (with_rule (with_rule (with_rule (with_rule find_pattern_command (flag_arg (codes "raw"))) (flag_arg (codes "numbers")))
+    (flag_arg (codes "count"))) (flag_arg (codes "quiet"))) most_option
 
 -- `dump FILE`
 abbrev pub dump_command : App
@@ -142,7 +151,7 @@ empty_program = let app = new_app (codes "hdt") in record app { top = record app
 
 -- The program with its commands, added in groups.
 abbrev pub file_commands : App
-file_commands = with_subcommand (with_subcommand empty_program head_command.top) verify_command.top
+file_commands = with_subcommand (with_subcommand (with_subcommand empty_program head_command.top) verify_command.top) info_command.top
 
 abbrev pub lookup_commands : Names → App
 lookup_commands names = with_subcommand (with_subcommand (with_subcommand file_commands (strings_command names).top) (string_command names).top) (number_command names).top

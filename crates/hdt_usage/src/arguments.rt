@@ -2,11 +2,11 @@
 ghost use Rattle.std.specs.Prelude.{◌≡◌, IfOk, false};
 ghost use Rattle.clap.specs.Words.{app_of, rule_of, with_rule};
 ghost use Rattle.clap.specs.declared.builder.command.Command.TheViews.{out-Command as fields_of};
-ghost use Rattle.hdt_usage.specs.CommandTable.{required_arg, flag_arg, option_arg, role_arg, base_option, block_size_option, progress_flag, verbose_flag, number_arg, limit_option, longest_request_option, most_option};
+ghost use Rattle.hdt_usage.specs.CommandTable.{required_arg, flag_arg, option_arg, role_arg, base_option, block_size_option, progress_flag, verbose_flag, number_arg, limit_option, longest_request_option, most_option, prefix_option};
 
 use crate::help::{
-    BASE, BASE_HELP, BLOCK_SIZE_HELP, LONGEST_REQUEST_HELP, MOST_HELP, NUMBER_HELP, PROGRESS_HELP,
-    ROLE_HELP, VERBOSE_HELP,
+    BASE, BASE_HELP, BLOCK_SIZE_HELP, LONGEST_REQUEST_HELP, MOST_HELP, NUMBER_HELP, PREFIX_HELP,
+    PROGRESS_HELP, ROLE_HELP, VERBOSE_HELP,
 };
 use clap::{Arg, ArgAction, Command, value_parser};
 use std::alloc::{AllocError, Global};
@@ -139,6 +139,22 @@ pub(crate) fn with_verbose<'a>(
     ensures local { IfOk result (λ c. (fields_of c).has_globals ≡ false) }
 {
     with_flag(alloc, command, "verbose", VERBOSE_HELP)
+}
+
+/// Adds `--prefix`, whose value is a text, to the command.
+pub(crate) fn with_prefix<'a>(
+    alloc: Global,
+    command: Command<'a>,
+) -> Result<Command<'a>, AllocError>
+    requires { (fields_of command).has_globals ≡ false }
+    ensures shape { IfOk result (λ c. app_of c ≡ with_rule (app_of command.entry) prefix_option) }
+    ensures local { IfOk result (λ c. (fields_of c).has_globals ≡ false) }
+{
+    let option = Arg::new(alloc, "prefix")
+        .long("prefix")
+        .value_name("STR")
+        .help(PREFIX_HELP);
+    command.arg(option)
 }
 
 /// Adds an option whose value is a number below 2^64, without a default, to the command.

@@ -2,20 +2,21 @@
 ghost use Rattle.std.specs.Prelude.{◌≡◌, IfOk, false};
 ghost use Rattle.clap.specs.Words.{app_of, with_subcommand};
 ghost use Rattle.clap.specs.declared.builder.command.Command.TheViews.{out-Command as fields_of};
-ghost use Rattle.hdt_usage.specs.CommandTable.{build_command, rewrite_command, in_out_command, file_command, head_command, verify_command, strings_command, string_command, number_command, count_command, answer_command, find_command, find_pattern_command, dump_command, explain_command, empty_program, file_commands, lookup_commands, triple_commands, writing_commands, table};
+ghost use Rattle.hdt_usage.specs.CommandTable.{build_command, rewrite_command, in_out_command, file_command, head_command, verify_command, strings_command, string_command, number_command, count_command, answer_command, find_command, find_pattern_command, dump_command, explain_command, empty_program, file_commands, lookup_commands, triple_commands, writing_commands, table, info_command};
 
 use crate::arguments::{
     with_base, with_block_size, with_flag, with_limit, with_longest_request, with_most,
-    with_number, with_progress, with_required_arg, with_role, with_verbose,
+    with_number, with_prefix, with_progress, with_required_arg, with_role, with_verbose,
 };
 use crate::help::{
     ABOUT, AFTER_HELP, ANSWER_ABOUT, ANSWER_LONG_ABOUT, BUILD_ABOUT, BUILD_LONG_ABOUT, COUNT_ABOUT,
     COUNT_HELP, COUNT_LONG_ABOUT, DUMP_ABOUT, DUMP_LONG_ABOUT, EXPLAIN_ABOUT, EXPLAIN_LONG_ABOUT,
-    FILE_HELP, FIND_ABOUT, FIND_LONG_ABOUT, HEAD_ABOUT, HEAD_LONG_ABOUT, IN_HELP, NUMBER_ABOUT,
-    NUMBER_LONG_ABOUT, NUMBERS_HELP, OBJECT_HELP, OUT_HELP, PREDICATE_HELP, RAW_HELP,
-    RAW_PARTS_HELP, RAW_REQUESTS_HELP, RAW_STRINGS_HELP, REASON_HELP, REWRITE_ABOUT,
-    REWRITE_LONG_ABOUT, SERVED_FILE_HELP, STRING_ABOUT, STRINGS_ABOUT, STRINGS_LONG_ABOUT,
-    SUBJECT_HELP, TERM_HELP, TIGHT_HELP, TOP_HELP, VERIFY_ABOUT, VERIFY_LONG_ABOUT, VERSION,
+    FILE_HELP, FIND_ABOUT, FIND_LONG_ABOUT, HEAD_ABOUT, HEAD_LONG_ABOUT, IN_HELP, INFO_ABOUT,
+    INFO_LONG_ABOUT, JSON_HELP, NUMBER_ABOUT, NUMBER_LONG_ABOUT, NUMBERS_HELP, OBJECT_HELP,
+    OUT_HELP, PREDICATE_HELP, QUIET_HELP, RAW_HELP, RAW_PARTS_HELP, RAW_REQUESTS_HELP,
+    RAW_STRINGS_HELP, REASON_HELP, REWRITE_ABOUT, REWRITE_LONG_ABOUT, SERVED_FILE_HELP,
+    STRING_ABOUT, STRINGS_ABOUT, STRINGS_LONG_ABOUT, SUBJECT_HELP, TERM_HELP, TERMS_HELP,
+    TIGHT_HELP, TOP_HELP, VERIFY_ABOUT, VERIFY_LONG_ABOUT, VERSION,
 };
 use clap::Command;
 use std::alloc::{AllocError, Global};
@@ -69,13 +70,24 @@ fn new_verify_command<'a>(alloc: Global) -> Result<Command<'a>, AllocError>
     with_progress(alloc, command)
 }
 
-/// `strings FILE ROLE`.
+/// `info FILE`, with `--json`.
+fn new_info_command<'a>(alloc: Global) -> Result<Command<'a>, AllocError>
+    ensures shape { IfOk result (λ c. app_of c ≡ info_command) }
+    ensures local { IfOk result (λ c. (fields_of c).has_globals ≡ false) }
+{
+    let command = file_command(alloc, "info", INFO_ABOUT, INFO_LONG_ABOUT)?;
+    with_flag(alloc, command, "json", JSON_HELP)
+}
+
+/// `strings FILE ROLE`, with `--prefix` and `--terms`.
 fn new_strings_command<'a>(alloc: Global, roles: &'a [&'a str]) -> Result<Command<'a>, AllocError>
     ensures shape { IfOk result (λ c. app_of c ≡ strings_command roles.entry) }
     ensures local { IfOk result (λ c. (fields_of c).has_globals ≡ false) }
 {
     let command = file_command(alloc, "strings", STRINGS_ABOUT, STRINGS_LONG_ABOUT)?;
-    with_role(alloc, command, roles)
+    let command = with_role(alloc, command, roles)?;
+    let command = with_prefix(alloc, command)?;
+    with_flag(alloc, command, "terms", TERMS_HELP)
 }
 
 /// `string FILE ROLE N`.
@@ -121,7 +133,7 @@ fn find_pattern_command<'a>(alloc: Global) -> Result<Command<'a>, AllocError>
     with_required_arg(alloc, command, "O", OBJECT_HELP)
 }
 
-/// `find FILE S P O`, with `--raw`, `--numbers`, `--count` and `--most`.
+/// `find FILE S P O`, with `--raw`, `--numbers`, `--count`, `--quiet` and `--most`.
 fn new_find_command<'a>(alloc: Global) -> Result<Command<'a>, AllocError>
     ensures shape { IfOk result (λ c. app_of c ≡ find_command) }
     ensures local { IfOk result (λ c. (fields_of c).has_globals ≡ false) }
@@ -130,6 +142,7 @@ fn new_find_command<'a>(alloc: Global) -> Result<Command<'a>, AllocError>
     let command = with_flag(alloc, command, "raw", RAW_PARTS_HELP)?;
     let command = with_flag(alloc, command, "numbers", NUMBERS_HELP)?;
     let command = with_flag(alloc, command, "count", COUNT_HELP)?;
+    let command = with_flag(alloc, command, "quiet", QUIET_HELP)?;
     with_most(alloc, command)
 }
 
@@ -237,13 +250,14 @@ fn with_command<'a>(program: Command<'a>, command: Command<'a>) -> Result<Comman
     program.subcommand(command)
 }
 
-/// The program with `head` and `verify`. (Adding all commands in one function would take minutes to prove.)
+/// The program with `head`, `verify` and `info`. (Adding all commands in one function would take minutes to prove.)
 fn file_commands<'a>(alloc: Global) -> Result<Command<'a>, AllocError>
     ensures { IfOk result (λ c. app_of c ≡ file_commands) }
 {
     let program = program(alloc)?;
     let program = with_command(program, new_head_command(alloc)?)?;
-    with_command(program, new_verify_command(alloc)?)
+    let program = with_command(program, new_verify_command(alloc)?)?;
+    with_command(program, new_info_command(alloc)?)
 }
 
 /// The program with these and the dictionary lookups `strings`, `string` and `number`.

@@ -44,12 +44,42 @@ pub(crate) const TIGHT_HELP: &str = "Also reject strings that no triple uses";
 
 pub(crate) const PROGRESS_HELP: &str = "Report the bytes read on standard error";
 
+pub(crate) const INFO_ABOUT: &str = "Print the sizes of the parts of a file";
+
+pub(crate) const INFO_LONG_ABOUT: &str = "Print the sizes of the parts of a file.
+
+One line per value: its name, a tab, the value. With --json, one object with the same names.
+
+`bytes` and `header-bytes` are the sizes of the file and of its header; `triples`, `shared`,
+`subjects`, `predicates` and `objects` are the numbers of triples and of the strings of each
+section. For each section, `-bytes` is its size, `-block-size` the number of strings per block,
+`-mean-length` the mean length of a string in bytes, and `-offset-bits` the bits per block offset.
+`bitmap-y-bits`, `bitmap-z-bits`, `array-y-bits` and `array-z-bits` are the bits per entry of the
+sequences that encode the triples.
+
+`tight` is yes if triples use all strings, as `verify --tight` requires. `canonical` is yes if
+`rewrite` with the block size of the predicates would write the same bytes. With --json both are
+true or false.
+
+If the file is not valid, report the first error, as `verify` does.";
+
+pub(crate) const JSON_HELP: &str = "Print one JSON object";
+
 pub(crate) const STRINGS_ABOUT: &str = "Print all strings of a role with their IDs";
 
 pub(crate) const STRINGS_LONG_ABOUT: &str = "Print all strings of a role with their IDs.
 
 One line per string: the ID, a tab, the string. IDs count from 1. In a string \\, a line feed
-and a carriage return are printed as \\\\, \\n and \\r.";
+and a carriage return are printed as \\\\, \\n and \\r.
+
+With --prefix STR only the strings that begin with STR are printed. A search finds them. STR is
+the start of a dictionary string: of an IRI without brackets, or of a literal with its first
+quotation mark. With --terms each line is the N-Triples term of a string and nothing else, ready
+for `find`. If a string has no form in N-Triples, nothing is printed and the exit status is 1.";
+
+pub(crate) const PREFIX_HELP: &str = "Print the strings that begin with STR only";
+
+pub(crate) const TERMS_HELP: &str = "Print N-Triples terms, without IDs";
 
 pub(crate) const STRING_ABOUT: &str = "Print the string of a role that has an ID";
 
@@ -83,7 +113,10 @@ literal without escapes.
 With --numbers a line has the IDs of subject, predicate and object. This also shows triples with
 strings that have no form in N-Triples. With --count only the number of matching triples is
 printed, and --numbers has no effect. With --most N only the first N matching triples are
-printed or counted.";
+printed or counted.
+
+With --quiet nothing is printed. The exit status is 0 if a triple matches and 1 if none does. The
+search stops at the first match, so --numbers, --count and --most have no effect.";
 
 pub(crate) const ANSWER_ABOUT: &str = "Answer requests for triples from standard input";
 
@@ -199,5 +232,7 @@ pub(crate) const RAW_PARTS_HELP: &str = "Take S, P and O as dictionary strings";
 pub(crate) const NUMBERS_HELP: &str = "Print the IDs of each triple";
 
 pub(crate) const COUNT_HELP: &str = "Print the number of matching triples only";
+
+pub(crate) const QUIET_HELP: &str = "Print nothing; exit with 0 if a triple matches, else 1";
 
 pub(crate) const MOST_HELP: &str = "Stop after N triples";
