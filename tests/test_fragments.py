@@ -119,6 +119,29 @@ def test_far_pages(tmp_path: Path) -> None:
                 assert data(answer.text) == ntriples(found[100 * page - 100:100 * page])
 
 
+def test_far_pages_take_one_walk(tmp_path: Path) -> None:
+    """All far pages of a pattern together take one walk over its matches; then a page takes a thousand of them."""
+    text = "".join(f"<u:s{n:05}> <u:{p}> <u:o> .\n" for n in range(9_000) for p in "pq")
+    site = Site(fragments.Application({"datasets": {"odd": str(build(tmp_path, text))}}))
+    skipped: list[int] = []
+    position = hdt.Graph.position
+
+    def counting(graph: hdt.Graph, *pattern: Any, skip: int = 0, start: int = 0) -> Optional[int]:
+        skipped.append(skip)
+        return position(graph, *pattern, skip=skip, start=start)
+
+    with mock.patch.object(hdt.Graph, "position", counting):
+        for given in ({"predicate": "u:p"}, {"object": "u:o"}, {"predicate": "u:q", "object": "u:o"}):
+            matches = site.nquads(url(**given)).total
+            skipped.clear()
+            for page in (matches // 100, matches // 100, 3, 41, matches // 200):
+                before = sum(skipped)
+                answer = site.nquads(url(**given, page=page))
+                assert data(answer.text).count("\n") == 100
+                assert sum(skipped) - before < (1_000 if before else matches)
+            assert max(skipped) <= 1_000
+
+
 def next_of(answer: Answer) -> str:
     """The path that the control `next` leads to."""
     found = [o for _, p, o in controls(answer.text) if p == HYDRA + "next"]

@@ -16,7 +16,7 @@ from typing import Any, Optional
 
 import pytest
 
-from support.fragments import GUNICORN, ODD, Answer, Served, Site, build, fragments, served, url
+from support.fragments import GUNICORN, ODD, PATIENCE, Answer, Served, Site, build, fragments, served, url
 from support.python_package import ENVIRONMENT
 
 needs_gunicorn = pytest.mark.skipif(not os.path.exists(GUNICORN), reason="there is no gunicorn (Debian: gunicorn)")
@@ -179,7 +179,7 @@ def test_no_body_behind_head(odd: Path, tmp_path: Path, gunicorn: bool) -> None:
     shutil.copy(odd, tmp_path / "odd.hdt")
     with served(tmp_path, {"datasets": {"odd": "odd.hdt"}}, gunicorn) as server:
         host, port = server.url[len("http://"):].split(":")
-        with socket.create_connection((host, int(port)), timeout=20) as stream:
+        with socket.create_connection((host, int(port)), timeout=PATIENCE) as stream:
             stream.sendall(b"HEAD /odd HTTP/1.1\r\nHost: a\r\nConnection: close\r\n\r\n")
             got = b""
             while piece := stream.recv(65536):
@@ -228,14 +228,14 @@ def test_behind_nginx(odd: Path, tmp_path: Path) -> None:
             assert behind.nquads("/lod/odd?object=%22" + "x" * 6900).total == 0
         finally:
             proxy.terminate()
-            proxy.wait(20)
+            proxy.wait(PATIENCE)
 
 
 def test_command(tmp_path: Path) -> None:
     """`python -m hdt.fragments` says what is wrong with its words."""
     def said(*words: str) -> tuple[int, str]:
         command = [sys.executable, "-m", "hdt.fragments", *words]
-        done = subprocess.run(command, capture_output=True, text=True, timeout=60,
+        done = subprocess.run(command, capture_output=True, text=True, timeout=PATIENCE,
                               env={**os.environ, **ENVIRONMENT}, cwd=tmp_path)
         return done.returncode, done.stderr.strip().split("\n")[-1]
 

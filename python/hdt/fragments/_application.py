@@ -197,10 +197,11 @@ class Application:
             kind = formats.KINDS[media]
             if kind == HTML:
                 return pages.fragment_page(fragment)
-            statements, graph = fragments.controls(fragment), request.url + "#metadata"
+            form, statements = fragments.form(dataset, request.base), fragments.controls(fragment)
+            graph = request.url + "#metadata"
             if kind == JSONLD:
-                return writers.jsonld(fragment.data(), statements, graph).encode("utf-8", "replace")
-            return writers.LINES[kind](fragment.lines(), statements, graph).encode("utf-8", "replace")
+                return writers.jsonld(fragment.data(), form, statements, graph).encode("utf-8", "replace")
+            return writers.LINES[kind](fragment.lines(), form, statements, graph).encode("utf-8", "replace")
 
         return self._page(request, loaded, media, make)
 
@@ -269,9 +270,9 @@ def _document(statements: list[Triple], media: str) -> bytes:
     """Triples as a document of their own, without graphs."""
     kind = formats.KINDS[media]
     if kind == JSONLD:
-        return writers.jsonld(statements, [], "").encode("utf-8", "replace")
+        return writers.jsonld(statements, (), [], "").encode("utf-8", "replace")
     write = writers.ntriples if kind in (formats.NQUADS, formats.NTRIPLES) else writers.turtle
-    return write("", statements, "").encode("utf-8", "replace")
+    return write("", (), statements, "").encode("utf-8", "replace")
 
 
 def _is_known(request: Request, tag: str, modified: int) -> bool:

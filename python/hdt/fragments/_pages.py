@@ -20,7 +20,7 @@ _FIRST_PREDICATES = 12  # on the first page of a dataset
 _SUGGESTED = 300  # predicates that the search box suggests, at most
 _POINTING = 10  # triples that point to a subject, on its page
 
-_HINTS = ("any subject: an IRI", "any predicate: an IRI", 'any object: an IRI or "text"')
+_HINTS = ("any IRI", "any IRI", 'any IRI or "text"')
 
 
 def _view(request: Request, dataset: Dataset, loaded: Loaded, config: Config) -> View:
@@ -149,7 +149,7 @@ def _heading(fragment: Fragment, view: View) -> str:
 
 def _triples(fragment: Fragment, view: View) -> str:
     """The triples of the page with their count and the links to other pages."""
-    found, left_out, _ = fragment.found
+    found, left_out = fragment.found.triples, fragment.found.left_out
     first, last = fragment.skip + 1, fragment.skip + len(found) + left_out
     caption = f"Triples {first:,} to {last:,} of {fragment.count:,}" if found else ""
     heading = f'{fragment.count:,} {"triple matches" if fragment.count == 1 else "triples match"}'
