@@ -5,6 +5,7 @@ from __future__ import annotations
 import json
 import re
 import sys
+from contextlib import ExitStack
 from itertools import product
 from pathlib import Path
 from typing import Any, Optional
@@ -140,6 +141,25 @@ def test_far_pages_take_one_walk(tmp_path: Path) -> None:
                 assert data(answer.text).count("\n") == 100
                 assert sum(skipped) - before < (1_000 if before else matches)
             assert max(skipped) <= 1_000
+
+
+@pytest.mark.parametrize("media", [*FORMATS, "text/html"])
+@pytest.mark.parametrize("given", [{}, {"predicate": N}, {"predicate": P}, {"subject": "http://odd.example/s1"}],
+                         ids=["all", "numbers", "odd terms", "a subject"])
+def test_few_calls_a_page(odd: Path, media: str, given: dict[str, str]) -> None:
+    """A page takes a few calls of the engine, however many terms it has."""
+    site, called = Site(fragments.Application({"datasets": {"odd": str(odd)}})), list[str]()
+    with ExitStack() as patches:
+        for name in ("_asked", "_put", "_text"):
+            call = getattr(hdt.Graph, name)
+
+            def counting(graph: hdt.Graph, *parameters: Any, call: Any = call, name: str = name) -> Any:
+                called.append(name)
+                return call(graph, *parameters)
+
+            patches.enter_context(mock.patch.object(hdt.Graph, name, counting))
+        assert site.ask(url(**given), Accept=media).status == 200
+    assert 0 < len(called) <= 12, called
 
 
 def next_of(answer: Answer) -> str:

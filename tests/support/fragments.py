@@ -32,7 +32,9 @@ with mock.patch.object(sys, "dont_write_bytecode", True), mock.patch.object(sys,
     from hdt.fragments import _style as style
     from hdt.fragments.__main__ import Handler, Server
 
-__all__ = ["BASE", "ODD", "PATIENCE", "Answer", "Handler", "Served", "Server", "Site", "fragments", "hdt", "style", "url"]
+__all__ = [
+    "BASE", "ODD", "PATIENCE", "Answer", "Handler", "Served", "Server", "Site", "fragments", "hdt", "style", "url",
+]
 
 BASE = "http://localhost:8080/"
 PATIENCE = 60.0  # seconds that a server may take to start, as on a machine with other work

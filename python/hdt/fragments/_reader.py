@@ -96,6 +96,10 @@ class Page:
         subjects, predicates, objects = (column.strings for column in self.columns)
         return [(subjects[s], predicates[p], objects[o]) for s, p, o in self.ids]
 
+    def objects(self, last: int) -> set[str]:
+        """The objects with IDs up to a last one."""
+        return {term for number, term in self.columns[2].strings.items() if number <= last} if self.columns else set()
+
     def lines(self, prefix: str) -> str:
         """The triples as N-Triples, with blank nodes as IRIs of a prefix, if there is one."""
         if not self.ids:
