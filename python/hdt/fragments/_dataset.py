@@ -36,7 +36,7 @@ class Loaded:
                 break
             before = after
         self.identity = identity_of(after)
-        self.modified = after.st_mtime
+        self.modified = max(after.st_mtime, after.st_ctime)  # (a file that is renamed keeps the first)
 
 
 class Dataset:
