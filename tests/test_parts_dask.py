@@ -133,7 +133,7 @@ def test_errors_are_not_remembered(tmp_path: Path, client: Any) -> None:
         assert fault.value.file == manifest.parts[1].file
 
 
-@pytest.mark.parametrize("where", ["hdt.parts._build.split", "hdt.build", "os.stat"])
+@pytest.mark.parametrize("where", ["hdt.parts._build.split", "hdt.build", "hdt.parts._build.Part"])
 def test_worker_that_dies_in_a_build(tmp_path: Path, client: Any, expected: parts.Manifest, where: str) -> None:
     """In a split, before a part is built, and after that: its task is done by another one."""
     both(client)

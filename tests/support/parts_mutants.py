@@ -13,7 +13,12 @@ import sys
 from support.rdflib_mutants import Wrong, first_test_that_sees, judge
 
 PACKAGE = "python/hdt/parts"
-TESTS = ["tests/test_parts.py", "tests/test_parts_search.py", "tests/test_parts_workers.py"]
+BUILD, SEARCH, WORKERS = "tests/test_parts.py", "tests/test_parts_search.py", "tests/test_parts_workers.py"
+# The tests that are likely to see a wrong body come first.
+ORDERS = {
+    "_executor": [WORKERS, BUILD, SEARCH], "_folder": [SEARCH, BUILD, WORKERS], "_graph": [SEARCH, BUILD, WORKERS],
+    "_files": [SEARCH, BUILD, WORKERS], "_manifest": [SEARCH, BUILD, WORKERS],
+}
 
 WRONG = [
     # splitting
@@ -128,4 +133,5 @@ WRONG = [
 ]
 
 if __name__ == "__main__":
-    sys.exit(judge(WRONG, lambda wrong: first_test_that_sees(wrong, PACKAGE, TESTS)))
+    sys.exit(judge(WRONG, lambda wrong: first_test_that_sees(
+        wrong, PACKAGE, ORDERS.get(wrong.module, [BUILD, SEARCH, WORKERS]))))
