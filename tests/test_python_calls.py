@@ -391,16 +391,21 @@ def test_other_roles(call: Callable[[hdt.Graph], object], three: hdt.Graph) -> N
 # ---- text in pieces
 
 
-@given(GRAPHS, st.integers(0, 19), st.sampled_from([1, 60, 2**16]))
+@given(GRAPHS, st.integers(0, 19), st.sampled_from([1, 2, 7, 1_024]))
 @example(WORKED, 0, 1)
 def test_text_in_pieces(triples: list[Triple], at: int, size: int) -> None:
     """The pieces of each pattern's text, none of them empty, are that text."""
-    with hdt.Graph(reference.graph(strings_of(triples)).data) as graph, mock.patch.object(_handle, "_PIECE", size):
+    with hdt.Graph(reference.graph(strings_of(triples)).data) as graph, mock.patch.object(_handle, "_LINES", size):
         found = list(graph)
         for pattern in [*patterns_of(found[at % len(found)]), [None, "u:none", None], ["u:none", None, None]]:
             pieces = list(graph.text_pieces(*pattern))
             assert "".join(pieces) == graph.text(*pattern)
-            assert all(piece.endswith("\n") for piece in pieces)
+            assert all(piece.count("\n") <= size and piece.endswith("\n") for piece in pieces)
+            pages, start = [], 0
+            while start is not None:
+                page, start = graph.page_text(*pattern, start=start, limit=size)
+                pages.append(page)
+            assert [page for page in pages if page] == pieces
             written, told = io.BytesIO(), io.StringIO()
             graph.write_text(written, *pattern)
             graph.write_text(told, *pattern)
@@ -408,11 +413,11 @@ def test_text_in_pieces(triples: list[Triple], at: int, size: int) -> None:
 
 
 def test_many_pieces(many: tuple[hdt.Graph, list[Triple]], tmp_path: Path) -> None:
-    """The text of a large graph comes in pieces of some 64 KiB, and can be built again."""
+    """The text of a large graph comes in pieces of 1,024 lines, and can be built again."""
     graph, found = many
     pieces = list(graph.text_pieces())
     assert "".join(pieces) == lines(found)
-    assert len(pieces) > 50 and max(map(len, pieces)) < 2 * 65_536 and min(map(len, pieces[:-1])) >= 65_536
+    assert len(pieces) > 50 and {piece.count("\n") for piece in pieces[:-1]} == {1_024}
     with open(tmp_path / "all.nt", "wb") as file:
         graph.write_text(file)
     assert hdt.build(tmp_path / "all.nt", tmp_path / "all.hdt").triples == len(found)
@@ -422,7 +427,7 @@ def test_many_pieces(many: tuple[hdt.Graph, list[Triple]], tmp_path: Path) -> No
 def test_pieces_with_a_string_that_is_no_term() -> None:
     """The pieces before it come; then it is an error, as of `text`."""
     strings = [(b"u:a", b"u:p", b"u:b"), (b"u:a", b"u:q", b"rel"), (b"u:b", b"u:p", b"u:a")]
-    with hdt.Graph(reference.graph(strings).data) as graph, mock.patch.object(_handle, "_PIECE", 1):
+    with hdt.Graph(reference.graph(strings).data) as graph, mock.patch.object(_handle, "_LINES", 1):
         assert list(graph.text_pieces(p="u:p")) == ["<u:a> <u:p> <u:b> .\n", "<u:b> <u:p> <u:a> .\n"]
         for subject in (None, "u:a"):
             with pytest.raises(hdt.NotATerm) as raised:
@@ -439,6 +444,7 @@ CLOSED_CALLS: dict[str, Callable[[hdt.Graph], object]] = {
     "id_array": lambda graph: graph.id_array(),
     "page": lambda graph: graph.page(),
     "page_ids": lambda graph: graph.page_ids(1),
+    "page_text": lambda graph: graph.page_text(),
     "position": lambda graph: graph.position(),
     "terms": lambda graph: graph.terms("subject"),
     "predicates": lambda graph: graph.predicates(),
