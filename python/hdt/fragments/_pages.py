@@ -37,12 +37,13 @@ def _crumbs(request: Request, config: Config, *more: tuple[str, str]) -> str:
 
 def _facts(loaded: Loaded) -> str:
     size = loaded.reader.counts
-    facts = (
+    facts = [
         plural(size.triples, "triple", "triples"),
         plural(size.shared + size.subjects, "subject", "subjects"),
         plural(size.predicates, "predicate", "predicates"),
-        plural(size.shared + size.objects, "object", "objects"),
-    )
+    ]
+    if loaded.reader.objects is not None:
+        facts.append(plural(loaded.reader.objects, "object", "objects"))
     return '<ul class="facts">' + "".join(f"<li>{fact}</li>" for fact in facts) + "</ul>"
 
 
@@ -185,7 +186,7 @@ def _alternates(url: str) -> str:
 
 def fragment_page(fragment: Fragment) -> bytes:
     """A page of a fragment."""
-    subjects = fragment.found.objects(fragment.loaded.reader.counts.shared)
+    subjects = fragment.loaded.reader.subjects(fragment.found)
     view = _view(fragment.request, fragment.dataset, fragment.config, subjects)
     hints = "".join(f'<p class="box hint" role="alert">{text(hint)}</p>' for hint in fragment.hints)
     named = [f"{role} {view.name(term)}" for role, term in zip(ROLES, fragment.pattern) if term]
@@ -205,7 +206,7 @@ def description_page(request: Request, dataset: Dataset, loaded: Loaded, config:
     known = loaded.reader.predicates
     table = view.predicates(known, "The most used ones first") if known else (
         f'<p class="box none">There are more than {config.partitions:,} predicates, which are not counted here.</p>')
-    file = f'<p><a href="{text(view.url)}/data.hdt">The HDT file</a></p>' if dataset.source.download else ""
+    file = f'<p><a href="{text(view.url)}/data.hdt">The HDT file</a></p>' if dataset.source.gives_file else ""
     license = dataset.source.license
     link = f'<a href="{text(license)}" rel="noopener noreferrer nofollow">{text(license)}</a>'
     licensed = f"<p>License: {link}</p>" if license.startswith(("http:", "https:")) else ""
