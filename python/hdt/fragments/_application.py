@@ -45,7 +45,7 @@ PREFLIGHT = [
 ]
 NO_STORE = ("Cache-Control", "no-store")
 PLAIN = ("Content-Type", "text/plain;charset=utf-8")
-VERSION = "2"  # of the pages: another one makes other ETags
+VERSION = "3"  # of the pages: another one makes other ETags
 _SMALLEST_PACKED = 1000  # bytes
 
 log = logging.getLogger("hdt.fragments")
