@@ -2,6 +2,7 @@
 
 from __future__ import annotations
 
+import functools
 import hashlib
 import logging
 import time
@@ -26,10 +27,13 @@ from hdt.fragments._request import Headers, Refusal, Request, bad, request_of
 from hdt.fragments._terms import Triple
 
 METHODS = "GET, HEAD, OPTIONS"
-COMMON = [
+NOT_MODIFIED = [
     ("Access-Control-Allow-Origin", "*"),
-    ("Access-Control-Expose-Headers", "ETag, Last-Modified, Content-Range, Accept-Ranges"),
     ("Vary", "Accept, Accept-Encoding"),
+]
+COMMON = [
+    *NOT_MODIFIED,
+    ("Access-Control-Expose-Headers", "ETag, Last-Modified, Content-Range, Accept-Ranges"),
     ("X-Content-Type-Options", "nosniff"),
     ("Referrer-Policy", "no-referrer"),
 ]
@@ -41,7 +45,7 @@ PREFLIGHT = [
 ]
 NO_STORE = ("Cache-Control", "no-store")
 PLAIN = ("Content-Type", "text/plain;charset=utf-8")
-VERSION = "2"  # of the pages: another one makes other ETags
+VERSION = "3"  # of the pages: another one makes other ETags
 _SMALLEST_PACKED = 1000  # bytes
 
 log = logging.getLogger("hdt.fragments")
@@ -79,7 +83,7 @@ class Application:
         answer = self._answered(environ, method)
         self._pack(answer, environ.get("HTTP_ACCEPT_ENCODING", ""))
         length = answer.length if answer.pieces else len(answer.body)
-        headers = COMMON + answer.headers
+        headers = (NOT_MODIFIED if answer.status[:3] == "304" else COMMON) + answer.headers
         if answer.status[:3] not in ("304", "204"):
             headers.append(("Content-Length", str(length)))
         if self.config.log and log.isEnabledFor(logging.INFO):
@@ -175,7 +179,7 @@ class Application:
         known = _known(request, tag, modified)
         headers = [
             ("ETag", known or tag),
-            ("Last-Modified", formatdate(modified, usegmt=True)),
+            ("Last-Modified", _date(modified)),
             ("Cache-Control", f"public, max-age={self.config.max_age}"),
         ]
         return headers, known is not None
@@ -265,6 +269,12 @@ class Application:
             headers.append(("Content-Range", f"bytes {first}-{end - 1}/{size}"))
         pieces = download.Pieces(file, first, end)
         return Answer("206 Partial Content" if part else "200 OK", headers, pieces=pieces, length=end - first)
+
+
+@functools.lru_cache(64)
+def _date(seconds: int) -> str:
+    """A time as HTTP writes it."""
+    return formatdate(seconds, usegmt=True)
 
 
 def _document(statements: list[Triple], media: str) -> bytes:

@@ -186,7 +186,7 @@ def _alternates(url: str) -> str:
 
 def fragment_page(fragment: Fragment) -> bytes:
     """A page of a fragment."""
-    subjects = fragment.found.objects(fragment.loaded.reader.counts.shared)
+    subjects = fragment.loaded.reader.subjects(fragment.found)
     view = _view(fragment.request, fragment.dataset, fragment.config, subjects)
     hints = "".join(f'<p class="box hint" role="alert">{text(hint)}</p>' for hint in fragment.hints)
     named = [f"{role} {view.name(term)}" for role, term in zip(ROLES, fragment.pattern) if term]

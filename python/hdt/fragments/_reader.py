@@ -96,10 +96,6 @@ class Page:
         subjects, predicates, objects = (column.strings for column in self.columns)
         return [(subjects[s], predicates[p], objects[o]) for s, p, o in self.ids]
 
-    def objects(self, last: int) -> set[str]:
-        """The objects with IDs up to a last one."""
-        return {term for number, term in self.columns[2].strings.items() if number <= last} if self.columns else set()
-
     def lines(self, prefix: str) -> str:
         """The triples as N-Triples, with blank nodes as IRIs of a prefix, if there is one."""
         if not self.ids:
@@ -115,8 +111,8 @@ class Reader:
         """Read a graph. Its predicates are counted at once, where it has no more of them than `most_predicates`."""
         self._graph = graph
         self.counts = graph.counts
-        is_one = isinstance(graph, hdt.Graph)
-        self.objects = self.counts.shared + self.counts.objects if is_one else None  # (not known of a graph in parts)
+        self._is_one = isinstance(graph, hdt.Graph)  # (and not in parts, whose IDs are strings)
+        self.objects = self.counts.shared + self.counts.objects if self._is_one else None
         self._counted: Kept[Pattern, int] = Kept(_KEPT)
         self._positions: Kept[Pattern, Positions] = Kept(_KEPT_POSITIONS)
         self.predicates = self._by_count() if self.counts.predicates <= most_predicates else []
@@ -138,7 +134,7 @@ class Reader:
         if not skip:
             return 0
         s, p, o = (term is not None for term in pattern)
-        if s >= p >= o:  # (these matches follow one another, so it takes no walk)
+        if s >= p >= o or not self._is_one:  # (it takes no walk, or one within a part)
             return self._graph.position(*pattern, skip=skip)
         return self._positions.ask(pattern, lambda: Positions(self._graph, pattern)).after(skip)
 
@@ -165,6 +161,13 @@ class Reader:
         if terms.are_plain(strings, role):
             return Column(dict(zip(ids, strings)), True)
         return Column({n: string if terms.is_term(string, role) else "" for n, string in zip(ids, strings)}, False)
+
+    def subjects(self, page: Page) -> set[str]:
+        """The objects of a page that are subjects, too."""
+        objects = page.columns[2].strings if page.columns else {}
+        if self._is_one:  # (the first IDs are those of such strings)
+            return {term for number, term in objects.items() if number <= self.counts.shared}
+        return {term for term in objects.values() if self.has(0, term)}
 
     def text(self, pattern: Pattern) -> Optional[str]:
         """All matching triples as N-Triples; None where not all strings are terms."""
