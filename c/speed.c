@@ -1,4 +1,4 @@
-/* speed FILE: how long the calls on an HDT file take, as rows of a table in Markdown. Nothing of it is proved.
+/* speed FILE: the CPU time of the calls on an HDT file, as rows of a table in Markdown. Nothing of it is proved.
  *
  *     cc -O2 -o speed speed.c $(pkg-config --cflags --libs hdt)
  */
@@ -14,7 +14,7 @@ static uint64_t lens[LOOKS], numbers[LOOKS], found[4096][3];
 
 static double now(void) {
     struct timespec time;
-    clock_gettime(CLOCK_MONOTONIC, &time);
+    clock_gettime(CLOCK_PROCESS_CPUTIME_ID, &time);
     return (double)time.tv_sec * 1e6 + (double)time.tv_nsec / 1e3;
 }
 
@@ -24,6 +24,40 @@ static void row(const char *what, double begin, uint64_t count) {
     printf("| %s | %llu | %.3f |\n", what, (unsigned long long)count, each);
 }
 
+enum { RUNS = 7 };
+
+/* All matches of a pattern by one call, and by pages of each size: the least of several runs. */
+static void page_rows(hdt_graph *graph, const char *what, const hdt_pattern *pattern, uint64_t (*out)[3]) {
+    static const size_t sizes[] = {0, 100, 1000, 10000, 100000}; /* 0: one call of hdt_pattern_find */
+    uint64_t count = hdt_pattern_matching(graph, pattern), put, next;
+    double begin, took, least, once = 0;
+    size_t i, run;
+    if (count == 0 || count > ROOM) {
+        return;
+    }
+    for (i = 0; i < sizeof sizes / sizeof *sizes; i++) {
+        for (run = 0, least = 0; run < RUNS; run++) {
+            begin = now();
+            if (sizes[i] == 0) {
+                put = hdt_pattern_find(graph, pattern, 0, out, count);
+            } else {
+                for (put = 0, next = 0; next < HDT_CLOSED;) {
+                    uint64_t found = hdt_page(graph, pattern, next, out + put, put + sizes[i] < ROOM ? sizes[i] : ROOM - put, &next);
+                    if (found > count) {
+                        return;
+                    }
+                    put += found;
+                }
+            }
+            took = (now() - begin) / (double)put;
+            least = run == 0 || took < least ? took : least;
+        }
+        once = i == 0 ? least : once;
+        printf(i == 0 ? "| %s by one call | %llu | %.4f |\n" : "| %s by pages | %llu | %.4f (%.2f times, pages of %u) |\n", what,
+               (unsigned long long)put, least, least / once, (unsigned)sizes[i]);
+    }
+}
+
 int main(int argc, char **argv) {
     FILE *file = argc == 2 ? fopen(argv[1], "rb") : NULL;
     hdt_graph graph = HDT_GRAPH_INIT;
@@ -31,7 +65,8 @@ int main(int argc, char **argv) {
     hdt_telling telling;
     hdt_report report;
     hdt_verdict verdict;
-    uint64_t(*triples)[3] = malloc(sizeof *triples * ROOM);
+    hdt_pattern all = HDT_PATTERN_INIT, of_predicate = HDT_PATTERN_INIT, of_object = HDT_PATTERN_INIT;
+    uint64_t(*triples)[3] = calloc(ROOM, sizeof *triples);
     uint64_t i, count, sum = 0;
     const uint8_t *any = (const uint8_t *)"";
     uint8_t *bytes;
@@ -81,14 +116,11 @@ int main(int argc, char **argv) {
         count += hdt_matching(&graph, 1, strings[i], lens[i], 0, any, 0, 0, any, 0);
     }
     row("matching of a subject", begin, LOOKS);
-    begin = now();
-    for (i = 0; i < ROOM; i += count) {
-        count = hdt_find(&graph, 0, any, 0, 0, any, 0, 0, any, 0, i, triples, ROOM - i);
-        if (count == 0) {
-            break;
-        }
-    }
-    row("find of all, a triple", begin, i);
+    of_predicate.p.kind = of_object.o.kind = HDT_ID;
+    of_predicate.p.id = of_object.o.id = 1;
+    page_rows(&graph, "all triples", &all, triples);
+    page_rows(&graph, "triples of predicate 1", &of_predicate, triples);
+    page_rows(&graph, "triples of object 1", &of_object, triples);
     begin = now();
     hdt_text(&graph, 0, any, 0, 0, any, 0, 0, any, 0, &text, &telling);
     row("text of all, a triple", begin, hdt_len(&graph));

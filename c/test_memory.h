@@ -54,19 +54,33 @@ typedef struct {
     size_t len;
     uint8_t *pages;
     size_t mapped;
+    int sealed;
 } guarded;
+
+/* Mappings of room for less than a page, to be used again: mapping would take most of the time. Sealed bytes are not kept,
+ * so a look at a file after it is let go is a crash. */
+enum { MOST_KEPT = 16 };
+static uint8_t *kept[MOST_KEPT];
+static size_t kept_count;
+
+static uint8_t *map_guarded(size_t mapped, size_t page) {
+    uint8_t *pages = mmap(NULL, mapped, PROT_READ | PROT_WRITE, MAP_PRIVATE | MAP_ANONYMOUS, -1, 0);
+    if (pages == MAP_FAILED || mprotect(pages + mapped - page, page, PROT_NONE) != 0) {
+        perror("mmap");
+        exit(2);
+    }
+    return pages;
+}
 
 static guarded guard(size_t len) {
     guarded made;
     size_t page = (size_t)sysconf(_SC_PAGESIZE);
     made.len = len;
     made.mapped = (len / page + 2) * page;
-    made.pages = mmap(NULL, made.mapped, PROT_READ | PROT_WRITE, MAP_PRIVATE | MAP_ANONYMOUS, -1, 0);
-    if (made.pages == MAP_FAILED || mprotect(made.pages + made.mapped - page, page, PROT_NONE) != 0) {
-        perror("mmap");
-        exit(2);
-    }
+    made.sealed = 0;
+    made.pages = made.mapped == 2 * page && kept_count > 0 ? kept[--kept_count] : map_guarded(made.mapped, page);
     made.at = made.pages + made.mapped - page - len;
+    memset(made.at, 0, len);
     return made;
 }
 
@@ -76,7 +90,17 @@ static guarded guarded_copy(const void *bytes, size_t len) {
     return made;
 }
 
-static void seal(const guarded *bytes) { mprotect(bytes->pages, bytes->mapped - (size_t)sysconf(_SC_PAGESIZE), PROT_READ); }
-static void let_go(const guarded *bytes) { munmap(bytes->pages, bytes->mapped); }
+static void seal(guarded *bytes) {
+    mprotect(bytes->pages, bytes->mapped - (size_t)sysconf(_SC_PAGESIZE), PROT_READ);
+    bytes->sealed = 1;
+}
+
+static void let_go(const guarded *bytes) {
+    if (!bytes->sealed && bytes->mapped == 2 * (size_t)sysconf(_SC_PAGESIZE) && kept_count < MOST_KEPT) {
+        kept[kept_count++] = bytes->pages;
+    } else {
+        munmap(bytes->pages, bytes->mapped);
+    }
+}
 
 #endif

@@ -351,7 +351,7 @@ def test_store_of_rdflib_is_found_by_its_name(tree: Path, tmp_path: Path) -> Non
     """rdflib finds the store of an installed package by its entry point."""
     python = installed_by_pip(tmp_path, "--no-build-isolation", "./python", tree=tree, venv=["--system-site-packages"])
     program = "from rdflib import Graph; print(type(Graph('HDT').store).__module__)"
-    assert succeeds(python, "-W", "ignore", "-c", program, env=ALONE, cwd=tmp_path) == "hdt.rdflib._store\n"
+    assert succeeds(python, "-W", "ignore", "-c", program, env=ALONE, cwd=tmp_path) == "hdt.rdflib\n"
 
 
 def test_package_in_a_clone(tree: Path, tmp_path: Path) -> None:

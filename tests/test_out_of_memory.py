@@ -48,6 +48,9 @@ COMMANDS: dict[str, tuple[list[Word], int]] = {
     "verify tight, unused": (["verify", "--tight", "unused.hdt"], 0),
     "verify tight, cut": (["verify", "--tight", "cut.hdt"], 0),
     "strings": (["strings", THREE, "object"], 0),
+    "strings prefix": (["strings", THREE, "object", "--prefix", "u:"], 0),
+    "strings terms": (["strings", THREE, "object", "--terms", "--prefix", '"'], 0),
+    "strings terms, not a term": (["strings", "rel.hdt", "predicate", "--terms"], 0),
     "string": (["string", THREE, "object", "3"], 0),
     "string, none": (["string", THREE, "object", "4"], 0),
     "number": (["number", THREE, "object", '"x"'], 0),
@@ -56,9 +59,14 @@ COMMANDS: dict[str, tuple[list[Word], int]] = {
     "strings, no role": (["strings", SAMPLES / "v1.hdt", "thing"], 13),
     "find a predicate": (["find", THREE, "?", "<u:p>", "?"], 0),
     "find numbers": (["find", "--numbers", THREE, "?", "?", '"x"'], 0),
+    "info": (["info", THREE], 0),
+    "info as JSON": (["info", "--json", "unused.hdt"], 0),
+    "info, cut": (["info", "cut.hdt"], 0),
     "find count": (["find", "--count", THREE, "?", "<u:p>", "?"], 0),
     "find most": (["find", "--most", "2", THREE, "?", "?", "?"], 0),
     "find most numbers": (["find", "--numbers", "--most", "1", THREE, "<u:a>", "?", "?"], 0),
+    "find quiet": (["find", "--quiet", THREE, "?", "<u:p>", "?"], 0),
+    "find quiet, none": (["find", "--quiet", THREE, "<u:b>", "<u:q>", "?"], 0),
     "find raw": (["find", "--raw", THREE, "u:a", "?", "?"], 2),
     "find, none": (["find", THREE, "?", "?", "<u:z>"], 0),
     "find, not a term": (["find", THREE, "?", "y", "z"], 0),
@@ -88,6 +96,7 @@ COMMANDS: dict[str, tuple[list[Word], int]] = {
 HELP: list[list[Word]] = [
     ["--help"], ["--version"], ["-V"], ["help"], ["head", "--help"], ["head", "-h"], ["help", "head"],
     ["find", "--help"], ["build", "--help"], ["verify", "--help"], ["rewrite", "--help"], ["help", "dump"],
+    ["explain", "2"],
 ]
 # Command lines that are refused, and words that aren't terms.
 REFUSED: list[tuple[list[Word], int]] = [
@@ -200,7 +209,7 @@ APPENDING = {
     "put_vbyte": 1, "put_decimal": 1, "put_control": 3, "put_numbers": 1, "put_bits": 1, "put_section": 1,
     "write_section": 1, "write_section_agreeing": 1, "section_string": 3,
     "dictionary_string_of": 4, "put_dictionary": 1, "put_written_dictionary": 1,
-    "put_triples": 1, "parse_string": 2, "put_string": 2, "put_term": 2, "layout_string_of": 3,
+    "put_triples": 1, "parse_string": 2, "put_string": 2, "put_term": 2, "layout_string_of": 3, "page_text": 1,
 }
 # Words that append to an output and tell ends in it, that of the output before first: the argument that is that output.
 WITH_ENDS = {"dictionary_strings_of": 3, "strings_of": 2}
@@ -276,6 +285,8 @@ def are_right(word: str, request: Request, values: list[str], ample: list[str]) 
         return True
     if word in ("page", "pages"):
         return values in pages_without_one(word, ample)
+    if word == "page_texts":
+        return values in page_texts_without_one(request, ample)
     if word in WITHOUT_ONE:
         skipped, model = WITHOUT_ONE[word]
         strings = [spelled(token) for token in request[skipped:]]
@@ -313,6 +324,13 @@ def pages_without_one(word: str, ample: list[str]) -> list[list[str]]:
             found.append([*counted, "0"])
         at = end
     return found
+
+
+def page_texts_without_one(request: Request, ample: list[str]) -> list[list[str]]:
+    """The values of `page_texts` if one page ran out of memory: it ends with the text of the pages before this one."""
+    before, most = bytes.fromhex(spelled(request[1])), int(str(request[2]))
+    lines = bytes.fromhex(ample[-1])[len(before):].splitlines(keepends=True)
+    return [[*ample[:count], (before + b"".join(lines[:most * count])).hex()] for count in range(len(ample) - 1)]
 
 
 # Words that do without one string whose allocation was refused: where the strings begin, and the values without one.

@@ -5,6 +5,7 @@ from __future__ import annotations
 import os
 import re
 import shutil
+import signal
 from collections.abc import Callable, Mapping
 from pathlib import Path
 
@@ -24,20 +25,14 @@ from support.python_package import hdt
 from support.terms import LABEL_EDGES, strings, term_values
 
 CRATE = TOP / "rust"
-FFI = CRATE / "src/ffi.rs"
+FFI, DECLARATIONS = CRATE / "src/ffi.rs", CRATE / "src/header.rs"
 DOCUMENT, README = TOP / "docs/RUST.md", TOP / "README.md"
 CALLS = TOP / "tests/support/rust_calls.rs"
 SECONDS = 600
-# What c/hdt.h may have and the crate does not have yet: the constants, types and calls of version 1.1.
-MISSING = {
-    *("HDT_VERSION_MAJOR", "HDT_VERSION_MINOR", "HDT_NAME_ROOM", "HDT_FILE_UNUSED", "HDT_ANY", "HDT_ID", "HDT_STRING"),
-    *("HDT_NO_TERM", "HDT_IRI", "HDT_BLANK", "HDT_LITERAL", "HDT_TAGGED", "HDT_TYPED"),
-    *("hdt_part", "hdt_pattern", "hdt_term_parts", "hdt_verify_tight", "hdt_pattern_find", "hdt_pattern_matching"),
-    *("hdt_pattern_text", "hdt_predicates", "hdt_term", "hdt_term_string", "hdt_version", "hdt_reason_name"),
-    *("hdt_text_reason_name", "hdt_page", "hdt_prefix", "hdt_ranges"),
-}
+# The older calls with nine parameters, in place of which the crate has those with a pattern.
+REPLACED = {"hdt_find", "hdt_matching", "hdt_text"}
 # At least so many tests does the crate have, with the examples of its comments.
-CASES = 40
+CASES = 56
 
 
 def needs(*programs: str) -> pytest.MarkDecorator:
@@ -105,9 +100,9 @@ def of_header() -> dict[str, str]:
 
 
 def of_crate() -> dict[str, str]:
-    """What rust/src/ffi.rs declares, by name: constants, the fields of types, and calls."""
-    text = without_comments(FFI.read_text()).replace("pub(crate) ", "")
-    found = dict(re.findall(r"const (HDT_\w+): u(?:32|64) = (.*?);", text))
+    """What the crate declares, by name: constants, the fields of types, and calls."""
+    text = without_comments(DECLARATIONS.read_text() + FFI.read_text()).replace("pub(crate) ", "")
+    found = dict(re.findall(r"const (HDT_\w+): u(?:32|64|size) = (.*?);", text))
     for name, fields in re.findall(r"struct (hdt_\w+) \{ (.*?),? \}", text):
         found[name] = fields
     for name, call in re.findall(r"fn (hdt_\w+)(\(.*?\)(?: -> \w+)?);", text):
@@ -116,9 +111,9 @@ def of_crate() -> dict[str, str]:
 
 
 def test_declarations_are_those_of_the_header() -> None:
-    """The crate declares each constant, type and call of the header as it is there, but those that it doesn't have."""
+    """The crate declares what the header declares, as it is there, but for the calls that others replace."""
     header = of_header()
-    assert of_crate() == {name: it for name, it in header.items() if name not in MISSING}
+    assert of_crate() == {name: it for name, it in header.items() if name not in REPLACED}
     assert header["HDT_CLOSED"] == "u64::MAX - 2" and header["HDT_FILE_TRAILING_BYTES"] == "33"
     assert header["hdt_verdict"] == "reason: u32, place: u64, counts: [u64; 5]"
     assert header["hdt_find"].endswith("o: *const u8, o_len: usize, skip: u64, out: *mut [u64; 3], room: usize) -> u64")
@@ -136,10 +131,11 @@ def test_reasons_have_the_documented_names(prefix: str, names: list[str]) -> Non
 
 def test_types_are_of_the_layout_of_c() -> None:
     """Each type of the header is `repr(C)`."""
-    text = without_comments(FFI.read_text())
+    text = without_comments(DECLARATIONS.read_text())
     types = re.findall(r"(#\[repr\(C\)\] )?(?:#\[derive\(\w+\)\] )?(?:pub\(crate\) )?struct (hdt_\w+) \{", text)
     assert [name for layout, name in types if not layout] == []
-    assert len(types) == len(re.findall(r"struct hdt_", text)) >= 5
+    assert len(types) == len(re.findall(r"struct hdt_", text)) >= 9
+    assert "struct hdt_" not in FFI.read_text()
 
 
 def test_unsafe_code_is_in_one_module() -> None:
@@ -263,7 +259,12 @@ def wanted_lines(path: Path) -> list[str]:
         return [str(error)]
     with graph:
         lines = ["ok " + " ".join(map(str, graph.counts))]
+        try:
+            hdt.verify(path, tight=True)
+        except hdt.Fault as error:
+            lines.append(str(error))
         lines += ["".join(f"{spelled(string.encode())}." for string in triple) for triple in graph]
+        lines.append(f"predicates {[count for _, count in graph.predicates()]}")
         try:
             return [*lines, f"text {graph.text().encode().hex()}"]
         except hdt.NotATerm as error:
@@ -332,6 +333,14 @@ def test_out_of_memory(calls: Path, tmp_path: Path) -> None:
     hdt.build(tmp_path / "graph.nt", tmp_path / "graph.hdt")
     done = run(["sh", "-c", 'ulimit -v 32768 && exec "$@"', "sh", calls, "memory", tmp_path / "graph.hdt"])
     assert done == (0, b"out of memory, out of memory, 8006\n", b"")
+
+
+@needs_cargo
+def test_out_of_memory_for_a_term(calls: Path) -> None:
+    """Where the library has too little memory for a term, the process aborts, as for a `String`."""
+    done = run(["sh", "-c", 'ulimit -v 32768 && exec "$@"', "sh", calls, "abort"])
+    assert (done.status, done.out) == (-signal.SIGABRT, b"")
+    assert done.err.startswith(b"memory allocation of 20000000 bytes failed")
 
 
 # ---- the build script

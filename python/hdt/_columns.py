@@ -4,7 +4,7 @@ from __future__ import annotations
 
 import array
 from collections.abc import Iterable, Iterator
-from itertools import repeat
+from itertools import chain, repeat
 from operator import itemgetter
 from typing import Optional
 
@@ -42,6 +42,9 @@ class Columns:
 
     def triples(self, skip: int, limit: Optional[int]) -> Iterator[StringTriple]:
         """The strings of the matches after the first `skip` ones, at most `limit`."""
+        return chain.from_iterable(self._portions(skip, limit))
+
+    def _portions(self, skip: int, limit: Optional[int]) -> Iterator[Iterator[StringTriple]]:
         size, most, self._limit = _FEW, max(_MOST, self._least), limit
         for page in self._graph._pages(self._pattern, skip, limit, most):
             at = 0
@@ -49,7 +52,9 @@ class Columns:
                 portion = page[at : at + 3 * size]
                 at += 3 * size
                 self._taken = 0
-                yield from zip(*(self._column(role, portion[role::3]) for role in range(3)))
+                s, p, o = (self._column(role, portion[role::3]) for role in range(3))
+                yield zip(s, p, o)
+                del s, p, o  # (so that there are never two portions)
                 if self._taken < _BYTES:
                     size = min(4 * size, most)
                 else:

@@ -1,11 +1,12 @@
 //! What is wrong with a file, a text or a call.
 #![forbid(unsafe_code)]
 
+use std::alloc::{handle_alloc_error, Layout};
 use std::error;
 use std::fmt;
 
 use crate::ffi;
-use crate::graph::Role;
+use crate::pattern::Role;
 
 /// An enum of reasons, with their numbers and names.
 macro_rules! reasons {
@@ -116,6 +117,8 @@ reasons! {
         ObjectsNotAscending = HDT_FILE_OBJECTS_NOT_ASCENDING,
         /// Bytes follow the file's last part.
         TrailingBytes = HDT_FILE_TRAILING_BYTES,
+        /// No triple uses a string in the role of its section. Only [`verify_tight`](crate::verify_tight) reports it.
+        Unused = HDT_FILE_UNUSED,
     }
 }
 
@@ -246,14 +249,37 @@ impl Error {
     }
 }
 
+/// Ends the process as Rust does if there is no memory for a value: for calls that return one of about this size, and
+/// no error.
+pub(crate) fn abort_without_memory(bytes: usize) -> ! {
+    handle_alloc_error(Layout::array::<u8>(bytes).unwrap_or(Layout::new::<u8>()))
+}
+
 #[cfg(test)]
 mod tests {
     use super::{Error, FileReason, TextReason};
     use crate::ffi;
 
+    fn name_of(call: fn(u32, &mut [u8]) -> u64, number: u32) -> String {
+        let mut name = vec![0; ffi::HDT_NAME_ROOM];
+        let len = ffi::size(call(number, &mut name));
+        name.truncate(len);
+        String::from_utf8(name).unwrap()
+    }
+
+    #[test]
+    fn names_are_those_of_the_library() {
+        for number in 1..=ffi::HDT_FILE_UNUSED {
+            assert_eq!(FileReason::of(number).unwrap().name(), name_of(ffi::reason_name, number));
+        }
+        for number in 1..=ffi::HDT_TEXT_TOO_LONG {
+            assert_eq!(TextReason::of(number).unwrap().name(), name_of(ffi::text_reason_name, number));
+        }
+    }
+
     #[test]
     fn reasons_have_numbers_and_names() {
-        for number in 1..=ffi::HDT_FILE_TRAILING_BYTES {
+        for number in 1..=ffi::HDT_FILE_UNUSED {
             assert_eq!(FileReason::of(number).map(FileReason::number), Some(number));
         }
         for number in 1..=ffi::HDT_TEXT_TOO_LONG {

@@ -4,7 +4,6 @@
 //! and mutable slices don't overlap; a `&mut` of a handle or of bytes is that of one call at a time; they begin as
 //! zeros, and only the library writes their fields. A moved handle is no copy: the old one can't be used, and the
 //! library keeps no address of it.
-#![allow(non_camel_case_types)]
 
 use std::fmt;
 use std::marker::PhantomData;
@@ -13,108 +12,13 @@ use std::ptr;
 use std::slice;
 use std::sync::{Mutex, PoisonError};
 
-pub(crate) const HDT_DONE: u32 = 0;
-pub(crate) const HDT_NOT_A_TERM: u32 = 250;
-pub(crate) const HDT_NO_TRIPLES: u32 = 251;
-pub(crate) const HDT_BAD_OPTIONS: u32 = 252;
-pub(crate) const HDT_IS_CLOSED: u32 = 253;
-pub(crate) const HDT_IS_OPEN: u32 = 254;
-pub(crate) const HDT_OUT_OF_MEMORY: u32 = 255;
-
-pub(crate) const HDT_ABSENT: u64 = u64::MAX;
-pub(crate) const HDT_NO_MEMORY: u64 = u64::MAX - 1;
-pub(crate) const HDT_CLOSED: u64 = u64::MAX - 2;
-
-pub(crate) const HDT_FILE_TRUNCATED: u32 = 1;
-pub(crate) const HDT_FILE_OVERLONG_NUMBER: u32 = 2;
-pub(crate) const HDT_FILE_NUMBER_TOO_LARGE: u32 = 3;
-pub(crate) const HDT_FILE_NOT_HDT: u32 = 4;
-pub(crate) const HDT_FILE_WRONG_KIND: u32 = 5;
-pub(crate) const HDT_FILE_CHECK16: u32 = 6;
-pub(crate) const HDT_FILE_WRONG_FORMAT: u32 = 7;
-pub(crate) const HDT_FILE_HEADER_LENGTH: u32 = 8;
-pub(crate) const HDT_FILE_TRIPLE_ORDER: u32 = 9;
-pub(crate) const HDT_FILE_CHECK8: u32 = 10;
-pub(crate) const HDT_FILE_CHECK32: u32 = 11;
-pub(crate) const HDT_FILE_SEQUENCE_KIND: u32 = 12;
-pub(crate) const HDT_FILE_WIDTH: u32 = 13;
-pub(crate) const HDT_FILE_BITS_KIND: u32 = 14;
-pub(crate) const HDT_FILE_SECTION_KIND: u32 = 15;
-pub(crate) const HDT_FILE_BLOCK_SIZE: u32 = 16;
-pub(crate) const HDT_FILE_BLOCK_COUNT: u32 = 17;
-pub(crate) const HDT_FILE_BLOCK_PLACE: u32 = 18;
-pub(crate) const HDT_FILE_PREFIX_TOO_LONG: u32 = 19;
-pub(crate) const HDT_FILE_PACKED_LENGTH: u32 = 20;
-pub(crate) const HDT_FILE_NOT_UTF8: u32 = 21;
-pub(crate) const HDT_FILE_STRINGS_NOT_ASCENDING: u32 = 22;
-pub(crate) const HDT_FILE_SECTIONS_OVERLAP: u32 = 23;
-pub(crate) const HDT_FILE_NO_TRIPLES: u32 = 24;
-pub(crate) const HDT_FILE_LENGTHS_DIFFER: u32 = 25;
-pub(crate) const HDT_FILE_LAST_MARK: u32 = 26;
-pub(crate) const HDT_FILE_MARK_COUNT: u32 = 27;
-pub(crate) const HDT_FILE_SUBJECT_RANGE: u32 = 28;
-pub(crate) const HDT_FILE_PREDICATE_RANGE: u32 = 29;
-pub(crate) const HDT_FILE_OBJECT_RANGE: u32 = 30;
-pub(crate) const HDT_FILE_PREDICATES_NOT_ASCENDING: u32 = 31;
-pub(crate) const HDT_FILE_OBJECTS_NOT_ASCENDING: u32 = 32;
-pub(crate) const HDT_FILE_TRAILING_BYTES: u32 = 33;
-
-pub(crate) const HDT_TEXT_SYNTAX: u32 = 1;
-pub(crate) const HDT_TEXT_NOT_UTF8: u32 = 2;
-pub(crate) const HDT_TEXT_BAD_ESCAPE: u32 = 3;
-pub(crate) const HDT_TEXT_RELATIVE_IRI: u32 = 4;
-pub(crate) const HDT_TEXT_IRI_CHARACTER: u32 = 5;
-pub(crate) const HDT_TEXT_ZERO_CHARACTER: u32 = 6;
-pub(crate) const HDT_TEXT_READ: u32 = 7;
-pub(crate) const HDT_TEXT_OUT_OF_MEMORY: u32 = 8;
-pub(crate) const HDT_TEXT_TOO_LONG: u32 = 9;
-
-pub(crate) const HDT_SUBJECT: u32 = 0;
-pub(crate) const HDT_PREDICATE: u32 = 1;
-pub(crate) const HDT_OBJECT: u32 = 2;
-
-#[repr(C)]
-#[derive(Default)]
-pub(crate) struct hdt_verdict {
-    pub(crate) reason: u32,
-    pub(crate) place: u64,
-    pub(crate) counts: [u64; 5],
-}
-
-#[repr(C)]
-#[derive(Default)]
-pub(crate) struct hdt_report {
-    pub(crate) reason: u32,
-    pub(crate) line: u64,
-    pub(crate) column: u64,
-    pub(crate) counts: [u64; 5],
-}
-
-#[repr(C)]
-#[derive(Default)]
-pub(crate) struct hdt_telling {
-    pub(crate) reason: u32,
-    pub(crate) role: u32,
-    pub(crate) number: u64,
-}
-
-#[repr(C)]
-struct hdt_graph {
-    state: u64,
-    at: *mut u8,
-}
-
-#[repr(C)]
-struct hdt_bytes {
-    at: *const u8,
-    len: u64,
-    state: u64,
-    kept: *mut u8,
-}
+pub(crate) use crate::header::*;
+use crate::pattern::{Part, Pattern};
 
 #[rustfmt::skip]
 extern "C" {
     fn hdt_verify(bytes: *const u8, len: usize, verdict: *mut hdt_verdict);
+    fn hdt_verify_tight(bytes: *const u8, len: usize, verdict: *mut hdt_verdict);
     fn hdt_open(bytes: *const u8, len: usize, graph: *mut hdt_graph, verdict: *mut hdt_verdict);
     fn hdt_close(graph: *mut hdt_graph);
     fn hdt_len(graph: *mut hdt_graph) -> u64;
@@ -124,21 +28,52 @@ extern "C" {
     fn hdt_strings(graph: *mut hdt_graph, role: u32, numbers: *const u64, count: usize, out: *mut hdt_bytes,
                    ends: *mut u64, room: usize) -> u64;
     fn hdt_header(graph: *mut hdt_graph, out: *mut u8, room: usize) -> u64;
-    fn hdt_find(graph: *mut hdt_graph, has_s: u32, s: *const u8, s_len: usize, has_p: u32, p: *const u8, p_len: usize,
-                has_o: u32, o: *const u8, o_len: usize, skip: u64, out: *mut [u64; 3], room: usize) -> u64;
-    fn hdt_matching(graph: *mut hdt_graph, has_s: u32, s: *const u8, s_len: usize, has_p: u32, p: *const u8,
-                    p_len: usize, has_o: u32, o: *const u8, o_len: usize) -> u64;
-    fn hdt_text(graph: *mut hdt_graph, has_s: u32, s: *const u8, s_len: usize, has_p: u32, p: *const u8, p_len: usize,
-                has_o: u32, o: *const u8, o_len: usize, out: *mut hdt_bytes, telling: *mut hdt_telling);
+    fn hdt_prefix(graph: *mut hdt_graph, role: u32, prefix: *const u8, len: usize, ranges: *mut hdt_ranges) -> u64;
+    fn hdt_predicates(graph: *mut hdt_graph, counts: *mut u64, room: usize) -> u64;
+    fn hdt_pattern_find(graph: *mut hdt_graph, pattern: *const hdt_pattern, skip: u64, out: *mut [u64; 3],
+                        room: usize) -> u64;
+    fn hdt_pattern_matching(graph: *mut hdt_graph, pattern: *const hdt_pattern) -> u64;
+    fn hdt_pattern_text(graph: *mut hdt_graph, pattern: *const hdt_pattern, out: *mut hdt_bytes,
+                        telling: *mut hdt_telling);
+    fn hdt_page(graph: *mut hdt_graph, pattern: *const hdt_pattern, from: u64, out: *mut [u64; 3], room: usize,
+                next: *mut u64) -> u64;
     fn hdt_build(text: *const u8, len: usize, base: *const u8, base_len: usize, block_size: u32, out: *mut hdt_bytes,
                  report: *mut hdt_report);
     fn hdt_rewrite(bytes: *const u8, len: usize, block_size: u32, out: *mut hdt_bytes, verdict: *mut hdt_verdict);
+    fn hdt_term(string: *const u8, len: usize, parts: *mut hdt_term_parts) -> u32;
+    fn hdt_term_string(kind: u32, text: *const u8, len: usize, suffix: *const u8, suffix_len: usize, out: *mut u8,
+                       room: usize) -> u64;
+    fn hdt_version() -> u32;
+    #[cfg(test)]
+    fn hdt_reason_name(reason: u32, out: *mut u8, room: usize) -> u64;
+    #[cfg(test)]
+    fn hdt_text_reason_name(reason: u32, out: *mut u8, room: usize) -> u64;
     fn hdt_free(bytes: *mut hdt_bytes);
 }
 
 // SAFETY: a handle owns what it points to, and the header lets another thread use it behind a lock. Nothing in the
 // library belongs to a thread. The bytes of its file are lent, and `&[u8]` is Send; `Handle` has their lifetime.
 unsafe impl Send for hdt_graph {}
+
+impl hdt_part {
+    /// A part that gives no string has a pointer to no bytes, since that may not be null.
+    fn of(part: Part<'_>) -> hdt_part {
+        let (kind, id, string) = match part {
+            Part::Any => (HDT_ANY, 0, ""),
+            Part::Id(id) => (HDT_ID, id, ""),
+            Part::String(string) => (HDT_STRING, 0, string),
+        };
+        hdt_part { kind, id, string: string.as_ptr(), len: string.len() }
+    }
+}
+
+impl hdt_pattern {
+    /// The pattern, which points to the strings that are borrowed.
+    fn of(pattern: &Pattern<'_>) -> hdt_pattern {
+        let [s, p, o] = pattern.parts.map(hdt_part::of);
+        hdt_pattern { s, p, o }
+    }
+}
 
 /// Bytes that the library made: a file or a text. They are freed when this is dropped.
 pub struct Bytes {
@@ -194,9 +129,6 @@ pub(crate) struct Handle<'bytes> {
     bytes: PhantomData<&'bytes [u8]>,
 }
 
-/// The three strings of a pattern: of subject, predicate and object; any if there is none.
-pub(crate) type Strings3<'a> = [Option<&'a str>; 3];
-
 impl<'bytes> Handle<'bytes> {
     /// Opens a file; there is a handle if the verdict is `HDT_DONE`.
     pub(crate) fn open(bytes: &'bytes [u8]) -> (Option<Handle<'bytes>>, hdt_verdict) {
@@ -251,29 +183,46 @@ impl<'bytes> Handle<'bytes> {
         self.ask(|graph| unsafe { hdt_header(graph, out.as_mut_ptr(), out.len()) })
     }
 
-    /// Puts matches into `out`, without the first `skip`, and returns how many.
-    #[rustfmt::skip]
-    pub(crate) fn find(&self, strings: Strings3<'_>, skip: u64, out: &mut [[u64; 3]]) -> usize {
-        let [(has_s, s, s_len), (has_p, p, p_len), (has_o, o, o_len)] = strings.map(given);
-        // SAFETY: it has the handle alone; each string has as many bytes as it says, and `out` room for its length.
-        size(self.ask(|graph| unsafe {
-            hdt_find(graph, has_s, s, s_len, has_p, p, p_len, has_o, o, o_len, skip, out.as_mut_ptr(), out.len())
-        }))
+    pub(crate) fn prefix(&self, role: u32, prefix: &[u8]) -> hdt_ranges {
+        let mut ranges = hdt_ranges::default();
+        // SAFETY: it has the handle and `ranges` alone, and `prefix` has as many bytes as it says.
+        self.ask(|graph| unsafe { hdt_prefix(graph, role, prefix.as_ptr(), prefix.len(), &mut ranges) });
+        ranges
     }
 
-    pub(crate) fn matching(&self, strings: Strings3<'_>) -> u64 {
-        let [(has_s, s, s_len), (has_p, p, p_len), (has_o, o, o_len)] = strings.map(given);
-        // SAFETY: it has the handle alone, and each string has as many bytes as it says.
-        self.ask(|graph| unsafe { hdt_matching(graph, has_s, s, s_len, has_p, p, p_len, has_o, o, o_len) })
+    /// Writes the counts of the first predicates, as many as there is room for.
+    pub(crate) fn predicates(&self, counts: &mut [u64]) {
+        // SAFETY: it has the handle alone, and `counts` has room for as many numbers as it says.
+        self.ask(|graph| unsafe { hdt_predicates(graph, counts.as_mut_ptr(), counts.len()) });
     }
 
-    #[rustfmt::skip]
-    pub(crate) fn text(&self, strings: Strings3<'_>) -> (Bytes, hdt_telling) {
-        let [(has_s, s, s_len), (has_p, p, p_len), (has_o, o, o_len)] = strings.map(given);
-        let (mut out, mut telling) = (Bytes::new(), hdt_telling::default());
-        // SAFETY: it has the handle, `out` and `telling` alone, and each string has as many bytes as it says.
-        self.ask(|graph| unsafe {
-            hdt_text(graph, has_s, s, s_len, has_p, p, p_len, has_o, o, o_len, &mut out.made, &mut telling);
+    /// Writes matches to `out`, without the first `skip`, and returns how many.
+    pub(crate) fn find(&self, pattern: &Pattern<'_>, skip: u64, out: &mut [[u64; 3]]) -> usize {
+        let given = hdt_pattern::of(pattern);
+        // SAFETY: it has the handle alone; the strings outlive the call, and `out` has room for its length.
+        size(self.ask(|graph| unsafe { hdt_pattern_find(graph, &given, skip, out.as_mut_ptr(), out.len()) }))
+    }
+
+    pub(crate) fn matching(&self, pattern: &Pattern<'_>) -> u64 {
+        let given = hdt_pattern::of(pattern);
+        // SAFETY: it has the handle alone, and the strings outlive the call.
+        self.ask(|graph| unsafe { hdt_pattern_matching(graph, &given) })
+    }
+
+    /// Writes the matches from triple `from` on to `out`. Returns the call's result, and the index of the next match.
+    pub(crate) fn page(&self, pattern: &Pattern<'_>, from: u64, out: &mut [[u64; 3]]) -> (u64, u64) {
+        let (given, mut next) = (hdt_pattern::of(pattern), HDT_ABSENT);
+        let (at, room) = (out.as_mut_ptr(), out.len());
+        // SAFETY: it has the handle and `next` alone; the strings outlive the call, and `out` has room for its length.
+        let answer = self.ask(|graph| unsafe { hdt_page(graph, &given, from, at, room, &mut next) });
+        (answer, next)
+    }
+
+    pub(crate) fn text(&self, pattern: &Pattern<'_>) -> (Bytes, hdt_telling) {
+        let (given, mut out, mut telling) = (hdt_pattern::of(pattern), Bytes::new(), hdt_telling::default());
+        self.ask(|graph| {
+            // SAFETY: it has the handle, `out` and `telling` alone, and the strings outlive the call.
+            unsafe { hdt_pattern_text(graph, &given, &mut out.made, &mut telling) };
             0
         });
         (out, telling)
@@ -295,6 +244,13 @@ pub(crate) fn verify(bytes: &[u8]) -> hdt_verdict {
     verdict
 }
 
+pub(crate) fn verify_tight(bytes: &[u8]) -> hdt_verdict {
+    let mut verdict = hdt_verdict::default();
+    // SAFETY: there are as many bytes as it says.
+    unsafe { hdt_verify_tight(bytes.as_ptr(), bytes.len(), &mut verdict) };
+    verdict
+}
+
 pub(crate) fn build(text: &[u8], base: &str, block_size: u16) -> (Bytes, hdt_report) {
     let (mut out, mut report) = (Bytes::new(), hdt_report::default());
     let (at, len, name, name_len) = (text.as_ptr(), text.len(), base.as_ptr(), base.len());
@@ -310,10 +266,35 @@ pub(crate) fn rewrite(bytes: &[u8], block_size: u16) -> (Bytes, hdt_verdict) {
     (out, verdict)
 }
 
-/// A string of a pattern as three parameters. One that is any isn't read, but its pointer may not be null.
-fn given(string: Option<&str>) -> (u32, *const u8, usize) {
-    let bytes = string.unwrap_or_default();
-    (string.is_some().into(), bytes.as_ptr(), bytes.len())
+/// The call's reason, and the parts of the term.
+pub(crate) fn term(string: &str) -> (u32, hdt_term_parts) {
+    let mut parts = hdt_term_parts::default();
+    // SAFETY: `string` has as many bytes as it says.
+    let reason = unsafe { hdt_term(string.as_ptr(), string.len(), &mut parts) };
+    (reason, parts)
+}
+
+pub(crate) fn term_string(kind: u32, text: &str, suffix: &str, out: &mut [u8]) -> u64 {
+    let (at, len, suffix_at, suffix_len) = (text.as_ptr(), text.len(), suffix.as_ptr(), suffix.len());
+    // SAFETY: both strings have as many bytes as they say, and `out` has room for its length.
+    unsafe { hdt_term_string(kind, at, len, suffix_at, suffix_len, out.as_mut_ptr(), out.len()) }
+}
+
+pub(crate) fn version() -> u32 {
+    // SAFETY: the call has no parameters.
+    unsafe { hdt_version() }
+}
+
+#[cfg(test)]
+pub(crate) fn reason_name(reason: u32, out: &mut [u8]) -> u64 {
+    // SAFETY: `out` has room for its length.
+    unsafe { hdt_reason_name(reason, out.as_mut_ptr(), out.len()) }
+}
+
+#[cfg(test)]
+pub(crate) fn text_reason_name(reason: u32, out: &mut [u8]) -> u64 {
+    // SAFETY: `out` has room for its length.
+    unsafe { hdt_text_reason_name(reason, out.as_mut_ptr(), out.len()) }
 }
 
 /// A count of what is in memory.

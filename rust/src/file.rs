@@ -46,6 +46,29 @@ pub fn verify(bytes: &[u8]) -> Result<Counts, Error> {
     counts_of(&ffi::verify(bytes))
 }
 
+/// Checks a whole file as [`verify`] does, and that triples use each string in the role of its section.
+///
+/// Takes linear time, and memory in proportion to the triples and strings.
+///
+/// # Errors
+///
+/// [`Error::File`] has the first error of the file. It has [`FileReason::Unused`](crate::FileReason::Unused), at the
+/// offset of the first such string, only if there is no other error; [`Error::OutOfMemory`].
+///
+/// ```
+/// use tickmarl_hdt::{build, verify, verify_tight, BLOCK_SIZE};
+///
+/// # fn main() -> Result<(), tickmarl_hdt::Error> {
+/// let (file, counts) = build(b"<u:a> <u:p> \"x\" .\n", "http://example.org/", BLOCK_SIZE)?;
+/// assert_eq!(verify_tight(&file), Ok(counts));
+/// assert_eq!(verify_tight(&file[1..]), verify(&file[1..]));
+/// # Ok(())
+/// # }
+/// ```
+pub fn verify_tight(bytes: &[u8]) -> Result<Counts, Error> {
+    counts_of(&ffi::verify_tight(bytes))
+}
+
 /// Builds the canonical file of the graph of an N-Triples text, and returns the file and its counts.
 ///
 /// `base` is the absolute IRI that names the file in its header. `block_size` is the number of strings in a block of

@@ -2,88 +2,17 @@
 #![forbid(unsafe_code)]
 
 use std::fmt;
-use std::iter::FusedIterator;
-use std::str;
+use std::ops::Range;
 
 use crate::error::Error;
 use crate::ffi::{self, Bytes, Handle};
 use crate::file::{counts_of, Counts};
+use crate::matches::{index, Matches, Page};
+use crate::pattern::{Pattern, Role};
+use crate::strings::{present, put, Strings};
 
 /// The room for a string that is looked up; it grows if one needs more.
 const FIRST_BYTES: usize = 256;
-/// The triples of the first page of a search.
-const FIRST_MATCHES: usize = 64;
-
-/// A position in a triple.
-#[derive(Debug, Clone, Copy, PartialEq, Eq, PartialOrd, Ord, Hash)]
-#[repr(u32)]
-pub enum Role {
-    /// The first position.
-    Subject = ffi::HDT_SUBJECT,
-    /// The second position.
-    Predicate = ffi::HDT_PREDICATE,
-    /// The third position.
-    Object = ffi::HDT_OBJECT,
-}
-
-impl Role {
-    fn of(number: u32) -> Role {
-        match number {
-            ffi::HDT_SUBJECT => Role::Subject,
-            ffi::HDT_PREDICATE => Role::Predicate,
-            _ => Role::Object,
-        }
-    }
-}
-
-impl fmt::Display for Role {
-    fn fmt(&self, f: &mut fmt::Formatter<'_>) -> fmt::Result {
-        f.pad(match self {
-            Role::Subject => "subject",
-            Role::Predicate => "predicate",
-            Role::Object => "object",
-        })
-    }
-}
-
-/// What triples to search for: those that have each given dictionary string in its role.
-///
-/// ```
-/// use tickmarl_hdt::Pattern;
-///
-/// let pattern = Pattern::any().subject("http://a/b").object("\"x\"@en");
-/// assert_ne!(pattern, Pattern::any());
-/// ```
-#[derive(Debug, Clone, Copy, Default, PartialEq, Eq, Hash)]
-#[must_use]
-pub struct Pattern<'a> {
-    strings: [Option<&'a str>; 3],
-}
-
-impl<'a> Pattern<'a> {
-    /// The pattern of all triples.
-    pub const fn any() -> Pattern<'a> {
-        Pattern { strings: [None; 3] }
-    }
-
-    /// This pattern with a subject.
-    pub const fn subject(mut self, string: &'a str) -> Pattern<'a> {
-        self.strings[0] = Some(string);
-        self
-    }
-
-    /// This pattern with a predicate.
-    pub const fn predicate(mut self, string: &'a str) -> Pattern<'a> {
-        self.strings[1] = Some(string);
-        self
-    }
-
-    /// This pattern with an object.
-    pub const fn object(mut self, string: &'a str) -> Pattern<'a> {
-        self.strings[2] = Some(string);
-        self
-    }
-}
 
 /// An open file, whose bytes it borrows.
 ///
@@ -114,7 +43,7 @@ impl<'a> Pattern<'a> {
 /// graph.len();
 /// ```
 pub struct Graph<'bytes> {
-    handle: Handle<'bytes>,
+    pub(crate) handle: Handle<'bytes>,
     counts: Counts,
 }
 
@@ -200,27 +129,123 @@ impl<'bytes> Graph<'bytes> {
         Ok(put(FIRST_BYTES, |out| self.handle.header(out))?.unwrap_or_default())
     }
 
+    /// The IDs of the strings of a role that begin with a prefix, as two ranges.
+    ///
+    /// First those of strings that are both subjects and objects, or of predicates, then those of other subjects or
+    /// objects. Each range may be empty. Takes at most twice the time of [`id`](Graph::id).
+    ///
+    /// ```
+    /// # use tickmarl_hdt::{build, Graph, Role, BLOCK_SIZE};
+    /// # fn main() -> Result<(), tickmarl_hdt::Error> {
+    /// # let (file, _) = build(b"<u:a> <u:p> <u:b> .\n<u:a> <u:p> \"x\" .\n", "http://example.org/", BLOCK_SIZE)?;
+    /// let graph = Graph::open(&file)?;
+    /// let ids = graph.ids_with_prefix(Role::Object, "u:");
+    /// assert_eq!(ids.into_iter().flatten().collect::<Vec<u64>>(), [2]);
+    /// # Ok(())
+    /// # }
+    /// ```
+    pub fn ids_with_prefix(&self, role: Role, prefix: impl AsRef<[u8]>) -> [Range<u64>; 2] {
+        let ranges = self.handle.prefix(role as u32, prefix.as_ref());
+        [ranges.first, ranges.second].map(|[first, end]| first..end)
+    }
+
+    /// The number of triples of each predicate, in the order of their IDs, from 1.
+    ///
+    /// Takes time in proportion to the pairs of a subject and a predicate, times the logarithm of their number.
+    ///
+    /// ```
+    /// # use tickmarl_hdt::{build, Graph, BLOCK_SIZE};
+    /// # fn main() -> Result<(), tickmarl_hdt::Error> {
+    /// # let (file, _) = build(b"<u:a> <u:p> <u:b> .\n<u:a> <u:p> \"x\" .\n", "http://example.org/", BLOCK_SIZE)?;
+    /// assert_eq!(Graph::open(&file)?.predicate_counts(), [2]);
+    /// # Ok(())
+    /// # }
+    /// ```
+    pub fn predicate_counts(&self) -> Vec<u64> {
+        let mut counts = vec![0; ffi::size(self.counts.predicates)];
+        self.handle.predicates(&mut counts);
+        counts
+    }
+
     /// The triples that match, in the order of the file, by subject, predicate and object.
     ///
-    /// It asks for pages that double, as a page scans all matches before it; so all pages together take at most thrice
-    /// the time of a single search. A page has 24 bytes per triple, and at most 64 triples more than were returned
-    /// before.
+    /// The first triples come at once, and all take linear time. It keeps a page of at most 16,384 triples, 24 bytes
+    /// each, and the library as much while it makes the page.
     pub fn find<'a>(&'a self, pattern: Pattern<'a>) -> Matches<'a> {
-        Matches { graph: self, pattern, page: Vec::new(), at: 0, before: 0, is_last: false }
+        Matches::new(self, pattern)
     }
 
-    /// The number of triples that match.
+    /// A range of the triples of [`find`](Graph::find), of which the first one has the index 0.
+    ///
+    /// Matches are counted, and those before the range are scanned, unless the given parts are the first ones (none, the
+    /// subject, the subject and the predicate, or all): then a range takes the same time wherever it is. It takes 24 bytes
+    /// for each of its triples.
+    ///
+    /// ```
+    /// # use tickmarl_hdt::{build, Graph, Pattern, BLOCK_SIZE};
+    /// # fn main() -> Result<(), tickmarl_hdt::Error> {
+    /// # let (file, _) = build(b"<u:a> <u:p> <u:b> .\n<u:a> <u:p> \"x\" .\n", "http://example.org/", BLOCK_SIZE)?;
+    /// let graph = Graph::open(&file)?;
+    /// assert_eq!(graph.find_range(Pattern::any(), 1..10), [[1, 1, 2]]);
+    /// # Ok(())
+    /// # }
+    /// ```
+    pub fn find_range(&self, pattern: Pattern<'_>, range: Range<u64>) -> Vec<[u64; 3]> {
+        let end = range.end.min(self.matching(pattern));
+        let mut triples = vec![[0; 3]; ffi::size(end.saturating_sub(range.start))];
+        let found = self.handle.find(&pattern, range.start, &mut triples);
+        triples.truncate(found);
+        triples
+    }
+
+    /// The matches from triple `from` of the file on, at most `limit`, and the index of the next one.
+    ///
+    /// Triples are numbered from 0, whatever the pattern is; `from` may be any number. A page is found by binary
+    /// search, so it takes the same time wherever it is, and needs nothing but a number to go on from.
+    ///
+    /// # Errors
+    ///
+    /// [`Error::OutOfMemory`].
+    ///
+    /// ```
+    /// # use tickmarl_hdt::{build, Graph, Pattern, BLOCK_SIZE};
+    /// # fn main() -> Result<(), tickmarl_hdt::Error> {
+    /// # let (file, _) = build(b"<u:a> <u:p> <u:b> .\n<u:a> <u:p> \"x\" .\n", "http://example.org/", BLOCK_SIZE)?;
+    /// let graph = Graph::open(&file)?;
+    /// let page = graph.page(Pattern::any().predicate_id(1), 0, 1)?;
+    /// assert_eq!((page.triples, page.next), (vec![[1, 1, 1]], Some(1)));
+    /// let page = graph.page(Pattern::any().predicate_id(1), 1, 1)?;
+    /// assert_eq!((page.triples, page.next), (vec![[1, 1, 2]], None));
+    /// # Ok(())
+    /// # }
+    /// ```
+    pub fn page(&self, pattern: Pattern<'_>, from: u64, limit: usize) -> Result<Page, Error> {
+        let mut triples = vec![[0; 3]; self.room(limit, from)];
+        let (found, next) = self.handle.page(&pattern, from, &mut triples);
+        if found == ffi::HDT_NO_MEMORY {
+            return Err(Error::OutOfMemory);
+        }
+        triples.truncate(ffi::size(found));
+        Ok(Page { triples, next: index(next) })
+    }
+
+    /// As many triples as there are from an index on, or the limit.
+    pub(crate) fn room(&self, limit: usize, from: u64) -> usize {
+        limit.min(ffi::size(self.counts.triples.saturating_sub(from)))
+    }
+
+    /// The number of triples that match. Takes at most the time to find them, and less where they can be counted.
     pub fn matching(&self, pattern: Pattern<'_>) -> u64 {
-        self.handle.matching(pattern.strings)
+        self.handle.matching(&pattern)
     }
 
-    /// The triples that match as N-Triples, which is UTF-8, one per line, in the order of the file.
+    /// The triples that match as N-Triples, which is UTF-8, one per line, in the order of the file. Linear time.
     ///
     /// # Errors
     ///
     /// [`Error::NotATerm`] is the first string that can't be written; [`Error::OutOfMemory`].
     pub fn text(&self, pattern: Pattern<'_>) -> Result<Bytes, Error> {
-        let (text, telling) = self.handle.text(pattern.strings);
+        let (text, telling) = self.handle.text(&pattern);
         match telling.reason {
             ffi::HDT_DONE => Ok(text),
             ffi::HDT_NOT_A_TERM => Err(Error::NotATerm { role: Role::of(telling.role), id: telling.number }),
@@ -232,112 +257,5 @@ impl<'bytes> Graph<'bytes> {
 impl fmt::Debug for Graph<'_> {
     fn fmt(&self, f: &mut fmt::Formatter<'_>) -> fmt::Result {
         f.debug_struct("Graph").field("counts", &self.counts).finish_non_exhaustive()
-    }
-}
-
-/// Strings that were looked up together: the result of [`Graph::strings`].
-#[derive(Debug)]
-pub struct Strings {
-    text: Bytes,
-    ends: Vec<u64>,
-}
-
-impl Strings {
-    /// The strings, in the order of their IDs in the call.
-    pub fn iter(&self) -> impl DoubleEndedIterator<Item = &str> + ExactSizeIterator {
-        (0..self.ends.len()).map(|at| self.string(at))
-    }
-
-    fn string(&self, at: usize) -> &str {
-        let start = if at == 0 { 0 } else { self.ends[at - 1] };
-        let bytes = &self.text[ffi::size(start)..ffi::size(self.ends[at])];
-        str::from_utf8(bytes).expect("the strings of a valid file are UTF-8")
-    }
-}
-
-/// An iterator over the triples that match a pattern, each as the IDs of subject, predicate and object: the result of
-/// [`Graph::find`].
-#[derive(Debug)]
-#[must_use]
-pub struct Matches<'a> {
-    graph: &'a Graph<'a>,
-    pattern: Pattern<'a>,
-    page: Vec<[u64; 3]>,
-    /// The place in the page of the next triple.
-    at: usize,
-    /// The triples of the pages before.
-    before: u64,
-    is_last: bool,
-}
-
-impl Matches<'_> {
-    fn turn(&mut self) {
-        let room = FIRST_MATCHES.max(2 * self.page.len());
-        self.before += self.page.len() as u64;
-        self.page = Vec::new(); // (so that there are never two)
-        self.page = vec![[0; 3]; room];
-        let got = self.graph.handle.find(self.pattern.strings, self.before, &mut self.page);
-        self.page.truncate(got);
-        self.at = 0;
-        self.is_last = got < room;
-    }
-}
-
-impl Iterator for Matches<'_> {
-    type Item = [u64; 3];
-
-    fn next(&mut self) -> Option<[u64; 3]> {
-        if self.at == self.page.len() && !self.is_last {
-            self.turn();
-        }
-        let triple = self.page.get(self.at).copied()?;
-        self.at += 1;
-        Some(triple)
-    }
-}
-
-impl FusedIterator for Matches<'_> {}
-
-/// The answer of a call, or `None` if there is none.
-fn present(answer: u64) -> Result<Option<u64>, Error> {
-    match answer {
-        ffi::HDT_ABSENT => Ok(None),
-        ffi::HDT_NO_MEMORY => Err(Error::OutOfMemory),
-        answer => Ok(Some(answer)),
-    }
-}
-
-/// The bytes that a call puts into room, which is made larger once if the call needs more.
-fn put(room: usize, call: impl Fn(&mut [u8]) -> u64) -> Result<Option<Vec<u8>>, Error> {
-    let mut out = vec![0; room];
-    let Some(len) = present(call(&mut out))?.map(ffi::size) else {
-        return Ok(None);
-    };
-    if len > room {
-        out = vec![0; len];
-        present(call(&mut out))?;
-    }
-    out.truncate(len);
-    Ok(Some(out))
-}
-
-#[cfg(test)]
-mod tests {
-    use super::{Graph, Pattern};
-    use crate::file::build;
-
-    #[test]
-    fn pages_double() {
-        let text: String = (0..1_000).map(|n| format!("<u:s{n}> <u:p> <u:o> .\n")).collect();
-        let (file, _) = build(text.as_bytes(), "u:b", 16).unwrap();
-        let graph = Graph::open(&file).unwrap();
-        let mut matches = graph.find(Pattern::any());
-        let mut pages = Vec::new();
-        while matches.next().is_some() {
-            if matches.at == 1 {
-                pages.push(matches.page.len());
-            }
-        }
-        assert_eq!(pages, [64, 128, 256, 512, 40]);
     }
 }

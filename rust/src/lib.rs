@@ -27,7 +27,8 @@
 //!
 //! Errors are values of [`Error`]; no call panics on any input. Memory of the library comes from `malloc`; if it runs
 //! out there, a call returns [`Error::OutOfMemory`]. If memory for a `Vec` or a `String` runs out, the process aborts,
-//! as in any Rust program. No call may be made in a signal handler, or in the child of a `fork` of a process with
+//! as in any Rust program; so it does in calls of [`Term`] and in [`Matches`] if the library has none for the term or
+//! the page that they return. No call may be made in a signal handler, or in the child of a `fork` of a process with
 //! threads.
 
 #![deny(missing_docs)]
@@ -38,10 +39,33 @@ mod error;
 mod ffi;
 mod file;
 mod graph;
+mod header;
+mod matches;
+mod pattern;
+mod strings;
 mod term;
 
 pub use error::{Error, FileError, FileReason, TextError, TextReason};
 pub use ffi::Bytes;
-pub use file::{build, rewrite, verify, Counts, BLOCK_SIZE};
-pub use graph::{Graph, Matches, Pattern, Role, Strings};
+pub use file::{build, rewrite, verify, verify_tight, Counts, BLOCK_SIZE};
+pub use graph::Graph;
+pub use matches::{Matches, Page};
+pub use pattern::{Pattern, Role};
+pub use strings::Strings;
 pub use term::{InvalidTerm, LiteralKind, Term};
+
+/// The major and the minor version of the C interface (`c/hdt.h`) that this crate is written for.
+pub const HEADER_VERSION: (u32, u32) = (ffi::HDT_VERSION_MAJOR, ffi::HDT_VERSION_MINOR);
+
+/// The major and the minor version of the library that is linked. A greater minor version has more calls.
+///
+/// ```
+/// use tickmarl_hdt::{library_version, HEADER_VERSION};
+///
+/// let (major, minor) = library_version();
+/// assert!(major == HEADER_VERSION.0 && minor >= HEADER_VERSION.1);
+/// ```
+pub fn library_version() -> (u32, u32) {
+    let version = ffi::version();
+    (version >> 16, version & 0xFFFF)
+}

@@ -3,7 +3,10 @@
 
 use std::error;
 use std::fmt::{self, Write};
-use std::ops::RangeInclusive;
+
+use crate::error::abort_without_memory;
+use crate::ffi;
+use crate::strings::put;
 
 /// An RDF term. `Display` writes it as N-Triples.
 ///
@@ -48,6 +51,9 @@ pub enum LiteralKind {
     Datatype(String),
 }
 
+/// The bytes of `""^^<>`, the most that a dictionary string has besides its parts.
+const MOST_DELIMITERS: usize = 6;
+
 /// A string is not the dictionary string of a term. Files may have such strings.
 #[derive(Debug, Clone, Copy, PartialEq, Eq, Hash)]
 pub struct InvalidTerm;
@@ -61,29 +67,30 @@ impl fmt::Display for InvalidTerm {
 impl error::Error for InvalidTerm {}
 
 impl Term {
-    /// The term of a dictionary string (`docs/NTRIPLES.md`, "Dictionary strings").
+    /// The term of a dictionary string (`docs/NTRIPLES.md`, "Dictionary strings"). Linear time.
     ///
     /// # Errors
     ///
     /// [`InvalidTerm`] if the string is that of no term.
     pub fn from_dictionary(string: &str) -> Result<Term, InvalidTerm> {
-        if string.contains('\0') {
-            return Err(InvalidTerm);
+        let (reason, parts) = ffi::term(string);
+        if reason == ffi::HDT_OUT_OF_MEMORY {
+            abort_without_memory(string.len());
         }
-        if let Some(quoted) = string.strip_prefix('"') {
-            let (text, suffix) = quoted.rsplit_once('"').ok_or(InvalidTerm)?;
-            return Ok(Term::Literal { text: text.into(), kind: LiteralKind::of_suffix(suffix)? });
+        let part = |at: u64, len: u64| string[ffi::size(at)..ffi::size(at + len)].to_owned();
+        let (text, suffix) = (part(parts.at, parts.len), part(parts.suffix_at, parts.suffix_len));
+        match parts.kind {
+            ffi::HDT_IRI => Ok(Term::Iri(text)),
+            ffi::HDT_BLANK => Ok(Term::Blank(text)),
+            ffi::HDT_LITERAL => Ok(Term::Literal { text, kind: LiteralKind::Plain }),
+            ffi::HDT_TAGGED => Ok(Term::Literal { text, kind: LiteralKind::Language(suffix) }),
+            ffi::HDT_TYPED => Ok(Term::Literal { text, kind: LiteralKind::Datatype(suffix) }),
+            ffi::HDT_NO_TERM => Err(InvalidTerm),
+            kind => unreachable!("libhdt is newer than this crate: it has a kind of term {kind}"),
         }
-        if let Some(label) = string.strip_prefix("_:") {
-            return if is_label(label) { Ok(Term::Blank(label.into())) } else { Err(InvalidTerm) };
-        }
-        if is_absolute(string) {
-            return Ok(Term::Iri(string.into()));
-        }
-        Err(InvalidTerm)
     }
 
-    /// The dictionary string of the term.
+    /// The dictionary string of the term, whose parts are not checked. Linear time.
     pub fn to_dictionary(&self) -> String {
         match self {
             Term::Iri(iri) => iri.clone(),
@@ -93,20 +100,34 @@ impl Term {
             Term::Literal { text, kind: LiteralKind::Datatype(iri) } => format!("\"{text}\"^^<{iri}>"),
         }
     }
-}
 
-impl LiteralKind {
-    /// What a dictionary string has after the last quote.
-    fn of_suffix(suffix: &str) -> Result<LiteralKind, InvalidTerm> {
-        if suffix.is_empty() {
-            return Ok(LiteralKind::Plain);
-        }
-        if let Some(tag) = suffix.strip_prefix('@').filter(|tag| is_tag(tag)) {
-            return Ok(LiteralKind::Language(tag.into()));
-        }
-        let datatype = suffix.strip_prefix("^^<").and_then(|rest| rest.strip_suffix('>'));
-        let datatype = datatype.filter(|iri| is_absolute(iri) && !iri.contains(is_excluded));
-        datatype.map(|iri| LiteralKind::Datatype(iri.into())).ok_or(InvalidTerm)
+    /// The dictionary string of the term if its parts are those of a term: the inverse of
+    /// [`from_dictionary`](Term::from_dictionary). Linear time.
+    ///
+    /// # Errors
+    ///
+    /// [`InvalidTerm`] if a part is not of its kind, as a relative IRI or a language tag with a space.
+    ///
+    /// ```
+    /// use tickmarl_hdt::{InvalidTerm, Term};
+    ///
+    /// assert_eq!(Term::Blank("b".into()).try_to_dictionary().as_deref(), Ok("_:b"));
+    /// assert_eq!(Term::Iri("relative".into()).try_to_dictionary(), Err(InvalidTerm));
+    /// ```
+    pub fn try_to_dictionary(&self) -> Result<String, InvalidTerm> {
+        let (kind, text, suffix) = match self {
+            Term::Iri(iri) => (ffi::HDT_IRI, iri, ""),
+            Term::Blank(label) => (ffi::HDT_BLANK, label, ""),
+            Term::Literal { text, kind: LiteralKind::Plain } => (ffi::HDT_LITERAL, text, ""),
+            Term::Literal { text, kind: LiteralKind::Language(tag) } => (ffi::HDT_TAGGED, text, tag.as_str()),
+            Term::Literal { text, kind: LiteralKind::Datatype(iri) } => (ffi::HDT_TYPED, text, iri.as_str()),
+        };
+        let room = text.len() + suffix.len() + MOST_DELIMITERS;
+        let string = put(room, |out| ffi::term_string(kind, text, suffix, out));
+        let Some(bytes) = string.unwrap_or_else(|_| abort_without_memory(room)) else {
+            return Err(InvalidTerm);
+        };
+        Ok(String::from_utf8(bytes).expect("parts that are UTF-8 make a string that is UTF-8"))
     }
 }
 
@@ -161,56 +182,4 @@ fn write_text(f: &mut fmt::Formatter<'_>, text: &str) -> fmt::Result {
 /// Whether an IRI excludes a character.
 fn is_excluded(character: char) -> bool {
     character <= ' ' || "<>\"{}|^`\\".contains(character)
-}
-
-/// Whether a string begins with a scheme and a colon.
-fn is_absolute(string: &str) -> bool {
-    string.split_once(':').is_some_and(|(scheme, _)| {
-        scheme.starts_with(|first: char| first.is_ascii_alphabetic())
-            && scheme.chars().all(|next| next.is_ascii_alphanumeric() || "+-.".contains(next))
-    })
-}
-
-/// Whether a string is a language tag of the grammar's LANGTAG, without its `@`.
-fn is_tag(tag: &str) -> bool {
-    let mut subtags = tag.split('-');
-    let first = subtags.next().unwrap_or_default();
-    let letters = |subtag: &str| subtag.chars().all(|next| next.is_ascii_alphabetic());
-    let letters_or_digits = |subtag: &str| subtag.chars().all(|next| next.is_ascii_alphanumeric());
-    !first.is_empty() && letters(first) && subtags.all(|next| !next.is_empty() && letters_or_digits(next))
-}
-
-/// Whether a string is a label of the grammar's BLANK_NODE_LABEL, without its `_:`.
-fn is_label(label: &str) -> bool {
-    label.starts_with(|first: char| is_label_start(first) || first.is_ascii_digit())
-        && label.chars().all(|next| is_label_part(next) || next == '.')
-        && !label.ends_with('.')
-}
-
-/// The ranges of the grammar's PN_CHARS_BASE above ASCII.
-const BASE: [RangeInclusive<char>; 12] = [
-    '\u{C0}'..='\u{D6}',
-    '\u{D8}'..='\u{F6}',
-    '\u{F8}'..='\u{2FF}',
-    '\u{370}'..='\u{37D}',
-    '\u{37F}'..='\u{1FFF}',
-    '\u{200C}'..='\u{200D}',
-    '\u{2070}'..='\u{218F}',
-    '\u{2C00}'..='\u{2FEF}',
-    '\u{3001}'..='\u{D7FF}',
-    '\u{F900}'..='\u{FDCF}',
-    '\u{FDF0}'..='\u{FFFD}',
-    '\u{10000}'..='\u{EFFFF}',
-];
-
-/// PN_CHARS_U, and the colon.
-fn is_label_start(character: char) -> bool {
-    character.is_ascii_alphabetic() || "_:".contains(character) || BASE.iter().any(|range| range.contains(&character))
-}
-
-/// PN_CHARS, and the colon.
-fn is_label_part(character: char) -> bool {
-    is_label_start(character)
-        || character.is_ascii_digit()
-        || matches!(character, '-' | '\u{B7}' | '\u{300}'..='\u{36F}' | '\u{203F}'..='\u{2040}')
 }

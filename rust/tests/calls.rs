@@ -4,8 +4,8 @@ use std::error::Error as _;
 use std::io::Write;
 
 use tickmarl_hdt::{
-    build, rewrite, verify, Error, FileError, FileReason, Graph, Matches, Pattern, Role, Strings, TextError,
-    TextReason, BLOCK_SIZE,
+    build, rewrite, verify, verify_tight, Error, FileError, FileReason, Graph, Matches, Pattern, Role, Strings,
+    TextError, TextReason, BLOCK_SIZE,
 };
 
 const BASE: &str = "http://a/";
@@ -43,6 +43,7 @@ fn invalid_files_have_a_reason_and_an_offset() {
     ];
     for (bytes, error) in invalid {
         assert_eq!(verify(bytes), Err(error));
+        assert_eq!(verify_tight(bytes), Err(error));
         assert_eq!(Graph::open(bytes).unwrap_err(), error);
         assert_eq!(rewrite(bytes, BLOCK_SIZE).unwrap_err(), error);
     }

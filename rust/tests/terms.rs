@@ -53,6 +53,7 @@ fn terms_have_a_string_and_a_spelling() {
     for (string, spelling) in TERMS {
         let term = Term::from_dictionary(string).unwrap();
         assert_eq!(term.to_dictionary(), string);
+        assert_eq!(term.try_to_dictionary().as_deref(), Ok(string));
         assert_eq!(term.to_string(), spelling);
     }
 }
@@ -77,6 +78,34 @@ fn parts_of_terms() {
     ];
     for (string, term) in terms {
         assert_eq!(Term::from_dictionary(string), Ok(term));
+    }
+}
+
+#[test]
+fn parts_of_no_term_have_no_string() {
+    let literal = |kind| Term::Literal { text: "x".into(), kind };
+    let invalid = [
+        Term::Iri("a".into()),
+        Term::Iri("_:b".into()),
+        Term::Iri("\"x\"".into()),
+        Term::Blank("a b".into()),
+        Term::Blank("".into()),
+        literal(LiteralKind::Language("e n".into())),
+        literal(LiteralKind::Language("".into())),
+        literal(LiteralKind::Datatype("t".into())),
+        literal(LiteralKind::Datatype("u: ".into())),
+        Term::Literal { text: "\0".into(), kind: LiteralKind::Plain },
+    ];
+    for term in invalid {
+        assert_eq!(term.try_to_dictionary(), Err(InvalidTerm), "{term:?}");
+    }
+}
+
+#[test]
+fn long_terms_come_whole() {
+    let long = "a".repeat(1_000_000);
+    for string in [format!("u:{long}"), format!("\"{long}\"^^<u:{long}>")] {
+        assert_eq!(Term::from_dictionary(&string).unwrap().try_to_dictionary(), Ok(string));
     }
 }
 

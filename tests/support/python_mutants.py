@@ -13,7 +13,7 @@ from typing import Optional
 
 from support.rdflib_mutants import Wrong, first_test_that_sees, judge
 
-TESTS = [f"tests/test_python{name}.py" for name in ("_calls", "_terms", "")]
+TESTS = [f"tests/test_python{name}.py" for name in ("_calls", "_terms", "_files", "")]
 
 WRONG = [
     Wrong("an ID of a pattern of no string is a string's", "_calls",

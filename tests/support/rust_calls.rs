@@ -1,15 +1,16 @@
 //! What the crate `tickmarl-hdt` returns, printed for tests/test_rust.py. Bytes are hexadecimal.
 //!
-//! `calls file PATH..` prints the counts or the error of each file, then the strings of each triple, and the file's
-//! text or the string that is no term. `calls terms` reads strings, one per line, and prints their terms. `calls
-//! memory PATH` prints the errors of calls that need more memory than there is, and the length of a string.
+//! `calls file PATH..` prints the counts or the error of each file, then the error of `verify_tight` if there is one, the
+//! strings of each triple, the counts of the predicates, and the file's text or the string that is no term. `calls terms`
+//! reads strings, one per line, and prints their terms. `calls memory PATH` prints the errors of calls that need more memory
+//! than there is, and the length of a string; `calls abort` needs more for a term.
 
 use std::env;
 use std::error::Error;
 use std::fs;
 use std::io::{self, BufWriter, Write};
 
-use tickmarl_hdt::{Error as HdtError, Graph, LiteralKind, Pattern, Role, Term};
+use tickmarl_hdt::{verify_tight, Error as HdtError, Graph, LiteralKind, Pattern, Role, Term};
 
 fn main() -> Result<(), Box<dyn Error>> {
     let arguments: Vec<String> = env::args().skip(1).collect();
@@ -17,6 +18,7 @@ fn main() -> Result<(), Box<dyn Error>> {
     match arguments[0].as_str() {
         "terms" => io::stdin().lines().try_for_each(|line| print_term(&mut out, &String::from_utf8(unhex(&line?))?)),
         "memory" => print_memory(&mut out, &fs::read(&arguments[1])?),
+        "abort" => Ok(writeln!(out, "{:?}", Term::from_dictionary(&"u:".repeat(10_000_000)))?),
         _ => arguments[1..].iter().try_for_each(|path| print_file(&mut out, &fs::read(path)?)),
     }
 }
@@ -32,6 +34,11 @@ fn print_file(out: &mut impl Write, bytes: &[u8]) -> Result<(), Box<dyn Error>> 
     let counts = graph.counts();
     let strings = [counts.shared, counts.subjects, counts.predicates, counts.objects].map(|count| count.to_string());
     writeln!(out, "ok {} {}", counts.triples, strings.join(" "))?;
+    match verify_tight(bytes) {
+        Ok(tight) => assert_eq!(tight, counts),
+        Err(HdtError::File(error)) => writeln!(out, "fault {} {} at {}", error.reason.number(), error.reason, error.offset)?,
+        Err(error) => return Err(error.into()),
+    }
     for [s, p, o] in graph.find(Pattern::any()) {
         let ids = [(Role::Subject, s), (Role::Predicate, p), (Role::Object, o)];
         for (role, id) in ids {
@@ -41,6 +48,7 @@ fn print_file(out: &mut impl Write, bytes: &[u8]) -> Result<(), Box<dyn Error>> 
         }
         writeln!(out)?;
     }
+    writeln!(out, "predicates {:?}", graph.predicate_counts())?;
     match graph.text(Pattern::any()) {
         Ok(text) => writeln!(out, "text {}", hex(&text))?,
         Err(HdtError::NotATerm { role, id }) => writeln!(out, "no term {role} {id}")?,
@@ -63,6 +71,7 @@ fn print_term(out: &mut impl Write, string: &str) -> Result<(), Box<dyn Error>> 
         return Ok(writeln!(out, "no term")?);
     };
     assert_eq!(term.to_dictionary(), string);
+    assert_eq!(term.try_to_dictionary().as_deref(), Ok(string));
     let written = hex(term.to_string().as_bytes());
     let parts = match term {
         Term::Iri(iri) => vec!["iri".into(), hex(iri.as_bytes())],

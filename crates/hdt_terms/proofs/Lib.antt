@@ -41,8 +41,10 @@ pub mod TripleLineReasons
 pub mod LineTaking
 pub mod LineResults
 pub mod LinePrefixes
+pub mod WholeLines
 pub mod TripleRuns
 pub mod LineRuns
+pub mod DocumentLines
 pub mod LineCompleteness
 pub mod LineLaws
 pub mod PatternTerms

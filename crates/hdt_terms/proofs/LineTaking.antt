@@ -87,7 +87,7 @@ one_line text bytes new after x is line = (text, line, is.0, is.1)
 module _ (old : LinesState) (h : List ℕ) (n : ℕ) (given given' : Option (List ℕ)) (grew : AppendsInput old.buffered h given given') (no_end : HasNoLineEnd (take n h)) (within : old.taken + length h ≤ old.limit)
     (going : old.ended ≡ false) where
   -- the first bytes of the buffer after the read are consumed
-  takes_front : (m : ℕ) (b : Bool) → m ≤ length h → Takes old (record (take_bytes (record old { buffered = h }) m) { ended = b }) (left old given) (prepend_known (drop m h) given') (take m h)
+  pub takes_front : (m : ℕ) (b : Bool) → m ≤ length h → Takes old (record (take_bytes (record old { buffered = h }) m) { ended = b }) (left old given) (prepend_known (drop m h) given') (take m h)
   takes_front m b le = record {
     consumed = left_front old.buffered h (take m h) (drop m h) given given' grew (sym (take-append-drop m h));
     taken = ap (λ k. old.taken + k) (sym (length-take-le m h le));

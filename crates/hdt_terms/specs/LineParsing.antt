@@ -1,5 +1,5 @@
 -- Parsing a line from left to right, up to the first check that fails: the table of errors in docs/NTRIPLES.md.
-use Rattle.std.specs.Prelude.{◌≡◌, ℕ, Bool, true, ◌||◌, ◌⊎◌, List, [], ◌∷◌, length, Option, None, Some, Result, Ok, Err, ◌==◌, if◌then◌else◌}
+use Rattle.std.specs.Prelude.{◌≡◌, ℕ, Bool, true, false, ◌||◌, ◌⊎◌, List, [], ◌∷◌, length, Option, None, Some, Result, Ok, Err, ◌==◌, if◌then◌else◌}
 use Rattle.hdt_terms.specs.declared.fault.LineReason.TheVariants.{Syntax}
 use Rattle.hdt_terms.specs.declared.fault.FailedCheck.{FailedCheck}
 use Rattle.hdt_terms.specs.declared.fault.ReadError.{ReadError}
@@ -99,3 +99,9 @@ PutsTripleStrings s p o (Err e) read = Fails e read
 abbrev pub ReturnsTripleStrings : {X : Type 0} → List ℕ → List ℕ → List ℕ → Result X TermFault → Result Triple TermFault → Type 0
 ReturnsTripleStrings s p o (Ok x) read = (triple : Triple) × (read ≡ Ok triple) × AreTripleStrings triple s p o
 ReturnsTripleStrings s p o (Err fault) read = (fault ≡ out_of_memory) ⊎ (read ≡ Err fault)
+
+-- The same for a line that may have no triple.
+abbrev pub ReturnsLineStrings : List ℕ → List ℕ → List ℕ → Result Bool TermFault → Result (Option Triple) TermFault → Type 0
+ReturnsLineStrings s p o (Ok true) read = (triple : Triple) × (read ≡ Ok (Some triple)) × AreTripleStrings triple s p o
+ReturnsLineStrings s p o (Ok false) read = read ≡ Ok None
+ReturnsLineStrings s p o (Err fault) read = (fault ≡ out_of_memory) ⊎ (read ≡ Err fault)

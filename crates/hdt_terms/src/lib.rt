@@ -18,15 +18,15 @@
 //!
 //! [`Lines`] returns the triples of a document line by line: [`Lines::next_triple`] as terms, which is simple, and
 //! [`Lines::next_strings`] as dictionary strings in the caller's buffers, which is fast. [`Lines::next_prefix`] returns
-//! the text of each line, valid or not; [`read_request`] parses a line as a triple pattern. How the reader cuts the input
-//! into pieces makes no difference to any of them.
+//! the text of each line, valid or not; [`read_request`] parses a line as a triple pattern; [`lint_document`] reports
+//! every faulty line. How the reader cuts the input into pieces makes no difference to any of them.
 //!
 //! In reading order: `text` and `triple`, the types; `fault`, the errors; `chars`, character classes;
 //! `byte_runs`, runs of bytes, 16 at a time; `encoding`, UTF-8; the tokens, `escaped_tokens` (the content of IRIs and
 //! strings), `iri`, `label`, `tag` and `literal`; `transcode`, tokens to dictionary strings; `parse`, one term; `line`,
-//! one line; `request` and `raw_request`, a line that requests triples; `buffer`, `line_buffer`, `lines` and
-//! `line_prefix`, the lines of a reader; `term_refs`, terms that borrow their texts; `strings`, dictionary strings;
-//! `put`, writing; `laws`, properties of all terms and lines.
+//! one line; `request` and `raw_request`, a line that requests triples; `buffer`, `line_buffer`, `lines`, `line_prefix`
+//! and `whole_line`, the lines of a reader; `lint`, its faulty lines; `term_refs`, terms that borrow their texts;
+//! `strings`, dictionary strings; `put`, writing; `laws`, properties of all terms and lines.
 #![tactic(auto)]
 
 mod buffer;
@@ -42,6 +42,7 @@ mod line;
 mod line_buffer;
 mod line_prefix;
 mod lines;
+mod lint;
 mod literal;
 mod parse;
 mod put;
@@ -53,6 +54,7 @@ mod term_refs;
 mod text;
 mod transcode;
 mod triple;
+mod whole_line;
 
 pub use fault::{LineFault, LineReason, StringFault, TermFault};
 pub use iri::is_iri;
@@ -62,6 +64,7 @@ pub use laws::{
     text_encodes_one_term, triples_so_far, written_text_encodes_term,
 };
 pub use lines::Lines;
+pub use lint::{LintFault, lint_document};
 pub use parse::{parse_string, parse_term};
 pub use put::{put_string, put_term};
 pub use raw_request::read_raw_request;

@@ -2,10 +2,11 @@
 ghost use Rattle.std.specs.Prelude.{◌≡◌, [], ◌<◌, IfOk, IsUtf8};
 ghost use Rattle.hdt_terms.specs.Appending.{AppendsRead};
 ghost use Rattle.hdt_terms.specs.Faults.{EqualsUnlessOom};
-ghost use Rattle.hdt_terms.specs.LineParsing.{begins, role_term_at, role_term_after_whitespace, is_comment_or_end, is_blank_or_comment, comment_or_end_at, full_stop_after_whitespace, line_triple_at, line_triple, PutsTripleStrings, ReturnsTripleStrings};
+ghost use Rattle.hdt_terms.specs.LineParsing.{begins, role_term_at, role_term_after_whitespace, is_comment_or_end, is_blank_or_comment, comment_or_end_at, full_stop_after_whitespace, line_triple_at, line_triple, line_in, PutsTripleStrings, ReturnsTripleStrings, ReturnsLineStrings};
 ghost use Rattle.hdt_terms.specs.TermParsing.{ReturnsUnlessOom};
 ghost use Rattle.hdt_terms.specs.Terms.{dictionary_string};
 
+use crate::encoding::check_utf8;
 use crate::fault::{LineReason, ReadError, TermFault, locate_error, refuse};
 use crate::literal::skip_whitespace;
 use crate::parse::read_term;
@@ -163,5 +164,28 @@ pub(crate) fn put_triple(
     match put_strings(text, s, p, o) {
         Ok(()) => Ok(()),
         Err(error) => Err(locate_error(text.len(), error)),
+    }
+}
+
+/// Puts the strings of the triple of a line, if it has one, into the buffers, and returns whether it has one; or returns
+/// the first error of the line.
+pub(crate) fn put_line(
+    text: &[u8],
+    s: &mut Vec<u8>,
+    p: &mut Vec<u8>,
+    o: &mut Vec<u8>,
+) -> Result<bool, TermFault>
+    ensures { ReturnsLineStrings s.new.items p.new.items o.new.items result (line_in text.now) }
+{
+    match check_utf8(text) {
+        Ok(()) => {}
+        Err(fault) => return Err(fault),
+    }
+    if is_blank_or_comment(text) {
+        return Ok(false);
+    }
+    match put_triple(text, s, p, o) {
+        Ok(()) => Ok(true),
+        Err(fault) => Err(fault),
     }
 }

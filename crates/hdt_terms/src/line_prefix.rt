@@ -2,6 +2,7 @@
 ghost use Rattle.std.specs.Prelude.{◌≡◌, ◌≢◌, ◌+◌, ◌++◌, ◌-◌, take, ◌<◌, ◌≤◌, true, false, [], length, OnOk, IfErr, IsErrOf, None, Some, Ok, Err, IfSome};
 ghost use Rattle.hdt_wire.specs.Counted.{inner, failures};
 ghost use Rattle.hdt_terms.specs.Inside.LineBuffer.{ReadMore};
+ghost use Rattle.hdt_terms.specs.Lines.{HasNoLineEnd};
 ghost use Rattle.hdt_terms.specs.declared.fault.LineReason.TheVariants.{OutOfMemory, Read};
 
 use crate::fault::{LineFault, LineReason};
@@ -14,6 +15,18 @@ use std::io::Read;
 impl Lines {
     ghost use Rattle.hdt_terms.specs.LinesTexts.{TakesLinePrefix, IsNextLineError, ReturnsNextPrefix, TextClearedUnlessFound};
     ghost use Rattle.hdt_terms.specs.LinesReader.{HasBufferedLine, left};
+
+    /// Returns whether a complete line with its end is buffered. If so, the next call of [`Lines::next_text`] reads
+    /// nothing, so it can't block. Linear time in the length of that line, or of the buffer if there is none.
+    pub fn has_buffered_line(&self) -> bool
+        ensures yes { result ≡ true → HasBufferedLine self.now }
+        ensures no { result ≡ false → HasNoLineEnd self.now.buffered }
+    {
+        match find_line_end(self.buffered.as_slice(), 0) {
+            Some(_) => true,
+            None => false,
+        }
+    }
 
     /// Notes that the input has ended.
     fn end(&mut self)

@@ -10,7 +10,7 @@ use crate::buffer::Buffer;
 use crate::encoding::check_beyond_ascii;
 use crate::fault::{LineFault, LineReason, TermFault};
 use crate::line::{is_blank_or_comment, put_triple, read_triple};
-use crate::line_buffer::{buffer_first_line, find_line_end};
+use crate::line_buffer::buffer_first_line;
 use crate::triple::Triple;
 use hdt_wire::Counted;
 use std::alloc::{AllocError, Global};
@@ -76,7 +76,10 @@ impl Lines {
     }
 
     /// Reads until the next line is buffered. Returns its length without its end, and whether it is known to be UTF-8.
-    fn buffer_line<R: Read>(&mut self, input: &mut Counted<R>) -> Result<(usize, bool), LineReason>
+    pub(crate) fn buffer_line<R: Read>(
+        &mut self,
+        input: &mut Counted<R>,
+    ) -> Result<(usize, bool), LineReason>
         ensures does { BuffersLine (text_len result) self.old.buffered self.new.buffered (R.remaining (inner input.old)) (R.remaining (inner input.new))
             (self.old.limit - self.old.taken) }
         ensures utf8 { IfOk result (λ x. x.1 ≡ true → IsUtf8 (take x.0 self.new.buffered)) }
@@ -90,18 +93,6 @@ impl Lines {
     {
         let most = (self.limit - self.taken) as usize;
         buffer_first_line(&mut self.buffered, most, input)
-    }
-
-    /// Returns whether a complete line with its end is buffered. If so, the next call of [`Lines::next_text`] reads
-    /// nothing, so it can't block. Linear time in the length of that line, or of the buffer if there is none.
-    pub fn has_buffered_line(&self) -> bool
-        ensures yes { result ≡ true → HasBufferedLine self.now }
-        ensures no { result ≡ false → HasNoLineEnd self.now.buffered }
-    {
-        match find_line_end(self.buffered.as_slice(), 0) {
-            Some(_) => true,
-            None => false,
-        }
     }
 
     /// An error of the current line.
@@ -171,7 +162,7 @@ impl Lines {
     }
 
     /// Consumes the line in the first n bytes, with its end, or without one at the end of the input.
-    fn take(&mut self, n: usize)
+    pub(crate) fn take(&mut self, n: usize)
         requires within { n ≤ length self.old.buffered }
         requires text { HasNoLineEnd (take n self.old.buffered) }
         requires end { n < length self.old.buffered → is_line_end (slice_index self.old.buffered n) ≡ true }

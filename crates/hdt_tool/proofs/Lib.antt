@@ -3,12 +3,12 @@ mod OutPaths
 mod ParsedArguments
 mod StringLines
 mod CountLines
-mod LineChecking
-mod Lints
+mod ListedLines
 mod Pieces
 mod InputFaults
 mod Outputs
 mod Rewriting
+mod InfoLaws
 mod Triples
 pub mod Statuses
 pub mod Dialogues

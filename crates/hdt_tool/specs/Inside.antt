@@ -1,2 +1,1 @@
 pub mod ProgressText
-pub mod LineChecks

@@ -1,15 +1,14 @@
 """A store of rdflib over an HDT file, which is searched in place and never changes.
 
-    from rdflib import Graph
-    from hdt.rdflib import HDTStore, plan_sparql
-
-    plan_sparql()                          # once: queries over such stores are planned by the counts of the file
-    with HDTStore("graph.hdt") as store:
-        graph = Graph(store)
-        for subject, predicate, object in graph.triples((None, RDF.type, None)):
-            print(subject)
-        for row in graph.query("SELECT ?s { ?s a <http://a/Class> }"):
-            print(row.s)
+    >>> from rdflib import Graph
+    >>> from hdt.rdflib import HDTStore, plan_sparql
+    >>> plan_sparql()  # once: queries over such stores are planned by the counts of the file
+    >>> with HDTStore("graph.hdt") as store:
+    ...     graph = Graph(store)
+    ...     for row in graph.query("SELECT ?s ?o { ?s <u:p> ?o }"):
+    ...         print(row.s, row.o)
+    u:a u:b
+    u:b u:a
 
 `Graph("HDT")` and its `open(path)` do it by name. It needs rdflib, of 6.1.1 or newer (tested with 6.1.1):
 `pip install 'tickmarl-hdt[rdflib]'`.
@@ -39,5 +38,8 @@ from hdt.rdflib._store import HDTStore, ReadOnly
 from hdt.rdflib._terms import Term, string_of, term_of
 
 __all__ = ["Fault", "HDTStore", "NotATerm", "ReadOnly", "Term", "plan_sparql", "planned", "string_of", "term_of"]
+
+for _it in (HDTStore, ReadOnly, plan_sparql, planned, string_of, term_of):
+    _it.__module__ = __name__  # (so they are shown and pickled by their public names)
 
 rdflib.plugin.register("HDT", rdflib.store.Store, "hdt.rdflib", "HDTStore")

@@ -25,7 +25,13 @@ def plan_sparql(on: bool = True) -> None:
 
     It holds for the whole process and is off at first. Basic graph patterns are joined in an order by counts, over IDs
     where they can be; COUNT, also of DISTINCT terms, over one pattern is answered by counting. The answers are those of
-    rdflib, in another order where the query gives none. Other stores are evaluated as before.
+    rdflib, in another order where the query gives none. Other stores are evaluated as before. Constant time.
+
+    >>> plan_sparql()
+    >>> with HDTStore("graph.hdt") as store:
+    ...     [str(row.n) for row in Graph(store).query("SELECT (COUNT(*) AS ?n) { ?s <u:p> ?o }")]
+    ['2']
+    >>> plan_sparql(False)
     """
     if on:
         CUSTOM_EVALS[_NAME] = evaluated
@@ -35,7 +41,12 @@ def plan_sparql(on: bool = True) -> None:
 
 @contextmanager
 def planned() -> Iterator[None]:
-    """`plan_sparql` while the `with` statement runs. A result is evaluated when it is read: so read it inside."""
+    """`plan_sparql` while the `with` statement runs. A result is evaluated when it is read: so read it inside.
+
+    >>> with HDTStore("graph.hdt") as store, planned():
+    ...     [str(row.o) for row in Graph(store).query("SELECT ?o { ?s <u:p> ?x . ?x <u:p> ?o }")]
+    ['u:a', 'u:b']
+    """
     before = CUSTOM_EVALS.get(_NAME)
     plan_sparql()
     try:

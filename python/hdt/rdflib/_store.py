@@ -28,7 +28,13 @@ _LOOK_UP = 8  # a search takes about as long as so many triples of a walk
 
 
 class ReadOnly(TypeError):
-    """A call that would change an HDT file, which never changes."""
+    """A call that would change an HDT file, which never changes.
+
+    >>> with HDTStore("graph.hdt") as store:
+    ...     Graph(store).add((URIRef("u:a"), URIRef("u:p"), URIRef("u:c")))
+    Traceback (most recent call last):
+    hdt.rdflib.ReadOnly: an HDT file is read-only: copy its triples into a graph in memory, or build a new file
+    """
 
     def __init__(self, *_: object, **__: object) -> None:
         super().__init__("an HDT file is read-only: copy its triples into a graph in memory, or build a new file")
@@ -44,6 +50,10 @@ class HDTStore(Store):
 
     Calls on a closed store raise ValueError; those that would change the file raise ReadOnly, a TypeError. The store
     isn't context aware: rdflib's ConjunctiveGraph and Dataset refuse it. Threads may share a store.
+
+    >>> with HDTStore("graph.hdt") as store:
+    ...     len(Graph(store)), (URIRef("u:a"), URIRef("u:p"), None) in Graph(store)
+    (3, True)
     """
 
     def __init__(
@@ -73,6 +83,10 @@ class HDTStore(Store):
         The path may be that of a folder that `hdt.parts.build` made. Raises hdt.Fault (a ValueError) if the file is
         none, hdt.parts.PartFault (another one) of a folder, and OSError; what was open stays open then. The whole file
         is validated, in a time that is linear in its size.
+
+        >>> store = HDTStore()
+        >>> store.open("graph.hdt"), len(store)
+        (1, 3)
         """
         opened = opened_at(configuration, self.scope, self.exact, self.keep)
         self.close()
@@ -80,7 +94,14 @@ class HDTStore(Store):
         return VALID_STORE
 
     def close(self, commit_pending_transaction: bool = False) -> None:
-        """Close the file and free its memory. A second call does nothing."""
+        """Close the file and free its memory. A second call does nothing.
+
+        >>> store = HDTStore("graph.hdt")
+        >>> store.close()
+        >>> len(store)
+        Traceback (most recent call last):
+        ValueError: the store is closed: open(path) opens it
+        """
         if self._file is not None:
             self._file.graph.close()
             self._file = None
@@ -106,7 +127,11 @@ class HDTStore(Store):
 
     @property
     def hdt(self) -> hdt.Graph:
-        """The open file as a graph of the package `hdt`. Raises ValueError once closed."""
+        """The open file as a graph of the package `hdt`. Raises ValueError once closed.
+
+        >>> HDTStore("graph.hdt").hdt
+        <hdt.Graph of 3 triples: graph.hdt>
+        """
         return self.opened.graph
 
     # ---- searching
@@ -115,7 +140,10 @@ class HDTStore(Store):
         """The triples that match a pattern of three terms, of which None is any, each with no contexts.
 
         A given term is in them as it was given. Raises hdt.NotATerm where a string of the file is no term. The first
-        triple comes at once; portions of up to 4,096 are looked up together.
+        triple comes at once; portions of up to 4,096 are looked up together. The time is linear in the triples.
+
+        >>> [triple for triple, _ in HDTStore("graph.hdt").triples((None, URIRef("u:q"), None))]
+        [(rdflib.term.URIRef('u:a'), rdflib.term.URIRef('u:q'), rdflib.term.Literal('x'))]
         """
         file = self.opened
         searches = file.searches(triple_pattern)
@@ -129,7 +157,11 @@ class HDTStore(Store):
         """The triples that match a pattern, from the one at `offset`, at most `limit`; and how many match in all.
 
         The count is that of `count`. Raises ValueError for a negative number. What is before `offset` is passed over
-        without making terms.
+        without making terms, in linear time at most.
+
+        >>> found, count = HDTStore("graph.hdt").search((None, URIRef("u:p"), None), limit=1, offset=1)
+        >>> [str(subject) for subject, _, _ in found], count
+        (['u:b'], 2)
         """
         if offset < 0 or (limit is not None and limit < 0):
             raise ValueError("a limit or an offset is negative")
@@ -140,7 +172,11 @@ class HDTStore(Store):
     def count(self, pattern: Sequence[Any] = (None, None, None)) -> int:
         """How many triples match a pattern, without making terms.
 
-        It is exact, but for a literal with several spellings in the file: a triple with each of two counts twice.
+        It is exact, but for a literal with several spellings in the file: a triple with each of two counts twice. The
+        time is at most that of a walk over the triples, and often less. Raises ValueError once closed.
+
+        >>> HDTStore("graph.hdt").count((None, URIRef("u:p"), None))
+        2
         """
         file = self.opened
         return file.count(file.searches(pattern))
@@ -149,7 +185,11 @@ class HDTStore(Store):
         """`triples` with a list, tuple or set of terms at one place; an empty one is any term, as for rdflib.
 
         Raises ValueError for two of them. Each choice is searched for, or all triples of the pattern without it are
-        looked at, whatever is less.
+        looked at, whatever takes less time.
+
+        >>> found = HDTStore("graph.hdt").triples_choices((None, [URIRef("u:p"), URIRef("u:none")], None))
+        >>> [str(object) for (_, _, object), _ in found]
+        ['u:b', 'u:a']
         """
         lists = [at for at, term in enumerate(triple) if isinstance(term, (list, tuple, set, frozenset))]
         if len(lists) > 1:
@@ -185,6 +225,10 @@ class HDTStore(Store):
         The blank nodes have the labels of the header, behind `scope`. Raises hdt.LineFault if the header isn't
         N-Triples, which opening doesn't check, and OSError where no temporary file can be written. The time is linear
         in the header.
+
+        >>> header = HDTStore("graph.hdt").header()
+        >>> str(header.value(URIRef("http://a/"), URIRef("http://rdfs.org/ns/void#triples")))
+        '3'
         """
         text, found = self.hdt.header, Graph()
         with tempfile.TemporaryDirectory() as folder:
@@ -203,7 +247,10 @@ class HDTStore(Store):
         """Evaluate the text of a SPARQL query with rdflib's engine, but with its literals as they are spelled.
 
         rdflib itself reads `1e0` as `1.0` and `2020-01-01T00:00:00Z` with `+00:00`, which finds nothing in a file that
-        has the text of the query. A prepared query is left to rdflib: it was read before.
+        has the text of the query. A prepared query is left to rdflib: it was read before. Raises what rdflib raises.
+
+        >>> Graph(HDTStore("graph.hdt")).query('ASK { ?s ?p "x" }').askAnswer
+        True
         """
         if not isinstance(query, str):
             raise NotImplementedError  # rdflib's Graph.query evaluates it
@@ -215,7 +262,13 @@ class HDTStore(Store):
     # ---- namespaces, which are kept in memory only
 
     def bind(self, prefix: str, namespace: Any, override: bool = True) -> None:
-        """Bind a prefix to a namespace in this store, not in the file."""
+        """Bind a prefix to a namespace in this store, not in the file. Constant time.
+
+        >>> graph = Graph(HDTStore("graph.hdt"))
+        >>> graph.bind("u", "u:")
+        >>> len(graph.query("SELECT ?s { ?s u:p ?o }"))
+        2
+        """
         if not override and (prefix in self._prefixes or namespace in self._namespaces):
             return
         if (old := self._namespaces.pop(namespace, None)) is not None:

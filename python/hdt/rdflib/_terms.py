@@ -56,6 +56,9 @@ def term_of(string: str, scope: str = "") -> Term:
     A literal has the text of the string, also where rdflib would write the value in another way: `"01"` of xsd:integer
     stays `01`. `scope` is put before the label of a blank node. Raises ValueError for the string of no term: an empty
     one, or one that begins with a quote and doesn't end as a literal. The time is that of making the term.
+
+    >>> term_of('"chat"@fr'), term_of("_:b", scope="f1-")
+    (rdflib.term.Literal('chat', lang='fr'), rdflib.term.BNode('f1-b'))
     """
     if string.startswith('"'):
         return _literal_of(string)
@@ -107,7 +110,10 @@ def string_of(term: object, scope: str = "") -> Optional[str]:
 
     That is anything but a URIRef, a BNode or a Literal; a URIRef that is empty or would be read as another kind of
     term, as it begins with a quote or `_:`; a datatype with a quote; a blank node whose label doesn't begin with
-    `scope`. It is the inverse of `term_of`.
+    `scope`. It is the inverse of `term_of`. The time is linear in the string.
+
+    >>> string_of(URIRef("u:a")), string_of(Literal(1)), string_of("u:a")
+    ('u:a', '"1"^^<http://www.w3.org/2001/XMLSchema#integer>', None)
     """
     # (the methods of str itself: rdflib's terms have some with other parameters)
     if isinstance(term, URIRef):
