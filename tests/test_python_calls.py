@@ -401,7 +401,8 @@ def test_text_in_pieces(triples: list[Triple], at: int, size: int) -> None:
             pieces = list(graph.text_pieces(*pattern))
             assert "".join(pieces) == graph.text(*pattern)
             assert all(piece.count("\n") <= size and piece.endswith("\n") for piece in pieces)
-            pages, start = [], 0
+            pages: list[str] = []
+            start: Optional[int] = 0
             while start is not None:
                 page, start = graph.page_text(*pattern, start=start, limit=size)
                 pages.append(page)
