@@ -10,7 +10,7 @@ from typing import Optional
 
 from hdt.fragments._config import Source
 from hdt.fragments._reader import Reader
-from hdt.parts._string_ids import open_any
+from hdt.parts import open_any
 
 Identity = tuple[int, int, int, int]
 
