@@ -30,8 +30,8 @@ from hdt.parts._manifest import Manifest, Part, part_of
 from hdt.parts._string_ids import open_any
 
 __all__ = [
-    *("Graph", "InputFault", "Manifest", "Order", "Part", "PartFault", "WorkerDied"),
-    *("build", "open", "open_any", "part_of"),
+    "Graph", "InputFault", "Manifest", "Order", "Part", "PartFault", "WorkerDied",
+    "build", "open", "open_any", "part_of",
 ]
 
 for _name in __all__:
