@@ -15,7 +15,7 @@ use Rattle.hdt_terms.specs.Inside.LineBuffer.{AppendsInput, IsFirstLineLength, B
 use Rattle.hdt_terms.specs.LineParsing.{is_blank_or_comment}
 use Rattle.hdt_terms.specs.Lines.{HasNoLineEnd, Line, LinesWithoutTriples}
 use Rattle.hdt_terms.specs.LinesReader.{LinesState, left, take_bytes, take_line, Takes, IsTakenLine, BeginsWithLine, IsLineError, IsNextTripleError, IsTripleLineError, ChecksLine}
-use Rattle.hdt_terms.specs.LinesTexts.{IsTakenLineText, IsUnreadLineError, TakesText}
+use Rattle.hdt_terms.specs.LinesTexts.{IsTakenLineText}
 use Rattle.hdt_terms.proofs.LineSoundness.{line_fault}
 
 -- ---- the remaining input

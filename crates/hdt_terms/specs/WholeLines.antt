@@ -1,5 +1,5 @@
 -- Lines that a reader of lines consumes with their ends.
-use Rattle.std.specs.Prelude.{◌≡◌, ℕ, ◌≤◌, List, length, take, Option}
+use Rattle.std.specs.Prelude.{ℕ, ◌≤◌, List, length, take, Option}
 use Rattle.hdt_terms.specs.LinesReader.{LinesState, Takes}
 use Rattle.hdt_terms.specs.LinesTexts.{IsTakenLineText}
 

@@ -245,7 +245,7 @@ fn is_another_wanted(count: u64, most: u64, lines: &Lines) -> bool
 /// without an error to `kept`, byte for byte, with their ends; so a document without errors is copied. Stops after
 /// `most` faulty lines.
 ///
-/// Linear time. Memory: the longest line, twice, and 64 KiB for each of the input and both outputs.
+/// Linear time. Memory: a few times the longest line, and 64 KiB for each of the input and both outputs.
 ///
 /// # Errors
 ///
