@@ -43,6 +43,7 @@ pub mod LineResults
 pub mod LinePrefixes
 pub mod WholeLines
 pub mod TripleRuns
+pub mod TripleLines
 pub mod LineRuns
 pub mod DocumentLines
 pub mod LineCompleteness

@@ -1,6 +1,6 @@
 -- A line that is consumed at once, with its end.
-use Rattle.std.proofs.Common.{◌≡◌, ◌+◌, ◌-◌, ◌<◌, ◌≤◌, ℕ, true, false, cond, List, [], ◌∷◌, ◌++◌, length, take, drop, get_or, Option, Ok, Err, refl, sym, ap, subst, ◌∙◌, inl, inr, arith}
-use Rattle.std.proofs.lemmas.Bool.{le-ltb, lt-ltb}
+use Rattle.std.proofs.Common.{◌≡◌, ◌+◌, ◌-◌, ◌<◌, ◌≤◌, ℕ, true, false, cond, List, [], ◌∷◌, ◌++◌, length, take, drop, get_or, Option, Some, Ok, Err, refl, sym, ap, subst, ◌∙◌, inl, inr, arith}
+use Rattle.std.proofs.lemmas.Bool.{cases_lt, le-ltb, lt-ltb}
 use Rattle.std.proofs.lemmas.List.{length-take-le, take_all, take_more}
 use Rattle.std.proofs.Math.Seq.{drop-length, take-append_seam}
 use Rattle.std.proofs.KnownBytes.{prepend_known-nil}
@@ -10,10 +10,16 @@ use Rattle.hdt_terms.specs.declared.fault.LineReason.{LineReason}
 use Rattle.hdt_terms.specs.declared.fault.LineReason.TheVariants.{Syntax, NotUtf8, BadEscape, RelativeIri, IriCharacter, ZeroCharacter, Read, OutOfMemory, TooLong}
 use Rattle.hdt_terms.specs.Inside.LineBuffer.{BuffersLine}
 use Rattle.hdt_terms.specs.Lines.{HasNoLineEnd}
-use Rattle.hdt_terms.specs.LinesReader.{LinesState, left, take_bytes, take_line}
+use Rattle.hdt_terms.specs.LinesReader.{FindsTripleLine, IsNextTripleError, LinesState, left, take_bytes, take_line}
 use Rattle.hdt_terms.specs.LinesTexts.{IsNextLineError, IsUnreadLineError}
-use Rattle.hdt_terms.specs.WholeLines.{TakesWholeLine}
-use Rattle.hdt_terms.proofs.LineTaking.{stands_unread, takes_front}
+use Rattle.hdt_terms.specs.WholeLines.{TakesTripleLine, TakesWholeLine}
+use Rattle.hdt_terms.specs.LineParsing.{line_triple}
+use Rattle.hdt_terms.specs.declared.triple.Triple.{Triple}
+use Rattle.std.specs.Prelude.{IsUtf8}
+use Rattle.hdt_terms.proofs.LineEndCounts.{Takes-trans}
+use Rattle.hdt_terms.proofs.LineResults.{ready_fault}
+use Rattle.hdt_terms.proofs.LineSoundness.{line_found}
+use Rattle.hdt_terms.proofs.LineTaking.{AppendsInput-same, one_line, stands_unread, takes_front}
 
 unread_of : (r : LineReason) (buffered new : List ℕ) (given given' : Option (List ℕ)) (taken limit : ℕ) → taken ≤ limit → BuffersLine (Err r) buffered new given given' (limit - taken)
     → IsUnreadLineError r taken limit (prepend_known buffered given) given'
@@ -33,6 +39,15 @@ buffer_fails r s h given given' fault room does others is =
     subst (λ (f : LineFault). IsNextLineError f s (left s given) given') (sym is)
     (record { line = ap (λ (t : LinesState). t.ends + 1) others; column = refl; fault_is = unread_of r s.buffered h.buffered given given' s.taken s.limit room does })
 
+take_front : (n : ℕ) (xs : List ℕ) → take n (take (n + 1) xs) ≡ take n xs
+take_front n xs =
+    elim (cases_lt n (length xs)) [
+      | inl lt ↦
+          let len : length (take n xs) ≡ n = length-take-le n xs (omega (arith, lt)) in
+          ap (take n) (take_more xs n 0 lt) ∙ ap (λ k. take k (take n xs ++ get_or xs n 0 ∷ [])) (sym len) ∙ take-append_seam (take n xs) (get_or xs n 0 ∷ [])
+      | inr le ↦ ap (take n) (take_all (n + 1) xs (omega (arith, le)))
+    ]
+
 pub whole_taken : (s h new : LinesState) (given given' : Option (List ℕ)) (n most : ℕ) (bytes : List ℕ) → BuffersLine (Ok n) s.buffered h.buffered given given' most → h ≡ record s { buffered = h.buffered } → s.taken + length h.buffered ≤ s.limit
     → s.ended ≡ false → new ≡ take_line h n → bytes ≡ take (n + 1) h.buffered → TakesWholeLine n s new (left s given) (left new given') bytes
 whole_taken s h new given given' n most bytes filled others within going is bytes_is =
@@ -46,8 +61,7 @@ whole_taken s h new given given' n most bytes filled others within going is byte
           let lt : n < length hb = p.0 in
           let e = get_or hb n 0 in
           let cut : take (n + 1) hb ≡ take n hb ++ e ∷ [] = take_more hb n 0 lt in
-          let len : length (take n hb) ≡ n = length-take-le n hb (omega (arith, lt)) in
-          let text : take n (take (n + 1) hb) ≡ take n hb = ap (take n) cut ∙ ap (λ k. take k (take n hb ++ e ∷ [])) (sym len) ∙ take-append_seam (take n hb) (e ∷ []) in
+          let text : take n (take (n + 1) hb) ≡ take n hb = take_front n hb in
           let new_is : new ≡ take_bytes on (n + 1) = next ∙ ap (λ b. cond b (take_bytes on (n + 1)) (record (take_bytes on n) { ended = true })) (lt-ltb n (length hb) lt) in
           subst (λ (t : LinesState). TakesWholeLine n s t (left s given) (left t given') bytes) (sym new_is)
           (subst (λ b. TakesWholeLine n s (take_bytes on (n + 1)) (left s given) (left (take_bytes on (n + 1)) given') b) (sym bytes_is)
@@ -69,3 +83,21 @@ whole_taken s h new given given' n most bytes filled others within going is byte
             within = omega (arith, ap length all, p.0);
           }))
     ]
+
+-- ---- the line of a triple
+
+module _ (a s : LinesState) (before given : Option (List ℕ)) (n : ℕ) (found : FindsTripleLine (Ok (Some n)) a s before (left s given) given) where
+  pub no_room_for : (fault : LineFault) → fault ≡ record { line = s.ends + 1; column = 0; reason = OutOfMemory } → IsNextTripleError fault a before given
+  no_room_for fault is =
+      subst (λ (f : LineFault). IsNextTripleError f a before given) (sym is) (ready_fault a s before given n found (record { line = s.ends + 1; column = 0; reason = OutOfMemory }) (refl, refl))
+
+  pub ready_line : (new : LinesState) (triple : Triple) (bytes : List ℕ) → new ≡ take_line s n → bytes ≡ take (n + 1) s.buffered → line_triple (take n s.buffered) ≡ Ok triple → TakesTripleLine a new before (left new given) triple bytes
+  ready_line new triple bytes is bytes_is e =
+      let ready = found.3 in
+      let one = whole_taken s s new given given n (length s.buffered) bytes (AppendsInput-same s.buffered given, ready.front, omega arith) refl found.1.within ready.going is bytes_is in
+      let text : take n bytes ≡ take n s.buffered = ap (take n) bytes_is ∙ take_front n s.buffered in (
+        found.0,
+        Takes-trans a s new before (left s given) (left new given) found.0 bytes found.1 one.takes,
+        found.2,
+        one_line (take n bytes) bytes new (left new given) (Some triple) one.is (line_found (take n bytes) triple (subst IsUtf8 (sym text) ready.utf8) (ap line_triple text ∙ e)),
+      )

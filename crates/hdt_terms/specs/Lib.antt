@@ -22,4 +22,5 @@ pub mod LinesTexts
 pub mod WholeLines
 pub mod Documents
 pub mod Lint
+pub mod Parts
 pub mod Inside

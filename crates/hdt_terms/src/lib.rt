@@ -21,12 +21,15 @@
 //! the text of each line, valid or not; [`read_request`] parses a line as a triple pattern; [`lint_document`] reports
 //! every faulty line. How the reader cuts the input into pieces makes no difference to any of them.
 //!
+//! [`Lines::next_line`] also returns the bytes of each triple's line, and [`part_of`] the part of a document that its
+//! subject belongs to: so a document can be split, and the parts built one by one.
+//!
 //! In reading order: `text` and `triple`, the types; `fault`, the errors; `chars`, character classes;
 //! `byte_runs`, runs of bytes, 16 at a time; `encoding`, UTF-8; the tokens, `escaped_tokens` (the content of IRIs and
 //! strings), `iri`, `label`, `tag` and `literal`; `transcode`, tokens to dictionary strings; `parse`, one term; `line`,
 //! one line; `request` and `raw_request`, a line that requests triples; `buffer`, `line_buffer`, `lines`, `line_prefix`
-//! and `whole_line`, the lines of a reader; `lint`, its faulty lines; `term_refs`, terms that borrow their texts;
-//! `strings`, dictionary strings; `put`, writing; `laws`, properties of all terms and lines.
+//! and `whole_line`, the lines of a reader; `lint`, its faulty lines; `parts`, its parts; `term_refs`, terms that borrow
+//! their texts; `strings`, dictionary strings; `put`, writing; `laws`, properties of all terms and lines.
 #![tactic(auto)]
 
 mod buffer;
@@ -45,6 +48,7 @@ mod lines;
 mod lint;
 mod literal;
 mod parse;
+mod parts;
 mod put;
 mod raw_request;
 mod request;
@@ -66,6 +70,7 @@ pub use laws::{
 pub use lines::Lines;
 pub use lint::{LintFault, lint_document};
 pub use parse::{parse_string, parse_term};
+pub use parts::{part_of, triple_lines_so_far};
 pub use put::{put_string, put_term};
 pub use raw_request::read_raw_request;
 pub use request::read_request;

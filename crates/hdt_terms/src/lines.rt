@@ -144,7 +144,7 @@ impl Lines {
     }
 
     /// As above, as dictionary strings.
-    fn parse_strings(
+    pub(crate) fn parse_strings(
         &self,
         n: usize,
         s: &mut Vec<u8>,
@@ -212,7 +212,7 @@ impl Lines {
     }
 
     /// Consumes lines without a triple. Returns the length of the next line with one, or `None` at the end.
-    fn find_triple_line<R: Read>(
+    pub(crate) fn find_triple_line<R: Read>(
         &mut self,
         input: &mut Counted<R>,
     ) -> Result<Option<usize>, LineFault>
@@ -382,7 +382,7 @@ impl Lines {
 }
 
 /// Empties the buffers.
-fn clear_all(s: &mut Vec<u8>, p: &mut Vec<u8>, o: &mut Vec<u8>)
+pub(crate) fn clear_all(s: &mut Vec<u8>, p: &mut Vec<u8>, o: &mut Vec<u8>)
     ensures { (s.new.items ≡ []) × (p.new.items ≡ []) × (o.new.items ≡ []) }
 {
     s.clear();
