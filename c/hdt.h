@@ -42,11 +42,11 @@ extern "C" {
  * fault (docs/NTRIPLES.md). And these: */
 enum {
     HDT_DONE = 0,
-    HDT_NOT_A_TERM = 250,   /* hdt_text: a string of the graph is no term of N-Triples in its role; hdt_term: no term
+    HDT_NOT_A_TERM = 250,   /* of texts: a string of the graph is no term of N-Triples in its role; hdt_term: no term
                              * has the string */
     HDT_NO_TRIPLES = 251,   /* hdt_build: the text is a document without triples, of which no file is made */
     HDT_BAD_OPTIONS = 252,  /* hdt_build, hdt_rewrite: the block size isn't 1 to 65535, or the base no absolute IRI */
-    HDT_IS_CLOSED = 253,    /* hdt_text, hdt_pattern_text: the graph isn't open */
+    HDT_IS_CLOSED = 253,    /* hdt_text, hdt_pattern_text, hdt_page_text: the graph isn't open */
     HDT_IS_OPEN = 254,      /* hdt_open: the graph is open already, and stays as it is */
     HDT_OUT_OF_MEMORY = 255 /* memory was refused: nothing is said of the input; the call may be made again */
 };
@@ -218,9 +218,10 @@ uint64_t hdt_header(hdt_graph *graph, uint8_t *out, size_t room);
 /* The triples that match: that have each string that is given in its role. has_s 0: any subject, and s isn't read (but may
  * not be null); and so on. They stand in the order of the file, by subject, predicate, object; of them the first `skip` are
  * left out, and the next ones are put into out, as three numbers each: all, or the `room` that fit. The answer is how many
- * were put: fewer than `room` where no more follow. Those that are left out are walked over at each call, so portions of one
- * size take time like the square of the matches: double the room from call to call, or ask hdt_matching for it. HDT_CLOSED,
- * which is more than any room. */
+ * were put: fewer than `room` where no more follow. Where nothing is given, or s, or s and p, the first one that is not left
+ * out is found by binary search; else those that are left out are walked over at each call, so portions of one size take time
+ * like the square of the matches: double the room from call to call, or use hdt_page. HDT_CLOSED, which is more than any
+ * room. */
 uint64_t hdt_find(hdt_graph *graph, uint32_t has_s, const uint8_t *s, size_t s_len, uint32_t has_p, const uint8_t *p, size_t p_len,
                   uint32_t has_o, const uint8_t *o, size_t o_len, uint64_t skip, uint64_t (*out)[3], size_t room);
 
@@ -250,6 +251,16 @@ void hdt_pattern_text(hdt_graph *graph, const hdt_pattern *pattern, hdt_bytes *o
  * which is freed. */
 uint64_t hdt_page(hdt_graph *graph, const hdt_pattern *pattern, uint64_t from, uint64_t (*out)[3], size_t room,
                   uint64_t *next);
+
+/* The N-Triples text of a page: a line for each of the first `most` matches of a pattern from triple `from` on, from 0, as
+ * of hdt_text. `next` is the index of the next match, as of hdt_page, or HDT_ABSENT if there is none. A page with a string
+ * that is no term in its role has no text: HDT_NOT_A_TERM, with the role and number of the first such string of the first
+ * such match, as of hdt_text. HDT_OUT_OF_MEMORY, HDT_IS_CLOSED. With any reason but HDT_DONE out has nothing, and `next` is
+ * HDT_ABSENT. The page is found as by hdt_page; then time is in proportion to the page, its text and the blocks of its
+ * strings, or to all strings if that is less. Memory of the size of the page and its text, and for a page that decodes
+ * all strings one byte for each; all but the text is freed. */
+void hdt_page_text(hdt_graph *graph, const hdt_pattern *pattern, uint64_t from, uint64_t most, hdt_bytes *out,
+                   uint64_t *next, hdt_telling *telling);
 
 /* The number of triples of each predicate: counts[0] is that of the predicate with ID 1, and so on. Writes the counts
  * of the first `room` predicates at most, and returns how many predicates there are, as hdt_count does. HDT_CLOSED;

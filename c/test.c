@@ -407,6 +407,37 @@ static void pages(hdt_graph *graph, const hdt_pattern *pattern, uint64_t (*wante
     CHECK(hdt_page(graph, pattern, UINT64_MAX, wanted, 0, &next) == 0 && next == HDT_ABSENT);
 }
 
+/* The texts of all pages of a size, one after another, against the text of all. */
+static void page_texts(hdt_graph *graph, const hdt_pattern *pattern, uint64_t count) {
+    hdt_bytes all = HDT_BYTES_INIT, page = HDT_BYTES_INIT;
+    hdt_telling telling;
+    uint64_t from = 0, put = 0, next = 7, most = count / 3 + 1, turns = 0;
+    hdt_pattern_text(graph, pattern, &all, &telling);
+    if (telling.reason == HDT_DONE) {
+        do {
+            hdt_page_text(graph, pattern, from, most, &page, &next, &telling);
+            if (!CHECK(telling.reason == HDT_DONE && page.len <= all.len - put && page.state == 1)) {
+                break;
+            }
+            CHECK(page.len == 0 || memcmp(page.at, all.at + put, page.len) == 0);
+            CHECK(telling.role == 0 && telling.number == 0);
+            put += page.len;
+            from = next;
+        } while (from != HDT_ABSENT && ++turns < 4);
+        CHECK(put == all.len && from == HDT_ABSENT);
+    } else { /* the page of all matches has the same string that is no term; one of none has an empty text */
+        hdt_telling other;
+        hdt_page_text(graph, pattern, 0, count, &page, &next, &other);
+        CHECK(memcmp(&telling, &other, sizeof other) == 0 && has_nothing(&page) && next == HDT_ABSENT);
+        hdt_page_text(graph, pattern, 0, 0, &page, &next, &other);
+        CHECK(other.reason == HDT_DONE && page.len == 0 && next < hdt_len(graph));
+    }
+    hdt_page_text(graph, pattern, UINT64_MAX, UINT64_MAX, &page, &next, &telling);
+    CHECK(telling.reason == HDT_DONE && page.len == 0 && next == HDT_ABSENT);
+    hdt_free(&all);
+    hdt_free(&page);
+}
+
 /* The calls that take a pattern, against what hdt_find has put of the same one: the parts as strings, and as IDs. */
 static void by_pattern(hdt_graph *graph, const hdt_pattern *given, const uint64_t *numbers, uint64_t (*wanted)[3], uint64_t count) {
     static const uint32_t bad_kinds[] = {3, 4, 256, UINT32_MAX};
@@ -435,6 +466,7 @@ static void by_pattern(hdt_graph *graph, const hdt_pattern *given, const uint64_
         CHECK(hdt_pattern_find(graph, asked, UINT64_MAX, out, 1) == 0);
         if (mixed == 7) {
             pages(graph, asked, wanted, count);
+            page_texts(graph, asked, count);
         }
     }
     for (role = 0; role < 3; role++) {
@@ -444,6 +476,7 @@ static void by_pattern(hdt_graph *graph, const hdt_pattern *given, const uint64_
             *part_of(asked, role) = part;
             CHECK(hdt_pattern_matching(graph, asked) == 0 && hdt_pattern_find(graph, asked, 0, out, 1) == 0);
             pages(graph, asked, out, 0);
+            page_texts(graph, asked, 0);
         }
         for (i = 0; i < 3; i++) { /* so do IDs */
             hdt_part part = {HDT_ID, i < 2 ? bad_ids[i] : hdt_count(graph, (uint32_t)role) + 1, (const uint8_t *)"", 0};
@@ -645,6 +678,10 @@ static void closed(hdt_graph *graph) {
     hdt_build((const uint8_t *)"<u:s> <u:p> <u:o> .", 19, base, sizeof base - 1, 16, &made, &report);
     hdt_pattern_text(graph, &any, &made, &telling);
     CHECK(telling.reason == HDT_IS_CLOSED && telling.role == 0 && telling.number == 0 && has_nothing(&made) && live == before);
+    hdt_build((const uint8_t *)"<u:s> <u:p> <u:o> .", 19, base, sizeof base - 1, 16, &made, &report);
+    number = 7;
+    hdt_page_text(graph, &any, 0, 1, &made, &number, &telling);
+    CHECK(telling.reason == HDT_IS_CLOSED && telling.role == 0 && telling.number == 0 && has_nothing(&made) && number == HDT_ABSENT && live == before);
     hdt_close(graph);
     CHECK(graph->state == 0);
 }
@@ -759,6 +796,17 @@ static int call_pattern_text(const job *it) {
     return answer;
 }
 
+static int call_page_text(const job *it) {
+    hdt_bytes made = HDT_BYTES_INIT;
+    hdt_telling told;
+    uint64_t next = 7;
+    int answer;
+    hdt_page_text(it->graph, &any, 0, UINT64_MAX, &made, &next, &told);
+    answer = next != HDT_ABSENT ? WRONG : told.reason == HDT_OUT_OF_MEMORY ? (has_nothing(&made) ? TOLD : WRONG) : told.reason == HDT_DONE ? as_made(&made, &it->document) : told.reason == HDT_NOT_A_TERM ? AMPLE : WRONG;
+    hdt_free(&made);
+    return answer;
+}
+
 static int call_term(const job *it) {
     static const uint8_t string[] = "\"a\"^^<http://a/t>";
     hdt_term_parts parts;
@@ -847,6 +895,7 @@ static void refuse(const guarded *file, const hdt_verdict *verdict) {
     hdt_text(&graph, GIVEN(&any), &it.document, &telling);
     refuse_each("text", call_text, &it);
     refuse_each("pattern text", call_pattern_text, &it);
+    refuse_each("page text", call_page_text, &it);
     if (telling.reason == HDT_DONE) {
         hdt_build(it.document.at, it.document.len, base, sizeof base - 1, 16, &it.built, &report);
         refuse_each("build", call_build, &it);

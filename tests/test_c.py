@@ -223,6 +223,9 @@ WRONG = {
                                   "uint64_t *next",
                       "uint64_t n = RIGHT(g, q, from, out, room, next); "
                       "if (*next != HDT_ABSENT && room > 1) ++*next; return n;"),
+    "hdt_page_text": Wrong("void", "hdt_graph *g, const hdt_pattern *q, uint64_t from, uint64_t most, hdt_bytes *out, "
+                                   "uint64_t *next, hdt_telling *t",
+                           "RIGHT(g, q, from, most, out, next, t); if (from && *next == HDT_ABSENT) *next = from;"),
     "hdt_predicates": Wrong("uint64_t", "hdt_graph *g, uint64_t *counts, size_t room",
                             "uint64_t n = RIGHT(g, counts, room); return n < HDT_CLOSED && n > room ? room : n;"),
     "hdt_prefix": Wrong("uint64_t", "hdt_graph *g, uint32_t r, const uint8_t *s, size_t n, hdt_ranges *ranges",

@@ -6,7 +6,7 @@ import pytest
 from hypothesis import example, given
 from hypothesis import strategies as st
 
-from reference import hdt
+from reference import checks, hdt
 from reference.answers import REFUSED, answered, fault
 from reference.hdt import DICTIONARY, GLOBAL, HEADER, TRIPLES, Control, Reason
 from reference.strategies import AROUND, changed
@@ -97,7 +97,7 @@ def test_reads_what_it_writes(probe: Probe, kind: int, read_as: int, properties:
 def test_damaged(probe: Probe, data: st.DataObject, kind: int, properties: bytes) -> None:
     """Control information with a byte changed is refused as by the reference; also with its CRC made right."""
     damaged = data.draw(changed(hdt.write_control(kind, properties)))
-    for file in damaged, hdt.with_right_crcs(damaged, lambda file: hdt.read_control(file, 0, kind)):
+    for file in damaged, checks.with_right_crcs(damaged, lambda file: hdt.read_control(file, 0, kind)):
         assert probe.on(file, "read_control", kind, 0) == wanted(file, 0, kind)
 
 

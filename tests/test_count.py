@@ -10,7 +10,7 @@ import pytest
 from hypothesis import HealthCheck, given, settings
 from hypothesis import strategies as st
 
-from reference import hdt as reference
+from reference import checks, hdt as reference
 from reference import ntriples
 from support.program import READING_FAILED, Result, Word, brief, done, failed, fault, hdt
 from support.search import THREE as THREE_TRIPLES
@@ -141,7 +141,7 @@ def test_errors(tmp_path: Path) -> None:
     path, data = tmp_path / "graph.hdt", FILES["three triples"]
     assert hdt("count", path, "subject") == READING_FAILED
     path.write_bytes(data[:-1])
-    wanted = reference.error_of(reference.read_file, data[:-1])
+    wanted = checks.error_of(reference.read_file, data[:-1])
     assert wanted is not None
     assert hdt("count", path, "subject") == fault(*wanted)
     path.write_bytes(data)

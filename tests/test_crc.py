@@ -6,7 +6,7 @@ import pytest
 from hypothesis import given
 from hypothesis import strategies as st
 
-from reference import hdt
+from reference import checks
 from support.probe import Answer, Probe, ok
 
 WORDS = "check8", "check16", "check32"
@@ -14,7 +14,7 @@ WORDS = "check8", "check16", "check32"
 
 def crcs(data: bytes) -> list[Answer]:
     """The answers of the three words, by the reference."""
-    return [ok(hdt.crc8(data)), ok(hdt.crc16(data)), ok(hdt.crc32(data))]
+    return [ok(checks.crc8(data)), ok(checks.crc16(data)), ok(checks.crc32(data))]
 
 
 def asked(probe: Probe, data: bytes) -> list[Answer]:

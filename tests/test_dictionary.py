@@ -8,7 +8,7 @@ import pytest
 from hypothesis import example, given
 from hypothesis import strategies as st
 
-from reference import hdt
+from reference import checks, hdt
 from reference.answers import REFUSED, answered, fault
 from reference.hdt import MAX, Dictionary, Reason, Style, write_dictionary, write_section
 from reference.strategies import AROUND, BLOCK_SIZES, PADDING, STRING, changed
@@ -278,7 +278,7 @@ def test_any_overlaps(probe: Probe, made: tuple[Lists, bytes], before: bytes) ->
 def test_damaged(probe: Probe, data: st.DataObject, made: tuple[Lists, bytes]) -> None:
     """A dictionary with a byte changed is refused as by the reference; also with its CRCs made right."""
     damaged = data.draw(changed(made[1], start=54))
-    for file in damaged, hdt.with_right_crcs(damaged, lambda file: hdt.read_dictionary(file, 0)):
+    for file in damaged, checks.with_right_crcs(damaged, lambda file: hdt.read_dictionary(file, 0)):
         assert probe.on(file, "dictionary", 0) == wanted(file)
 
 

@@ -8,7 +8,7 @@ from collections.abc import Callable
 
 import pytest
 
-from reference import hdt as model
+from reference import checks, hdt as model
 from reference import ntriples
 from support.built import BUILT, TOP
 from support.c_library import HEADER, file_reasons, text_reasons
@@ -107,7 +107,7 @@ def test_damaged_file(name: str) -> None:
     """The reference finds the same error, at the same byte offset, as the page says of the program."""
     entry = next(it for it in ENTRIES if (it.kind, it.name) == ("file", name))
     printed = re.search(r"`hdt: fault (\d+) (\w+) at (\d+)`\n$", entry.example)
-    error = model.error_of(model.read_file, errors.FILES[name][1], name == "Unused")
+    error = checks.error_of(model.read_file, errors.FILES[name][1], name == "Unused")
     assert printed and error == (int(printed[1]), printed[2], int(printed[3]))
 
 

@@ -10,7 +10,7 @@ import pytest
 from hypothesis import HealthCheck, example, given, settings
 from hypothesis import strategies as st
 
-from reference import hdt as reference
+from reference import checks, hdt as reference
 from support.built import SAMPLES
 from support.program import NO_SUCH_NUMBER, NO_SUCH_TERM, READING_FAILED, Result, Word, done, failed, fault, hdt
 from support.search import spelled
@@ -188,7 +188,7 @@ def string_at(n: int) -> bytes:
 def shifted(register: int, length: int) -> int:
     """The register of CRC-32C after so many zero bytes."""
     for _ in range(length):
-        register = register >> 8 ^ reference.TABLE32[register & 0xFF]
+        register = register >> 8 ^ checks.TABLE32[register & 0xFF]
     return register
 
 
@@ -200,7 +200,7 @@ def all_strings() -> bytes:
     fronts = [reference.write_vbyte(kept) for kept in range(4)]
     same = b"".join(fronts[3 if d > 1 else 2] + bytes([d] if d > 1 else [c, 1]) + b"\0"
                     for c in OTHERS for d in OTHERS if (c, d) != (1, 1))
-    own = reference.crc32(same) ^ 0xFFFFFFFF ^ shifted(0xFFFFFFFF, len(same))
+    own = checks.crc32(same) ^ 0xFFFFFFFF ^ shifted(0xFFFFFFFF, len(same))
     moved = [shifted(1 << bit, len(same)) for bit in range(32)]
     pieces, register = list[bytes](), 0xFFFFFFFF
     for a in FIRST:
@@ -208,7 +208,7 @@ def all_strings() -> bytes:
             front = fronts[1] + bytes([b, 1, 1, 0]) if b > 1 else fronts[0] + bytes([a, 1, 1, 1, 0])
             front = front if pieces else front[1:]
             for byte in front:
-                register = register >> 8 ^ reference.TABLE32[(register ^ byte) & 0xFF]
+                register = register >> 8 ^ checks.TABLE32[(register ^ byte) & 0xFF]
             register = functools.reduce(operator.xor, (moved[bit] for bit in range(32) if register >> bit & 1), own)
             pieces += [front, same]
     packed = b"".join(pieces)

@@ -200,7 +200,7 @@ APPENDING = {
     "put_vbyte": 1, "put_decimal": 1, "put_control": 3, "put_numbers": 1, "put_bits": 1, "put_section": 1,
     "write_section": 1, "write_section_agreeing": 1, "section_string": 3,
     "dictionary_string_of": 4, "put_dictionary": 1, "put_written_dictionary": 1,
-    "put_triples": 1, "parse_string": 2, "put_string": 2, "put_term": 2, "layout_string_of": 3,
+    "put_triples": 1, "parse_string": 2, "put_string": 2, "put_term": 2, "layout_string_of": 3, "page_text": 1,
 }
 # Words that append to an output and tell ends in it, that of the output before first: the argument that is that output.
 WITH_ENDS = {"dictionary_strings_of": 3, "strings_of": 2}
@@ -276,6 +276,8 @@ def are_right(word: str, request: Request, values: list[str], ample: list[str]) 
         return True
     if word in ("page", "pages"):
         return values in pages_without_one(word, ample)
+    if word == "page_texts":
+        return values in page_texts_without_one(request, ample)
     if word in WITHOUT_ONE:
         skipped, model = WITHOUT_ONE[word]
         strings = [spelled(token) for token in request[skipped:]]
@@ -313,6 +315,13 @@ def pages_without_one(word: str, ample: list[str]) -> list[list[str]]:
             found.append([*counted, "0"])
         at = end
     return found
+
+
+def page_texts_without_one(request: Request, ample: list[str]) -> list[list[str]]:
+    """The values of `page_texts` if one page ran out of memory: it ends with the text of the pages before this one."""
+    before, most = bytes.fromhex(spelled(request[1])), int(str(request[2]))
+    lines = bytes.fromhex(ample[-1])[len(before):].splitlines(keepends=True)
+    return [[*ample[:count], (before + b"".join(lines[:most * count])).hex()] for count in range(len(ample) - 1)]
 
 
 # Words that do without one string whose allocation was refused: where the strings begin, and the values without one.

@@ -1,4 +1,7 @@
-"""Pages of matches: those of the eight patterns from any triple on, joined and one by one, against a filter of all."""
+"""Pages of matches and their text, and the matches after any number of others, against a filter of all triples.
+
+The eight patterns; pages from any triple on, joined and one by one.
+"""
 
 from __future__ import annotations
 
@@ -13,9 +16,10 @@ from hypothesis import given
 from hypothesis import strategies as st
 
 from reference import hdt as model
+from reference import ntriples
 from reference.hdt import MAX, Pattern, Triple
 from support.built import SAMPLES
-from support.probe import Answer, Probe
+from support.probe import Answer, Probe, ok
 from support.program import Word, hdt
 
 THREE = (SAMPLES / "three.hdt").read_bytes()
@@ -34,7 +38,7 @@ class Graph:
     """A file and its triples."""
 
     def __init__(self, strings: Sequence[tuple[bytes, bytes, bytes]]) -> None:
-        self.data, self.ids, _ = model.graph(strings)
+        self.data, self.ids, self.strings = model.graph(strings)
 
     def places(self, pattern: Pattern) -> list[int]:
         """The indices of the matches."""
@@ -44,6 +48,10 @@ class Graph:
         """The page of so many matches from index `start` on, given the indices of all matches."""
         left = [n for n in places if n >= start]
         return (left[most] if most < len(left) else None), [self.ids[n] for n in left[:most]]
+
+    def text(self, places: Sequence[int]) -> bytes:
+        """The lines of the triples with these indices."""
+        return b"".join(ntriples.put_strings(self.strings[n]) for n in places)
 
 
 def pages_in(words: Sequence[str]) -> Iterator[Page]:
@@ -175,3 +183,103 @@ def test_joined_pages_of_many(probe: Probe, many: Graph, tmp_path: Path, most: i
             words: list[Word] = ["find", "--numbers", file, "?", "?", "?"]
             lines = b"".join(b"%d %d %d\n" % triple for triple in joined)
             assert (hdt(*words).out == lines) is True
+
+
+# ---- the text of pages
+
+
+def text_of_page(probe: Probe, graph: Graph, pattern: Pattern, start: int, most: int) -> None:
+    """Check the text of a page, which is appended to one that is there, and the index of the next match."""
+    places = graph.places(pattern)
+    left = [n for n in places if n >= start]
+    following = left[most] if most < len(left) else None
+    expected = ok(following, b"before" + graph.text(left[:most]))
+    assert probe.ask("page_text", b"before", start, most, *pattern) == expected, (pattern, start, most)
+
+
+def test_all_page_texts_of_three(probe: Probe) -> None:
+    """The text of each page of three triples: of each pattern, from each index, of each size."""
+    graph = Graph([(b"u:a", b"u:p", b"u:b"), (b"u:a", b"u:q", b'"x\n"@en'), (b"_:b", b"u:p", b"u:a")])
+    probe.on(graph.data, "verify")
+    for pattern in product((None, 0, 1, 2, 3), (None, 1, 2, 3), (None, 1, 2, 3, 4)):
+        for start, most in product((0, 1, 2, 3, MAX), (0, 1, 2, 3, MAX)):
+            text_of_page(probe, graph, pattern, start, most)
+
+
+def test_page_texts_of_many_from_anywhere(probe: Probe, many: Graph) -> None:
+    """The text of pages of the large graph, of few lines and of many, from random triples."""
+    random = Random(53)
+    last = len(many.ids)
+    probe.on(many.data, "verify")
+    for pattern in patterns_of(many):
+        for start in (0, random.randrange(last), random.randrange(last), last - 1, last, MAX):
+            text_of_page(probe, many, pattern, start, random.choice((0, 1, 2, 7, 100, 3_000)))
+    text_of_page(probe, many, (None, None, None), 1, last)
+    text_of_page(probe, many, (None, None, None), 1, last - 1)
+
+
+@pytest.mark.parametrize("most", [7, 1_000, 100_000])
+def test_joined_page_texts_of_many(probe: Probe, many: Graph, most: int) -> None:
+    """The text of all pages of the large graph, joined: one writer serves them all."""
+    probe.on(many.data, "verify")
+    for pattern in patterns_of(many)[:8]:
+        places = many.places(pattern)
+        expected = ok(*places[most::most], None, many.text(places))
+        assert (probe.ask("page_texts", b"", most, *pattern) == expected) is True, pattern
+
+
+def test_page_with_a_string_that_is_not_a_term(probe: Probe) -> None:
+    """The first such string of the page is reported and the text is unchanged; other pages are not affected."""
+    graph = Graph([(b"u:a", b"u:p", b"u:o"), (b"u:b", b"rel", b"u:o"), (b"u:b", b"u:q", b"rel"),
+                   (b"u:c", b"u:p", b"u:o")])
+    strings = sorted({triple[1] for triple in graph.strings})
+    bad = next(n for n, triple in enumerate(graph.strings) if triple[1] == b"rel")
+    assert bad == 1 and graph.strings[2][2] == b"rel"
+    told = ok("not_a_term", 1, strings.index(b"rel") + 1, b"before")
+    assert probe.on(graph.data, "page_text", b"before", 0, 1, None, None, None) == ok(1, b"before" + graph.text([0]))
+    assert probe.ask("page_text", b"before", 0, 2, None, None, None) == told
+    assert probe.ask("page_text", b"before", 1, 3, None, None, None) == told
+    assert probe.ask("page_text", b"before", 3, 2, None, None, None) == ok(None, b"before" + graph.text([3]))
+    assert probe.ask("page_text", b"before", 2, 1, None, None, None)[:3] == ("ok", "not_a_term", "2")
+    assert probe.ask("page_texts", b"", 1, None, None, None) == ok(
+        1, "not_a_term", 1, strings.index(b"rel") + 1, graph.text([0]))
+
+
+# ---- the matches after some
+
+
+def after(graph: Graph, pattern: Pattern, skip: int) -> list[int]:
+    """What `search_after` answers of one pattern: the number of matches left, and the first two of them."""
+    left = graph.places(pattern)[skip:]
+    return [len(left), *(number for n in left[:2] for number in graph.ids[n])]
+
+
+def test_matches_after_some_of_three(probe: Probe) -> None:
+    """Each pattern over three triples, after each number of matches."""
+    graph = Graph([(b"u:a", b"u:p", b"u:b"), (b"u:a", b"u:q", b'"x"'), (b"u:b", b"u:p", b"u:a")])
+    probe.on(THREE, "verify")
+    for pattern in product((None, 0, 1, 2, 3), (None, 0, 1, 2, 3), (None, 0, 1, 2, 3, 4)):
+        for skip in (0, 1, 2, 3, MAX - 1, MAX):
+            assert probe.ask("search_after", skip, *pattern) == ok(*after(graph, pattern, skip)), (pattern, skip)
+
+
+@given(data=st.data())
+def test_matches_after_some(probe: Probe, data: st.DataObject) -> None:
+    """Any graph of a few strings, any pattern and any number of matches."""
+    names = st.integers(0, 5)
+    triples = data.draw(st.sets(st.tuples(names, names, names), min_size=1, max_size=60))
+    graph = Graph([(b"u:%d" % s, b"u:%d" % p, b"u:%d" % o) for s, p, o in triples])
+    ids = st.none() | st.integers(0, 7)
+    pattern = data.draw(st.tuples(ids, ids, ids))
+    skip = data.draw(st.integers(0, len(triples) + 1))
+    assert probe.on(graph.data, "search_after", skip, *pattern) == ok(*after(graph, pattern, skip))
+
+
+def test_matches_after_many(probe: Probe, many: Graph) -> None:
+    """The eight patterns of the large graph, after random numbers of matches, all of them, and more."""
+    random = Random(54)
+    probe.on(many.data, "verify")
+    for pattern in patterns_of(many):
+        count = len(many.places(pattern))
+        for skip in (0, 1, random.randrange(count + 1), max(count - 1, 0), count, count + 1, MAX):
+            assert probe.ask("search_after", skip, *pattern) == ok(*after(many, pattern, skip)), (pattern, skip)

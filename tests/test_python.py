@@ -21,7 +21,7 @@ import pytest
 from hypothesis import example, given
 from hypothesis import strategies as st
 
-from reference import hdt as reference
+from reference import checks, hdt as reference
 from support import program
 from support.built import SAMPLES, SHARED_LIBRARY
 from support.c_library import CC, file_reasons, succeeds, text_reasons
@@ -888,7 +888,7 @@ def result_for_bytes(data: bytes) -> Union[tuple[int, ...], tuple[int, str, int]
 
 def result_by_reference(data: bytes) -> Union[tuple[int, ...], tuple[int, str, int]]:
     """The same by the reference."""
-    read = reference.outcome(reference.read_file, data)
+    read = checks.outcome(reference.read_file, data)
     return read.counts if isinstance(read, reference.File) else read
 
 
@@ -899,5 +899,5 @@ def test_damaged_random_graphs(triples: list[Triple], block_size: int, changes: 
     data = bytearray(reference.graph(strings_of(triples), b"u:base", block_size).data)
     for at, flip in changes:
         data[at % len(data)] ^= flip
-    files = [bytes(data), reference.with_right_crcs(bytes(data), reference.read_file), bytes(data[:changes[0][0]])]
+    files = [bytes(data), checks.with_right_crcs(bytes(data), reference.read_file), bytes(data[:changes[0][0]])]
     assert list(map(result_for_bytes, files)) == list(map(result_by_reference, files))

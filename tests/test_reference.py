@@ -9,7 +9,7 @@ import pytest
 from hypothesis import given
 from hypothesis import strategies as st
 
-from reference import hdt
+from reference import checks, hdt
 from reference.hdt import Reason
 from reference.strategies import DIGITS, VALUES, ascending, loose_sections
 
@@ -45,7 +45,7 @@ def test_reasons_of_the_description(samples: Path) -> None:
     (b"123456789", 0xF4, 0xBB3D, 0xE3069283), (b"", 0, 0, 0)], ids=["digits", "nothing"])
 def test_published_check_values(data: bytes, of_8: int, of_16: int, of_32: int) -> None:
     """The check values of CRC-8/SMBUS, CRC-16/ARC and CRC-32C, and those of nothing."""
-    assert (hdt.crc8(data), hdt.crc16(data), hdt.crc32(data)) == (of_8, of_16, of_32)
+    assert (checks.crc8(data), checks.crc16(data), checks.crc32(data)) == (of_8, of_16, of_32)
 
 
 def bitwise(data: bytes, width: int, polynomial: int, start: int, reflected: bool, end: int) -> int:
@@ -65,9 +65,9 @@ def bitwise(data: bytes, width: int, polynomial: int, start: int, reflected: boo
 @given(st.binary(max_size=40))
 def test_crcs_by_definition(data: bytes) -> None:
     """The tables agree with the definition."""
-    assert hdt.crc8(data) == bitwise(data, 8, 0x07, 0, False, 0)
-    assert hdt.crc16(data) == bitwise(data, 16, 0x8005, 0, True, 0)
-    assert hdt.crc32(data) == bitwise(data, 32, 0x1EDC6F41, 0xFFFFFFFF, True, 0xFFFFFFFF)
+    assert checks.crc8(data) == bitwise(data, 8, 0x07, 0, False, 0)
+    assert checks.crc16(data) == bitwise(data, 16, 0x8005, 0, True, 0)
+    assert checks.crc32(data) == bitwise(data, 32, 0x1EDC6F41, 0xFFFFFFFF, True, 0xFFFFFFFF)
 
 
 @pytest.mark.parametrize("value, spelling", [
@@ -82,7 +82,7 @@ def test_numbers(value: int, spelling: str) -> None:
 @given(DIGITS)
 def test_one_spelling(data: bytes) -> None:
     """What is read as a number is the spelling of that number."""
-    if hdt.error_of(hdt.read_vbyte, data, 0) is None:
+    if checks.error_of(hdt.read_vbyte, data, 0) is None:
         value, end = hdt.read_vbyte(data, 0)
         assert hdt.write_vbyte(value) == data[:end]
 
@@ -92,7 +92,7 @@ def test_overlong(value: int, digits: int) -> None:
     """A spelling of more digits than needed is overlong."""
     shortest, spelling = hdt.write_vbyte(value), hdt.write_vbyte(value, digits)
     error = None if spelling == shortest else (2, "OverlongNumber", 0)
-    assert hdt.error_of(hdt.read_vbyte, spelling, 0) == error
+    assert checks.error_of(hdt.read_vbyte, spelling, 0) == error
 
 
 # Parts
@@ -157,8 +157,8 @@ def test_loose_sections(made: tuple[list[bytes], bytes]) -> None:
     section, end = hdt.read_section(data, 0)
     assert (section.strings, end) == (strings, len(data))
     wrong = data[:-4] + bytes(byte ^ 1 for byte in data[-4:])
-    assert hdt.error_of(hdt.read_section, wrong, 0) == (11, "Check32", len(data) - 4)
-    assert hdt.with_right_crcs(wrong, lambda file: hdt.read_section(file, 0)) == data
+    assert checks.error_of(hdt.read_section, wrong, 0) == (11, "Check32", len(data) - 4)
+    assert checks.with_right_crcs(wrong, lambda file: hdt.read_section(file, 0)) == data
 
 
 # Whole files
@@ -224,13 +224,13 @@ def v1_errors(v1: bytes) -> list[tuple[str, bytes, Reason, int]]:
 def test_errors_of_v1(v1: bytes) -> None:
     """Damaged forms of the sample file, each with the error that the description gives."""
     rows = v1_errors(v1)
-    answers = [(name, hdt.error_of(hdt.read_file, data)) for name, data, _, _ in rows]
+    answers = [(name, checks.error_of(hdt.read_file, data)) for name, data, _, _ in rows]
     assert answers == [(name, (int(reason), reason.name, offset)) for name, _, reason, offset in rows]
 
 
 def test_beginnings_of_v1(v1: bytes) -> None:
     """Every proper beginning of the sample file is truncated."""
-    errors = [hdt.error_of(hdt.read_file, v1[:end]) for end in range(len(v1))]
+    errors = [checks.error_of(hdt.read_file, v1[:end]) for end in range(len(v1))]
     assert {error and error[1] for error in errors} == {"Truncated"}
 
 
@@ -239,7 +239,7 @@ def test_accepted_forms_of_v1(v1: bytes) -> None:
     assert hdt.read_file(put(v1, 100, "00")).counts == (1, 1, 0, 1, 0)
     unused = v1[:305] + UX + v1[323:]
     assert hdt.read_file(unused).counts == (1, 1, 1, 1, 0)
-    assert hdt.error_of(hdt.read_file, unused, True) == (34, "Unused", 319)
+    assert checks.error_of(hdt.read_file, unused, True) == (34, "Unused", 319)
 
 
 @pytest.mark.parametrize("text, value", [
@@ -256,7 +256,7 @@ def test_triples_out_of_range_or_order() -> None:
     at = len(front) + len(hdt.write_control(hdt.TRIPLES, b"order=1;"))
 
     def error_at(bits_y: list[int], bits_z: list[int], ps: list[int], os: list[int]) -> tuple[str, int]:
-        error = hdt.error_of(hdt.read_file, front + hdt.write_sequences(bits_y, bits_z, ps, os))
+        error = checks.error_of(hdt.read_file, front + hdt.write_sequences(bits_y, bits_z, ps, os))
         assert error is not None
         return error[1], error[2] - at
 
@@ -298,5 +298,5 @@ def test_loose_prefixes() -> None:
     data, counts = hdt.loose_prefixes(100, 70)
     file = hdt.read_file(data)
     assert hdt.read_file(hdt.graph(file.denoted).data).counts == counts
-    error = hdt.error_of(hdt.read_file, data, True)
+    error = checks.error_of(hdt.read_file, data, True)
     assert error is not None and error[1] == "Unused"

@@ -11,7 +11,7 @@ import pytest
 from hypothesis import example, given
 from hypothesis import strategies as st
 
-from reference import hdt as reference
+from reference import checks, hdt as reference
 from reference.hdt import Parts, Style
 from support.built import PROGRAM, SAMPLES
 from support.documents import (
@@ -516,7 +516,7 @@ def test_any_file(probe: Probe, file: Written, block_size: int, step: int, room:
 @example(file=V1 + b"x", block_size=16)
 def test_any_damaged_file(probe: Probe, file: bytes, block_size: int) -> None:
     """A damaged file, also with its CRCs made right: its error comes before that of the options."""
-    for data in file, reference.with_right_crcs(file, reference.read_file):
+    for data in file, checks.with_right_crcs(file, reference.read_file):
         answer: Answer
         try:
             read = reference.read_file(data)

@@ -34,7 +34,7 @@ MISSING = {
     *("HDT_NO_TERM", "HDT_IRI", "HDT_BLANK", "HDT_LITERAL", "HDT_TAGGED", "HDT_TYPED"),
     *("hdt_part", "hdt_pattern", "hdt_term_parts", "hdt_verify_tight", "hdt_pattern_find", "hdt_pattern_matching"),
     *("hdt_pattern_text", "hdt_predicates", "hdt_term", "hdt_term_string", "hdt_version", "hdt_reason_name"),
-    *("hdt_text_reason_name", "hdt_page", "hdt_prefix", "hdt_ranges"),
+    *("hdt_text_reason_name", "hdt_page", "hdt_page_text", "hdt_prefix", "hdt_ranges"),
 }
 # At least so many tests does the crate have, with the examples of its comments.
 CASES = 40

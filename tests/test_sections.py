@@ -6,7 +6,7 @@ import pytest
 from hypothesis import example, given
 from hypothesis import strategies as st
 
-from reference import hdt
+from reference import checks, hdt
 from reference.answers import REFUSED, answered, fault
 from reference.hdt import MAX, Reason, Section, common_prefix, fold, write_packed, write_section
 from reference.strategies import AROUND, BLOCK_SIZES, STRING, ascending, changed, loose_sections, packed_sections
@@ -288,7 +288,7 @@ def test_reads(probe: Probe, made: tuple[list[bytes], bytes], before: bytes, beh
 def test_damaged(probe: Probe, data: st.DataObject, made: tuple[list[bytes], bytes]) -> None:
     """A section with a byte changed is refused as by the reference; also with its CRCs made right."""
     damaged = data.draw(changed(made[1]))
-    for file in damaged, hdt.with_right_crcs(damaged, lambda file: hdt.read_section(file, 0)):
+    for file in damaged, checks.with_right_crcs(damaged, lambda file: hdt.read_section(file, 0)):
         assert probe.on(file, "section_read", 0) == wanted(file)
 
 

@@ -6,7 +6,7 @@ import pytest
 from hypothesis import example, given
 from hypothesis import strategies as st
 
-from reference import hdt
+from reference import checks, hdt
 from reference.answers import REFUSED, answered, fault
 from reference.hdt import MAX, Bits, Numbers, Reason, write_bits, write_numbers, write_numbers_data
 from reference.strategies import AROUND, PADDING, VALUES, changed, entries_of
@@ -191,7 +191,7 @@ def test_damaged_numbers(probe: Probe, data: st.DataObject, width: int) -> None:
     """A log sequence with a byte changed is refused as by the reference; also with its CRCs made right."""
     entries = data.draw(entries_of(width))
     damaged = data.draw(changed(write_numbers_data(hdt.pack(entries, width), width, len(entries))))
-    for file in damaged, hdt.with_right_crcs(damaged, lambda file: hdt.read_numbers(file, 0)):
+    for file in damaged, checks.with_right_crcs(damaged, lambda file: hdt.read_numbers(file, 0)):
         assert probe.on(file, "numbers", 0, 50) == wanted_numbers(file, 0)
 
 
@@ -277,7 +277,7 @@ def test_any_bits(probe: Probe, bits: list[int], padding: int, before: bytes, be
 def test_damaged_bits(probe: Probe, data: st.DataObject, bits: list[int]) -> None:
     """A bitmap with a byte changed is refused as by the reference; also with its CRCs made right."""
     damaged = data.draw(changed(write_bits(bits)))
-    for file in damaged, hdt.with_right_crcs(damaged, lambda file: hdt.read_bits(file, 0)):
+    for file in damaged, checks.with_right_crcs(damaged, lambda file: hdt.read_bits(file, 0)):
         assert probe.on(file, "bits", 0, 500) == wanted_bits(file, 0)
 
 

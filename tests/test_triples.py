@@ -10,7 +10,7 @@ import pytest
 from hypothesis import example, given
 from hypothesis import strategies as st
 
-from reference import hdt as model
+from reference import checks, hdt as model
 from reference.hdt import MAX, Pattern, Triple
 from support.probe import Answer, Probe, fault, ok
 from support.properties import examples
@@ -580,7 +580,7 @@ def nearly_triples(draw: st.DrawFn) -> bytes:
         i = draw(st.integers(0, len(data)))
         data = data[:i] + draw(st.binary(max_size=1)) + data[i + draw(st.integers(0, 1)):]
         if draw(st.booleans()):
-            data = model.with_right_crcs(data, lambda read: model.read_triples(read, 0, (4, 4, 4)))
+            data = checks.with_right_crcs(data, lambda read: model.read_triples(read, 0, (4, 4, 4)))
     return data
 
 

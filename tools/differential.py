@@ -25,6 +25,7 @@ from tools.repository import TOP
 
 sys.path.insert(0, str(TOP / "tests"))
 
+from reference import checks  # noqa: E402
 from reference import hdt as reference  # noqa: E402
 from reference import ntriples  # noqa: E402
 
@@ -120,7 +121,7 @@ def file(draw: random.Random, graph: list[Strings]) -> bytes:
     if draw.random() < 0.3:
         data = damaged(draw, data)
         if draw.random() < 0.7:
-            data = reference.with_right_crcs(data, reference.read_file)
+            data = checks.with_right_crcs(data, reference.read_file)
     return data
 
 

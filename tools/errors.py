@@ -160,7 +160,7 @@ FILES = {
         "with ten bytes `7F` for the number of shared strings",
         having(shared=b"\x02" + b"\x7f" * 10 + PARTS["shared"][2:]),
     ),
-    "NotHdt": ("behind the three bytes of a UTF-8 byte order mark", b"\xef\xbb\xbf" + THREE),
+    "NotHdt": ("after the three bytes of a UTF-8 byte order mark", b"\xef\xbb\xbf" + THREE),
     "WrongKind": ("without its header", having(header=b"", body=b"")),
     "Check16": (
         "with `order=2;` for `order=1;`, and the CRC-16 as it was",
@@ -188,7 +188,7 @@ FILES = {
         "with a second shared string that shares 4 bytes with `u:a`",
         section(2, b"u:a\0\x84b\0", [0, 7]),
     ),
-    "PackedLength": ("with one zero byte more behind the shared strings", section(2, b"u:a\0\x82b\0\0", [0, 8])),
+    "PackedLength": ("with an extra zero byte after the shared strings", section(2, b"u:a\0\x82b\0\0", [0, 8])),
     "NotUtf8": ("with the byte `E9` at the end of the second shared string", section(2, b"u:a\0\x82\xe9\0", [0, 7])),
     "StringsNotAscending": ("with the shared strings `u:a` and `u:B`", section(2, b"u:a\0\x82B\0", [0, 7])),
     "SectionsOverlap": (
@@ -218,7 +218,7 @@ FILES = {
             numbers_z=model.write_numbers([3, 2, 1]),
         ),
     ),
-    "TrailingBytes": ("with a line feed behind it", THREE + b"\n"),
+    "TrailingBytes": ("followed by a line feed", THREE + b"\n"),
     "Unused": ('with a second object `"y"`, and `--tight`', having(objects=model.write_section([b'"x"', b'"y"']))),
 }
 

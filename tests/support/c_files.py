@@ -6,7 +6,7 @@ from collections.abc import Callable
 from itertools import product
 from unittest import mock
 
-from reference import hdt as reference
+from reference import checks, hdt as reference
 from reference.hdt import (Strings, write_bits, write_crc8, write_crc16, write_crc32, write_dictionary, write_head,
                            write_numbers, write_section, write_triples, write_vbyte)
 from support.built import SAMPLES
@@ -117,7 +117,7 @@ def damaged(data: bytes) -> list[bytes]:
     for at, flip in product(range(len(data)), (1, 2, 4, 8, 0x40, 0x80, 0xFF)):
         changed = bytearray(data)
         changed[at] ^= flip
-        found[reference.with_right_crcs(bytes(changed), reference.read_file)] = None
+        found[checks.with_right_crcs(bytes(changed), reference.read_file)] = None
         for start, end, length in covered:
             changed[end:end + length] = CRCS[length](bytes(changed[start:end]))
         found[bytes(changed)] = None

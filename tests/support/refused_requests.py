@@ -411,6 +411,7 @@ def searching() -> Iterator[Request]:
         yield word, 1, *ANY, 1, "-", "-", "-", 1, "-", "-", "-", 1, "-", 1, 2
     yield "page", 1, 1, *ANY, 1, "-", "-", "-", 1, "-", "-", "-", 1, 1, 1, "-", 1, "-", 2, "-", 1, 2, 1, 1, 2
     yield "pages", 1, *ANY
+    yield "search_after", 1, *ANY, 1, "-", "-", "-", 1, "-"
     for word in ("pattern", "layout_pattern", "graph_layout_pattern", "find_strings"):
         yield word, b"u:a", "-", "-"
         yield word, "-", b"u:p", b"u:z"
@@ -423,6 +424,8 @@ def searching() -> Iterator[Request]:
     yield "layout_text", 2, 1, "-", "-"
     yield "layout_text", "-", "none"
     yield "append_graph_text", BEFORE, 1, *ANY, "-", "-", 1, "-", 2, "none"
+    yield "page_text", BEFORE, 1, 1, *ANY
+    yield "page_texts", BEFORE, 2, *ANY
     yield "write_graph", *WRITER, "none"
     yield "write_graph", *WRITER, 1, "-", "-"
     for count in range(0, 9):
@@ -452,6 +455,7 @@ def errors_of_files() -> Iterator[Request]:
     yield "graph_text", *ANY
     yield "layout_text", "-", *ANY
     yield "append_graph_text", BEFORE, 1, *ANY, "-", *ANY
+    yield "page_text", BEFORE, 0, 2, *ANY
     yield "write_graph", *WRITER, *ANY
 
 
@@ -463,6 +467,8 @@ def large_graph() -> Iterator[Request]:
     yield "page", 7, 1_000, *ANY
     yield "find_strings", "-", "-", b"http://a/7"
     yield "append_graph_text", BEFORE, 1_000, *ANY
+    yield "page_text", BEFORE, 7, 1_000, *ANY
+    yield "page_texts", BEFORE, 1_000, *ANY
     yield "write_graph", 1_000, "-", "-", 1, "-"
 
 

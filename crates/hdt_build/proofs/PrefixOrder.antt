@@ -11,7 +11,7 @@ use Rattle.hdt_front.specs.Searching.{lcp_len}
 use Rattle.hdt_front.specs.Section.{before}
 use Rattle.hdt_front.specs.Order.{string_cmp}
 use Rattle.hdt_file.specs.File.{GraphParts}
-use Rattle.hdt_build.specs.declared.retained.SectionId.{SectionId}
+use Rattle.hdt_file.specs.declared.tight.SectionId.{SectionId}
 use Rattle.hdt_build.specs.declared.section_run.SectionRun.{SectionRun}
 use Rattle.hdt_build.specs.Inside.Rewriting.{IsValidRun, PrefixesDecideOrder}
 

@@ -16,8 +16,8 @@ use Rattle.hdt_file.specs.Denoted.{string_of, denoted_triple}
 use Rattle.hdt_file.specs.File.{GraphParts, role_counts}
 use Rattle.hdt_file.specs.Graph.{IsGraph}
 use Rattle.hdt_dict.specs.Dictionary.{role_strings, SectionLists}
-use Rattle.hdt_build.specs.declared.retained.SectionId.{SectionId}
-use Rattle.hdt_build.specs.declared.retained.SectionId.TheVariants as parts
+use Rattle.hdt_file.specs.declared.tight.SectionId.{SectionId}
+use Rattle.hdt_file.specs.declared.tight.SectionId.TheVariants as parts
 use Rattle.hdt_build.specs.declared.sections.NewIds.{NewIds}
 use Rattle.hdt_build.specs.Graph.{IsEncodedGraph, subjects_of, predicates_of, objects_of}
 use Rattle.hdt_build.specs.Inside.Rewriting.{section_role, IsUsedInBoth, RetainsId, IsIdAfter, IsRewrittenSection, AreRewrittenSections, with_new_ids, new_id}

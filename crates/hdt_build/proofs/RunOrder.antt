@@ -14,8 +14,8 @@ use Rattle.hdt_file.specs.Denoted.{string_of}
 use Rattle.hdt_file.specs.File.{GraphParts}
 use Rattle.hdt_file.specs.Graph.{IsGraph}
 use Rattle.hdt_dict.specs.Dictionary.{role_strings}
-use Rattle.hdt_build.specs.declared.retained.SectionId.{SectionId}
-use Rattle.hdt_build.specs.declared.retained.SectionId.TheVariants as parts
+use Rattle.hdt_file.specs.declared.tight.SectionId.{SectionId}
+use Rattle.hdt_file.specs.declared.tight.SectionId.TheVariants as parts
 use Rattle.hdt_build.specs.Inside.Rewriting.{section_role, RetainsId, first_run_end, second_run_end}
 use Rattle.hdt_build.specs.Inside.Ids.{string_of_id}
 use Rattle.hdt_build.proofs.Distinct.{Distinct, Distinct-ascending, Distinct-append}

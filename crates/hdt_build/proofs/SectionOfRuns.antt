@@ -10,7 +10,7 @@ use Rattle.hdt_front.specs.Order.{string_cmp}
 use Rattle.hdt_file.specs.Denoted.{string_of}
 use Rattle.hdt_file.specs.File.{GraphParts}
 use Rattle.hdt_file.specs.Graph.{IsGraph}
-use Rattle.hdt_build.specs.declared.retained.SectionId.{SectionId}
+use Rattle.hdt_file.specs.declared.tight.SectionId.{SectionId}
 use Rattle.hdt_build.specs.declared.section_run.SectionRun.{SectionRun}
 use Rattle.hdt_build.specs.Inside.Rewriting.{section_role, RetainsId, first_run_end, second_run_end, IsValidRun, IsRunFrom, IsRewrittenSection, HasPrefixLength, PrefixesDecideOrder}
 use Rattle.hdt_build.proofs.PrefixOrder.{last_in, tell, last_less}

@@ -4,17 +4,8 @@ ghost use Rattle.hdt_file.specs.GraphView.{graph_view};
 ghost use Rattle.hdt_build.specs.Inside.Rewriting.{section_role, IsUsedInBoth, RetainsId, first_run_end, second_run_end};
 
 use hdt_dict::Role;
-use hdt_file::Graph;
+use hdt_file::{Graph, SectionId};
 use hdt_seq::Steps;
-
-/// The sections of a dictionary.
-#[derive(Clone, Copy)]
-pub(crate) enum SectionId {
-    Shared,
-    Subjects,
-    Predicates,
-    Objects,
-}
 
 /// The role whose IDs identify the strings of a section.
 pub(crate) fn section_role(part: SectionId) -> Role

@@ -6,9 +6,9 @@ ghost use Rattle.hdt_file.specs.GraphView.{graph_view};
 ghost use Rattle.hdt_build.specs.Inside.Rewriting.{section_role, IsProgressOf, IsAfterString, IsRunFrom, HasPrefixLength};
 ghost use Rattle.hdt_dict.specs.Dictionary.{role_strings};
 
-use crate::retained::{SectionId, next_retained, section_role};
+use crate::retained::{next_retained, section_role};
 use hdt_dict::RoleCursor;
-use hdt_file::Graph;
+use hdt_file::{Graph, SectionId};
 use hdt_front::{SectionWriter, cmp_from};
 use std::alloc::{AllocError, Global};
 

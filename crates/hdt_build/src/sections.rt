@@ -12,10 +12,10 @@ ghost use Rattle.hdt_dict.specs.Dictionary.{role_strings};
 ghost use Rattle.hdt_wire.specs.declared.role.Role.TheVariants.{Object};
 
 use crate::id_map::{IdMap, id_map_of};
-use crate::retained::{SectionId, run_ends};
+use crate::retained::run_ends;
 use crate::section_run::SectionRun;
 use hdt_dict::Role;
-use hdt_file::Graph;
+use hdt_file::{Graph, SectionId};
 use hdt_front::{SectionWriter, cmp_from};
 use std::alloc::{AllocError, Global};
 use std::cmp::Ordering;

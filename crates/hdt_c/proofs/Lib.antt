@@ -1,6 +1,5 @@
 mod AsBox
 pub mod Counting
-mod Dropping
 pub mod HandleLaws
 pub mod MatchLaws
 pub mod PageLaws

@@ -10,7 +10,7 @@ use Rattle.hdt_file.specs.File.{GraphParts}
 use Rattle.hdt_file.specs.Paging.{IsNextMatch}
 use Rattle.hdt_c.specs.CallerBuffer.{overwritten_prefix}
 use Rattle.hdt_c.specs.LookUps.{numbers}
-use Rattle.hdt_c.specs.Pages.{PutsPageOf, ReturnsPage}
+use Rattle.hdt_c.specs.Pages.{OfGivenPattern, PutsPageOf}
 
 cut_twice : {X : Type 0} (n : ℕ) (xs : List X) → take n (take n xs) ≡ take n xs
 cut_twice zero xs = refl
@@ -40,14 +40,10 @@ page_is_put g pattern p from answer next old new items given are count put follo
       next_is = inl follows;
     }))
 
--- a page of the pattern that is given
-pub returns_page : (g : GraphParts) (pattern : Option Pattern) (IsGiven : Pattern → Type 0) (from answer next : ℕ) (old new : List (List ℕ)) → ((p : Pattern) → (pattern ≡ Some p) ↔ IsGiven p)
-    → PutsPageOf g pattern from answer next old new → ReturnsPage g IsGiven from answer next old new
-returns_page g None IsGiven from answer next old new exact page = record {
-  found = λ p is. absurd (none-some p ((exact p).1 is));
-  none = λ never. page;
-}
-returns_page g (Some q) IsGiven from answer next old new exact page = record {
-  found = λ p is. subst (λ (o : Option Pattern). PutsPageOf g o from answer next old new) ((exact p).1 is) page;
+-- what is true of an optional pattern that is what is given
+pub of_given : (pattern : Option Pattern) (IsGiven : Pattern → Type 0) (P : Option Pattern → Type 0) → ((p : Pattern) → (pattern ≡ Some p) ↔ IsGiven p) → P pattern → OfGivenPattern IsGiven P
+of_given None IsGiven P exact is = record { found = λ p given. absurd (none-some p ((exact p).1 given)); none = λ never. is }
+of_given (Some q) IsGiven P exact is = record {
+  found = λ p given. subst P ((exact p).1 given) is;
   none = λ never. absurd (never q ((exact q).0 refl));
 }

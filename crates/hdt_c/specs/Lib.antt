@@ -8,6 +8,7 @@ pub mod Handle
 pub mod ResourceOwnership
 pub mod StringLists
 pub mod Pages
+pub mod PageTexts
 pub mod Ranges
 pub mod Rewriting
 pub mod CallerBuffer

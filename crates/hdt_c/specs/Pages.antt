@@ -23,7 +23,11 @@ abbrev pub PutsPageOf : GraphParts → Option Pattern → ℕ → ℕ → ℕ �
 PutsPageOf g None from answer next old new = PutsNothing 0 answer next old new
 PutsPageOf g (Some p) from answer next old new = PutsMatchesFrom g p from answer next old new ⊎ PutsNothing no_memory answer next old new
 
+-- P is true of the pattern that is given, or of none
+pub record OfGivenPattern (IsGiven : Pattern → Type 0) (P : Option Pattern → Type 0) : Type 0 where
+  pub found : (p : Pattern) → IsGiven p → P (Some p)
+  pub none : ((p : Pattern) → IsGiven p → ⊥) → P None
+
 -- the result of `hdt_page` for the pattern that is given, or for none
-pub record ReturnsPage (g : GraphParts) (IsGiven : Pattern → Type 0) (from answer next : ℕ) (old new : List (List ℕ)) : Type 0 where
-  pub found : (p : Pattern) → IsGiven p → PutsPageOf g (Some p) from answer next old new
-  pub none : ((p : Pattern) → IsGiven p → ⊥) → PutsPageOf g None from answer next old new
+abbrev pub ReturnsPage : GraphParts → (Pattern → Type 0) → ℕ → ℕ → ℕ → List (List ℕ) → List (List ℕ) → Type 0
+ReturnsPage g IsGiven from answer next old new = OfGivenPattern IsGiven (λ pattern. PutsPageOf g pattern from answer next old new)

@@ -1,5 +1,5 @@
 //! Searching a graph.
-ghost use Rattle.std.specs.Prelude.{◌≡◌, ◌∷◌, [], map, take, drop, length, ◌<◌, ◌^◌};
+ghost use Rattle.std.specs.Prelude.{◌≡◌, ◌∷◌, [], map, take, drop, length};
 ghost use Rattle.hdt_file.specs.TextWriting.{matches_if_given};
 ghost use Rattle.hdt_file.specs.GraphView.{graph_view};
 ghost use Rattle.hdt_file.specs.Search.{IsPattern};
@@ -29,22 +29,6 @@ pub(crate) fn pattern_of(graph: &Graph<'static>, given: [Option<&[u8]>; 3]) -> O
     graph.pattern(given, &mut Steps::new())
 }
 
-/// The matches after the first `skip`.
-#[tactic(auto, using(crate::proofs::Dropping::drop_one))]
-fn skipped(found: Matches<'_>, skip: u64) -> Matches<'_>
-    ensures { remaining_matches result ≡ drop skip (remaining_matches found.entry) }
-{
-    let mut matches = found;
-    let mut left = skip;
-    'skipped: while left != 0 {
-        let Some(_) = matches.next() else {
-            return matches;
-        };
-        left -= 1;
-    }
-    matches
-}
-
 /// Writes as many matches to a buffer as fit, and returns their number.
 fn put_matches(found: Matches<'_>, buffer: &mut [[u64; 3]]) -> u64
     ensures count { result ≡ length (take (length buffer.old) (remaining_matches found.entry)) }
@@ -62,14 +46,12 @@ fn put_matches(found: Matches<'_>, buffer: &mut [[u64; 3]]) -> u64
     count as u64
 }
 
-/// The matches of a pattern, or none without a pattern.
-#[tactic(auto, unfolding(hdt_triples::specs::Remaining::remaining_matches))]
-fn matches_of<'g>(graph: &'g Graph<'static>, pattern: Option<Pattern>) -> Matches<'g>
-    ensures are { remaining_matches result ≡ matches_if_given (graph_view graph.now) pattern }
-    ensures fits { length (remaining_matches result) < 2 ^ 64 }
+/// The matches of a pattern after the first `skip`, or none without a pattern.
+fn matches_after<'g>(graph: &'g Graph<'static>, pattern: Option<Pattern>, skip: u64) -> Matches<'g>
+    ensures { remaining_matches result ≡ drop skip (matches_if_given (graph_view graph.now) pattern) }
 {
     match pattern {
-        Some(pattern) => graph.search(pattern),
+        Some(pattern) => graph.search_after(pattern, skip, &mut Steps::new()),
         None => Matches::Empty,
     }
 }
@@ -83,7 +65,7 @@ pub(crate) fn find_into(
 ) -> u64
     ensures { PutsPage skip result buffer.old buffer.new (matches_if_given (graph_view graph.now) pattern) }
 {
-    put_matches(skipped(matches_of(graph, pattern), skip), buffer)
+    put_matches(matches_after(graph, pattern, skip), buffer)
 }
 
 /// The number of matches.
@@ -97,8 +79,8 @@ pub(crate) fn count_matches(graph: &Graph<'static>, pattern: Option<Pattern>) ->
 }
 
 /// `hdt_find`: writes the matches after the first `skip` to the buffer, three IDs each, as many as fit, and returns
-/// their number: fewer than fit if no more follow. Skipped matches are scanned again at each call, so pages of one size
-/// take quadratic time.
+/// their number: fewer than fit if no more follow. If the pattern gives an object, or a predicate without a subject, the
+/// skipped matches are scanned at each call, so pages of one size take quadratic time.
 #[unsafe(no_mangle)]
 pub extern "C" fn hdt_find(
     alloc: Global,

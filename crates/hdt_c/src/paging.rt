@@ -1,16 +1,25 @@
 //! Pages of matches.
-ghost use Rattle.std.specs.Prelude.{◌≡◌, map, take, length};
+ghost use Rattle.std.specs.Prelude.{◌≡◌, IfErr, IfOk, map, take, length};
+ghost use Rattle.hdt_file.specs.Denoted.{denoted};
 ghost use Rattle.hdt_file.specs.GraphView.{graph_view};
+ghost use Rattle.hdt_file.specs.Text.{IsTextOf};
+ghost use Rattle.hdt_file.specs.TextWriting.{ReportsFirstNonTerm};
+ghost use Rattle.hdt_c.specs.Bytes.{HoldsNoBytes};
 ghost use Rattle.hdt_c.specs.CallerBuffer.{overwritten_prefix};
 ghost use Rattle.hdt_c.specs.GivenPatterns.{IsGivenPattern};
 ghost use Rattle.hdt_c.specs.Handle.{IsClosed, OfGraph, SameGraph};
-ghost use Rattle.hdt_c.specs.LookUps.{closed, numbers};
-ghost use Rattle.hdt_c.specs.Pages.{PutsNothing, PutsPageOf, ReturnsPage};
+ghost use Rattle.hdt_c.specs.LookUps.{absent, closed, numbers};
+ghost use Rattle.hdt_c.specs.Pages.{OfGivenPattern, PutsNothing, PutsPageOf, ReturnsPage};
+ghost use Rattle.hdt_c.specs.PageTexts.{IsAfterPage, ReportsPageText, page_triples};
+ghost use Rattle.hdt_c.specs.Texts.{telling_for};
 
+use crate::bytes::HdtBytes;
 use crate::handle::{HdtGraph, graph_ref};
 use crate::look_ups::{ABSENT, CLOSED, NO_MEMORY};
 use crate::pattern::{HdtPattern, ids_of_parts};
-use hdt_file::Graph;
+use crate::report::HdtTelling;
+use crate::text::{for_reason, no_graph, telling_of_fault};
+use hdt_file::{DumpFault, Graph, TermWriter};
 use hdt_seq::Steps;
 use hdt_triples::Pattern;
 use std::alloc::Global;
@@ -90,6 +99,98 @@ pub extern "C" fn hdt_page(
             );
             graph.put(taken);
             answer
+        }
+    }
+}
+
+/// Makes the text of a page, whose next match is `next` or `ABSENT`.
+fn page_text(
+    alloc: Global,
+    graph: &Graph<'static>,
+    pattern: Option<Pattern>,
+    from: u64,
+    most: u64,
+) -> Result<(Vec<u8>, u64), DumpFault>
+    ensures ok { IfOk result (λ made. IsTextOf (denoted (graph_view graph.now) (page_triples (graph_view graph.now) pattern from most)) made.0.items) }
+    ensures next { IfOk result (λ made. IsAfterPage (graph_view graph.now) pattern from most made.1) }
+    ensures err { IfErr result (ReportsFirstNonTerm (graph_view graph.now) (page_triples (graph_view graph.now) pattern from most)) }
+{
+    let mut text = Vec::new(alloc);
+    let Some(pattern) = pattern else {
+        return Ok((text, ABSENT));
+    };
+    let mut term_writer = TermWriter::with_cache(alloc)?;
+    let mut steps = Steps::new();
+    match graph.page_text(
+        alloc,
+        pattern,
+        from,
+        most,
+        &mut term_writer,
+        &mut text,
+        &mut steps,
+    )? {
+        Some(index) => Ok((text, index)),
+        None => Ok((text, ABSENT)),
+    }
+}
+
+/// Puts the text of a page into a handle; `next` is the index of the next match, or `ABSENT`. On an error the handle
+/// has no bytes.
+fn put_page_text(
+    alloc: Global,
+    graph: &Graph<'static>,
+    pattern: Option<Pattern>,
+    from: u64,
+    most: u64,
+    out: &mut HdtBytes,
+    next: &mut u64,
+) -> HdtTelling
+    ensures { ReportsPageText (graph_view graph.now) from most next.new out.new result pattern }
+{
+    *next = ABSENT;
+    match page_text(alloc, graph, pattern, from, most) {
+        Ok((text, after)) => match out.put(alloc, text) {
+            Ok(()) => {
+                *next = after;
+                for_reason(0)
+            }
+            Err(_) => telling_of_fault(DumpFault::OutOfMemory),
+        },
+        Err(fault) => {
+            out.free(alloc);
+            telling_of_fault(fault)
+        }
+    }
+}
+
+/// `hdt_page_text`: makes the N-Triples text of the first `most` matches of a pattern from triple `from` on, from 0.
+/// `next` is the index of the next match, or `HDT_ABSENT`. On an error `out` has no bytes.
+#[unsafe(no_mangle)]
+pub extern "C" fn hdt_page_text(
+    alloc: Global,
+    graph: &mut HdtGraph,
+    pattern: &HdtPattern<'_>,
+    from: u64,
+    most: u64,
+    out: &mut HdtBytes,
+    next: &mut u64,
+    telling: &mut HdtTelling,
+)
+    ensures exact { OfGraph graph.old (λ g. OfGivenPattern (IsGivenPattern g pattern.now) (ReportsPageText g from most next.new out.new telling.new)) }
+    ensures closed { IsClosed graph.old → (telling.new ≡ telling_for 253) × (next.new ≡ absent) × HoldsNoBytes out.new }
+    ensures kept { SameGraph graph.old graph.new }
+{
+    match graph.take(alloc) {
+        None => {
+            *next = ABSENT;
+            *telling = no_graph(alloc, out);
+        }
+        Some(taken) => {
+            let opened = graph_ref(&taken);
+            let given = ids_of_parts(opened, pattern);
+            *telling = put_page_text(alloc, opened, given, from, most, out, next);
+            graph.put(taken);
         }
     }
 }

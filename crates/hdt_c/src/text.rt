@@ -25,7 +25,7 @@ pub(crate) const NOT_A_TERM: u32 = 250;
 const IS_CLOSED: u32 = 253;
 
 /// A result with a reason but no string.
-fn for_reason(reason: u32) -> HdtTelling
+pub(crate) fn for_reason(reason: u32) -> HdtTelling
     ensures { result ≡ telling_for reason }
 {
     HdtTelling {
@@ -47,7 +47,7 @@ fn role_number(role: Role) -> u32
 }
 
 /// The result of an error.
-fn telling_of_fault(fault: DumpFault) -> HdtTelling
+pub(crate) fn telling_of_fault(fault: DumpFault) -> HdtTelling
     ensures { result ≡ telling_of_fault fault }
 {
     match fault {

@@ -1,5 +1,5 @@
 -- Pages of matches.
-use Rattle.std.proofs.Common.{◌≡◌, ℕ, ◌+◌, ◌≤◌, ◌<◌, zero, suc, List, [], ◌∷◌, ◌++◌, Bool, true, false, cond, Option, Some, None, filter, length, take, drop, slice_get, refl, ap, sym, ◌∙◌, arith}
+use Rattle.std.proofs.Common.{◌≡◌, ℕ, ◌+◌, ◌≤◌, ◌<◌, zero, suc, List, [], ◌∷◌, ◌++◌, Bool, true, false, cond, Some, None, filter, length, take, drop, slice_get, refl, ap, sym, ◌∙◌, arith}
 use Rattle.std.proofs.lemmas.List.{drop-drop, get_or-drop, length-drop, length-take, take-append-le, take_all}
 use Rattle.std.proofs.lemmas.Option.{none-some}
 use Rattle.hdt_triples.specs.declared.pattern.Pattern.{Pattern}

@@ -6,11 +6,13 @@ pub mod Faults
 pub mod File
 pub mod Graph
 pub mod Head
+pub mod Info
 pub mod LayoutView
 pub mod Paging
 pub mod LayoutParts
 pub mod LayoutPartsViews
 pub mod Search
+pub mod StringLengths
 pub mod StringTriples
 pub mod Text
 pub mod TextWriting

@@ -5,13 +5,20 @@ ghost use Rattle.hdt_triples.specs.Remaining.{remaining_matches, step_limit, sho
 ghost use Rattle.hdt_triples.specs.Patterns.{matches};
 ghost use Rattle.hdt_file.specs.LayoutParts.{parts_bitmap};
 ghost use Rattle.hdt_file.specs.LayoutPartsViews.{parts_of_graph};
+ghost use Rattle.std.specs.Prelude.{IfErr, OnOk};
+ghost use Rattle.hdt_file.specs.CachedTerms.{CachesTerms};
 ghost use Rattle.hdt_file.specs.Paging.{IsNextMatch};
+ghost use Rattle.hdt_file.specs.TextWriting.{AppendsText, ReportsFirstNonTerm};
 ghost use Rattle.hdt_file.specs.GraphView.{graph_view};
 
+use crate::fault::DumpFault;
 use crate::graph::Graph;
+use crate::rendering::append_triples;
+use crate::term_writing::TermWriter;
 use hdt_seq::Steps;
 use hdt_triples::{Matches, Pattern};
-use std::alloc::AllocError;
+use hdt_wire::truncate_on_error;
+use std::alloc::{AllocError, Global};
 
 /// Appends the first `most` matches, or all of them, and returns the next one. If memory runs out, `out` may have some
 /// of them.
@@ -94,5 +101,52 @@ impl<'a> Graph<'a> {
                 Err(error)
             }
         }
+    }
+
+    /// Appends the N-Triples text of [`Graph::page`] to `out`: one line for each of the first `most` matches of a
+    /// pattern from triple `from` on, from 0. Returns the index of the next match, or `None` if there is none. The
+    /// writer is new or was used only for this graph, as for [`append_graph_text`](crate::append_graph_text).
+    ///
+    /// The steps are those of [`Graph::page`]. Those of the text are not counted: its time is linear in the page, its
+    /// text and the blocks of its strings, or in the dictionary if that is less. Memory is that of the page and, for a
+    /// page that decodes the dictionary, one byte for each string.
+    ///
+    /// # Errors
+    ///
+    /// [`DumpFault::NotATerm`] with the first string of the first match of the page that is not a term which its role
+    /// allows; [`DumpFault::OutOfMemory`]. Then `out` is unchanged, and the writer can still be used.
+    ///
+    /// ```rust
+    /// let mut term_writer = TermWriter::with_cache(alloc)?;
+    /// let next = graph.page_text(alloc, pattern, 0, 100, &mut term_writer, &mut text, &mut steps)?;
+    /// ```
+    pub fn page_text(
+        &self,
+        alloc: Global,
+        pattern: Pattern,
+        from: u64,
+        most: u64,
+        term_writer: &mut TermWriter,
+        out: &mut Vec<u8>,
+        steps: &mut Steps,
+    ) -> Result<Option<u64>, DumpFault>
+        // Before and after the call, the writer caches terms of this graph only.
+        requires { CachesTerms (graph_view self.now) term_writer.old }
+        ensures kept { CachesTerms (graph_view self.now) term_writer.new }
+        ensures ok { OnOk result (AppendsText (graph_view self.now) (take most (matches pattern (drop from (graph_view self.now).triples))) out.old.items out.new.items) }
+        ensures next { IfOk result (λ next. IfSome next (IsNextMatch (graph_view self.now).triples pattern from most)) }
+        // Without a next match the text is that of all.
+        ensures last { IfOk result (λ next. next ≡ None → drop most (matches pattern (drop from (graph_view self.now).triples)) ≡ []) }
+        ensures err { IfErr result (ReportsFirstNonTerm (graph_view self.now) (take most (matches pattern (drop from (graph_view self.now).triples)))) }
+        ensures left { OnErr result (out.new.items ≡ out.old.items) }
+        ensures cost { steps.new ≤ steps.old + 2 * start_cost (parts_bitmap (parts_of_graph self.now)) }
+        ensures more { steps.old ≤ steps.new }
+    {
+        let mut page = Vec::new(alloc);
+        let next = self.page(pattern, from, most, &mut page, steps)?;
+        let start = out.len();
+        let appended = append_triples(alloc, &self.layout(), &page, term_writer, out);
+        truncate_on_error(appended, start, out)?;
+        Ok(next)
     }
 }

@@ -205,7 +205,7 @@ fn append_by_tables(
 
 /// Appends the text of triples. Linear time in the dictionary, the triples and the text, whatever the sizes of the
 /// blocks. An error may leave some lines.
-fn append_triples(
+pub(crate) fn append_triples(
     alloc: Global,
     layout: &Layout<'_>,
     triples: &[(u64, u64, u64)],

@@ -9,12 +9,13 @@ use hdt_triples::{Matches, Pattern};
 
 /// The words of this module, each with its number of arguments.
 pub(crate) const WORDS: &str =
-    "search 3+ page 5+ pages 4 search_count 4+ find_strings 3 pattern 3 number_of 1+ ids_with_prefix 1+ string_of 3 strings_of 2+ uses_of 1+ strings 1";
+    "search 3+ search_after 4+ page 5+ pages 4 search_count 4+ find_strings 3 pattern 3 number_of 1+ ids_with_prefix 1+ string_of 3 strings_of 2+ uses_of 1+ strings 1";
 
 /// Answers a request with one of these words. Returns false if the word is not one of them.
 pub(crate) fn answer(word: &str, args: &mut Args<'_>, reply: &mut Reply) -> bool {
     match word {
         "search" => reply_search(args, reply),
+        "search_after" => reply_search_after(args, reply),
         "page" => reply_page(args, reply),
         "pages" => reply_pages(args, reply),
         "search_count" => reply_matching_up_to(args, reply),
@@ -74,6 +75,27 @@ fn reply_search(args: &mut Args<'_>, reply: &mut Reply) {
         reply.number(graph.matching(pattern, &mut Steps::new()));
         reply.number(count(graph.search(pattern)));
         reply_items(graph.search(pattern), reply);
+        if !args.has_more() {
+            break;
+        }
+    }
+}
+
+/// For each pattern: the number of matches after so many, and the first two of these.
+fn reply_search_after(args: &mut Args<'_>, reply: &mut Reply) {
+    let Some(graph) = graph_of(args, reply) else {
+        return;
+    };
+    let skip = args.number();
+    for _ in 0..u64::MAX {
+        let pattern = pattern_of(args);
+        reply.number(count(graph.search_after(pattern, skip, &mut Steps::new())));
+        let mut matches = graph.search_after(pattern, skip, &mut Steps::new());
+        for _ in 0..2 {
+            if let Some(triple) = matches.next() {
+                reply.triple(triple);
+            }
+        }
         if !args.has_more() {
             break;
         }

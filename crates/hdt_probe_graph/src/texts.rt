@@ -1,16 +1,19 @@
 //! Calls of hdt_file: the N-Triples text of graphs.
 
 use crate::faults::reply_dump_fault;
+use crate::graph::pattern_of;
 use crate::open::{graph_of, layout_of};
 use hdt_file::{
     DumpFault, Graph, TermWriter, append_graph_text, graph_text, layout_text, write_graph,
 };
 use hdt_probe::{Args, Reply, role_number};
+use hdt_seq::Steps;
 use hdt_triples::Pattern;
 use std::alloc::AllocError;
 
 /// The words of this module, each with its number of arguments.
-pub(crate) const WORDS: &str = "graph_text 1+ layout_text 2+ append_graph_text 1+ write_graph 3+";
+pub(crate) const WORDS: &str =
+    "graph_text 1+ layout_text 2+ append_graph_text 1+ page_text 6 page_texts 5 write_graph 3+";
 
 /// Answers a request with one of these words. Returns false if the word is not one of them.
 pub(crate) fn answer(word: &str, args: &mut Args<'_>, reply: &mut Reply) -> bool {
@@ -18,6 +21,8 @@ pub(crate) fn answer(word: &str, args: &mut Args<'_>, reply: &mut Reply) -> bool
         "graph_text" => reply_graph_text(args, reply),
         "layout_text" => reply_layout_text(args, reply),
         "append_graph_text" => reply_append_graph_text(args, reply),
+        "page_text" => reply_page_text(args, reply),
+        "page_texts" => reply_page_texts(args, reply),
         "write_graph" => reply_write_graph(args, reply),
         _ => return false,
     }
@@ -94,6 +99,72 @@ fn reply_append_graph_text(args: &mut Args<'_>, reply: &mut Reply) {
     };
     let mut out = args.bytes();
     if append_all(&graph, args, reply, &mut out).is_err() {
+        reply.out_of_memory();
+    }
+    reply.bytes(&out)
+}
+
+/// Appends pages of text to `out`, at most `count` of them, each from where the one before says. For each appends the
+/// index of the next match, or why there is no page.
+fn append_pages(
+    graph: &Graph<'_>,
+    from: u64,
+    count: u64,
+    args: &mut Args<'_>,
+    reply: &mut Reply,
+    out: &mut Vec<u8>,
+) -> Result<(), AllocError> {
+    let most = args.number();
+    let pattern = pattern_of(args);
+    let mut term_writer = TermWriter::with_cache(args.alloc)?;
+    let mut steps = Steps::new();
+    let mut from = from;
+    'pages: for _ in 0..count {
+        match graph.page_text(
+            args.alloc,
+            pattern,
+            from,
+            most,
+            &mut term_writer,
+            out,
+            &mut steps,
+        ) {
+            Ok(next) => {
+                reply.optional_number(next);
+                match next {
+                    Some(next) => from = next,
+                    None => break,
+                }
+            }
+            Err(fault) => {
+                reply_done(Err(fault), reply);
+                break;
+            }
+        }
+    }
+    Ok(())
+}
+
+/// One page from a triple on, behind a text that was there.
+fn reply_page_text(args: &mut Args<'_>, reply: &mut Reply) {
+    let Some(graph) = graph_of(args, reply) else {
+        return;
+    };
+    let mut out = args.bytes();
+    let from = args.number();
+    if append_pages(&graph, from, 1, args, reply, &mut out).is_err() {
+        reply.out_of_memory();
+    }
+    reply.bytes(&out)
+}
+
+/// All pages, behind a text that was there.
+fn reply_page_texts(args: &mut Args<'_>, reply: &mut Reply) {
+    let Some(graph) = graph_of(args, reply) else {
+        return;
+    };
+    let mut out = args.bytes();
+    if append_pages(&graph, 0, u64::MAX, args, reply, &mut out).is_err() {
         reply.out_of_memory();
     }
     reply.bytes(&out)

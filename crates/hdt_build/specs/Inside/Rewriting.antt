@@ -13,8 +13,8 @@ use Rattle.hdt_triples.specs.Uses.{Uses}
 use Rattle.hdt_file.specs.Denoted.{string_of}
 use Rattle.hdt_file.specs.File.{GraphParts}
 use Rattle.hdt_dict.specs.Dictionary.{role_strings, SectionLists}
-use Rattle.hdt_build.specs.declared.retained.SectionId.{SectionId}
-use Rattle.hdt_build.specs.declared.retained.SectionId.TheVariants as parts
+use Rattle.hdt_file.specs.declared.tight.SectionId.{SectionId}
+use Rattle.hdt_file.specs.declared.tight.SectionId.TheVariants as parts
 use Rattle.hdt_build.specs.declared.section_run.SectionRun.{SectionRun}
 use Rattle.hdt_build.specs.declared.sections.SectionWriters.{SectionWriters}
 use Rattle.hdt_build.specs.declared.sections.NewIds.{NewIds}

@@ -1,4 +1,4 @@
-use Rattle.std.proofs.Common.{◌≡◌, ap, sym, ◌∙◌, drop, slice_get, subst, Some}
+use Rattle.std.proofs.Common.{◌≡◌, ap, sym, ◌∙◌, drop, slice_get, subst}
 use Rattle.std.proofs.lemmas.Option.{none-some}
 use Rattle.hdt_triples.specs.IndexViews.{triples_indexed, triples_listed}
 use Rattle.hdt_triples.specs.Patterns.{matches}
