@@ -167,8 +167,8 @@ pub(crate) fn put_triple(
     }
 }
 
-/// Puts the strings of the triple of a line, if it has one, into the buffers, and returns whether it has one; or returns
-/// the first error of the line.
+/// Puts the strings of the triple of a line, if it has one, into the buffers, and returns whether it has one. Fails
+/// with the first error of the line.
 pub(crate) fn put_line(
     text: &[u8],
     s: &mut Vec<u8>,

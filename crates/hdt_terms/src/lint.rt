@@ -241,9 +241,9 @@ fn is_another_wanted(count: u64, most: u64, lines: &Lines) -> bool
 }
 
 /// Checks every line of a document, and reports each faulty one to `told`, in a line with the number of the line, the
-/// column in bytes, and the number and the name of the reason. Returns how many there are. With `keep`, writes the lines
-/// without an error to `kept`, byte for byte, with their ends; so a document without errors is copied. Stops after
-/// `most` faulty lines.
+/// column in bytes, and the number and the name of the reason. Returns how many there are. With `keep`, writes the
+/// other lines to `kept`, byte for byte, with their ends; so a document without errors is copied. Stops after `most`
+/// faulty lines.
 ///
 /// Linear time. Memory: a few times the longest line, and 64 KiB for each of the input and both outputs.
 ///

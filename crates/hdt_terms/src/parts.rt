@@ -42,8 +42,8 @@ pub fn part_of(string: &[u8], parts: u32) -> u32
     (register ^ u32::MAX) % parts
 }
 
-/// For callers of [`crate::Lines::next_line`] that collect lines: each call extends the lines so far by the next one, and
-/// at the end they are all lines of the input that have a triple, in order, byte for byte.
+/// For callers of [`crate::Lines::next_line`] that collect lines: each call extends the lines so far by the next one,
+/// and at the end they are all lines of the input that have a triple, in order, byte for byte.
 pub fn triple_lines_so_far()
     ensures begins { (limit : ℕ) (input : Option (List ℕ)) → TripleLinesSoFar limit (start limit) input (left (start limit) input) [] }
     ensures goes_on { (limit : ℕ) (s new : LinesState) (input mid after : Option (List ℕ)) (lines : List (Triple × List ℕ)) (triple : Triple) (line : List ℕ) →

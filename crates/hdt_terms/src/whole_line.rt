@@ -97,8 +97,9 @@ impl Lines {
         }
     }
 
-    /// As [`Lines::next_strings`], and replaces the contents of `line` by the bytes of the triple's line, with its end. Of
-    /// the line end U+000D U+000A only U+000D is in `line`. At the end and after an error the four buffers are empty.
+    /// As [`Lines::next_strings`], and replaces the contents of `line` by the bytes of the triple's line, with its end.
+    /// Of the line end U+000D U+000A only U+000D is in `line`; a last line may have no end. At the end of the input and
+    /// after an error the four buffers are empty.
     ///
     /// # Errors
     ///
