@@ -236,12 +236,12 @@ def test_help_into_a_full_disk(words: tuple[str, ...]) -> None:
 
 
 STATUSES = """Exit status:
-  0  done
-  1  the input has a fault, whose reason and place are told, or no triples, a look-up has no
-     answer, or a string that N-Triples are to show is no term; or a request of `answer` had
-     a fault
-  2  the command line is wrong, or `build` is to write over its input
-  3  reading or writing failed, also where the reader of a pipe has gone
+  0  success
+  1  invalid input, with the first error and its position on standard error; no triples to build
+     from; no such term or ID; a string that has no form in N-Triples; an invalid request of
+     `answer`
+  2  usage error, or `build` would overwrite its input
+  3  reading or writing failed; a closed pipe is a failed write
   4  out of memory
 """
 
@@ -309,7 +309,7 @@ USAGES: list[tuple[list[Word], bytes]] = [
     (["vierge", "a.hdt"], b"unrecognized subcommand 'vierge'\n\nUsage: hdt <COMMAND>"),
     (["head", "a.hdt", "b.hdt"], b"unexpected argument 'b.hdt' found\n\nUsage: hdt head <FILE>"),
     ([], b"'hdt' requires a subcommand but one was not provided\n  [subcommands: head, verify, strings, string, "
-         b"number, find, answer, dump, count, build, rewrite, help]\n\nUsage: hdt <COMMAND>"),
+         b"number, find, answer, dump, count, build, rewrite, explain, help]\n\nUsage: hdt <COMMAND>"),
     (["head", b"\xff"], b"an argument is not UTF-8"),
 ]
 

@@ -17,7 +17,7 @@ from support.program import hdt, run
 from support.terminal import Terminal
 from tools import completions
 
-COMMANDS = "head verify strings string number find answer dump count build rewrite help".split()
+COMMANDS = "head verify strings string number find answer dump count build rewrite explain help".split()
 SHELLS = ["bash", "zsh", "fish"]
 # The program that reads each file: a warning is a line on standard error.
 READERS = {
@@ -65,7 +65,7 @@ TYPED = {
 OFFERED: dict[str, list[str]] = {
     "hdt re": ["rewrite"],
     "hdt verify --t": ["--tight"],
-    "hdt find --": ["--count", "--help", "--most", "--numbers", "--raw"],
+    "hdt find --": ["--count", "--help", "--most", "--numbers", "--raw", "--verbose"],
     "hdt string x.hdt o": ["object"],
     "hdt build --b": ["--base", "--block-size"],
     "hdt rewrite --p": ["--progress"],

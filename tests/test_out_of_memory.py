@@ -48,6 +48,9 @@ COMMANDS: dict[str, tuple[list[Word], int]] = {
     "verify tight, unused": (["verify", "--tight", "unused.hdt"], 0),
     "verify tight, cut": (["verify", "--tight", "cut.hdt"], 0),
     "strings": (["strings", THREE, "object"], 0),
+    "strings prefix": (["strings", THREE, "object", "--prefix", "u:"], 0),
+    "strings terms": (["strings", THREE, "object", "--terms", "--prefix", '"'], 0),
+    "strings terms, not a term": (["strings", "rel.hdt", "predicate", "--terms"], 0),
     "string": (["string", THREE, "object", "3"], 0),
     "string, none": (["string", THREE, "object", "4"], 0),
     "number": (["number", THREE, "object", '"x"'], 0),
@@ -59,6 +62,8 @@ COMMANDS: dict[str, tuple[list[Word], int]] = {
     "find count": (["find", "--count", THREE, "?", "<u:p>", "?"], 0),
     "find most": (["find", "--most", "2", THREE, "?", "?", "?"], 0),
     "find most numbers": (["find", "--numbers", "--most", "1", THREE, "<u:a>", "?", "?"], 0),
+    "find quiet": (["find", "--quiet", THREE, "?", "<u:p>", "?"], 0),
+    "find quiet, none": (["find", "--quiet", THREE, "<u:b>", "<u:q>", "?"], 0),
     "find raw": (["find", "--raw", THREE, "u:a", "?", "?"], 2),
     "find, none": (["find", THREE, "?", "?", "<u:z>"], 0),
     "find, not a term": (["find", THREE, "?", "y", "z"], 0),
@@ -88,6 +93,7 @@ COMMANDS: dict[str, tuple[list[Word], int]] = {
 HELP: list[list[Word]] = [
     ["--help"], ["--version"], ["-V"], ["help"], ["head", "--help"], ["head", "-h"], ["help", "head"],
     ["find", "--help"], ["build", "--help"], ["verify", "--help"], ["rewrite", "--help"], ["help", "dump"],
+    ["explain", "2"],
 ]
 # Command lines that are refused, and words that aren't terms.
 REFUSED: list[tuple[list[Word], int]] = [

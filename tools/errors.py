@@ -3,6 +3,7 @@
     python3 -m tools.errors                 write the examples into docs/ERRORS.md
     python3 -m tools.errors --check         check that they are there, word for word
     python3 -m tools.errors --file Width    print the damaged file of an example to standard output
+    python3 -m tools.errors --rattle        write the texts of `hdt explain`, crates/hdt_usage/src/*_errors.rt
 
 The page is the source of the texts. An error is a heading (`### 13 Width`), one paragraph of meaning, and a list of its
 cause, its remedy and its example; `entries` reads them. The example alone is made here: a line that says what is wrong
@@ -32,9 +33,10 @@ sys.path.insert(0, str(TOP / "tests"))
 from reference import hdt as model  # noqa: E402
 
 PAGE = TOP / "docs/ERRORS.md"
+SOURCES = TOP / "crates/hdt_usage/src"
 THREE = (TOP / "samples/three.hdt").read_bytes()
-# A text of the page, as `hdt explain` could print it, has at most so many lines of so many columns.
-LINES, COLUMNS = 3, 90
+# A text of the page, as `hdt explain` prints it, has at most so many lines of so many columns.
+LINES, COLUMNS = 4, 78
 # The sections of the page that have errors, and the kind of each.
 SECTIONS = {
     "Errors of an HDT file": "file",
@@ -46,6 +48,16 @@ ENTRY = re.compile(
     r"- \*\*Cause:\*\* (?P<cause>(?:.+\n)+?)- \*\*Remedy:\*\* (?P<remedy>(?:.+\n)+?)"
     r"- \*\*Example:\*\*(?P<example>.*\n(?:.+\n)*)"
 )
+
+
+def filled(text: str, title: str = "") -> str:
+    """Return a text of the page without markup, in lines that have at most COLUMNS columns behind its title.
+
+    A command is in one line.
+    """
+    kept = re.sub("`([^`]*)`", lambda command: command[1].replace(" ", "\0"), text)
+    lines = textwrap.fill(kept, COLUMNS, initial_indent=title, break_on_hyphens=False, break_long_words=False)
+    return lines[len(title) :].replace("\0", " ")
 
 
 class Entry(NamedTuple):
@@ -64,11 +76,40 @@ class Entry(NamedTuple):
 
     def plain(self) -> tuple[str, str, str]:
         """Return meaning, cause and remedy without markup, in lines of at most COLUMNS columns."""
-        meaning, cause, remedy = (
-            textwrap.fill(it.replace("`", ""), COLUMNS, break_on_hyphens=False)
-            for it in (self.meaning, self.cause, self.remedy)
-        )
-        return meaning, cause, remedy
+        return filled(self.meaning), filled(self.cause, "Cause: "), filled(self.remedy, "Remedy: ")
+
+
+# The tables of `hdt explain`, by the kind of their errors: the name of the module, and what has the errors.
+TABLES = {"file": ("file_errors", "an HDT file"), "text": ("text_errors", "an N-Triples text")}
+
+
+def explanation(entry: Entry) -> str:
+    """Return what `hdt explain` prints of an error of a file or a text."""
+    meaning, cause, remedy = entry.plain()
+    heading = f"Error {entry.number} of {TABLES[entry.kind][1]}: {entry.name}"
+    return f"{heading}\n\n{meaning}\n\nCause: {cause}\n\nRemedy: {remedy}"
+
+
+def rattle_text(text: str) -> str:
+    """Return a text as a literal of Rattle. Its line ends stay as they are."""
+    escaped = text.replace("\\", "\\\\").replace('"', '\\"')
+    return f'"{escaped}"'
+
+
+def rattle_module(kind: str, found: list[Entry]) -> str:
+    """Return the Rattle module with the explanations of the errors of a kind."""
+    name, what = TABLES[kind]
+    rows = ""
+    for entry in found:
+        texts = (str(entry.number), entry.name, *entry.plain()) if entry.kind == kind else ()
+        lines = "".join(f"        {rattle_text(text)},\n" for text in texts)
+        rows += f"    (\n{lines}    ),\n" if lines else ""
+    return (
+        f"//! The errors of {what}. `python3 -m tools.errors --rattle` makes this of docs/ERRORS.md.\n\n"
+        "use crate::explanations::Explanation;\n\n"
+        f"/// The errors of {what}, as docs/ERRORS.md explains them: number, name, meaning, cause and remedy.\n"
+        f"pub const {name.upper()}: &[Explanation] = &[\n{rows}];\n"
+    )
 
 
 class Example(NamedTuple):
@@ -355,12 +396,17 @@ def main() -> int:
     )
     parser.add_argument("--check", action="store_true", help="check the page and write nothing")
     parser.add_argument("--file", metavar="NAME", choices=FILES, help="print the file of an example")
+    parser.add_argument("--rattle", action="store_true", help="write the texts of `hdt explain`, and no examples")
     options = parser.parse_args()
     if options.file:
         sys.stdout.buffer.write(FILES[options.file][1])
         return 0
     page = PAGE.read_text()
     found = entries(page)
+    if options.rattle:
+        for kind, (name, _) in TABLES.items():
+            (SOURCES / f"{name}.rt").write_text(rattle_module(kind, found))
+        return 0
     outcomes = [tried(entry) for entry in found]
     wrong = []
     for entry, it in zip(found, outcomes):

@@ -2,7 +2,10 @@
 
 use crate::example_fault::ExampleFault;
 use hdt_dict::Role;
-use hdt_file::{Graph, Layout, layout_text, open, open_tight, read_dictionary, write_graph};
+use hdt_file::{
+    Graph, Layout, TermWriter, file_info, layout_text, open, open_tight, read_dictionary,
+    write_graph,
+};
 use hdt_seq::Steps;
 use hdt_triples::Pattern;
 use hdt_wire::{Counted, property};
@@ -61,6 +64,34 @@ pub(crate) fn page_example(
         from = graph.page(pattern, at, 100, &mut page, &mut steps)?;
     }
     Ok(page)
+}
+
+/// Of `Graph::page_text`.
+pub(crate) fn page_text_example(
+    alloc: Global,
+    graph: &Graph<'_>,
+    pattern: Pattern,
+) -> Result<(Option<u64>, Vec<u8>), ExampleFault> {
+    let mut text = Vec::new(alloc);
+    let mut steps = Steps::new();
+    let mut term_writer = TermWriter::with_cache(alloc)?;
+    let next = graph.page_text(
+        alloc,
+        pattern,
+        0,
+        100,
+        &mut term_writer,
+        &mut text,
+        &mut steps,
+    )?;
+    Ok((next, text))
+}
+
+/// Of `file_info`.
+pub(crate) fn info_example(alloc: Global, bytes: &[u8]) -> Result<u128, ExampleFault> {
+    let info = file_info(alloc, bytes)?;
+    let bytes_of_predicates = info.dictionary.predicates.string_bytes;
+    Ok(bytes_of_predicates)
 }
 
 /// Of `Layout`.

@@ -180,7 +180,7 @@ fn info_by_checks(alloc: Global, bytes: &[u8]) -> Result<FileInfo, OpenFault>
 ///
 /// ```rust
 /// let info = file_info(alloc, bytes)?;
-/// let mean = info.dictionary.predicates.string_bytes / u128::from(info.dictionary.predicates.strings);
+/// let bytes_of_predicates = info.dictionary.predicates.string_bytes;
 /// ```
 pub fn file_info(alloc: Global, bytes: &[u8]) -> Result<FileInfo, OpenFault>
     // The bytes encode a file whose parts have these sizes.

@@ -104,6 +104,10 @@ fn reply_search(action: &Action, reply: &mut Reply) {
             reply.number(form_number(*format));
             reply.optional_number(*most)
         }
+        Action::Exists { given } => {
+            reply.word("exists");
+            reply_given(given, reply)
+        }
         Action::Count { role, top, raw } => {
             reply.word("count");
             reply.number(role_number(*role));
@@ -129,6 +133,16 @@ fn reply_action(action: &Action, reply: &mut Reply) {
         Action::Strings(role) => {
             reply.word("strings");
             reply.number(role_number(*role))
+        }
+        Action::ListStrings {
+            role,
+            prefix,
+            terms,
+        } => {
+            reply.word("list_strings");
+            reply.number(role_number(*role));
+            reply.bytes(prefix);
+            reply.boolean(*terms)
         }
         Action::Nth(role, number) => {
             reply.word("nth");

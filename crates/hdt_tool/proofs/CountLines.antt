@@ -43,7 +43,7 @@ line_fails g role top raw ids front behind text n e counted cut lines (inr h) =
 
 -- ---- all IDs
 
-range_split : (a n m : ℕ) → range_with_len a (n + m) ≡ range_with_len a n ++ range_with_len (a + n) m
+pub range_split : (a n m : ℕ) → range_with_len a (n + m) ≡ range_with_len a n ++ range_with_len (a + n) m
 range_split a zero m =
     let e : 0 + m ≡ m = omega arith in
     let f : a + 0 ≡ a = omega arith in
@@ -116,7 +116,7 @@ walk_fails g role raw w v n text e h s fails =
     line_fails g role None raw (role_ids g role) (range_with_len 1 w.given) (range_with_len (w.given + 2) (length v.ahead)) text n e refl
     (ap (range_with_len 1) len ∙ range_more w.given v.ahead ∙ ap (λ k. range_with_len 1 w.given ++ k ∷ range_with_len (w.given + 2) (length v.ahead)) (sym s.number)) h.lines fails
 
-none_ahead : (w : Progress) (ahead : List (List ℕ)) (r : Option ℕ) → r ≡ next_id w ahead → ((n : ℕ) → r ≡ Some n → ⊥) → ahead ≡ []
+pub none_ahead : (w : Progress) (ahead : List (List ℕ)) (r : Option ℕ) → r ≡ next_id w ahead → ((n : ℕ) → r ≡ Some n → ⊥) → ahead ≡ []
 none_ahead w [] r e not = refl
 none_ahead w (x ∷ xs) r e not = absurd (not (w.given + 1) e)
 
@@ -142,7 +142,7 @@ key_string g role keys h = All-permutation (λ (k : ℕ × ℕ). (string : List 
         let within : i < length strings = omega (arith, lt, length-map-range_with_len (frequency_key g role) 1 (length strings)) in
         subst (λ (k : ℕ × ℕ). (string : List ℕ) × (string_at_id strings k.1 ≡ Some string)) (sym (get_or-map-range_with_len (frequency_key g role) 1 (length strings) i (1 + i) d within refl)) (one i within)
 
-appended_is : (there : Option (List ℕ)) (appended : Bool) (old new string : List ℕ) → there ≡ Some string → old ≡ [] → AppendsString there appended old new → there ≡ Some new
+pub appended_is : (there : Option (List ℕ)) (appended : Bool) (old new string : List ℕ) → there ≡ Some string → old ≡ [] → AppendsString there appended old new → there ≡ Some new
 appended_is None appended old new string is empty h = absurd cc
 appended_is (Some x) appended old new string is empty h = ap Some (sym (h.1 ∙ ap (λ l. l ++ x) empty))
 
@@ -160,7 +160,7 @@ keys_on g role raw keys at key d text new line lt is lines one added =
     rw (take_more keys at d lt, map-append (λ (k : ℕ × ℕ). k.1) (take at keys) (get_or keys at d ∷ []), ← is, added) (lines_on g role raw (map (λ (k : ℕ × ℕ). k.1) (take at keys)) key.1 text line lines one)
 
 -- A list around one of its elements.
-around : {X : Type 0} (xs : List X) (i : ℕ) (d : X) → i < length xs → xs ≡ take i xs ++ get_or xs i d ∷ drop (suc i) xs
+pub around : {X : Type 0} (xs : List X) (i : ℕ) (d : X) → i < length xs → xs ≡ take i xs ++ get_or xs i d ∷ drop (suc i) xs
 around xs i d lt = sym (take-append-drop i xs) ∙ ap (λ l. take i xs ++ l) (drop-cons xs i d lt)
 
 pub key_fails : (g : GraphParts) (role : Role) (top : ℕ) (raw : Bool) (keys : List (ℕ × ℕ)) (at : ℕ) (key d : ℕ × ℕ) (text : List ℕ) (e : ToolFault) → AreFrequencyKeys g role keys → at < top → at < length keys → key ≡ get_or keys at d

@@ -3,17 +3,18 @@ use Rattle.std.proofs.Common.{◌≡◌, ◌≢◌, ◌⊎◌, ℕ, Bool, List, 
 use Rattle.std.specs.declared.alloc.Global.{Global}
 use Rattle.std.specs.declared.vec.Vec.{Vec}
 use Rattle.hdt_tool.specs.declared.fault.ToolFault.{ToolFault}
-use Rattle.hdt_tool.specs.declared.fault.ToolFault.TheVariants.{Input, NoTriples, NoSuchTerm, NoSuchNumber, NotATerm, BadOptions, Read, Write, OutOfMemory}
+use Rattle.hdt_tool.specs.declared.fault.ToolFault.TheVariants.{Input, NoTriples, NoSuchTerm, NoMatch, NoSuchNumber, NotATerm, BadOptions, Read, Write, OutOfMemory}
 use Rattle.hdt_tool.specs.declared.request.Action.{Action}
-use Rattle.hdt_tool.specs.declared.request.Action.TheVariants.{Nth, Number, Find, Search, Count, Rewrite}
+use Rattle.hdt_tool.specs.declared.request.Action.TheVariants.{ListStrings, Nth, Number, Find, Search, Exists, Count, Rewrite}
 use Rattle.hdt_tool.specs.declared.request.OutputFormat.{OutputFormat}
 use Rattle.hdt_wire.specs.declared.role.Role.{Role}
 use Rattle.hdt_dict.specs.Ids.{string_at_id}
 use Rattle.hdt_file.specs.File.{GraphParts, IsLayout}
 use Rattle.hdt_dict.specs.Dictionary.{role_strings}
 use Rattle.hdt_tool.specs.Outcomes.{HasBadBlockSize, HasNonTerm, IsFaultOfBytes, ReadsAll, IsFaultOfInput, HasBadOptions}
+use Rattle.hdt_tool.specs.ListedStrings.{IsListFault}
 use Rattle.hdt_tool.specs.TermCounts.{IsCountFault}
-use Rattle.hdt_tool.specs.TriplesText.{GivenStrings, IsFindFault, find_format}
+use Rattle.hdt_tool.specs.TriplesText.{GivenStrings, IsFindFault, LacksMatch, find_format}
 
 -- A block size that is not valid.
 bad_blocks : (action : Action) (before after : Option (List ℕ)) (bytes : List ℕ) → ReadsAll before after bytes → HasBadBlockSize action bytes → HasBadOptions action before after
@@ -67,3 +68,14 @@ pub no_counts : (role : Role) (top : Option ℕ) (raw : Bool) (bytes : List ℕ)
 no_counts role top raw bytes graph (NotATerm other n) encoded h = record { graph = graph; encoded = encoded; holds = h }
 no_counts role top raw bytes graph OutOfMemory encoded h = tt
 no_counts role top raw bytes graph fault encoded h = absurd h
+
+-- Strings that cannot be printed as terms.
+pub no_listing : (role : Role) (prefix : Vec ℕ Global) (terms : Bool) (bytes : List ℕ) (graph : GraphParts) (e : ToolFault) → IsLayout bytes graph
+    → IsListFault (role_strings graph.dictionary role) prefix.items role terms e → IsFaultOfBytes (ListStrings role prefix terms) bytes e
+no_listing role prefix terms bytes graph (NotATerm other n) encoded h = (h.0, record { graph = graph; encoded = encoded; holds = h.1 })
+no_listing role prefix terms bytes graph OutOfMemory encoded h = tt
+no_listing role prefix terms bytes graph fault encoded h = absurd h
+
+-- A search without a match.
+pub no_match : (given : GivenStrings) (bytes : List ℕ) (graph : GraphParts) (e : ToolFault) → IsLayout bytes graph → (e ≡ NoMatch) × LacksMatch graph given → IsFaultOfBytes (Exists given) bytes e
+no_match given bytes graph e encoded h = subst (IsFaultOfBytes (Exists given) bytes) (sym h.0) (record { graph = graph; encoded = encoded; holds = h.1 })

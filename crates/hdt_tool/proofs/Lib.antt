@@ -3,10 +3,12 @@ mod OutPaths
 mod ParsedArguments
 mod StringLines
 mod CountLines
+mod ListedLines
 mod Pieces
 mod InputFaults
 mod Outputs
 mod Rewriting
+mod InfoLaws
 mod Triples
 pub mod Statuses
 pub mod Dialogues

@@ -61,7 +61,7 @@ invalid_part word rows text flag r on is h =
 -- ---- what every action needs
 
 -- Two different names.
-differ : {P : Type 0} (name a b : Text) → name ≡ a → name ≡ b → bytes_eq a b ≡ false → P
+pub differ : {P : Type 0} (name a b : Text) → name ≡ a → name ≡ b → bytes_eq a b ≡ false → P
 differ name a b p q apart = let same : bytes_eq a b ≡ true = (bytes_eq-Decides a b).1 (sym p ∙ q) in let bad : true ≡ false = sym same ∙ apart in absurd cc
 
 -- ---- `build` and `rewrite`

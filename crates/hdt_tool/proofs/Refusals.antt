@@ -1,6 +1,6 @@
 -- Usage errors, derived from the contracts of `clap`.
-use Rattle.std.proofs.Common.{◌≡◌, List, [], ◌∷◌, true, Option, Some, Result, Ok, Err, codes, refl, sym, subst, inl, inr}
-use Rattle.std.specs.Prelude.{IfOk, IfErr, IsSomeAnd}
+use Rattle.std.proofs.Common.{◌≡◌, List, [], ◌∷◌, true, Option, Some, Result, Ok, Err, codes, refl, sym, subst, string_bytes, inl, inr}
+use Rattle.std.specs.Prelude.{◌≢◌, IfOk, IfErr, IsSomeAnd}
 use Rattle.clap.specs.Words.{App, Row, Text, HasKind, HasMatchesOf, IsAmong, fault_of, found_of, is_simple, is_simple_and_free, kind_of, matches_of, one_of, rows_of, subcommand_of, subcommand_rows_of}
 use Rattle.clap.specs.declared.parser.matches.ArgMatches.{ArgMatches}
 use Rattle.clap.specs.declared.error.Error.{Error}
@@ -8,10 +8,13 @@ use Rattle.clap.specs.declared.error.kind.ErrorKind.{ErrorKind}
 use Rattle.clap.specs.declared.error.kind.ErrorKind.TheVariants as kind
 use Rattle.hdt_tool.specs.declared.fault.UsageFault.{UsageFault}
 use Rattle.hdt_tool.specs.declared.fault.UsageFault.TheVariants.{Usage, Help, InvalidTerm, OutOfMemory}
+use Rattle.hdt_tool.specs.declared.request.Action.{Action}
+use Rattle.hdt_tool.specs.declared.request.Action.TheVariants as action
 use Rattle.hdt_tool.specs.declared.request.Invocation.{Invocation}
 use Rattle.hdt_tool.specs.declared.request.Request.{Request}
 use Rattle.hdt_usage.specs.CommandTable.{Names, AreRoles, table}
-use Rattle.hdt_tool.specs.CommandLine.{IsRequestOfCommand, IsRequestOf, HasInvalidTerm, HasInvalidTermIn, ParsesAsFlag, ParsesToRequest, ParsesToInvocation, IsRefused, IsRefusedWithRoles, IsFaultOfKind, RefutesOrInvalidTerm, clap_errors}
+use Rattle.hdt_tool.specs.CommandLine.{IsRequestOfCommand, IsRequestOf, IsFileAction, IsMakeAction, HasInvalidTerm, HasInvalidTermIn, ParsesAsFlag, ParsesToRequest, ParsesToInvocation, IsExplainCommand, IsExplanation, IsFaultOfCommand, IsRefused, IsRefusedWithRoles, IsFaultOfKind, RefutesOrInvalidTerm, clap_errors}
+use Rattle.hdt_tool.proofs.ParsedArguments.{differ}
 
 -- The errors of `clap` for the built commands are those for the table.
 pub taken : (names : Names) (app : App) (words : List Text) → app ≡ table names → (is_simple_and_free app ≡ true → fault_of app words ≡ []) → clap_errors names words ≡ []
@@ -34,12 +37,13 @@ told_by : (names : Names) (words : List Text) (e : Error) (fault : UsageFault) �
 told_by names words e (Help text) (inl memory) (inl k) = absurd cc
 told_by names words e (Help text) (inl memory) (inr k) = absurd cc
 told_by names words e (Help text) (inr among) (inl k) = inl (subst (λ (t : ErrorKind). IsAmong t (clap_errors names words)) k among)
-told_by names words e (Help text) (inr among) (inr k) = inr (subst (λ (t : ErrorKind). IsAmong t (clap_errors names words)) k among)
+told_by names words e (Help text) (inr among) (inr k) = inr (inl (subst (λ (t : ErrorKind). IsAmong t (clap_errors names words)) k among))
 told_by names words e (Usage text) (inl memory) k = absurd (k.1 memory)
 told_by names words e (Usage text) (inr among) k = (
   λ only. k.0 (inl (alone kind.DisplayHelp (kind_of e) (subst (IsAmong (kind_of e)) only among))),
   λ only. k.0 (inr (alone kind.DisplayVersion (kind_of e) (subst (IsAmong (kind_of e)) only among))),
   λ request w. subst (IsAmong (kind_of e)) w.taken among,
+  λ text w. subst (IsAmong (kind_of e)) w.taken among,
 )
 told_by names words e (InvalidTerm word fault) h k = absurd k
 told_by names words e OutOfMemory h k = tt
@@ -55,27 +59,71 @@ told names roles words e fault h k = with names roles words fault (told_by names
 
 -- The command line gives the invocation that the command's arguments give.
 pub wanted : (names : Names) → AreRoles names → (words : List Text) (name : Text) (rows : List Row) (r : Result Invocation UsageFault) → clap_errors names words ≡ [] → subcommand_of (table names) words ≡ Some (name, rows)
-    → IfOk r (λ asked. IsRequestOf name rows asked.request) → IfOk r (λ asked. ParsesAsFlag (one_of (codes "progress") rows) asked.progress) → IfOk r (ParsesToInvocation words)
-wanted names roles words name rows (Ok asked) none is h flag = record {
+    → IfOk r (λ asked. IsRequestOf name rows asked.request) → IfOk r (λ asked. ParsesAsFlag (one_of (codes "progress") rows) asked.progress)
+    → IfOk r (λ asked. ParsesAsFlag (one_of (codes "verbose") rows) asked.verbose) → IfOk r (ParsesToInvocation words)
+wanted names roles words name rows (Ok asked) none is h progress verbose = record {
   names = names;
   roles = roles;
   wanted = record { taken = none; asked = subst (λ (o : Option (Text × List Row)). IsRequestOfCommand o asked.request) (sym is) h };
-  progress = subst (λ (o : Option (Text × List Row)). IsSomeAnd o (λ command. ParsesAsFlag (one_of (codes "progress") command.1) asked.progress)) (sym is) flag;
+  progress = subst (λ (o : Option (Text × List Row)). IsSomeAnd o (λ command. ParsesAsFlag (one_of (codes "progress") command.1) asked.progress)) (sym is) progress;
+  verbose = subst (λ (o : Option (Text × List Row)). IsSomeAnd o (λ command. ParsesAsFlag (one_of (codes "verbose") command.1) asked.verbose)) (sym is) verbose;
 }
-wanted names roles words name rows (Err fault) none is h flag = tt
+wanted names roles words name rows (Err fault) none is h progress verbose = tt
 
 -- The request of an invocation is the request of the command line.
 pub parses_to_request : (words : List Text) (asked : Invocation) → ParsesToInvocation words asked → ParsesToRequest words asked.request
 parses_to_request words asked w = record { names = w.names; roles = w.roles; wanted = w.wanted }
 
+-- An error of a command other than `explain`.
+pub of_request : (name : Text) (rows : List Row) (fault : UsageFault) → name ≢ codes "explain"
+    → RefutesOrInvalidTerm ((request : Request) × IsRequestOf name rows request) (HasInvalidTerm name rows) fault → IsFaultOfCommand name rows fault
+of_request name rows (Help text) other h = absurd h
+of_request name rows (Usage text) other h = (λ request w. h (request, w), λ text w. other w.0)
+of_request name rows (InvalidTerm word fault) other h = h
+of_request name rows OutOfMemory other h = tt
+
+-- No request is that of `explain`.
+none_on_file : (name : Text) (rows : List Row) → name ≡ codes "explain" → (a : Action) → IsFileAction name rows a → ⊥
+none_on_file name rows is action.Head h = differ name _ _ is h refl
+none_on_file name rows is (action.Find given numbers) (inl h) = differ name _ _ is h.named refl
+none_on_file name rows is (action.Find given numbers) (inr h) = differ name _ _ is h.0 refl
+none_on_file name rows is (action.Search given format most) h = differ name _ _ is h.named refl
+none_on_file name rows is (action.Count role top raw) h = differ name _ _ is h.named refl
+none_on_file name rows is (action.Answer options) h = differ name _ _ is h.named refl
+none_on_file name rows is (action.Build options) h = h
+none_on_file name rows is (action.Rewrite b) h = h
+none_on_file name rows is a h = differ name _ _ is h.0 refl
+
+none_making : (name : Text) (rows : List Row) → name ≡ codes "explain" → (a : Action) → IsMakeAction name rows a → ⊥
+none_making name rows is (action.Build options) h = differ name _ _ is h.0 refl
+none_making name rows is (action.Rewrite b) h = differ name _ _ is h.0 refl
+none_making name rows is a h = h
+
+no_request : (name : Text) (rows : List Row) → name ≡ codes "explain" → (request : Request) → IsRequestOf name rows request → ⊥
+no_request name rows is request (inl w) = none_on_file name rows is request.action w.action
+no_request name rows is request (inr w) = none_making name rows is request.action w.action
+
+-- The error of `explain`.
+pub of_explain : (name : Text) (rows : List Row) (fault : UsageFault) → name ≡ codes "explain" → IsExplanation rows fault → IsFaultOfCommand name rows fault
+of_explain name rows (Help text) is h = (is, h)
+of_explain name rows (Usage text) is h = (λ request w. no_request name rows is request w, λ text w. h text w.1)
+of_explain name rows (InvalidTerm word fault) is h = absurd h
+of_explain name rows OutOfMemory is h = tt
+
 lacking : (names : Names) (words : List Text) (name : Text) (rows : List Row) (fault : UsageFault) → clap_errors names words ≡ [] → subcommand_of (table names) words ≡ Some (name, rows)
-    → RefutesOrInvalidTerm ((request : Request) × IsRequestOf name rows request) (HasInvalidTerm name rows) fault → IsRefusedWithRoles names words fault
-lacking names words name rows (Help text) none is h = absurd h
-lacking names words name rows (Usage text) none is h = (λ only. cc, λ only. cc, λ request w. h (request, subst (λ (o : Option (Text × List Row)). IsRequestOfCommand o request) is w.asked))
+    → IsFaultOfCommand name rows fault → IsRefusedWithRoles names words fault
+lacking names words name rows (Help text) none is h =
+    inr (inr (record { taken = none; asked = subst (λ (o : Option (Text × List Row)). IsExplainCommand o (string_bytes text)) (sym is) h }))
+lacking names words name rows (Usage text) none is h = (
+  λ only. cc,
+  λ only. cc,
+  λ request w. h.0 request (subst (λ (o : Option (Text × List Row)). IsRequestOfCommand o request) is w.asked),
+  λ text w. h.1 text (subst (λ (o : Option (Text × List Row)). IsExplainCommand o text) is w.asked),
+)
 lacking names words name rows (InvalidTerm word fault) none is h = (none, subst (λ (o : Option (Text × List Row)). HasInvalidTermIn o word fault) (sym is) h)
 lacking names words name rows OutOfMemory none is h = tt
 
 pub unwanted : (names : Names) → AreRoles names → (words : List Text) (name : Text) (rows : List Row) (r : Result Invocation UsageFault) → clap_errors names words ≡ [] → subcommand_of (table names) words ≡ Some (name, rows)
-    → IfErr r (RefutesOrInvalidTerm ((request : Request) × IsRequestOf name rows request) (HasInvalidTerm name rows)) → IfErr r (IsRefused words)
+    → IfErr r (IsFaultOfCommand name rows) → IfErr r (IsRefused words)
 unwanted names roles words name rows (Ok asked) none is h = tt
 unwanted names roles words name rows (Err fault) none is h = with names roles words fault (lacking names words name rows fault none is h)

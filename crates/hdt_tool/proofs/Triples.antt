@@ -1,5 +1,5 @@
 -- The strings of a search, and the ID lines of triples.
-use Rattle.std.proofs.Common.{◌≡◌, ◌≤◌, ℕ, List, [], ◌∷◌, ◌++◌, Option, None, Some, length, map, refl, sym, ap, ◌∙◌, append_assoc, arith, get_or, take}
+use Rattle.std.proofs.Common.{◌≡◌, ◌≢◌, ◌≤◌, ℕ, List, [], ◌∷◌, ◌++◌, Option, None, Some, length, map, refl, sym, ap, ◌∙◌, append_assoc, arith, get_or, take}
 use Rattle.std.specs.Prelude.{IsSomeAnd, MatchOption, option_map, vec_len}
 use Rattle.std.specs.declared.alloc.Global.{Global}
 use Rattle.std.specs.declared.vec.Vec.{Vec}
@@ -7,6 +7,7 @@ use Rattle.std.proofs.lemmas.List.{length-take, take-append-le}
 use Rattle.hdt_wire.specs.Control.{IsPrefixOf}
 use Rattle.hdt_dict.specs.Strings.{BorrowedString}
 use Rattle.hdt_triples.specs.TripleSequences.{Triple}
+use Rattle.hdt_file.specs.TextWriting.{limited}
 use Rattle.hdt_tool.specs.TriplesText.{GivenStrings, AreBorrowed, numbers_line, numbers_lines}
 
 -- An array of three elements.
@@ -42,3 +43,14 @@ pub keeps_on : (old mid new line : List ℕ) → IsPrefixOf old mid → new ≡ 
 keeps_on old mid new line keeps grown =
     let within : length old ≤ length mid = omega (arith, ap length keeps, length-take (length old) mid) in
     ap (take (length old)) grown ∙ take-append-le (length old) mid line within ∙ keeps
+
+-- ---- whether there is a match
+
+-- A count of up to one is 0 exactly if there is nothing to count.
+pub some_found : (found : List Triple) → length (limited (Some 1) found) ≢ 0 → found ≢ []
+some_found [] not is = not refl
+some_found (t ∷ found) not is = absurd cc
+
+pub none_found : (found : List Triple) → length (limited (Some 1) found) ≡ 0 → found ≡ []
+none_found [] is = refl
+none_found (t ∷ found) is = absurd cc

@@ -26,6 +26,7 @@ use Rattle.hdt_tool.specs.declared.request.OutputFormat.TheVariants.{NTriples, N
 use Rattle.hdt_tool.specs.declared.request.Request.{Request}
 use Rattle.hdt_tool.specs.ErrorLines.{argument_name}
 use Rattle.hdt_usage.specs.CommandTable.{Names, AreRoles, role_name, table}
+use Rattle.hdt_usage.specs.Explanations.{explanation_of}
 use Rattle.hdt_tool.specs.TriplesText.{GivenStrings, find_format}
 
 -- ---- arguments
@@ -67,6 +68,11 @@ ParsesAsFlag entry flag = (IsUsed entry → flag ≡ true) × (IsUnused entry �
 abbrev pub ParsesAsPart : List Row → TermArgument → Option (Vec ℕ Global) → Type 0
 ParsesAsPart rows word x = ParsesAsStringOrAny (one_of (codes "raw") rows) (first_of (argument_name word) rows) x
 
+-- The prefix is the text of `--prefix`, or empty without it.
+abbrev pub ParsesAsPrefix : Option Text → List ℕ → Type 0
+ParsesAsPrefix None prefix = prefix ≡ []
+ParsesAsPrefix (Some text) prefix = prefix ≡ text
+
 -- The arguments S, P and O mean these strings, or any.
 pub record ParsesAsPattern (rows : List Row) (given : GivenStrings) : Type 0 where
   pub subject : Option (Vec ℕ Global)
@@ -85,12 +91,17 @@ pub record ParsesAsFormat (rows : List Row) (format : OutputFormat) : Type 0 whe
   pub numbers : IsUnused (one_of (codes "count") rows) → IsUsed (one_of (codes "numbers") rows) → format ≡ Numbers
   pub lines : IsUnused (one_of (codes "count") rows) → IsUnused (one_of (codes "numbers") rows) → format ≡ NTriples
 
--- The command is `find`, with this pattern, output format and limit.
+-- The command is `find`, without `--quiet`, and with this pattern, output format and limit.
 pub record IsFindCommand (name : Text) (rows : List Row) (given : GivenStrings) (format : OutputFormat) (most : Option ℕ) : Type 0 where
   pub named : name ≡ codes "find"
   pub words : ParsesAsPattern rows given
   pub format_is : ParsesAsFormat rows format
   pub most_is : ParsesAsNumberOrNone (one_of (codes "most") rows) most
+  pub not_quiet : ParsesAsFlag (one_of (codes "quiet") rows) false
+
+-- The command is `find`, with `--quiet` and this pattern.
+abbrev pub IsQuietFindCommand : Text → List Row → GivenStrings → Type 0
+IsQuietFindCommand name rows given = (name ≡ codes "find") × ParsesAsPattern rows given × ParsesAsFlag (one_of (codes "quiet") rows) true
 
 -- The action finds triples by these strings, in this output format and up to this limit.
 abbrev pub IsFindAction : GivenStrings → OutputFormat → Option ℕ → Action → Type 0
@@ -105,6 +116,10 @@ IsDumpCommand name given numbers = (name ≡ codes "dump") × (given ≡ None �
 -- The command is `verify`, with or without `--tight`.
 abbrev pub IsVerifyCommand : Text → List Row → Bool → Type 0
 IsVerifyCommand name rows tight = (name ≡ codes "verify") × ParsesAsFlag (one_of (codes "tight") rows) tight
+
+-- The command is `info`, with or without `--json`.
+abbrev pub IsInfoCommand : Text → List Row → Bool → Type 0
+IsInfoCommand name rows json = (name ≡ codes "info") × ParsesAsFlag (one_of (codes "json") rows) json
 
 -- The command is `answer`, with these options.
 pub record IsAnswerCommand (name : Text) (rows : List Row) (options : AnswerOptions) : Type 0 where
@@ -126,13 +141,18 @@ abbrev pub IsFileAction : Text → List Row → Action → Type 0
 IsFileAction name rows action.Head = name ≡ codes "head"
 IsFileAction name rows action.Verify = IsVerifyCommand name rows false
 IsFileAction name rows action.VerifyTight = IsVerifyCommand name rows true
+IsFileAction name rows (action.Info json) = IsInfoCommand name rows json
 IsFileAction name rows (action.Strings role) = (name ≡ codes "strings") × (first_of (codes "ROLE") rows ≡ Some (role_name role))
+    × ParsesAsFlag (one_of (codes "terms") rows) false × (first_of (codes "prefix") rows ≡ None)
+IsFileAction name rows (action.ListStrings role prefix terms) = (name ≡ codes "strings") × (first_of (codes "ROLE") rows ≡ Some (role_name role))
+    × ParsesAsFlag (one_of (codes "terms") rows) terms × ParsesAsPrefix (first_of (codes "prefix") rows) prefix.items
 IsFileAction name rows (action.Nth role n) = (name ≡ codes "string") × (first_of (codes "ROLE") rows ≡ Some (role_name role))
     × ParsesAsNumber 64 (one_of (codes "N") rows) n
 IsFileAction name rows (action.Number role x) = (name ≡ codes "number") × (first_of (codes "ROLE") rows ≡ Some (role_name role))
     × ParsesAsString (one_of (codes "raw") rows) (first_of (codes "TERM") rows) x.items
 IsFileAction name rows (action.Find given numbers) = IsFindCommand name rows given (find_format numbers) None ⊎ IsDumpCommand name given numbers
 IsFileAction name rows (action.Search given format most) = IsFindCommand name rows given format most
+IsFileAction name rows (action.Exists given) = IsQuietFindCommand name rows given
 IsFileAction name rows (action.Count role top raw) = IsCountCommand name rows role top raw
 IsFileAction name rows (action.Answer options) = IsAnswerCommand name rows options
 IsFileAction name rows (action.Build options) = ⊥
@@ -183,12 +203,25 @@ pub record ParsesToRequest (words : List Text) (request : Request) : Type 0 wher
   pub roles : AreRoles names
   pub wanted : ParsesWithRoles names words request
 
--- The command line gives this request, and `--progress` if that is true.
+-- The command line gives this request, and `--progress` and `--verbose` if these are true.
 pub record ParsesToInvocation (words : List Text) (asked : Invocation) : Type 0 where
   pub names : Names
   pub roles : AreRoles names
   pub wanted : ParsesWithRoles names words asked.request
   pub progress : IsSomeAnd (subcommand_of (table names) words) (λ command. ParsesAsFlag (one_of (codes "progress") command.1) asked.progress)
+  pub verbose : IsSomeAnd (subcommand_of (table names) words) (λ command. ParsesAsFlag (one_of (codes "verbose") command.1) asked.verbose)
+
+-- The explanation of the argument REASON is this text.
+abbrev pub IsExplained : List Row → Text → Type 0
+IsExplained rows text = IsSomeAnd (first_of (codes "REASON") rows) (λ word. explanation_of word ≡ Some text)
+
+-- `clap` accepts the command line, and it is `explain` with a reason that has this explanation.
+abbrev pub IsExplainCommand : Option (Text × List Row) → Text → Type 0
+IsExplainCommand entered text = IsSomeAnd entered (λ command. (command.0 ≡ codes "explain") × IsExplained command.1 text)
+
+pub record ParsesToExplanation (names : Names) (words : List Text) (text : Text) : Type 0 where
+  pub taken : clap_errors names words ≡ []
+  pub asked : IsExplainCommand (subcommand_of (table names) words) text
 
 -- ---- errors
 
@@ -218,12 +251,14 @@ HasInvalidTermIn entered word fault = IsSomeAnd entered (λ command. HasInvalidT
 abbrev pub IsHelpOrVersion : ErrorKind → Type 0
 IsHelpOrVersion k = (k ≡ kind.DisplayHelp) ⊎ (k ≡ kind.DisplayVersion)
 
--- `Help` is returned only if `clap` may show help or the version; `Usage` only if the command line gives no request;
--- and an invalid term is the first one, with its first error.
+-- `Help` is returned only if `clap` may show help or the version, or with the explanation that `explain` prints;
+-- `Usage` only if the command line gives no request and no explanation; and an invalid term is the first one, with its
+-- first error.
 abbrev pub IsRefusedWithRoles : Names → List Text → UsageFault → Type 0
 IsRefusedWithRoles names words (Help text) = IsAmong kind.DisplayHelp (clap_errors names words) ⊎ IsAmong kind.DisplayVersion (clap_errors names words)
+    ⊎ ParsesToExplanation names words (string_bytes text)
 IsRefusedWithRoles names words (Usage text) = (clap_errors names words ≢ kind.DisplayHelp ∷ []) × (clap_errors names words ≢ kind.DisplayVersion ∷ [])
-    × ((request : Request) → ParsesWithRoles names words request → ⊥)
+    × ((request : Request) → ParsesWithRoles names words request → ⊥) × ((text : Text) → ParsesToExplanation names words text → ⊥)
 IsRefusedWithRoles names words (InvalidTerm word fault) = (clap_errors names words ≡ []) × HasInvalidTermIn (subcommand_of (table names) words) word fault
 IsRefusedWithRoles names words OutOfMemory = Unit {0}
 
@@ -272,6 +307,22 @@ IsFaultOfTerm word fault other = ⊥
 -- The dictionary string for a text: the text itself if raw, else the string of the N-Triples term that it spells.
 abbrev pub IsStringOfText : Bool → Text → List ℕ → Type 0
 IsStringOfText raw text x = (raw ≡ true → x ≡ text) × (raw ≡ false → AppendsStringOfText text [] x)
+
+-- The explanation of the argument REASON, as help; a usage error only if there is none.
+abbrev pub IsExplanation : List Row → UsageFault → Type 0
+IsExplanation rows (Help text) = IsExplained rows (string_bytes text)
+IsExplanation rows (Usage text) = (explained : Text) → IsExplained rows explained → ⊥
+IsExplanation rows (InvalidTerm word fault) = ⊥
+IsExplanation rows OutOfMemory = Unit {0}
+
+-- The error of a command: `Help` is the explanation that `explain` prints; `Usage` is returned only if the arguments give
+-- no request and no explanation.
+abbrev pub IsFaultOfCommand : Text → List Row → UsageFault → Type 0
+IsFaultOfCommand name rows (Help text) = IsExplainCommand (Some (name, rows)) (string_bytes text)
+IsFaultOfCommand name rows (Usage text) = ((request : Request) → IsRequestOf name rows request → ⊥)
+    × ((explained : Text) → IsExplainCommand (Some (name, rows)) explained → ⊥)
+IsFaultOfCommand name rows (InvalidTerm word fault) = HasInvalidTerm name rows word fault
+IsFaultOfCommand name rows OutOfMemory = Unit {0}
 
 -- The error is one of this argument: it is not raw, and this is the first error in its text.
 abbrev pub IsFaultOfArgument : TermArgument → Bool → Text → TermArgument → TermFault → Type 0

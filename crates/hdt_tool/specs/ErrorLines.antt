@@ -17,6 +17,7 @@ fault_status (tool.File fault) = 1
 fault_status (tool.Input fault) = 1
 fault_status tool.NoTriples = 1
 fault_status tool.NoSuchTerm = 1
+fault_status tool.NoMatch = 1
 fault_status tool.NoSuchNumber = 1
 fault_status (tool.NotATerm role n) = 1
 fault_status tool.BadOptions = 2
@@ -30,6 +31,7 @@ fault_line (tool.Input fault) = codes "hdt: line " ++ decimal fault.line ++ code
     ++ decimal (line_reason_number fault.reason) ++ codes " " ++ line_reason_name fault.reason
 fault_line tool.NoTriples = codes "hdt: no triples"
 fault_line tool.NoSuchTerm = codes "hdt: no such term"
+fault_line tool.NoMatch = codes "hdt: no match"
 fault_line tool.NoSuchNumber = codes "hdt: no such number"
 fault_line (tool.NotATerm role n) = codes "hdt: " ++ role_name role ++ codes " " ++ decimal n ++ codes " is not a term"
 fault_line tool.BadOptions = codes "hdt: bad options"

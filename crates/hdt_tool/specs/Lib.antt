@@ -1,9 +1,12 @@
 pub mod Escaping
 pub mod HeadText
 pub mod StringsText
+pub mod ListedStrings
 pub mod TriplesText
 pub mod TermCounts
 pub mod Verdict
+pub mod InfoText
+pub mod Info
 pub mod BuiltText
 pub mod Outcomes
 pub mod Dialogue

@@ -19,17 +19,19 @@ use Rattle.hdt_terms.specs.declared.fault.LineReason.TheVariants as reasons
 use Rattle.hdt_wire.specs.declared.role.Role.{Role}
 use Rattle.hdt_dict.specs.Ids.{string_at_id}
 use Rattle.hdt_tool.specs.declared.fault.ToolFault.{ToolFault}
-use Rattle.hdt_tool.specs.declared.fault.ToolFault.TheVariants.{File, Input, NoTriples, NoSuchTerm, NoSuchNumber, NotATerm, BadOptions, Read, Write, OutOfMemory}
+use Rattle.hdt_tool.specs.declared.fault.ToolFault.TheVariants.{File, Input, NoTriples, NoSuchTerm, NoMatch, NoSuchNumber, NotATerm, BadOptions, Read, Write, OutOfMemory}
 use Rattle.hdt_tool.specs.declared.request.Action.{Action}
 use Rattle.hdt_tool.specs.declared.request.Request.{Request}
-use Rattle.hdt_tool.specs.declared.request.Action.TheVariants.{Head, Verify, VerifyTight, Strings, Nth, Number, Find, Search, Count, Answer, Build, Rewrite}
+use Rattle.hdt_tool.specs.declared.request.Action.TheVariants.{Head, Verify, VerifyTight, Strings, ListStrings, Nth, Number, Find, Search, Exists, Count, Answer, Build, Rewrite, Info}
 use Rattle.hdt_tool.specs.BuiltText.{built_line, rewritten_line}
 use Rattle.hdt_tool.specs.HeadText.{head_text}
 use Rattle.hdt_tool.specs.ErrorLines.{fault_status}
+use Rattle.hdt_tool.specs.Info.{PrintsInfo}
 use Rattle.hdt_tool.specs.Verdict.{verdict}
 use Rattle.hdt_tool.specs.StringsText.{string_lines, PrintsString, PrintsNumber}
+use Rattle.hdt_tool.specs.ListedStrings.{HasUnlistedTerm, PrintsListed}
 use Rattle.hdt_tool.specs.TermCounts.{IsCountFault, PrintsCounts}
-use Rattle.hdt_tool.specs.TriplesText.{HasNonTermIn, PrintsFound, find_format}
+use Rattle.hdt_tool.specs.TriplesText.{HasMatch, HasNonTermIn, LacksMatch, PrintsFound, find_format}
 use Rattle.hdt_dict.specs.Dictionary.{role_strings}
 
 -- The bytes begin with a valid head, and the text is the output of `head` for it.
@@ -60,11 +62,14 @@ abbrev pub Prints : Action → List ℕ → List ℕ → Type 0
 Prints Head bytes text = PrintsHead bytes text
 Prints Verify bytes text = IsLayoutWith bytes (λ graph. text ≡ verdict (graph_counts graph))
 Prints VerifyTight bytes text = PrintsTightVerdict bytes text
+Prints (Info json) bytes text = PrintsInfo json bytes text
 Prints (Strings role) bytes text = HasRoleStringsWith bytes role (λ strings. text ≡ string_lines 1 strings)
+Prints (ListStrings role prefix terms) bytes text = HasRoleStringsWith bytes role (λ strings. PrintsListed strings prefix.items terms text)
 Prints (Nth role n) bytes text = HasRoleStringsWith bytes role (λ strings. PrintsString strings n text)
 Prints (Number role x) bytes text = HasRoleStringsWith bytes role (λ strings. PrintsNumber strings x.items text)
 Prints (Find given numbers) bytes text = IsLayoutWith bytes (λ graph. PrintsFound graph given (find_format numbers) None text)
 Prints (Search given format most) bytes text = IsLayoutWith bytes (λ graph. PrintsFound graph given format most text)
+Prints (Exists given) bytes text = IsLayoutWith bytes (λ graph. HasMatch graph given × (text ≡ []))
 Prints (Count role top raw) bytes text = IsLayoutWith bytes (λ graph. PrintsCounts graph role top raw text)
 Prints (Answer options) bytes text = IsLayoutWith bytes (λ graph. text ≡ [])
 Prints (Build options) bytes text = ⊥
@@ -109,12 +114,18 @@ abbrev pub LacksTerm : Action → List ℕ → Type 0
 LacksTerm (Number role x) bytes = HasRoleStringsWith bytes role (λ strings. (n : ℕ) → string_at_id strings n ≢ Some x.items)
 LacksTerm action bytes = ⊥
 
--- The output format is N-Triples, or `count` prints terms, and the first string to print that is not a term has this
--- role and ID.
+-- No triple has the strings to look for.
+abbrev pub LacksAnyMatch : Action → List ℕ → Type 0
+LacksAnyMatch (Exists given) bytes = IsLayoutWith bytes (λ graph. LacksMatch graph given)
+LacksAnyMatch action bytes = ⊥
+
+-- The output format is N-Triples, or `count` or `strings` prints terms, and the first string to print that is not a term
+-- has this role and ID.
 abbrev pub HasNonTerm : Action → List ℕ → Role → ℕ → Type 0
 HasNonTerm (Find given numbers) bytes role n = IsLayoutWith bytes (λ graph. HasNonTermIn graph given (find_format numbers) None role n)
 HasNonTerm (Search given format most) bytes role n = IsLayoutWith bytes (λ graph. HasNonTermIn graph given format most role n)
 HasNonTerm (Count role top raw) bytes other n = IsLayoutWith bytes (λ graph. IsCountFault graph role top raw (NotATerm other n))
+HasNonTerm (ListStrings role prefix terms) bytes other n = (other ≡ role) × HasRoleStringsWith bytes role (λ strings. HasUnlistedTerm strings prefix.items terms n)
 HasNonTerm action bytes role n = ⊥
 
 -- The bytes are valid, but the block size for `rewrite` is not.
@@ -127,6 +138,7 @@ abbrev pub IsFaultOfBytes : Action → List ℕ → ToolFault → Type 0
 IsFaultOfBytes action bytes (File fault) = HasFault action bytes fault
 IsFaultOfBytes action bytes NoSuchNumber = LacksNumber action bytes
 IsFaultOfBytes action bytes NoSuchTerm = LacksTerm action bytes
+IsFaultOfBytes action bytes NoMatch = LacksAnyMatch action bytes
 IsFaultOfBytes action bytes (NotATerm role n) = HasNonTerm action bytes role n
 IsFaultOfBytes action bytes BadOptions = HasBadBlockSize action bytes
 IsFaultOfBytes action bytes OutOfMemory = Unit {0}

@@ -1,5 +1,5 @@
 -- The output of `find` and `dump`: the triples with the given strings.
-use Rattle.std.specs.Prelude.{◌≡◌, ◌↔◌, ℕ, Bool, true, false, List, [], ◌∷◌, ◌++◌, Option, Some, map, length, option_map}
+use Rattle.std.specs.Prelude.{◌≡◌, ◌≢◌, ◌↔◌, ℕ, Bool, true, false, List, [], ◌∷◌, ◌++◌, Option, Some, map, length, option_map}
 use Rattle.std.specs.Fmt.{decimal}
 use Rattle.std.specs.List.{flat_map}
 use Rattle.std.specs.declared.alloc.Global.{Global}
@@ -45,6 +45,14 @@ pub record FindsWith (g : GraphParts) (given : GivenStrings) (Holds : List Tripl
   pub found : List Triple
   pub finds : Finds g given found
   pub holds : Holds found
+
+-- Some triple has the given strings.
+abbrev pub HasMatch : GraphParts → GivenStrings → Type 0
+HasMatch g given = FindsWith g given (λ found. found ≢ [])
+
+-- No triple has the given strings.
+abbrev pub LacksMatch : GraphParts → GivenStrings → Type 0
+LacksMatch g given = FindsWith g given (λ found. found ≡ [])
 
 -- A line with a triple's three IDs, separated by spaces.
 abbrev pub numbers_line : Triple → List ℕ

@@ -3,7 +3,7 @@ ghost use Rattle.std.specs.Prelude.{◌≡◌, ◌≢◌, ℕ, List, [], IfOk, I
 ghost use Rattle.clap.specs.Words.{first_of, one_of, found_of, rows_of};
 ghost use Rattle.hdt_build.specs.declared.options.Options.{Options};
 ghost use Rattle.hdt_wire.specs.declared.role.Role.{Role};
-ghost use Rattle.hdt_tool.specs.CommandLine.{IsFileAction, Refutes, RefutesOrInvalidTerm, IsFaultOfArgument, IsInvalidTerm, IsInvalidPart, IsStringOfText, IsFindAction, HasInvalidTerm, ParsesAsFlag, ParsesAsFormat, ParsesAsNumber, ParsesAsNumberOrNone, ParsesAsOptions, ParsesAsString, ParsesAsPart, IsFaultOfTerm};
+ghost use Rattle.hdt_tool.specs.CommandLine.{IsFileAction, Refutes, RefutesOrInvalidTerm, IsFaultOfArgument, IsInvalidTerm, IsInvalidPart, IsStringOfText, IsExplanation, IsFindAction, HasInvalidTerm, ParsesAsFlag, ParsesAsFormat, ParsesAsNumber, ParsesAsNumberOrNone, ParsesAsOptions, ParsesAsString, ParsesAsPart, IsFaultOfTerm, ParsesAsPrefix};
 ghost use Rattle.hdt_tool.specs.ErrorLines.{argument_name};
 ghost use Rattle.hdt_usage.specs.CommandTable.{role_name};
 
@@ -13,7 +13,8 @@ use clap::ArgMatches;
 use hdt_build::Options;
 use hdt_dict::Role;
 use hdt_terms::{LineReason, TermFault, parse_string};
-use std::alloc::Global;
+use hdt_usage::explain;
+use std::alloc::{AllocError, Global};
 
 /// The error for a required argument without a valid value.
 pub(crate) fn missing(alloc: Global) -> UsageFault
@@ -23,7 +24,7 @@ pub(crate) fn missing(alloc: Global) -> UsageFault
 }
 
 /// The text of an argument, if it is given.
-fn argument_text<'m>(matches: &ArgMatches<'m>, id: &str) -> Option<&'m str>
+pub(crate) fn argument_text<'m>(matches: &ArgMatches<'m>, id: &str) -> Option<&'m str>
     ensures { option_map (λ text. text.now) result ≡ first_of id.now (rows_of (found_of matches.now)) }
 {
     matches.get_str(id)
@@ -128,6 +129,15 @@ pub(crate) fn verify_action<'m>(matches: &ArgMatches<'m>) -> Action
         return Action::VerifyTight;
     }
     Action::Verify
+}
+
+/// The action of `info`.
+pub(crate) fn info_action<'m>(matches: &ArgMatches<'m>) -> Action
+    ensures { IsFileAction (codes "info") (rows_of (found_of matches.now)) result }
+{
+    Action::Info {
+        json: has_flag(matches, "json"),
+    }
 }
 
 /// The error for an argument that is not a valid term.
@@ -254,8 +264,43 @@ pub(crate) fn find_action<'m>(alloc: Global, matches: &ArgMatches<'m>) -> Result
     let predicate = pattern_argument(alloc, matches, TermArgument::Predicate)?;
     let object = pattern_argument(alloc, matches, TermArgument::Object)?;
     let given = [subject, predicate, object];
+    if has_flag(matches, "quiet") {
+        return Ok(Action::Exists { given });
+    }
     let most = optional_number(matches, "most");
     Ok(find_or_search(given, format_option(matches), most))
+}
+
+/// The bytes of a text; none without a text.
+fn bytes_or_none(alloc: Global, text: Option<&str>) -> Result<Vec<u8>, AllocError>
+    ensures { IfOk result (λ bytes. ParsesAsPrefix (option_map (λ given. given.now) text.entry) bytes.items) }
+{
+    match text {
+        Some(text) => text.as_bytes().to_vec(alloc),
+        None => Ok(Vec::new(alloc)),
+    }
+}
+
+/// The action of `strings`: `Strings` without `--prefix` and `--terms`.
+pub(crate) fn strings_action<'m>(
+    alloc: Global,
+    matches: &ArgMatches<'m>,
+) -> Result<Action, UsageFault>
+    ensures ok { IfOk result (IsFileAction (codes "strings") (rows_of (found_of matches.now))) }
+    ensures refused { IfErr result (Refutes ((role : Role) × (first_of (codes "ROLE") (rows_of (found_of matches.now)) ≡ Some (role_name role)))) }
+{
+    let role = required_role(alloc, matches)?;
+    let terms = has_flag(matches, "terms");
+    let prefix = argument_text(matches, "prefix");
+    if !terms && prefix.is_none() {
+        return Ok(Action::Strings(role));
+    }
+    let prefix = bytes_or_none(alloc, prefix)?;
+    Ok(Action::ListStrings {
+        role,
+        prefix,
+        terms,
+    })
 }
 
 /// The action of `count`.
@@ -285,4 +330,21 @@ pub(crate) fn answer_action<'m>(
         raw: has_flag(matches, "raw"),
         longest: required_u32(alloc, matches, "longest-request")?,
     }))
+}
+
+const NO_SUCH_REASON: &str =
+    "error: no error of a file or a text has this number or name; see docs/ERRORS.md";
+
+/// The explanation that `explain` prints of its argument REASON, as help.
+pub(crate) fn explanation<'m>(alloc: Global, matches: &ArgMatches<'m>) -> UsageFault
+    ensures { IsExplanation (rows_of (found_of matches.now)) result }
+{
+    let Some(word) = argument_text(matches, "REASON") else {
+        return missing(alloc);
+    };
+    match explain(alloc, word) {
+        Ok(Some(text)) => UsageFault::Help(text),
+        Ok(None) => UsageFault::text(alloc, NO_SUCH_REASON),
+        Err(AllocError) => UsageFault::OutOfMemory,
+    }
 }

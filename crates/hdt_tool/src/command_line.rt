@@ -2,16 +2,17 @@
 ghost use Rattle.std.specs.Prelude.{◌≡◌, IfOk, IfErr, codes, map};
 ghost use Rattle.clap.specs.Words.{found_of, one_of, rows_of, kind_of};
 ghost use Rattle.hdt_tool.specs.Outcomes.{HasOut};
-ghost use Rattle.hdt_tool.specs.CommandLine.{IsFileAction, IsRequestOf, IsFileRequest, IsMakeRequest, IsMakeAction, Refutes, RefutesOrInvalidTerm, IsRefused, HasInvalidTerm, ParsesAsFlag, IsFaultOfKind, ParsesToRequest, ParsesToInvocation};
+ghost use Rattle.hdt_tool.specs.CommandLine.{IsFileAction, IsRequestOf, IsFileRequest, IsMakeRequest, IsMakeAction, Refutes, RefutesOrInvalidTerm, IsRefused, HasInvalidTerm, IsFaultOfCommand, ParsesAsFlag, IsFaultOfKind, ParsesToRequest, ParsesToInvocation};
 ghost use Rattle.hdt_usage.specs.CommandTable.{AreRoles};
 ghost use Rattle.hdt_tool.specs.declared.request.Action.{Action};
 ghost use Rattle.hdt_tool.specs.declared.request.Request.{Request};
 
 use crate::arguments::{
-    answer_action, build_options, count_action, find_action, has_flag, missing,
-    required_block_size, required_id, required_role, required_term, required_text, verify_action,
+    answer_action, argument_text, build_options, count_action, explanation, find_action, has_flag,
+    info_action, missing, required_block_size, required_id, required_role, required_term,
+    required_text, strings_action, verify_action,
 };
-use crate::fault::UsageFault;
+use crate::fault::{TermArgument, UsageFault};
 use crate::request::{Action, Invocation, Request};
 use clap::error::ErrorKind;
 use clap::{ArgMatches, Error};
@@ -51,7 +52,8 @@ fn file_action<'m>(
     match name {
         "head" => Ok(Action::Head),
         "verify" => Ok(verify_action(matches)),
-        "strings" => Ok(Action::Strings(required_role(alloc, matches)?)),
+        "info" => Ok(info_action(matches)),
+        "strings" => strings_action(alloc, matches),
         "string" => Ok(Action::Nth(required_role(alloc, matches)?, required_id(alloc, matches)?)),
         "number" => Ok(Action::Number(
             required_role(alloc, matches)?,
@@ -133,7 +135,7 @@ fn request_of<'m>(
     }
 }
 
-/// The request of a command, and whether to report progress.
+/// The request of a command, and how to report progress and errors.
 fn invocation_of<'m>(
     alloc: Global,
     name: &str,
@@ -141,13 +143,32 @@ fn invocation_of<'m>(
 ) -> Result<Invocation, UsageFault>
     ensures ok { IfOk result (λ invocation. IsRequestOf name.now (rows_of (found_of matches.now)) invocation.request) }
     ensures progress { IfOk result (λ invocation. ParsesAsFlag (one_of (codes "progress") (rows_of (found_of matches.now))) invocation.progress) }
+    ensures verbose { IfOk result (λ invocation. ParsesAsFlag (one_of (codes "verbose") (rows_of (found_of matches.now))) invocation.verbose) }
     ensures refused { IfErr result (RefutesOrInvalidTerm ((request : Request) × IsRequestOf name.now (rows_of (found_of matches.now)) request)
         (HasInvalidTerm name.now (rows_of (found_of matches.now)))) }
 {
     Ok(Invocation {
         request: request_of(alloc, name, matches)?,
         progress: has_flag(matches, "progress"),
+        verbose: has_flag(matches, "verbose"),
     })
+}
+
+/// The invocation of a command, or the explanation that `explain` prints, as help.
+fn invocation_or_explanation<'m>(
+    alloc: Global,
+    name: &str,
+    matches: &ArgMatches<'m>,
+) -> Result<Invocation, UsageFault>
+    ensures ok { IfOk result (λ invocation. IsRequestOf name.now (rows_of (found_of matches.now)) invocation.request) }
+    ensures progress { IfOk result (λ invocation. ParsesAsFlag (one_of (codes "progress") (rows_of (found_of matches.now))) invocation.progress) }
+    ensures verbose { IfOk result (λ invocation. ParsesAsFlag (one_of (codes "verbose") (rows_of (found_of matches.now))) invocation.verbose) }
+    ensures refused { IfErr result (IsFaultOfCommand name.now (rows_of (found_of matches.now))) }
+{
+    match name {
+        "explain" => Err(explanation(alloc, matches)),
+        _ => invocation_of(alloc, name, matches),
+    }
 }
 
 /// Parses a command line with the table of commands.
@@ -166,7 +187,7 @@ fn parse_with_roles<'a>(
         Err(error) => return Err(usage_fault(alloc, &error)),
     };
     match matches.subcommand() {
-        Some((name, entries)) => invocation_of(alloc, name, entries),
+        Some((name, entries)) => invocation_or_explanation(alloc, name, entries),
         None => Err(missing(alloc)),
     }
 }
@@ -182,19 +203,40 @@ pub fn parse_words<'a>(alloc: Global, words: &'a [&'a str]) -> Result<Request, U
     ensures ok { IfOk result (ParsesToRequest (map (λ word. word.now) words.now)) }
     // Exactly the requests of `build` and `rewrite` have an output path.
     ensures out { IfOk result HasOut }
-    // `Help` is returned only if `clap` may show help or the version, `Usage` only if the arguments are not a request.
-    // An invalid term is that of TERM, or the first invalid one of S, P and O.
+    // `Help` is returned only if `clap` may show help or the version, or for `explain`, with the explanation of REASON;
+    // `Usage` only if the arguments are not a request, and no explanation is asked for that there is. An invalid term
+    // is that of TERM, or the first invalid one of S, P and O.
     ensures refused { IfErr result (IsRefused (map (λ word. word.now) words.now)) }
 {
     Ok(parse_invocation(alloc, words)?.request)
 }
 
-/// Parses a command line as [`parse_words`] does, and also `--progress`.
+/// Parses a command line as [`parse_words`] does, and also `--progress` and `--verbose`.
 pub fn parse_invocation<'a>(alloc: Global, words: &'a [&'a str]) -> Result<Invocation, UsageFault>
-    // The request is that of `parse_words`; `progress` is true exactly if `--progress` is given.
+    // The request is that of `parse_words`; `progress` and `verbose` are true exactly if these options are given.
     ensures ok { IfOk result (ParsesToInvocation (map (λ word. word.now) words.now)) }
     ensures out { IfOk result (λ invocation. HasOut invocation.request) }
     ensures refused { IfErr result (IsRefused (map (λ word. word.now) words.now)) }
 {
     parse_with_roles(alloc, &ROLES, words)
+}
+
+/// The text of an argument that is to be a term, and whether `--verbose` is given; `None` if `clap` does not accept the
+/// command line.
+pub(crate) fn term_given<'a>(
+    alloc: Global,
+    words: &'a [&'a str],
+    word: TermArgument,
+) -> Result<Option<(String, bool)>, AllocError> {
+    let command = make_command_table(alloc, &ROLES)?;
+    let Ok(matches) = command.try_get_matches_from(words) else {
+        return Ok(None);
+    };
+    let Some((_, entries)) = matches.subcommand() else {
+        return Ok(None);
+    };
+    match argument_text(entries, word.name()) {
+        Some(text) => Ok(Some((String::from_str(alloc, text)?, has_flag(entries, "verbose")))),
+        None => Ok(None),
+    }
 }

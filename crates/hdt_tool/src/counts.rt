@@ -38,7 +38,7 @@ fn use_count(graph: &Graph<'_>, role: Role, number: u64) -> u64
 }
 
 /// Appends a string as it is printed: escaped if `raw`, else as its N-Triples term. An error may leave a prefix.
-fn put_shown(raw: bool, string: &[u8], out: &mut Vec<u8>) -> Result<(), StringFault>
+pub(crate) fn put_shown(raw: bool, string: &[u8], out: &mut Vec<u8>) -> Result<(), StringFault>
     ensures ok { OnOk result ((shown : List ℕ) × IsShown raw string.now shown × (out.new.items ≡ out.old.items ++ shown)) }
     ensures err { IfErr result (λ e. (e ≡ StringFault.OutOfMemory) ⊎ ((raw ≡ false) × ((term : Term) → IsDictionaryTerm term → dictionary_string term ≢ string.now))) }
 {

@@ -78,6 +78,7 @@ pub fn fault_line(alloc: Global, fault: &ToolFault) -> Result<(u8, String), Allo
         ToolFault::Input(fault) => Ok((1, input_line(alloc, *fault)?)),
         ToolFault::NoTriples => Ok((1, String::from_str(alloc, "hdt: no triples")?)),
         ToolFault::NoSuchTerm => Ok((1, String::from_str(alloc, "hdt: no such term")?)),
+        ToolFault::NoMatch => Ok((1, String::from_str(alloc, "hdt: no match")?)),
         ToolFault::NoSuchNumber => Ok((1, String::from_str(alloc, "hdt: no such number")?)),
         ToolFault::NotATerm(role, number) => Ok((1, string_line(alloc, *role, *number)?)),
         ToolFault::BadOptions => Ok((2, String::from_str(alloc, "hdt: bad options")?)),

@@ -49,7 +49,7 @@ impl TermArgument {
 pub enum UsageFault {
     /// The arguments are not valid. The message has no line feed at its end.
     Usage(String),
-    /// Help or the version was requested. The text has no line feed at its end.
+    /// Help, the version or an explanation was requested. The text has no line feed at its end.
     Help(String),
     /// An argument is not an N-Triples term.
     InvalidTerm {
@@ -99,6 +99,9 @@ pub enum ToolFault {
     /// The role has no such string.
     #[error("no such term")]
     NoSuchTerm,
+    /// No triple has the given strings.
+    #[error("no match")]
+    NoMatch,
     /// The role has no string with this ID.
     #[error("no such number")]
     NoSuchNumber,

@@ -17,7 +17,7 @@ pub(crate) const STDOUT_PATH: &str = "/proc/self/fd/1";
 pub(crate) const STDERR_PATH: &str = "/proc/self/fd/2";
 
 /// Whether a path names standard input. `-` does; a file of that name is `./-`.
-fn is_stdin_path(path: &str) -> bool {
+pub(crate) fn is_stdin_path(path: &str) -> bool {
     matches!(path, "-" | "/dev/stdin" | "/dev/fd/0" | "/proc/self/fd/0")
 }
 

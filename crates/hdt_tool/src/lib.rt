@@ -11,10 +11,10 @@
 //!
 //! - `request` and `fault`: requests, and the errors of a command line and of a command;
 //! - `arguments` and `command_line`: parsing a command line with `clap` and hdt_usage's table of commands;
-//! - the modules `printed_*`: output texts;
+//! - the modules `printed_*`, `listed_strings` and `counts`: output texts;
 //! - `queries`: the output of each command that only reads; `dialogue`: requests over one graph;
 //! - `commands`: all commands, from a reader to a writer;
-//! - `error_lines`: exit statuses and error messages;
+//! - `error_lines`: exit statuses and error messages; `error_context`: the lines that follow a message;
 //! - `progress`, `files`, `atomic_replace`, `output_file` and `status`: the same over files and streams.
 #![tactic(auto)]
 
@@ -24,10 +24,14 @@ mod command_line;
 mod commands;
 mod counts;
 mod dialogue;
+mod error_context;
 mod error_lines;
 mod fault;
 mod files;
+mod info;
+mod listed_strings;
 mod output_file;
+mod printed_info;
 mod printed_reports;
 mod printed_strings;
 mod printed_triples;

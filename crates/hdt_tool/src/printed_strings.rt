@@ -20,7 +20,11 @@ use std::alloc::{AllocError, Global};
 use std::io::Write;
 
 /// Appends a line with a string's ID, a tab and the escaped string.
-fn put_string_line(number: u64, string: &[u8], out: &mut Vec<u8>) -> Result<(), AllocError>
+pub(crate) fn put_string_line(
+    number: u64,
+    string: &[u8],
+    out: &mut Vec<u8>,
+) -> Result<(), AllocError>
     ensures { OnOk result (out.new.items ≡ out.old.items ++ string_line number string.now) }
 {
     put_decimal(number, out)?;

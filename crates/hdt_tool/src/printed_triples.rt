@@ -6,7 +6,7 @@ ghost use Rattle.hdt_file.specs.CachedTerms.{CachesTerms};
 ghost use Rattle.hdt_file.specs.LayoutView.{layout_view};
 ghost use Rattle.hdt_file.specs.GraphView.{graph_view};
 ghost use Rattle.hdt_triples.specs.Remaining.{remaining_matches};
-ghost use Rattle.hdt_tool.specs.TriplesText.{AppendsTriples, Finds, PrintsFound, IsFindFault, PrintsTriples, IsTextFault, numbers_line, numbers_lines};
+ghost use Rattle.hdt_tool.specs.TriplesText.{AppendsTriples, Finds, HasMatch, LacksMatch, PrintsFound, IsFindFault, PrintsTriples, IsTextFault, numbers_line, numbers_lines};
 
 use crate::fault::ToolFault;
 use crate::printed_strings::number_line;
@@ -91,6 +91,22 @@ fn find_pattern(layout: &Layout<'_>, given: &[Option<Vec<u8>>; 3]) -> Option<Pat
     let [subject, predicate, object] = given;
     let borrowed = [subject.as_deref(), predicate.as_deref(), object.as_deref()];
     layout.pattern(borrowed, &mut Steps::new())
+}
+
+/// Checks that a triple has the given strings, or fails with `NoMatch`. Stops at the first match.
+#[tactic(auto, using(crate::proofs::Triples::some_found, crate::proofs::Triples::none_found))]
+pub(crate) fn check_match(
+    layout: &Layout<'_>,
+    given: &[Option<Vec<u8>>; 3],
+) -> Result<(), ToolFault>
+    ensures ok { OnOk result (HasMatch (layout_view layout.now) given.now) }
+    ensures err { IfErr result (λ e. (e ≡ ToolFault.NoMatch) × LacksMatch (layout_view layout.now) given.now) }
+{
+    let pattern = find_pattern(layout, given);
+    if count_layout_matches(layout, pattern, Some(1)) == 0 {
+        return Err(ToolFault::NoMatch);
+    }
+    Ok(())
 }
 
 /// The text of a pattern's matches, up to a limit and in any format; empty without a pattern. Scans all triples.

@@ -9,9 +9,11 @@ ghost use Rattle.hdt_tool.specs.declared.request.Action.TheVariants as Action;
 
 use crate::counts::count_lines;
 use crate::fault::ToolFault;
+use crate::info::file_info_text;
+use crate::listed_strings::listed_text;
 use crate::printed_reports::{head_text, verdict};
 use crate::printed_strings::{number_text, print_strings, string_text};
-use crate::printed_triples::triples_text;
+use crate::printed_triples::{check_match, triples_text};
 use crate::request::{Action, OutputFormat};
 use hdt_dict::Role;
 use hdt_file::{Layout, open, read_head, verify, verify_tight};
@@ -57,6 +59,12 @@ pub(crate) fn file_text(alloc: Global, action: &Action, bytes: &[u8]) -> Result<
         Action::Head => Ok(head_text(alloc, &read_head(bytes)?)?),
         Action::Verify => Ok(verdict(alloc, verify(alloc, bytes)?)?),
         Action::VerifyTight => Ok(verdict(alloc, verify_tight(alloc, bytes)?)?),
+        Action::Info { json } => file_info_text(alloc, *json, bytes),
+        Action::ListStrings {
+            role,
+            prefix,
+            terms,
+        } => listed_text(alloc, &Layout::read(alloc, bytes)?, *role, prefix, *terms),
         Action::Nth(role, number) => {
             string_text(alloc, &Layout::read(alloc, bytes)?, *role, *number)
         }
@@ -72,6 +80,10 @@ pub(crate) fn file_text(alloc: Global, action: &Action, bytes: &[u8]) -> Result<
             format,
             most,
         } => triples_text(alloc, &Layout::read(alloc, bytes)?, given, *format, *most),
+        Action::Exists { given } => {
+            check_match(&Layout::read(alloc, bytes)?, given)?;
+            Ok(Vec::new(alloc))
+        }
         Action::Count { role, top, raw } => {
             let graph = open(alloc, bytes)?;
             count_lines(alloc, &graph, *role, *top, *raw)

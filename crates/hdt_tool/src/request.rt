@@ -36,8 +36,22 @@ pub enum Action {
     Verify,
     /// Verifies a file, and that every string of its dictionary is used in the role of its section.
     VerifyTight,
+    /// Prints the sizes of a file's parts, and whether it is tight and canonical.
+    Info {
+        /// Whether one JSON object is printed instead of lines.
+        json: bool,
+    },
     /// Prints all strings of a role, with their IDs.
     Strings(Role),
+    /// Prints the strings of a role that begin with a prefix.
+    ListStrings {
+        /// The role.
+        role: Role,
+        /// The bytes with which the strings begin; empty for all strings.
+        prefix: Vec<u8>,
+        /// Whether N-Triples terms are printed instead of IDs and strings.
+        terms: bool,
+    },
     /// Prints the string of a role with this ID, from 1.
     Nth(Role, u64),
     /// Prints the ID that this dictionary string has in a role.
@@ -57,6 +71,11 @@ pub enum Action {
         format: OutputFormat,
         /// The maximum number of triples; `None` for no limit.
         most: Option<u64>,
+    },
+    /// Finds out whether there is a triple with these dictionary strings, and prints nothing.
+    Exists {
+        /// The strings of subject, predicate and object; `None` matches any.
+        given: [Option<Vec<u8>>; 3],
     },
     /// Prints the number of triples of each term of a role.
     Count {
@@ -86,11 +105,13 @@ pub struct Request {
     pub out: Option<String>,
 }
 
-/// A request, and whether to report progress.
+/// A request, and how to report progress and errors.
 #[derive(Debug, Drop)]
 pub struct Invocation {
     /// The request.
     pub request: Request,
     /// Whether to report the progress of reading.
     pub progress: bool,
+    /// Whether more lines follow an error message.
+    pub verbose: bool,
 }

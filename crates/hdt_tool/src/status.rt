@@ -1,9 +1,9 @@
 //! The program over files and streams: parses its arguments, runs the command, prints one line to standard error if it
-//! fails, and returns the exit status.
+//! fails, and more lines after it if they are wanted, and returns the exit status.
 //!
 //! | status | case |
 //! |---|---|
-//! | 0 | success, or help was printed |
+//! | 0 | success, or help or an explanation was printed |
 //! | 1 | the input is not valid, a look-up found nothing, or an answer is an error |
 //! | 2 | the command line is not valid, or `build` would overwrite its input |
 //! | 3 | reading or writing failed |
@@ -20,6 +20,7 @@ ghost use Rattle.hdt_tool.specs.Status.{Ends, IsBuild, IsCommandStatus, IsRefusa
 
 use crate::command_line::parse_invocation;
 use crate::commands::{answer_file, run_with_capacity};
+use crate::error_context::{Subject, print_context, print_term_context};
 use crate::error_lines::{OUT_OF_MEMORY, fault_line, usage_line};
 use crate::fault::{ToolFault, UsageFault, file_fault};
 use crate::files::{known_size, open_input, output_path, would_overwrite};
@@ -67,13 +68,19 @@ fn print_status(rt: &HostRuntime, outcome: io::Result<()>) -> u8
     }
 }
 
-/// The status of a command. Prints the message of an error.
-pub(crate) fn done(rt: &HostRuntime, outcome: Result<(), ToolFault>) -> u8
+/// The status of a command. Prints the message of an error, and the lines that follow it; none if `find --quiet` has no
+/// match.
+pub(crate) fn done(rt: &HostRuntime, subject: Subject<'_>, outcome: Result<(), ToolFault>) -> u8
     ensures { MatchResult outcome (λ _. result ≡ 0) (λ fault. (result ≡ fault_status fault) ⊎ (result ≡ 4)) }
 {
     match outcome {
         Ok(()) => 0,
-        Err(fault) => report_line(rt, fault_line(rt.alloc(), &fault)),
+        Err(ToolFault::NoMatch) => 1,
+        Err(fault) => {
+            let status = report_line(rt, fault_line(rt.alloc(), &fault));
+            print_context(rt, subject, &fault);
+            status
+        }
     }
 }
 
@@ -115,13 +122,13 @@ pub(crate) fn collect_arguments(alloc: Global, given: io::Result<Args>) -> io::R
 /// Parses the arguments of the process. An error of the system is a usage error, unless it is lack of memory.
 fn parse_process_arguments(
     alloc: Global,
-    words: io::Result<Vec<String>>,
+    words: &io::Result<Vec<String>>,
 ) -> Result<Invocation, UsageFault>
-    ensures ok { IfOk result (λ invocation. MatchResult words (λ words. ParsesToInvocation (map string_bytes words.items) invocation) (λ _. ⊥)) }
+    ensures ok { IfOk result (λ invocation. MatchResult words.now (λ words. ParsesToInvocation (map string_bytes words.items) invocation) (λ _. ⊥)) }
     ensures out { IfOk result (λ invocation. HasOut invocation.request) }
-    ensures refused { IfErr result (λ fault. IfOk words (λ words. IsRefused (map string_bytes words.items) fault)) }
-    ensures memory { IfErr words (λ error. error_kind error ≡ ErrorKind.OutOfMemory → result ≡ Err UsageFault.OutOfMemory) }
-    ensures other { IfErr words (λ error. error_kind error ≢ ErrorKind.OutOfMemory → IfErr result (IsUsageText NOT_UTF8_MESSAGE.now)) }
+    ensures refused { IfErr result (λ fault. IfOk words.now (λ words. IsRefused (map string_bytes words.items) fault)) }
+    ensures memory { IfErr words.now (λ error. error_kind error ≡ ErrorKind.OutOfMemory → result ≡ Err UsageFault.OutOfMemory) }
+    ensures other { IfErr words.now (λ error. error_kind error ≢ ErrorKind.OutOfMemory → IfErr result (IsUsageText NOT_UTF8_MESSAGE.now)) }
 {
     match words {
         Ok(words) => parse_arguments(alloc, words.as_slice()),
@@ -133,6 +140,7 @@ fn parse_process_arguments(
 /// Runs a command that writes no file on the result of opening its input, and returns the status.
 fn run_query<R: Read + Drop, W: Write>(
     rt: &HostRuntime,
+    subject: Subject<'_>,
     request: &Request,
     file: io::Result<R>,
     capacity: usize,
@@ -161,22 +169,37 @@ fn run_query<R: Read + Drop, W: Write>(
 {
     let mut input = match file {
         Ok(input) => Counted::new(input),
-        Err(error) => return done(rt, Err(file_fault(&error, ToolFault::Read))),
+        Err(error) => return done(rt, subject, Err(file_fault(&error, ToolFault::Read))),
     };
     let mut made = Vec::new(rt.alloc());
     done(
         rt,
+        subject,
         run_with_capacity(rt.alloc(), request, &mut input, capacity, out, &mut made),
     )
 }
 
+/// Prints the lines that follow the message of an argument that is not a term.
+fn print_usage_context(rt: &HostRuntime, words: &io::Result<Vec<String>>, fault: &UsageFault) {
+    let (Ok(words), UsageFault::InvalidTerm { word, fault }) = (words, fault) else {
+        return;
+    };
+    if let Ok(texts) = borrow_strings(rt.alloc(), words.as_slice()) {
+        print_term_context(rt, texts.as_slice(), *word, *fault);
+    }
+}
+
 /// Prints help to standard output, or a usage error to standard error.
-fn refuse(rt: &HostRuntime, fault: UsageFault) -> u8
+fn refuse(rt: &HostRuntime, words: &io::Result<Vec<String>>, fault: UsageFault) -> u8
     ensures { IsRefusalStatus fault result }
 {
     match fault {
         UsageFault::Help(text) => print_status(rt, rt.println(text.as_str())),
-        fault => report_line(rt, usage_line(rt.alloc(), &fault)),
+        fault => {
+            let status = report_line(rt, usage_line(rt.alloc(), &fault));
+            print_usage_context(rt, words, &fault);
+            status
+        }
     }
 }
 
@@ -191,18 +214,19 @@ fn writes_over_its_input(rt: &HostRuntime, request: &Request, path: &str) -> boo
 }
 
 /// The status of `answer`: 1 if any answer is an error. Prints the message of an error that ended it.
-fn answers_status(rt: &HostRuntime, outcome: Result<bool, ToolFault>) -> u8
+fn answers_status(rt: &HostRuntime, subject: Subject<'_>, outcome: Result<bool, ToolFault>) -> u8
     ensures { MatchResult outcome (λ faulty. result ≡ (if faulty then 1 else 0)) (λ fault. (result ≡ fault_status fault) ⊎ (result ≡ 4)) }
 {
     match outcome {
         Ok(faulty) => u8::from(faulty),
-        Err(fault) => done(rt, Err(fault)),
+        Err(fault) => done(rt, subject, Err(fault)),
     }
 }
 
 /// Serves requests over the result of opening a file, and returns the status.
 fn run_answer<F: Read + Drop, R: Read, W: Write>(
     rt: &HostRuntime,
+    subject: Subject<'_>,
     options: AnswerOptions,
     file: io::Result<F>,
     capacity: usize,
@@ -229,23 +253,29 @@ fn run_answer<F: Read + Drop, R: Read, W: Write>(
 {
     let mut file = match file {
         Ok(file) => Counted::new(file),
-        Err(why) => return done(rt, Err(file_fault(&why, ToolFault::Read))),
+        Err(why) => return done(rt, subject, Err(file_fault(&why, ToolFault::Read))),
     };
     answers_status(
         rt,
+        subject,
         answer_file(rt.alloc(), options, &mut file, capacity, input, out),
     )
 }
 
 /// Serves the requests of standard input on standard output, and returns the status.
-fn run_answer_on_streams(rt: &HostRuntime, path: &str, options: AnswerOptions) -> u8
+fn run_answer_on_streams(
+    rt: &HostRuntime,
+    subject: Subject<'_>,
+    path: &str,
+    options: AnswerOptions,
+) -> u8
     ensures { IsCommandStatus result }
 {
     let file = open_input(rt, path, false);
     let capacity = known_size(&file);
     let mut input = Counted::new(rt.stdin());
     let mut out = Counted::new(io::writer(rt));
-    run_answer(rt, options, file, capacity, &mut input, &mut out)
+    run_answer(rt, subject, options, file, capacity, &mut input, &mut out)
 }
 
 /// Runs the request of these arguments, and returns the exit status: 0 success, 1 the input is not valid, 2 a usage
@@ -256,25 +286,29 @@ pub fn status_of(rt: &HostRuntime, words: io::Result<Vec<String>>) -> u8
     ensures memory { IfErr words (λ error. error_kind error ≡ ErrorKind.OutOfMemory → result ≡ 4) }
     ensures other { IfErr words (λ error. error_kind error ≢ ErrorKind.OutOfMemory → (result ≡ 2) ⊎ (result ≡ 4)) }
 {
-    let invocation = match parse_process_arguments(rt.alloc(), words) {
+    let invocation = match parse_process_arguments(rt.alloc(), &words) {
         Ok(invocation) => invocation,
-        Err(fault) => return refuse(rt, fault),
+        Err(fault) => return refuse(rt, &words, fault),
     };
     let request = &invocation.request;
+    let subject = Subject::of(rt, &invocation);
     if let Some(path) = &request.out {
         let path = output_path(path.as_str());
         if writes_over_its_input(rt, request, path) {
             return print_error_line(rt, 2, SAME_FILE_MESSAGE);
         }
-        return done(rt, make_file_at(rt, &invocation, path));
+        return done(rt, subject, make_file_at(rt, &invocation, path));
     }
     match &request.action {
-        Action::Answer(options) => run_answer_on_streams(rt, request.file.as_str(), *options),
+        Action::Answer(options) => {
+            run_answer_on_streams(rt, subject, request.file.as_str(), *options)
+        }
         _ => {
             let file = open_input(rt, request.file.as_str(), invocation.progress);
             let capacity = known_size(&file);
             run_query(
                 rt,
+                subject,
                 request,
                 file,
                 capacity,

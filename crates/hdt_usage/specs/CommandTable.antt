@@ -37,9 +37,13 @@ role_arg names = record (required_arg (codes "ROLE")) { parser = Some (parser.Na
 abbrev pub number_arg : Rule
 number_arg = record (required_arg (codes "N")) { parser = Some (parser.Unsigned 0 18446744073709551615) }
 
--- A command with the argument FILE.
+-- `--verbose`
+abbrev pub verbose_flag : Rule
+verbose_flag = flag_arg (codes "verbose")
+
+-- A command with the argument FILE and `--verbose`.
 abbrev pub file_command : Text → App
-file_command name = with_rule (new_app name) (required_arg (codes "FILE"))
+file_command name = with_rule (with_rule (new_app name) (required_arg (codes "FILE"))) verbose_flag
 
 -- `head FILE`
 abbrev pub head_command : App
@@ -53,9 +57,18 @@ progress_flag = flag_arg (codes "progress")
 abbrev pub verify_command : App
 verify_command = with_rule (with_rule (file_command (codes "verify")) (flag_arg (codes "tight"))) progress_flag
 
--- `strings FILE ROLE`
+-- `info FILE`, with `--json`
+abbrev pub info_command : App
+info_command = with_rule (file_command (codes "info")) (flag_arg (codes "json"))
+
+-- `--prefix STR`: a text; no default.
+abbrev pub prefix_option : Rule
+prefix_option = record (new_rule (codes "prefix")) { long = Some (codes "prefix"); value_names = 1 }
+
+-- `strings FILE ROLE`, with `--prefix` and `--terms`
 abbrev pub strings_command : Names → App
-strings_command names = with_rule (file_command (codes "strings")) (role_arg names)
+strings_command names =
+    with_rule (with_rule (with_rule (file_command (codes "strings")) (role_arg names)) prefix_option) (flag_arg (codes "terms"))
 
 -- `string FILE ROLE N`
 abbrev pub string_command : Names → App
@@ -84,11 +97,11 @@ abbrev pub find_pattern_command : App
 find_pattern_command =
     with_rule (with_rule (with_rule (file_command (codes "find")) (required_arg (codes "S"))) (required_arg (codes "P"))) (required_arg (codes "O"))
 
--- `find FILE S P O`, with `--raw`, `--numbers`, `--count` and `--most`
+-- `find FILE S P O`, with `--raw`, `--numbers`, `--count`, `--quiet` and `--most`
 abbrev pub find_command : App
 find_command =
-    with_rule (with_rule (with_rule (with_rule find_pattern_command (flag_arg (codes "raw"))) (flag_arg (codes "numbers")))
-    (flag_arg (codes "count"))) most_option
+    with_rule (with_rule (with_rule (with_rule (with_rule find_pattern_command (flag_arg (codes "raw"))) (flag_arg (codes "numbers")))
+    (flag_arg (codes "count"))) (flag_arg (codes "quiet"))) most_option
 
 -- `dump FILE`
 abbrev pub dump_command : App
@@ -116,9 +129,9 @@ answer_command =
     with_rule (with_rule (with_rule (with_rule (with_rule (file_command (codes "answer")) (flag_arg (codes "raw"))) (flag_arg (codes "numbers")))
     (flag_arg (codes "count"))) most_option) longest_request_option
 
--- A command that writes a file, with the arguments IN and OUT.
+-- A command that writes a file, with the arguments IN and OUT and `--verbose`.
 abbrev pub in_out_command : Text → App
-in_out_command name = with_rule (with_rule (new_app name) (required_arg (codes "IN"))) (required_arg (codes "OUT"))
+in_out_command name = with_rule (with_rule (with_rule (new_app name) (required_arg (codes "IN"))) (required_arg (codes "OUT"))) verbose_flag
 
 -- `build IN OUT`, with `--base`, `--block-size` and `--progress`
 abbrev pub build_command : App
@@ -128,13 +141,17 @@ build_command = with_rule (with_rule (with_rule (in_out_command (codes "build"))
 abbrev pub rewrite_command : App
 rewrite_command = with_rule (with_rule (in_out_command (codes "rewrite")) block_size_option) progress_flag
 
+-- `explain REASON`
+abbrev pub explain_command : App
+explain_command = with_rule (new_app (codes "explain")) (required_arg (codes "REASON"))
+
 -- The program without commands. It requires a command or `--version`.
 abbrev pub empty_program : App
 empty_program = let app = new_app (codes "hdt") in record app { top = record app.top { subcommand_required = true; has_version = true } }
 
 -- The program with its commands, added in groups.
 abbrev pub file_commands : App
-file_commands = with_subcommand (with_subcommand empty_program head_command.top) verify_command.top
+file_commands = with_subcommand (with_subcommand (with_subcommand empty_program head_command.top) verify_command.top) info_command.top
 
 abbrev pub lookup_commands : Names → App
 lookup_commands names = with_subcommand (with_subcommand (with_subcommand file_commands (strings_command names).top) (string_command names).top) (number_command names).top
@@ -142,5 +159,8 @@ lookup_commands names = with_subcommand (with_subcommand (with_subcommand file_c
 abbrev pub triple_commands : Names → App
 triple_commands names = with_subcommand (with_subcommand (with_subcommand (lookup_commands names) find_command.top) answer_command.top) dump_command.top
 
+abbrev pub writing_commands : Names → App
+writing_commands names = with_subcommand (with_subcommand (with_subcommand (triple_commands names) (count_command names).top) build_command.top) rewrite_command.top
+
 abbrev pub table : Names → App
-table names = with_subcommand (with_subcommand (with_subcommand (triple_commands names) (count_command names).top) build_command.top) rewrite_command.top
+table names = with_subcommand (writing_commands names) explain_command.top

@@ -1,1 +1,4 @@
 pub mod CommandTable
+pub mod Explanations
+pub mod Hints
+pub mod ShownLine

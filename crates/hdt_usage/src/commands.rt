@@ -1,123 +1,45 @@
 //! The commands of `hdt`, as a table for `clap`.
 ghost use Rattle.std.specs.Prelude.{◌≡◌, IfOk, false};
-ghost use Rattle.clap.specs.Words.{app_of, rule_of, with_rule, with_subcommand};
+ghost use Rattle.clap.specs.Words.{app_of, with_subcommand};
 ghost use Rattle.clap.specs.declared.builder.command.Command.TheViews.{out-Command as fields_of};
-ghost use Rattle.hdt_usage.specs.CommandTable.{required_arg, flag_arg, option_arg, role_arg, base_option, block_size_option, build_command, rewrite_command, in_out_command, progress_flag, number_arg, file_command, head_command, verify_command, strings_command, string_command, number_command, count_command, limit_option, answer_command, find_command, find_pattern_command, longest_request_option, most_option, dump_command, empty_program, file_commands, lookup_commands, triple_commands, table};
+ghost use Rattle.hdt_usage.specs.CommandTable.{build_command, rewrite_command, in_out_command, file_command, head_command, verify_command, strings_command, string_command, number_command, count_command, answer_command, find_command, find_pattern_command, dump_command, explain_command, empty_program, file_commands, lookup_commands, triple_commands, writing_commands, table, info_command};
 
-use crate::help::{
-    ABOUT, ANSWER_ABOUT, ANSWER_LONG_ABOUT, BASE, BASE_HELP, BLOCK_SIZE_HELP, BUILD_ABOUT,
-    BUILD_LONG_ABOUT, COUNT_ABOUT, COUNT_HELP, COUNT_LONG_ABOUT, DUMP_ABOUT, DUMP_LONG_ABOUT,
-    FILE_HELP, FIND_ABOUT, FIND_LONG_ABOUT, HEAD_ABOUT, HEAD_LONG_ABOUT, IN_HELP,
-    LONGEST_REQUEST_HELP, MOST_HELP, NUMBER_ABOUT, NUMBER_HELP, NUMBER_LONG_ABOUT, NUMBERS_HELP,
-    OBJECT_HELP, OUT_HELP, PREDICATE_HELP, PROGRESS_HELP, RAW_HELP, RAW_PARTS_HELP,
-    RAW_REQUESTS_HELP, RAW_STRINGS_HELP, REWRITE_ABOUT, REWRITE_LONG_ABOUT, ROLE_HELP, STATUSES,
-    STRING_ABOUT, STRINGS_ABOUT, STRINGS_LONG_ABOUT, SUBJECT_HELP, TERM_HELP, TIGHT_HELP, TOP_HELP,
-    VERIFY_ABOUT, VERIFY_LONG_ABOUT, VERSION,
+use crate::arguments::{
+    with_base, with_block_size, with_flag, with_limit, with_longest_request, with_most,
+    with_number, with_prefix, with_progress, with_required_arg, with_role, with_verbose,
 };
-use clap::{Arg, ArgAction, Command, value_parser};
+use crate::help::{
+    ABOUT, AFTER_HELP, ANSWER_ABOUT, ANSWER_LONG_ABOUT, BUILD_ABOUT, BUILD_LONG_ABOUT, COUNT_ABOUT,
+    COUNT_HELP, COUNT_LONG_ABOUT, DUMP_ABOUT, DUMP_LONG_ABOUT, EXPLAIN_ABOUT, EXPLAIN_LONG_ABOUT,
+    FILE_HELP, FIND_ABOUT, FIND_LONG_ABOUT, HEAD_ABOUT, HEAD_LONG_ABOUT, IN_HELP, INFO_ABOUT,
+    INFO_LONG_ABOUT, JSON_HELP, NUMBER_ABOUT, NUMBER_LONG_ABOUT, NUMBERS_HELP, OBJECT_HELP,
+    OUT_HELP, PREDICATE_HELP, QUIET_HELP, RAW_HELP, RAW_PARTS_HELP, RAW_REQUESTS_HELP,
+    RAW_STRINGS_HELP, REASON_HELP, REWRITE_ABOUT, REWRITE_LONG_ABOUT, SERVED_FILE_HELP,
+    STRING_ABOUT, STRINGS_ABOUT, STRINGS_LONG_ABOUT, SUBJECT_HELP, TERM_HELP, TERMS_HELP,
+    TIGHT_HELP, TOP_HELP, VERIFY_ABOUT, VERIFY_LONG_ABOUT, VERSION,
+};
+use clap::Command;
 use std::alloc::{AllocError, Global};
 
-/// Adds a required argument to the command.
-fn with_required_arg<'a>(
+/// A command with the argument FILE, with this help, and `--verbose`.
+fn new_file_command<'a>(
     alloc: Global,
-    command: Command<'a>,
-    id: &'a str,
-    help: &'a str,
+    name: &'a str,
+    about: &'a str,
+    long_about: &'a str,
+    file_help: &'a str,
 ) -> Result<Command<'a>, AllocError>
-    requires { (fields_of command).has_globals ≡ false }
-    ensures shape { IfOk result (λ c. app_of c ≡ with_rule (app_of command.entry) (required_arg id.entry.now)) }
+    ensures shape { IfOk result (λ c. app_of c ≡ file_command name.entry.now) }
     ensures local { IfOk result (λ c. (fields_of c).has_globals ≡ false) }
 {
-    command.arg(Arg::new(alloc, id).help(help).required(true))
+    let command = Command::new(alloc, name)
+        .about(about)
+        .long_about(long_about);
+    let command = with_required_arg(alloc, command, "FILE", file_help)?;
+    with_verbose(alloc, command)
 }
 
-/// Adds a flag to the command.
-fn with_flag<'a>(
-    alloc: Global,
-    command: Command<'a>,
-    id: &'a str,
-    help: &'a str,
-) -> Result<Command<'a>, AllocError>
-    requires { (fields_of command).has_globals ≡ false }
-    ensures shape { IfOk result (λ c. app_of c ≡ with_rule (app_of command.entry) (flag_arg id.entry.now)) }
-    ensures local { IfOk result (λ c. (fields_of c).has_globals ≡ false) }
-{
-    command.arg(
-        Arg::new(alloc, id)
-            .long(id)
-            .help(help)
-            .action(ArgAction::SetTrue),
-    )
-}
-
-/// Adds the argument ROLE, one of these names, to the command.
-fn with_role<'a>(
-    alloc: Global,
-    command: Command<'a>,
-    roles: &'a [&'a str],
-) -> Result<Command<'a>, AllocError>
-    requires { (fields_of command).has_globals ≡ false }
-    ensures shape { IfOk result (λ c. app_of c ≡ with_rule (app_of command.entry) (role_arg roles.entry)) }
-    ensures local { IfOk result (λ c. (fields_of c).has_globals ≡ false) }
-{
-    let role = Arg::new(alloc, "ROLE")
-        .help(ROLE_HELP)
-        .required(true)
-        .value_parser(roles);
-    command.arg(role)
-}
-
-/// Adds the argument N, a number below 2^64, to the command.
-fn with_number<'a>(alloc: Global, command: Command<'a>) -> Result<Command<'a>, AllocError>
-    requires { (fields_of command).has_globals ≡ false }
-    ensures shape { IfOk result (λ c. app_of c ≡ with_rule (app_of command.entry) number_arg) }
-    ensures local { IfOk result (λ c. (fields_of c).has_globals ≡ false) }
-{
-    let number = Arg::new(alloc, "N")
-        .help(NUMBER_HELP)
-        .required(true)
-        .value_parser(value_parser!(u64));
-    command.arg(number)
-}
-
-/// An option with the name of its value and a default.
-fn new_option<'a>(
-    alloc: Global,
-    id: &'a str,
-    called: &'a str,
-    value: &'a str,
-    help: &'a str,
-) -> Arg<'a>
-    ensures rule { rule_of result ≡ option_arg id.entry.now value.entry.now }
-    ensures optional { result.global ≡ false }
-{
-    Arg::new(alloc, id)
-        .long(id)
-        .value_name(called)
-        .default_value(value)
-        .help(help)
-}
-
-/// Adds `--base` to the command.
-fn with_base<'a>(alloc: Global, command: Command<'a>) -> Result<Command<'a>, AllocError>
-    requires { (fields_of command).has_globals ≡ false }
-    ensures shape { IfOk result (λ c. app_of c ≡ with_rule (app_of command.entry) base_option) }
-    ensures local { IfOk result (λ c. (fields_of c).has_globals ≡ false) }
-{
-    command.arg(new_option(alloc, "base", "IRI", BASE, BASE_HELP))
-}
-
-/// Adds `--block-size` to the command.
-fn with_block_size<'a>(alloc: Global, command: Command<'a>) -> Result<Command<'a>, AllocError>
-    requires { (fields_of command).has_globals ≡ false }
-    ensures shape { IfOk result (λ c. app_of c ≡ with_rule (app_of command.entry) block_size_option) }
-    ensures local { IfOk result (λ c. (fields_of c).has_globals ≡ false) }
-{
-    let option = new_option(alloc, "block-size", "N", "16", BLOCK_SIZE_HELP);
-    command.arg(option.value_parser(value_parser!(u32)))
-}
-
-/// A command with the argument FILE.
+/// A command with the argument FILE and `--verbose`.
 fn file_command<'a>(
     alloc: Global,
     name: &'a str,
@@ -127,10 +49,7 @@ fn file_command<'a>(
     ensures shape { IfOk result (λ c. app_of c ≡ file_command name.entry.now) }
     ensures local { IfOk result (λ c. (fields_of c).has_globals ≡ false) }
 {
-    let command = Command::new(alloc, name)
-        .about(about)
-        .long_about(long_about);
-    with_required_arg(alloc, command, "FILE", FILE_HELP)
+    new_file_command(alloc, name, about, long_about, FILE_HELP)
 }
 
 /// `head FILE`.
@@ -139,15 +58,6 @@ fn new_head_command<'a>(alloc: Global) -> Result<Command<'a>, AllocError>
     ensures local { IfOk result (λ c. (fields_of c).has_globals ≡ false) }
 {
     file_command(alloc, "head", HEAD_ABOUT, HEAD_LONG_ABOUT)
-}
-
-/// Adds `--progress` to the command.
-fn with_progress<'a>(alloc: Global, command: Command<'a>) -> Result<Command<'a>, AllocError>
-    requires { (fields_of command).has_globals ≡ false }
-    ensures shape { IfOk result (λ c. app_of c ≡ with_rule (app_of command.entry) progress_flag) }
-    ensures local { IfOk result (λ c. (fields_of c).has_globals ≡ false) }
-{
-    with_flag(alloc, command, "progress", PROGRESS_HELP)
 }
 
 /// `verify FILE`, with `--tight` and `--progress`.
@@ -160,13 +70,24 @@ fn new_verify_command<'a>(alloc: Global) -> Result<Command<'a>, AllocError>
     with_progress(alloc, command)
 }
 
-/// `strings FILE ROLE`.
+/// `info FILE`, with `--json`.
+fn new_info_command<'a>(alloc: Global) -> Result<Command<'a>, AllocError>
+    ensures shape { IfOk result (λ c. app_of c ≡ info_command) }
+    ensures local { IfOk result (λ c. (fields_of c).has_globals ≡ false) }
+{
+    let command = file_command(alloc, "info", INFO_ABOUT, INFO_LONG_ABOUT)?;
+    with_flag(alloc, command, "json", JSON_HELP)
+}
+
+/// `strings FILE ROLE`, with `--prefix` and `--terms`.
 fn new_strings_command<'a>(alloc: Global, roles: &'a [&'a str]) -> Result<Command<'a>, AllocError>
     ensures shape { IfOk result (λ c. app_of c ≡ strings_command roles.entry) }
     ensures local { IfOk result (λ c. (fields_of c).has_globals ≡ false) }
 {
     let command = file_command(alloc, "strings", STRINGS_ABOUT, STRINGS_LONG_ABOUT)?;
-    with_role(alloc, command, roles)
+    let command = with_role(alloc, command, roles)?;
+    let command = with_prefix(alloc, command)?;
+    with_flag(alloc, command, "terms", TERMS_HELP)
 }
 
 /// `string FILE ROLE N`.
@@ -190,30 +111,6 @@ fn new_number_command<'a>(alloc: Global, roles: &'a [&'a str]) -> Result<Command
     with_flag(alloc, command, "raw", RAW_HELP)
 }
 
-/// Adds an option whose value is a number below 2^64, without a default, to the command.
-fn with_limit<'a>(
-    alloc: Global,
-    command: Command<'a>,
-    id: &'a str,
-    help: &'a str,
-) -> Result<Command<'a>, AllocError>
-    requires { (fields_of command).has_globals ≡ false }
-    ensures shape { IfOk result (λ c. app_of c ≡ with_rule (app_of command.entry) (limit_option id.entry.now)) }
-    ensures local { IfOk result (λ c. (fields_of c).has_globals ≡ false) }
-{
-    let option = Arg::new(alloc, id).long(id).value_name("N").help(help);
-    command.arg(option.value_parser(value_parser!(u64)))
-}
-
-/// Adds `--most` to the command.
-fn with_most<'a>(alloc: Global, command: Command<'a>) -> Result<Command<'a>, AllocError>
-    requires { (fields_of command).has_globals ≡ false }
-    ensures shape { IfOk result (λ c. app_of c ≡ with_rule (app_of command.entry) most_option) }
-    ensures local { IfOk result (λ c. (fields_of c).has_globals ≡ false) }
-{
-    with_limit(alloc, command, "most", MOST_HELP)
-}
-
 /// `count FILE ROLE`, with `--top` and `--raw`.
 fn new_count_command<'a>(alloc: Global, roles: &'a [&'a str]) -> Result<Command<'a>, AllocError>
     ensures shape { IfOk result (λ c. app_of c ≡ count_command roles.entry) }
@@ -223,22 +120,6 @@ fn new_count_command<'a>(alloc: Global, roles: &'a [&'a str]) -> Result<Command<
     let command = with_role(alloc, command, roles)?;
     let command = with_limit(alloc, command, "top", TOP_HELP)?;
     with_flag(alloc, command, "raw", RAW_STRINGS_HELP)
-}
-
-/// Adds `--longest-request` to the command.
-fn with_longest_request<'a>(alloc: Global, command: Command<'a>) -> Result<Command<'a>, AllocError>
-    requires { (fields_of command).has_globals ≡ false }
-    ensures shape { IfOk result (λ c. app_of c ≡ with_rule (app_of command.entry) longest_request_option) }
-    ensures local { IfOk result (λ c. (fields_of c).has_globals ≡ false) }
-{
-    let option = new_option(
-        alloc,
-        "longest-request",
-        "N",
-        "1048576",
-        LONGEST_REQUEST_HELP,
-    );
-    command.arg(option.value_parser(value_parser!(u32)))
 }
 
 /// `find FILE S P O`.
@@ -252,7 +133,7 @@ fn find_pattern_command<'a>(alloc: Global) -> Result<Command<'a>, AllocError>
     with_required_arg(alloc, command, "O", OBJECT_HELP)
 }
 
-/// `find FILE S P O`, with `--raw`, `--numbers`, `--count` and `--most`.
+/// `find FILE S P O`, with `--raw`, `--numbers`, `--count`, `--quiet` and `--most`.
 fn new_find_command<'a>(alloc: Global) -> Result<Command<'a>, AllocError>
     ensures shape { IfOk result (λ c. app_of c ≡ find_command) }
     ensures local { IfOk result (λ c. (fields_of c).has_globals ≡ false) }
@@ -261,6 +142,7 @@ fn new_find_command<'a>(alloc: Global) -> Result<Command<'a>, AllocError>
     let command = with_flag(alloc, command, "raw", RAW_PARTS_HELP)?;
     let command = with_flag(alloc, command, "numbers", NUMBERS_HELP)?;
     let command = with_flag(alloc, command, "count", COUNT_HELP)?;
+    let command = with_flag(alloc, command, "quiet", QUIET_HELP)?;
     with_most(alloc, command)
 }
 
@@ -272,7 +154,7 @@ fn new_dump_command<'a>(alloc: Global) -> Result<Command<'a>, AllocError>
     file_command(alloc, "dump", DUMP_ABOUT, DUMP_LONG_ABOUT)
 }
 
-/// A command that writes a file, with the arguments IN and OUT.
+/// A command that writes a file, with the arguments IN and OUT and `--verbose`.
 fn in_out_command<'a>(
     alloc: Global,
     name: &'a str,
@@ -287,7 +169,8 @@ fn in_out_command<'a>(
         .about(about)
         .long_about(long_about);
     let command = with_required_arg(alloc, command, "IN", in_help)?;
-    with_required_arg(alloc, command, "OUT", OUT_HELP)
+    let command = with_required_arg(alloc, command, "OUT", OUT_HELP)?;
+    with_verbose(alloc, command)
 }
 
 /// `build IN OUT`, with `--base`, `--block-size` and `--progress`.
@@ -322,12 +205,29 @@ fn new_answer_command<'a>(alloc: Global) -> Result<Command<'a>, AllocError>
     ensures shape { IfOk result (λ c. app_of c ≡ answer_command) }
     ensures local { IfOk result (λ c. (fields_of c).has_globals ≡ false) }
 {
-    let command = file_command(alloc, "answer", ANSWER_ABOUT, ANSWER_LONG_ABOUT)?;
+    let command = new_file_command(
+        alloc,
+        "answer",
+        ANSWER_ABOUT,
+        ANSWER_LONG_ABOUT,
+        SERVED_FILE_HELP,
+    )?;
     let command = with_flag(alloc, command, "raw", RAW_REQUESTS_HELP)?;
     let command = with_flag(alloc, command, "numbers", NUMBERS_HELP)?;
     let command = with_flag(alloc, command, "count", COUNT_HELP)?;
     let command = with_most(alloc, command)?;
     with_longest_request(alloc, command)
+}
+
+/// `explain REASON`.
+fn new_explain_command<'a>(alloc: Global) -> Result<Command<'a>, AllocError>
+    ensures shape { IfOk result (λ c. app_of c ≡ explain_command) }
+    ensures local { IfOk result (λ c. (fields_of c).has_globals ≡ false) }
+{
+    let command = Command::new(alloc, "explain")
+        .about(EXPLAIN_ABOUT)
+        .long_about(EXPLAIN_LONG_ABOUT);
+    with_required_arg(alloc, command, "REASON", REASON_HELP)
 }
 
 /// The program without commands.
@@ -337,7 +237,7 @@ fn program<'a>(alloc: Global) -> Result<Command<'a>, AllocError>
     Command::new(alloc, "hdt")
         .about(ABOUT)
         .version(VERSION)
-        .after_help(STATUSES)
+        .after_help(AFTER_HELP)
         .subcommand_required(true)
         .bin_name("hdt")
 }
@@ -350,13 +250,14 @@ fn with_command<'a>(program: Command<'a>, command: Command<'a>) -> Result<Comman
     program.subcommand(command)
 }
 
-/// The program with `head` and `verify`. (Adding all commands in one function would take minutes to prove.)
+/// The program with `head`, `verify` and `info`. (Adding all commands in one function would take minutes to prove.)
 fn file_commands<'a>(alloc: Global) -> Result<Command<'a>, AllocError>
     ensures { IfOk result (λ c. app_of c ≡ file_commands) }
 {
     let program = program(alloc)?;
     let program = with_command(program, new_head_command(alloc)?)?;
-    with_command(program, new_verify_command(alloc)?)
+    let program = with_command(program, new_verify_command(alloc)?)?;
+    with_command(program, new_info_command(alloc)?)
 }
 
 /// The program with these and the dictionary lookups `strings`, `string` and `number`.
@@ -379,6 +280,16 @@ fn triple_commands<'a>(alloc: Global, roles: &'a [&'a str]) -> Result<Command<'a
     with_command(program, new_dump_command(alloc)?)
 }
 
+/// The program with these and `count`, `build` and `rewrite`.
+fn writing_commands<'a>(alloc: Global, roles: &'a [&'a str]) -> Result<Command<'a>, AllocError>
+    ensures { IfOk result (λ c. app_of c ≡ writing_commands roles.entry) }
+{
+    let program = triple_commands(alloc, roles)?;
+    let program = with_command(program, new_count_command(alloc, roles)?)?;
+    let program = with_command(program, new_build_command(alloc)?)?;
+    with_command(program, new_rewrite_command(alloc)?)
+}
+
 /// Returns the command table: all commands with their arguments, options and help. It borrows the names of the roles.
 /// Constant time; some hundred allocations.
 ///
@@ -391,8 +302,6 @@ pub fn make_command_table<'a>(
 ) -> Result<Command<'a>, AllocError>
     ensures { IfOk result (λ c. app_of c ≡ table roles.entry) }
 {
-    let program = triple_commands(alloc, roles)?;
-    let program = with_command(program, new_count_command(alloc, roles)?)?;
-    let program = with_command(program, new_build_command(alloc)?)?;
-    with_command(program, new_rewrite_command(alloc)?)
+    let program = writing_commands(alloc, roles)?;
+    with_command(program, new_explain_command(alloc)?)
 }

@@ -5,55 +5,90 @@ pub(crate) const ABOUT: &str =
 
 pub(crate) const VERSION: &str = "1.0.0";
 
-pub(crate) const STATUSES: &str = "Exit status:
-  0  done
-  1  the input has a fault, whose reason and place are told, or no triples, a look-up has no
-     answer, or a string that N-Triples are to show is no term; or a request of `answer` had
-     a fault
-  2  the command line is wrong, or `build` is to write over its input
-  3  reading or writing failed, also where the reader of a pipe has gone
+pub(crate) const AFTER_HELP: &str =
+    "IN and FILE may be - for standard input, OUT - for standard output. A file named - is ./-.
+
+Exit status:
+  0  success
+  1  invalid input, with the first error and its position on standard error; no triples to build
+     from; no such term or ID; a string that has no form in N-Triples; an invalid request of
+     `answer`
+  2  usage error, or `build` would overwrite its input
+  3  reading or writing failed; a closed pipe is a failed write
   4  out of memory
 
-Past a limit on the size of files (ulimit -f) the system ends the program by the signal SIGXFSZ,
-unless that is ignored: then writing failed.";
+After an error message more lines follow, indented, if standard error is a terminal or with
+--verbose: the path, the place and the system's reason, the line, the error's meaning, and hints.
+
+Beyond a limit on file size (ulimit -f) the system ends the program by the signal SIGXFSZ.
+If that signal is ignored, writing fails.";
 
 pub(crate) const HEAD_ABOUT: &str = "Print a file's head: formats, properties and header";
 
 pub(crate) const HEAD_LONG_ABOUT: &str = "Print the head of an HDT file.
 
-Five lines tell the format and the properties of the file, those of its header, and the
-header's length in bytes. Then the header follows as it is: N-Triples about the graph.
-What stands behind the header in the file is not looked at, so a file that is cut off there
-still shows its head.";
+Five lines have the format and the properties of the file, those of its header, and the length
+of the header in bytes. The header itself follows: N-Triples about the graph. Nothing after the
+header is read, so this also works for a file that is cut off there.";
 
 pub(crate) const VERIFY_ABOUT: &str = "Verify a file, and count its triples and strings";
 
 pub(crate) const VERIFY_LONG_ABOUT: &str = "Verify a file.
 
-A file that is accepted is told by `ok` and five counts: the triples, and the strings of the
-sections shared, subjects, predicates and objects. Else the first fault is told, with its place
-in bytes from the start of the file. With --tight a file is also refused whose dictionary has a
-string that no triple uses in its place, as one that `rewrite` would leave out.";
+For a valid file, print `ok` and five counts: the triples, then the strings of the sections
+shared, subjects, predicates and objects. Otherwise report the first error and its byte offset.
+With --tight, also reject a file whose dictionary has a string that no triple uses in the role
+of its section. `rewrite` leaves such strings out.";
 
-pub(crate) const TIGHT_HELP: &str = "Refuse strings that no triple uses";
+pub(crate) const TIGHT_HELP: &str = "Also reject strings that no triple uses";
 
-pub(crate) const PROGRESS_HELP: &str = "Tell on standard error how many bytes were read";
+pub(crate) const PROGRESS_HELP: &str = "Report the bytes read on standard error";
 
-pub(crate) const STRINGS_ABOUT: &str = "Print all strings of a role with their numbers";
+pub(crate) const INFO_ABOUT: &str = "Print the sizes of the parts of a file";
 
-pub(crate) const STRINGS_LONG_ABOUT: &str = "Print all strings of a role with their numbers.
+pub(crate) const INFO_LONG_ABOUT: &str = "Print the sizes of the parts of a file.
 
-One line a string: the number, a tab, the string. Numbers go from 1. In a string \\, a line
-feed and a carriage return are printed as \\\\, \\n and \\r.";
+One line per value: its name, a tab, the value. With --json, one object with the same names.
 
-pub(crate) const STRING_ABOUT: &str = "Print the string of a role that has a number";
+`bytes` and `header-bytes` are the sizes of the file and of its header; `triples`, `shared`,
+`subjects`, `predicates` and `objects` are the numbers of triples and of the strings of each
+section. For each section, `-bytes` is its size, `-block-size` the number of strings per block,
+`-mean-length` the mean length of a string in bytes, and `-offset-bits` the bits per block offset.
+`bitmap-y-bits`, `bitmap-z-bits`, `array-y-bits` and `array-z-bits` are the bits per entry of the
+sequences that encode the triples.
 
-pub(crate) const NUMBER_ABOUT: &str = "Print the number of a term in a role";
+`tight` is yes if triples use all strings, as `verify --tight` requires. `canonical` is yes if
+`rewrite` with the block size of the predicates would write the same bytes. With --json both are
+true or false.
 
-pub(crate) const NUMBER_LONG_ABOUT: &str = "Print the number of a term in a role.
+If the file is not valid, report the first error, as `verify` does.";
 
-TERM is an N-Triples term, as <http://example.org/a>, _:b or '\"text\"@en'. With --raw it is
-the dictionary string itself: an IRI without its brackets, for one.";
+pub(crate) const JSON_HELP: &str = "Print one JSON object";
+
+pub(crate) const STRINGS_ABOUT: &str = "Print all strings of a role with their IDs";
+
+pub(crate) const STRINGS_LONG_ABOUT: &str = "Print all strings of a role with their IDs.
+
+One line per string: the ID, a tab, the string. IDs count from 1. In a string \\, a line feed
+and a carriage return are printed as \\\\, \\n and \\r.
+
+With --prefix STR only the strings that begin with STR are printed. A search finds them. STR is
+the start of a dictionary string: of an IRI without brackets, or of a literal with its first
+quotation mark. With --terms each line is the N-Triples term of a string and nothing else, ready
+for `find`. If a string has no form in N-Triples, nothing is printed and the exit status is 1.";
+
+pub(crate) const PREFIX_HELP: &str = "Print the strings that begin with STR only";
+
+pub(crate) const TERMS_HELP: &str = "Print N-Triples terms, without IDs";
+
+pub(crate) const STRING_ABOUT: &str = "Print the string of a role that has an ID";
+
+pub(crate) const NUMBER_ABOUT: &str = "Print the ID of a term in a role";
+
+pub(crate) const NUMBER_LONG_ABOUT: &str = "Print the ID of a term in a role.
+
+TERM is an N-Triples term: <http://example.org/a>, _:b or '\"text\"@en'. With --raw it is a
+dictionary string: an IRI without brackets, a literal without escapes.";
 
 pub(crate) const COUNT_ABOUT: &str = "Count the triples of each term of a role";
 
@@ -69,36 +104,41 @@ pub(crate) const FIND_ABOUT: &str = "Print the triples that have the given terms
 
 pub(crate) const FIND_LONG_ABOUT: &str = "Print the triples that have the given terms.
 
-S, P and O are the subject, the predicate and the object: each an N-Triples term, as
-<http://example.org/a>, _:b or '\"text\"@en', or ? for any. One line a triple, in N-Triples, in
-the order of the file. A term that the file does not have in that place finds nothing. With
---raw, S, P and O are the dictionary strings themselves: an IRI without its brackets, for one.
-With --numbers a line has the numbers of subject, predicate and object, from 1; this also
-shows triples with strings that are no terms, of which N-Triples has no line. With --count one
-line tells how many triples there are, and --numbers makes no difference. With --most N the first
-N triples alone are printed or counted.";
+S, P and O are subject, predicate and object: each an N-Triples term, as
+<http://example.org/a>, _:b or '\"text\"@en', or ? for any. The matching triples are printed as
+N-Triples, one per line, in the order of the file. A term that the file does not have in that
+role matches nothing. With --raw S, P and O are dictionary strings: an IRI without brackets, a
+literal without escapes.
 
-pub(crate) const ANSWER_ABOUT: &str = "Answer requests for triples from the standard input";
+With --numbers a line has the IDs of subject, predicate and object. This also shows triples with
+strings that have no form in N-Triples. With --count only the number of matching triples is
+printed, and --numbers has no effect. With --most N only the first N matching triples are
+printed or counted.
 
-pub(crate) const ANSWER_LONG_ABOUT: &str = "Answer requests for triples.
+With --quiet nothing is printed. The exit status is 0 if a triple matches and 1 if none does. The
+search stops at the first match, so --numbers, --count and --most have no effect.";
 
-FILE is opened once. Then each line of the standard input is a request: subject, predicate and
-object, each an N-Triples term or ? for any, and a full stop or none. Its answer is what `find`
-prints of these, and an empty line, and is written before more is read. Blank lines and comments
-get no answer. A line of more bytes than --longest-request says, whatever it is, is a request with
-a fault, TooLong; it is passed over, and takes no memory.
+pub(crate) const ANSWER_ABOUT: &str = "Answer requests for triples from standard input";
 
-With --raw a request is three dictionary strings with one tab between them, or ? for any; in a
-string \\\\, \\n, \\r and \\t stand for a backslash, a line feed, a carriage return and a tab.
-FILE can't be the standard input, which has the requests.
+pub(crate) const ANSWER_LONG_ABOUT: &str = "Answer requests for triples from standard input.
 
-A request with a fault is answered by one comment, `# line L column C: N NAME`, and an empty
-line; a string that is no term by `# ROLE NUMBER is not a term`. It goes on behind them, and the
-status at the end is 1.";
+FILE is opened once. Then each line of standard input is a request: subject, predicate and
+object, each an N-Triples term or ? for any, with or without a full stop. Its answer is what
+`find` prints for them, and an empty line. It is written before more input is awaited. Blank
+lines and comments get no answer. A line of more bytes than --longest-request is an invalid
+request, TooLong. It is skipped and takes no memory.
 
-pub(crate) const RAW_REQUESTS_HELP: &str = "Take the words of a request as dictionary strings";
+With --raw a request is three dictionary strings, or ? for any, separated by tabs; in a string
+\\\\, \\n, \\r and \\t are a backslash, a line feed, a carriage return and a tab. FILE cannot be
+standard input, which has the requests.
 
-pub(crate) const LONGEST_REQUEST_HELP: &str = "How many bytes a line of the requests has at most";
+The answer to an invalid request is a comment, `# line L column C: N NAME`, and an empty line.
+If a string has no form in N-Triples, the answer is `# ROLE ID is not a term`. Later requests
+are answered, and the exit status at the end is 1.";
+
+pub(crate) const RAW_REQUESTS_HELP: &str = "Take the terms of requests as dictionary strings";
+
+pub(crate) const LONGEST_REQUEST_HELP: &str = "Reject request lines of more than N bytes";
 
 pub(crate) const DUMP_ABOUT: &str = "Print all triples";
 
@@ -109,54 +149,69 @@ pub(crate) const BUILD_ABOUT: &str = "Build a file from N-Triples";
 
 pub(crate) const BUILD_LONG_ABOUT: &str = "Build an HDT file from N-Triples.
 
-The order of the lines, repeats and comments make no difference: one graph gives one file, byte
-for byte. It is told by `built` and six counts: the triples, the strings of the sections shared,
-subjects, predicates and objects, and the bytes of the file. IN may be /dev/stdin, but not OUT.
+The order of the lines, duplicates and comments make no difference: equal graphs give equal
+files, byte for byte. On success, print `built` and six counts: the triples, the strings of the
+sections shared, subjects, predicates and objects, and the bytes of the file.
 
-OUT is replaced whole: a new file is written beside it, which nobody else can open, and handed to
-the disk before it takes OUT's permissions and name. Until then OUT is what it was, also where
-writing fails or the program is killed; then hdt-unfinished- and 16 digits may be left, to be
-removed. Where OUT is no regular file, it is opened and written.
+OUT must not be IN. OUT is replaced atomically: a temporary file in the same directory, which
+only its owner can open, is written and synced, gets OUT's permissions and is renamed. On failure
+OUT is unchanged. A killed program may leave hdt-unfinished- and 16 digits: remove it. If OUT is
+not a regular file, it is opened and written.
 
-OUT may be /dev/stdout. Where it is the file or pipe that standard output goes to, the HDT file
-alone is printed there, behind what stands there, and its line on standard error, or nowhere
-where that goes there too.";
+If OUT is - or the file or pipe of standard output, the file goes there, after what is already
+written there, and the line of counts to standard error. If that goes there too, the line is not
+printed.";
 
 pub(crate) const REWRITE_ABOUT: &str = "Write a file again in canonical form";
 
 pub(crate) const REWRITE_LONG_ABOUT: &str =
     "Write an HDT file again, as the canonical file of its triples.
 
-The header stays as it is, byte for byte. Strings that no triple uses are left out, and so the
-numbers of strings and the order of triples may change; the triples are the same. A file that
-`build` has built is its own canonical file, if the block size is the same. It is told by
-`rewritten` and six counts: the triples, the strings of the sections shared, subjects,
-predicates and objects, and the bytes of the file. IN may be OUT.
+The header stays the same, byte for byte. Strings that no triple uses are left out, so the IDs of
+strings and the order of triples may change; the triples are the same. A file from `build` is its
+own canonical file at the same block size. On success, print `rewritten` and six counts: the
+triples, the strings of the sections shared, subjects, predicates and objects, and the bytes of
+the file.
 
-OUT is replaced whole: a new file is written beside it, which nobody else can open, and handed to
-the disk before it takes OUT's permissions and name. Until then OUT is what it was, also where
-writing fails or the program is killed; then hdt-unfinished- and 16 digits may be left, to be
-removed. Where OUT is no regular file, it is opened and written.
+IN may be OUT. OUT is replaced atomically: a temporary file in the same directory, which only its
+owner can open, is written and synced, gets OUT's permissions and is renamed. On failure OUT is
+unchanged. A killed program may leave hdt-unfinished- and 16 digits: remove it. If OUT is not a
+regular file, it is opened and written.
 
-OUT may be /dev/stdout. Where it is the file or pipe that standard output goes to, the HDT file
-alone is printed there, behind what stands there, and its line on standard error, or nowhere
-where that goes there too.";
+If OUT is - or the file or pipe of standard output, the file goes there, after what is already
+written there, and the line of counts to standard error. If that goes there too, the line is not
+printed.";
 
-pub(crate) const IN_HELP: &str = "Path of the N-Triples document to read";
+pub(crate) const EXPLAIN_ABOUT: &str = "Explain an error of a file or a text";
 
-pub(crate) const OUT_HELP: &str = "Path of the HDT file to write";
+pub(crate) const EXPLAIN_LONG_ABOUT: &str =
+    "Explain an error of an HDT file or of an N-Triples text.
+
+Print what the error means, what usually causes it, and what to do. REASON is the number or the
+name in an error message, as 11 or Check32. A number may be that of two errors: one of a file and
+one of a text. docs/ERRORS.md has the same texts, and those of the other messages.";
+
+pub(crate) const REASON_HELP: &str = "The number or the name of the error";
+
+pub(crate) const VERBOSE_HELP: &str = "Print more lines after an error message";
+
+pub(crate) const IN_HELP: &str = "Path of the N-Triples document to read, or - for standard input";
+
+pub(crate) const OUT_HELP: &str = "Path of the HDT file to write, or - for standard output";
 
 pub(crate) const BASE: &str = "http://example.org/dataset";
 
-pub(crate) const BASE_HELP: &str = "The IRI that stands for the file in its header";
+pub(crate) const BASE_HELP: &str = "The IRI that names the graph in the header";
 
-pub(crate) const BLOCK_SIZE_HELP: &str = "How many strings stand in a block, 1 to 65535";
+pub(crate) const BLOCK_SIZE_HELP: &str = "Strings per dictionary block, 1 to 65535";
 
-pub(crate) const FILE_HELP: &str = "Path of the HDT file to read";
+pub(crate) const FILE_HELP: &str = "Path of the HDT file to read, or - for standard input";
 
-pub(crate) const ROLE_HELP: &str = "What the strings are in the triples";
+pub(crate) const SERVED_FILE_HELP: &str = "Path of the HDT file to read";
 
-pub(crate) const NUMBER_HELP: &str = "The number, from 1";
+pub(crate) const ROLE_HELP: &str = "The role of the strings in triples";
+
+pub(crate) const NUMBER_HELP: &str = "The ID, from 1";
 
 pub(crate) const TERM_HELP: &str = "The term, in N-Triples";
 
@@ -174,8 +229,10 @@ pub(crate) const OBJECT_HELP: &str = "The object, in N-Triples, or ? for any";
 
 pub(crate) const RAW_PARTS_HELP: &str = "Take S, P and O as dictionary strings";
 
-pub(crate) const NUMBERS_HELP: &str = "Print the numbers of each triple";
+pub(crate) const NUMBERS_HELP: &str = "Print the IDs of each triple";
 
-pub(crate) const COUNT_HELP: &str = "Print how many there are, and no triples";
+pub(crate) const COUNT_HELP: &str = "Print the number of matching triples only";
 
-pub(crate) const MOST_HELP: &str = "Take the first N triples alone";
+pub(crate) const QUIET_HELP: &str = "Print nothing; exit with 0 if a triple matches, else 1";
+
+pub(crate) const MOST_HELP: &str = "Stop after N triples";

@@ -1,5 +1,5 @@
-//! The command-line interface of `hdt`: its commands with their arguments, options and help, as a table for `clap`.
-//! hdt_tool interprets what `clap` parses.
+//! The command-line interface of `hdt`: its commands with their arguments, options and help, as a table for `clap`; the
+//! explanations of errors; and hints for a wrong input. hdt_tool interprets what `clap` parses.
 //!
 //! Guarantee: the table is exactly the specified one, so `clap` accepts exactly the specified command lines.
 //!
@@ -11,7 +11,16 @@
 //! ```
 #![tactic(auto)]
 
+mod arguments;
 mod commands;
+mod explanations;
+mod file_errors;
 mod help;
+mod hints;
+mod shown_line;
+mod text_errors;
 
 pub use commands::make_command_table;
+pub use explanations::{Explanation, explain, file_explanations, first_named, text_explanations};
+pub use hints::{DOCUMENT_HINTS, FILE_HINTS, Hint, hint_in, term_hint};
+pub use shown_line::{marked_line, put_shown};

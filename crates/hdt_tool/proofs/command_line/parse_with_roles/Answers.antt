@@ -15,8 +15,8 @@ returns-in-Some-clause-ok c =
     let name : Text = c.in-Some.name.now in
     let entered : subcommand_rows_of c.in-Ok.matches ≡ Some (name, rows_of (found_of c.in-Some.entries.now)) = search rules in
     let is = sym (stated c.args.roles (app_of c.in_ok-command.command) words c.in-Ok.matches c.in_ok-command.ensures c.in-Ok.ensures.matches) ∙ entered in
-    wanted c.args.roles c.requires words name (rows_of (found_of c.in-Some.entries.now)) c.invocation_of.result
-    (taken c.args.roles (app_of c.in_ok-command.command) words c.in_ok-command.ensures c.in-Ok.ensures.kinds) is c.invocation_of.ensures.ok c.invocation_of.ensures.progress
+    wanted c.args.roles c.requires words name (rows_of (found_of c.in-Some.entries.now)) c.invocation_or_explanation.result
+    (taken c.args.roles (app_of c.in_ok-command.command) words c.in_ok-command.ensures c.in-Ok.ensures.kinds) is c.invocation_or_explanation.ensures.ok c.invocation_or_explanation.ensures.progress c.invocation_or_explanation.ensures.verbose
 
 pub returns-in-Some-clause-refused : goal.returns-in-Some-clause-refused
 returns-in-Some-clause-refused c =
@@ -24,5 +24,5 @@ returns-in-Some-clause-refused c =
     let name : Text = c.in-Some.name.now in
     let entered : subcommand_rows_of c.in-Ok.matches ≡ Some (name, rows_of (found_of c.in-Some.entries.now)) = search rules in
     let is = sym (stated c.args.roles (app_of c.in_ok-command.command) words c.in-Ok.matches c.in_ok-command.ensures c.in-Ok.ensures.matches) ∙ entered in
-    unwanted c.args.roles c.requires words name (rows_of (found_of c.in-Some.entries.now)) c.invocation_of.result
-    (taken c.args.roles (app_of c.in_ok-command.command) words c.in_ok-command.ensures c.in-Ok.ensures.kinds) is c.invocation_of.ensures.refused
+    unwanted c.args.roles c.requires words name (rows_of (found_of c.in-Some.entries.now)) c.invocation_or_explanation.result
+    (taken c.args.roles (app_of c.in_ok-command.command) words c.in_ok-command.ensures c.in-Ok.ensures.kinds) is c.invocation_or_explanation.ensures.refused

@@ -1,0 +1,301 @@
+//! The lines that follow an error message: which input, where, why, and what to do. What cannot be read is left out.
+
+use crate::command_line::term_given;
+use crate::error_lines::role_name;
+use crate::fault::{TermArgument, ToolFault};
+use crate::files::is_stdin_path;
+use crate::request::Invocation;
+use hdt_terms::{LineFault, TermFault};
+use hdt_usage::{
+    DOCUMENT_HINTS, Explanation, FILE_HINTS, file_explanations, first_named, hint_in, marked_line,
+    put_shown, term_hint, text_explanations,
+};
+use hdt_wire::{Fault, put_decimal};
+use std::alloc::Global;
+use std::env;
+use std::fs::{self, File};
+use std::io::{self, BufRead, BufReader, IsTerminal, Read, Write};
+
+/// What an error message is about.
+#[derive(Clone, Copy)]
+pub(crate) struct Subject<'a> {
+    /// The path of the input.
+    input: &'a str,
+    /// The path of the output, or a name for standard output.
+    output: &'a str,
+    /// Whether more lines are wanted than the message.
+    is_verbose: bool,
+}
+
+impl<'a> Subject<'a> {
+    /// The files of an invocation. More lines are wanted with `--verbose` and on a terminal.
+    pub(crate) fn of(rt: &HostRuntime, invocation: &'a Invocation) -> Subject<'a> {
+        Subject {
+            input: invocation.request.file.as_str(),
+            output: match &invocation.request.out {
+                Some(path) => path.as_str(),
+                None => "standard output",
+            },
+            is_verbose: invocation.verbose || is_terminal(rt),
+        }
+    }
+}
+
+/// Whether standard error is a terminal.
+fn is_terminal(rt: &HostRuntime) -> bool {
+    let errors = rt.stderr();
+    errors.is_terminal()
+}
+
+/// The width of a terminal of which nothing is known, in columns.
+const USUAL_WIDTH: usize = 80;
+
+/// A hint needs at most this number of bytes.
+const FRONT: usize = 16;
+
+/// The width of the terminal in columns, if COLUMNS has it.
+fn width(rt: &HostRuntime) -> usize {
+    match env::var(rt, "COLUMNS") {
+        Ok(text) => text.as_str().parse::<usize>().unwrap_or(USUAL_WIDTH),
+        Err(_) => USUAL_WIDTH,
+    }
+}
+
+/// Opens a regular file or a folder; `None` for other files, which may not be read again.
+fn reopen(rt: &HostRuntime, path: &str) -> io::Result<Option<File>> {
+    if is_stdin_path(path) {
+        return Ok(None);
+    }
+    let metadata = fs::metadata(rt, path)?;
+    if metadata.is_file() || metadata.is_dir() {
+        return Ok(Some(File::open(rt, path)?));
+    }
+    Ok(None)
+}
+
+/// The first bytes of a regular file, at most [`FRONT`]; none of another file.
+fn front(rt: &HostRuntime, path: &str) -> io::Result<Vec<u8>> {
+    let mut bytes = Vec::new(rt.alloc());
+    if let Some(mut file) = reopen(rt, path)? {
+        let mut buffer = [0; FRONT];
+        let count = file.read(&mut buffer)?;
+        if let Some(read) = buffer.get(..count) {
+            bytes.extend_from_slice(read)?;
+        }
+    }
+    Ok(bytes)
+}
+
+/// The line with a number, from 1, of a regular file, without its line end. Empty if there is none, or if a line before
+/// it ends with a carriage return alone.
+fn line_at(rt: &HostRuntime, path: &str, number: u64) -> io::Result<Vec<u8>> {
+    let mut line = Vec::new(rt.alloc());
+    let Some(file) = reopen(rt, path)? else {
+        return Ok(line);
+    };
+    let mut reader = BufReader::new(rt.alloc(), file)?;
+    'lines: for _ in 0..number {
+        line.clear();
+        if reader.read_until(b'\n', &mut line)? == 0 {
+            return Ok(line);
+        }
+        drop_line_end(&mut line);
+        if line.contains(&b'\r') {
+            line.clear();
+            return Ok(line);
+        }
+    }
+    Ok(line)
+}
+
+/// Removes the line end of a line, if it has one.
+fn drop_line_end(line: &mut Vec<u8>) {
+    if line.last() == Some(&b'\n') {
+        line.pop();
+    }
+    if line.last() == Some(&b'\r') {
+        line.pop();
+    }
+}
+
+/// Appends an indented path.
+fn put_path(path: &str, out: &mut Vec<u8>) -> io::Result<()> {
+    out.extend_from_slice(b"  ")?;
+    Ok(put_shown(path.as_bytes(), out)?)
+}
+
+/// Appends an indented line with a path.
+fn put_path_line(path: &str, out: &mut Vec<u8>) -> io::Result<()> {
+    put_path(path, out)?;
+    Ok(out.push(b'\n')?)
+}
+
+/// Appends the lines of a text, indented; nothing of an empty text.
+fn put_text(text: &str, out: &mut Vec<u8>) -> io::Result<()> {
+    if text.is_empty() {
+        return Ok(());
+    }
+    out.extend_from_slice(b"  ")?;
+    'bytes: for &byte in text.as_bytes() {
+        out.push(byte)?;
+        if byte == b'\n' {
+            out.extend_from_slice(b"  ")?;
+        }
+    }
+    Ok(out.push(b'\n')?)
+}
+
+/// Appends what an error means, and where it is explained.
+fn put_explanation(
+    alloc: Global,
+    name: &str,
+    errors: &[Explanation],
+    out: &mut Vec<u8>,
+) -> io::Result<()> {
+    let Some(error) = first_named(name, errors) else {
+        return Ok(());
+    };
+    let (number, _, meaning, _, _) = *error;
+    put_text(meaning, out)?;
+    let anchor = name.to_ascii_lowercase(alloc)?;
+    let place = format!(in alloc; "hdt explain {name}, or docs/ERRORS.md#{number}-{anchor}")?;
+    put_text(place.as_str(), out)
+}
+
+/// Appends a colon and the system's reason for an error, without its number.
+fn put_reason(alloc: Global, error: &io::Error, out: &mut Vec<u8>) -> io::Result<()> {
+    let text = format!(in alloc; ": {error}")?;
+    let end = text.as_str().find(" (os error").unwrap_or(text.len());
+    if let Some(reason) = text.as_bytes().get(..end) {
+        out.extend_from_slice(reason)?;
+    }
+    Ok(())
+}
+
+/// Appends a path and the system's reason for which it cannot be read, if it still has one.
+fn put_read_error(rt: &HostRuntime, path: &str, out: &mut Vec<u8>) -> io::Result<()> {
+    put_path(path, out)?;
+    if let Err(error) = front(rt, path) {
+        put_reason(rt.alloc(), &error, out)?;
+    }
+    Ok(out.push(b'\n')?)
+}
+
+/// Appends a line with a mark below the byte in a column, from 1; nothing of an empty line.
+fn put_marked_line(
+    rt: &HostRuntime,
+    line: &[u8],
+    column: u64,
+    out: &mut Vec<u8>,
+) -> io::Result<()> {
+    if line.is_empty() {
+        return Ok(());
+    }
+    let before = (column as usize).saturating_sub(1).min(line.len());
+    let marked = marked_line(rt.alloc(), line, before, width(rt).saturating_sub(2))?;
+    Ok(out.extend_from_slice(&marked)?)
+}
+
+/// Appends the place of an error in a document, its line with a mark, the error's meaning, and a hint.
+fn put_line_error(
+    rt: &HostRuntime,
+    path: &str,
+    fault: LineFault,
+    out: &mut Vec<u8>,
+) -> io::Result<()> {
+    put_path(path, out)?;
+    out.push(b':')?;
+    put_decimal(fault.line, out)?;
+    out.push(b':')?;
+    put_decimal(fault.column, out)?;
+    out.push(b'\n')?;
+    let line = line_at(rt, path, fault.line)?;
+    put_marked_line(rt, &line, fault.column, out)?;
+    put_explanation(rt.alloc(), fault.reason.name(), text_explanations(), out)?;
+    let hint = hint_in(&front(rt, path)?, DOCUMENT_HINTS);
+    put_text(
+        if hint.is_empty() {
+            hint_in(&line, DOCUMENT_HINTS)
+        } else {
+            hint
+        },
+        out,
+    )
+}
+
+/// Appends the place of an error in a file, the error's meaning, and a hint.
+fn put_file_error(rt: &HostRuntime, path: &str, fault: Fault, out: &mut Vec<u8>) -> io::Result<()> {
+    put_path(path, out)?;
+    out.extend_from_slice(b": byte ")?;
+    put_decimal(fault.place, out)?;
+    out.push(b'\n')?;
+    put_explanation(rt.alloc(), fault.reason.name(), file_explanations(), out)?;
+    put_text(hint_in(&front(rt, path)?, FILE_HINTS), out)
+}
+
+/// Appends the lines for an error.
+fn put_context(
+    rt: &HostRuntime,
+    subject: Subject<'_>,
+    fault: &ToolFault,
+    out: &mut Vec<u8>,
+) -> io::Result<()> {
+    match fault {
+        ToolFault::Read => put_read_error(rt, subject.input, out),
+        ToolFault::Write(_) => put_path_line(subject.output, out),
+        ToolFault::Input(fault) => put_line_error(rt, subject.input, *fault, out),
+        ToolFault::File(fault) => put_file_error(rt, subject.input, *fault, out),
+        ToolFault::NotATerm(role, number) => {
+            put_path_line(subject.input, out)?;
+            let role = role_name(*role);
+            let text = format!(in rt.alloc(); "hdt string FILE {role} {number} prints the string")?;
+            put_text(text.as_str(), out)
+        }
+        ToolFault::NoTriples | ToolFault::NoSuchTerm | ToolFault::NoSuchNumber => {
+            put_path_line(subject.input, out)
+        }
+        ToolFault::OutOfMemory | ToolFault::BadOptions | ToolFault::NoMatch => Ok(()),
+    }
+}
+
+/// Appends an argument that is not a term, with a mark below its error, the error's meaning, and a hint.
+fn put_term_error(
+    rt: &HostRuntime,
+    term: &[u8],
+    fault: TermFault,
+    out: &mut Vec<u8>,
+) -> io::Result<()> {
+    put_marked_line(rt, term, fault.column, out)?;
+    put_explanation(rt.alloc(), fault.reason.name(), text_explanations(), out)?;
+    put_text(term_hint(term), out)
+}
+
+/// Prints the lines for an argument that is not a term to standard error, if they are wanted.
+pub(crate) fn print_term_context(
+    rt: &HostRuntime,
+    words: &[&str],
+    word: TermArgument,
+    fault: TermFault,
+) {
+    let Ok(Some((term, verbose))) = term_given(rt.alloc(), words, word) else {
+        return;
+    };
+    if !verbose && !is_terminal(rt) {
+        return;
+    }
+    let mut text = Vec::new(rt.alloc());
+    let _ = put_term_error(rt, term.as_bytes(), fault, &mut text);
+    let mut errors = rt.stderr();
+    let _ = errors.write_all(&text);
+}
+
+/// Prints the lines for an error to standard error, if they are wanted.
+pub(crate) fn print_context(rt: &HostRuntime, subject: Subject<'_>, fault: &ToolFault) {
+    if !subject.is_verbose {
+        return;
+    }
+    let mut text = Vec::new(rt.alloc());
+    let _ = put_context(rt, subject, fault, &mut text);
+    let mut errors = rt.stderr();
+    let _ = errors.write_all(&text);
+}

@@ -1,0 +1,107 @@
+//! `hdt explain`: what an error means, what usually causes it, and what to do.
+ghost use Rattle.std.specs.Prelude.{◌≡◌, IfOk, option_map, map, string_bytes};
+ghost use Rattle.hdt_usage.specs.Explanations.{explained_error, is_named, first_named, explanation_text, explanation_in, both_texts, file_explanations, text_explanations, explanation_of};
+
+use crate::file_errors::FILE_ERRORS;
+use crate::text_errors::TEXT_ERRORS;
+use std::alloc::{AllocError, Global};
+
+/// An error that docs/ERRORS.md explains: its number in decimal, its name, what is wrong, what usually causes it, and what
+/// to do. (A struct with texts cannot be named in specs/ if it is a constant.)
+pub type Explanation = (
+    &'static str,
+    &'static str,
+    &'static str,
+    &'static str,
+    &'static str,
+);
+
+/// The errors of an HDT file, as docs/ERRORS.md explains them.
+#[tactic(auto, unfolding(crate::specs::Explanations::file_explanations))]
+pub fn file_explanations() -> &'static [Explanation]
+    ensures { map explained_error result.now ≡ file_explanations }
+{
+    FILE_ERRORS
+}
+
+/// The errors of an N-Triples text, as docs/ERRORS.md explains them.
+#[tactic(auto, unfolding(crate::specs::Explanations::text_explanations))]
+pub fn text_explanations() -> &'static [Explanation]
+    ensures { map explained_error result.now ≡ text_explanations }
+{
+    TEXT_ERRORS
+}
+
+/// Whether a word is the error's number, or its name in letters of any case.
+fn is_named(word: &str, error: &Explanation) -> bool
+    ensures { result ≡ is_named word.now (explained_error error.now) }
+{
+    word == error.0 || word.eq_ignore_ascii_case(error.1)
+}
+
+/// The first error that a word names, by its number or by its name in letters of any case.
+pub fn first_named<'a>(word: &str, errors: &'a [Explanation]) -> Option<&'a Explanation>
+    ensures { option_map (λ error. explained_error error.now) result ≡ first_named word.now (map explained_error errors.now) }
+{
+    'errors: for error in errors {
+        if is_named(word, error) {
+            return Some(error);
+        }
+    }
+    None
+}
+
+/// The explanation of an error, with what has it: a heading, the meaning, the cause and the remedy.
+fn explanation_text(alloc: Global, what: &str, error: &Explanation) -> Result<String, AllocError>
+    ensures { IfOk result (λ text. string_bytes text ≡ explanation_text what.now (explained_error error.now)) }
+{
+    let (number, name, meaning, cause, remedy) = *error;
+    format!(in alloc;
+        "Error {number} of {what}: {name}\n\n{meaning}\n\nCause: {cause}\n\nRemedy: {remedy}"
+    )
+}
+
+/// The explanation of the first error that a word names.
+fn explanation_in(
+    alloc: Global,
+    word: &str,
+    what: &str,
+    errors: &[Explanation],
+) -> Result<Option<String>, AllocError>
+    ensures { IfOk result (λ found. option_map string_bytes found ≡ explanation_in what.now word.now (map explained_error errors.now)) }
+{
+    match first_named(word, errors) {
+        Some(error) => Ok(Some(explanation_text(alloc, what, error)?)),
+        None => Ok(None),
+    }
+}
+
+/// Two explanations with an empty line between them, or one, or none.
+fn both_texts(
+    alloc: Global,
+    file: Option<String>,
+    text: Option<String>,
+) -> Result<Option<String>, AllocError>
+    ensures { IfOk result (λ found. option_map string_bytes found ≡ both_texts (option_map string_bytes file) (option_map string_bytes text)) }
+{
+    match (file, text) {
+        (Some(file), Some(text)) => Ok(Some(format!(in alloc; "{file}\n\n{text}")?)),
+        (Some(text), None) => Ok(Some(text)),
+        (None, text) => Ok(text),
+    }
+}
+
+/// The explanation of an error of an HDT file, then that of an N-Triples text, which a word names by its number or by
+/// its name in letters of any case; `None` if there is neither. The text has no line feed at its end.
+///
+/// # Errors
+///
+/// `AllocError` only if memory ran out.
+#[tactic(auto, unfolding(crate::specs::Explanations::explanation_of))]
+pub fn explain(alloc: Global, word: &str) -> Result<Option<String>, AllocError>
+    ensures { IfOk result (λ found. option_map string_bytes found ≡ explanation_of word.now) }
+{
+    let file = explanation_in(alloc, word, "an HDT file", file_explanations())?;
+    let text = explanation_in(alloc, word, "an N-Triples text", text_explanations())?;
+    both_texts(alloc, file, text)
+}
