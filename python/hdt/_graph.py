@@ -113,7 +113,7 @@ class Graph(OpenHandle):
 
     @property
     def counts(self) -> Counts:
-        """The counts of the file, as `verify` gives them.
+        """The counts of the file, as `verify` gives them. Constant time.
 
         >>> with hdt.open("graph.hdt") as graph:
         ...     graph.counts.predicates
@@ -124,7 +124,7 @@ class Graph(OpenHandle):
 
     @property
     def header(self) -> bytes:
-        """The header of the file, as bytes: N-Triples as a rule, which nobody looked at.
+        """The header of the file, as bytes: N-Triples as a rule, but nothing checks it. Linear time.
 
         >>> with hdt.open("graph.hdt") as graph:
         ...     graph.header.splitlines()[-1]
@@ -234,7 +234,7 @@ class Graph(OpenHandle):
         return self._matching(matched(s, p, o))
 
     def matching_ids(self, s: Part = None, p: Part = None, o: Part = None) -> int:
-        """How many triples `find_ids` gives for these parts: IDs, strings, or any. Raises TypeError.
+        """How many triples `find_ids` gives for these parts, in the time of `matching`. Raises TypeError.
 
         >>> with hdt.open("graph.hdt") as graph:
         ...     graph.matching_ids(p=1), graph.matching_ids(1, "u:q"), graph.matching_ids(9)
@@ -321,7 +321,7 @@ class Graph(OpenHandle):
     def page_ids(
         self, s: Part = None, p: Part = None, o: Part = None, *, start: int = 0, limit: int = 100
     ) -> tuple[list[IdTriple], Optional[int]]:
-        """A page of the triples of `find_ids`, as `page`. Errors: those of `find`.
+        """A page of the triples of `find_ids`, as `page`, and in its time. Errors: those of `find`.
 
         >>> with hdt.open("graph.hdt") as graph:
         ...     graph.page_ids(limit=2), graph.page_ids(limit=2, start=2)
@@ -385,7 +385,7 @@ class Graph(OpenHandle):
     def write_text(self, file: IO[Any], s: Given = None, p: Given = None, o: Given = None) -> None:
         """Write the text of `text` to a file that is open for bytes, as UTF-8, or for text, piece by piece.
 
-        Errors: those of `text_pieces`, and what the file raises.
+        Errors: those of `text_pieces`, and what the file raises. It takes the time and the memory of `text_pieces`.
 
         >>> import io
         >>> written = io.BytesIO()

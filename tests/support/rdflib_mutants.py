@@ -110,7 +110,7 @@ WRONG = [
     Wrong("variables of predicates and nodes", "_plan", "if nodes & predicates:", "if False:"),
     Wrong("bindings of before are lost", "_plan", "found = dict(base)", "found = {}"),
     Wrong("a known triple isn't looked for", "_plan",
-          "            if self.file.has(searches):\n", "            if searches:\n"),
+          "if self.file.has(searches) if table is None", "if searches if table is None"),
     Wrong("the most frequent pattern is first", "_plan", "step.taken = min(", "step.taken = max("),
     Wrong("terms: the most frequent pattern is first", "_plan", "choice.taken = min(", "choice.taken = max("),
     Wrong("a table has the last triple of a key", "_plan",
