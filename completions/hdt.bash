@@ -23,10 +23,10 @@ _hdt() {
     case ${words[1]} in
     head) options="--help" arguments=".hdt" ;;
     verify) options="--tight --progress --help" arguments=".hdt" ;;
-    strings) options="--help" arguments=".hdt subject|predicate|object" ;;
+    strings) options="--prefix --terms --help" arguments=".hdt subject|predicate|object" ;;
     string) options="--help" arguments=".hdt subject|predicate|object |" ;;
     number) options="--raw --help" arguments=".hdt subject|predicate|object |" ;;
-    find) options="--raw --numbers --count --most --help" arguments=".hdt | | |" ;;
+    find) options="--raw --numbers --count --quiet --most --help" arguments=".hdt | | |" ;;
     answer) options="--raw --numbers --count --most --longest-request --help" arguments=".hdt" ;;
     dump) options="--help" arguments=".hdt" ;;
     count) options="--top --raw --help" arguments=".hdt subject|predicate|object" ;;
@@ -37,7 +37,7 @@ _hdt() {
     for i in "${words[@]:2}"; do
         case $skip$i in
         =*) skip="" ;;
-        --most | --longest-request | --top | --base | --block-size) skip="=" ;;
+        --prefix | --most | --longest-request | --top | --base | --block-size) skip="=" ;;
         -?*) ;;
         *) count=$((count + 1)) ;;
         esac

@@ -10,7 +10,7 @@ function __hdt_argument --argument-names command number
         switch "$skip$word"
             case '=*'
                 set skip
-            case --most --longest-request --top --base --block-size
+            case --prefix --most --longest-request --top --base --block-size
                 set skip =
             case '-?*'
             case '*'
@@ -45,6 +45,8 @@ complete -c hdt -n '__hdt_command verify' -l tight -d 'Also reject strings that 
 complete -c hdt -n '__hdt_command verify' -l progress -d 'Report the bytes read on standard error'
 complete -c hdt -n '__hdt_command verify' -l help -s h -d 'Print help'
 complete -c hdt -n '__hdt_argument verify 1' -k -a '(__fish_complete_suffix .hdt)'
+complete -c hdt -n '__hdt_command strings' -l prefix -x -d 'Print the strings that begin with STR only'
+complete -c hdt -n '__hdt_command strings' -l terms -d 'Print N-Triples terms, without IDs'
 complete -c hdt -n '__hdt_command strings' -l help -s h -d 'Print help'
 complete -c hdt -n '__hdt_argument strings 1' -k -a '(__fish_complete_suffix .hdt)'
 complete -c hdt -n '__hdt_argument strings 2' -k -a 'subject predicate object'
@@ -58,6 +60,7 @@ complete -c hdt -n '__hdt_argument number 2' -k -a 'subject predicate object'
 complete -c hdt -n '__hdt_command find' -l raw -d 'Take S, P and O as dictionary strings'
 complete -c hdt -n '__hdt_command find' -l numbers -d 'Print the IDs of each triple'
 complete -c hdt -n '__hdt_command find' -l count -d 'Print the number of matching triples only'
+complete -c hdt -n '__hdt_command find' -l quiet -d 'Print nothing; exit with 0 if a triple matches, else 1'
 complete -c hdt -n '__hdt_command find' -l most -x -d 'Stop after N triples'
 complete -c hdt -n '__hdt_command find' -l help -s h -d 'Print help'
 complete -c hdt -n '__hdt_argument find 1' -k -a '(__fish_complete_suffix .hdt)'

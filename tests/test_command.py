@@ -165,6 +165,8 @@ def reading_commands(path: Word) -> list[list[Word]]:
         ["find", "--count", path, "?", "?", "<u:x>"],
         ["find", "--most", "1", path, "?", "?", "?"],
         ["dump", path],
+        ["info", path],
+        ["info", path, "--json"],
         ["count", path, "object", "--raw"],
         ["count", path, "object", "--raw", "--top", "1"],
     ]
@@ -292,7 +294,7 @@ USAGES: list[tuple[list[Word], bytes]] = [
     (["verify", "--tight"], LACKS + b"<FILE>\n\nUsage: hdt verify --tight <FILE>"),
     (["head", "--tight", "a.hdt"],
      b"unexpected argument '--tight' found\n\n  tip: to pass '--tight' as a value, use '-- --tight'\n\n"
-     b"Usage: hdt head <FILE>"),
+     b"Usage: hdt head [OPTIONS] <FILE>"),
     (["rewrite", "a.hdt"], LACKS + b"<OUT>\n\nUsage: hdt rewrite <IN> <OUT>"),
     (["rewrite", "a.hdt", "b.hdt", "--base", "x"],
      b"unexpected argument '--base' found\n\n  tip: to pass '--base' as a value, use '-- --base'\n\n"
@@ -302,12 +304,12 @@ USAGES: list[tuple[list[Word], bytes]] = [
     (["find", "a.hdt", "?", "?", "?", "--most", "x"],
      b"invalid value 'x' for '--most <N>': invalid digit found in string"),
     (["find", "a.hdt", "x", "y"], LACKS + b"<O>\n\nUsage: hdt find <FILE> <S> <P> <O>"),
-    (["dump", "a.hdt", "x"], b"unexpected argument 'x' found\n\nUsage: hdt dump <FILE>"),
+    (["dump", "a.hdt", "x"], b"unexpected argument 'x' found\n\nUsage: hdt dump [OPTIONS] <FILE>"),
     (["dump", "--numbers", "a.hdt"],
      b"unexpected argument '--numbers' found\n\n  tip: to pass '--numbers' as a value, use '-- --numbers'\n\n"
-     b"Usage: hdt dump <FILE>"),
+     b"Usage: hdt dump [OPTIONS] <FILE>"),
     (["vierge", "a.hdt"], b"unrecognized subcommand 'vierge'\n\nUsage: hdt <COMMAND>"),
-    (["head", "a.hdt", "b.hdt"], b"unexpected argument 'b.hdt' found\n\nUsage: hdt head <FILE>"),
+    (["head", "a.hdt", "b.hdt"], b"unexpected argument 'b.hdt' found\n\nUsage: hdt head [OPTIONS] <FILE>"),
     ([], b"'hdt' requires a subcommand but one was not provided\n  [subcommands: head, verify, strings, string, "
          b"number, find, answer, dump, count, build, rewrite, explain, help]\n\nUsage: hdt <COMMAND>"),
     (["head", b"\xff"], b"an argument is not UTF-8"),
@@ -601,6 +603,8 @@ REQUESTS: list[tuple[str, str]] = [
     ("build --base= --block-size=0 a.hdt b.hdt", f"{A} {B} build 0 "),
     ("rewrite a.hdt b.hdt", f"{A} {B} rewrite 16"),
     ("rewrite --block-size 65535 a.hdt b.hdt", f"{A} {B} rewrite 65535"),
+    ("info a.hdt", f"{A} none info false"),
+    ("info --json a.hdt", f"{A} none info true"),
     ("count a.hdt subject", f"{A} none count 0 none 0"),
     ("count --raw a.hdt object --top=18446744073709551615", f"{A} none count 2 18446744073709551615 1"),
     ("answer a.hdt", f"{A} none answer 0 none 0 1048576"),

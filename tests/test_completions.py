@@ -17,7 +17,7 @@ from support.program import hdt, run
 from support.terminal import Terminal
 from tools import completions
 
-COMMANDS = "head verify strings string number find answer dump count build rewrite explain help".split()
+COMMANDS = "head verify info strings string number find answer dump count build rewrite explain help".split()
 SHELLS = ["bash", "zsh", "fish"]
 # The program that reads each file: a warning is a line on standard error.
 READERS = {
@@ -65,7 +65,7 @@ TYPED = {
 OFFERED: dict[str, list[str]] = {
     "hdt re": ["rewrite"],
     "hdt verify --t": ["--tight"],
-    "hdt find --": ["--count", "--help", "--most", "--numbers", "--raw", "--verbose"],
+    "hdt find --": ["--count", "--help", "--most", "--numbers", "--quiet", "--raw", "--verbose"],
     "hdt string x.hdt o": ["object"],
     "hdt build --b": ["--base", "--block-size"],
     "hdt rewrite --p": ["--progress"],
@@ -75,6 +75,8 @@ OFFERED: dict[str, list[str]] = {
     "hdt find graph.hdt ": [],
     "hdt count graph.hdt ": ["object", "predicate", "subject"],
     "hdt count --t": ["--top"],
+    "hdt info --j": ["--json"],
+    "hdt i": ["info"],
 }
 
 # An interactive zsh that prints what it offers between two marks, and ends then.

@@ -22,7 +22,7 @@ SECTIONS = ["shared", "subjects", "predicates", "objects"]
 
 # The first lines of what `info` prints for the file that `build` makes of three triples, whose counts README.md has.
 THREE_LINES = b"""bytes\t491
-header-bytes\t190
+header-bytes\t184
 triples\t3
 shared\t2
 subjects\t0

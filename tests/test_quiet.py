@@ -71,7 +71,7 @@ def test_errors(tmp_path: Path) -> None:
     (tmp_path / "cut.hdt").write_bytes(data)
     assert hdt("find", "--quiet", tmp_path / "cut.hdt", "?", "?", "?") == fault(*error)
     assert hdt("find", "--quiet", tmp_path / "missing.hdt", "?", "?", "?") == READING_FAILED
-    assert hdt("find", "--quiet", THREE, "<u:a>", "u:p", "?") == failed(2, "P column 1: 4 Syntax")
+    assert hdt("find", "--quiet", THREE, "<u:a>", "u:p", "?") == failed(2, "P column 1: 1 Syntax")
     refused: list[list[Word]] = [
         ["--quiet", THREE, "?", "?"], ["--quiet=yes", THREE, "?", "?", "?"], ["-q", THREE, "?", "?", "?"],
     ]

@@ -91,12 +91,12 @@ def test_files(tmp_path: Path, data: bytes) -> None:
 # The options of `strings`, the role, and what is printed.
 LINES: dict[str, tuple[str, list[Word], bytes]] = {
     "shared strings come first": ("subject", ["--prefix", "http://a/"],
-                                  b"2\thttp://a/2\n3\thttp://a/3\n4\thttp://a/1\n"),
+                                  b"2\thttp://a/2\n3\thttp://a/3\n5\thttp://a/1\n"),
     "terms, without IDs": ("subject", ["--prefix", "http://a/", "--terms"],
                            b"<http://a/2>\n<http://a/3>\n<http://a/1>\n"),
     "predicates": ("predicate", ["--prefix", "http://b"], b"3\thttp://b/p\n"),
-    "a literal begins with its quotation mark": ("object", ["--prefix", '"http'], b'4\t"http://a/"\n'),
-    "a literal with escapes": ("object", ["--prefix", '"a', "--terms"], b'"a\\\\\\n\\r\\t"@en\n'),
+    "a literal begins with its quotation mark": ("object", ["--prefix", '"http'], b'5\t"http://a/"\n'),
+    "a literal with escapes": ("object", ["--prefix", '"a', "--terms"], b'"a\\\\\\n\\r\t"@en\n'),
     "blank nodes": ("subject", ["--prefix", "_:", "--terms"], b"_:b1\n_:b2\n"),
     "a character of two bytes": ("object", ["--prefix", "u:\u00ea"], "7\tu:\u00ea\n".encode()),
     "no string": ("object", ["--prefix", "http://c"], b""),

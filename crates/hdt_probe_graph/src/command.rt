@@ -108,6 +108,10 @@ fn reply_search(action: &Action, reply: &mut Reply) {
             reply.word("exists");
             reply_given(given, reply)
         }
+        Action::Info { json } => {
+            reply.word("info");
+            reply.boolean(*json)
+        }
         Action::Count { role, top, raw } => {
             reply.word("count");
             reply.number(role_number(*role));

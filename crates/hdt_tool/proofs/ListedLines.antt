@@ -1,5 +1,5 @@
 -- The lines of the strings that begin with a prefix, one after another.
-use Rattle.std.proofs.Common.{◌≡◌, ◌⊎◌, ◌+◌, ◌-◌, ◌<◌, ◌≤◌, ℕ, zero, suc, Bool, true, false, List, [], ◌∷◌, ◌++◌, Option, None, Some, refl, sym, ap, subst, ◌∙◌, inl, inr, arith, length, take, drop, get_or, append_assoc, append-nil}
+use Rattle.std.proofs.Common.{◌≡◌, ◌⊎◌, ◌+◌, ◌-◌, ◌<◌, ◌≤◌, ℕ, zero, suc, Bool, true, List, [], ◌∷◌, ◌++◌, Option, None, Some, refl, sym, ap, subst, ◌∙◌, inl, inr, arith, length, take, drop, get_or, append_assoc, append-nil}
 use Rattle.std.proofs.Math.Numerals.{add-one}
 use Rattle.std.proofs.Math.Seq.{get_or-append_right, get_or-append_seam, take-length}
 use Rattle.std.proofs.Math.ListN.{get_or-append}
@@ -14,7 +14,7 @@ use Rattle.hdt_dict.specs.Ids.{string_at_id, AppendsString}
 use Rattle.hdt_dict.specs.Iteration.{Progress, next_id}
 use Rattle.hdt_dict.specs.Prefixes.{IsInRanges, RangesAscend, SomeBeginsWith}
 use Rattle.hdt_dict.specs.declared.prefix.PrefixRanges.{PrefixRanges}
-use Rattle.hdt_tool.specs.ListedStrings.{AreAscendingIds, AreLinesOfIds, ArePrefixIds, HasUnlistedTerm, IsFirstNotListed, IsLineOfId, IsLineFault, IsListedLine, IsListFault, IsNoTermString, range_ids}
+use Rattle.hdt_tool.specs.ListedStrings.{AreAscendingIds, AreLinesOfIds, ArePrefixIds, IsFirstNotListed, IsLineOfId, IsLineFault, IsListedLine, IsListFault, IsNoTermString, range_ids}
 use Rattle.hdt_tool.specs.declared.fault.ToolFault.{ToolFault}
 use Rattle.hdt_tool.specs.declared.fault.ToolFault.TheVariants.{NotATerm, OutOfMemory}
 use Rattle.hdt_tool.proofs.CountLines.{Steps, appended_is, around, none_ahead, range_split}

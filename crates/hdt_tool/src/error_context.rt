@@ -270,6 +270,16 @@ fn put_term_error(
     put_text(term_hint(term), out)
 }
 
+/// Whether a word is among these.
+fn has_word(words: &[&str], wanted: &str) -> bool {
+    'words: for word in words {
+        if *word == wanted {
+            return true;
+        }
+    }
+    false
+}
+
 /// Prints the lines for an argument that is not a term to standard error, if they are wanted.
 pub(crate) fn print_term_context(
     rt: &HostRuntime,
@@ -277,6 +287,9 @@ pub(crate) fn print_term_context(
     word: TermArgument,
     fault: TermFault,
 ) {
+    if !is_terminal(rt) && !has_word(words, "--verbose") {
+        return; // (and the words are not parsed again)
+    }
     let Ok(Some((term, verbose))) = term_given(rt.alloc(), words, word) else {
         return;
     };

@@ -134,7 +134,7 @@ class Application:
 
     def _answer(self, request: Request) -> Answer:
         name, _, rest = request.path.partition("/")
-        if rest == "data.hdt" and name in self.datasets and self.datasets[name].source.download:
+        if rest == "data.hdt" and name in self.datasets and self.datasets[name].source.gives_file:
             return self._file(request, self.datasets[name])
         if elsewhere := self._elsewhere(request):
             return elsewhere

@@ -34,12 +34,17 @@ _NAME = re.compile(r"[A-Za-z0-9][A-Za-z0-9._-]{0,99}\Z")
 class Source:
     """A dataset: its file, and what is said of it."""
 
-    file: str
+    file: str  # or a folder that `hdt.parts.build` made
     title: str = ""
     description: str = ""
     license: str = ""  # an IRI
     download: bool = False  # whether the file itself is given out
     copy: Optional[bool] = None  # of `hdt.open`: a large file is mapped unless it is read, and must not change in place
+
+    @property
+    def gives_file(self) -> bool:
+        """Whether there is a file that is given out: a folder of parts is none."""
+        return self.download and not os.path.isdir(self.file)
 
 
 @dataclass(frozen=True)

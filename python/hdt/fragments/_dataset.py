@@ -8,9 +8,9 @@ import threading
 import time
 from typing import Optional
 
-import hdt
 from hdt.fragments._config import Source
 from hdt.fragments._reader import Reader
+from hdt.parts._string_ids import open_any
 
 Identity = tuple[int, int, int, int]
 
@@ -30,7 +30,7 @@ class Loaded:
     def __init__(self, source: Source, most_predicates: int) -> None:
         before = os.stat(source.file)
         while True:
-            self.reader = Reader(hdt.open(source.file, source.copy), most_predicates)
+            self.reader = Reader(open_any(source.file, source.copy), most_predicates)
             after = os.stat(source.file)
             if identity_of(before) == identity_of(after):
                 break

@@ -37,12 +37,13 @@ def _crumbs(request: Request, config: Config, *more: tuple[str, str]) -> str:
 
 def _facts(loaded: Loaded) -> str:
     size = loaded.reader.counts
-    facts = (
+    facts = [
         plural(size.triples, "triple", "triples"),
         plural(size.shared + size.subjects, "subject", "subjects"),
         plural(size.predicates, "predicate", "predicates"),
-        plural(size.shared + size.objects, "object", "objects"),
-    )
+    ]
+    if loaded.reader.objects is not None:
+        facts.append(plural(loaded.reader.objects, "object", "objects"))
     return '<ul class="facts">' + "".join(f"<li>{fact}</li>" for fact in facts) + "</ul>"
 
 
@@ -204,7 +205,7 @@ def description_page(request: Request, dataset: Dataset, loaded: Loaded, config:
     known = loaded.reader.predicates
     table = view.predicates(known, "The most used ones first") if known else (
         f'<p class="box none">There are more than {config.partitions:,} predicates, which are not counted here.</p>')
-    file = f'<p><a href="{text(view.url)}/data.hdt">The HDT file</a></p>' if dataset.source.download else ""
+    file = f'<p><a href="{text(view.url)}/data.hdt">The HDT file</a></p>' if dataset.source.gives_file else ""
     license = dataset.source.license
     link = f'<a href="{text(license)}" rel="noopener noreferrer nofollow">{text(license)}</a>'
     licensed = f"<p>License: {link}</p>" if license.startswith(("http:", "https:")) else ""

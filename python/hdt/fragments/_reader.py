@@ -54,6 +54,8 @@ class Reader:
         """Read a graph. Its predicates are counted at once, where it has no more of them than `most_predicates`."""
         self._graph = graph
         self.counts = graph.counts
+        is_one = isinstance(graph, hdt.Graph)
+        self.objects = self.counts.shared + self.counts.objects if is_one else None  # (not known of a graph in parts)
         self._counted: Kept[Pattern, int] = Kept(_KEPT)
         self._positions: Kept[tuple[Pattern, int], Optional[int]] = Kept(_KEPT)
         self.predicates = self._by_count() if self.counts.predicates <= most_predicates else []

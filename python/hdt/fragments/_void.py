@@ -20,12 +20,13 @@ def counts(dataset: Dataset, loaded: Loaded, base: str) -> list[Triple]:
         (about, VOID + "triples", terms.integer(size.triples)),
         (about, VOID + "distinctSubjects", terms.integer(size.shared + size.subjects)),
         (about, VOID + "properties", terms.integer(size.predicates)),
-        (about, VOID + "distinctObjects", terms.integer(size.shared + size.objects)),
-        (about, RDFS + "seeAlso", url + "/void"),
     ]
+    if loaded.reader.objects is not None:
+        statements.append((about, VOID + "distinctObjects", terms.integer(loaded.reader.objects)))
+    statements.append((about, RDFS + "seeAlso", url + "/void"))
     if dataset.source.description:
         statements.append((about, DCTERMS + "description", f'"{dataset.source.description}"'))
-    if dataset.source.download:
+    if dataset.source.gives_file:
         statements.append((about, VOID + "dataDump", url + "/data.hdt"))
     return statements
 

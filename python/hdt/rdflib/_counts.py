@@ -81,7 +81,7 @@ def _groups(file: OpenFile, search: Search, places: list[int], triple: list[Any]
         return {(): file.count([search])}
     numbers: Counter[Any] = Counter()
     if places == [1] and search == (None, None, None):
-        numbers.update({number: count for number, (_, count) in enumerate(file.graph.predicates(), 1)})
+        numbers.update(file.by_predicate())
     else:
         numbers.update(map(itemgetter(*places), file.graph.find_ids(*search)))
     rows = [(number if len(places) > 1 else (number,), count) for number, count in numbers.items()]

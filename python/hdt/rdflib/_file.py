@@ -155,6 +155,10 @@ class OpenFile:
             for s, p, o in searches
         )
 
+    def by_predicate(self) -> dict[int, int]:
+        """How many triples each predicate has, by its ID."""
+        return {number: count for number, (_, count) in enumerate(self.graph.predicates(), 1)}
+
     def has(self, searches: Iterable[Search]) -> bool:
         """Whether one of the searches finds a triple."""
         return any(self.graph.matching_ids(*search) for search in searches)

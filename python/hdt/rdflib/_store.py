@@ -13,6 +13,7 @@ from typing import Any, Optional
 import hdt
 import rdflib
 from hdt.rdflib._file import OpenFile
+from hdt.rdflib._parts import opened_at
 from hdt.rdflib._terms import term_of
 from rdflib.graph import Graph
 from rdflib.plugins.sparql.algebra import translateQuery
@@ -79,14 +80,15 @@ class HDTStore(Store):
     def open(self, configuration: hdt.Path, create: bool = False) -> int:
         """Open the file at a path in place of what was open, and return rdflib's VALID_STORE. `create` does nothing.
 
-        Raises hdt.Fault (a ValueError) if the file is none, and OSError; what was open stays open then. The whole file
+        The path may be that of a folder that `hdt.parts.build` made. Raises hdt.Fault (a ValueError) if the file is
+        none, hdt.parts.PartFault (another one) of a folder, and OSError; what was open stays open then. The whole file
         is validated, in a time that is linear in its size.
 
         >>> store = HDTStore()
         >>> store.open("graph.hdt"), len(store)
         (1, 3)
         """
-        opened = OpenFile(hdt.open(configuration), self.scope, self.exact, self.keep)
+        opened = opened_at(configuration, self.scope, self.exact, self.keep)
         self.close()
         self.path, self._file = os.path.abspath(os.fsdecode(configuration)), opened
         return VALID_STORE

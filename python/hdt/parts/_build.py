@@ -1,0 +1,252 @@
+"""Building a folder: tasks split the inputs by subject, then a task for each part builds its file.
+
+A task may run twice, or go on though its process was believed dead. So each attempt writes to files of its own in a
+scratch folder, and gives their names back; files of the graph are only moved out of it here.
+"""
+
+from __future__ import annotations
+
+import hashlib
+import io
+import operator
+import os
+import secrets
+import shutil
+import time
+from collections.abc import Iterable, Sequence
+from concurrent.futures import Executor
+from dataclasses import replace
+from typing import NamedTuple, Optional
+
+import hdt
+from hdt._calls import Path
+from hdt.parts import _inputs
+from hdt.parts._errors import InputFault
+from hdt.parts._executor import Task, results
+from hdt.parts._inputs import Range
+from hdt.parts._manifest import MOST_PARTS, Manifest, Part, base_of, file_of
+from hdt.parts._split import split
+
+Place = tuple[int, int]  # of bytes of a file: where they begin, and how many they are
+
+
+class Pieces(NamedTuple):
+    """A range that was split: the file that has the lines of all parts, and the places of those of each."""
+
+    file: str
+    places: list[list[Place]]
+    lines: int
+    has_blank_nodes: bool
+
+
+def build(
+    inputs: Iterable[Path],
+    folder: Path,
+    parts: int,
+    executor: Optional[Executor] = None,
+    blank_nodes: Optional[str] = None,
+    base: str = "http://example.org/dataset",
+    block_size: int = 16,
+) -> Manifest:
+    """Build a graph in parts from N-Triples files, plain or with names that end with `.gz`, and return its manifest.
+
+    The folder gets `manifest.json` and a file for each part that has triples, `part-00000.hdt` and so on, of which a
+    subject has one (`part_of`). Equal graphs give equal files, whatever the inputs, their order and the executor. The
+    folder is made under another name beside it, and is either complete or not there.
+
+    `executor` runs the tasks: any of `concurrent.futures`, or one with its interface, as Dask's `Client.get_executor`
+    gives. Its processes have to see the inputs and the folder by the same paths. Without one, this process runs them,
+    one after another. `blank_nodes="one"` says that the inputs are pieces of one document, so a label is one node in
+    all of them; `"apart"` that each is a document of its own: labels of the first input get the prefix `f0_`, those of
+    the second one `f1_`. Without it, two inputs with blank nodes are an error. `base` and `block_size` are those of
+    `hdt.build`; the base of a part has `#part-0-of-8` after it.
+
+    Errors: `InputFault` with the first error of the inputs, in their order; `hdt.NoTriples`; FileExistsError;
+    ValueError for the options, and for an input that is no regular file; `WorkerDied`; MemoryError; OSError; TypeError.
+    A task has 8 MiB of an input in memory, several times over, or the text and the build of a part. The folder needs
+    room for the text of the inputs meanwhile.
+
+    >>> hdt.parts.build(["graph.nt"], "other.parts", 2).triples
+    3
+    """
+    if isinstance(inputs, (str, bytes, os.PathLike)):
+        raise TypeError("inputs are paths, not one path")
+    names = [os.fsdecode(path) for path in inputs]
+    count, size = operator.index(parts), operator.index(block_size)
+    if blank_nodes not in (None, "one", "apart"):
+        raise ValueError('blank_nodes is "one", "apart" or None')
+    if not 1 <= count <= MOST_PARTS:
+        raise ValueError(f"the number of parts isn't 1 to {MOST_PARTS}")
+    if not 1 <= size <= 65_535:
+        raise ValueError("the block size isn't 1 to 65535")
+    target = os.path.abspath(os.fsdecode(folder))
+    if os.path.lexists(target):
+        raise FileExistsError(f"{target} is there already")
+    beside = f"{target}.unfinished-{secrets.token_hex(8)}"
+    os.mkdir(beside)
+    try:
+        job = _Job(names, beside, count, executor, blank_nodes, base, size)
+        manifest = job.run()
+        os.rename(job.made, target)
+        _sync(os.path.dirname(target))
+    finally:
+        _remove(beside)
+    return manifest
+
+
+class _Job:
+    """What one call of `build` works on."""
+
+    def __init__(
+        self,
+        names: list[str],
+        folder: str,
+        parts: int,
+        executor: Optional[Executor],
+        blank_nodes: Optional[str],
+        base: str,
+        block_size: int,
+    ) -> None:
+        self._names, self._parts, self._executor = names, parts, executor
+        self._paths = [os.path.abspath(name) for name in names]  # (a process may be in another folder)
+        self._blank_nodes, self._base, self._block_size = blank_nodes, base, block_size
+        self._scratch, self.made = os.path.join(folder, "scratch"), os.path.join(folder, "made")
+        os.mkdir(self._scratch)
+        os.mkdir(self.made)
+
+    def run(self) -> Manifest:
+        """Make the files and the manifest in `made`."""
+        self._check_base()
+        ranges = list(_inputs.ranges(self._paths))
+        sizes = [os.stat(path).st_size for path in self._paths]
+        rows = self._built(self._split(ranges))
+        if not any(row.triples for row in rows):
+            raise hdt.NoTriples("no triples")
+        parts = []
+        for number, row in enumerate(rows):
+            if row.file:
+                os.rename(row.file, os.path.join(self.made, file_of(number)))
+            parts.append(replace(row, file=row.file and file_of(number)))
+        inputs = tuple(zip(self._names, sizes))
+        manifest = Manifest(self._base, self._block_size, self._blank_nodes or "one", inputs, tuple(parts))
+        manifest.write(self.made)
+        _sync(self.made)
+        return manifest
+
+    def _check_base(self) -> None:
+        """Raises ValueError for a base that the library refuses, before any work."""
+        text, made = os.path.join(self._scratch, "base.nt"), os.path.join(self._scratch, "base.hdt")
+        with io.open(text, "w", encoding="ascii") as file:
+            file.write("<x:> <x:> <x:> .\n")
+        hdt.build(text, made, base_of(self._base, 0, self._parts))
+
+    def _split(self, ranges: Sequence[Range]) -> list[Pieces]:
+        """Split all ranges. Raises InputFault."""
+        tasks = []
+        for number, it in enumerate(ranges):
+            prefix = f"f{it.number}_" if self._blank_nodes == "apart" else ""
+            what = f"the split of {self._names[it.number]}"
+            tasks.append(Task(self._executor, what, split_range, number, it, self._parts, prefix, self._scratch))
+        found: list[Pieces] = []
+        lines = [0] * len(self._paths)
+        split_results = results(tasks)
+        for it in ranges:
+            try:
+                found.append(next(split_results))
+            except hdt.LineFault as fault:
+                line = lines[it.number] + fault.line
+                raise InputFault(self._names[it.number], fault.reason, line, fault.column) from None
+            lines[it.number] += found[-1].lines
+        self._check_blank_nodes({it.number for it, pieces in zip(ranges, found) if pieces.has_blank_nodes})
+        return found
+
+    def _check_blank_nodes(self, having: set[int]) -> None:
+        if self._blank_nodes is None and len(having) > 1:
+            one, other, *_ = (self._names[number] for number in sorted(having))
+            raise ValueError(
+                f"{one} and {other} have blank nodes: say by blank_nodes whether a label is one node in all inputs "
+                '("one"), or not ("apart")'
+            )
+
+    def _built(self, pieces: Sequence[Pieces]) -> list[Part]:
+        """Build the files of all parts."""
+        tasks = {}
+        for number in range(self._parts):
+            places = [(each.file, each.places[number]) for each in pieces if each.places[number]]
+            if places:
+                base = base_of(self._base, number, self._parts)
+                tasks[number] = Task(
+                    self._executor, file_of(number), build_part, number, places, self._scratch, base, self._block_size
+                )
+        found = dict(zip(tasks, results(tasks.values())))
+        return [found.get(number, Part()) for number in range(self._parts)]
+
+
+def _attempt(folder: str, name: str) -> str:
+    """The path of a file that no other attempt at the same task has."""
+    return os.path.join(folder, f"{name}.{os.getpid()}-{secrets.token_hex(8)}")
+
+
+def split_range(number: int, it: Range, parts: int, prefix: str, folder: str) -> Pieces:
+    """A task: split a range of an input, block by block, into one file.
+
+    Raises LineFault, whose line is counted from the range on, OSError and MemoryError.
+    """
+    file, places, at = _attempt(folder, f"split-{number:05}"), list[list[Place]](), 0
+    places += ([] for _ in range(parts))
+    lines, has_blank_nodes = 0, False
+    with io.open(file, "xb") as out:
+        for block in _inputs.blocks(it):
+            try:
+                found = split(block, parts, prefix.encode())
+            except hdt.LineFault as fault:
+                raise hdt.LineFault(fault.reason, lines + fault.line, fault.column) from None
+            lines += found.lines
+            has_blank_nodes = has_blank_nodes or found.has_blank_nodes
+            for part, text in enumerate(found.texts):
+                if text:
+                    out.write(text)
+                    places[part].append((at, len(text)))
+                    at += len(text)
+    return Pieces(file, places, lines, has_blank_nodes)
+
+
+def build_part(number: int, pieces: list[tuple[str, list[Place]]], folder: str, base: str, block_size: int) -> Part:
+    """A task: build the file of a part from its lines. Its row has the path of the file.
+
+    Raises OSError and MemoryError.
+    """
+    text, file = _attempt(folder, f"text-{number:05}"), _attempt(folder, f"part-{number:05}")
+    with io.open(text, "xb") as out:
+        for name, places in pieces:
+            with io.open(name, "rb") as piece:
+                for at, size in places:
+                    piece.seek(at)
+                    out.write(piece.read(size))
+    try:
+        counts = hdt.build(text, file, base, block_size)
+    finally:
+        os.unlink(text)
+    digest = hashlib.sha256()
+    with io.open(file, "rb") as made:
+        while block := made.read(_inputs.BLOCK):
+            digest.update(block)
+    return Part(file, os.stat(file).st_size, digest.hexdigest(), *counts)
+
+
+def _sync(folder: str) -> None:
+    """Hand the names in a folder to the disk."""
+    descriptor = os.open(folder, os.O_RDONLY)
+    try:
+        os.fsync(descriptor)
+    finally:
+        os.close(descriptor)
+
+
+def _remove(folder: str) -> None:
+    """Remove a folder, in which tasks that are no longer wanted may still write for a moment."""
+    for _ in range(100):
+        shutil.rmtree(folder, ignore_errors=True)
+        if not os.path.lexists(folder):
+            return
+        time.sleep(0.05)

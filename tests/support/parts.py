@@ -1,0 +1,164 @@
+"""Graphs in parts: the module `hdt.parts`, inputs of it, and processes that end or stop in the middle of a task."""
+
+from __future__ import annotations
+
+import gzip
+import importlib
+import os
+import random
+import signal
+import sys
+from collections.abc import Iterator, Sequence
+from contextlib import contextmanager
+from itertools import product
+from pathlib import Path
+from typing import Any, Optional
+from unittest import mock
+
+from support.python_package import PACKAGE, hdt
+
+with mock.patch.object(sys, "dont_write_bytecode", True), mock.patch.object(sys, "path", [str(PACKAGE), *sys.path]):
+    import hdt.parts as parts
+    from hdt.parts import _files, _folder, _inputs, _manifest, _split
+
+__all__ = ["Triple", "check_same", "files", "graph_of", "hdt", "inputs", "interrupt", "manifests", "named", "of_one",
+           "parts", "patterns", "ranges", "small", "split", "text_of"]
+
+Triple = tuple[str, str, str]
+
+split, ranges, files, manifests = _split.split, _inputs, _files, _manifest
+KINDS = list(product((False, True), repeat=3))
+# Terms that are no part of any graph here.
+ABSENT = [("u:none", None, None), (None, "u:none", None), (None, None, '"none"'), ("\ud800", None, None)]
+
+
+@contextmanager
+def small(range_size: int, block: int, first: int = 4, most: int = 16) -> Iterator[None]:
+    """Ranges, blocks and messages of these sizes in this process, where nothing waits for the disk."""
+    with mock.patch.multiple(_inputs, RANGE=range_size, BLOCK=block), mock.patch("os.fsync"), \
+            mock.patch.multiple(_folder, _FIRST=first, MOST=most):
+        yield
+
+
+def text_of(triples: Sequence[Triple]) -> str:
+    """Triples of dictionary strings as N-Triples."""
+    written = (" ".join(hdt.Term.parse(term).format_ntriples() for term in triple) for triple in triples)
+    return "".join(f"{line} .\n" for line in written)
+
+
+def graph_of(size: int, seed: int = 1) -> list[Triple]:
+    """Triples with some hundred subjects, of which a third are objects, too."""
+    rng = random.Random(seed)
+    names = [f"http://a/{n}" for n in range(size // 4 + 1)] + ["_:b", "u:\u00e9", "u:\U0001f600"]
+    values = names[::3] + [f'"{n}"' for n in range(20)] + ['"x"@en', '"\\ \n \\" \u20ac"', '"1"^^<u:t>']
+    found = {(rng.choice(names), f"u:p{rng.randrange(7)}", rng.choice(values)) for _ in range(size)}
+    return sorted(found)
+
+
+def inputs(folder: Path, lines: Sequence[str], count: int, packed: Sequence[int] = ()) -> list[Path]:
+    """Inputs that have lines in turn; those whose numbers are given are compressed."""
+    found = []
+    for number in range(count):
+        data = "".join(line + "\n" for line in lines[number::count]).encode()
+        found.append(folder / f"in{number}.nt{'.gz' if number in packed else ''}")
+        found[-1].write_bytes(gzip.compress(data) if number in packed else data)
+    return found
+
+
+def of_one(folder: Path, text: bytes) -> hdt.Graph:
+    """The graph of one file with the triples of a text."""
+    document, built = folder / "one.nt", folder / "one.hdt"
+    document.write_bytes(text)
+    hdt.build(document, built)
+    return hdt.open(built)
+
+
+def named(manifest: parts.Manifest) -> list[tuple[str, str, int]]:
+    """The files of a manifest with their SHA-256."""
+    return [(part.file, part.sha256, part.triples) for part in manifest.parts]
+
+
+def patterns(triples: Sequence[Triple], most: int = 4) -> list[Any]:
+    """Patterns of all eight kinds with the terms of some triples, and patterns that match nothing."""
+    picked = random.Random(1).sample(sorted(triples), min(most, len(triples)))
+    found = {tuple(term if has else None for term, has in zip(triple, kind)) for triple in picked for kind in KINDS}
+    return sorted(found, key=repr) + ABSENT + [(triples[0][0], None, "u:none")]
+
+
+def check_same(one: hdt.Graph, graph: parts.Graph, asked: Sequence[Any]) -> None:
+    """A graph in parts answers as one file does."""
+    everything = sorted(one)
+    assert (len(graph), graph.subjects) == (len(one), one.count("subject"))
+    assert sorted(graph) == everything and list(graph.find(order="strings")) == everything
+    assert list(graph.predicates()) == list(one.predicates())
+    assert graph.header == one.header
+    assert graph.matching_all(asked) == [one.matching(*pattern) for pattern in asked]
+    for pattern in asked:
+        expected, found = sorted(one.find(*pattern)), list(graph.find(*pattern))
+        assert sorted(found) == expected, pattern
+        assert graph.matching(*pattern) == len(expected)
+        assert list(graph.find(*pattern, order="strings")) == expected
+        text = graph.text(*pattern)
+        assert sorted(text.splitlines()) == sorted(one.text(*pattern).splitlines())
+        assert graph.text(*pattern, order="strings") == text_of(expected)
+        assert text == text_of(found) == "".join(graph.text_pieces(*pattern))
+        check_windows(graph, pattern, found)
+    for triple in everything[:3]:
+        assert triple in graph and (triple[0], triple[1], "u:none") not in graph
+
+
+def check_windows(graph: parts.Graph, pattern: Any, found: Sequence[Triple]) -> None:
+    """Parts of the matches by `start` and `limit`, and pages that follow each other, are those of all matches."""
+    for start, limit in ((0, 1), (1, None), (2, 3), (len(found), 1), (len(found) // 2, 5)):
+        end = None if limit is None else start + limit
+        assert list(graph.find(*pattern, start=start, limit=limit)) == list(found[start:end])
+        assert list(graph.find(*pattern, start=start, limit=limit, order="strings")) == sorted(found)[start:end]
+    assert graph.page(*pattern, limit=0)[0] == []
+    for limit in (1, 3, len(found) + 1):
+        rows: list[Triple] = []
+        at: Optional[int] = 0
+        while at is not None:
+            assert graph.position(*pattern, skip=len(rows)) == (at if rows else graph.page(*pattern, limit=0)[1])
+            page, at = graph.page(*pattern, start=at, limit=limit)
+            rows += page
+            assert len(page) == limit or at is None
+            if len(rows) > 4 * limit:
+                break
+        assert rows == list(found[:len(rows)]) and (at is not None or len(rows) == len(found))
+    assert graph.position(*pattern, skip=len(found)) is None
+
+
+# ---- processes that end or stop
+
+
+def interrupt(where: str, flag: str, how: int) -> None:
+    """From now on this process, when it calls a function, ends or stops first, if the flag is there.
+
+    `where` is the module and name of the function. The process takes the flag, so that it is the only one, and leaves
+    its ID beside it; a flag whose name ends with `always` stays.
+    """
+    module, _, name = where.rpartition(".")
+    there = importlib.import_module(module)
+    before = getattr(there, name)
+
+    def call(*parameters: Any, **more: Any) -> Any:
+        if flag.endswith("always") and os.path.exists(flag) or taken(flag):
+            Path(f"{flag}.pid").write_text(str(os.getpid()))
+            os.kill(os.getpid(), how)
+        return before(*parameters, **more)
+
+    setattr(there, name, call)
+
+
+def taken(flag: str) -> bool:
+    """Whether a flag was there until now."""
+    try:
+        os.unlink(flag)
+    except FileNotFoundError:
+        return False
+    return True
+
+
+def go_on(flag: Path) -> None:
+    """Let the process that stopped at a flag go on."""
+    os.kill(int(Path(f"{flag}.pid").read_text()), signal.SIGCONT)

@@ -1,0 +1,296 @@
+"""Graphs in parts: splitting by subject, inputs and their errors, and the folder that is built."""
+
+from __future__ import annotations
+
+import gzip
+import json
+import os
+import random
+import subprocess
+import sys
+import zlib
+from pathlib import Path
+from typing import Any, Optional
+
+import pytest
+from hypothesis import example, given
+from hypothesis import strategies as st
+
+from reference.ntriples import lines as reference_lines
+from reference.ntriples import parse_line, read_document, triple_strings
+from support.parts import graph_of, hdt, inputs, named, parts, ranges, small, split, text_of
+from support.properties import examples
+from support.python_package import ENVIRONMENT
+from support.terms import document_texts, documents
+
+TEXT = text_of(graph_of(60))
+LINES = TEXT.splitlines()
+
+
+def nothing_but(folder: Path, *names: str) -> bool:
+    """Whether a folder has nothing but these files and what tests write as inputs."""
+    return {path.name for path in folder.iterdir() if not path.name.startswith("in")} == set(names)
+
+
+# ---- splitting
+
+@given(documents(most=12), st.integers(1, 6))
+@example((b"<u:\\u0061> <u:p> <u:o> .\n<u:a> <u:p> <u:o> .", []), 5)
+@example((b"_:a <u:p> <u:o> .\n_:a.b <u:p> <u:o> .\n_:ab<u:p><u:o>.\r<u:a> <u:p> _:a.", []), 6)
+@example((b"# <u:a> <u:p> <u:o> .\r\n\n \t#", []), 2)
+def test_split(document: tuple[bytes, Any], count: int) -> None:
+    """Each line with a triple is in the part of its subject's string, as it is, in the order of the text."""
+    text = document[0]
+    expected: list[list[bytes]] = [[] for _ in range(count)]
+    blank, last = False, 0
+    for last, line in reference_lines(text):
+        triple = parse_line(line)
+        if triple is not None:
+            strings = triple_strings(triple)
+            expected[zlib.crc32(strings[0]) % count].append(line + b"\n")
+            blank = blank or strings[0].startswith(b"_:") or strings[2].startswith(b"_:")
+    found = split(text, count)
+    assert (found.texts, found.has_blank_nodes) == ([b"".join(each) for each in expected], blank)
+    assert found.lines == (last if text and not text.endswith((b"\n", b"\r")) else last - 1)
+
+
+@given(documents(most=12), st.integers(1, 3))
+@example((b"_:a<u:p>_:a.\n<u:a> <u:p> _:b.c. #_:d\n<u:_:a> <u:p> \"_:a <u:p> _:b\" .", []), 2)
+def test_split_with_prefix(document: tuple[bytes, Any], count: int) -> None:
+    """A prefix is before each label of a blank node, and nothing else is another."""
+    text = document[0]
+    with_prefix = split(text, count, b"f7_")
+    found = {triple_strings(triple) for each in with_prefix.texts for triple in read_document(each)[0]}
+    assert found == {
+        tuple(b"_:f7_" + term[2:] if term.startswith(b"_:") else term for term in triple_strings(triple))
+        for triple in read_document(text)[0]
+    }
+    for number, part in enumerate(with_prefix.texts):
+        subjects = {triple_strings(triple)[0] for triple in read_document(part)[0]}
+        assert {zlib.crc32(subject) % count for subject in subjects} <= {number}
+    labels = [s[:2] for triple in read_document(text)[0] for s in triple_strings(triple)].count(b"_:")
+    assert sum(map(len, with_prefix.texts)) - sum(map(len, split(text, count).texts)) == 3 * labels
+
+
+@given(document_texts())
+@example(b"<u:a> <u:p> <u:o> .\r\n# \xff\n<u:a>")
+@example(b"_:-a <u:p> <u:o> .")
+def test_split_errors(text: bytes) -> None:
+    """The error of a text is its first one."""
+    error = read_document(text)[1]
+    if error is None:
+        split(text, 3)
+        return
+    with pytest.raises(hdt.LineFault) as fault:
+        split(text, 3, b"f0_")
+    assert (fault.value.reason, fault.value.line, fault.value.column) == (int(error.reason), error.line, error.column)
+
+
+def test_published_parts() -> None:
+    """The hash can't change, as folders depend on it: values of RFC 1952's CRC-32, of which the first is its check."""
+    crcs = {"123456789": 0xCBF43926, "": 0, "a": 0xE8B7BE43, "abc": 0x352441C2, "http://example.org/a": 0x60BD47FE,
+            "_:b": 0x1EB46E92, "u:\u00e9": 0x1B847035}
+    assert {string: zlib.crc32(string.encode()) for string in crcs} == crcs
+    for string, crc in crcs.items():
+        assert [parts.part_of(string, count) for count in (1, 7, 65_536)] == [0, crc % 7, crc % 65_536]
+
+
+@given(st.lists(st.sampled_from([b"a", b"\n", b"\r", b"\r\n", b"bcd"]), max_size=30).map(b"".join),
+       st.integers(1, 12), st.integers(1, 12))
+def test_ranges(tmp_path_factory: pytest.TempPathFactory, text: bytes, size: int, block: int) -> None:
+    """The blocks of all ranges are the lines of an input, and none ends within a line."""
+    path = Path(tmp_path_factory.getbasetemp(), "ranges.nt")
+    path.write_bytes(text)
+    with small(size, block):
+        found = [block for it in ranges.ranges([str(path)]) for block in ranges.blocks(it)]
+    assert b"".join(found) == text and all(found)
+    assert [line for block in found for line in block.splitlines()] == text.splitlines()
+
+
+def test_long_lines(tmp_path: Path) -> None:
+    """A line may be longer than a block, and a range."""
+    line = f'<u:a> <u:p> "{"x" * 5_000}" .'
+    paths = inputs(tmp_path, [line, LINES[0], line, LINES[1]], 2, packed=[1])
+    with small(100, 64):
+        assert parts.build(paths, tmp_path / "out", 2, blank_nodes="one").triples == 3
+
+
+# ---- the folder
+
+def test_one_part_is_a_file(tmp_path: Path) -> None:
+    """One part is the file that `build` makes with the part's base, and the manifest says what it is."""
+    document = tmp_path / "in.nt"
+    document.write_text(TEXT)
+    manifest = parts.build([document], tmp_path / "out", 1, base="http://a/", block_size=3)
+    counts = hdt.build(document, tmp_path / "in.hdt", base="http://a/#part-0-of-1", block_size=3)
+    built = (tmp_path / "in.hdt").read_bytes()
+    assert (tmp_path / "out/part-00000.hdt").read_bytes() == built
+    assert sorted(path.name for path in (tmp_path / "out").iterdir()) == ["manifest.json", "part-00000.hdt"]
+    values = json.loads((tmp_path / "out/manifest.json").read_text())
+    digest = subprocess.run(["sha256sum", tmp_path / "in.hdt"], stdout=subprocess.PIPE, text=True, check=True).stdout
+    assert values == {
+        "kind": "hdt-parts", "version": 1,
+        "hash": "CRC-32 (gzip) of the subject's dictionary string in UTF-8, modulo the number of parts",
+        "base": "http://a/", "block_size": 3, "blank_nodes": "one",
+        "triples": counts.triples, "subjects": counts.shared + counts.subjects,
+        "inputs": [{"path": str(document), "bytes": len(TEXT.encode())}],
+        "parts": [{"file": "part-00000.hdt", "bytes": len(built), "sha256": digest[:64], **counts._asdict()}],
+    }
+    assert manifest == parts.open(tmp_path / "out").manifest
+
+
+@pytest.mark.parametrize("base", ["http://a/#b", "http://a/"])
+def test_bases_of_parts(tmp_path: Path, base: str) -> None:
+    """The header of a part names the part, and has its count."""
+    manifest = parts.build(inputs(tmp_path, LINES, 1), tmp_path / "out", 2, base=base)
+    for number, part in enumerate(manifest.parts):
+        with hdt.open(tmp_path / "out" / part.file) as graph:
+            about = f"<{base}{'-' if '#' in base else '#'}part-{number}-of-2>".encode()
+            assert graph.header.startswith(about) and f'"{part.triples}"'.encode() in graph.header
+
+
+def test_equal_graphs_have_equal_parts(tmp_path: Path) -> None:
+    """Parts are the same, byte for byte, whatever the inputs, their order and the sizes of tasks."""
+    expected = parts.build(inputs(tmp_path, LINES, 1), tmp_path / "expected", 3)
+    rng = random.Random(1)
+    for number in range(6):
+        lines = rng.sample(LINES, len(LINES)) + rng.sample(LINES, 9)
+        paths = inputs(tmp_path, lines, rng.randint(1, 4), packed=[0, 2])
+        with small(rng.choice([50, 500, 10**6]), rng.choice([1, 90, 10**6])):
+            found = parts.build(rng.sample(paths, len(paths)), tmp_path / f"out{number}", 3, blank_nodes="one")
+        assert named(found) == named(expected)
+        for part in expected.parts:
+            one, other = (tmp_path / name / part.file for name in ("expected", f"out{number}"))
+            assert one.read_bytes() == other.read_bytes()
+
+
+def test_parts_without_triples(tmp_path: Path) -> None:
+    """They have no file."""
+    manifest = parts.build(inputs(tmp_path, ["<u:a> <u:p> <u:o> ."], 1), tmp_path / "out", 5)
+    assert [part.file for part in manifest.parts].count("") == 4
+    with parts.open(tmp_path / "out") as graph:
+        graph.verify()
+        assert list(graph) == [("u:a", "u:p", "u:o")] and [graph.matching(f"u:{c}") for c in "abcdef"] == [1] + 5 * [0]
+
+
+def test_folder_that_is_there(tmp_path: Path) -> None:
+    """It is left as it is."""
+    (tmp_path / "out").mkdir()
+    with pytest.raises(FileExistsError):
+        parts.build(inputs(tmp_path, LINES, 1), tmp_path / "out", 2)
+    assert nothing_but(tmp_path, "out") and not list((tmp_path / "out").iterdir())
+
+
+def test_builder_that_is_killed(tmp_path: Path) -> None:
+    """There is no folder after that, and what is there instead is in no one's way."""
+    paths = inputs(tmp_path, LINES, 1)
+    for where in ("split", "hdt.build", "os.rename"):
+        program = f"""
+            import os, hdt.parts, hdt.parts._build as module
+            def die(*_): os.kill(os.getpid(), 9)
+            {"module.split" if where == "split" else where} = die
+            hdt.parts.build(['{paths[0]}'], '{tmp_path}/out', 3)
+        """.replace("\n            ", "\n")
+        done = subprocess.run([sys.executable, "-c", program], env={**os.environ, **ENVIRONMENT})
+        assert done.returncode == -9 and not (tmp_path / "out").exists()
+    assert parts.build(paths, tmp_path / "out", 2).triples == len(LINES)
+
+
+# ---- errors
+
+@examples(4)
+@given(st.lists(document_texts(), min_size=1, max_size=3), st.integers(1, 4), st.integers(1, 40), st.integers(1, 40),
+       st.sampled_from(["one", "apart"]))
+def test_errors_are_those_of_one_build(
+    tmp_path_factory: pytest.TempPathFactory, texts: list[bytes], count: int, size: int, block: int, how: str
+) -> None:
+    """The first error of the inputs, in their order, is that of a build of that input."""
+    folder = tmp_path_factory.mktemp("errors")
+    expected: Optional[tuple[str, int, int, int, str]] = None
+    has_triples = False
+    paths = []
+    for number, text in enumerate(texts):
+        paths.append(folder / f"in{number}.nt{'.gz' if number == 1 else ''}")
+        paths[-1].write_bytes(gzip.compress(text) if number == 1 else text)
+        (folder / "in.nt").write_bytes(text)
+        try:
+            hdt.build(folder / "in.nt", folder / "in.hdt")
+            has_triples = True
+        except hdt.LineFault as fault:
+            expected = expected or (str(paths[-1]), fault.reason, fault.line, fault.column, str(fault))
+        except hdt.NoTriples:
+            pass
+    with small(size, block):
+        if expected is None and has_triples:
+            parts.build(paths, folder / "out", count, blank_nodes=how)
+            return
+        with pytest.raises(parts.InputFault if expected else hdt.NoTriples) as found:
+            parts.build(paths, folder / "out", count, blank_nodes=how)
+    if expected:
+        error: Any = found.value
+        assert (error.path, error.reason, error.line, error.column) == expected[:4]
+        assert str(error) == f"{expected[0]}: {expected[4]}"
+    assert nothing_but(folder)
+
+
+def test_inputs_that_cannot_be_read(tmp_path: Path) -> None:
+    """A missing input, a compressed one that is cut or is none, and a pipe."""
+    whole = gzip.compress(TEXT.encode() * 100)
+    for name, data, error, told in (
+        ("in.nt", None, FileNotFoundError, "in.nt"),
+        ("in.nt.gz", whole[:-9], OSError, "in.nt.gz: not a whole gzip file"),
+        ("in.nt.gz", whole[:999] + b"\xff" + whole[1000:], OSError, "in.nt.gz: not a whole gzip file"),
+        ("in.nt.gz", TEXT.encode(), OSError, "in.nt.gz: not a whole gzip file"),
+    ):
+        if data is not None:
+            (tmp_path / name).write_bytes(data)
+        with pytest.raises(error, match=told):
+            parts.build([tmp_path / name], tmp_path / "out", 2)
+    os.mkfifo(tmp_path / "in.pipe")
+    with pytest.raises(ValueError, match="in.pipe is no regular file"):
+        parts.build([tmp_path / "in.pipe"], tmp_path / "out", 2)
+    assert nothing_but(tmp_path)
+
+
+def test_options(tmp_path: Path) -> None:
+    """Options that cannot be used are errors, and leave nothing."""
+    paths = inputs(tmp_path, LINES, 1)
+    cases: list[tuple[dict[str, Any], type[Exception]]] = [
+        ({"parts": 0}, ValueError), ({"parts": 65_537}, ValueError), ({"parts": "2"}, TypeError),
+        ({"block_size": 0}, ValueError), ({"block_size": 65_536}, ValueError), ({"blank_nodes": "both"}, ValueError),
+        ({"base": "relative"}, ValueError), ({"inputs": paths[0]}, TypeError), ({"inputs": str(paths[0])}, TypeError),
+        ({"inputs": []}, hdt.NoTriples),
+    ]
+    for options, error in cases:
+        with pytest.raises(error):
+            given_options: dict[str, Any] = {"inputs": paths, "folder": tmp_path / "out", "parts": 2, **options}
+            parts.build(**given_options)
+        assert nothing_but(tmp_path)
+
+
+# ---- blank nodes
+
+def test_blank_nodes(tmp_path: Path) -> None:
+    """Two inputs with blank nodes are one document or two, and the caller says so."""
+    texts = (
+        '_:a <u:p> _:b .\n<u:s> <u:p> "_:a" .\n<u:_:a> <u:p> <u:o> .\n',
+        "_:a<u:p>_:a.\n_:\u00e9 <u:p> <u:o> .\n",
+        '<u:s> <u:p> "_:c <u:p> _:d .\\u00e9" . # _:e\n',
+    )
+    paths = [tmp_path / f"in{number}.nt" for number in range(3)]
+    for path, text in zip(paths, texts):
+        path.write_text(text, encoding="utf-8")
+    for block in (1, 10**6):
+        with small(10**6, block), pytest.raises(ValueError, match="in0.nt and .*in1.nt have blank nodes"):
+            parts.build(paths, tmp_path / "out", 2)
+    assert nothing_but(tmp_path)
+    parts.build([paths[0], paths[2]], tmp_path / "out", 2)  # one of them has some
+    others = {("u:s", "u:p", '"_:a"'), ("u:_:a", "u:p", "u:o"), ("u:s", "u:p", '"_:c <u:p> _:d .\u00e9"')}
+    for how, expected in (
+        ("one", {("_:a", "u:p", "_:b"), ("_:a", "u:p", "_:a"), ("_:\u00e9", "u:p", "u:o")}),
+        ("apart", {("_:f0_a", "u:p", "_:f0_b"), ("_:f1_a", "u:p", "_:f1_a"), ("_:f1_\u00e9", "u:p", "u:o")}),
+    ):
+        assert parts.build(paths, tmp_path / how, 3, blank_nodes=how).blank_nodes == how
+        with parts.open(tmp_path / how) as graph:
+            assert set(graph) == expected | others
+            graph.verify()
