@@ -18,7 +18,7 @@ from typing import Any
 import pytest
 
 from support.parts import check_same, go_on, graph_of, inputs, interrupt, named, of_one, parts, patterns, small, text_of
-from support.python_package import ENVIRONMENT
+from support.python_package import ENVIRONMENT, PACKAGE
 
 dask: Any = pytest.importorskip("dask", reason="there is no Dask: Debian's python3-distributed")
 distributed: Any = pytest.importorskip("distributed", reason="there is no Dask: Debian's python3-distributed")
@@ -42,9 +42,10 @@ class Interrupt(distributed.WorkerPlugin):  # type: ignore[misc]
 
 @contextmanager
 def cluster(folder: Path, **options: Any) -> Iterator[Any]:
-    """A client of two workers of their own."""
-    settings = {"distributed.scheduler.worker-ttl": None, "distributed.worker.daemon": True, **options}
-    with dask.config.set(settings):
+    """A client of two workers of their own, which find the package under test."""
+    with pytest.MonkeyPatch.context() as patch, dask.config.set({"distributed.scheduler.worker-ttl": None, **options}):
+        patch.setenv("HDT_LIBRARY", ENVIRONMENT["HDT_LIBRARY"])
+        patch.syspath_prepend(str(PACKAGE))
         made = distributed.LocalCluster(n_workers=2, threads_per_worker=1, host="127.0.0.1", dashboard_address=None,
                                         memory_limit=0, local_directory=str(folder), silence_logs=logging.CRITICAL)
         with made, distributed.Client(made) as client:
@@ -54,11 +55,21 @@ def cluster(folder: Path, **options: Any) -> Iterator[Any]:
 @pytest.fixture(scope="module")
 def client(tmp_path_factory: pytest.TempPathFactory) -> Iterator[Any]:
     """A client that tests share."""
-    with pytest.MonkeyPatch.context() as patch:
-        for name, value in ENVIRONMENT.items():
-            patch.setenv(name, value)
-        with cluster(tmp_path_factory.mktemp("dask")) as it:
-            yield it
+    with cluster(tmp_path_factory.mktemp("dask")) as it:
+        yield it
+
+
+@pytest.fixture(autouse=True)
+def limited() -> Iterator[None]:
+    """A test in which all workers are gone would wait for ever."""
+    def stop(*_: object) -> None:
+        raise TimeoutError("no end in 300 s")
+
+    before = signal.signal(signal.SIGALRM, stop)
+    signal.alarm(300)
+    yield
+    signal.alarm(0)
+    signal.signal(signal.SIGALRM, before)
 
 
 @pytest.fixture
@@ -122,7 +133,7 @@ def test_errors_are_not_remembered(tmp_path: Path, client: Any) -> None:
         assert fault.value.file == manifest.parts[1].file
 
 
-@pytest.mark.parametrize("where", ["hdt.parts._build.split", "hdt.build", "os.stat"])
+@pytest.mark.parametrize("where", ["hdt.parts._build.split", "hdt.build", "hdt.parts._build.Part"])
 def test_worker_that_dies_in_a_build(tmp_path: Path, client: Any, expected: parts.Manifest, where: str) -> None:
     """In a split, before a part is built, and after that: its task is done by another one."""
     both(client)
@@ -162,12 +173,8 @@ def test_work_that_kills_each_worker(tmp_path: Path, client: Any, expected: part
     assert left(tmp_path) == set()
 
 
-def test_worker_that_is_believed_dead(
-    tmp_path: Path, monkeypatch: pytest.MonkeyPatch, expected: parts.Manifest
-) -> None:
+def test_worker_that_is_believed_dead(tmp_path: Path, expected: parts.Manifest) -> None:
     """One that stops is given up, and its task is done elsewhere; when it goes on, it does no harm."""
-    for name, value in ENVIRONMENT.items():
-        monkeypatch.setenv(name, value)
     flag = tmp_path / "in.flag"
     with cluster(tmp_path / "in.dask", **{"distributed.scheduler.worker-ttl": "4s"}) as client:
         client.register_worker_plugin(Interrupt("hdt.build", str(flag), signal.SIGSTOP))

@@ -212,4 +212,4 @@ def test_program(tmp_path: Path) -> None:
 
 def test_ranges_are_for_tasks() -> None:
     """The sizes that documents name."""
-    assert (ranges.RANGE, ranges.BLOCK) == (64 * 2**20, 8 * 2**20)
+    assert (ranges.RANGE, ranges.BLOCK) == (64 * 2**20, 2 * 2**20)

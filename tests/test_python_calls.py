@@ -242,6 +242,8 @@ def test_pages(triples: list[Triple], at: int, size: int) -> None:
                 assert graph.page(*pattern, start=start, limit=0) == ([], wanted[0] if wanted else None)
                 skipped = places[start] if start < len(places) else None
                 assert graph.position(*pattern, skip=start) == graph.position(*parts, skip=start) == skipped
+                later = wanted[at % 4] if len(wanted) > at % 4 else None
+                assert graph.position(*pattern, skip=at % 4, start=start) == later
             assert graph.position(*pattern) == places[0]
 
 
@@ -258,12 +260,24 @@ def test_many_pages(size: int, many: tuple[hdt.Graph, list[Triple]]) -> None:
             assert followed(partial(graph.page, *pattern), size) == wanted == list(graph.find(*pattern))
 
 
+def test_positions_of_many(many: tuple[hdt.Graph, list[Triple]]) -> None:
+    """The position after thousands of matches, from any position on, for the eight patterns."""
+    graph, found = many
+    for pattern in patterns_of(found[50_000]):
+        places = [n for n, triple in enumerate(found) if triple in matching([triple], pattern)]
+        for start in (0, 1, 777, 50_000):
+            first = next((n for n, place in enumerate(places) if place >= start), len(places))
+            for skip in (0, 1, 999, 16_384, 40_000):
+                wanted = places[first + skip] if first + skip < len(places) else None
+                assert graph.position(*pattern, skip=skip, start=start) == wanted
+
+
 @pytest.mark.parametrize("start", [3, 4, 2**63, 2**64 - 1, 2**64, 2**70])
 def test_pages_past_the_end(start: int, three: hdt.Graph) -> None:
     """From the end on there is nothing, and no match is skipped to."""
     for pattern in patterns_of(("u:b", "u:p", "u:a")):
         assert three.page(*pattern, start=start) == ([], None) == three.page_ids(*pattern, start=start)
-        assert three.position(*pattern, skip=start) is None
+        assert three.position(*pattern, skip=start) is None is three.position(*pattern, skip=1, start=start)
     assert three.page(start=2) == ([("u:b", "u:p", "u:a")], None)
     assert three.page(limit=2**70) == (list(three), None)
 
@@ -294,6 +308,8 @@ def test_bad_positions(three: hdt.Graph) -> None:
         three.page(1)  # type: ignore[arg-type]
     with pytest.raises(ValueError):
         three.position(skip=-1)
+    with pytest.raises(ValueError):
+        three.position(start=-1)
     with pytest.raises(TypeError):
         three.position(skip=1.0)  # type: ignore[arg-type]
 
@@ -385,7 +401,8 @@ def test_text_in_pieces(triples: list[Triple], at: int, size: int) -> None:
             pieces = list(graph.text_pieces(*pattern))
             assert "".join(pieces) == graph.text(*pattern)
             assert all(piece.count("\n") <= size and piece.endswith("\n") for piece in pieces)
-            pages, start = [], 0
+            pages: list[str] = []
+            start: Optional[int] = 0
             while start is not None:
                 page, start = graph.page_text(*pattern, start=start, limit=size)
                 pages.append(page)

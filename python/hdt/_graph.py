@@ -331,18 +331,19 @@ class Graph(OpenHandle):
         ids, following = self._page(pattern_of(s, p, o), first, most or 0)
         return list(rows(ids)), following
 
-    def position(self, s: Part = None, p: Part = None, o: Part = None, *, skip: int = 0) -> Optional[int]:
-        """The position of the match after the first `skip` ones, for `page`; None if there is none.
+    def position(
+        self, s: Part = None, p: Part = None, o: Part = None, *, skip: int = 0, start: int = 0
+    ) -> Optional[int]:
+        """The position of the match after the first `skip` ones from position `start` on; None if there is none.
 
-        Errors: those of `find`. The time is linear in `skip`, but that of a page if the parts that are given are the
-        first ones.
+        It is for `page`. Errors: those of `find`. The time is linear in `skip`, but that of a page if the parts that
+        are given are the first ones.
 
         >>> with hdt.open("graph.hdt") as graph:
-        ...     graph.position(p="u:p", skip=1), graph.position("u:a", skip=2)
-        (2, None)
+        ...     graph.position(p="u:p", skip=1), graph.position("u:a", skip=2), graph.position(p="u:p", start=1)
+        (2, None, 2)
         """
-        first, _ = window(skip, None)
-        return self._position(pattern_of(s, p, o), first)
+        return self._position(pattern_of(s, p, o), window(skip, None)[0], window(start, None)[0])
 
     def text(self, s: Given = None, p: Given = None, o: Given = None) -> str:
         """Return the triples of `find` as N-Triples, one a line.

@@ -166,20 +166,25 @@ class OpenHandle:
         del page[3 * got :]
         return page, None if following[0] == _library.ABSENT else following[0]
 
-    def _position(self, pattern: Pattern, skip: int) -> Optional[int]:
-        """The position of the match after the first `skip` ones; None if there are no more.
+    def _position(self, pattern: Pattern, skip: int, start: int = 0) -> Optional[int]:
+        """The position of the match after the first `skip` ones from a position on; None if there are no more.
 
         If the matches follow one another in the file, it is `skip` positions after the first one. Else so many are
         walked over.
         """
-        first = self._page(pattern, 0, 0)[1]
+        first = self._page(pattern, start, 0)[1]
         if first is None or not skip:
             return first
         s, p, o = (part is not None for part in pattern.parts)
         if s >= p >= o:
             return first + skip if self._page(pattern, first + skip, 0)[1] == first + skip else None
-        match = self._matches(pattern, skip, 1)
-        return self._page(pattern_of(*match), 0, 0)[1] if match else None
+        if not start:
+            match = self._matches(pattern, skip, 1)
+            return self._page(pattern_of(*match), 0, 0)[1] if match else None
+        while skip and first is not None:
+            page, first = self._page(pattern, first, min(skip, _MOST_MATCHES))
+            skip -= len(page) // 3
+        return first
 
     def _pages(
         self, pattern: Pattern, skip: int, limit: Optional[int], most: int = _MOST_MATCHES

@@ -151,9 +151,10 @@ def evaluated(mode: str) -> Iterator[None]:
         store.plan_sparql()
     elif mode == "terms":
         CUSTOM_EVALS["hdt"] = partial(plan.evaluated, over_ids=False)
-    due = {"_DUE": 1, "_READ": 100_000} if mode == "tables" else {}
+    due: dict[str, Any] = {"_DUE": 1, "_READ": 100_000} if mode == "tables" else {}
+    patched: Any = mock.patch.multiple(plan, **due) if due else nullcontext()
     try:
-        with mock.patch.multiple(plan, **due) if due else nullcontext():
+        with patched:
             yield
     finally:
         CUSTOM_EVALS.clear()

@@ -63,7 +63,7 @@ def build(
 
     Errors: `InputFault` with the first error of the inputs, in their order; `hdt.NoTriples`; FileExistsError;
     ValueError for the options, and for an input that is no regular file; `WorkerDied`; MemoryError; OSError; TypeError.
-    A task has 8 MiB of an input in memory, several times over, or the text and the build of a part. The folder needs
+    A task has 2 MiB of an input in memory, several times over, or the text and the build of a part. The folder needs
     room for the text of the inputs meanwhile.
 
     >>> hdt.parts.build(["graph.nt"], "other.parts", 2).triples

@@ -37,7 +37,7 @@ def open(folder: Path, executor: Optional[Executor] = None) -> Graph:
 
     >>> with hdt.parts.open("graph.parts") as graph:
     ...     print(graph)
-    <hdt.parts.Graph of 3 triples in 2 parts: graph.parts>
+    <hdt.parts.Graph of 3 triples in 3 parts: graph.parts>
     """
     return Graph(folder, executor)
 
@@ -204,7 +204,8 @@ class Graph(OpenFolder):
         Errors: TypeError, ValueError for a negative number. The parts before it are asked for their counts.
 
         >>> with hdt.parts.open("graph.parts") as graph:
-        ...     graph.position(p="u:p", skip=2)
+        ...     graph.position("u:a"), graph.position("u:a", skip=2)
+        (1, None)
         """
         (first, _), pattern = window(skip, None), (s, p, o)
         numbers, left = self._after(self._asked(pattern), pattern, first)

@@ -23,7 +23,7 @@ def part_of(subject: str, parts: int) -> int:
     """The number of the part, from 0, that has the triples of a subject, a dictionary string. Raises TypeError.
 
     >>> hdt.parts.part_of("http://example.org/a", 8)
-    3
+    6
     """
     return zlib.crc32(subject.encode("utf-8", "surrogatepass")) % parts
 
@@ -72,7 +72,7 @@ class Manifest:
 
     >>> with hdt.parts.open("graph.parts") as graph:
     ...     graph.manifest.triples, [part.file for part in graph.manifest.parts]
-    (3, ['part-00000.hdt', 'part-00001.hdt'])
+    (3, ['', 'part-00001.hdt', 'part-00002.hdt'])
     """
 
     base: str

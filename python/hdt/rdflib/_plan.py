@@ -2,7 +2,7 @@
 
 from __future__ import annotations
 
-from collections.abc import Iterator
+from collections.abc import Iterable, Iterator
 from contextlib import contextmanager
 from itertools import product
 from operator import itemgetter
@@ -259,7 +259,9 @@ class _Join:
         at_s, at_p, at_o = option.slots
         seen: Optional[set[tuple[int, ...]]] = set() if len(searches) > 1 else None
         for search in searches:
-            for s, p, o in self.file.found(search) if table is None else table.get(option.key(search), ()):
+            found: Iterable[tuple[int, int, int]]
+            found = self.file.found(search) if table is None else table.get(option.key(search), [])
+            for s, p, o in found:
                 node = o if o <= shared else o + more
                 if loop and s != node:
                     continue
@@ -291,7 +293,7 @@ class _Join:
         if option.searched < option.due or not option.bound:
             return None
         option.due = 2 * option.searched
-        everything = list(product(*option.ids))
+        everything = [(s, p, o) for s, p, o in product(*option.ids)]
         count = self.file.count(everything)
         if len(everything) != 1 or count > min(_READ * option.searched, self.room):
             return None
