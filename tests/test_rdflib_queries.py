@@ -188,6 +188,17 @@ def test_spellings_give_a_solution_once(mode: str) -> None:
 
 
 @modes
+def test_each_spelling_is_searched_for_at_a_value(mode: str) -> None:
+    """A given literal with two spellings is found in both by a pattern one of whose variables has a value."""
+    triples = [(iri("u:a"), iri("u:q"), tagged("x", "en")), (iri("u:b"), iri("u:q"), tagged("x", "EN")),
+               (iri("u:a"), iri("u:r"), iri("u:c")), (iri("u:b"), iri("u:r"), iri("u:d"))]
+    with evaluated(mode), stored(triples) as graph:
+        for value, subject in (("u:c", "u:a"), ("u:d", "u:b")):
+            found = graph.query(f'SELECT ?a {{ ?a <u:r> <{value}> . ?a <u:q> "x"@En }}')
+            assert [str(row.a) for row in found] == [subject]
+
+
+@modes
 def test_groups_of_spellings(mode: str) -> None:
     """Literals that rdflib takes for equal are one group."""
     triples = [(iri("u:a"), iri("u:q"), tagged("x", "en")), (iri("u:a"), iri("u:q"), tagged("x", "EN")),

@@ -361,7 +361,7 @@ class Graph(OpenHandle):
     def page_text(
         self, s: Part = None, p: Part = None, o: Part = None, *, start: int = 0, limit: int = 100
     ) -> tuple[str, Optional[int]]:
-        """The triples of `page_ids` as N-Triples, and where the next page begins. Errors: those of `text` and `find`.
+        """The triples of `page_ids` as N-Triples, and the next start. It takes the time of `page`. Errors: as `text`.
 
         >>> with hdt.open("graph.hdt") as graph:
         ...     graph.page_text(p="u:p", limit=1)
