@@ -321,7 +321,7 @@ def test_wheel_has_the_library(wheel: Path) -> None:
     names = [f"/{name}" for name in zipfile.ZipFile(wheel).namelist()]
     wanted = ["/hdt/__init__.py", "/hdt/_faults.py", "/hdt/_library.py", "/hdt/py.typed", "/hdt/libhdt.so",
               "/hdt/fragments/__init__.py", "/hdt/fragments/_application.py", "/hdt/rdflib/__init__.py",
-              "/hdt/rdflib/_store.py"]
+              "/hdt/rdflib/_store.py", "/hdt/parts/__init__.py", "/hdt/parts/_build.py"]
     assert [name for name in wanted if sum(it.endswith(name) for it in names) != 1] == []
 
 

@@ -173,10 +173,10 @@ def test_task_that_goes_on_after_an_error(tmp_path: Path) -> None:
     def slow(text: bytes, *more: Any) -> Any:
         if text.startswith(lines[0].encode()):
             begun.set()
-            assert wait.wait(60)
+            assert wait.wait(20)
             ended.set()
         else:
-            assert begun.wait(60)
+            assert begun.wait(20)
         return split(text, *more)
 
     with ThreadPoolExecutor(2) as executor:
