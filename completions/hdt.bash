@@ -16,23 +16,25 @@ _hdt() {
     compopt +o default
     COMPREPLY=()
     if ((${#words[@]} == 1)); then
-        mapfile -t COMPREPLY < <(compgen -W "head verify strings string number find answer dump count build rewrite help --help --version" -- "$word")
+        mapfile -t COMPREPLY < <(compgen -W "head verify info strings string number find answer dump count build rewrite explain help --help --version" -- "$word")
         return
     fi
     # The options of the command, and how each of its arguments is completed.
     case ${words[1]} in
-    head) options="--help" arguments=".hdt" ;;
-    verify) options="--tight --progress --help" arguments=".hdt" ;;
-    strings) options="--prefix --terms --help" arguments=".hdt subject|predicate|object" ;;
-    string) options="--help" arguments=".hdt subject|predicate|object |" ;;
-    number) options="--raw --help" arguments=".hdt subject|predicate|object |" ;;
-    find) options="--raw --numbers --count --quiet --most --help" arguments=".hdt | | |" ;;
-    answer) options="--raw --numbers --count --most --longest-request --help" arguments=".hdt" ;;
-    dump) options="--help" arguments=".hdt" ;;
-    count) options="--top --raw --help" arguments=".hdt subject|predicate|object" ;;
-    build) options="--base --block-size --progress --help" arguments=".nt .hdt" ;;
-    rewrite) options="--block-size --progress --help" arguments=".hdt .hdt" ;;
-    help) options="" arguments="head|verify|strings|string|number|find|answer|dump|count|build|rewrite|help" ;;
+    head) options="--verbose --help" arguments=".hdt" ;;
+    verify) options="--verbose --tight --progress --help" arguments=".hdt" ;;
+    info) options="--verbose --json --help" arguments=".hdt" ;;
+    strings) options="--verbose --prefix --terms --help" arguments=".hdt subject|predicate|object" ;;
+    string) options="--verbose --help" arguments=".hdt subject|predicate|object |" ;;
+    number) options="--verbose --raw --help" arguments=".hdt subject|predicate|object |" ;;
+    find) options="--verbose --raw --numbers --count --quiet --most --help" arguments=".hdt | | |" ;;
+    answer) options="--verbose --raw --numbers --count --most --longest-request --help" arguments=".hdt" ;;
+    dump) options="--verbose --help" arguments=".hdt" ;;
+    count) options="--verbose --top --raw --help" arguments=".hdt subject|predicate|object" ;;
+    build) options="--verbose --base --block-size --progress --help" arguments=".nt .hdt" ;;
+    rewrite) options="--verbose --block-size --progress --help" arguments=".hdt .hdt" ;;
+    explain) options="--help" arguments="|" ;;
+    help) options="" arguments="head|verify|info|strings|string|number|find|answer|dump|count|build|rewrite|explain|help" ;;
     esac
     for i in "${words[@]:2}"; do
         case $skip$i in
